@@ -1,0 +1,4 @@
+pub mod Numbers
+pub mod Shortest
+pub mod Unique
+pub mod Writing

@@ -1,0 +1,2 @@
+pub mod Leb
+pub mod Place

@@ -1,0 +1,2 @@
+//! The shapes of WebAssembly binaries, and what bytes spell.
+#![tactic(auto)]
