@@ -1,2 +1,124 @@
-//! The shapes of WebAssembly binaries, and what bytes spell.
+//! The shapes of WebAssembly binaries, and what bytes spell: the tables of the formats and the definitions over them.
 #![tactic(auto)]
+
+mod operators;
+
+pub use operators::{
+    BLOCK, BR, CALL, CALL_INDIRECT, DROP, END, GLOBAL_GET, I32_ADD, I32_CONST, I32_LOAD, LOCAL_GET,
+    NOP, REF_FUNC, UNREACHABLE, row_of,
+};
+
+/// An index space. The first eight are those of core modules (WebAssembly Core Specification 3.0, section 5.5.1);
+/// `DataCount` stands for the count that a data count section holds, and the others are those of components.
+#[derive(Clone, Copy, Debug, PartialEq)]
+pub enum Space {
+    Data,
+    Element,
+    Function,
+    Global,
+    Memory,
+    Table,
+    Tag,
+    Type_,
+    DataCount,
+    ComponentType,
+    ComponentInstance,
+    ComponentFunc,
+    Component,
+    Module,
+    Instance,
+    ComponentValue,
+}
+
+impl Space {
+    ghost use Rattle.std.specs.Prelude.{◌≡◌, codes};
+    ghost use Rattle.wasm_shapes.specs.Names.{space_name};
+
+    /// The name of the space in lower case, as reports print it.
+    pub fn name(self) -> &'static str
+        ensures { result.now ≡ space_name self }
+    {
+        match self {
+            Space::Data => "data",
+            Space::Element => "element",
+            Space::Function => "function",
+            Space::Global => "global",
+            Space::Memory => "memory",
+            Space::Table => "table",
+            Space::Tag => "tag",
+            Space::Type_ => "type",
+            Space::DataCount => "data_count",
+            Space::ComponentType => "component_type",
+            Space::ComponentInstance => "component_instance",
+            Space::ComponentFunc => "component_func",
+            Space::Component => "component",
+            Space::Module => "module",
+            Space::Instance => "instance",
+            Space::ComponentValue => "component_value",
+        }
+    }
+}
+
+/// The kind of a section of a core module, by its id from 0 to 13 (WebAssembly Core Specification 3.0, section 5.5.2).
+#[derive(Clone, Copy, Debug, PartialEq)]
+pub enum SectionId {
+    Custom,
+    Type_,
+    Import,
+    Function,
+    Table,
+    Memory,
+    Global,
+    Export,
+    Start,
+    Element,
+    Code,
+    Data,
+    DataCount,
+    Tag,
+}
+
+/// What a re-encoder is asked: an index of a space, an outer index with the count of scopes that it leaves,
+/// the hook before a section (after which kind, before which kind), and the begin and the end of a scope.
+#[derive(Clone, Copy, Debug, PartialEq)]
+pub enum Visit {
+    Index(Space, u32),
+    Outer(Space, u32, u32),
+    Section(Option<SectionId>, Option<SectionId>),
+    Push,
+    Pop,
+}
+
+/// The number of an operator. One of a single byte has the prefix 0 and its byte as `sub`; the others have
+/// `fb`, `fc`, `fd` or `fe` as prefix (WebAssembly Core Specification 3.0, section 5.4).
+#[derive(Clone, Copy, Debug, PartialEq)]
+pub struct Opcode {
+    pub prefix: u8,
+    pub sub: u32,
+}
+
+/// The kind of an immediate of an operator.
+#[derive(Clone, Copy, Debug, PartialEq)]
+pub enum ImmKind {
+    Block,
+    Label,
+    Labels,
+    Index(Space),
+    Local,
+    Field,
+    Size,
+    Types,
+    Mem,
+    S32,
+    S64,
+    Four,
+    Eight,
+    Sixteen,
+    Lanes,
+    Lane,
+    Heap,
+    Catches,
+    Cast,
+    Handlers,
+    Zero,
+}
