@@ -1,2 +1,17 @@
-//! The shapes of WebAssembly binaries, and what bytes spell.
+//! Readers of a core module. They borrow the bytes, and copy none of them.
 #![tactic(auto)]
+
+mod expressions;
+mod names;
+mod types;
+
+pub use expressions::ConstExpr;
+pub use names::{IndirectNameMap, NameMap};
+pub use types::{
+    AbstractHeapType, ArrayType, BlockType, Catch, CompositeInnerType, CompositeType, ContType,
+    CustomSection, Data, DataKind, Element, ElementItems, ElementKind, Export, ExternalKind,
+    FieldType, FuncType, FunctionBody, Global, GlobalType, Handle, HeapType, Ieee32, Ieee64, Imm,
+    Import, Imports, IndirectNaming, MemArg, MemoryType, Name, Naming, Ordering, Payload, RecGroup,
+    RefType, StorageType, StructType, SubType, Table, TableInit, TableType, TagKind, TagType,
+    TypeRef, UnpackedIndex, ValType,
+};
