@@ -1,5 +1,6 @@
 pub mod Numbers
 pub mod Placed
+pub mod Shifts
 pub mod Shortest
 pub mod Signed
 pub mod Unique
