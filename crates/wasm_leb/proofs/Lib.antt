@@ -3,5 +3,6 @@ pub mod Placed
 pub mod Shifts
 pub mod Shortest
 pub mod Signed
+pub mod Spellings
 pub mod Unique
 pub mod Writing

@@ -47,7 +47,7 @@ signed_leb_spells n h = record { spelled = shortest_spells 9 64 n (omega arith);
 
 -- ---- numbers with sign
 
-length-inverted : (x : List ℕ) → length (inverted x) ≡ length x
+pub length-inverted : (x : List ℕ) → length (inverted x) ≡ length x
 length-inverted [] = refl
 length-inverted (b ∷ x) = ap suc (length-inverted x)
 
