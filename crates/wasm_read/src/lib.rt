@@ -3,6 +3,7 @@
 
 mod expressions;
 mod names;
+mod rows;
 mod types;
 
 pub use expressions::ConstExpr;
