@@ -2,12 +2,18 @@
 #![tactic(auto)]
 
 mod expressions;
+mod fields;
 mod names;
+mod payloads;
 mod rows;
+mod sections;
 mod types;
 
 pub use expressions::ConstExpr;
+pub use fields::read_name;
 pub use names::{IndirectNameMap, NameMap};
+pub use payloads::Payloads;
+pub use sections::{ExportSectionReader, FunctionSectionReader};
 pub use types::{
     AbstractHeapType, ArrayType, BlockType, Catch, CompositeInnerType, CompositeType, ContType,
     CustomSection, Data, DataKind, Element, ElementItems, ElementKind, Export, ExternalKind,
