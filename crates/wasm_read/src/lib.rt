@@ -3,6 +3,7 @@
 
 mod expressions;
 mod fields;
+mod groups;
 mod names;
 mod payloads;
 mod rows;
@@ -13,7 +14,7 @@ pub use expressions::ConstExpr;
 pub use fields::read_name;
 pub use names::{IndirectNameMap, NameMap};
 pub use payloads::Payloads;
-pub use sections::{ExportSectionReader, FunctionSectionReader};
+pub use sections::{ExportSectionReader, FunctionSectionReader, TypeSectionReader};
 pub use types::{
     AbstractHeapType, ArrayType, BlockType, Catch, CompositeInnerType, CompositeType, ContType,
     CustomSection, Data, DataKind, Element, ElementItems, ElementKind, Export, ExternalKind,
