@@ -59,11 +59,14 @@ items_first {s = s} {n = n} {m = m} {bytes = bytes} {middle = middle} {t = t} k 
         let both_ways : there.text ++ middle ≡ p.0 ++ (p.1 ++ left) = sym there.reads ∙ parts in
         let same : (there.text ≡ p.0) × (t ≡ v) = unique there.spells.shaped d there.text p.0 middle (p.1 ++ left) k (inl h) there.spells.spelled p.3 both_ways in
         let shifted : p.0 ++ middle ≡ p.0 ++ (p.1 ++ left) = ap (λ (z : List ℕ). z ++ middle) (sym same.0) ∙ both_ways in
-        let some : suc (count u) ≡ m = counted in (u, record {
-          text = p.1;
-          spells = record { shaped = d'; counted = omega arith; spelled = p.4 };
-          reads = append_cancel_left p.0 middle (p.1 ++ left) shifted;
-        })
+        let some : suc (count u) ≡ m = counted in (
+          u,
+          record {
+            text = p.1;
+            spells = record { shaped = d'; counted = omega arith; spelled = p.4 };
+            reads = append_cancel_left p.0 middle (p.1 ++ left) shifted;
+          },
+        )
 
 -- ---- a vector
 

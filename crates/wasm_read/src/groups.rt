@@ -13,7 +13,10 @@ use wasm_leb::{List, NoMemory, front_byte, front_u32};
 /// The vector of value types at the front of some bytes, and the bytes behind it.
 ///
 /// It takes memory for no more types than there are bytes.
-pub fn front_val_types(alloc: Global, bytes: &[u8]) -> Result<Option<(List<ValType>, &[u8])>, NoMemory>
+pub fn front_val_types(
+    alloc: Global,
+    bytes: &[u8],
+) -> Result<Option<(List<ValType>, &[u8])>, NoMemory>
     ensures some { IfOk result (λ o. IfSome o (λ r. Begins (Shape.vec (Shape.ref Named.value)) bytes.now (val_types_tree r.0) r.1.now)) }
     ensures none { IfOk result (λ o. IfNone o (BeginsNone (Shape.vec (Shape.ref Named.value)) bytes.now)) }
 {

@@ -8,6 +8,8 @@ mod names;
 mod payloads;
 mod rows;
 mod sections;
+#[cfg(test)]
+mod tests;
 mod types;
 
 pub use expressions::ConstExpr;

@@ -9,7 +9,7 @@ ghost use Rattle.wasm_read.specs.Types.{group_tree, function_tree, export_tree};
 
 use crate::fields::{front_export, front_function};
 use crate::groups::front_group;
-use crate::rows::Rows;
+use crate::rows::{Rows, next_row, next_row_in};
 use crate::types::{Export, RecGroup};
 use std::alloc::Global;
 use std::marker::Model;
@@ -58,19 +58,7 @@ impl<'a> TypeSectionReader<'a> {
         ensures err { IfErr result (λ e. ReadsNoneOrWants e (place_of self.old) (NoRows (Shape.ref Named.group) self.old.left self.old.rest)) }
         ensures stays { IfErr result (λ _. self.new ≡ self.old) }
     {
-        let bytes = match self.rows.due() {
-            Ok(Some(bytes)) => bytes,
-            Ok(None) => return Ok(None),
-            Err(fault) => return Err(fault),
-        };
-        match front_group(alloc, bytes) {
-            Ok(Some((row, rest))) => {
-                self.rows.advance(rest);
-                Ok(Some(row))
-            }
-            Ok(None) => Err(self.rows.refusal()),
-            Err(NoMemory) => Err(Fault::NoMemory),
-        }
+        next_row_in!(self, alloc, front_group)
     }
 }
 
@@ -117,18 +105,7 @@ impl<'a> FunctionSectionReader<'a> {
         ensures err { IfErr result (λ e. ReadsNone e (place_of self.old) (NoRows function_row self.old.left self.old.rest)) }
         ensures stays { IfErr result (λ _. self.new ≡ self.old) }
     {
-        let bytes = match self.rows.due() {
-            Ok(Some(bytes)) => bytes,
-            Ok(None) => return Ok(None),
-            Err(fault) => return Err(fault),
-        };
-        match front_function(bytes) {
-            Some((index, rest)) => {
-                self.rows.advance(rest);
-                Ok(Some(index))
-            }
-            None => Err(self.rows.refusal()),
-        }
+        next_row!(self, front_function)
     }
 }
 
@@ -175,17 +152,6 @@ impl<'a> ExportSectionReader<'a> {
         ensures err { IfErr result (λ e. ReadsNone e (place_of self.old) (NoRows export_row self.old.left self.old.rest)) }
         ensures stays { IfErr result (λ _. self.new ≡ self.old) }
     {
-        let bytes = match self.rows.due() {
-            Ok(Some(bytes)) => bytes,
-            Ok(None) => return Ok(None),
-            Err(fault) => return Err(fault),
-        };
-        match front_export(bytes) {
-            Some((row, rest)) => {
-                self.rows.advance(rest);
-                Ok(Some(row))
-            }
-            None => Err(self.rows.refusal()),
-        }
+        next_row!(self, front_export)
     }
 }
