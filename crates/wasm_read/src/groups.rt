@@ -1,14 +1,15 @@
 //! Types at the front of some bytes.
-ghost use Rattle.std.specs.Prelude.{◌≡◌, IfOk, IfSome, IfNone};
+ghost use Rattle.std.specs.Prelude.{◌≡◌, ◌<◌, ◌≤◌, length, drop, IfOk, IfErr, IfSome, IfNone};
 ghost use Rattle.wasm_shapes.specs.Place.{Begins, BeginsNone};
 ghost use Rattle.wasm_shapes.specs.Shape.{Shape, Named};
 ghost use Rattle.wasm_shapes.specs.Tree.{Tree};
+ghost use Rattle.wasm_read.specs.Reading.{ReadsNoneOrWants};
 ghost use Rattle.wasm_read.specs.Types.{val_types_tree, func_type_tree, group_tree};
 
-use crate::fields::front_val_type;
+use crate::fields::{from_place, front_val_type};
 use crate::types::{CompositeInnerType, CompositeType, FuncType, RecGroup, SubType, ValType};
 use std::alloc::Global;
-use wasm_leb::{List, NoMemory, front_byte, front_u32};
+use wasm_leb::{Fault, List, NoMemory, ReadError, front_byte, front_u32};
 
 /// The vector of value types at the front of some bytes, and the bytes behind it.
 ///
@@ -108,5 +109,22 @@ pub fn front_group(alloc: Global, bytes: &[u8]) -> Result<Option<(RecGroup, &[u8
     match bare_group(alloc, ty) {
         Ok(group) => Ok(Some((group, rest))),
         Err(NoMemory) => Err(NoMemory),
+    }
+}
+
+/// The group of types that is spelled at a place, and the place after it (WebAssembly Core Specification 3.0, section
+/// 5.3.9).
+///
+/// The error is `Read` with the place that was asked for exactly where no group begins there, as past the end, or
+/// memory is wanting.
+pub fn read_group(alloc: Global, bytes: &[u8], at: usize) -> Result<(RecGroup, usize), Fault>
+    ensures ok { IfOk result (λ r. Begins (Shape.ref Named.group) (drop at bytes.now) (group_tree r.0) (drop r.1 bytes.now)) }
+    ensures forward { IfOk result (λ r. (at < r.1) × (r.1 ≤ length bytes.now)) }
+    ensures err { IfErr result (λ e. ReadsNoneOrWants e at (BeginsNone (Shape.ref Named.group) (drop at bytes.now))) }
+{
+    match front_group(alloc, from_place(bytes, at)) {
+        Ok(Some((group, rest))) => Ok((group, bytes.len() - rest.len())),
+        Ok(None) => Err(Fault::Read(ReadError { at })),
+        Err(NoMemory) => Err(Fault::NoMemory),
     }
 }

@@ -13,7 +13,8 @@ mod tests;
 mod types;
 
 pub use expressions::ConstExpr;
-pub use fields::read_name;
+pub use fields::{read_item, read_name, read_val_type};
+pub use groups::read_group;
 pub use names::{IndirectNameMap, NameMap};
 pub use payloads::Payloads;
 pub use sections::{ExportSectionReader, FunctionSectionReader, TypeSectionReader};

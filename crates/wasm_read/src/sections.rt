@@ -1,10 +1,9 @@
 //! The readers of sections, row by row (WebAssembly Core Specification 3.0, section 5.5).
-ghost use Rattle.std.specs.Prelude.{◌≡◌, ◌≢◌, IfOk, IfErr, IfSome, IfNone};
+ghost use Rattle.std.specs.Prelude.{◌≡◌, IfOk, IfErr, IfSome, IfNone};
 ghost use Rattle.wasm_leb.specs.Place.{BeginsNoNumber};
 ghost use Rattle.wasm_shapes.specs.Module.{function_row, export_row};
-ghost use Rattle.wasm_shapes.specs.Rows.{NoRows};
 ghost use Rattle.wasm_shapes.specs.Shape.{Shape, Named};
-ghost use Rattle.wasm_read.specs.Reading.{place_of, ReadsNone, ReadsNoneOrWants, CountRead, RowRead, RowsEnded};
+ghost use Rattle.wasm_read.specs.Reading.{place_of, ReadsNone, ReadsNoneOrWants, CountRead, RowRead, RowMissing, RowsEnded};
 ghost use Rattle.wasm_read.specs.Types.{group_tree, function_tree, export_tree};
 
 use crate::fields::{front_export, front_function};
@@ -55,7 +54,7 @@ impl<'a> TypeSectionReader<'a> {
     pub fn next_row(&mut self, alloc: Global) -> Result<Option<RecGroup>, Fault>
         ensures row { IfOk result (λ o. IfSome o (λ row. RowRead (Shape.ref Named.group) self.old (group_tree row) self.new)) }
         ensures ended { IfOk result (λ o. IfNone o (RowsEnded self.old self.new)) }
-        ensures err { IfErr result (λ e. ReadsNoneOrWants e (place_of self.old) (NoRows (Shape.ref Named.group) self.old.left self.old.rest)) }
+        ensures err { IfErr result (λ e. ReadsNoneOrWants e (place_of self.old) (RowMissing (Shape.ref Named.group) self.old)) }
         ensures stays { IfErr result (λ _. self.new ≡ self.old) }
     {
         next_row_in!(self, alloc, front_group)
@@ -99,10 +98,11 @@ impl<'a> FunctionSectionReader<'a> {
     ///
     /// The error comes exactly where no row begins or where bytes are left after the last, with that place. It leaves
     /// the reader where it stood. No memory is taken.
+    #[tactic(auto, using(crate::proofs::Missing::row_missing))]
     pub fn next_row(&mut self, _alloc: Global) -> Result<Option<u32>, Fault>
         ensures row { IfOk result (λ o. IfSome o (λ index. RowRead function_row self.old (function_tree index) self.new)) }
         ensures ended { IfOk result (λ o. IfNone o (RowsEnded self.old self.new)) }
-        ensures err { IfErr result (λ e. ReadsNone e (place_of self.old) (NoRows function_row self.old.left self.old.rest)) }
+        ensures err { IfErr result (λ e. ReadsNone e (place_of self.old) (RowMissing function_row self.old)) }
         ensures stays { IfErr result (λ _. self.new ≡ self.old) }
     {
         next_row!(self, front_function)
@@ -146,10 +146,11 @@ impl<'a> ExportSectionReader<'a> {
     ///
     /// The error comes exactly where no row begins or where bytes are left after the last, with that place. It leaves
     /// the reader where it stood. No memory is taken.
+    #[tactic(auto, using(crate::proofs::Missing::row_missing))]
     pub fn next_row(&mut self, _alloc: Global) -> Result<Option<Export<'a>>, Fault>
         ensures row { IfOk result (λ o. IfSome o (λ row. RowRead export_row self.old (export_tree row) self.new)) }
         ensures ended { IfOk result (λ o. IfNone o (RowsEnded self.old self.new)) }
-        ensures err { IfErr result (λ e. ReadsNone e (place_of self.old) (NoRows export_row self.old.left self.old.rest)) }
+        ensures err { IfErr result (λ e. ReadsNone e (place_of self.old) (RowMissing export_row self.old)) }
         ensures stays { IfErr result (λ _. self.new ≡ self.old) }
     {
         next_row!(self, front_export)

@@ -1,5 +1,5 @@
 use Rattle.std.proofs.Common.{refl}
-use Rattle.wasm_shapes.proofs.Begins.{begins_seq, none_seq_first, none_seq_second}
+use Rattle.wasm_shapes.proofs.Begins.{begins_seq, none_seq_second}
 use Rattle.wasm_read.proofs.groups.front_func_type.Goals as goal
 
 pub returns-in-Ok-Some-front_val_types-clause-some : goal.returns-in-Ok-Some-front_val_types-clause-some
