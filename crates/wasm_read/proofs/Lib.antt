@@ -1,0 +1,4 @@
+pub mod Framed
+pub mod Placed
+pub mod Vectors
+pub mod Missing
