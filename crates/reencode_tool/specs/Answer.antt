@@ -1,5 +1,5 @@
 -- How the program ends.
-use Rattle.std.specs.Prelude.{◌≡◌, ◌≢◌, ℕ, ◌⊎◌, Option, Some, None, List, [], ◌∷◌, ◌++◌, codes, decimal}
+use Rattle.std.specs.Prelude.{◌≡◌, ◌≢◌, ℕ, ◌<◌, ◌≤◌, ◌==◌, ◌⊎◌, if◌then◌else◌, Option, Some, None, List, [], ◌∷◌, ◌++◌, codes, decimal, length}
 use Rattle.reencode_tool.specs.declared.answer.Answer.{Answer}
 use Rattle.reencode_tool.specs.declared.answer.Answer.TheVariants.{Printed, NoMemory, Usage, ReadFault, WriteFault, ParseError, TooLong, NotHexadecimal}
 use Rattle.reencode_tool.specs.Outside.{Rose, WhereTold, followed, GaveAll, TookMore, TookFront}
@@ -103,3 +103,31 @@ text_of NotHexadecimal = codes "not hex"
 abbrev pub Says : (faults_old faults_new : ℕ) (held_old held_new : Option (List ℕ)) → List ℕ → Type 0
 Says faults_old faults_new held_old held_new text =
     WhereTold held_new (followed held_old text) ⊎ (TookFront held_old held_new text × Rose faults_old faults_new)
+
+-- what is said with a status, but for 0 and 5
+abbrev pub message : ℕ → List ℕ
+message status =
+    if status == 1 then codes "no memory\n"
+    else if status == 2 then codes "usage: -x plain\n"
+    else if status == 3 then codes "read fault\n"
+    else if status == 4 then codes "write fault\n"
+    else if status == 13 then codes "too long\n"
+    else codes "not hex\n"
+
+-- which status comes by the form of the text and the reading of its bytes
+abbrev pub IsDecidedBy : Option (List ℕ) → ℕ → Type 0
+IsDecidedBy None status = (status ≡ 14) ⊎ (status ≡ 1)
+IsDecidedBy (Some bytes) status =
+    ((status ≡ 0) × ((output : List ℕ) × (counts : List ℕ) × IsPlain bytes output counts))
+    ⊎ ((status ≡ 5) × ((at : ℕ) × IsRefusedAt bytes at))
+    ⊎ (status ≡ 1)
+
+-- which status comes for a text
+pub record IsDecidedFor (text : List ℕ) (status : ℕ) : Type 0 where
+  pub long : most_bytes < length text → (status ≡ 13) ⊎ (status ≡ 1)
+  pub short : length text ≤ most_bytes → IsDecidedBy (binary text) status
+
+-- which status comes for the input, where it is told
+abbrev pub IsDecided : Option (List ℕ) → ℕ → Type 0
+IsDecided None status = Unit {0}
+IsDecided (Some text) status = IsDecidedFor text status

@@ -3,3 +3,4 @@ pub mod Hexadecimal
 pub mod Report
 pub mod Plain
 pub mod Answer
+pub mod Memory

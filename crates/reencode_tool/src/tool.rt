@@ -1,8 +1,8 @@
 //! The top call.
-ghost use Rattle.std.specs.Prelude.{◌≡◌, ◌≢◌, ◌≤◌, ◌++◌, ◌↔◌, codes, map, length, string_bytes, vec_len, IsTrue, OnOk, OnErr};
+ghost use Rattle.std.specs.Prelude.{ℕ, List, [], ◌∷◌, ◌<◌, ◌==◌, Contains, decimal, ◌≡◌, ◌≢◌, ◌≤◌, ◌++◌, ◌↔◌, codes, map, length, string_bytes, vec_len, IsTrue, OnOk, OnErr};
 ghost use Rattle.hex.specs.Hex.{encode_lower};
-ghost use Rattle.reencode_tool.specs.Answer.{Ends, plain_words, Made, report_of, Says, text_of};
-ghost use Rattle.reencode_tool.specs.Outside.{Rose, WhereTold, followed, TookFront};
+ghost use Rattle.reencode_tool.specs.Answer.{Ends, HasNoDigits, HasNoReading, IsDecided, Made, Says, message, most_bytes, plain_words, report_of, text_of};
+ghost use Rattle.reencode_tool.specs.Outside.{Rose, TookFront, TookMore, WhereTold, followed};
 
 use crate::answer::Answer;
 use crate::make::{Ready, make};
@@ -139,9 +139,47 @@ pub fn run<F: Shelf, S: Source, K: Sink, D: Sink>(
     out: &mut K,
     err: &mut D,
 ) -> u8
-    // With status 0 the report of the input is behind what the sink held.
+    // With status 0 the report of the input stands behind what the sink held.
     ensures printed { result ≡ 0 → (made : Made (S.left input.old) (S.left input.new))
         × WhereTold (K.held out.new) (followed (K.held out.old) (report_of made)) }
+
+    // Status 2 comes by the words alone, and before anything is read.
+    ensures usage { (result ≡ 2) ↔ (map string_bytes words.now ≢ plain_words) }
+    ensures unread { result ≡ 2 → input.new ≡ input.old }
+
+    // Status 3 comes only where the source failed, and 4 only where the sink failed; a front of the
+    // report was then taken.
+    ensures read_fault { result ≡ 3 → Rose (S.faults input.old) (S.faults input.new) }
+    ensures write_fault { result ≡ 4 → Rose (K.faults out.old) (K.faults out.new) }
+    ensures front { result ≡ 4 → (made : Made (S.left input.old) (S.left input.new))
+        × TookFront (K.held out.old) (K.held out.new) (report_of made) }
+
+    // Status 5, 13 and 14 come only by what the source gave.
+    ensures parse_error { result ≡ 5 → (at : ℕ) × HasNoReading (S.left input.old) (S.left input.new) at
+        × Says (D.faults err.old) (D.faults err.new) (D.held err.old) (D.held err.new)
+        (codes "parse error at " ++ decimal at ++ codes "\n") }
+    ensures too_long { result ≡ 13 → TookMore most_bytes (S.left input.old) (S.left input.new) }
+    ensures not_hexadecimal { result ≡ 14 → HasNoDigits (S.left input.old) (S.left input.new) }
+
+    // Where the words are accepted and neither source nor sink failed, the input decides.
+    ensures decided { map string_bytes words.now ≡ plain_words
+        → ¬ Rose (S.faults input.old) (S.faults input.new) → ¬ Rose (K.faults out.old) (K.faults out.new)
+        → IsDecided (S.left input.old) result }
+
+    // No other status comes, and with each but 0 and 4 the sink is as it was.
+    ensures statuses { Contains (0 ∷ 1 ∷ 2 ∷ 3 ∷ 4 ∷ 5 ∷ 13 ∷ 14 ∷ []) result }
+    ensures untouched { result ≢ 0 → result ≢ 4 → out.new ≡ out.old }
+
+    // Each status but 0 has its message.
+    ensures quiet { result ≡ 0 → err.new ≡ err.old }
+    ensures says { result ≢ 0 → result ≢ 5
+        → Says (D.faults err.old) (D.faults err.new) (D.held err.old) (D.held err.new) (message result) }
+
+    // No count of failures falls, and nothing is fetched.
+    ensures input_rises { S.faults input.old ≤ S.faults input.new }
+    ensures out_rises { K.faults out.old ≤ K.faults out.new }
+    ensures err_rises { D.faults err.old ≤ D.faults err.new }
+    ensures unfetched { shelf.new ≡ shelf.old }
 {
     let _shelf = shelf;
     let answer = reencode(alloc, words, input, out);
