@@ -13,7 +13,7 @@ mod tests;
 mod types;
 
 pub use expressions::ConstExpr;
-pub use fields::{read_item, read_name, read_val_type};
+pub use fields::{front_name, read_item, read_name, read_val_type};
 pub use groups::read_group;
 pub use names::{IndirectNameMap, NameMap};
 pub use payloads::Payloads;
