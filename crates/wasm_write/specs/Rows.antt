@@ -35,3 +35,17 @@ full_export_row = Shape.seq Shape.name (Shape.ref Named.full_item)
 
 pub exports_sound : sound (Shape.many full_export_row) ≡ true
 exports_sound = refl
+
+-- ---- sections that are no rows
+
+-- the function that starts the module
+abbrev pub start_tree : ℕ → Tree
+start_tree i = Tree.ix space.Function i
+
+-- the number of data segments
+abbrev pub data_count_tree : ℕ → Tree
+data_count_tree n = Tree.ix space.DataCount n
+
+-- a name, and bytes
+abbrev pub custom_tree : List ℕ → List ℕ → Tree
+custom_tree name contents = Tree.pair (Tree.name name) (Tree.raw contents)

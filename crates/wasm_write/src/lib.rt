@@ -10,6 +10,7 @@ mod module;
 mod names;
 mod section;
 mod types;
+mod values;
 
 pub use exports::ExportSection;
 pub use expressions::ConstExpr;
@@ -25,3 +26,4 @@ pub use types::{
     HeapType, Ieee32, Ieee64, Imm, Import, Imports, MemArg, MemoryType, Ordering, RecGroup, RefType,
     StorageType, StructType, SubType, TableType, TagKind, TagType, ValType,
 };
+pub use values::{DataCountSection, RawSection, StartSection};
