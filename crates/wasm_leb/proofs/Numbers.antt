@@ -16,7 +16,7 @@ seven_more bits h =
     let same : 7 + (bits - 7) ≡ bits = omega arith in
     ap (λ (k : ℕ). 2 ^ k) (sym same) ∙ split
 
-leb_more : (limit b n high : ℕ) (x : List ℕ) → 128 ≤ b → b < 256 → n + 128 ≡ b + 128 * high → IsLeb limit x high → IsLeb limit (b ∷ x) n
+pub leb_more : (limit b n high : ℕ) (x : List ℕ) → 128 ≤ b → b < 256 → n + 128 ≡ b + 128 * high → IsLeb limit x high → IsLeb limit (b ∷ x) n
 leb_more limit b n high [] low small e p = absurd p
 leb_more limit b n high (c ∷ x) low small e p = (low, small, high, e, p)
 

@@ -1,6 +1,6 @@
 -- The shortest spelling of a number spells it.
-use Rattle.std.proofs.Common.{◌≡◌, ℕ, ℤ, pos, negsuc, zero, suc, ◌+◌, ◌-◌, ◌*◌, ◌/◌, ◌%◌, ◌^◌, ◌<◌, ◌≤◌, List, [], ◌∷◌, length, Bool, true, false, refl, ap, ◌∙◌, arith, nat_lt, if◌then◌else◌, ltb-true, ltb-false}
-use Rattle.wasm_leb.specs.Leb.{IsLeb, IsNegative, IsNumber, IsUnsigned, IsSignedIndex, IsSigned, shortest, leb, signed_leb, inverted, inverted_byte, shortest_signed}
+use Rattle.std.proofs.Common.{◌≡◌, ℕ, ℤ, pos, negsuc, zero, suc, ◌+◌, ◌-◌, ◌*◌, ◌/◌, ◌%◌, ◌^◌, ◌<◌, ◌≤◌, List, [], ◌∷◌, length, Bool, true, false, refl, ap, arith, nat_lt, if◌then◌else◌, ltb-true, ltb-false}
+use Rattle.wasm_leb.specs.Leb.{IsLeb, IsNegative, IsUnsigned, IsSignedIndex, IsSigned, shortest, leb, signed_leb, inverted, inverted_byte, shortest_signed}
 
 -- what so many bytes more hold
 abbrev pub held : ℕ → ℕ → ℕ
@@ -78,7 +78,6 @@ inverted_spells (b ∷ c ∷ x) n p =
     let sum : n + 128 ≡ b + 128 * p.2 = p.3 in
     let e : inverted_byte b ≡ 383 - b = inverted_high b low in
     (omega arith, omega arith, p.2, omega arith, inverted_spells (c ∷ x) p.2 p.4)
-
 
 -- the magnitude of a number of so many bits with sign
 abbrev pub FitsBits : ℕ → ℤ → Type 0

@@ -1,7 +1,7 @@
 use Rattle.std.proofs.Common.{◌≡◌, ℕ, ◌+◌, ◌<◌, ◌++◌, length, take}
 use Rattle.wasm_leb.specs.Leb.{shortest}
 use Rattle.wasm_leb.proofs.Shortest.{held}
-use Rattle.wasm_leb.proofs.write_number.Given as goal
+use Rattle.wasm_leb.proofs.write.write_number.Given as goal
 
 -- what is written, and the shortest spelling of the rest, are the number's
 abbrev pub invariant-loop-rest : goal.invariant-loop-rest

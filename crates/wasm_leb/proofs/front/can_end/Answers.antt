@@ -1,7 +1,7 @@
 use Rattle.std.proofs.Common.{arith}
 use Rattle.std.proofs.lemmas.Bool.Decides.{nat_tests}
 use Rattle.wasm_leb.proofs.Numbers.{seven_bits}
-use Rattle.wasm_leb.proofs.can_end.Goals as goal
+use Rattle.wasm_leb.proofs.front.can_end.Goals as goal
 
 pub returns-then-bits-ge7 : goal.returns-then-bits-ge7
 returns-then-bits-ge7 c = (

@@ -1,7 +1,7 @@
 use Rattle.std.proofs.Common.{◌≡◌, ℕ, ◌+◌, ◌<◌, ◌*◌, ◌^◌, ◌-◌, arith, inl, inr, refl, true, false}
 use Rattle.wasm_leb.proofs.Numbers.{one_byte, none_of_last, none_of_more, none_here, begins_one, begins_more, high_fits}
-use Rattle.wasm_leb.proofs.+number.Goals as goal
-use Rattle.wasm_leb.proofs.+number.Goals.{In-Some-number}
+use Rattle.wasm_leb.proofs.front.+number.Goals as goal
+use Rattle.wasm_leb.proofs.front.+number.Goals.{In-Some-number}
 
 pub returns-else-can_end-clause-none : goal.returns-else-can_end-clause-none
 returns-else-can_end-clause-none t c =

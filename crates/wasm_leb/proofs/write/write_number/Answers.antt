@@ -1,7 +1,7 @@
 use Rattle.std.proofs.Common.{◌≡◌, suc, ◌+◌, ◌++◌, [], ◌∷◌, ◌/◌, length, length-set, take, set, refl, sym, ap, ◌∙◌, arith, append-nil}
 use Rattle.wasm_leb.specs.Leb.{shortest}
 use Rattle.wasm_leb.proofs.Writing.{shortest_last, shortest_step, one_more, room_for}
-use Rattle.wasm_leb.proofs.write_number.Goals as goal
+use Rattle.wasm_leb.proofs.write.write_number.Goals as goal
 
 pub loop-rest-init : goal.loop-rest-init
 loop-rest-init c = (9, refl, room_for c.args.limit c.args.number c.requires.low c.ranges.number.fits c.requires.fits, refl, refl)

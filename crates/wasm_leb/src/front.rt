@@ -1,0 +1,157 @@
+//! Numbers at the front of some bytes.
+ghost use Rattle.std.specs.Prelude.{◌≡◌, ℕ, ◌<◌, ◌≤◌, ◌^◌, ◌-◌, ◌∷◌, [], IfSome, IfNone, IsTrue, ◌↔◌};
+ghost use Rattle.wasm_leb.specs.Place.{BeginsNumber, BeginsNoNumber, BeginsSigned, BeginsNoSigned};
+
+/// The byte at the front of some bytes, and the bytes behind it.
+#[inline(always)]
+pub fn front_byte(bytes: &[u8]) -> Option<(u8, &[u8])>
+    ensures some { IfSome result (λ r. bytes.now ≡ r.0 ∷ r.1.now) }
+    ensures is_byte { IfSome result (λ r. r.0 < 256) }
+    ensures none { IfNone result (bytes.now ≡ []) }
+{
+    match bytes {
+        [first, rest @ ..] => Some((*first, rest)),
+        [] => None,
+    }
+}
+
+/// Whether a byte can be the last of a number of which so many bits are left.
+fn can_end(byte: u8, limit: u8, bits: u32) -> bool
+    requires limit { limit ≤ 128 }
+    requires some_bits { 0 < bits }
+    ensures { IsTrue result ↔ ((byte < limit) × (byte < 2 ^ bits)) }
+{
+    byte < limit && (bits >= 7 || byte < 1 << bits)
+}
+
+/// The number of so many bits that the bytes begin with, and the bytes behind it.
+/// Its last byte is below the limit.
+fn number(bytes: &[u8], limit: u8, bits: u32) -> Option<(u64, &[u8])>
+    requires limit { limit ≤ 128 }
+    requires some_bits { 0 < bits }
+    requires most_bits { bits ≤ 64 }
+    ensures some { IfSome result (λ r. BeginsNumber limit bits bits bytes.now r.0 r.1.now) }
+    ensures none { IfNone result (BeginsNoNumber limit bits bits bytes.now) }
+{
+    let Some((first, rest)) = front_byte(bytes) else {
+        return None;
+    };
+    if first < 128 {
+        return if can_end(first, limit, bits) {
+            Some((u64::from(first), rest))
+        } else {
+            None
+        };
+    }
+    if bits <= 7 {
+        return None;
+    }
+    match number(rest, limit, bits - 7) {
+        Some((high, rest)) => Some((u64::from(first) - 128 + high * 128, rest)),
+        None => None,
+    }
+}
+
+/// Whether so much can be the last part of a number with sign of which so many bits are left.
+fn is_within(size: u8, bits: u32) -> bool
+    requires small { size < 64 }
+    requires some_bits { 0 < bits }
+    ensures { IsTrue result ↔ (size < 2 ^ (bits - 1)) }
+{
+    bits >= 7 || size < 1 << (bits - 1)
+}
+
+/// The number of so many bits with sign that the bytes begin with, and the bytes behind it.
+fn signed(bytes: &[u8], bits: u32) -> Option<(i64, &[u8])>
+    requires some_bits { 0 < bits }
+    requires most_bits { bits ≤ 64 }
+    ensures some { IfSome result (λ r. BeginsSigned bits bytes.now r.0 r.1.now) }
+    ensures none { IfNone result (BeginsNoSigned bits bytes.now) }
+{
+    let mut rest = bytes;
+    let mut sum: u64 = 0;
+    let mut shift: u32 = 0;
+    while let Some((first, more)) = front_byte(rest) {
+        if first < 64 {
+            return if is_within(first, bits - shift) {
+                let size = sum + (u64::from(first) << shift);
+                Some((size as i64, more))
+            } else {
+                None
+            };
+        }
+        if first < 128 {
+            return if is_within(127 - first, bits - shift) {
+                let size = (u64::from(128 - first) << shift) - 1 - sum;
+                Some((-1 - size as i64, more))
+            } else {
+                None
+            };
+        }
+        if bits - shift <= 7 {
+            return None;
+        }
+        sum += u64::from(first - 128) << shift;
+        shift += 7;
+        rest = more;
+    }
+    None
+}
+
+/// The u32 at the front of some bytes, and the bytes behind it.
+pub fn front_u32(bytes: &[u8]) -> Option<(u32, &[u8])>
+    ensures some { IfSome result (λ r. BeginsNumber 128 32 32 bytes.now r.0 r.1.now) }
+    ensures none { IfNone result (BeginsNoNumber 128 32 32 bytes.now) }
+{
+    match number(bytes, 128, 32) {
+        Some((number, rest)) => Some((number as u32, rest)),
+        None => None,
+    }
+}
+
+/// The u64 at the front of some bytes, and the bytes behind it.
+pub fn front_u64(bytes: &[u8]) -> Option<(u64, &[u8])>
+    ensures some { IfSome result (λ r. BeginsNumber 128 64 64 bytes.now r.0 r.1.now) }
+    ensures none { IfNone result (BeginsNoNumber 128 64 64 bytes.now) }
+{
+    number(bytes, 128, 64)
+}
+
+/// The index at the front of some bytes, spelled as a number of 33 bits with sign that is not negative, and the bytes
+/// behind it.
+pub fn front_index(bytes: &[u8]) -> Option<(u32, &[u8])>
+    ensures some { IfSome result (λ r. BeginsNumber 64 33 32 bytes.now r.0 r.1.now) }
+    ensures none { IfNone result (BeginsNoNumber 64 33 32 bytes.now) }
+{
+    match number(bytes, 64, 32) {
+        Some((number, rest)) => Some((number as u32, rest)),
+        None => None,
+    }
+}
+
+/// The number of 32 bits with sign at the front of some bytes, and the bytes behind it.
+pub fn front_s32(bytes: &[u8]) -> Option<(i32, &[u8])>
+    ensures some { IfSome result (λ r. BeginsSigned 32 bytes.now r.0 r.1.now) }
+    ensures none { IfNone result (BeginsNoSigned 32 bytes.now) }
+{
+    match signed(bytes, 32) {
+        Some((number, rest)) => Some((number as i32, rest)),
+        None => None,
+    }
+}
+
+/// The number of 33 bits with sign at the front of some bytes, and the bytes behind it.
+pub fn front_s33(bytes: &[u8]) -> Option<(i64, &[u8])>
+    ensures some { IfSome result (λ r. BeginsSigned 33 bytes.now r.0 r.1.now) }
+    ensures none { IfNone result (BeginsNoSigned 33 bytes.now) }
+{
+    signed(bytes, 33)
+}
+
+/// The number of 64 bits with sign at the front of some bytes, and the bytes behind it.
+pub fn front_s64(bytes: &[u8]) -> Option<(i64, &[u8])>
+    ensures some { IfSome result (λ r. BeginsSigned 64 bytes.now r.0 r.1.now) }
+    ensures none { IfNone result (BeginsNoSigned 64 bytes.now) }
+{
+    signed(bytes, 64)
+}
