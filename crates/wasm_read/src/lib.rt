@@ -3,10 +3,12 @@
 
 mod expressions;
 mod names;
+mod operators;
 mod types;
 
 pub use expressions::ConstExpr;
 pub use names::{IndirectNameMap, NameMap};
+pub use operators::Operator;
 pub use types::{
     AbstractHeapType, ArrayType, BlockType, Catch, CompositeInnerType, CompositeType, ContType,
     CustomSection, Data, DataKind, Element, ElementItems, ElementKind, Export, ExternalKind,
