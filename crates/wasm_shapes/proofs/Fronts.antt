@@ -1,11 +1,10 @@
 -- With which bytes and flags the spellings of a shape begin.
-use Rattle.std.proofs.Common.{◌≡◌, ◌≢◌, ℕ, ℤ, zero, suc, ◌+◌, ◌<◌, ◌≤◌, List, [], ◌∷◌, ◌++◌, length, Bool, true, false, ◌&&◌, ◌||◌, nat_le, if◌then◌else◌, Option, Some, None, refl, sym, ap, ◌∙◌, append_assoc, append-nil, arith, ◌⊎◌, inl, inr, subst}
+use Rattle.std.proofs.Common.{◌≡◌, ℕ, zero, suc, ◌<◌, ◌≤◌, List, [], ◌∷◌, ◌++◌, length, Bool, true, false, ◌&&◌, nat_le, if◌then◌else◌, Some, refl, sym, ap, ◌∙◌, append_assoc, append-nil, arith, ◌⊎◌, inl, inr, subst}
 use Rattle.std.proofs.lemmas.Bool.{le-leb, leb-true}
 use Rattle.wasm_leb.specs.Leb.{IsLeb, IsUnsigned}
 use Rattle.wasm_leb.proofs.Unique.{leb_fills, leb_front, signed_fills, signed_front}
-use Rattle.wasm_shapes.specs.declared.ImmKind.{ImmKind}
-use Rattle.wasm_shapes.specs.Operators.{Code, plain, prefixed, is_code, Operators, look_up, one_byte_operators, prefixed_operators, kinds_among}
-use Rattle.wasm_shapes.specs.Tree.{Tree, count, Listed, left_flag, aimed_flag, kind_bytes}
+use Rattle.wasm_shapes.specs.Operators.{Code, plain, prefixed, is_code, Operators, look_up, one_byte_operators}
+use Rattle.wasm_shapes.specs.Tree.{Tree, count, left_flag, aimed_flag, kind_bytes}
 use Rattle.wasm_shapes.specs.Shape.{Shape, Named, shape_of, immediates, shape_of_row}
 use Rattle.wasm_shapes.specs.Sound.{Front, contains, apart_from, apart, nullable, operators_front, front_with, front_of, flag_front, is_known}
 use Rattle.wasm_shapes.specs.Spells.{Is, Spelled, SpelledCode, SpelledPlace}

@@ -1,8 +1,8 @@
 -- What a tree needs to have a spelling, and a ceiling on its frames.
-use Rattle.std.specs.Prelude.{◌≡◌, ℕ, ◌^◌, ◌<◌, ◌≤◌, length, IsUtf8, All}
+use Rattle.std.specs.Prelude.{ℕ, ◌^◌, ◌<◌, ◌≤◌, length, IsUtf8, All}
 use Rattle.wasm_leb.proofs.Shortest.{FitsBits}
 use Rattle.wasm_shapes.specs.Operators.{Code, plain, prefixed}
-use Rattle.wasm_shapes.specs.Tree.{Tree, count, frames, left_flag, aimed_flag}
+use Rattle.wasm_shapes.specs.Tree.{Tree, count, frames}
 
 abbrev pub CodeInRange : Code → Type 0
 CodeInRange (plain b) = Unit {0}

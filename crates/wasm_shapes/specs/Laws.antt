@@ -5,7 +5,7 @@ use Rattle.wasm_shapes.specs.Shape.{Shape, Named, shape_of, closed}
 use Rattle.wasm_shapes.specs.Sound.{sound}
 use Rattle.wasm_shapes.specs.Spells.{Spells}
 use Rattle.wasm_shapes.specs.Fits.{Fits}
-use Rattle.wasm_shapes.specs.Module.{core_module, core_header, core_tree, CoreReading, section, frame}
+use Rattle.wasm_shapes.specs.Module.{core_module, core_tree, CoreReading, section, frame}
 
 -- no spelling of a closed shape begins another, and one text has one tree
 abbrev pub IsUnique : Type 0

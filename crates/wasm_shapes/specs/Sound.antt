@@ -1,8 +1,8 @@
 -- The computed test of a table: by which bytes or flags its rows are told apart.
-use Rattle.std.specs.Prelude.{ℕ, zero, suc, ◌+◌, List, [], ◌∷◌, Bool, true, false, not, ◌&&◌, ◌||◌, nat_le, if◌then◌else◌}
+use Rattle.std.specs.Prelude.{ℕ, zero, suc, List, [], ◌∷◌, Bool, true, false, not, ◌&&◌, ◌||◌, nat_le, if◌then◌else◌}
 use Rattle.wasm_shapes.specs.Operators.{Operators, one_byte_operators}
-use Rattle.wasm_shapes.specs.Tree.{Listed, left_flag, aimed_flag}
-use Rattle.wasm_shapes.specs.Shape.{Shape, Named, shape_of, listing, closed}
+use Rattle.wasm_shapes.specs.Tree.{left_flag, aimed_flag}
+use Rattle.wasm_shapes.specs.Shape.{Shape, Named, shape_of, closed}
 
 -- ---- first bytes
 

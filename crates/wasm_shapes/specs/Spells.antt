@@ -3,7 +3,7 @@ use Rattle.std.specs.Prelude.{◌≡◌, ◌≢◌, ℕ, ℤ, zero, suc, ◌+◌
 use Rattle.wasm_leb.specs.Leb.{IsUnsigned, IsSignedIndex, IsSigned}
 use Rattle.wasm_shapes.specs.declared.SectionId.{SectionId}
 use Rattle.wasm_shapes.specs.declared.Space.{Space}
-use Rattle.wasm_shapes.specs.Tree.{Tree, count, Listed, typed, left_flag, aimed_flag, kind_bytes, funcref}
+use Rattle.wasm_shapes.specs.Tree.{Tree, count, Listed, typed, left_flag, aimed_flag, kind_bytes}
 use Rattle.wasm_shapes.specs.Operators.{Code, plain, prefixed, is_code}
 use Rattle.wasm_shapes.specs.Shape.{Shape, Named, shape_of, immediates, listing}
 

@@ -2,10 +2,14 @@
 #![tactic(auto)]
 
 mod operators;
+mod spelling;
 
 pub use operators::{
     BLOCK, BR, CALL, CALL_INDIRECT, DROP, END, GLOBAL_GET, I32_ADD, I32_CONST, I32_LOAD, LOCAL_GET,
     NOP, REF_FUNC, UNREACHABLE, row_of,
+};
+pub use spelling::{
+    header_spells, normal_reads_back, spelling_is_unique, tables_are_sound, text_has_one_tree,
 };
 
 /// An index space. The first eight are those of core modules (WebAssembly Core Specification 3.0, section 5.5.1);
