@@ -14,7 +14,7 @@ use Rattle.wasm_read.specs.declared.types.Catch.{Catch}
 use Rattle.wasm_read.specs.declared.types.Catch.TheVariants as catch
 use Rattle.wasm_read.specs.declared.types.Handle.{Handle}
 use Rattle.wasm_read.specs.declared.types.Handle.TheVariants as handle
-use Rattle.wasm_read.specs.ValTypes.{val_type_tree}
+use Rattle.wasm_read.specs.Types.{val_types_tree, no_reading}
 
 -- ---- kinds
 
@@ -98,24 +98,24 @@ handle_tree (handle.OnSwitch tag) = Tree.row 1 (Tree.pair (Tree.fixed 0x01) (Tre
 abbrev pub imm_tree : Imm → Tree
 imm_tree (imm.Label i) = Tree.u32 i
 imm_tree (imm.Labels targets default) =
-    if is_counted (length targets) then Tree.pair (vector_tree (map Tree.u32 targets)) (Tree.u32 default) else Tree.canonical 0
-imm_tree (imm.Index s i) = if is_core s then Tree.ix s i else Tree.canonical 0
+    if is_counted (length targets) then Tree.pair (vector_tree (map Tree.u32 targets)) (Tree.u32 default) else no_reading
+imm_tree (imm.Index s i) = if is_core s then Tree.ix s i else no_reading
 imm_tree (imm.Local i) = Tree.u32 i
 imm_tree (imm.Field i) = Tree.u32 i
 imm_tree (imm.Size n) = Tree.u32 n
-imm_tree (imm.Types ts) = if is_counted (length ts) then vector_tree (map val_type_tree ts) else Tree.canonical 0
+imm_tree (imm.Types ts) = if is_counted (length ts) then val_types_tree ts else no_reading
 imm_tree (imm.Mem m) = Tree.mem m.align m.memory m.offset
 imm_tree (imm.S32 z) = Tree.s32 z
 imm_tree (imm.S64 z) = Tree.s64 z
 imm_tree (imm.Four b) = Tree.raw (low_bytes 4 b.0)
 imm_tree (imm.Eight b) = Tree.raw (low_bytes 8 b.0)
-imm_tree (imm.Sixteen b) = if nat_eq (length b.now) 16 then Tree.raw b.now else Tree.canonical 0
-imm_tree (imm.Lanes b) = if nat_eq (length b.now) 16 then Tree.raw b.now else Tree.canonical 0
+imm_tree (imm.Sixteen b) = if nat_eq (length b.now) 16 then Tree.raw b.now else no_reading
+imm_tree (imm.Lanes b) = if nat_eq (length b.now) 16 then Tree.raw b.now else no_reading
 imm_tree (imm.Lane b) = Tree.byte b
-imm_tree (imm.Catches cs) = if is_counted (length cs) then vector_tree (map catch_tree cs) else Tree.canonical 0
-imm_tree (imm.Handlers hs) = if is_counted (length hs) then vector_tree (map handle_tree hs) else Tree.canonical 0
+imm_tree (imm.Catches cs) = if is_counted (length cs) then vector_tree (map catch_tree cs) else no_reading
+imm_tree (imm.Handlers hs) = if is_counted (length hs) then vector_tree (map handle_tree hs) else no_reading
 imm_tree imm.Zero = Tree.fixed 0x00
-imm_tree _ = Tree.canonical 0
+imm_tree _ = no_reading
 
 -- immediates one behind another
 abbrev pub imms_tree : List Imm → Tree

@@ -2,13 +2,20 @@
 #![tactic(auto)]
 
 mod expressions;
+mod fields;
 mod names;
 mod operators;
+mod payloads;
+mod rows;
+mod sections;
 mod types;
 
 pub use expressions::ConstExpr;
+pub use fields::read_name;
 pub use names::{IndirectNameMap, NameMap};
 pub use operators::Operator;
+pub use payloads::Payloads;
+pub use sections::{ExportSectionReader, FunctionSectionReader};
 pub use types::{
     AbstractHeapType, ArrayType, BlockType, Catch, CompositeInnerType, CompositeType, ContType,
     CustomSection, Data, DataKind, Element, ElementItems, ElementKind, Export, ExternalKind,
