@@ -1,10 +1,10 @@
 //! Fields at the front of some bytes, and at a place of some bytes.
 ghost use Rattle.std.specs.Prelude.{◌≡◌, ◌<◌, ◌≤◌, length, drop, IfOk, IfErr, IfSome, IfNone};
-ghost use Rattle.wasm_shapes.specs.Module.{export_row};
+ghost use Rattle.wasm_shapes.specs.Module.{function_row, export_row};
 ghost use Rattle.wasm_shapes.specs.Place.{Begins, BeginsNone};
 ghost use Rattle.wasm_shapes.specs.Shape.{Shape, Named};
 ghost use Rattle.wasm_shapes.specs.Tree.{Tree};
-ghost use Rattle.wasm_read.specs.Types.{val_type_tree, item_tree, export_tree};
+ghost use Rattle.wasm_read.specs.Types.{val_type_tree, function_tree, item_tree, export_tree};
 
 use crate::types::{Export, ExternalKind, ValType};
 use wasm_leb::{ReadError, front_byte, front_u32};
@@ -65,6 +65,15 @@ pub fn front_val_type(bytes: &[u8]) -> Option<(ValType, &[u8])>
         0x7c => Some((ValType::F64, rest)),
         _ => None,
     }
+}
+
+/// The index of a function's type at the front of some bytes, and the bytes behind it.
+#[tactic(auto, using(wasm_shapes::proofs::Begins::begins_ix, wasm_shapes::proofs::Begins::none_ix))]
+pub fn front_function(bytes: &[u8]) -> Option<(u32, &[u8])>
+    ensures some { IfSome result (λ r. Begins function_row bytes.now (function_tree r.0) r.1.now) }
+    ensures none { IfNone result (BeginsNone function_row bytes.now) }
+{
+    front_u32(bytes)
 }
 
 /// The kind and the index of what is exported, at the front of some bytes, and the bytes behind them.

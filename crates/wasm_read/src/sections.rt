@@ -6,12 +6,12 @@ ghost use Rattle.wasm_shapes.specs.Rows.{NoRows};
 ghost use Rattle.wasm_read.specs.Reading.{place_of, ReadsNone, CountRead, RowRead, RowsEnded};
 ghost use Rattle.wasm_read.specs.Types.{function_tree, export_tree};
 
-use crate::fields::{front_export, front_name};
+use crate::fields::{front_export, front_function};
 use crate::rows::Rows;
 use crate::types::Export;
 use std::alloc::Global;
 use std::marker::Model;
-use wasm_leb::{Fault, front_u32};
+use wasm_leb::Fault;
 
 /// A reader of the rows of a function section: the index of the type of each function (section 5.5.6).
 #[derive(Drop)]
@@ -61,7 +61,7 @@ impl<'a> FunctionSectionReader<'a> {
             Ok(None) => return Ok(None),
             Err(fault) => return Err(fault),
         };
-        match front_u32(bytes) {
+        match front_function(bytes) {
             Some((index, rest)) => {
                 self.rows.advance(rest);
                 Ok(Some(index))
