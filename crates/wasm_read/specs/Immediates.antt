@@ -1,5 +1,6 @@
 -- What immediates stand for, and their kinds (WebAssembly Core Specification 3.0, section 5.4).
 use Rattle.std.specs.Prelude.{◌≡◌, ℕ, zero, suc, ◌/◌, ◌%◌, ◌^◌, Bool, true, false, nat_lt, nat_eq, if◌then◌else◌, List, [], ◌∷◌, length, map, Option, Some, None}
+use Rattle.std.specs.Int.{to_le_bytes, w32, w64}
 use Rattle.wasm_shapes.specs.declared.Space.{Space}
 use Rattle.wasm_shapes.specs.declared.Space.TheVariants as space
 use Rattle.wasm_shapes.specs.declared.ImmKind.{ImmKind}
@@ -7,6 +8,7 @@ use Rattle.wasm_shapes.specs.declared.ImmKind.TheVariants as kind
 use Rattle.wasm_shapes.specs.declared.Opcode.{Opcode}
 use Rattle.wasm_shapes.specs.Operators.{kinds_of, code_of}
 use Rattle.wasm_shapes.specs.Tree.{Tree}
+use Rattle.wasm_shapes.specs.Shape.{Shape, choice, lead}
 use Rattle.wasm_shapes.specs.Rows.{rows_then}
 use Rattle.wasm_read.specs.declared.types.Imm.{Imm}
 use Rattle.wasm_read.specs.declared.types.Imm.TheVariants as imm
@@ -14,7 +16,8 @@ use Rattle.wasm_read.specs.declared.types.Catch.{Catch}
 use Rattle.wasm_read.specs.declared.types.Catch.TheVariants as catch
 use Rattle.wasm_read.specs.declared.types.Handle.{Handle}
 use Rattle.wasm_read.specs.declared.types.Handle.TheVariants as handle
-use Rattle.wasm_read.specs.Types.{val_types_tree, no_reading}
+use Rattle.wasm_read.specs.declared.types.ValType.{ValType}
+use Rattle.wasm_read.specs.Types.{val_type_tree, val_types_tree, no_reading}
 
 -- ---- kinds
 
@@ -75,22 +78,32 @@ FitOpcode op ms = AreOfRow (kinds_of op) ms
 
 -- ---- trees
 
--- the lowest bytes of a number, the lowest first
-abbrev pub low_bytes : ℕ → ℕ → List ℕ
-low_bytes zero n = []
-low_bytes (suc k) n = (n % 256) ∷ low_bytes k (n / 256)
-
 abbrev pub vector_tree : List Tree → Tree
 vector_tree ts = Tree.vec (rows_then ts Tree.nil)
 
+-- a tag and a label
+abbrev pub tagged_label : Shape
+tagged_label = Shape.seq (Shape.ix space.Tag) Shape.u32
+
+abbrev pub tagged_label_tree : ℕ → ℕ → Tree
+tagged_label_tree tag label = Tree.pair (Tree.ix space.Tag tag) (Tree.u32 label)
+
+-- what a block catches: the rows of `Catches`
+abbrev pub catch_row : Shape
+catch_row = choice (lead 0x00 tagged_label ∷ lead 0x01 tagged_label ∷ lead 0x02 Shape.u32 ∷ lead 0x03 Shape.u32 ∷ [])
+
 abbrev pub catch_tree : Catch → Tree
-catch_tree (catch.One tag label) = Tree.row 0 (Tree.pair (Tree.fixed 0x00) (Tree.pair (Tree.ix space.Tag tag) (Tree.u32 label)))
-catch_tree (catch.OneRef tag label) = Tree.row 1 (Tree.pair (Tree.fixed 0x01) (Tree.pair (Tree.ix space.Tag tag) (Tree.u32 label)))
+catch_tree (catch.One tag label) = Tree.row 0 (Tree.pair (Tree.fixed 0x00) (tagged_label_tree tag label))
+catch_tree (catch.OneRef tag label) = Tree.row 1 (Tree.pair (Tree.fixed 0x01) (tagged_label_tree tag label))
 catch_tree (catch.All label) = Tree.row 2 (Tree.pair (Tree.fixed 0x02) (Tree.u32 label))
 catch_tree (catch.AllRef label) = Tree.row 3 (Tree.pair (Tree.fixed 0x03) (Tree.u32 label))
 
+-- how a tag is handled: the rows of `Handlers`
+abbrev pub handle_row : Shape
+handle_row = choice (lead 0x00 tagged_label ∷ lead 0x01 (Shape.ix space.Tag) ∷ [])
+
 abbrev pub handle_tree : Handle → Tree
-handle_tree (handle.OnLabel tag label) = Tree.row 0 (Tree.pair (Tree.fixed 0x00) (Tree.pair (Tree.ix space.Tag tag) (Tree.u32 label)))
+handle_tree (handle.OnLabel tag label) = Tree.row 0 (Tree.pair (Tree.fixed 0x00) (tagged_label_tree tag label))
 handle_tree (handle.OnSwitch tag) = Tree.row 1 (Tree.pair (Tree.fixed 0x01) (Tree.ix space.Tag tag))
 
 -- What an immediate stands for. One that has no kind stands for nothing, and so do block types, heap types and casts
@@ -107,8 +120,8 @@ imm_tree (imm.Types ts) = if is_counted (length ts) then val_types_tree ts else 
 imm_tree (imm.Mem m) = Tree.mem m.align m.memory m.offset
 imm_tree (imm.S32 z) = Tree.s32 z
 imm_tree (imm.S64 z) = Tree.s64 z
-imm_tree (imm.Four b) = Tree.raw (low_bytes 4 b.0)
-imm_tree (imm.Eight b) = Tree.raw (low_bytes 8 b.0)
+imm_tree (imm.Four b) = Tree.raw (to_le_bytes w32 b.0)
+imm_tree (imm.Eight b) = Tree.raw (to_le_bytes w64 b.0)
 imm_tree (imm.Sixteen b) = if nat_eq (length b.now) 16 then Tree.raw b.now else no_reading
 imm_tree (imm.Lanes b) = if nat_eq (length b.now) 16 then Tree.raw b.now else no_reading
 imm_tree (imm.Lane b) = Tree.byte b
@@ -121,6 +134,15 @@ imm_tree _ = no_reading
 abbrev pub imms_tree : List Imm → Tree
 imms_tree [] = Tree.empty
 imms_tree (m ∷ ms) = Tree.pair (imm_tree m) (imms_tree ms)
+
+-- ---- locals
+
+-- so many locals of a type
+abbrev pub local_tree : ℕ × ValType → Tree
+local_tree l = Tree.pair (Tree.u32 l.0) (val_type_tree l.1)
+
+abbrev pub locals_tree : List (ℕ × ValType) → Tree
+locals_tree ls = vector_tree (map local_tree ls)
 
 -- ---- operators
 

@@ -3,12 +3,14 @@
 
 mod expressions;
 mod fields;
+mod immediates;
 mod names;
 mod operators;
 mod payloads;
 mod rows;
 mod sections;
 mod types;
+mod vectors;
 
 pub use expressions::ConstExpr;
 pub use fields::read_name;
