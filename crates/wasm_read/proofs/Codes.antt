@@ -1,5 +1,5 @@
 -- The numbers of operators, and the operators at the front of some bytes.
-use Rattle.std.proofs.Common.{◌≡◌, ℕ, zero, suc, ◌<◌, ◌≤◌, List, [], ◌∷◌, ◌++◌, Bool, true, false, not, ◌&&◌, nat_le, Option, Some, None, refl, sym, ap, ap₂, ◌∙◌, append_assoc, arith, ◌⊎◌, inl, inr, subst}
+use Rattle.std.proofs.Common.{◌≡◌, ℕ, zero, suc, ◌+◌, ◌<◌, ◌≤◌, length, length-append, List, [], ◌∷◌, ◌++◌, Bool, true, false, not, ◌&&◌, nat_le, Option, Some, None, refl, sym, ap, ap₂, ◌∙◌, append_assoc, arith, ◌⊎◌, inl, inr, subst}
 use Rattle.std.proofs.lemmas.List.{append_cancel_left}
 use Rattle.std.proofs.lemmas.Bool.{le-leb, leb-true}
 use Rattle.wasm_leb.specs.Place.{BeginsNumber, BeginsNoNumber}
@@ -8,9 +8,11 @@ use Rattle.wasm_shapes.specs.declared.ImmKind.{ImmKind}
 use Rattle.wasm_shapes.specs.Operators.{Code, plain, prefixed, code_from, is_prefix, is_code, kinds_among}
 use Rattle.wasm_shapes.specs.Tree.{Tree}
 use Rattle.wasm_shapes.specs.Shape.{Shape, immediates, shape_of_kinds, shape_of_row}
+use Rattle.wasm_shapes.specs.Sound.{nullable}
 use Rattle.wasm_shapes.specs.Spells.{Is, Spelled, SpelledCode}
 use Rattle.wasm_shapes.specs.Place.{Begins, BeginsNone}
 use Rattle.wasm_shapes.proofs.Begins.{none_row}
+use Rattle.wasm_shapes.proofs.Fronts.{nullable_sound}
 use Rattle.wasm_shapes.proofs.Lists.{both, spelled_out}
 use Rattle.wasm_read.specs.Operations.{BeginsCode, BeginsNoCode}
 
@@ -153,3 +155,11 @@ pub none_op_imms : {c : Code} {ks : List ImmKind} {ends : Bool} {bytes middle : 
 none_op_imms {middle = middle} row there none =
     let N : Option (List ImmKind) → Type 0 = λ o. BeginsNone (shape_of_row o) middle in
     none_op there (subst N (sym row) none)
+
+-- what is spelled by some bytes leaves fewer
+pub fewer_left : {s : Shape} {t : Tree} {bytes left : List ℕ} → nullable s ≡ false → Begins s bytes t left → length left < length bytes
+fewer_left {s = s} {t = t} {bytes = bytes} {left = left} fills p = go p.text p.spells.shaped p.spells.spelled p.reads
+  where
+    go : (text : List ℕ) → Is s t → Spelled t text → bytes ≡ text ++ left → length left < length bytes
+    go [] d q e = let empty : nullable s ≡ true = nullable_sound d [] q refl in absurd cc
+    go (b ∷ text) d q e = let long : length bytes ≡ length (b ∷ text) + length left = ap length e ∙ length-append (b ∷ text) left in omega arith

@@ -15,7 +15,7 @@ mod vectors;
 pub use expressions::ConstExpr;
 pub use fields::read_name;
 pub use names::{IndirectNameMap, NameMap};
-pub use operators::Operator;
+pub use operators::{Operator, OperatorsReader};
 pub use payloads::Payloads;
 pub use sections::{ExportSectionReader, FunctionSectionReader};
 pub use types::{

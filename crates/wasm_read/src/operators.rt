@@ -1,10 +1,16 @@
 //! The operators of function bodies.
-ghost use Rattle.std.specs.Prelude.{◌≡◌, IfSome, IfNone, if◌then◌else◌, nat_eq, length, IsTrue, ◌↔◌};
-ghost use Rattle.wasm_read.specs.Immediates.{FitOpcode, AreOf, kind_of_imm, is_core, is_counted, operation};
+ghost use Rattle.std.specs.Prelude.{◌≡◌, ◌<◌, ◌≤◌, ◌∷◌, [], IfSome, IfNone, IfOk, IfErr, if◌then◌else◌, nat_eq, length, IsTrue, ◌↔◌, true};
+ghost use Rattle.wasm_shapes.specs.Place.{Begins, BeginsNone};
+ghost use Rattle.wasm_shapes.specs.Shape.{Shape};
+ghost use Rattle.wasm_read.specs.Operations.{rest_of};
+ghost use Rattle.wasm_read.specs.Reading.{ReadsNoneOrWants};
+ghost use Rattle.wasm_read.specs.Immediates.{FitOpcode, AreOf, kind_of_imm, is_core, is_counted, operation, operator_tree};
 
+use crate::immediates::{front_imms, front_opcode};
 use crate::types::Imm;
+use std::alloc::Global;
 use std::marker::Model;
-use wasm_leb::List;
+use wasm_leb::{Fault, List, NoMemory, ReadError};
 use wasm_shapes::{ImmKind, Opcode, Space, row_of};
 
 /// An operator of the tables with its immediates, whose kinds are those of its opcode's row
@@ -64,6 +70,103 @@ impl<'a> Operator<'a> {
         ensures fit { FitOpcode self.entry.opcode self.entry.imms }
     {
         self.imms
+    }
+}
+
+/// A reader of operators that stand one behind another.
+#[derive(Drop)]
+pub struct OperatorsReader<'a> {
+    bytes: &'a [u8],
+    at: usize,
+}
+
+impl<'a> Model for OperatorsReader<'a> {
+    ghost use Rattle.std.specs.Prelude.{◌≤◌, length};
+    ghost use Rattle.wasm_read.specs.Operations.{Reading};
+
+    ghost Value = { Reading };
+
+    ghost view = { λ reader. record { bytes = reader.bytes.now; at = reader.at } };
+
+    ghost invariant = { λ reader. reader.at ≤ length reader.bytes.now };
+}
+
+impl<'a> OperatorsReader<'a> {
+    /// A reader of the operators from a place on.
+    pub(crate) fn from_place(bytes: &'a [u8], at: usize) -> OperatorsReader<'a>
+        requires { at ≤ length bytes.now }
+        ensures { result ≡ record { bytes = bytes.now; at = at } }
+    {
+        OperatorsReader { bytes, at }
+    }
+
+    /// The bytes that are left.
+    fn rest(&self) -> &'a [u8]
+        ensures { result.now ≡ rest_of self.now }
+    {
+        &self.bytes[self.at..]
+    }
+
+    /// The next operator, `end` among them. The reader stands behind it then.
+    ///
+    /// `Read` comes exactly where no operator begins, and holds the place where the reader stands, counted from the
+    /// first of its bytes. An error leaves the reader where it stood.
+    pub fn read(&mut self, alloc: Global) -> Result<Operator<'a>, Fault>
+        ensures row { IfOk result (λ o. Begins (Shape.op true) (rest_of self.old) (operator_tree o) (rest_of self.new)) }
+        ensures fit { IfOk result (λ o. FitOpcode o.opcode o.imms) }
+        ensures forward { IfOk result (λ _. (self.old.at < self.new.at) × (self.new.at ≤ length self.old.bytes)) }
+        ensures bytes { self.new.bytes ≡ self.old.bytes }
+        ensures err { IfErr result (λ e. ReadsNoneOrWants e self.old.at (BeginsNone (Shape.op true) (rest_of self.old))) }
+        ensures stays { IfErr result (λ _. self.new ≡ self.old) }
+    {
+        match front_operator(alloc, self.rest()) {
+            Ok(Some((operator, rest))) => {
+                self.at = self.bytes.len() - rest.len();
+                Ok(operator)
+            }
+            Ok(None) => Err(Fault::Read(ReadError { at: self.at })),
+            Err(NoMemory) => Err(Fault::NoMemory),
+        }
+    }
+
+    /// Whether nothing is left.
+    pub fn eof(&self) -> bool
+        ensures { IsTrue result ↔ (rest_of self.now ≡ []) }
+    {
+        self.rest().is_empty()
+    }
+
+    /// Whether the one byte `0b` is left, which is `end`.
+    pub fn is_end_then_eof(&self) -> bool
+        ensures { IsTrue result ↔ (rest_of self.now ≡ 0x0b ∷ []) }
+    {
+        match self.rest() {
+            [last] => *last == 0x0b,
+            _ => false,
+        }
+    }
+}
+
+/// The operator at the front of some bytes, and the bytes behind it.
+fn front_operator<'a>(
+    alloc: Global,
+    bytes: &'a [u8],
+) -> Result<Option<(Operator<'a>, &'a [u8])>, NoMemory>
+    ensures some { IfOk result (λ o. IfSome o (λ r. Begins (Shape.op true) bytes.now (operator_tree r.0) r.1.now)) }
+    ensures fit { IfOk result (λ o. IfSome o (λ r. FitOpcode r.0.opcode r.0.imms)) }
+    ensures shorter { IfOk result (λ o. IfSome o (λ r. length r.1.now < length bytes.now)) }
+    ensures none { IfOk result (λ o. IfNone o (BeginsNone (Shape.op true) bytes.now)) }
+{
+    let Some((opcode, rest)) = front_opcode(bytes) else {
+        return Ok(None);
+    };
+    let Some(kinds) = row_of(opcode) else {
+        return Ok(None);
+    };
+    match front_imms(alloc, kinds, rest) {
+        Ok(Some((imms, rest))) => Ok(Some((Operator { opcode, imms }, rest))),
+        Ok(None) => Ok(None),
+        Err(NoMemory) => Err(NoMemory),
     }
 }
 
