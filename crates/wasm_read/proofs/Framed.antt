@@ -6,7 +6,9 @@ use Rattle.wasm_shapes.specs.Tree.{Tree}
 use Rattle.wasm_shapes.specs.Shape.{Shape}
 use Rattle.wasm_shapes.specs.Spells.{Is, Spelled, Spells}
 use Rattle.wasm_shapes.specs.Place.{Begins, BeginsNone}
-use Rattle.wasm_shapes.proofs.Framing.{none_sized, no_body}
+use Rattle.wasm_shapes.specs.Module.{frame}
+use Rattle.wasm_shapes.proofs.Framing.{FrameIs, none_sized, no_body}
+use Rattle.wasm_read.specs.Frames.{numbered_frame, custom_frame}
 
 -- ---- a body of which nothing is said, and what it spells
 
@@ -75,3 +77,22 @@ no_name_and_rest {bytes = bytes} none t p = go t p.shaped p.spelled
   where
     go : (t : Tree) → Is (Shape.seq Shape.name Shape.rest) t → Spelled t bytes → ⊥
     go t (Is.seq {t = u} d d') p = none.none p.0 p.1 u (record { shaped = d; spelled = p.3 }) p.2
+
+-- ---- what a payload says of the bytes
+
+frame_parts : {id : ℕ} {bytes text left x y size z body : List ℕ} → bytes ≡ text ++ left → text ≡ x ++ y → x ≡ id ∷ [] → y ≡ size ++ z → IsUnsigned 32 size (length z) → z ≡ body →
+    FrameIs id bytes body left
+frame_parts {id = id} {left = left} {size = size} {z = z} r e i f u b =
+    let P : List ℕ → Type 0 = λ v. IsUnsigned 32 size (length v) in record {
+      size = size;
+      counted = subst P b u;
+      reads = rw (r, e, i, f, ← b) (ap (λ (v : List ℕ). id ∷ v) (append_assoc size z left));
+    }
+
+-- a section of another id than 0 stands there
+pub numbered_is : {id : ℕ} {bytes body left : List ℕ} → Begins frame bytes (numbered_frame id body) left → FrameIs id bytes body left
+numbered_is p = let s = p.spells.spelled in frame_parts p.reads s.2 s.3.0 s.4.2 s.4.3 s.4.4
+
+-- a custom section does
+pub custom_is : {bytes name contents left : List ℕ} → Begins frame bytes (custom_frame name contents) left → (body : List ℕ) × FrameIs 0 bytes body left
+custom_is p = let s = p.spells.spelled in (s.4.1, frame_parts p.reads s.2 s.3 s.4.2 s.4.3 refl)

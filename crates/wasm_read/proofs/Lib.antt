@@ -4,3 +4,5 @@ pub mod Framed
 pub mod InVectors
 pub mod OfKinds
 pub mod Placed
+pub mod Vectors
+pub mod Missing

@@ -1,11 +1,12 @@
 -- What the readers of sections promise.
-use Rattle.std.specs.Prelude.{◌≡◌, ℕ, ◌+◌, ◌-◌, List, [], length}
+use Rattle.std.specs.Prelude.{◌≡◌, ◌≢◌, ℕ, ◌+◌, ◌-◌, ◌<◌, ◌⊎◌, List, [], length}
 use Rattle.wasm_leb.specs.declared.fault.Fault.{Fault}
 use Rattle.wasm_leb.specs.declared.fault.Fault.TheVariants as fault
 use Rattle.wasm_leb.specs.Place.{BeginsNumber}
 use Rattle.wasm_shapes.specs.Tree.{Tree}
 use Rattle.wasm_shapes.specs.Shape.{Shape}
-use Rattle.wasm_shapes.specs.Place.{Begins}
+use Rattle.wasm_shapes.specs.Place.{Begins, BeginsNone}
+use Rattle.wasm_shapes.specs.Rows.{NoRows}
 
 -- Where a reader of rows stands: the bytes and the number of rows that are left, and how long its whole body is.
 pub record Standing : Type 0 where
@@ -42,6 +43,11 @@ pub record RowRead (shape : Shape) (old : Standing) (row : Tree) (new : Standing
   pub begins : Begins shape old.rest row new.rest
   pub counted : old.left ≡ new.left + 1
   pub len : new.len ≡ old.len
+
+-- No row begins where one is due, or bytes are left behind the last; and so the bytes are no such rows.
+pub record RowMissing (shape : Shape) (old : Standing) : Type 0 where
+  pub here : ((0 < old.left) × BeginsNone shape old.rest) ⊎ ((old.left ≡ 0) × (old.rest ≢ []))
+  pub rows : NoRows shape old.left old.rest
 
 -- All rows were read, nothing is left, and the reader stands where it stood.
 pub record RowsEnded (old new : Standing) : Type 0 where

@@ -29,7 +29,7 @@ pub fn front_name(bytes: &[u8]) -> Option<(&str, &[u8])>
 }
 
 /// The bytes from a place on: none from a place past the end.
-fn from_place(bytes: &[u8], at: usize) -> &[u8]
+pub fn from_place(bytes: &[u8], at: usize) -> &[u8]
     ensures { result.now ≡ drop at bytes.now }
 {
     if at < bytes.len() { &bytes[at..] } else { &[] }
@@ -67,6 +67,20 @@ pub fn front_val_type(bytes: &[u8]) -> Option<(ValType, &[u8])>
     }
 }
 
+/// The value type that is spelled at a place, and the place after it (WebAssembly Core Specification 3.0, section 5.3.5).
+///
+/// The error holds the place that was asked for, and comes exactly where no value type begins there, as past the end.
+pub fn read_val_type(bytes: &[u8], at: usize) -> Result<(ValType, usize), ReadError>
+    ensures ok { IfOk result (λ r. Begins (Shape.ref Named.value) (drop at bytes.now) (val_type_tree r.0) (drop r.1 bytes.now)) }
+    ensures forward { IfOk result (λ r. (at < r.1) × (r.1 ≤ length bytes.now)) }
+    ensures err { IfErr result (λ e. (e.at ≡ at) × BeginsNone (Shape.ref Named.value) (drop at bytes.now)) }
+{
+    match front_val_type(from_place(bytes, at)) {
+        Some((ty, rest)) => Ok((ty, bytes.len() - rest.len())),
+        None => Err(ReadError { at }),
+    }
+}
+
 /// The index of a function's type at the front of some bytes, and the bytes behind it.
 #[tactic(auto, using(wasm_shapes::proofs::Begins::begins_ix, wasm_shapes::proofs::Begins::none_ix))]
 pub fn front_function(bytes: &[u8]) -> Option<(u32, &[u8])>
@@ -90,6 +104,21 @@ pub fn front_item(bytes: &[u8]) -> Option<(ExternalKind, u32, &[u8])>
             None => None,
         },
         _ => None,
+    }
+}
+
+/// The kind and the index of what is exported that are spelled at a place, and the place after them (WebAssembly Core
+/// Specification 3.0, section 5.5.10).
+///
+/// The error holds the place that was asked for, and comes exactly where no such item begins there, as past the end.
+pub fn read_item(bytes: &[u8], at: usize) -> Result<(ExternalKind, u32, usize), ReadError>
+    ensures ok { IfOk result (λ r. Begins (Shape.ref Named.item) (drop at bytes.now) (item_tree r.0 r.1) (drop r.2 bytes.now)) }
+    ensures forward { IfOk result (λ r. (at < r.2) × (r.2 ≤ length bytes.now)) }
+    ensures err { IfErr result (λ e. (e.at ≡ at) × BeginsNone (Shape.ref Named.item) (drop at bytes.now)) }
+{
+    match front_item(from_place(bytes, at)) {
+        Some((kind, index, rest)) => Ok((kind, index, bytes.len() - rest.len())),
+        None => Err(ReadError { at }),
     }
 }
 

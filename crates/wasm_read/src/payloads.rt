@@ -131,11 +131,7 @@ fn numbered(at: usize, id: u8, body: &[u8]) -> Payload<'_>
     ensures unknown { IsUnknown result }
 {
     match kind_of_id(id) {
-        Some(kind) => Payload::Section {
-            id: kind,
-            at,
-            body,
-        },
+        Some(kind) => Payload::Section { id: kind, at, body },
         None => Payload::Unknown {
             at,
             id,

@@ -77,3 +77,42 @@ impl<'a> Rows<'a> {
         self.left -= 1;
     }
 }
+
+/// The text of `next_row` of the readers whose rows take no memory. `front` reads the row at the front of some bytes.
+macro_rules! next_row {
+    ($reader:ident, $front:ident) => {
+        match $reader.rows.due() {
+            Ok(Some(bytes)) => match $front(bytes) {
+                Some((row, rest)) => {
+                    $reader.rows.advance(rest);
+                    Ok(Some(row))
+                }
+                None => Err($reader.rows.refusal()),
+            },
+            Ok(None) => Ok(None),
+            Err(fault) => Err(fault),
+        }
+    };
+}
+
+pub(crate) use next_row;
+
+/// The same for rows that take memory.
+macro_rules! next_row_in {
+    ($reader:ident, $alloc:ident, $front:ident) => {
+        match $reader.rows.due() {
+            Ok(Some(bytes)) => match $front($alloc, bytes) {
+                Ok(Some((row, rest))) => {
+                    $reader.rows.advance(rest);
+                    Ok(Some(row))
+                }
+                Ok(None) => Err($reader.rows.refusal()),
+                Err(NoMemory) => Err(Fault::NoMemory),
+            },
+            Ok(None) => Ok(None),
+            Err(fault) => Err(fault),
+        }
+    };
+}
+
+pub(crate) use next_row_in;

@@ -2,7 +2,7 @@ use Rattle.std.proofs.Common.{ℕ, List, sym, subst}
 use Rattle.wasm_shapes.specs.Shape.{Shape}
 use Rattle.wasm_shapes.specs.Tree.{Tree}
 use Rattle.wasm_shapes.specs.Place.{Begins}
-use Rattle.wasm_shapes.proofs.Begins.{begins_name, none_name_length, none_name_text, no_room, no_text}
+use Rattle.wasm_shapes.proofs.Begins.{begins_name, none_name_text, no_room, no_text}
 use Rattle.wasm_read.proofs.fields.front_name.Goals as goal
 
 pub returns-then-rest-len-clause-none : goal.returns-then-rest-len-clause-none

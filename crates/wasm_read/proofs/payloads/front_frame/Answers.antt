@@ -1,8 +1,8 @@
-use Rattle.std.proofs.Common.{◌≡◌, ◌≢◌, ℕ, arith, refl, false}
+use Rattle.std.proofs.Common.{◌≡◌, arith, refl, false}
 use Rattle.std.proofs.lemmas.Bool.Decides.{nat_tests}
 use Rattle.wasm_shapes.specs.Sound.{contains, first_bytes}
 use Rattle.wasm_shapes.specs.Module.{frame}
-use Rattle.wasm_shapes.proofs.Begins.{begins_seq, begins_byte, begins_row, begins_within, at_byte, none_here, none_at_end, none_by_front, none_or, none_row, none_lead}
+use Rattle.wasm_shapes.proofs.Begins.{begins_seq, begins_byte, begins_row, begins_within, at_byte, none_here, none_at_end, none_by_front, none_or, none_row}
 use Rattle.wasm_read.proofs.Framed.{begins_filled, none_sized_any, none_filled, none_behind_fixed, none_behind_within, name_and_rest, no_name_and_rest}
 use Rattle.wasm_read.proofs.payloads.front_frame.Goals as goal
 
