@@ -4,18 +4,22 @@
 mod expressions;
 mod fields;
 mod groups;
+mod immediates;
 mod names;
+mod operators;
 mod payloads;
 mod rows;
 mod sections;
 #[cfg(test)]
 mod tests;
 mod types;
+mod vectors;
 
 pub use expressions::ConstExpr;
 pub use fields::{front_name, read_item, read_name, read_val_type};
 pub use groups::read_group;
 pub use names::{IndirectNameMap, NameMap};
+pub use operators::{Operator, OperatorsReader};
 pub use payloads::Payloads;
 pub use sections::{ExportSectionReader, FunctionSectionReader, TypeSectionReader};
 pub use types::{

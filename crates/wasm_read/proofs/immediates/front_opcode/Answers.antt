@@ -1,0 +1,6 @@
+use Rattle.std.proofs.Common.{inl, inr}
+use Rattle.wasm_read.proofs.Codes.{begins_plain, begins_prefixed, no_code_at_end, no_code_behind}
+use Rattle.wasm_read.proofs.immediates.front_opcode.Goals as goal
+
+pub returns-in-Some-front_u32-clause-some : goal.returns-in-Some-front_u32-clause-some
+returns-in-Some-front_u32-clause-some c = begins_prefixed c.if-first-lt251.false c.if-first-gt254.false c.in-Some.ensures.some c.in-Some-front_u32.ensures.some
