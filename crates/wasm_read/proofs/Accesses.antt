@@ -1,5 +1,5 @@
 -- Memory accesses at the front of some bytes.
-use Rattle.std.proofs.Common.{◌≡◌, ℕ, ◌<◌, ◌≤◌, ◌+◌, List, ◌++◌, refl, sym, ap, ◌∙◌, append_assoc, arith, ◌⊎◌, inl, inr}
+use Rattle.std.proofs.Common.{◌≡◌, ℕ, ◌<◌, ◌≤◌, ◌+◌, List, ◌++◌, refl, sym, ap, ◌∙◌, append_assoc, arith, inl, inr}
 use Rattle.std.proofs.lemmas.List.{append_cancel_left}
 use Rattle.wasm_leb.specs.Place.{BeginsNumber, BeginsNoNumber}
 use Rattle.wasm_leb.proofs.Unique.{unsigned_unique}
@@ -49,6 +49,7 @@ none_mem {b = b} {bytes = bytes} {middle = middle} there short long = record { n
         let shifted : p.flags ++ middle ≡ p.flags ++ (p.offset ++ left) = ap (λ (z : List ℕ). z ++ middle) (sym same.0) ∙ both_ways in
         let is : b ≡ a = same.1 in
         short (omega arith) p.offset left o p.offsets (append_cancel_left p.flags middle (p.offset ++ left) shifted)
+
     written : (a i o : ℕ) (text left : List ℕ) → a < 64 → SpelledMemWritten a i o text → bytes ≡ text ++ left → ⊥
     written a i o text left small p e =
         let inner : (p.memory ++ p.offset) ++ left ≡ p.memory ++ (p.offset ++ left) = append_assoc p.memory p.offset left in
@@ -60,6 +61,7 @@ none_mem {b = b} {bytes = bytes} {middle = middle} there short long = record { n
         let is : b ≡ a + 64 = same.1 in
         long i (p.offset ++ left) (omega arith) (omega arith) (p.memory, p.index, append_cancel_left p.flags middle (p.memory ++ (p.offset ++ left)) shifted)
         p.offset left o p.offsets refl
+
     go : (text left : List ℕ) (tree : Tree) → Is Shape.mem tree → Spelled tree text → bytes ≡ text ++ left → ⊥
     go text left tree (Is.mem {a = a} {i = i} {o = o}) (small, inl p) e = left_out a i o text left small p e
     go text left tree (Is.mem {a = a} {i = i} {o = o}) (small, inr p) e = written a i o text left small p e

@@ -1,5 +1,5 @@
 -- What immediates stand for, and their kinds (WebAssembly Core Specification 3.0, section 5.4).
-use Rattle.std.specs.Prelude.{◌≡◌, ℕ, zero, suc, ◌/◌, ◌%◌, ◌^◌, Bool, true, false, nat_lt, nat_eq, if◌then◌else◌, List, [], ◌∷◌, length, map, Option, Some, None}
+use Rattle.std.specs.Prelude.{◌≡◌, ℕ, ◌^◌, Bool, true, false, nat_lt, nat_eq, if◌then◌else◌, List, [], ◌∷◌, length, map, Option, Some, None}
 use Rattle.std.specs.Int.{to_le_bytes, w32, w64}
 use Rattle.wasm_shapes.specs.declared.Space.{Space}
 use Rattle.wasm_shapes.specs.declared.Space.TheVariants as space

@@ -4,6 +4,9 @@ use Rattle.wasm_shapes.specs.declared.ImmKind.{ImmKind}
 use Rattle.wasm_shapes.specs.declared.ImmKind.TheVariants as kind
 use Rattle.wasm_shapes.specs.Operators.{Code, is_code}
 use Rattle.wasm_shapes.specs.Spells.{SpelledCode}
+use Rattle.wasm_shapes.specs.Shape.{Shape}
+use Rattle.wasm_shapes.specs.Tree.{Tree}
+use Rattle.wasm_read.specs.declared.types.FunctionBody.{FunctionBody}
 use Rattle.wasm_read.specs.Immediates.{is_core}
 
 -- the bytes begin with a spelling of an operator's number, and these are left behind it
@@ -34,3 +37,13 @@ pub record Reading : Type 0 where
 -- the bytes from the place on
 abbrev pub rest_of : Reading → List ℕ
 rest_of reader = drop reader.at reader.bytes
+
+-- ---- bodies
+
+-- the frame of a function's body
+abbrev pub frame_row : Shape
+frame_row = Shape.sized Shape.rest
+
+-- the frame, of whose contents nothing is said
+abbrev pub body_tree : FunctionBody → Tree
+body_tree body = Tree.sized (Tree.raw body.bytes.now)

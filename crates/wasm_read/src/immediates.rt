@@ -7,8 +7,8 @@ ghost use Rattle.wasm_shapes.specs.Operators.{code_of};
 ghost use Rattle.wasm_read.specs.Immediates.{imm_tree, imms_tree, kind_of_imm, AreOf, is_core};
 ghost use Rattle.wasm_read.specs.Operations.{BeginsCode, BeginsNoCode, is_core_kind, AreCore};
 
+use crate::entries::front_vec;
 use crate::types::{Ieee32, Ieee64, Imm, MemArg};
-use crate::vectors::front_vec;
 use std::alloc::Global;
 use wasm_leb::{List, NoMemory, front_byte, front_s32, front_s64, front_u32, front_u64};
 use wasm_shapes::{ImmKind, Opcode, Space};
@@ -326,7 +326,10 @@ fn front_types<'a>(alloc: Global, bytes: &'a [u8]) -> Result<Option<(Imm<'a>, &'
 }
 
 /// What a block catches.
-fn front_catches<'a>(alloc: Global, bytes: &'a [u8]) -> Result<Option<(Imm<'a>, &'a [u8])>, NoMemory>
+fn front_catches<'a>(
+    alloc: Global,
+    bytes: &'a [u8],
+) -> Result<Option<(Imm<'a>, &'a [u8])>, NoMemory>
     ensures some { IfOk result (λ o. IfSome o (λ r. Begins (shape_of_kind ImmKind.Catches) bytes.now (imm_tree r.0) r.1.now)) }
     ensures kind { IfOk result (λ o. IfSome o (λ r. kind_of_imm r.0 ≡ Some ImmKind.Catches)) }
     ensures none { IfOk result (λ o. IfNone o (BeginsNone (shape_of_kind ImmKind.Catches) bytes.now)) }
@@ -339,7 +342,10 @@ fn front_catches<'a>(alloc: Global, bytes: &'a [u8]) -> Result<Option<(Imm<'a>, 
 }
 
 /// How a resumed continuation's tags are handled.
-fn front_handlers<'a>(alloc: Global, bytes: &'a [u8]) -> Result<Option<(Imm<'a>, &'a [u8])>, NoMemory>
+fn front_handlers<'a>(
+    alloc: Global,
+    bytes: &'a [u8],
+) -> Result<Option<(Imm<'a>, &'a [u8])>, NoMemory>
     ensures some { IfOk result (λ o. IfSome o (λ r. Begins (shape_of_kind ImmKind.Handlers) bytes.now (imm_tree r.0) r.1.now)) }
     ensures kind { IfOk result (λ o. IfSome o (λ r. kind_of_imm r.0 ≡ Some ImmKind.Handlers)) }
     ensures none { IfOk result (λ o. IfNone o (BeginsNone (shape_of_kind ImmKind.Handlers) bytes.now)) }

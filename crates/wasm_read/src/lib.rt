@@ -1,6 +1,8 @@
 //! Readers of a core module. They borrow the bytes, and copy none of them.
 #![tactic(auto)]
 
+mod code;
+mod entries;
 mod expressions;
 mod fields;
 mod groups;
@@ -13,8 +15,8 @@ mod sections;
 #[cfg(test)]
 mod tests;
 mod types;
-mod vectors;
 
+pub use code::CodeSectionReader;
 pub use expressions::ConstExpr;
 pub use fields::{front_name, read_item, read_name, read_val_type};
 pub use groups::read_group;

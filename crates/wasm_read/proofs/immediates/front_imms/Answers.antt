@@ -10,9 +10,10 @@ kinds-preserved c =
     let pushed : c.push.new.self ≡ c.kinds.imms ++ c.in-Ok-Some.imm ∷ [] = c.in-Ok-push.ensures.ok in
     let begins = rw c.in-Ok-Some.field-0-is at c.in-Ok-Some.ensures.some in
     let same = rw c.in-Ok-Some.field-0-is at c.in-Ok-Some.ensures.kind in
-    rw pushed
-    (one_imm_more c.kinds.imms c.in-Some.kind c.in-Ok-Some.imm c.in-Some.ensures.some c.kinds.invariant.0 begins same,
-    (core_of c.in-Some.ensures.some c.kinds.invariant.1).1)
+    rw pushed (
+      one_imm_more c.kinds.imms c.in-Some.kind c.in-Ok-Some.imm c.in-Some.ensures.some c.kinds.invariant.0 begins same,
+      (core_of c.in-Some.ensures.some c.kinds.invariant.1).1,
+    )
 
 pub returns-in-Ok-None-clause-none : goal.returns-in-Ok-None-clause-none
 returns-in-Ok-None-clause-none c =

@@ -1,4 +1,4 @@
-use Rattle.std.proofs.Common.{◌≡◌, ◌+◌, arith, sym, subst, ℕ, List}
+use Rattle.std.proofs.Common.{arith, subst, ℕ, List}
 use Rattle.wasm_leb.specs.Place.{BeginsNoNumber}
 use Rattle.wasm_read.proofs.Accesses.{begins_mem_left, begins_mem_written, none_mem, same_number}
 use Rattle.wasm_read.proofs.immediates.front_mem.Goals as goal

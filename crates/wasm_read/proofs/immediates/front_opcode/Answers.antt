@@ -1,5 +1,4 @@
-use Rattle.std.proofs.Common.{inl, inr}
-use Rattle.wasm_read.proofs.Codes.{begins_plain, begins_prefixed, no_code_at_end, no_code_behind}
+use Rattle.wasm_read.proofs.Codes.{begins_prefixed}
 use Rattle.wasm_read.proofs.immediates.front_opcode.Goals as goal
 
 pub returns-in-Some-front_u32-clause-some : goal.returns-in-Some-front_u32-clause-some

@@ -1,6 +1,6 @@
-use Rattle.std.proofs.Common.{◌+◌, ◌≡◌, ◌≤◌, length, map}
-use Rattle.wasm_read.proofs.InVectors.{ItemsSoFar}
-use Rattle.wasm_read.proofs.vectors.front_vec.Given as goal
+use Rattle.std.proofs.Common.{◌+◌, ◌≡◌, length, map}
+use Rattle.wasm_read.proofs.Vectors.{ItemsSoFar}
+use Rattle.wasm_read.proofs.entries.front_vec.Given as goal
 
 abbrev pub invariant-entries : goal.invariant-entries
 invariant-entries g l =
