@@ -1,0 +1,6 @@
+pub mod Outside
+pub mod Hexadecimal
+pub mod Report
+pub mod Plain
+pub mod Answer
+pub mod Memory
