@@ -37,6 +37,7 @@ many_first {s = s} {t = t} {bytes = bytes} {left = left} k h fills there all p =
     filled : (text : List ℕ) → Is s t → Spelled t text → text ++ left ≡ [] → ⊥
     filled [] d q e = let empty : nullable s ≡ true = nullable_sound d [] q refl in cc
     filled (b ∷ text) d q e = cc
+
     go : (all : Tree) → Is (Shape.many s) all → Spelled all bytes → (others : Tree) × (all ≡ Tree.cons t others) × Spells (Shape.many s) left others
     go all Is.nil q = absurd (filled there.text there.spells.shaped there.spells.spelled (sym there.reads ∙ q))
     go all (Is.cons {t = v} {u = u} d d') q =
