@@ -1,4 +1,5 @@
 pub mod Accesses
+pub mod Bodies
 pub mod Codes
 pub mod Framed
 pub mod OfKinds

@@ -2,6 +2,8 @@
 #![tactic(auto)]
 
 mod code;
+#[cfg(test)]
+mod code_tests;
 mod entries;
 mod expressions;
 mod fields;
