@@ -1,3 +1,5 @@
 pub mod Holding
 pub mod RowSpelling
 pub mod HoldingSections
+pub mod Items
+pub mod Fronts

@@ -6,11 +6,14 @@ mod expressions;
 mod fault;
 mod fields;
 mod functions;
+mod groups;
 mod module;
 mod names;
 mod section;
 mod types;
+mod types_write;
 mod values;
+mod vectors;
 
 pub use exports::ExportSection;
 pub use expressions::ConstExpr;
