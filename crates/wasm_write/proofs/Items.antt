@@ -75,3 +75,7 @@ pub item_too_large : {A : Type 0} (f : A → Tree) (xs : List A) (i : ℕ) (x : 
     LargeAmong e (counts (f x)) → LargeAmong e (counts (body_tree (map f xs)))
 item_too_large f xs i x e h is p =
     large_left e (counts (rows_tree (map f xs))) (count (rows_tree (map f xs)) ∷ []) (items_at f xs i x e h is p)
+
+-- one of a few counts, or the last
+pub large_last : (xs : List ℕ) {n size : ℕ} → size ≡ n → 2 ^ 32 - 1 < size → IsTooLarge (xs ++ n ∷ []) size
+large_last xs {n = n} {size = size} e h = record { counted = Contains-append_right xs (n ∷ []) size (0, omega arith, sym e); large = h }

@@ -3,3 +3,4 @@ pub mod RowSpelling
 pub mod HoldingSections
 pub mod Items
 pub mod Fronts
+pub mod TypeShapes
