@@ -1,6 +1,6 @@
 -- The shortest spelling of a number spells it.
-use Rattle.std.proofs.Common.{◌≡◌, ℕ, ℤ, pos, negsuc, zero, suc, ◌+◌, ◌-◌, ◌*◌, ◌/◌, ◌%◌, ◌^◌, ◌<◌, ◌≤◌, List, [], ◌∷◌, length, Bool, true, false, refl, ap, ◌∙◌, arith, nat_lt, if◌then◌else◌, ltb-true, ltb-false}
-use Rattle.wasm_leb.specs.Leb.{IsLeb, IsNegative, IsNumber, IsUnsigned, IsSignedIndex, IsSigned, shortest, leb, signed_leb, inverted, inverted_byte, shortest_signed}
+use Rattle.std.proofs.Common.{◌≡◌, ℕ, ℤ, pos, negsuc, zero, suc, ◌+◌, ◌-◌, ◌*◌, ◌/◌, ◌%◌, ◌^◌, ◌<◌, ◌≤◌, List, [], ◌∷◌, length, Bool, true, false, refl, ap, arith, nat_lt, if◌then◌else◌, ltb-true, ltb-false}
+use Rattle.wasm_leb.specs.Leb.{IsLeb, IsNegative, IsUnsigned, IsSignedIndex, IsSigned, shortest, leb, signed_leb, inverted, inverted_byte, shortest_signed}
 
 -- what so many bytes more hold
 abbrev pub held : ℕ → ℕ → ℕ
@@ -47,18 +47,18 @@ signed_leb_spells n h = record { spelled = shortest_spells 9 64 n (omega arith);
 
 -- ---- numbers with sign
 
-length-inverted : (x : List ℕ) → length (inverted x) ≡ length x
+pub length-inverted : (x : List ℕ) → length (inverted x) ≡ length x
 length-inverted [] = refl
 length-inverted (b ∷ x) = ap suc (length-inverted x)
 
-inverted_low : (b : ℕ) → b < 128 → inverted_byte b ≡ 127 - b
+pub inverted_low : (b : ℕ) → b < 128 → inverted_byte b ≡ 127 - b
 inverted_low b h = go (nat_lt b 128) refl
   where
     go : (t : Bool) → nat_lt b 128 ≡ t → (if t then 127 - b else 383 - b) ≡ 127 - b
     go true e = refl
     go false e = let above : 128 ≤ b = ltb-false b 128 e in absurd (omega arith)
 
-inverted_high : (b : ℕ) → 128 ≤ b → inverted_byte b ≡ 383 - b
+pub inverted_high : (b : ℕ) → 128 ≤ b → inverted_byte b ≡ 383 - b
 inverted_high b h = go (nat_lt b 128) refl
   where
     go : (t : Bool) → nat_lt b 128 ≡ t → (if t then 127 - b else 383 - b) ≡ 383 - b
@@ -78,7 +78,6 @@ inverted_spells (b ∷ c ∷ x) n p =
     let sum : n + 128 ≡ b + 128 * p.2 = p.3 in
     let e : inverted_byte b ≡ 383 - b = inverted_high b low in
     (omega arith, omega arith, p.2, omega arith, inverted_spells (c ∷ x) p.2 p.4)
-
 
 -- the magnitude of a number of so many bits with sign
 abbrev pub FitsBits : ℕ → ℤ → Type 0

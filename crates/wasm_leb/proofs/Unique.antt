@@ -1,6 +1,6 @@
 -- A number has one spelling of a length, and no spelling begins another.
 use Rattle.std.proofs.Common.{◌≡◌, ℕ, ℤ, pos, negsuc, ap, sym, ◌+◌, ◌*◌, ◌<◌, ◌≤◌, List, [], ◌∷◌, ◌++◌, arith, ◌⊎◌, inl, inr}
-use Rattle.wasm_leb.specs.Leb.{IsLeb, IsNumber, IsUnsigned, IsSignedIndex, IsNegative, IsNegativeNumber, IsSigned}
+use Rattle.wasm_leb.specs.Leb.{IsLeb, IsNumber, IsUnsigned, IsSignedIndex, IsNegative, IsSigned}
 
 pub leb_unique : (limit : ℕ) → limit ≤ 128 → (x y a b : List ℕ) (m n : ℕ) →
     IsLeb limit x m → IsLeb limit y n → x ++ a ≡ y ++ b → (x ≡ y) × (m ≡ n)

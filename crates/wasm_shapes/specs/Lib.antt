@@ -1,0 +1,12 @@
+pub mod Names
+pub mod Operators
+pub mod Tree
+pub mod Shape
+pub mod Sound
+pub mod Spells
+pub mod Fits
+pub mod Place
+pub mod Rows
+pub mod Module
+pub mod Laws
+pub mod TreeCode

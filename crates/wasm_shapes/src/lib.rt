@@ -1,2 +1,175 @@
-//! The shapes of WebAssembly binaries, and what bytes spell.
+//! The shapes of WebAssembly binaries, and what bytes spell: the tables of the formats and the definitions over them.
 #![tactic(auto)]
+
+mod operators;
+mod spelling;
+
+pub use operators::{
+    BLOCK, BR, CALL, CALL_INDIRECT, DROP, END, GLOBAL_GET, I32_ADD, I32_CONST, I32_LOAD, LOCAL_GET,
+    NOP, REF_FUNC, UNREACHABLE, row_of,
+};
+pub use spelling::{
+    header_spells, normal_reads_back, spelling_is_unique, tables_are_sound, text_has_one_tree,
+};
+
+/// An index space. The first eight are those of core modules (WebAssembly Core Specification 3.0, section 5.5.1);
+/// `DataCount` stands for the count that a data count section holds, and the others are those of components.
+#[derive(Clone, Copy, Debug, PartialEq)]
+pub enum Space {
+    Data,
+    Element,
+    Function,
+    Global,
+    Memory,
+    Table,
+    Tag,
+    Type_,
+    DataCount,
+    ComponentType,
+    ComponentInstance,
+    ComponentFunc,
+    Component,
+    Module,
+    Instance,
+    ComponentValue,
+}
+
+impl Space {
+    ghost use Rattle.std.specs.Prelude.{◌≡◌, codes};
+    ghost use Rattle.wasm_shapes.specs.Names.{space_name};
+
+    /// The name of the space in lower case, as reports print it.
+    pub fn name(self) -> &'static str
+        ensures { result.now ≡ space_name self }
+    {
+        match self {
+            Space::Data => "data",
+            Space::Element => "element",
+            Space::Function => "function",
+            Space::Global => "global",
+            Space::Memory => "memory",
+            Space::Table => "table",
+            Space::Tag => "tag",
+            Space::Type_ => "type",
+            Space::DataCount => "data_count",
+            Space::ComponentType => "component_type",
+            Space::ComponentInstance => "component_instance",
+            Space::ComponentFunc => "component_func",
+            Space::Component => "component",
+            Space::Module => "module",
+            Space::Instance => "instance",
+            Space::ComponentValue => "component_value",
+        }
+    }
+}
+
+/// The kind of a section of a core module, by its id from 0 to 13 (WebAssembly Core Specification 3.0, section 5.5.2).
+#[derive(Clone, Copy, Debug, PartialEq)]
+pub enum SectionId {
+    Custom,
+    Type_,
+    Import,
+    Function,
+    Table,
+    Memory,
+    Global,
+    Export,
+    Start,
+    Element,
+    Code,
+    Data,
+    DataCount,
+    Tag,
+}
+
+/// What a re-encoder is asked: an index of a space, an outer index with the count of scopes that it leaves,
+/// the hook before a section (after which kind, before which kind), and the begin and the end of a scope.
+#[derive(Clone, Copy, Debug, PartialEq)]
+pub enum Visit {
+    Index(Space, u32),
+    Outer(Space, u32, u32),
+    Section(Option<SectionId>, Option<SectionId>),
+    Push,
+    Pop,
+}
+
+/// The number of an operator. One of a single byte has the prefix 0 and its byte as `sub`; the others have
+/// `fb`, `fc`, `fd` or `fe` as prefix (WebAssembly Core Specification 3.0, section 5.4).
+#[derive(Clone, Copy, Debug, PartialEq)]
+pub struct Opcode {
+    pub prefix: u8,
+    pub sub: u32,
+}
+
+/// The kind of an immediate of an operator.
+#[derive(Clone, Copy, Debug, PartialEq)]
+pub enum ImmKind {
+    Block,
+    Label,
+    Labels,
+    Index(Space),
+    Local,
+    Field,
+    Size,
+    Types,
+    Mem,
+    S32,
+    S64,
+    Four,
+    Eight,
+    Sixteen,
+    Lanes,
+    Lane,
+    Heap,
+    Catches,
+    Cast,
+    Handlers,
+    Zero,
+}
+
+#[cfg(test)]
+mod tests {
+    use super::*;
+    use std::test::Fail;
+
+    #[test]
+    fn knows_the_operators_in_force(rt: HostRuntime) -> Result<(), Fail> {
+        // The numbers of the operators and the kinds of their immediates, by the public standard.
+        let known = [
+            (END, 0x0b, None),
+            (CALL, 0x10, Some(ImmKind::Index(Space::Function))),
+            (LOCAL_GET, 0x20, Some(ImmKind::Local)),
+            (I32_CONST, 0x41, Some(ImmKind::S32)),
+            (I32_ADD, 0x6a, None),
+        ];
+        for (opcode, byte, kind) in known {
+            assert_eq!(rt; opcode.sub, byte);
+            let kinds = row_of(opcode).ok_or("a row")?;
+            assert_eq!(rt; kinds.first().copied(), kind);
+        }
+        // No operator of the tables in force.
+        for opcode in [
+            UNREACHABLE,
+            NOP,
+            BLOCK,
+            BR,
+            CALL_INDIRECT,
+            DROP,
+            GLOBAL_GET,
+            I32_LOAD,
+            REF_FUNC,
+        ] {
+            assert!(rt; row_of(opcode).is_none());
+        }
+        Ok(())
+    }
+
+    #[test]
+    fn names_and_numbers(rt: HostRuntime) {
+        assert_eq!(rt; Space::Type_.name(), "type");
+        assert_eq!(rt; Space::ComponentValue.name(), "component_value");
+        assert_eq!(rt; SectionId::Custom as u8, 0);
+        assert_eq!(rt; SectionId::Code as u8, 10);
+        assert_eq!(rt; SectionId::Tag as u8, 13);
+    }
+}

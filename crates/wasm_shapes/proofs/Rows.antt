@@ -1,0 +1,112 @@
+-- Reading rows one by one.
+use Rattle.std.proofs.Common.{◌≡◌, ℕ, suc, List, [], ◌∷◌, ◌++◌, true, refl, sym, ap, ◌∙◌, arith, inl, ◌≢◌, subst}
+use Rattle.std.proofs.lemmas.List.{append_cancel_left}
+use Rattle.wasm_shapes.specs.Tree.{Tree, count}
+use Rattle.wasm_shapes.specs.Shape.{Shape, closed}
+use Rattle.wasm_shapes.specs.Spells.{Is, Spelled, Spells}
+use Rattle.wasm_leb.specs.Place.{BeginsNumber, BeginsNoNumber}
+use Rattle.wasm_shapes.specs.Place.{Begins, BeginsNone}
+use Rattle.wasm_shapes.specs.Sound.{sound}
+use Rattle.wasm_shapes.specs.Rows.{RowsLeft, NoRows, rows_then}
+use Rattle.wasm_leb.proofs.Unique.{unsigned_unique}
+use Rattle.wasm_shapes.proofs.Unique.{unique}
+
+pub rows_end : {s : Shape} {n : ℕ} {bytes : List ℕ} → n ≡ 0 → bytes ≡ [] → RowsLeft s n bytes Tree.nil
+rows_end k e = record { shaped = Is.nil; counted = sym k; spelled = e }
+
+-- one row more in front
+pub rows_cons : {s : Shape} {n m : ℕ} {bytes left : List ℕ} {t rows : Tree} → m ≡ suc n → Begins s bytes t left → RowsLeft s n left rows → RowsLeft s m bytes (Tree.cons t rows)
+rows_cons {left = left} k p r = record {
+  shaped = Is.cons p.spells.shaped r.shaped;
+  counted = ap suc r.counted ∙ sym k;
+  spelled = (p.text, left, p.reads, p.spells.spelled, r.spelled);
+}
+
+-- no rows where none begins, and none behind the last
+pub no_row : {s : Shape} {n m : ℕ} {bytes : List ℕ} → m ≡ suc n → BeginsNone s bytes → NoRows s m bytes
+no_row {s = s} {n = n} {m = m} {bytes = bytes} k none = record { none = λ rows r. go rows r.shaped r.counted r.spelled }
+  where
+    go : (rows : Tree) → Is (Shape.many s) rows → count rows ≡ m → Spelled rows bytes → ⊥
+    go rows Is.nil counted p = omega arith
+    go rows (Is.cons {t = t} d d') counted p = none.none p.0 p.1 t (record { shaped = d; spelled = p.3 }) p.2
+
+pub no_rows_behind : {s : Shape} {n : ℕ} {bytes : List ℕ} → n ≡ 0 → bytes ≢ [] → NoRows s n bytes
+no_rows_behind {s = s} {n = n} {bytes = bytes} k more = record { none = λ rows r. go rows r.shaped r.counted r.spelled }
+  where
+    go : (rows : Tree) → Is (Shape.many s) rows → count rows ≡ n → Spelled rows bytes → ⊥
+    go rows Is.nil counted p = more p
+    go rows (Is.cons {u = u} d d') counted p = let some : suc (count u) ≡ n = counted in omega arith
+
+-- the first of the rows is the one that the bytes begin with
+pub rows_first : {s : Shape} {n m : ℕ} {bytes left : List ℕ} {t : Tree} → sound s ≡ true → closed s ≡ true → m ≡ suc n → Begins s bytes t left →
+    (rows : Tree) → RowsLeft s m bytes rows → (others : Tree) × (rows ≡ Tree.cons t others) × RowsLeft s n left others
+rows_first {s = s} {n = n} {m = m} {bytes = bytes} {left = left} {t = t} k h c there rows r = go rows r.shaped r.counted r.spelled
+  where
+    go : (rows : Tree) → Is (Shape.many s) rows → count rows ≡ m → Spelled rows bytes → (others : Tree) × (rows ≡ Tree.cons t others) × RowsLeft s n left others
+    go rows Is.nil counted p = absurd (omega arith)
+    go rows (Is.cons {t = v} {u = u} d d') counted p =
+        let both_ways : there.text ++ left ≡ p.0 ++ p.1 = sym there.reads ∙ p.2 in
+        let same : (there.text ≡ p.0) × (t ≡ v) = unique there.spells.shaped d there.text p.0 left p.1 k (inl h) there.spells.spelled p.3 both_ways in
+        let shifted : p.0 ++ left ≡ p.0 ++ p.1 = ap (λ (z : List ℕ). z ++ left) (sym same.0) ∙ both_ways in
+        let behind : left ≡ p.1 = append_cancel_left p.0 left p.1 shifted in
+        let some : suc (count u) ≡ m = counted in
+        let P : List ℕ → Type 0 = λ z. Spelled u z in
+        (u, ap (λ (w : Tree). Tree.cons w u) (sym same.1), record { shaped = d'; counted = omega arith; spelled = subst P (sym behind) p.4 })
+
+pub rows_then-append : (ts : List Tree) (t others : Tree) → rows_then (ts ++ t ∷ []) others ≡ rows_then ts (Tree.cons t others)
+rows_then-append [] t others = refl
+rows_then-append (u ∷ ts) t others = ap (λ (w : Tree). Tree.cons u w) (rows_then-append ts t others)
+
+-- ---- a vector
+
+pub vec_spelled : {s : Shape} {n : ℕ} {body start : List ℕ} {rows : Tree} → BeginsNumber 128 32 32 body n start → RowsLeft s n start rows → Spells (Shape.vec s) body (Tree.vec rows)
+vec_spelled {start = start} p r = record {
+  shaped = Is.vec r.shaped;
+  spelled = (p.0, start, p.2, rw r.counted p.1, r.spelled);
+}
+
+pub vec_rows : {s : Shape} {n : ℕ} {body start : List ℕ} → BeginsNumber 128 32 32 body n start → (tree : Tree) → Spells (Shape.vec s) body tree →
+    (rows : Tree) × RowsLeft s n start rows
+vec_rows {s = s} {n = n} {body = body} {start = start} there tree p = go tree p.shaped p.spelled
+  where
+    go : (tree : Tree) → Is (Shape.vec s) tree → Spelled tree body → (rows : Tree) × RowsLeft s n start rows
+    go tree (Is.vec {t = t} d) q =
+        let both_ways : there.0 ++ start ≡ q.0 ++ q.1 = sym there.2 ∙ q.2 in
+        let same : (there.0 ≡ q.0) × (n ≡ count t) = unsigned_unique start q.1 there.1 q.3 both_ways in
+        let shifted : q.0 ++ start ≡ q.0 ++ q.1 = ap (λ (z : List ℕ). z ++ start) (sym same.0) ∙ both_ways in
+        let behind : start ≡ q.1 = append_cancel_left q.0 start q.1 shifted in
+        let P : List ℕ → Type 0 = λ z. Spelled t z in
+        (t, record { shaped = d; counted = sym same.1; spelled = subst P (sym behind) q.4 })
+
+-- nothing is a vector where no count begins
+pub vec_counted : {s : Shape} {body : List ℕ} → BeginsNoNumber 128 32 32 body → (tree : Tree) → Spells (Shape.vec s) body tree → ⊥
+vec_counted {s = s} {body = body} none tree p = go tree p.shaped p.spelled
+  where
+    go : (tree : Tree) → Is (Shape.vec s) tree → Spelled tree body → ⊥
+    go tree (Is.vec {t = t} d) q = none q.0 q.1 (count t) q.3 q.2
+
+-- ---- a loop over rows
+
+-- The rows so far, and any that may be left, are all the rows; and all the rows are these and some that are left.
+pub record RowsSoFar (shape : Shape) (total : ℕ) (start : List ℕ) (rows : List Tree) (left : ℕ) (rest : List ℕ) : Type 0 where
+  pub forth : (others : Tree) → RowsLeft shape left rest others → RowsLeft shape total start (rows_then rows others)
+  pub back : (all : Tree) → RowsLeft shape total start all → (others : Tree) × (all ≡ rows_then rows others) × RowsLeft shape left rest others
+
+pub so_far_none : (s : Shape) (n : ℕ) (bytes : List ℕ) → RowsSoFar s n bytes [] n bytes
+so_far_none s n bytes = record { forth = λ others r. r; back = λ all r. (all, refl, r) }
+
+pub so_far_more : {s : Shape} {total n m : ℕ} {start bytes left : List ℕ} {t : Tree} (rows : List Tree) → sound s ≡ true → closed s ≡ true → m ≡ suc n → Begins s bytes t left →
+    RowsSoFar s total start rows m bytes → RowsSoFar s total start (rows ++ t ∷ []) n left
+so_far_more {s = s} {total = total} {n = n} {m = m} {start = start} {bytes = bytes} {left = left} {t = t} rows k h c there so_far = record {
+  forth = λ others r. rw (rows_then-append rows t others) (so_far.forth (Tree.cons t others) (rows_cons c there r));
+  back = λ all r. step all (so_far.back all r);
+}
+  where
+    step : (all : Tree) → (others : Tree) × (all ≡ rows_then rows others) × RowsLeft s m bytes others →
+        (others : Tree) × (all ≡ rows_then (rows ++ t ∷ []) others) × RowsLeft s n left others
+    step all p =
+        let q = rows_first k h c there p.0 p.2 in
+        (q.0, p.1 ∙ ap (λ (w : Tree). rows_then rows w) q.1 ∙ sym (rows_then-append rows t q.0), q.2)
+
+pub so_far_stuck : {s : Shape} {total left : ℕ} {start rest : List ℕ} {rows : List Tree} → RowsSoFar s total start rows left rest → NoRows s left rest → NoRows s total start
+so_far_stuck so_far none = record { none = λ all r. none.none (so_far.back all r).0 (so_far.back all r).2 }

@@ -1,0 +1,127 @@
+-- The core module: its shape, and the trees of its sections (WebAssembly Core Specification 3.0, section 5.5).
+use Rattle.std.specs.Prelude.{◌≡◌, ℕ, List, [], ◌∷◌, ◌++◌, true}
+use Rattle.wasm_shapes.specs.declared.SectionId.TheVariants as id
+use Rattle.wasm_shapes.specs.declared.Space.TheVariants as space
+use Rattle.wasm_shapes.specs.Tree.{Tree}
+use Rattle.wasm_shapes.specs.Shape.{Shape, Named, choice, lead}
+use Rattle.wasm_shapes.specs.Spells.{Spells}
+use Rattle.wasm_shapes.specs.Place.{BeginsNone}
+
+abbrev pub core_header : List ℕ
+core_header = 0x00 ∷ 0x61 ∷ 0x73 ∷ 0x6d ∷ 0x01 ∷ 0x00 ∷ 0x00 ∷ 0x00 ∷ []
+
+abbrev pub component_header : List ℕ
+component_header = 0x00 ∷ 0x61 ∷ 0x73 ∷ 0x6d ∷ 0x0d ∷ 0x00 ∷ 0x01 ∷ 0x00 ∷ []
+
+-- ---- rows
+
+-- a function by the index of its type
+abbrev pub function_row : Shape
+function_row = Shape.ix space.Type_
+
+-- a name and what is exported under it
+abbrev pub export_row : Shape
+export_row = Shape.seq Shape.name (Shape.ref Named.item)
+
+-- so many locals of a type
+abbrev pub local_row : Shape
+local_row = Shape.seq Shape.u32 (Shape.ref Named.value)
+
+-- the locals and the operators of a function
+abbrev pub body : Shape
+body = Shape.seq (Shape.vec local_row) (Shape.many (Shape.op true))
+
+-- the body in its frame
+abbrev pub code_row : Shape
+code_row = Shape.sized body
+
+-- ---- bodies of sections
+
+abbrev pub types : Shape
+types = Shape.vec (Shape.ref Named.group)
+
+abbrev pub functions : Shape
+functions = Shape.vec function_row
+
+abbrev pub exports : Shape
+exports = Shape.vec export_row
+
+abbrev pub code : Shape
+code = Shape.vec code_row
+
+-- ---- sections
+
+-- the sections in force
+abbrev pub section : Shape
+section = choice (
+    Shape.told id.Type_ (lead 1 (Shape.sized types)) ∷
+    Shape.told id.Function (lead 3 (Shape.sized functions)) ∷
+    Shape.told id.Export (lead 7 (Shape.sized exports)) ∷
+    Shape.told id.Code (lead 10 (Shape.sized code)) ∷ [])
+
+abbrev pub sections : Shape
+sections = Shape.sections section
+
+abbrev pub type_section : Tree → Tree
+type_section body = Tree.row 0 (Tree.told id.Type_ (Tree.pair (Tree.fixed 1) (Tree.sized body)))
+
+abbrev pub function_section : Tree → Tree
+function_section body = Tree.row 1 (Tree.told id.Function (Tree.pair (Tree.fixed 3) (Tree.sized body)))
+
+abbrev pub export_section : Tree → Tree
+export_section body = Tree.row 2 (Tree.told id.Export (Tree.pair (Tree.fixed 7) (Tree.sized body)))
+
+abbrev pub code_section : Tree → Tree
+code_section body = Tree.row 3 (Tree.told id.Code (Tree.pair (Tree.fixed 10) (Tree.sized body)))
+
+-- sections, and others behind them
+abbrev pub alsos : List Tree → Tree → Tree
+alsos [] others = others
+alsos (t ∷ ts) others = Tree.also t (alsos ts others)
+
+-- ---- the module
+
+-- some bytes, and then a shape
+abbrev pub headed : List ℕ → Shape → Shape
+headed [] s = s
+headed (b ∷ bs) s = lead b (headed bs s)
+
+abbrev pub headed_tree : List ℕ → Tree → Tree
+headed_tree [] t = t
+headed_tree (b ∷ bs) t = Tree.pair (Tree.fixed b) (headed_tree bs t)
+
+abbrev pub core_module : Shape
+core_module = headed core_header sections
+
+abbrev pub core_tree : Tree → Tree
+core_tree t = headed_tree core_header t
+
+-- the bytes are the header of a core module and these sections, one behind another
+pub record CoreReading (bytes : List ℕ) (t : Tree) : Type 0 where
+  pub rest : List ℕ
+  pub stands : bytes ≡ core_header ++ rest
+  pub spells : Spells sections rest t
+
+-- they are no core module
+abbrev pub NoCoreReading : List ℕ → Type 0
+NoCoreReading bytes = (t : Tree) → CoreReading bytes t → ⊥
+
+-- ---- frames
+
+-- A frame: an id below 128, and a body of which nothing is said but that one of the id 0 begins with a name.
+abbrev pub frame : Shape
+frame = choice (
+    lead 0 (Shape.sized (Shape.seq Shape.name Shape.rest)) ∷
+    Shape.seq (Shape.within 1 127) (Shape.sized Shape.rest) ∷ [])
+
+-- The front of some bytes: the sections that stand behind the header side by side, up to the first place where none begins.
+pub record Front (bytes : List ℕ) (before : List Tree) (rest : List ℕ) : Type 0 where
+  pub text : List ℕ
+  pub spells : Spells sections text (alsos before Tree.finish)
+  pub stands : bytes ≡ core_header ++ (text ++ rest)
+  pub ends : BeginsNone section rest
+
+-- The same where bytes are left: no section begins there, and that is the fault's place.
+pub record FaultAt (bytes : List ℕ) (before : List Tree) (rest : List ℕ) : Type 0 where
+  pub front : Front bytes before rest
+  pub some : rest ≡ [] → ⊥

@@ -1,0 +1,101 @@
+//! The operators, and the kinds of their immediates.
+ghost use Rattle.std.specs.Prelude.{◌≡◌, IfSome, IfNone};
+ghost use Rattle.wasm_shapes.specs.Operators.{kinds_of};
+
+use crate::{ImmKind, Opcode, Space};
+
+pub const UNREACHABLE: Opcode = Opcode {
+    prefix: 0,
+    sub: 0x00,
+};
+
+pub const NOP: Opcode = Opcode {
+    prefix: 0,
+    sub: 0x01,
+};
+
+pub const BLOCK: Opcode = Opcode {
+    prefix: 0,
+    sub: 0x02,
+};
+
+pub const END: Opcode = Opcode {
+    prefix: 0,
+    sub: 0x0b,
+};
+
+pub const BR: Opcode = Opcode {
+    prefix: 0,
+    sub: 0x0c,
+};
+
+pub const CALL: Opcode = Opcode {
+    prefix: 0,
+    sub: 0x10,
+};
+
+pub const CALL_INDIRECT: Opcode = Opcode {
+    prefix: 0,
+    sub: 0x11,
+};
+
+pub const DROP: Opcode = Opcode {
+    prefix: 0,
+    sub: 0x1a,
+};
+
+pub const LOCAL_GET: Opcode = Opcode {
+    prefix: 0,
+    sub: 0x20,
+};
+
+pub const GLOBAL_GET: Opcode = Opcode {
+    prefix: 0,
+    sub: 0x23,
+};
+
+pub const I32_LOAD: Opcode = Opcode {
+    prefix: 0,
+    sub: 0x28,
+};
+
+pub const I32_CONST: Opcode = Opcode {
+    prefix: 0,
+    sub: 0x41,
+};
+
+pub const I32_ADD: Opcode = Opcode {
+    prefix: 0,
+    sub: 0x6a,
+};
+
+pub const REF_FUNC: Opcode = Opcode {
+    prefix: 0,
+    sub: 0xd2,
+};
+
+static NONE: [ImmKind; 0] = [];
+
+static FUNCTION: [ImmKind; 1] = [ImmKind::Index(Space::Function)];
+
+static LOCAL: [ImmKind; 1] = [ImmKind::Local];
+
+static S32: [ImmKind; 1] = [ImmKind::S32];
+
+/// The kinds of an operator's immediates in the order of the bytes, or none where no operator has the number.
+pub fn row_of(op: Opcode) -> Option<&'static [ImmKind]>
+    ensures some { IfSome result (λ kinds. kinds_of op ≡ Some kinds.now) }
+    ensures none { IfNone result (kinds_of op ≡ None) }
+{
+    if op.prefix != 0 {
+        return None;
+    }
+    match op.sub {
+        0x0b => Some(&NONE),
+        0x10 => Some(&FUNCTION),
+        0x20 => Some(&LOCAL),
+        0x41 => Some(&S32),
+        0x6a => Some(&NONE),
+        _ => None,
+    }
+}

@@ -1,0 +1,33 @@
+//! The laws of spelling, as functions that do nothing: each one's contract is the law.
+ghost use Rattle.wasm_shapes.specs.Laws.{IsUnique, HasOneTree, IsReadBack, IsReadBackAsIs, AreSound, IsHeaded};
+
+/// No spelling of a closed shape that passes the test begins another, and one text has one tree.
+#[tactic(auto, using(crate::proofs::Laws::shapes_unique))]
+pub fn spelling_is_unique()
+    ensures { IsUnique }
+{}
+
+/// A whole text of a shape that passes the test has one tree.
+#[tactic(auto, using(crate::proofs::Laws::one_tree))]
+pub fn text_has_one_tree()
+    ensures { HasOneTree }
+{}
+
+/// The normal spelling of a reading, filled or as it stands, reads as it.
+
+pub fn normal_reads_back()
+    ensures filled { IsReadBack }
+    ensures as_is { IsReadBackAsIs }
+{}
+
+/// Each table passes the test.
+#[tactic(auto, using(crate::proofs::Laws::tables_sound))]
+pub fn tables_are_sound()
+    ensures { AreSound }
+{}
+
+/// A module is its header and its sections.
+#[tactic(auto, using(crate::proofs::Laws::module_headed))]
+pub fn header_spells()
+    ensures { IsHeaded }
+{}
