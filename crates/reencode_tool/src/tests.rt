@@ -1,7 +1,6 @@
 //! What no clause says: that the calls succeed over memory, what is printed and said, and how the
 //! program ends where the outside is slow or fails.
 use crate::answer::Answer;
-use crate::list::{List, NoMemory};
 use crate::memory::{MemSink, MemSource, SureShelf, SureSink, SureSource};
 use crate::outside::{Failed, Shelf, Sink, Source};
 use crate::report::{Counted, Counts, tail};
@@ -9,12 +8,17 @@ use crate::tool::run;
 use std::alloc::{AllocError, Global};
 use std::process::Abort;
 use std::test::Fail;
+use wasm_leb::{List, NoMemory};
 
-/// The module of the first worked example, as digits.
-const MODULE: &[u8; 78] =
+/// The small module that a README shows, as digits: one function that adds two numbers.
+const MODULE: &[u8] =
     b"0061736d0100000001070160027f7f017f03020100070501016600000a09010700200020016a0b";
 
-/// The same, with blanks and digits of both cases.
+/// What is printed of it.
+const REPORT: &[u8] =
+    b"0061736d0100000001070160027f7f017f03020100070501016600000a09010700200020016a0b\nasked function 1 type 1 section_hook 5\n";
+
+/// It, with blanks and digits of both cases.
 const SPACED: &[u8] =
     b"00 61 73 6D 01 00 00 00\r\n01070160027F7F017F\t0302010007\n05010166000 00A09010700200020016a0b\r\n";
 
@@ -39,8 +43,7 @@ fn strings(alloc: Global, words: &[&str]) -> Result<Vec<String>, AllocError> {
 }
 
 /// A run over memory. A read and a write take at most `most` bytes, and the calls of these numbers
-/// fail. The run ends with the status, and the sinks then hold these bytes; with status 0 they are
-/// the front of what `out` holds.
+/// fail. The run ends with the status, and the sinks then hold these bytes.
 #[derive(Clone, Copy)]
 struct Case<'a> {
     words: &'a [&'a str],
@@ -66,6 +69,19 @@ const USUAL: Case<'static> = Case {
     err: b"",
 };
 
+/// It is re-encoded.
+const PRINTED: Case<'static> = Case {
+    out: REPORT,
+    ..USUAL
+};
+
+/// It has no reading from the header on.
+const NO_HEADER: Case<'static> = Case {
+    status: 5,
+    err: b"parse error at 0\n",
+    ..USUAL
+};
+
 fn try_case(rt: &impl Abort, alloc: Global, case: &Case) -> Result<(), Fail> {
     let most = case.most.max(1);
     let words = strings(alloc, case.words)?;
@@ -85,8 +101,7 @@ fn try_case(rt: &impl Abort, alloc: Global, case: &Case) -> Result<(), Fail> {
         &mut err,
     );
     assert_eq!(rt; status, case.status);
-    assert!(rt; out.held().starts_with(case.out));
-    assert!(rt; status == 0 || out.held().len() == case.out.len());
+    assert_eq!(rt; out.held(), case.out);
     assert_eq!(rt; err.held(), case.err);
     Ok(())
 }
@@ -156,15 +171,45 @@ fn ends(rt: HostRuntime) -> Result<(), Fail> {
             err: b"not",
             ..USUAL
         },
-        Case {
-            out: MODULE,
-            ..USUAL
-        },
+        PRINTED,
         Case {
             text: SPACED,
             most: 1,
-            out: MODULE,
+            ..PRINTED
+        },
+        // The header alone.
+        Case {
+            text: b"0061736d01000000",
+            out: b"0061736d01000000\nasked section_hook 1\n",
             ..USUAL
+        },
+        // Longer numbers than needed are written in the shortest spelling.
+        Case {
+            text: b"0061736d01000000 0303018000",
+            out: b"0061736d0100000003020100\nasked type 1 section_hook 2\n",
+            ..USUAL
+        },
+        Case {
+            text: b"0061736d01000000 030601ffffffff0f",
+            out: b"0061736d01000000030601ffffffff0f\nasked type 1 section_hook 2\n",
+            ..USUAL
+        },
+        Case {
+            text: b"0061736d01000000 030601ffffffff1f",
+            err: b"parse error at 8\n",
+            ..NO_HEADER
+        },
+        Case {
+            text: b"",
+            ..NO_HEADER
+        },
+        Case {
+            text: b"0061736d010000",
+            ..NO_HEADER
+        },
+        Case {
+            text: b"0061736d0d000100",
+            ..NO_HEADER
         },
     ];
     for case in &cases {
