@@ -106,113 +106,115 @@ fn try_case(rt: &impl Abort, alloc: Global, case: &Case) -> Result<(), Fail> {
     Ok(())
 }
 
+/// How a run ends.
+static CASES: [Case<'static>; 18] = [
+    Case {
+        words: &["rename"],
+        status: 2,
+        err: USAGE,
+        ..USUAL
+    },
+    Case {
+        words: &["-m", "6", "-x", "plain"],
+        status: 2,
+        err: USAGE,
+        ..USUAL
+    },
+    Case {
+        words: &[],
+        status: 2,
+        err: USAGE,
+        ..USUAL
+    },
+    // The second read fails.
+    Case {
+        read_fails: &[2],
+        status: 3,
+        err: b"read fault\n",
+        ..USUAL
+    },
+    // The first write fails, and the fifth.
+    Case {
+        write_fails: &[1],
+        status: 4,
+        err: b"write fault\n",
+        ..USUAL
+    },
+    Case {
+        most: 3,
+        write_fails: &[5],
+        status: 4,
+        out: b"0061736d0100",
+        err: b"write fault\n",
+        ..USUAL
+    },
+    Case {
+        text: b"00617",
+        status: 14,
+        err: b"not hex\n",
+        ..USUAL
+    },
+    Case {
+        text: b"0x",
+        most: 1,
+        status: 14,
+        err: b"not hex\n",
+        ..USUAL
+    },
+    // A failure of the last sink ends its text and changes no status.
+    Case {
+        text: b"00617",
+        most: 3,
+        err_fails: &[2],
+        status: 14,
+        err: b"not",
+        ..USUAL
+    },
+    PRINTED,
+    Case {
+        text: SPACED,
+        most: 1,
+        ..PRINTED
+    },
+    // The header alone.
+    Case {
+        text: b"0061736d01000000",
+        out: b"0061736d01000000\nasked section_hook 1\n",
+        ..USUAL
+    },
+    // Longer numbers than needed are written in the shortest spelling.
+    Case {
+        text: b"0061736d01000000 0303018000",
+        out: b"0061736d0100000003020100\nasked type 1 section_hook 2\n",
+        ..USUAL
+    },
+    Case {
+        text: b"0061736d01000000 030601ffffffff0f",
+        out: b"0061736d01000000030601ffffffff0f\nasked type 1 section_hook 2\n",
+        ..USUAL
+    },
+    Case {
+        text: b"0061736d01000000 030601ffffffff1f",
+        err: b"parse error at 8\n",
+        ..NO_HEADER
+    },
+    Case {
+        text: b"",
+        ..NO_HEADER
+    },
+    Case {
+        text: b"0061736d010000",
+        ..NO_HEADER
+    },
+    Case {
+        text: b"0061736d0d000100",
+        ..NO_HEADER
+    },
+];
+
 #[test]
 fn ends(rt: HostRuntime) -> Result<(), Fail> {
-    let cases = [
-        Case {
-            words: &["rename"],
-            status: 2,
-            err: USAGE,
-            ..USUAL
-        },
-        Case {
-            words: &["-m", "6", "-x", "plain"],
-            status: 2,
-            err: USAGE,
-            ..USUAL
-        },
-        Case {
-            words: &[],
-            status: 2,
-            err: USAGE,
-            ..USUAL
-        },
-        // The second read fails.
-        Case {
-            read_fails: &[2],
-            status: 3,
-            err: b"read fault\n",
-            ..USUAL
-        },
-        // The first write fails, and the fifth.
-        Case {
-            write_fails: &[1],
-            status: 4,
-            err: b"write fault\n",
-            ..USUAL
-        },
-        Case {
-            most: 3,
-            write_fails: &[5],
-            status: 4,
-            out: b"0061736d0100",
-            err: b"write fault\n",
-            ..USUAL
-        },
-        Case {
-            text: b"00617",
-            status: 14,
-            err: b"not hex\n",
-            ..USUAL
-        },
-        Case {
-            text: b"0x",
-            most: 1,
-            status: 14,
-            err: b"not hex\n",
-            ..USUAL
-        },
-        // A failure of the last sink ends its text and changes no status.
-        Case {
-            text: b"00617",
-            most: 3,
-            err_fails: &[2],
-            status: 14,
-            err: b"not",
-            ..USUAL
-        },
-        PRINTED,
-        Case {
-            text: SPACED,
-            most: 1,
-            ..PRINTED
-        },
-        // The header alone.
-        Case {
-            text: b"0061736d01000000",
-            out: b"0061736d01000000\nasked section_hook 1\n",
-            ..USUAL
-        },
-        // Longer numbers than needed are written in the shortest spelling.
-        Case {
-            text: b"0061736d01000000 0303018000",
-            out: b"0061736d0100000003020100\nasked type 1 section_hook 2\n",
-            ..USUAL
-        },
-        Case {
-            text: b"0061736d01000000 030601ffffffff0f",
-            out: b"0061736d01000000030601ffffffff0f\nasked type 1 section_hook 2\n",
-            ..USUAL
-        },
-        Case {
-            text: b"0061736d01000000 030601ffffffff1f",
-            err: b"parse error at 8\n",
-            ..NO_HEADER
-        },
-        Case {
-            text: b"",
-            ..NO_HEADER
-        },
-        Case {
-            text: b"0061736d010000",
-            ..NO_HEADER
-        },
-        Case {
-            text: b"0061736d0d000100",
-            ..NO_HEADER
-        },
-    ];
-    for case in &cases {
+    for case in &CASES {
         try_case(&rt, rt.alloc(), case)?;
     }
     Ok(())
