@@ -1,3 +1,4 @@
 pub mod Errors
 pub mod Run
 pub mod Walk
+pub mod Moments
