@@ -47,18 +47,18 @@ signed_leb_spells n h = record { spelled = shortest_spells 9 64 n (omega arith);
 
 -- ---- numbers with sign
 
-length-inverted : (x : List ℕ) → length (inverted x) ≡ length x
+pub length-inverted : (x : List ℕ) → length (inverted x) ≡ length x
 length-inverted [] = refl
 length-inverted (b ∷ x) = ap suc (length-inverted x)
 
-inverted_low : (b : ℕ) → b < 128 → inverted_byte b ≡ 127 - b
+pub inverted_low : (b : ℕ) → b < 128 → inverted_byte b ≡ 127 - b
 inverted_low b h = go (nat_lt b 128) refl
   where
     go : (t : Bool) → nat_lt b 128 ≡ t → (if t then 127 - b else 383 - b) ≡ 127 - b
     go true e = refl
     go false e = let above : 128 ≤ b = ltb-false b 128 e in absurd (omega arith)
 
-inverted_high : (b : ℕ) → 128 ≤ b → inverted_byte b ≡ 383 - b
+pub inverted_high : (b : ℕ) → 128 ≤ b → inverted_byte b ≡ 383 - b
 inverted_high b h = go (nat_lt b 128) refl
   where
     go : (t : Bool) → nat_lt b 128 ≡ t → (if t then 127 - b else 383 - b) ≡ 383 - b

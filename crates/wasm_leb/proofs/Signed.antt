@@ -1,10 +1,11 @@
 -- A number with sign at the front of some bytes, byte by byte.
-use Rattle.std.proofs.Common.{◌≡◌, ℕ, ℤ, pos, negsuc, suc, ◌+◌, ◌-◌, ◌*◌, ◌/◌, ◌%◌, ◌^◌, ◌<◌, ◌≤◌, List, [], ◌∷◌, length, refl, sym, ap, ◌∙◌, subst, arith, ◌⊎◌, inl, inr, pow_mono, pow-add}
+use Rattle.std.proofs.Common.{◌≡◌, ℕ, ℤ, pos, negsuc, suc, ◌+◌, ◌-◌, ◌*◌, ◌/◌, ◌%◌, ◌^◌, ◌<◌, ◌≤◌, List, [], ◌∷◌, length, refl, sym, ap, ◌∙◌, subst, arith, ◌⊎◌, inl, inr, pow_mono, pow-add, nat_lt, ltb-true, ltb-false, Bool, true, false, if◌then◌else◌}
 use Rattle.std.proofs.Math.Nat.{add-mul, mul_assoc, mul_left_comm}
 use Rattle.std.proofs.lemmas.Nat.{mul-le}
-use Rattle.wasm_leb.specs.Leb.{IsNegative}
+use Rattle.wasm_leb.specs.Leb.{IsNegative, one_byte_signed}
 use Rattle.wasm_leb.specs.Place.{BeginsSigned, BeginsNoSigned}
 use Rattle.wasm_leb.proofs.Numbers.{leb_more}
+use Rattle.wasm_leb.proofs.Shifts.{next_sum, next_low, power_more, low_room}
 
 negative_more : (b n high : ℕ) (x : List ℕ) → 128 ≤ b → b < 256 → n + b ≡ 255 + 128 * high → IsNegative x high → IsNegative (b ∷ x) n
 negative_more b n high [] low small e p = absurd p
@@ -164,25 +165,6 @@ signed_start bits bytes some = record {
   none = λ p. none_at_bits (bits - 0) bits bytes (omega arith) p;
 }
 
--- a byte that is not the last adds its low bits
-next_sum : (sum c high p : ℕ) → sum + (c + 128 * high) * p ≡ sum + c * p + high * (128 * p)
-next_sum sum c high p =
-    let a : (c + 128 * high) * p ≡ c * p + 128 * high * p = add-mul c (128 * high) p in
-    let b : 128 * high * p ≡ 128 * (high * p) = mul_assoc 128 high p in
-    let d : high * (128 * p) ≡ 128 * (high * p) = mul_left_comm high 128 p in
-    omega arith
-
-next_low : (sum c p : ℕ) → sum < p → c < 128 → sum + c * p < 128 * p
-next_low sum c p low small =
-    let a : (c + 1) * p ≤ 128 * p = mul-le (c + 1) p 128 p (omega arith) (omega arith) in
-    let b : (c + 1) * p ≡ c * p + 1 * p = add-mul c 1 p in
-    omega arith
-
-power_more : (shift : ℕ) → 2 ^ (shift + 7) ≡ 128 * 2 ^ shift
-power_more shift =
-    let split : 2 ^ (shift + 7) ≡ 2 ^ shift * 2 ^ 7 = pow-add 2 shift 7 in
-    omega arith
-
 -- n + sum + c * p + 1 is (high + 1) * 128 * p
 next_negative : (n sum c high p : ℕ) → c < 128 → n + (sum + c * p) + 1 ≡ (high + 1) * (128 * p) →
     n + sum + 1 ≡ (127 - c + 128 * high + 1) * p
@@ -215,17 +197,6 @@ signed_next {bits = bits} {shift = shift} {sum = sum} {b = b} {bytes = bytes} {r
       none = λ p. s.none (none_here (bits - shift) rest (b ∷ xs) here
           (none_more (bits - shift) b xs low (inr (wide, none_at_bits _ (bits - shift - 7) xs fewer p))));
     }
-
--- the same of the shift that the code makes, which loses no bit
-pub low_room : (bits shift sum b c : ℕ) → sum < 2 ^ shift → bits ≤ 64 → 7 < bits - shift → b < 256 → c ≡ b - 128 →
-    (sum + c * 2 ^ shift % 2 ^ 64 < 2 ^ 63) × (sum + c * 2 ^ shift % 2 ^ 64 ≡ sum + (b - 128) * 2 ^ shift)
-low_room bits shift sum b c below most wide small same =
-    let l = next_low sum (b - 128) (2 ^ shift) below (omega arith) in
-    let power : 2 ^ (shift + 7) ≡ 128 * 2 ^ shift = power_more shift in
-    let few : shift + 7 ≤ 63 = omega arith in
-    let room : 2 ^ (shift + 7) ≤ 2 ^ 63 = pow_mono few in
-    let same' : c * 2 ^ shift ≡ (b - 128) * 2 ^ shift = ap (λ (k : ℕ). k * 2 ^ shift) same in
-    (omega arith, omega arith)
 
 pub signed_more : {bits shift sum b c : ℕ} {bytes rest xs : List ℕ} → SignedSo bits bytes shift sum rest → bits ≤ 64 → rest ≡ b ∷ xs → 128 ≤ b → b < 256 → 7 < bits - shift →
     c ≡ b - 128 → SignedSo bits bytes (shift + 7) (sum + c * 2 ^ shift % 2 ^ 64) xs
@@ -294,3 +265,16 @@ six_bits b bits small h =
     let few : 6 ≤ bits - 1 = omega arith in
     let wide : 2 ^ 6 ≤ 2 ^ (bits - 1) = pow_mono few in
     omega arith
+
+-- one byte is a number
+pub signed_one : {bits b : ℕ} {z : ℤ} {bytes xs : List ℕ} → 7 ≤ bits → bytes ≡ b ∷ xs → b < 128 → z ≡ one_byte_signed b → BeginsSigned bits bytes z xs
+signed_one {bits = bits} {b = b} {z = z} {bytes = bytes} {xs = xs} wide here small same =
+    subst (λ (w : ℤ). BeginsSigned bits bytes w xs) (sym same) (go (nat_lt b 64) refl)
+  where
+    go : (t : Bool) → nat_lt b 64 ≡ t → BeginsSigned bits bytes (if t then pos b else negsuc (127 - b)) xs
+    go true e =
+        let low : b < 64 = ltb-true b 64 e in
+        (b ∷ [], record { spelled = (low, refl); short = omega arith; fits = six_bits b bits low wide }, here)
+    go false e =
+        let high : 64 ≤ b = ltb-false b 64 e in
+        (b ∷ [], record { spelled = (high, small, omega arith); short = omega arith; fits = six_bits (127 - b) bits (omega arith) wide }, here)

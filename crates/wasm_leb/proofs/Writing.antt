@@ -1,8 +1,8 @@
 -- The shortest spelling, byte by byte.
-use Rattle.std.proofs.Common.{◌≡◌, ℕ, zero, suc, ◌+◌, ◌/◌, ◌%◌, ◌<◌, ◌≤◌, List, [], ◌∷◌, ◌++◌, length, take, set, refl, sym, ap, ◌∙◌, arith, append_assoc, le-ltb, lt-ltb, ◌^◌, ◌⊎◌, inl, inr}
+use Rattle.std.proofs.Common.{◌≡◌, ℕ, zero, suc, ◌+◌, ◌-◌, ◌/◌, ◌%◌, ◌<◌, ◌≤◌, List, [], ◌∷◌, ◌++◌, length, take, set, refl, sym, ap, ◌∙◌, arith, append_assoc, le-ltb, lt-ltb, ◌^◌}
 use Rattle.std.proofs.lemmas.List.{take_more_set}
-use Rattle.wasm_leb.specs.Leb.{shortest, leb}
-use Rattle.wasm_leb.proofs.Shortest.{held}
+use Rattle.wasm_leb.specs.Leb.{shortest, leb, inverted, inverted_byte}
+use Rattle.wasm_leb.proofs.Shortest.{held, inverted_high}
 
 pub shortest_last : (more limit n : ℕ) → n < limit → shortest more limit n ≡ n ∷ []
 unfolding shortest
@@ -16,14 +16,21 @@ shortest_step zero limit n h bound = absurd (omega arith)
 shortest_step (suc more) limit n h bound = (more, refl, omega arith, rw (le-ltb n limit h) refl)
 
 -- ten bytes hold any number
-pub room_for : (limit n : ℕ) → 64 ≤ limit → n < 2 ^ 64 → (limit ≡ 128) ⊎ (n < 2 ^ 32) → n < held 9 limit
-room_for limit n low fits (inl h) = omega arith
-room_for limit n low fits (inr h) = omega arith
+pub room_for : (limit n : ℕ) → 64 ≤ limit → n < 2 ^ 64 → n < held 9 limit
+room_for limit n low fits = omega arith
 
 -- one byte more is written
 pub one_more : (text : List ℕ) (len b : ℕ) (rest all : List ℕ) → len < length text → take len text ++ (b ∷ rest) ≡ all →
     take (len + 1) (set text len b) ++ rest ≡ all
 one_more text len b rest all h e = rw (take_more_set text len b h) (append_assoc (take len text) (b ∷ []) rest ∙ e)
+
+pub one_more_inverted : (text : List ℕ) (len b limit rest fewer : ℕ) (all : List ℕ) → 64 ≤ rest → b ≡ 255 - rest % 128 → len < length text →
+    take len text ++ inverted ((rest % 128 + 128) ∷ shortest fewer limit (rest / 128)) ≡ all →
+    take (len + 1) (set text len b) ++ inverted (shortest fewer limit (rest / 128)) ≡ all
+one_more_inverted text len b limit rest fewer all low same h e =
+    let first : inverted_byte (rest % 128 + 128) ≡ b = inverted_high (rest % 128 + 128) (omega arith) ∙ omega arith in
+    one_more text len b (inverted (shortest fewer limit (rest / 128))) all h
+    (ap (λ (z : ℕ). take len text ++ (z ∷ inverted (shortest fewer limit (rest / 128)))) (sym first) ∙ e)
 
 -- ---- how long it is
 

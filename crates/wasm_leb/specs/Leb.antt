@@ -72,3 +72,7 @@ inverted (b ∷ bs) = inverted_byte b ∷ inverted bs
 abbrev pub shortest_signed : ℤ → List ℕ
 shortest_signed (pos n) = shortest 9 64 n
 shortest_signed (negsuc n) = inverted (shortest 9 64 n)
+
+-- the number with sign that one byte below 128 spells
+abbrev pub one_byte_signed : ℕ → ℤ
+one_byte_signed b = if nat_lt b 64 then pos b else negsuc (127 - b)

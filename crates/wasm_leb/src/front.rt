@@ -1,5 +1,6 @@
 //! Numbers at the front of some bytes.
-ghost use Rattle.std.specs.Prelude.{◌≡◌, ℕ, ◌<◌, ◌≤◌, ◌^◌, ◌-◌, ◌∷◌, [], IfSome, IfNone, IsTrue, ◌↔◌};
+ghost use Rattle.std.specs.Prelude.{◌≡◌, ℕ, ◌<◌, ◌≤◌, ◌^◌, ◌-◌, ◌∷◌, [], length, drop, IfSome, IfNone, IsTrue, ◌↔◌};
+ghost use Rattle.wasm_leb.specs.Leb.{one_byte_signed};
 ghost use Rattle.wasm_leb.specs.Place.{BeginsNumber, BeginsNoNumber, BeginsSigned, BeginsNoSigned};
 
 /// The byte at the front of some bytes, and the bytes behind it.
@@ -24,32 +25,36 @@ fn can_end(byte: u8, limit: u8, bits: u32) -> bool
     byte < limit && (bits >= 7 || byte < 1 << bits)
 }
 
-/// The number of so many bits that the bytes begin with, and the bytes behind it.
+/// The number of so many bits that the bytes begin with, and how many bytes spell it: 0 where no spelling begins.
 /// Its last byte is below the limit.
-fn number(bytes: &[u8], limit: u8, bits: u32) -> Option<(u64, &[u8])>
+#[inline(never)]
+fn number(bytes: &[u8], limit: u8, bits: u32) -> (u64, usize)
     requires limit { limit ≤ 128 }
     requires some_bits { 0 < bits }
     requires most_bits { bits ≤ 64 }
-    ensures some { IfSome result (λ r. BeginsNumber limit bits bits bytes.now r.0 r.1.now) }
-    ensures none { IfNone result (BeginsNoNumber limit bits bits bytes.now) }
+    ensures some { 0 < result.1 → BeginsNumber limit bits bits bytes.now result.0 (drop result.1 bytes.now) }
+    ensures within { result.1 ≤ length bytes.now }
+    ensures none { result.1 ≡ 0 → BeginsNoNumber limit bits bits bytes.now }
 {
-    let Some((first, rest)) = front_byte(bytes) else {
-        return None;
-    };
-    if first < 128 {
-        return if can_end(first, limit, bits) {
-            Some((u64::from(first), rest))
-        } else {
-            None
-        };
+    let mut rest = bytes;
+    let mut sum: u64 = 0;
+    let mut shift: u32 = 0;
+    while let Some((first, more)) = front_byte(rest) {
+        if first < 128 {
+            return if can_end(first, limit, bits - shift) {
+                (sum + (u64::from(first) << shift), bytes.len() - more.len())
+            } else {
+                (0, 0)
+            };
+        }
+        if bits - shift <= 7 {
+            return (0, 0);
+        }
+        sum += u64::from(first - 128) << shift;
+        shift += 7;
+        rest = more;
     }
-    if bits <= 7 {
-        return None;
-    }
-    match number(rest, limit, bits - 7) {
-        Some((high, rest)) => Some((u64::from(first) - 128 + high * 128, rest)),
-        None => None,
-    }
+    (0, 0)
 }
 
 /// Whether so much can be the last part of a number with sign of which so many bits are left.
@@ -61,12 +66,15 @@ fn is_within(size: u8, bits: u32) -> bool
     bits >= 7 || size < 1 << (bits - 1)
 }
 
-/// The number of so many bits with sign that the bytes begin with, and the bytes behind it.
-fn signed(bytes: &[u8], bits: u32) -> Option<(i64, &[u8])>
+/// The number of so many bits with sign that the bytes begin with, and how many bytes spell it: 0 where no spelling
+/// begins.
+#[inline(never)]
+fn signed(bytes: &[u8], bits: u32) -> (i64, usize)
     requires some_bits { 0 < bits }
     requires most_bits { bits ≤ 64 }
-    ensures some { IfSome result (λ r. BeginsSigned bits bytes.now r.0 r.1.now) }
-    ensures none { IfNone result (BeginsNoSigned bits bytes.now) }
+    ensures some { 0 < result.1 → BeginsSigned bits bytes.now result.0 (drop result.1 bytes.now) }
+    ensures within { result.1 ≤ length bytes.now }
+    ensures none { result.1 ≡ 0 → BeginsNoSigned bits bytes.now }
 {
     let mut rest = bytes;
     let mut sum: u64 = 0;
@@ -75,83 +83,149 @@ fn signed(bytes: &[u8], bits: u32) -> Option<(i64, &[u8])>
         if first < 64 {
             return if is_within(first, bits - shift) {
                 let size = sum + (u64::from(first) << shift);
-                Some((size as i64, more))
+                (size as i64, bytes.len() - more.len())
             } else {
-                None
+                (0, 0)
             };
         }
         if first < 128 {
             return if is_within(127 - first, bits - shift) {
                 let size = (u64::from(128 - first) << shift) - 1 - sum;
-                Some((-1 - size as i64, more))
+                (-1 - size as i64, bytes.len() - more.len())
             } else {
-                None
+                (0, 0)
             };
         }
         if bits - shift <= 7 {
-            return None;
+            return (0, 0);
         }
         sum += u64::from(first - 128) << shift;
         shift += 7;
         rest = more;
     }
-    None
+    (0, 0)
 }
 
-/// The u32 at the front of some bytes, and the bytes behind it.
+/// The number with sign that one byte spells.
+#[inline(always)]
+fn one_byte(byte: u8) -> i8
+    requires { byte < 128 }
+    ensures { result ≡ one_byte_signed byte }
+{
+    let number = byte as i8;
+    if byte < 64 { number } else { number - 64 - 64 }
+}
+
+/// The number of 32 bits without sign at the front of some bytes, and the bytes behind it.
+#[inline(always)]
 pub fn front_u32(bytes: &[u8]) -> Option<(u32, &[u8])>
     ensures some { IfSome result (λ r. BeginsNumber 128 32 32 bytes.now r.0 r.1.now) }
     ensures none { IfNone result (BeginsNoNumber 128 32 32 bytes.now) }
 {
-    match number(bytes, 128, 32) {
-        Some((number, rest)) => Some((number as u32, rest)),
-        None => None,
+    match front_byte(bytes) {
+        Some((first, rest)) if first < 128 => Some((u32::from(first), rest)),
+        _ => {
+            let (number, len) = number(bytes, 128, 32);
+            if len > 0 {
+                Some((number as u32, &bytes[len..]))
+            } else {
+                None
+            }
+        }
     }
 }
 
-/// The u64 at the front of some bytes, and the bytes behind it.
+/// The number of 64 bits without sign at the front of some bytes, and the bytes behind it.
+#[inline(always)]
 pub fn front_u64(bytes: &[u8]) -> Option<(u64, &[u8])>
     ensures some { IfSome result (λ r. BeginsNumber 128 64 64 bytes.now r.0 r.1.now) }
     ensures none { IfNone result (BeginsNoNumber 128 64 64 bytes.now) }
 {
-    number(bytes, 128, 64)
+    match front_byte(bytes) {
+        Some((first, rest)) if first < 128 => Some((u64::from(first), rest)),
+        _ => {
+            let (number, len) = number(bytes, 128, 64);
+            if len > 0 {
+                Some((number, &bytes[len..]))
+            } else {
+                None
+            }
+        }
+    }
 }
 
-/// The index at the front of some bytes, spelled as a number of 33 bits with sign that is not negative, and the bytes
-/// behind it.
+/// The index at the front of some bytes, spelled as a number of 33 bits with sign that is not negative, and the bytes behind it.
+#[inline(always)]
 pub fn front_index(bytes: &[u8]) -> Option<(u32, &[u8])>
     ensures some { IfSome result (λ r. BeginsNumber 64 33 32 bytes.now r.0 r.1.now) }
     ensures none { IfNone result (BeginsNoNumber 64 33 32 bytes.now) }
 {
-    match number(bytes, 64, 32) {
-        Some((number, rest)) => Some((number as u32, rest)),
-        None => None,
+    match front_byte(bytes) {
+        Some((first, rest)) if first < 64 => Some((u32::from(first), rest)),
+        _ => {
+            let (number, len) = number(bytes, 64, 32);
+            if len > 0 {
+                Some((number as u32, &bytes[len..]))
+            } else {
+                None
+            }
+        }
     }
 }
 
 /// The number of 32 bits with sign at the front of some bytes, and the bytes behind it.
+#[inline(always)]
 pub fn front_s32(bytes: &[u8]) -> Option<(i32, &[u8])>
     ensures some { IfSome result (λ r. BeginsSigned 32 bytes.now r.0 r.1.now) }
     ensures none { IfNone result (BeginsNoSigned 32 bytes.now) }
 {
-    match signed(bytes, 32) {
-        Some((number, rest)) => Some((number as i32, rest)),
-        None => None,
+    match front_byte(bytes) {
+        Some((first, rest)) if first < 128 => Some((i32::from(one_byte(first)), rest)),
+        _ => {
+            let (number, len) = signed(bytes, 32);
+            if len > 0 {
+                Some((number as i32, &bytes[len..]))
+            } else {
+                None
+            }
+        }
     }
 }
 
 /// The number of 33 bits with sign at the front of some bytes, and the bytes behind it.
+#[inline(always)]
 pub fn front_s33(bytes: &[u8]) -> Option<(i64, &[u8])>
     ensures some { IfSome result (λ r. BeginsSigned 33 bytes.now r.0 r.1.now) }
     ensures none { IfNone result (BeginsNoSigned 33 bytes.now) }
 {
-    signed(bytes, 33)
+    match front_byte(bytes) {
+        Some((first, rest)) if first < 128 => Some((i64::from(one_byte(first)), rest)),
+        _ => {
+            let (number, len) = signed(bytes, 33);
+            if len > 0 {
+                Some((number, &bytes[len..]))
+            } else {
+                None
+            }
+        }
+    }
 }
 
 /// The number of 64 bits with sign at the front of some bytes, and the bytes behind it.
+#[inline(always)]
 pub fn front_s64(bytes: &[u8]) -> Option<(i64, &[u8])>
     ensures some { IfSome result (λ r. BeginsSigned 64 bytes.now r.0 r.1.now) }
     ensures none { IfNone result (BeginsNoSigned 64 bytes.now) }
 {
-    signed(bytes, 64)
+    match front_byte(bytes) {
+        Some((first, rest)) if first < 128 => Some((i64::from(one_byte(first)), rest)),
+        _ => {
+            let (number, len) = signed(bytes, 64);
+            if len > 0 {
+                Some((number, &bytes[len..]))
+            } else {
+                None
+            }
+        }
+    }
 }

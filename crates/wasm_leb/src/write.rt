@@ -1,16 +1,28 @@
 //! The shortest spellings of numbers.
-ghost use Rattle.std.specs.Prelude.{◌≡◌, ◌≤◌, ◌<◌, ◌++◌, ◌^◌, ◌⊎◌, length, OnOk, OnErr, is_ok, if◌then◌else◌};
-ghost use Rattle.wasm_leb.specs.Leb.{leb, signed_leb, shortest, shortest_signed};
+ghost use Rattle.std.specs.Prelude.{◌≡◌, ◌≤◌, ◌<◌, ◌++◌, ◌∷◌, [], ◌-◌, ◌^◌, ◌≤ℤ◌, ◌<ℤ◌, pos, negsuc, length, OnOk, OnErr};
+ghost use Rattle.wasm_leb.specs.Leb.{inverted, leb, shortest, shortest_signed, signed_leb};
 
 use crate::fault::NoMemory;
-use std::alloc::AllocError;
 
-/// Adds the shortest spelling of a number, or nothing. Its last byte is below the limit.
-fn write_number(out: &mut Vec<u8>, limit: u64, number: u64) -> Result<(), AllocError>
+/// Appends one byte, or nothing.
+#[inline(always)]
+fn write_byte(out: &mut Vec<u8>, byte: u8) -> Result<(), NoMemory>
+    ensures ok { OnOk result (out.new.items ≡ out.old.items ++ byte ∷ []) }
+    ensures err { OnErr result (out.new.items ≡ out.old.items) }
+{
+    match out.push(byte) {
+        Ok(()) => Ok(()),
+        Err(_) => Err(NoMemory),
+    }
+}
+
+/// Appends the shortest spelling of a number, whose last byte is below the limit, or nothing.
+#[inline(never)]
+fn write_number(out: &mut Vec<u8>, limit: u64, number: u64) -> Result<(), NoMemory>
     requires low { 64 ≤ limit }
     requires high { limit ≤ 128 }
-    requires fits { limit ≡ 128 ⊎ (number < 2 ^ 32) }
-    ensures { out.new.items ≡ (if is_ok result then out.old.items ++ shortest 9 limit number else out.old.items) }
+    ensures ok { OnOk result (out.new.items ≡ out.old.items ++ shortest 9 limit number) }
+    ensures err { OnErr result (out.new.items ≡ out.old.items) }
 {
     let mut text = [0u8; 10];
     let mut len = 0;
@@ -21,29 +33,121 @@ fn write_number(out: &mut Vec<u8>, limit: u64, number: u64) -> Result<(), AllocE
         len += 1;
     }
     text[len] = rest as u8;
-    out.extend_from_slice(&text[..len + 1])
+    match out.extend_from_slice(&text[..len + 1]) {
+        Ok(()) => Ok(()),
+        Err(_) => Err(NoMemory),
+    }
+}
+
+/// Appends the shortest spelling of -(n + 1), or nothing.
+#[inline(never)]
+fn write_negative(out: &mut Vec<u8>, n: u64) -> Result<(), NoMemory>
+    ensures ok { OnOk result (out.new.items ≡ out.old.items ++ inverted (shortest 9 64 n)) }
+    ensures err { OnErr result (out.new.items ≡ out.old.items) }
+{
+    let mut text = [0u8; 10];
+    let mut len = 0;
+    let mut rest = n;
+    while rest >= 64 {
+        text[len] = (255 - rest % 128) as u8;
+        rest /= 128;
+        len += 1;
+    }
+    text[len] = (127 - rest) as u8;
+    match out.extend_from_slice(&text[..len + 1]) {
+        Ok(()) => Ok(()),
+        Err(_) => Err(NoMemory),
+    }
+}
+
+/// Appends the shortest spelling of a number with sign, or nothing.
+#[inline(always)]
+fn write_signed(out: &mut Vec<u8>, v: i64) -> Result<(), NoMemory>
+    ensures ok { OnOk result (out.new.items ≡ out.old.items ++ shortest_signed v) }
+    ensures err { OnErr result (out.new.items ≡ out.old.items) }
+{
+    if v >= 0 {
+        if v < 64 {
+            write_byte(out, v as u8)
+        } else {
+            write_number(out, 64, v as u64)
+        }
+    } else if v >= -64 {
+        write_byte(out, (v + 128) as u8)
+    } else {
+        write_negative(out, (-1 - v) as u64)
+    }
 }
 
 /// Appends the shortest spelling of a number of 32 bits without sign, or nothing where memory is wanting.
+/// WebAssembly Core Specification 3.0, section 5.2.2.
+#[inline(always)]
 pub fn write_u32(out: &mut Vec<u8>, v: u32) -> Result<(), NoMemory>
     ensures ok { OnOk result (out.new.items ≡ out.old.items ++ leb v) }
     ensures err { OnErr result (out.new.items ≡ out.old.items) }
 {
-    match write_number(out, 128, u64::from(v)) {
-        Ok(()) => Ok(()),
-        Err(_) => Err(NoMemory),
+    if v < 128 {
+        write_byte(out, v as u8)
+    } else {
+        write_number(out, 128, u64::from(v))
     }
 }
 
-/// Appends the shortest spelling of an index as a number with sign, or nothing where memory is wanting.
+/// Appends the shortest spelling of a number of 64 bits without sign, or nothing where memory is wanting.
+/// WebAssembly Core Specification 3.0, section 5.2.2.
+#[inline(always)]
+pub fn write_u64(out: &mut Vec<u8>, v: u64) -> Result<(), NoMemory>
+    ensures ok { OnOk result (out.new.items ≡ out.old.items ++ leb v) }
+    ensures err { OnErr result (out.new.items ≡ out.old.items) }
+{
+    if v < 128 {
+        write_byte(out, v as u8)
+    } else {
+        write_number(out, 128, v)
+    }
+}
+
+/// Appends the shortest spelling of an index as a number of 33 bits with sign, or nothing where memory is wanting.
+/// WebAssembly Core Specification 3.0, sections 5.2.2 and 5.3.
+#[inline(always)]
 pub fn write_index(out: &mut Vec<u8>, index: u32) -> Result<(), NoMemory>
     ensures ok { OnOk result (out.new.items ≡ out.old.items ++ signed_leb index) }
     ensures err { OnErr result (out.new.items ≡ out.old.items) }
 {
-    match write_number(out, 64, u64::from(index)) {
-        Ok(()) => Ok(()),
-        Err(_) => Err(NoMemory),
+    if index < 64 {
+        write_byte(out, index as u8)
+    } else {
+        write_number(out, 64, u64::from(index))
     }
+}
+
+/// Appends the shortest spelling of a number of 32 bits with sign, or nothing where memory is wanting.
+/// WebAssembly Core Specification 3.0, section 5.2.2.
+pub fn write_s32(out: &mut Vec<u8>, v: i32) -> Result<(), NoMemory>
+    ensures ok { OnOk result (out.new.items ≡ out.old.items ++ shortest_signed v) }
+    ensures err { OnErr result (out.new.items ≡ out.old.items) }
+{
+    write_signed(out, i64::from(v))
+}
+
+/// Appends the shortest spelling of a number of 33 bits with sign, or nothing where memory is wanting.
+/// WebAssembly Core Specification 3.0, section 5.2.2.
+pub fn write_s33(out: &mut Vec<u8>, v: i64) -> Result<(), NoMemory>
+    requires low { negsuc (2 ^ 32 - 1) ≤ℤ v }
+    requires high { v <ℤ pos (2 ^ 32) }
+    ensures ok { OnOk result (out.new.items ≡ out.old.items ++ shortest_signed v) }
+    ensures err { OnErr result (out.new.items ≡ out.old.items) }
+{
+    write_signed(out, v)
+}
+
+/// Appends the shortest spelling of a number of 64 bits with sign, or nothing where memory is wanting.
+/// WebAssembly Core Specification 3.0, section 5.2.2.
+pub fn write_s64(out: &mut Vec<u8>, v: i64) -> Result<(), NoMemory>
+    ensures ok { OnOk result (out.new.items ≡ out.old.items ++ shortest_signed v) }
+    ensures err { OnErr result (out.new.items ≡ out.old.items) }
+{
+    write_signed(out, v)
 }
 
 /// How many bytes the shortest spelling of a number of 32 bits without sign has, from 1 to 5.

@@ -4,7 +4,7 @@ use Rattle.wasm_leb.proofs.Writing.{shortest_last, shortest_step, one_more, room
 use Rattle.wasm_leb.proofs.write.write_number.Goals as goal
 
 pub loop-rest-init : goal.loop-rest-init
-loop-rest-init c = (9, refl, room_for c.args.limit c.args.number c.requires.low c.ranges.number.fits c.requires.fits, refl, refl)
+loop-rest-init c = (9, refl, room_for c.args.limit c.args.number c.requires.low c.ranges.number.fits, refl, refl)
 
 pub loop-rest-preserved : goal.loop-rest-preserved
 loop-rest-preserved c =
@@ -21,8 +21,8 @@ loop-rest-preserved c =
       simp length-set wide,
     )
 
-pub returns : goal.returns
-returns c =
+pub returns-in-Ok-clause-ok : goal.returns-in-Ok-clause-ok
+returns-in-Ok-clause-ok c =
     let kept = c.loop-rest.invariant in
     let left : c.loop-rest.len + kept.0 ≡ 9 = kept.1 in
     let wide : length c.loop-rest.text ≡ 10 = kept.4 in
@@ -30,4 +30,4 @@ returns c =
     ap (λ z. take c.loop-rest.len c.loop-rest.text ++ z) (sym (shortest_last kept.0 c.args.limit c.loop-rest.rest c.loop-rest-test.false)) ∙ kept.3 in
     let all : take (c.loop-rest.len + 1) (set c.loop-rest.text c.loop-rest.len c.loop-rest.rest) ≡ shortest 9 c.args.limit c.args.number =
     sym (append-nil _) ∙ one_more c.loop-rest.text c.loop-rest.len c.loop-rest.rest [] _ (omega arith) last in
-    rw (← all) c.extend_from_slice.ensures.items
+    rw (← all) c.in-Ok.ensures.items
