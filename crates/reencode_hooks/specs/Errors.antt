@@ -4,6 +4,8 @@ use Rattle.std.specs.Fmt.{decimal}
 use Rattle.wasm_leb.specs.declared.fault.Fault.{Fault}
 use Rattle.wasm_leb.specs.declared.fault.Fault.TheVariants as fault
 use Rattle.wasm_leb.specs.declared.fault.Kind.TheVariants.{Module, Component}
+use Rattle.wasm_write.specs.declared.fault.WriteFault.{WriteFault}
+use Rattle.wasm_write.specs.declared.fault.WriteFault.TheVariants as write
 use Rattle.reencode_hooks.specs.declared.error.Error.{Error}
 use Rattle.reencode_hooks.specs.declared.error.Error.TheVariants.{CanonicalizedHeapTypeReference, InvalidConstExpr, InvalidCodeSectionSize, UnexpectedNonCoreModuleSection, UnexpectedNonComponentSection, UnsupportedCoreTypeInComponent, ParseError, UserError, TooLarge, NoMemory}
 
@@ -14,6 +16,11 @@ error_of_fault fault.CodeSize = InvalidCodeSectionSize
 error_of_fault (fault.Header Component) = UnexpectedNonCoreModuleSection
 error_of_fault (fault.Header Module) = UnexpectedNonComponentSection
 error_of_fault fault.NoMemory = NoMemory
+
+-- the error of a writer's refusal
+abbrev pub error_of_write : {E : Type 0} → WriteFault → Error E
+error_of_write (write.TooLarge size) = TooLarge size
+error_of_write write.NoMemory = NoMemory
 
 -- the text of an error, from those of the reencoder's own
 abbrev pub error_text : {E : Type 0} → (E → Option (List ℕ)) → Error E → Option (List ℕ)

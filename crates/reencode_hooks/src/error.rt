@@ -1,6 +1,7 @@
 //! Why a re-encoding was refused.
 use std::fmt;
 use wasm_leb::{Fault, Kind, NoMemory, ReadError};
+use wasm_write::WriteFault;
 
 /// Why a call was refused. `E` is the reencoder's own error.
 #[derive(Debug, Drop)]
@@ -62,6 +63,20 @@ impl<E> From<Fault> for Error<E> {
             Fault::Header(Kind::Component) => Error::UnexpectedNonCoreModuleSection,
             Fault::Header(Kind::Module) => Error::UnexpectedNonComponentSection,
             Fault::NoMemory => Error::NoMemory,
+        }
+    }
+}
+
+impl<E> From<WriteFault> for Error<E> {
+    ghost use Rattle.std.specs.Prelude.{◌≡◌};
+    ghost use Rattle.reencode_hooks.specs.Errors.{error_of_write};
+
+    ghost from_gives = { λ e r. r ≡ error_of_write e };
+
+    fn from(e: WriteFault) -> Error<E> {
+        match e {
+            WriteFault::TooLarge { size } => Error::TooLarge { size },
+            WriteFault::NoMemory => Error::NoMemory,
         }
     }
 }
