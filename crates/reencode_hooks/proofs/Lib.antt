@@ -1,1 +1,3 @@
 pub mod Agrees
+pub mod Moments
+pub mod Walks

@@ -3,3 +3,4 @@ pub mod Run
 pub mod Walk
 pub mod Moments
 pub mod Hooks
+pub mod Laws
