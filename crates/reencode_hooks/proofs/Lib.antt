@@ -1,3 +1,4 @@
 pub mod Agrees
 pub mod Moments
 pub mod Walks
+pub mod Tables

@@ -4,3 +4,5 @@ pub mod Walk
 pub mod Moments
 pub mod Hooks
 pub mod Laws
+pub mod Tables
+pub mod Renamings
