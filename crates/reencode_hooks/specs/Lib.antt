@@ -6,3 +6,4 @@ pub mod Hooks
 pub mod Laws
 pub mod Tables
 pub mod Renamings
+pub mod Renamed
