@@ -1,5 +1,6 @@
 -- Rows that are held, and one more.
-use Rattle.std.proofs.Common.{◌≡◌, ℕ, suc, ◌+◌, ◌<◌, ◌^◌, List, [], ◌∷◌, ◌++◌, length, refl, sym, ap, ap₂, ◌∙◌, append-nil, append_assoc, subst, true, length-append, Result, Ok, Err, OnOk}
+use Rattle.std.proofs.Common.{◌≡◌, ℕ, suc, ◌+◌, ◌<◌, ◌^◌, List, [], ◌∷◌, ◌++◌, length, refl, sym, ap, ap₂, ◌∙◌, append-nil, append_assoc, subst, true, length-append, Result, Ok, Err, OnOk, take}
+use Rattle.std.proofs.Math.Seq.{take-append_seam}
 use Rattle.std.specs.Coded.{Coded-set, coded_ℕ, coded_list}
 use mathlib.Core.Logic.{∥∥₁_elim, ∥∥₁_map}
 use Rattle.wasm_leb.specs.Leb.{leb}
@@ -8,7 +9,7 @@ use Rattle.wasm_shapes.specs.Tree.{Tree, count, normal}
 use Rattle.wasm_shapes.specs.Shape.{Shape}
 use Rattle.wasm_shapes.specs.Sound.{sound}
 use Rattle.wasm_shapes.specs.Spells.{Is, Spelled, Spells}
-use Rattle.wasm_write.specs.Held.{AreHeld, Held, Held-one, held_rows, rows_tree, body_tree}
+use Rattle.wasm_write.specs.Held.{BodySpells, AreHeld, Held, Held-one, held_rows, rows_tree, body_tree}
 
 -- ---- rows as a tree
 
@@ -69,17 +70,18 @@ module _ {s : Shape} {n : ℕ} {bytes : List ℕ} (h : Held s n bytes) where
       (∥∥₁_elim h.1 (Coded-set (coded_list coded_ℕ) (normal (rows_tree h.0)) bytes) (λ r. r.normally))
 
   -- it spells a vector of rows
-  pub held_spells : n < 2 ^ 32 → ∥ Spells (Shape.vec s) (normal (body_tree (held_rows s n bytes h))) (body_tree (held_rows s n bytes h)) ∥₁
+  pub held_spells : n < 2 ^ 32 → BodySpells s (held_rows s n bytes h)
   unfolding held_rows
-  held_spells small = ∥∥₁_map h.1 (λ r. go h.0 r)
+  held_spells small = record {
+    spells = ∥∥₁_map h.1 (λ r. record { shaped = Is.vec r.shaped; spelled = go h.0 r });
+    reads_back = λ shape d. ∥∥₁_map h.1 (λ r. record { shaped = d; spelled = go h.0 r });
+  }
     where
-      go : (rows : List Tree) → AreHeld s n bytes rows → Spells (Shape.vec s) (normal (body_tree rows)) (body_tree rows)
+      go : (rows : List Tree) → AreHeld s n bytes rows → Spelled (body_tree rows) (normal (body_tree rows))
       go rows r =
           let few : count (rows_tree rows) < 2 ^ 32 = rw (count_rows rows ∙ r.counted) small in
-          let P : List ℕ → Type 0 = λ z. Spelled (rows_tree rows) z in record {
-            shaped = Is.vec r.shaped;
-            spelled = (leb (count (rows_tree rows)), normal (rows_tree rows), refl, leb_spells (count (rows_tree rows)) few, subst P (sym r.normally) r.spelled);
-          }
+          let P : List ℕ → Type 0 = λ z. Spelled (rows_tree rows) z in
+          (leb (count (rows_tree rows)), normal (rows_tree rows), refl, leb_spells (count (rows_tree rows)) few, subst P (sym r.normally) r.spelled)
 
   abbrev held_more : (t : Tree) → Spells s (normal t) t → Held s (n + 1) (bytes ++ normal t)
   held_more t p = (h.0 ++ t ∷ [], ∥∥₁_map h.1 (λ r. are_more r p))
@@ -109,3 +111,7 @@ module _ {s : Shape} {n : ℕ} {bytes : List ℕ} (h : Held s n bytes) where
 pub OnOk-of : {A E : Type 0} {P : Type 0} (r : Result A E) → P → OnOk r P
 OnOk-of (Ok a) p = p
 OnOk-of (Err e) p = tt
+
+-- what was added is taken away again
+pub cut_back : {n : ℕ} {new : List ℕ} (old text : List ℕ) → n ≡ length old → new ≡ old ++ text → take n new ≡ old
+cut_back {n = n} {new = new} old text l e = rw (l, e) (take-append_seam old text)

@@ -1,4 +1,6 @@
+pub mod Counts
 pub mod Faults
 pub mod Held
 pub mod Rows
 pub mod Sections
+pub mod Types

@@ -2,10 +2,9 @@
 ghost use Rattle.std.specs.Prelude.{◌≡◌, ◌++◌, ◌∷◌, ◌+◌, ◌-◌, ◌^◌, ◌<◌, [], length, take, vec_len, OnOk, OnErr, IfErr};
 ghost use Rattle.std.proofs.Common.{lit≤};
 ghost use Rattle.wasm_shapes.specs.Tree.{normal};
-ghost use Rattle.wasm_shapes.specs.Spells.{Spells};
-ghost use Rattle.wasm_shapes.specs.Module.{function_row, functions};
+ghost use Rattle.wasm_shapes.specs.Module.{function_row};
 ghost use Rattle.wasm_write.specs.Faults.{IfTooLarge};
-ghost use Rattle.wasm_write.specs.Held.{Held, Held-prop, body_tree};
+ghost use Rattle.wasm_write.specs.Held.{BodySpells, Held, Held-prop, body_tree};
 ghost use Rattle.wasm_write.specs.Rows.{function_tree, functions_sound};
 
 use crate::fault::WriteFault;
@@ -88,7 +87,7 @@ impl Section for FunctionSection {
     fn encode_body(&self, out: &mut Vec<u8>) -> Result<(), NoMemory>
         ensures ok { OnOk result (out.new.items ≡ out.old.items ++ normal (body_tree self.now)) }
         ensures err { OnErr result (take (vec_len out.old) out.new.items ≡ out.old.items) }
-        ensures spells { OnOk result (∥ Spells functions (normal (body_tree self.now)) (body_tree self.now) ∥₁) }
+        ensures spells { OnOk result (BodySpells function_row self.now) }
     {
         write_rows(out, self.count, &self.bytes)
     }
