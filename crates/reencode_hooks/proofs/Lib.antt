@@ -2,3 +2,4 @@ pub mod Agrees
 pub mod Moments
 pub mod Walks
 pub mod Tables
+pub mod Frames

@@ -1,5 +1,6 @@
 //! Laws of walks and runs, each the contract of a function that does nothing.
 ghost use Rattle.reencode_hooks.specs.Run.{ask};
+ghost use Rattle.reencode_hooks.specs.Frames.{FramesAreInOrder};
 ghost use Rattle.reencode_hooks.specs.Laws.{WalkIsPassed, WalkIsRun, WalkStops, MomentsAre};
 
 use crate::indices::ReencodeIndices;
@@ -24,4 +25,10 @@ pub fn walk_stops<T: ReencodeIndices>(_reencoder: &T)
 /// What happens on a walk: the visits of the tree in their order, and the frames of the filled tree.
 pub fn moments_are()
     ensures { MomentsAre }
+{}
+
+/// In a reading of a core module, filled or not, the frames close in the order of the bytes.
+#[tactic(auto, using(crate::proofs::Frames::frames_in_order))]
+pub fn frames_are_in_order()
+    ensures { FramesAreInOrder }
 {}
