@@ -32,7 +32,7 @@ and_then-and_then (refused e s) f g = refl
 
 -- ---- moments side by side
 
-asked_in-append : (xs ys : List Moment) → asked_in (xs ++ ys) ≡ asked_in xs ++ asked_in ys
+pub asked_in-append : (xs ys : List Moment) → asked_in (xs ++ ys) ≡ asked_in xs ++ asked_in ys
 asked_in-append [] ys = refl
 asked_in-append (asks v ∷ xs) ys = ap (λ (z : List Visit). v ∷ z) (asked_in-append xs ys)
 asked_in-append (closes n ∷ xs) ys = asked_in-append xs ys

@@ -5,7 +5,7 @@ use Rattle.wasm_shapes.specs.Tree.{Tree, visits, fill}
 use Rattle.wasm_shapes.specs.Spells.{Spelled}
 use Rattle.wasm_shapes.specs.Fits.{Fits}
 use Rattle.reencode_hooks.specs.declared.error.Error.{Error}
-use Rattle.reencode_hooks.specs.Run.{Step, accepted, refused, and_then, run, answers}
+use Rattle.reencode_hooks.specs.Run.{Step, accepted, refused, and_then, run, answers, state_after, Visited}
 use Rattle.reencode_hooks.specs.Walk.{walk}
 use Rattle.reencode_hooks.specs.Moments.{moments, asked_in, closed_in, closings, NoneLost, passed, Stops}
 
@@ -32,6 +32,10 @@ pub record WalkIsRun {S E : Type 0} (asked : S → Visit → Step S (Error E) �
 abbrev pub WalkStops : {S E : Type 0} → (S → Visit → Step S (Error E) ℕ) → Type 0
 WalkStops {S} {E} asked = (c : ℕ) (s m : S) (t : Tree) (e : Error E) →
     (walk asked c s t ≡ refused e m) ↔ Stops asked c s (moments t (answers asked s (visits t))) e m
+
+-- The state after a walk is that of the run over a front part of the tree's visits.
+abbrev pub WalkVisits : {S E : Type 0} → (S → Visit → Step S (Error E) ℕ) → Type 0
+WalkVisits {S} asked = (c : ℕ) (s : S) (t : Tree) → Visited asked s (visits t) (state_after (walk asked c s t))
 
 -- What happens on a walk: the visits of the tree, the frames of the filled tree, and no lost index in a tree that bytes spell.
 pub record MomentsAre : Type 0 where

@@ -1,7 +1,7 @@
 //! Laws of walks and runs, each the contract of a function that does nothing.
 ghost use Rattle.reencode_hooks.specs.Run.{ask};
 ghost use Rattle.reencode_hooks.specs.Frames.{FramesAreInOrder};
-ghost use Rattle.reencode_hooks.specs.Laws.{WalkIsPassed, WalkIsRun, WalkStops, MomentsAre};
+ghost use Rattle.reencode_hooks.specs.Laws.{WalkIsPassed, WalkIsRun, WalkStops, WalkVisits, MomentsAre};
 
 use crate::indices::ReencodeIndices;
 
@@ -20,6 +20,11 @@ pub fn walk_is_run<T: ReencodeIndices>(_reencoder: &T)
 /// A walk is refused exactly where a visit is refused, or a frame is above the ceiling, before any other.
 pub fn walk_stops<T: ReencodeIndices>(_reencoder: &T)
     ensures { WalkStops (ask T.reply T.next) }
+{}
+
+/// The state after a walk is that of the fold of the hooks over a front part of the tree's visits.
+pub fn walk_visits<T: ReencodeIndices>(_reencoder: &T)
+    ensures { WalkVisits (ask T.reply T.next) }
 {}
 
 /// What happens on a walk: the visits of the tree in their order, and the frames of the filled tree.
