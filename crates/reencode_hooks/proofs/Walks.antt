@@ -102,7 +102,7 @@ module _ {S E : Type 0} (asked : S → Visit → Step S (Error E) ℕ) where
           let b = answers asked s (visits t) in
           let p = (walk_stops c s m t e).0 h in
           let all : asked_in p.front ++ asked_in (p.moment ∷ p.rest) ≡ visits t =
-              sym (asked_in-append p.front (p.moment ∷ p.rest)) ∙ ap asked_in (sym p.parts) ∙ asked_are c t b in
+          sym (asked_in-append p.front (p.moment ∷ p.rest)) ∙ ap asked_in (sym p.parts) ∙ asked_are c t b in
           let P : List Visit → Type 0 = λ z. Visited asked s z m in
           subst P all (stopped_visits s p.state m e c p.moment p.front p.rest p.so_far p.ran p.ends)
 
