@@ -141,6 +141,7 @@ fn utils_keep(rt: HostRuntime) -> Result<(), Fail> {
     walk_is_passed(&same);
     walk_is_run(&same);
     walk_stops(&same);
+    walk_refuses(&same);
     walk_visits(&same);
     moments_are();
     frames_are_in_order();
