@@ -1,0 +1,11 @@
+pub mod Errors
+pub mod Run
+pub mod Walk
+pub mod Moments
+pub mod Hooks
+pub mod Laws
+pub mod Rows
+pub mod Frames
+pub mod Tables
+pub mod Renamings
+pub mod Renamed
