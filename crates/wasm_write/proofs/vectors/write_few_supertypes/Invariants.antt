@@ -1,7 +1,7 @@
 use Rattle.std.proofs.Common.{◌≡◌, drop, map, take, vec_len}
 use Rattle.wasm_write.specs.Types.{type_index}
 use Rattle.wasm_write.proofs.Items.{ItemsSoFar}
-use Rattle.wasm_write.proofs.vectors.write_supertypes.Given as goal
+use Rattle.wasm_write.proofs.vectors.write_few_supertypes.Given as goal
 
 -- what is written and the items that are left are all, and what stood before stands there still
 abbrev pub invariant-loop-index : goal.invariant-loop-index

@@ -1,7 +1,7 @@
 use Rattle.std.proofs.Common.{◌≡◌, drop, map, take, vec_len}
 use Rattle.wasm_write.specs.Types.{val_type_tree}
 use Rattle.wasm_write.proofs.Items.{ItemsSoFar}
-use Rattle.wasm_write.proofs.vectors.write_val_types.Given as goal
+use Rattle.wasm_write.proofs.vectors.write_few_val_types.Given as goal
 
 -- what is written and the items that are left are all, and what stood before stands there still
 abbrev pub invariant-loop-ty : goal.invariant-loop-ty
