@@ -8,6 +8,7 @@ use Rattle.wasm_shapes.specs.declared.ImmKind.TheVariants as kind
 use Rattle.wasm_shapes.specs.declared.Opcode.{Opcode}
 use Rattle.wasm_shapes.specs.Operators.{kinds_of, code_of}
 use Rattle.wasm_shapes.specs.Tree.{Tree}
+use Rattle.wasm_write.specs.declared.types.RefType.{RefType}
 use Rattle.wasm_write.specs.declared.types.BlockType.{BlockType}
 use Rattle.wasm_write.specs.declared.types.BlockType.TheVariants as block
 use Rattle.wasm_write.specs.declared.types.Catch.{Catch}
@@ -103,10 +104,20 @@ cast_flags true false = 1
 cast_flags false true = 2
 cast_flags true true = 3
 
+-- labels and the default one
+abbrev pub targets_tree : List ℕ → ℕ → Tree
+targets_tree targets default = Tree.pair (body_tree (map label_tree targets)) (Tree.u32 default)
+
+-- the flags, the label and the heap types of a cast
+abbrev pub cast_tree : ℕ → RefType → RefType → Tree
+cast_tree label from to =
+    Tree.pair (Tree.byte (cast_flags from.nullable to.nullable))
+    (Tree.pair (Tree.u32 label) (Tree.pair (heap_type_tree from.heap_type) (heap_type_tree to.heap_type)))
+
 abbrev pub imm_tree : Imm → Tree
 imm_tree (imm.Block ty) = block_type_tree ty
 imm_tree (imm.Label label) = Tree.u32 label
-imm_tree (imm.Labels targets default) = Tree.pair (body_tree (map label_tree targets)) (Tree.u32 default)
+imm_tree (imm.Labels targets default) = targets_tree targets default
 imm_tree (imm.Index s i) = Tree.ix s i
 imm_tree (imm.Local i) = Tree.u32 i
 imm_tree (imm.Field i) = Tree.u32 i
@@ -122,8 +133,7 @@ imm_tree (imm.Lanes bs) = Tree.raw bs.now
 imm_tree (imm.Lane b) = Tree.byte b
 imm_tree (imm.Heap ty) = heap_type_tree ty
 imm_tree (imm.Catches catches) = body_tree (map catch_tree catches)
-imm_tree (imm.Cast label from to) =
-    Tree.pair (Tree.byte (cast_flags from.nullable to.nullable)) (Tree.pair (Tree.u32 label) (Tree.pair (heap_type_tree from.heap_type) (heap_type_tree to.heap_type)))
+imm_tree (imm.Cast label from to) = cast_tree label from to
 imm_tree (imm.Handlers handlers) = body_tree (map handle_tree handlers)
 imm_tree imm.Zero = Tree.fixed 0x00
 

@@ -7,6 +7,7 @@ mod fault;
 mod fields;
 mod functions;
 mod groups;
+mod immediates;
 mod instructions;
 mod module;
 mod names;
