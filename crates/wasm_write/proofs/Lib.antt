@@ -4,3 +4,5 @@ pub mod HoldingSections
 pub mod Items
 pub mod Fronts
 pub mod TypeShapes
+pub mod ImmsSoFar
+pub mod InstructionShapes

@@ -1,10 +1,18 @@
 //! Instructions.
-ghost use Rattle.std.specs.Prelude.{◌≡◌, IfSome, IfNone, IsTrue, ◌↔◌, map, Some};
-ghost use Rattle.wasm_write.specs.Instructions.{HasKinds, if_few, if_sixteen, imm_kind, index_kind};
+ghost use Rattle.std.specs.Prelude.{◌≡◌, ◌++◌, ◌∷◌, ◌<◌, ◌↔◌, true, map, take, vec_len, All, IsSome, IfSome, IfNone, IsTrue, Some, OnOk, OnErr};
+ghost use Rattle.wasm_leb.specs.Leb.{leb};
+ghost use Rattle.wasm_shapes.specs.Operators.{code_of};
+ghost use Rattle.wasm_shapes.specs.Tree.{code_bytes, normal};
+ghost use Rattle.wasm_shapes.specs.Shape.{Shape};
+ghost use Rattle.wasm_shapes.specs.Spells.{Spells};
+ghost use Rattle.wasm_shapes.specs.Fits.{CodeInRange, InRange};
+ghost use Rattle.wasm_write.specs.Instructions.{HasKinds, if_few, if_sixteen, imm_kind, index_kind, imms_tree, instruction_tree};
 
+use crate::immediates::write_imm;
 use crate::types::Imm;
+use crate::types_write::write_byte;
 use std::marker::Model;
-use wasm_leb::List;
+use wasm_leb::{List, NoMemory, write_u32};
 use wasm_shapes::{ImmKind, Opcode, Space, row_of};
 
 /// An operator with its immediates, of the kinds of its row (WebAssembly Core Specification 3.0, section 5.4).
@@ -135,5 +143,58 @@ impl<'a> Instruction<'a> {
     {
         self.imms.as_slice()
     }
+
+    /// Appends the operator and its immediates, which read back as this instruction. Where memory is wanting, what stood in
+    /// `out` before stands there still.
+    pub fn encode(&self, out: &mut Vec<u8>) -> Result<(), NoMemory>
+        ensures ok { OnOk result (out.new.items ≡ out.old.items ++ normal (instruction_tree self.now)) }
+        ensures spells { OnOk result (∥ Spells (Shape.op true) (normal (instruction_tree self.now)) (instruction_tree self.now) ∥₁) }
+        ensures err { OnErr result (take (vec_len out.old) out.new.items ≡ out.old.items) }
+    {
+        match write_opcode(out, self.opcode) {
+            Ok(()) => write_imms(out, self.imms.as_slice()),
+            Err(NoMemory) => Err(NoMemory),
+        }
+    }
 }
 
+/// Appends the number of an operator, or a part of it where memory is wanting.
+fn write_opcode(out: &mut Vec<u8>, op: Opcode) -> Result<(), NoMemory>
+    requires { op.prefix ≡ 0 → op.sub < 256 }
+    ensures ok { OnOk result (out.new.items ≡ out.old.items ++ code_bytes (code_of op)) }
+    ensures in_range { OnOk result (CodeInRange (code_of op)) }
+    ensures err { OnErr result (take (vec_len out.old) out.new.items ≡ out.old.items) }
+{
+    if op.prefix == 0 {
+        write_byte(out, op.sub as u8)
+    } else {
+        write_prefixed(out, op.prefix, op.sub)
+    }
+}
+
+/// Appends a byte and a number, or a part of them where memory is wanting.
+fn write_prefixed(out: &mut Vec<u8>, prefix: u8, sub: u32) -> Result<(), NoMemory>
+    ensures ok { OnOk result (out.new.items ≡ out.old.items ++ (prefix ∷ leb sub)) }
+    ensures err { OnErr result (take (vec_len out.old) out.new.items ≡ out.old.items) }
+{
+    match write_byte(out, prefix) {
+        Ok(()) => write_u32(out, sub),
+        Err(NoMemory) => Err(NoMemory),
+    }
+}
+
+/// Appends immediates one behind another, or a part of them where memory is wanting.
+fn write_imms(out: &mut Vec<u8>, imms: &[Imm<'_>]) -> Result<(), NoMemory>
+    requires { All (λ i. IsSome (imm_kind i)) imms.now }
+    ensures ok { OnOk result (out.new.items ≡ out.old.items ++ normal (imms_tree imms.now)) }
+    ensures in_range { OnOk result (InRange (imms_tree imms.now)) }
+    ensures err { OnErr result (take (vec_len out.old) out.new.items ≡ out.old.items) }
+{
+    for imm in imms {
+        match write_imm(out, imm) {
+            Ok(()) => {}
+            Err(NoMemory) => return Err(NoMemory),
+        }
+    }
+    Ok(())
+}
