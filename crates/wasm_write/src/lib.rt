@@ -1,6 +1,7 @@
 //! Writers of a core module. What is added to them is held in its normal spelling.
 #![tactic(auto)]
 
+mod bodies;
 mod exports;
 mod expressions;
 mod fault;
@@ -18,6 +19,7 @@ mod types_write;
 mod values;
 mod vectors;
 
+pub use bodies::Function;
 pub use exports::ExportSection;
 pub use expressions::ConstExpr;
 pub use fault::WriteFault;

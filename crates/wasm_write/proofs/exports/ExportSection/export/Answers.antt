@@ -21,12 +21,12 @@ returns-then-self-clause-large c =
 pub invariant_of-self-inside-2 : goal.invariant_of-self-inside-2
 invariant_of-self-inside-2 c =
     (held_grown c.self.inside.held (export_tree c.args.name.now c.args.kind c.args.index) c.in-Ok.ensures.ok
-    (export_spelled _ _ _ c.in-Ok.ensures.fits c.utf8.name (omega arith)), tt)
+    (∣ export_spelled _ _ _ c.in-Ok.ensures.fits c.utf8.name (omega arith) ∣₁), tt)
 
 pub returns-clause-ok : goal.returns-clause-ok
 returns-clause-ok c =
     let t = export_tree c.args.name.now c.args.kind c.args.index in
-    held_grown_is c.self.inside.held t exports_sound _ c.in-Ok.ensures.ok (export_spelled _ _ _ c.in-Ok.ensures.fits c.utf8.name (omega arith))
+    held_grown_is c.self.inside.held t exports_sound _ c.in-Ok.ensures.ok (∣ export_spelled _ _ _ c.in-Ok.ensures.fits c.utf8.name (omega arith) ∣₁)
     ∙ ap (λ l. l ++ t ∷ []) c.self.view_is
 
 pub returns-clause-fits : goal.returns-clause-fits

@@ -27,12 +27,12 @@ returns-then-self-clause-large c =
 pub invariant_of-self-inside-2 : goal.invariant_of-self-inside-2
 invariant_of-self-inside-2 c =
     (held_grown c.self.inside.held (group_tree c.args.group.now) c.in-Ok.ensures.ok
-    (group_spelled c.args.group.now c.in-Ok.ensures.in_range), tt)
+    (∣ group_spelled c.args.group.now c.in-Ok.ensures.in_range ∣₁), tt)
 
 pub returns-clause-ok : goal.returns-clause-ok
 returns-clause-ok c =
     let t = group_tree c.args.group.now in
-    held_grown_is c.self.inside.held t groups_sound _ c.in-Ok.ensures.ok (group_spelled c.args.group.now c.in-Ok.ensures.in_range)
+    held_grown_is c.self.inside.held t groups_sound _ c.in-Ok.ensures.ok (∣ group_spelled c.args.group.now c.in-Ok.ensures.in_range ∣₁)
     ∙ ap (λ l. l ++ t ∷ []) c.self.view_is
 
 pub returns-clause-fits : goal.returns-clause-fits
