@@ -1,19 +1,23 @@
--- A function's locals and operators that are held, and one operator more.
-use Rattle.std.proofs.Common.{◌≡◌, ℕ, ◌+◌, ◌<◌, ◌≤◌, ◌-◌, ◌^◌, List, [], ◌∷◌, ◌++◌, length, map, refl, sym, ap, ◌∙◌, append-nil, append_assoc, subst, true, false, arith}
+-- Functions, code sections and constant expressions that are held, and one operator or row more.
+use Rattle.std.proofs.Common.{◌≡◌, ℕ, ◌+◌, ◌<◌, ◌^◌, List, [], ◌∷◌, ◌++◌, length, map, refl, sym, ap, ◌∙◌, append-nil, append_assoc, subst, true, false, arith, ◌≢◌, ◌&&◌, Bool, nat_le, if◌then◌else◌, Option, Some}
+use Rattle.std.proofs.lemmas.Bool.{leb-true}
 use Rattle.std.specs.Coded.{Coded-set, coded_ℕ, coded_list}
 use mathlib.Core.Logic.{∥∥₁_elim, ∥∥₁_map, ∥∥₁_prop}
 use Rattle.wasm_leb.specs.Leb.{leb}
 use Rattle.wasm_leb.proofs.Shortest.{leb_spells}
-use Rattle.wasm_shapes.specs.Tree.{Tree, normal, frames}
-use Rattle.wasm_shapes.specs.Shape.{Shape, Named}
+use Rattle.wasm_shapes.specs.Tree.{Tree, normal}
+use Rattle.wasm_shapes.specs.declared.ImmKind.{ImmKind}
+use Rattle.wasm_shapes.specs.Operators.{Code, plain, prefixed, code_of, kinds_among, look_up, plain_operators}
+use Rattle.wasm_shapes.specs.Shape.{Shape, shape_of_row}
 use Rattle.wasm_shapes.specs.Spells.{Is, Spelled, Spells}
 use Rattle.wasm_shapes.specs.Fits.{InRange}
+use Rattle.wasm_shapes.proofs.Lists.{both}
 use Rattle.wasm_shapes.proofs.ReadBack.{read_back}
 use Rattle.wasm_write.specs.declared.types.ValType.{ValType}
-use Rattle.wasm_write.specs.Held.{rows_tree, body_tree}
-use Rattle.wasm_write.specs.Types.{val_type_tree}
-use Rattle.wasm_write.specs.Bodies.{Body, local_tree, with_operator, function_body, full_local_row, full_body, IsBody, HeldBody, HeldBody-one, held_body}
-use Rattle.wasm_write.proofs.Holding.{snoc_is, snoc_spelled, snoc_normal}
+use Rattle.wasm_write.specs.Held.{rows_tree, body_tree, AreHeld, Held, held_rows}
+use Rattle.wasm_write.specs.Instructions.{Parts, imms_tree, instruction_tree}
+use Rattle.wasm_write.specs.Bodies.{Body, local_tree, with_operator, function_body, code_tree, full_local_row, full_body, full_code_row, code_sound, IsBody, HeldBody, HeldBody-one, held_body, CodeRows, with_row, HeldOperators, HeldOperators-one, held_operators}
+use Rattle.wasm_write.proofs.Holding.{snoc_is, snoc_spelled, snoc_normal, snoc_length, are_none, are_more, held_length, held_grown_is, held_same_is}
 use Rattle.wasm_write.proofs.TypeShapes.{items_are, items_frameless, frameless_fits, value_is, value_frameless}
 
 abbrev with_locals : List (ℕ × ValType) → Body
@@ -92,3 +96,89 @@ module _ {bytes : List ℕ} (h : HeldBody bytes) where
   body_same_is k e =
       let P : List ℕ → Type 0 = λ z. (k : HeldBody z) → k.0 ≡ h.0 in
       subst P (sym e) (λ k. HeldBody-one bytes k h) k
+
+-- ---- a code section
+
+abbrev view : ℕ → List Tree → CodeRows
+view ceiling rows = record { ceiling = ceiling; rows = rows }
+
+module _ {n : ℕ} {bytes : List ℕ} (h : Held full_code_row n bytes) (ceiling : ℕ) {s : CodeRows} (is : view ceiling (held_rows full_code_row n bytes h) ≡ s) where
+  pub code_length : length s.rows ≡ n
+  code_length = rw (← is) (held_length h)
+
+  pub code_same : {new : List ℕ} (k : Held full_code_row n new) → new ≡ bytes → view ceiling (held_rows full_code_row n new k) ≡ s
+  code_same k e = ap (view ceiling) (held_same_is h code_sound k e) ∙ is
+
+  pub code_grown : {new : List ℕ} (t : Tree) (k : Held full_code_row (n + 1) new) → new ≡ bytes ++ normal t → ∥ Spells full_code_row (normal t) t ∥₁ →
+      view ceiling (held_rows full_code_row (n + 1) new k) ≡ with_row s t
+  code_grown t k e p = ap (view ceiling) (held_grown_is h t code_sound k e p) ∙ ap (λ (z : CodeRows). with_row z t) is
+
+-- a function in its frame
+pub framed_spells : (f : Body) → length (normal (function_body f)) < 2 ^ 32 → ∥ Spells full_body (normal (function_body f)) (function_body f) ∥₁ →
+    ∥ Spells full_code_row (normal (code_tree f)) (code_tree f) ∥₁
+framed_spells f small p =
+    let body = normal (function_body f) in
+    ∥∥₁_map p (λ q. record {
+      shaped = Is.sized q.shaped;
+      spelled = (leb (length body), body, refl, leb_spells (length body) small, q.spelled);
+    })
+
+-- ---- a constant expression
+
+-- an operator other than `end` has the same row in an expression
+same_row : (c : Code) → c ≢ plain 0x0b → kinds_among true c ≡ kinds_among false c
+same_row (plain b) other = go (nat_le 0x0b b && nat_le b 0x0b) refl
+  where
+    go : (q : Bool) → (nat_le 0x0b b && nat_le b 0x0b) ≡ q → (if q then Some [] else look_up plain_operators b) ≡ look_up plain_operators b
+    go true at =
+        let ends = both (nat_le 0x0b b) (nat_le b 0x0b) at in
+        let is : b ≡ 0x0b = omega (arith, leb-true 0x0b b ends.0, leb-true b 0x0b ends.1) in
+        absurd (other (ap plain is))
+    go false at = refl
+same_row (prefixed p n) other = refl
+
+inner_is : (c : Code) (u : Tree) → c ≢ plain 0x0b → Is (Shape.op true) (Tree.op c u) → Is (Shape.op false) (Tree.op c u)
+inner_is c u other (Is.op k d) = let P : Option (List ImmKind) → Type 0 = λ o. Is (shape_of_row o) u in Is.op k (subst P (same_row c other) d)
+
+inner_operator : (i : Parts) → code_of i.opcode ≢ plain 0x0b → Spells (Shape.op true) (normal (instruction_tree i)) (instruction_tree i) →
+    Spells (Shape.op false) (normal (instruction_tree i)) (instruction_tree i)
+inner_operator i other p = record { shaped = inner_is (code_of i.opcode) (imms_tree i.imms) other p.shaped; spelled = p.spelled }
+
+expression_more : {bytes : List ℕ} {rows : List Tree} {t : Tree} → AreHeld (Shape.op false) (length rows) bytes rows → Spells (Shape.op false) (normal t) t →
+    AreHeld (Shape.op false) (length (rows ++ t ∷ [])) (bytes ++ normal t) (rows ++ t ∷ [])
+expression_more {rows = rows} {t = t} r p = rw (snoc_length rows t) (are_more r p)
+
+pub expression_none : {bytes : List ℕ} → bytes ≡ [] → HeldOperators bytes
+expression_none e = let P : List ℕ → Type 0 = λ z. HeldOperators z in subst P (sym e) ([], ∣ are_none (Shape.op false) ∣₁)
+
+pub expression_none_is : {bytes : List ℕ} (h : HeldOperators bytes) → bytes ≡ [] → held_operators bytes h ≡ []
+unfolding held_operators
+expression_none_is h e =
+    let P : List ℕ → Type 0 = λ z. (k : HeldOperators z) → k.0 ≡ [] in
+    subst P (sym e) (λ k. HeldOperators-one [] k ([], ∣ are_none (Shape.op false) ∣₁)) h
+
+module _ {bytes : List ℕ} (h : HeldOperators bytes) where
+  abbrev operators_more : (i : Parts) → code_of i.opcode ≢ plain 0x0b → ∥ Spells (Shape.op true) (normal (instruction_tree i)) (instruction_tree i) ∥₁ →
+      HeldOperators (bytes ++ normal (instruction_tree i))
+  operators_more i other p =
+      let t = instruction_tree i in
+      (h.0 ++ t ∷ [], ∥∥₁_elim h.1 ∥∥₁_prop (λ r. ∥∥₁_map p (λ q. expression_more r (inner_operator i other q))))
+
+  -- the bytes have grown by an operator
+  pub operators_grown : {new : List ℕ} (i : Parts) → code_of i.opcode ≢ plain 0x0b → new ≡ bytes ++ normal (instruction_tree i) →
+      ∥ Spells (Shape.op true) (normal (instruction_tree i)) (instruction_tree i) ∥₁ → HeldOperators new
+  operators_grown i other e p = let P : List ℕ → Type 0 = λ z. HeldOperators z in subst P (sym e) (operators_more i other p)
+
+  pub operators_grown_is : {new : List ℕ} (i : Parts) (k : HeldOperators new) → code_of i.opcode ≢ plain 0x0b → new ≡ bytes ++ normal (instruction_tree i) →
+      ∥ Spells (Shape.op true) (normal (instruction_tree i)) (instruction_tree i) ∥₁ → held_operators new k ≡ held_operators bytes h ++ instruction_tree i ∷ []
+  unfolding held_operators
+  operators_grown_is i k other e p =
+      let P : List ℕ → Type 0 = λ z. (k : HeldOperators z) → k.0 ≡ h.0 ++ instruction_tree i ∷ [] in
+      subst P (sym e) (λ k. HeldOperators-one (bytes ++ normal (instruction_tree i)) k (operators_more i other p)) k
+
+  -- the bytes are the same
+  pub operators_same_is : {new : List ℕ} (k : HeldOperators new) → new ≡ bytes → held_operators new k ≡ held_operators bytes h
+  unfolding held_operators
+  operators_same_is k e =
+      let P : List ℕ → Type 0 = λ z. (k : HeldOperators z) → k.0 ≡ h.0 in
+      subst P (sym e) (λ k. HeldOperators-one bytes k h) k

@@ -1,5 +1,5 @@
 -- Functions, code sections and constant expressions, as contracts see them.
-use Rattle.std.specs.Prelude.{◌≡◌, ℕ, List, [], ◌∷◌, ◌++◌, length, map, true, false}
+use Rattle.std.specs.Prelude.{◌≡◌, ℕ, List, [], ◌∷◌, ◌++◌, length, true, false}
 use Rattle.std.specs.Coded.{Coded, Coded-set, code_by, coded×, coded_ℕ}
 use Rattle.std.proofs.Common.{refl, sym, ap, ap₂, ◌∙◌}
 use mathlib.Core.HLevel.{Σ_prop_path}

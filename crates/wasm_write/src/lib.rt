@@ -2,6 +2,7 @@
 #![tactic(auto)]
 
 mod bodies;
+mod code;
 mod exports;
 mod expressions;
 mod fault;
@@ -20,6 +21,7 @@ mod values;
 mod vectors;
 
 pub use bodies::Function;
+pub use code::CodeSection;
 pub use exports::ExportSection;
 pub use expressions::ConstExpr;
 pub use fault::WriteFault;
@@ -34,8 +36,8 @@ pub use type_section::TypeSection;
 pub use types::{
     AbstractHeapType, ArrayType, BlockType, Catch, CompositeInnerType, CompositeType, ContType,
     CustomSection, Elements, EntityType, ExportKind, FieldType, FuncType, GlobalType, Handle,
-    HeapType, Ieee32, Ieee64, Imm, Import, Imports, MemArg, MemoryType, Ordering, RecGroup, RefType,
-    StorageType, StructType, SubType, TableType, TagKind, TagType, ValType,
+    HeapType, Ieee32, Ieee64, Imm, Import, Imports, MemArg, MemoryType, Ordering, RecGroup,
+    RefType, StorageType, StructType, SubType, TableType, TagKind, TagType, ValType,
 };
 pub use types_write::write_val_type;
 pub use values::{DataCountSection, RawSection, StartSection};

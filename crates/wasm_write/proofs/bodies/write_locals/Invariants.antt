@@ -7,5 +7,5 @@ use Rattle.wasm_write.proofs.bodies.write_locals.Given as goal
 abbrev pub invariant-loop-local : goal.invariant-loop-local
 invariant-loop-local l = record {
   so_far : ItemsSoFar (map local_tree (drop l.local-index l.locals)) (map local_tree l.locals) l.initial.out.items l.out.items;
-  kept : take (vec_len l.fn.out) l.out.items ≡ l.fn.out.items
+  kept : take (vec_len l.fn.out) l.out.items ≡ l.fn.out.items;
 }

@@ -1,4 +1,4 @@
-use Rattle.std.proofs.Common.{◌≡◌, sym, ◌∙◌}
+use Rattle.std.proofs.Common.{sym, ◌∙◌}
 use Rattle.wasm_write.proofs.HoldingBodies.{body_normal, body_spells}
 use Rattle.wasm_write.proofs.bodies.Function.as_bytes.Goals as goal
 

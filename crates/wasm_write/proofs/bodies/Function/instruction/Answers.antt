@@ -1,4 +1,4 @@
-use Rattle.std.proofs.Common.{◌≡◌, ap, ◌∙◌}
+use Rattle.std.proofs.Common.{ap, ◌∙◌}
 use Rattle.wasm_write.specs.Bodies.{with_operator}
 use Rattle.wasm_write.specs.Instructions.{instruction_tree}
 use Rattle.wasm_write.proofs.HoldingBodies.{body_grown, body_grown_is, body_same_is}

@@ -1,4 +1,3 @@
-use Rattle.std.proofs.Common.{◌≡◌, ◌++◌, [], ◌∙◌}
 use Rattle.wasm_write.proofs.HoldingBodies.{body_new, body_new_is}
 use Rattle.wasm_write.proofs.bodies.Function.new.Goals as goal
 
