@@ -14,6 +14,8 @@ mod instructions;
 mod module;
 mod names;
 mod section;
+#[cfg(test)]
+mod tests;
 mod type_section;
 mod types;
 mod types_write;
