@@ -3,6 +3,7 @@
 /// No spelling of what was asked begins at this place. Places are counted in bytes, from 0.
 #[derive(Debug, Clone, Copy, PartialEq)]
 pub struct ReadError {
+    /// The place that was asked for.
     pub at: usize,
 }
 

@@ -1,5 +1,5 @@
 //! A list that contracts see as the list of its items.
-ghost use Rattle.std.specs.Prelude.{◌≡◌, ◌==◌, ◌≤◌, ◌++◌, ◌∷◌, [], length, slice_get, OnOk, OnErr, IfOk};
+ghost use Rattle.std.specs.Prelude.{◌≡◌, ◌==◌, ◌<◌, ◌≤◌, ◌++◌, ◌∷◌, [], length, slice_get, OnOk, OnErr, IfOk, IfSome, IfNone};
 ghost use Rattle.std.specs.Option.{option_copied};
 
 use crate::fault::NoMemory;
@@ -22,6 +22,7 @@ impl<T> Model for List<T> {
 
 impl<T> List<T> {
     /// An empty list. It takes no memory.
+    #[inline(always)]
     pub fn new(alloc: Global) -> List<T>
         ensures { result ≡ [] }
     {
@@ -48,6 +49,7 @@ impl<T> List<T> {
     }
 
     /// How many items it has.
+    #[inline(always)]
     pub fn len(&self) -> usize
         ensures { result ≡ length self.now }
     {
@@ -55,6 +57,7 @@ impl<T> List<T> {
     }
 
     /// Whether it has no item.
+    #[inline(always)]
     pub fn is_empty(&self) -> bool
         ensures { result ≡ (length self.now == 0) }
     {
@@ -62,13 +65,17 @@ impl<T> List<T> {
     }
 
     /// The item at a place, counted from 0. None exactly where the place is not below the length.
+    #[inline(always)]
     pub fn get(&self, i: usize) -> Option<&T>
-        ensures { option_copied result ≡ slice_get self.now i }
+        ensures value { option_copied result ≡ slice_get self.now i }
+        ensures some { IfSome result (λ _. i < length self.now) }
+        ensures none { IfNone result (length self.now ≤ i) }
     {
         self.items.get(i)
     }
 
     /// The items in order.
+    #[inline(always)]
     pub fn as_slice(&self) -> &[T]
         ensures { result.now ≡ self.now }
     {
@@ -85,6 +92,7 @@ impl<T> List<T> {
 
 impl<T: Drop> List<T> {
     /// Adds an item at the end, and changes nothing where memory is wanting.
+    #[inline(always)]
     pub fn push(&mut self, item: T) -> Result<(), NoMemory>
         ensures ok { OnOk result (self.new ≡ self.old ++ item ∷ []) }
         ensures err { OnErr result (self.new ≡ self.old) }

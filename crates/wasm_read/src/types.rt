@@ -1,4 +1,6 @@
 //! The types, rows and immediates of a core module, as they are read.
+ghost use Rattle.std.specs.Prelude.{◌≡◌, ◌<◌, length, false};
+
 use crate::expressions::ConstExpr;
 use crate::names::{IndirectNameMap, NameMap};
 use wasm_leb::List;
@@ -9,6 +11,21 @@ use wasm_shapes::{SectionId, Space};
 pub enum UnpackedIndex {
     Module(u32),
     RecGroup(u32),
+}
+
+impl UnpackedIndex {
+    ghost use Rattle.std.specs.Prelude.{◌≡◌};
+    ghost use Rattle.wasm_read.specs.Types.{module_index};
+
+    /// The index, where it is one of the module. None exactly for one inside a recursion group.
+    pub fn as_module_index(&self) -> Option<u32>
+        ensures { result ≡ module_index self.now }
+    {
+        match self {
+            UnpackedIndex::Module(index) => Some(*index),
+            UnpackedIndex::RecGroup(_) => None,
+        }
+    }
 }
 
 /// A heap type that names no type of the module (WebAssembly Core Specification 3.0, section 5.3.3).
@@ -118,11 +135,13 @@ pub struct SubType {
     pub composite_type: CompositeType,
 }
 
-/// Types that may refer to each other. One that is not explicit is spelled as its one type alone (section 5.3.9).
+/// Types that may refer to each other. One that is not explicit holds exactly one type, and is spelled as that type
+/// alone (section 5.3.9).
 #[derive(Drop)]
 pub struct RecGroup {
     pub explicit: bool,
     pub types: List<SubType>,
+    pub ghost bare_holds_one: { explicit ≡ false → length types ≡ 1 },
 }
 
 /// A table: its element type and its limits (section 5.3.11).
@@ -302,12 +321,14 @@ pub enum BlockType {
     FuncType(u32),
 }
 
-/// Where a memory access goes: the alignment as a power of two, the memory and the offset (section 5.4.6).
+/// Where a memory access goes: the exponent of the alignment, which is below 64, the memory and the offset
+/// (section 5.4.6).
 #[derive(Clone, Copy, PartialEq, Debug)]
 pub struct MemArg {
     pub align: u8,
     pub memory: u32,
     pub offset: u64,
+    pub ghost aligned: { align < 64 },
 }
 
 /// What a block catches, and the label that it branches to (section 5.4.1).

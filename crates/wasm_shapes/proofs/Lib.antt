@@ -6,3 +6,5 @@ pub mod Begins
 pub mod Rows
 pub mod Framing
 pub mod Laws
+pub mod Operations
+pub mod OwnAnswers

@@ -1,0 +1,166 @@
+-- What a status says of how the program ended.
+use Rattle.std.proofs.Common.{◌≡◌, ◌≢◌, ℕ, ◌<◌, ◌≤◌, inl, inr, Option, Some, None, List, [], ◌∷◌, ◌++◌, codes, length, length-append, refl, sym, ap, ◌∙◌, arith, lit<}
+use Rattle.std.specs.Prelude.{Contains}
+use Rattle.std.proofs.lemmas.List.{append-nil}
+use Rattle.reencode_tool.specs.declared.answer.Answer.{Answer}
+use Rattle.reencode_tool.specs.declared.answer.Answer.TheVariants.{Printed, NoMemory, Usage, ReadFault, WriteFault, ParseError, TooLong, NotHexadecimal}
+use Rattle.reencode_tool.specs.Answer.{Ends, HasNoDigits, HasNoReading, IsDecided, IsDecidedBy, Made, Outside, message, most_bytes, plain_words, status_of, text_of}
+use Rattle.reencode_tool.specs.Hexadecimal.{binary}
+use Rattle.reencode_tool.specs.Outside.{GaveAll, Rose, TookMore}
+
+-- ---- one status, one end
+
+pub is_printed : (answer : Answer) (status : ℕ) → status ≡ status_of answer → status ≡ 0 → answer ≡ Printed
+is_printed Printed status s e = refl
+is_printed NoMemory status s e = absurd (omega arith)
+is_printed Usage status s e = absurd (omega arith)
+is_printed ReadFault status s e = absurd (omega arith)
+is_printed WriteFault status s e = absurd (omega arith)
+is_printed (ParseError at) status s e = absurd (omega arith)
+is_printed TooLong status s e = absurd (omega arith)
+is_printed NotHexadecimal status s e = absurd (omega arith)
+
+pub is_usage : (answer : Answer) (status : ℕ) → status ≡ status_of answer → status ≡ 2 → answer ≡ Usage
+is_usage Printed status s e = absurd (omega arith)
+is_usage NoMemory status s e = absurd (omega arith)
+is_usage Usage status s e = refl
+is_usage ReadFault status s e = absurd (omega arith)
+is_usage WriteFault status s e = absurd (omega arith)
+is_usage (ParseError at) status s e = absurd (omega arith)
+is_usage TooLong status s e = absurd (omega arith)
+is_usage NotHexadecimal status s e = absurd (omega arith)
+
+pub is_parse_error : (answer : Answer) (status : ℕ) → status ≡ status_of answer → status ≡ 5 → (at : ℕ) × (answer ≡ ParseError at)
+is_parse_error Printed status s e = absurd (omega arith)
+is_parse_error NoMemory status s e = absurd (omega arith)
+is_parse_error Usage status s e = absurd (omega arith)
+is_parse_error ReadFault status s e = absurd (omega arith)
+is_parse_error WriteFault status s e = absurd (omega arith)
+is_parse_error (ParseError at) status s e = (at, refl)
+is_parse_error TooLong status s e = absurd (omega arith)
+is_parse_error NotHexadecimal status s e = absurd (omega arith)
+
+-- ---- what an end says
+
+-- words that are not accepted have the status 2
+pub usage_of : (answer : Answer) (words : List (List ℕ)) (o : Outside) (status : ℕ) → status ≡ status_of answer → Ends answer words o
+    → words ≢ plain_words → status ≡ 2
+usage_of Printed words o status s h n = absurd (n h.0)
+usage_of NoMemory words o status s h n = absurd (n h.0)
+usage_of Usage words o status s h n = s
+usage_of ReadFault words o status s h n = absurd (n h.0)
+usage_of WriteFault words o status s h n = absurd (n h.0)
+usage_of (ParseError at) words o status s h n = absurd (n h.0)
+usage_of TooLong words o status s h n = absurd (n h.0)
+usage_of NotHexadecimal words o status s h n = absurd (n h.0)
+
+-- with another status the words are accepted
+pub words_of : (answer : Answer) (words : List (List ℕ)) (o : Outside) (status : ℕ) → status ≡ status_of answer → Ends answer words o
+    → status ≢ 2 → words ≡ plain_words
+words_of Printed words o status s h n = h.0
+words_of NoMemory words o status s h n = h.0
+words_of Usage words o status s h n = absurd (n s)
+words_of ReadFault words o status s h n = h.0
+words_of WriteFault words o status s h n = h.0
+words_of (ParseError at) words o status s h n = h.0
+words_of TooLong words o status s h n = h.0
+words_of NotHexadecimal words o status s h n = h.0
+
+-- the message of an end
+pub message_of : (answer : Answer) (status : ℕ) → status ≡ status_of answer → status ≢ 0 → status ≢ 5 → text_of answer ++ codes "\n" ≡ message status
+message_of Printed status s n m = absurd (n s)
+message_of NoMemory status s n m = ap message (sym s)
+message_of Usage status s n m = ap message (sym s)
+message_of ReadFault status s n m = ap message (sym s)
+message_of WriteFault status s n m = ap message (sym s)
+message_of (ParseError at) status s n m = absurd (m s)
+message_of TooLong status s n m = ap message (sym s)
+message_of NotHexadecimal status s n m = ap message (sym s)
+
+-- ---- what decides
+
+-- a source that is told gave what it told
+pub told_text : (most : ℕ) (old new : Option (List ℕ)) (text told : List ℕ) → GaveAll most old new text → old ≡ Some told → told ≡ text
+told_text most old None text told h e = cc (h.gave, e)
+told_text most old (Some rest) text told h e =
+    let none : [] ≡ rest = cc h.ended in
+    let whole : told ≡ text ++ rest = cc (h.gave, e) in
+    whole ∙ ap (λ (r : List ℕ). text ++ r) (sym none) ∙ append-nil text
+
+-- a text that is given whole is not too long
+not_long : (told text : List ℕ) → told ≡ text → length text ≤ most_bytes → most_bytes < length told → ⊥
+not_long told text e within more = absurd (omega (arith, ap length e))
+
+decided_printed : (old new : Option (List ℕ)) (status : ℕ) → status ≡ 0 → Made old new → IsDecided old status
+decided_printed None new status s made = tt
+decided_printed (Some told) new status s made =
+    let e = told_text most_bytes (Some told) new made.text told made.gave refl in
+    record {
+      long = λ more. absurd (not_long told made.text e made.gave.within more);
+      short = λ _. rw (ap binary e ∙ made.digits) (inl (s, (made.output, made.counts, made.plain)));
+    }
+
+decided_parse_error : (old new : Option (List ℕ)) (status at : ℕ) → status ≡ 5 → HasNoReading old new at → IsDecided old status
+decided_parse_error None new status at s h = tt
+decided_parse_error (Some told) new status at s h =
+    let e = told_text most_bytes (Some told) new h.text told h.gave refl in
+    record {
+      long = λ more. absurd (not_long told h.text e h.gave.within more);
+      short = λ _. rw (ap binary e ∙ h.digits) (inr (inl (s, (at, h.none))));
+    }
+
+decided_not_hexadecimal : (old new : Option (List ℕ)) (status : ℕ) → status ≡ 14 → HasNoDigits old new → IsDecided old status
+decided_not_hexadecimal None new status s h = tt
+decided_not_hexadecimal (Some told) new status s h =
+    let e = told_text most_bytes (Some told) new h.text told h.gave refl in
+    record {
+      long = λ more. absurd (not_long told h.text e h.gave.within more);
+      short = λ _. rw (ap binary e ∙ h.none) (inl s);
+    }
+
+-- the taken bytes are a front of what was told
+took_longer : (most : ℕ) (old new : Option (List ℕ)) (told : List ℕ) → TookMore most old new → old ≡ Some told → most < length told
+took_longer most old None told h e = cc (h.2, e)
+took_longer most old (Some rest) told h e =
+    let whole : told ≡ h.0 ++ rest = cc (h.2, e) in
+    omega (arith, h.1, ap length whole ∙ length-append h.0 rest)
+
+decided_too_long : (old new : Option (List ℕ)) (status : ℕ) → status ≡ 13 → TookMore most_bytes old new → IsDecided old status
+decided_too_long None new status s h = tt
+decided_too_long (Some told) new status s h =
+    let more = took_longer most_bytes (Some told) new told h refl in
+    record { long = λ _. inl s; short = λ less. absurd (omega (arith, more, less)) }
+
+decided_by_no_memory : (bytes : Option (List ℕ)) (status : ℕ) → status ≡ 1 → IsDecidedBy bytes status
+decided_by_no_memory None status s = inr s
+decided_by_no_memory (Some bytes) status s = inr (inr s)
+
+decided_no_memory : (old : Option (List ℕ)) (status : ℕ) → status ≡ 1 → IsDecided old status
+decided_no_memory None status s = tt
+decided_no_memory (Some told) status s = record { long = λ _. inr s; short = λ _. decided_by_no_memory (binary told) status s }
+
+-- where nothing failed, the input decides
+pub decided_of : (answer : Answer) (words : List (List ℕ)) (o : Outside) (status : ℕ) → status ≡ status_of answer → Ends answer words o
+    → words ≡ plain_words → ¬ Rose o.read_faults_old o.read_faults_new → ¬ Rose o.write_faults_old o.write_faults_new
+    → IsDecided o.left_old status
+decided_of Printed words o status s h w r k = decided_printed o.left_old o.left_new status s h.1.0
+decided_of NoMemory words o status s h w r k = decided_no_memory o.left_old status s
+decided_of Usage words o status s h w r k = absurd (h w)
+decided_of ReadFault words o status s h w r k = absurd (r h.1)
+decided_of WriteFault words o status s h w r k = absurd (k h.2)
+decided_of (ParseError at) words o status s h w r k = decided_parse_error o.left_old o.left_new status at s h.1
+decided_of TooLong words o status s h w r k = decided_too_long o.left_old o.left_new status s h.1
+decided_of NotHexadecimal words o status s h w r k = decided_not_hexadecimal o.left_old o.left_new status s h.1
+
+-- ---- which status comes
+
+pub status_among : (answer : Answer) (status : ℕ) → status ≡ status_of answer
+    → Contains (0 ∷ 1 ∷ 2 ∷ 3 ∷ 4 ∷ 5 ∷ 13 ∷ 14 ∷ []) status
+status_among Printed status s = (0, lit< tt, sym s)
+status_among NoMemory status s = (1, lit< tt, sym s)
+status_among Usage status s = (2, lit< tt, sym s)
+status_among ReadFault status s = (3, lit< tt, sym s)
+status_among WriteFault status s = (4, lit< tt, sym s)
+status_among (ParseError at) status s = (5, lit< tt, sym s)
+status_among TooLong status s = (6, lit< tt, sym s)
+status_among NotHexadecimal status s = (7, lit< tt, sym s)

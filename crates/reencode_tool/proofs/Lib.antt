@@ -1,0 +1,4 @@
+pub mod OutsideLemmas
+pub mod AnswerLemmas
+pub mod CopyLemmas
+pub mod PlainLemmas

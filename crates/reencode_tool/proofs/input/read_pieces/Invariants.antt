@@ -1,0 +1,12 @@
+use Rattle.std.proofs.Common.{◌≡◌, ◌≤◌, ◌-◌, vec_len}
+use Rattle.reencode_tool.specs.Outside.{before}
+use Rattle.reencode_tool.proofs.input.read_pieces.Given as goal
+
+abbrev pub invariant-pieces : goal.invariant-pieces
+invariant-pieces g l = record {
+  rises : g.S.Source.faults l.initial.input ≤ g.S.Source.faults l.input;
+  gave : g.S.Source.left l.initial.input ≡ before l.bytes.items (g.S.Source.left l.input);
+}
+
+abbrev pub decreases-pieces : goal.decreases-pieces
+decreases-pieces g l = 67108865 - vec_len l.bytes

@@ -1,0 +1,29 @@
+use Rattle.std.proofs.Common.{ap, ◌++◌, subst, List, ℕ}
+use Rattle.hex.specs.Hex.{encode_lower}
+use Rattle.wasm_shapes.specs.Module.{NoCoreReading}
+use Rattle.reencode_tool.specs.Plain.{IsPlain}
+use Rattle.reencode_tool.proofs.make.make.Goals as goal
+
+pub returns-clause-made : goal.returns-clause-made
+returns-clause-made g c = (
+  record {
+    text = c.in-Ok.text.items;
+    bytes = c.in-Ok-binary.bytes.items;
+    output = c.in-Ok-plain.made.0.items;
+    counts = c.in-Ok-plain.made.1;
+    gave = c.in-Ok.ensures.all;
+    digits = c.in-Ok-binary.ensures.ok;
+    plain = subst (λ (bytes : List ℕ). IsPlain bytes c.in-Ok-plain.made.0.items c.in-Ok-plain.made.1) c.as_slice.ensures.value c.in-Ok-plain.ensures.ok;
+  },
+  ap (λ (tail : List ℕ). encode_lower c.in-Ok-plain.made.0.items ++ tail) c.in-Ok-tail.ensures,
+)
+
+pub returns-in-Err-Parse-clause-stops : goal.returns-in-Err-Parse-clause-stops
+returns-in-Err-Parse-clause-stops g c =
+    record {
+      text = c.in-Ok.text.items;
+      bytes = c.in-Ok-binary.bytes.items;
+      gave = c.in-Ok.ensures.all;
+      digits = c.in-Ok-binary.ensures.ok;
+      none = subst (λ (bytes : List ℕ). NoCoreReading bytes) c.as_slice.ensures.value (rw c.in-Err-Parse.field-0-is at c.in-Err-Parse.ensures.refused);
+    }

@@ -1,0 +1,72 @@
+-- The frames of sections: what a payload stands for, and what the reader of payloads promises.
+use Rattle.std.specs.Prelude.{◌≡◌, ◌≢◌, ℕ, ◌-◌, ◌≤◌, List, ◌++◌, length}
+use Rattle.wasm_leb.specs.declared.fault.Fault.{Fault}
+use Rattle.wasm_leb.specs.declared.fault.Fault.TheVariants as fault
+use Rattle.wasm_leb.specs.declared.fault.Kind.TheVariants as kind
+use Rattle.wasm_shapes.specs.declared.SectionId.{SectionId}
+use Rattle.wasm_shapes.specs.declared.SectionId.TheVariants as id
+use Rattle.wasm_shapes.specs.Tree.{Tree}
+use Rattle.wasm_shapes.specs.Module.{core_header, component_header}
+use Rattle.wasm_read.specs.declared.types.Payload.{Payload}
+use Rattle.wasm_read.specs.declared.types.Payload.TheVariants as payload
+
+-- the id of the sections of a kind
+abbrev pub section_number : SectionId → ℕ
+section_number id.Custom = 0
+section_number id.Type_ = 1
+section_number id.Import = 2
+section_number id.Function = 3
+section_number id.Table = 4
+section_number id.Memory = 5
+section_number id.Global = 6
+section_number id.Export = 7
+section_number id.Start = 8
+section_number id.Element = 9
+section_number id.Code = 10
+section_number id.Data = 11
+section_number id.DataCount = 12
+section_number id.Tag = 13
+
+-- an id other than 0, and a body of which nothing is said
+abbrev pub numbered_frame : ℕ → List ℕ → Tree
+numbered_frame id body = Tree.row 1 (Tree.pair (Tree.byte id) (Tree.sized (Tree.raw body)))
+
+-- the id 0, and a body that begins with a name
+abbrev pub custom_frame : List ℕ → List ℕ → Tree
+custom_frame name contents = Tree.row 0 (Tree.pair (Tree.fixed 0) (Tree.sized (Tree.pair (Tree.name name) (Tree.raw contents))))
+
+abbrev pub frame_tree : Payload → Tree
+frame_tree (payload.Section id at body) = numbered_frame (section_number id) body.now
+frame_tree (payload.Custom at section) = custom_frame section.name.now section.contents.now
+frame_tree (payload.Unknown at id contents) = numbered_frame id contents.now
+
+-- the place of the section's id
+abbrev pub payload_at : Payload → ℕ
+payload_at (payload.Section id at body) = at
+payload_at (payload.Custom at section) = at
+payload_at (payload.Unknown at id contents) = at
+
+-- a section is unknown only where its id is of no known kind
+abbrev pub IsUnknown : Payload → Type 0
+IsUnknown (payload.Unknown at id contents) = 14 ≤ id
+IsUnknown _ = Unit {0}
+
+-- Where a reader of sections stands: the bytes that are left, and how many there were with the header.
+pub record Sections : Type 0 where
+  pub rest : List ℕ
+  pub len : ℕ
+
+-- its place, counted from the first byte of the header
+abbrev pub sections_place : Sections → ℕ
+sections_place reader = reader.len - length reader.rest
+
+-- The header was read, and the sections are left behind it.
+pub record HeaderRead (bytes : List ℕ) (new : Sections) : Type 0 where
+  pub stands : bytes ≡ core_header ++ new.rest
+  pub len : new.len ≡ length bytes
+
+-- The header of a component stands there, or neither header.
+abbrev pub NoCoreHeader : Fault → List ℕ → Type 0
+NoCoreHeader (fault.Header kind.Component) bytes = (rest : List ℕ) × (bytes ≡ component_header ++ rest)
+NoCoreHeader (fault.Read e) bytes = (e.at ≡ 0) × ((rest : List ℕ) → (bytes ≢ core_header ++ rest) × (bytes ≢ component_header ++ rest))
+NoCoreHeader _ bytes = ⊥

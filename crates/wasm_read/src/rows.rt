@@ -1,0 +1,118 @@
+//! The rows of a section, one behind another.
+ghost use Rattle.std.specs.Prelude.{◌≡◌, ◌≢◌, ◌-◌, ◌<◌, [], IfOk, IfErr, IfSome, IfNone};
+ghost use Rattle.wasm_leb.specs.declared.fault.Fault.{Fault};
+ghost use Rattle.wasm_leb.specs.Place.{BeginsNoNumber};
+ghost use Rattle.wasm_read.specs.Reading.{place_of, ReadsNone, CountRead};
+
+use std::marker::Model;
+use wasm_leb::{Fault, ReadError, front_u32};
+
+/// The rows that are left of a vector that fills its body.
+#[derive(Drop)]
+pub struct Rows<'a> {
+    rest: &'a [u8],
+    left: u32,
+    len: usize,
+}
+
+impl<'a> Model for Rows<'a> {
+    ghost use Rattle.wasm_read.specs.Reading.{Standing};
+
+    ghost Value = { Standing };
+
+    ghost view = { λ rows. record { rest = rows.rest.now; left = rows.left; len = rows.len } };
+}
+
+impl<'a> Rows<'a> {
+    /// Reads the count.
+    pub fn new(body: &'a [u8]) -> Result<Self, Fault>
+        ensures ok { IfOk result (λ rows. CountRead body.now rows) }
+        ensures err { IfErr result (λ e. ReadsNone e 0 (BeginsNoNumber 128 32 32 body.now)) }
+    {
+        match front_u32(body) {
+            Some((left, rest)) => Ok(Rows {
+                rest,
+                left,
+                len: body.len(),
+            }),
+            None => Err(Fault::Read(ReadError { at: 0 })),
+        }
+    }
+
+    /// The place in the body where the next row is due.
+    pub fn place(&self) -> usize
+        ensures { result ≡ place_of self.now }
+    {
+        self.len.saturating_sub(self.rest.len())
+    }
+
+    /// That nothing is read at this place.
+    pub fn refusal(&self) -> Fault
+        ensures { result ≡ Fault.Read (record { at = place_of self.now }) }
+    {
+        Fault::Read(ReadError { at: self.place() })
+    }
+
+    /// The bytes where a row is due, or none at the end.
+    pub fn due(&self) -> Result<Option<&'a [u8]>, Fault>
+        ensures due { IfOk result (λ o. IfSome o (λ bytes. (bytes.now ≡ self.now.rest) × (0 < self.now.left))) }
+        ensures ended { IfOk result (λ o. IfNone o ((self.now.left ≡ 0) × (self.now.rest ≡ []))) }
+        ensures err { IfErr result (λ e. ReadsNone e (place_of self.now) ((self.now.left ≡ 0) × (self.now.rest ≢ []))) }
+    {
+        if self.left > 0 {
+            Ok(Some(self.rest))
+        } else if self.rest.is_empty() {
+            Ok(None)
+        } else {
+            Err(self.refusal())
+        }
+    }
+
+    /// A row was read, and these bytes are left behind it.
+    pub fn advance(&mut self, rest: &'a [u8])
+        requires { 0 < self.old.left }
+        ensures { self.new ≡ record { rest = rest.now; left = self.old.left - 1; len = self.old.len } }
+    {
+        self.rest = rest;
+        self.left -= 1;
+    }
+}
+
+/// The text of `next_row` of the readers whose rows take no memory. `front` reads the row at the front of some bytes.
+macro_rules! next_row {
+    ($reader:ident, $front:ident) => {
+        match $reader.rows.due() {
+            Ok(Some(bytes)) => match $front(bytes) {
+                Some((row, rest)) => {
+                    $reader.rows.advance(rest);
+                    Ok(Some(row))
+                }
+                None => Err($reader.rows.refusal()),
+            },
+            Ok(None) => Ok(None),
+            Err(fault) => Err(fault),
+        }
+    };
+}
+
+pub(crate) use next_row;
+
+/// The same for rows that take memory.
+macro_rules! next_row_in {
+    ($reader:ident, $alloc:ident, $front:ident) => {
+        match $reader.rows.due() {
+            Ok(Some(bytes)) => match $front($alloc, bytes) {
+                Ok(Some((row, rest))) => {
+                    $reader.rows.advance(rest);
+                    Ok(Some(row))
+                }
+                Ok(None) => Err($reader.rows.refusal()),
+                Err(NoMemory) => Err(Fault::NoMemory),
+            },
+            Ok(None) => Ok(None),
+            Err(fault) => Err(fault),
+        }
+    };
+}
+
+pub(crate) use next_row_in;
