@@ -4,3 +4,6 @@ pub mod HoldingSections
 pub mod Items
 pub mod Fronts
 pub mod TypeShapes
+pub mod ImmsSoFar
+pub mod InstructionShapes
+pub mod HoldingBodies

@@ -1,6 +1,8 @@
+pub mod Bodies
 pub mod Counts
 pub mod Faults
 pub mod Held
+pub mod Instructions
 pub mod Rows
 pub mod Sections
 pub mod Types

@@ -1,13 +1,8 @@
+use Rattle.std.proofs.Common.{refl, arith, length}
 use Rattle.wasm_write.specs.Types.{val_type_tree}
-use Rattle.wasm_write.proofs.Items.{items_written, items_in_range, items_too_large}
+use Rattle.wasm_write.specs.declared.fault.WriteFault.TheVariants.{TooLarge}
+use Rattle.wasm_write.proofs.Items.{items_too_large}
 use Rattle.wasm_write.proofs.vectors.write_val_types.Goals as goal
 
-pub returns-in-Err-clause-large : goal.returns-in-Err-clause-large
-returns-in-Err-clause-large c = items_too_large val_type_tree c.args.types.now c.in-Err.fault c.in-Err.ensures.large
-
-pub returns-clause-ok : goal.returns-clause-ok
-returns-clause-ok c =
-    items_written val_type_tree c.args.types.now c.loop-ty-test.false c.loop-ty.invariant.so_far c.args.out.now.items c.in-Ok.ensures.ok
-
-pub returns-clause-in_range : goal.returns-clause-in_range
-returns-clause-in_range c = items_in_range val_type_tree c.args.types.now c.loop-ty-test.false c.loop-ty.invariant.so_far c.in-Ok.ensures.fits
+pub returns-then-count-clause-large : goal.returns-then-count-clause-large
+returns-then-count-clause-large c = items_too_large val_type_tree c.args.types.now (TooLarge (length c.args.types.now)) (refl, omega arith)
