@@ -9,3 +9,4 @@ pub mod Place
 pub mod Rows
 pub mod Module
 pub mod Laws
+pub mod TreeCode

@@ -11,6 +11,8 @@ use Rattle.wasm_shapes.specs.Tree.{Listed}
 -- the shapes that others name
 pub data Named : Type 0 where
   value group item expression : Named
+  -- the same with all the rows of their tables, which no module reaches until they are in force
+  full_value full_composite full_sub full_group full_item : Named
 
 pub data Shape : Type 0 where
   -- ---- leaves
@@ -78,6 +80,61 @@ abbrev pub listing : Listed → Shape → Shape → Shape
 listing Listed.functions r b = b
 listing Listed.expressions r b = Shape.swap r b
 
+-- ---- types, with all their rows
+
+-- heap types that name no type of the module
+abbrev pub abstract_heap : Shape
+abstract_heap = one_of (0x73 ∷ 0x72 ∷ 0x71 ∷ 0x70 ∷ 0x6f ∷ 0x6e ∷ 0x6d ∷ 0x6c ∷ 0x6b ∷ 0x6a ∷ 0x69 ∷ 0x74 ∷ 0x68 ∷ 0x75 ∷ [])
+
+-- what a reference points to
+abbrev pub heap : Shape
+heap = choice (abstract_heap ∷ lead 0x65 abstract_heap ∷ lead 0x62 (Shape.ix space.Type_) ∷ Shape.sx space.Type_ ∷ [])
+
+-- reference types: one that may be null is spelled as its heap type alone where that is abstract
+abbrev pub reference : Shape
+reference = choice (
+    lead 0x64 heap ∷
+    Shape.spare 0x63 (choice (abstract_heap ∷ lead 0x65 abstract_heap ∷ [])) (choice (lead 0x62 (Shape.ix space.Type_) ∷ Shape.sx space.Type_ ∷ [])) ∷ [])
+
+abbrev pub storage : Shape
+storage = choice (Shape.fixed 0x78 ∷ Shape.fixed 0x77 ∷ Shape.ref Named.full_value ∷ [])
+
+-- a field, and whether it may change
+abbrev pub field : Shape
+field = Shape.seq storage (one_of (0x00 ∷ 0x01 ∷ []))
+
+abbrev pub full_values : Shape
+full_values = Shape.vec (Shape.ref Named.full_value)
+
+-- functions, arrays, structures and continuations
+abbrev pub inner_rows : List Shape
+inner_rows = lead 0x60 (Shape.seq full_values full_values) ∷ lead 0x5e field ∷ lead 0x5f (Shape.vec field) ∷ lead 0x5d (Shape.sx space.Type_) ∷ []
+
+-- the rows of the second list stand behind those of the first
+abbrev pub rows_and : List Shape → List Shape → List Shape
+rows_and [] others = others
+rows_and (s ∷ ss) others = s ∷ rows_and ss others
+
+-- the same with a descriptor, with what it describes, and shared
+abbrev pub described_rows : List Shape
+described_rows = rows_and inner_rows (Shape.swap (lead 0x4d (Shape.ix space.Type_)) (choice inner_rows) ∷ [])
+
+abbrev pub describing_rows : List Shape
+describing_rows = rows_and described_rows (Shape.swap (lead 0x4c (Shape.ix space.Type_)) (choice described_rows) ∷ [])
+
+abbrev pub composite_rows : List Shape
+composite_rows = rows_and describing_rows (lead 0x65 (choice describing_rows) ∷ [])
+
+-- a composite type that is final and has no supertypes, and those with supertypes
+abbrev pub sub_rows : List Shape
+sub_rows = rows_and composite_rows (
+    lead 0x4f (Shape.seq (Shape.vec (Shape.ix space.Type_)) (Shape.ref Named.full_composite)) ∷
+    lead 0x50 (Shape.seq (Shape.vec (Shape.ix space.Type_)) (Shape.ref Named.full_composite)) ∷ [])
+
+-- a type alone, and types that may refer to each other
+abbrev pub group_rows : List Shape
+group_rows = rows_and sub_rows (lead 0x4e (Shape.vec (Shape.ref Named.full_sub)) ∷ [])
+
 -- The named shapes. Value types are those of numbers, a group is a bare function type, and an item is a function,
 -- until more rows are in force.
 abbrev pub shape_of : Named → Shape
@@ -85,6 +142,13 @@ shape_of Named.value = one_of (0x7f ∷ 0x7e ∷ 0x7d ∷ 0x7c ∷ [])
 shape_of Named.group = choice (lead 0x60 (Shape.seq (Shape.vec (Shape.ref Named.value)) (Shape.vec (Shape.ref Named.value))) ∷ [])
 shape_of Named.item = choice (lead 0x00 (Shape.ix space.Function) ∷ [])
 shape_of Named.expression = Shape.until 0x0b (Shape.op false)
+shape_of Named.full_value = choice (Shape.fixed 0x7f ∷ Shape.fixed 0x7e ∷ Shape.fixed 0x7d ∷ Shape.fixed 0x7c ∷ Shape.fixed 0x7b ∷ reference ∷ [])
+shape_of Named.full_composite = choice composite_rows
+shape_of Named.full_sub = choice sub_rows
+shape_of Named.full_group = choice group_rows
+shape_of Named.full_item = choice (
+    lead 0x00 (Shape.ix space.Function) ∷ lead 0x01 (Shape.ix space.Table) ∷ lead 0x02 (Shape.ix space.Memory) ∷
+    lead 0x03 (Shape.ix space.Global) ∷ lead 0x04 (Shape.ix space.Tag) ∷ [])
 
 -- ---- immediates
 

@@ -1,0 +1,117 @@
+-- Rows that are held, and one more.
+use Rattle.std.proofs.Common.{◌≡◌, ℕ, suc, ◌+◌, ◌<◌, ◌^◌, List, [], ◌∷◌, ◌++◌, length, refl, sym, ap, ap₂, ◌∙◌, append-nil, append_assoc, subst, true, length-append, Result, Ok, Err, OnOk, take}
+use Rattle.std.proofs.Math.Seq.{take-append_seam}
+use Rattle.std.specs.Coded.{Coded-set, coded_ℕ, coded_list}
+use mathlib.Core.Logic.{∥∥₁_elim, ∥∥₁_map}
+use Rattle.wasm_leb.specs.Leb.{leb}
+use Rattle.wasm_leb.proofs.Shortest.{leb_spells}
+use Rattle.wasm_shapes.specs.Tree.{Tree, count, normal}
+use Rattle.wasm_shapes.specs.Shape.{Shape}
+use Rattle.wasm_shapes.specs.Sound.{sound}
+use Rattle.wasm_shapes.specs.Spells.{Is, Spelled, Spells}
+use Rattle.wasm_write.specs.Held.{BodySpells, AreHeld, Held, Held-one, held_rows, rows_tree, body_tree}
+
+-- ---- rows as a tree
+
+pub count_rows : (rows : List Tree) → count (rows_tree rows) ≡ length rows
+count_rows [] = refl
+count_rows (t ∷ rows) = ap suc (count_rows rows)
+
+snoc_is : {s : Shape} (rows : List Tree) {t : Tree} → Is (Shape.many s) (rows_tree rows) → Is s t → Is (Shape.many s) (rows_tree (rows ++ t ∷ []))
+snoc_is [] d e = Is.cons e d
+snoc_is (u ∷ rows) (Is.cons d d') e = Is.cons d (snoc_is rows d' e)
+
+snoc_spelled : (rows : List Tree) (t : Tree) (x y : List ℕ) → Spelled (rows_tree rows) x → Spelled t y → Spelled (rows_tree (rows ++ t ∷ [])) (x ++ y)
+snoc_spelled [] t x y p q = (y, [], ap (λ (z : List ℕ). z ++ y) p ∙ sym (append-nil y), q, refl)
+snoc_spelled (u ∷ rows) t x y p q =
+    (p.0, p.1 ++ y, ap (λ (z : List ℕ). z ++ y) p.2 ∙ append_assoc p.0 p.1 y, p.3, snoc_spelled rows t p.1 y p.4 q)
+
+snoc_normal : (rows : List Tree) (t : Tree) → normal (rows_tree (rows ++ t ∷ [])) ≡ normal (rows_tree rows) ++ normal t
+snoc_normal [] t = append-nil (normal t)
+snoc_normal (u ∷ rows) t = ap (λ (z : List ℕ). normal u ++ z) (snoc_normal rows t) ∙ sym (append_assoc (normal u) (normal (rows_tree rows)) (normal t))
+
+snoc_length : (rows : List Tree) (t : Tree) → length (rows ++ t ∷ []) ≡ length rows + 1
+snoc_length rows t = length-append rows (t ∷ [])
+
+-- ---- none, one more, the same
+
+pub are_none : (s : Shape) → AreHeld s 0 [] []
+are_none s = record { shaped = Is.nil; counted = refl; spelled = refl; normally = refl }
+
+pub are_more : {s : Shape} {n : ℕ} {bytes : List ℕ} {rows : List Tree} {t : Tree} → AreHeld s n bytes rows → Spells s (normal t) t →
+    AreHeld s (n + 1) (bytes ++ normal t) (rows ++ t ∷ [])
+are_more {bytes = bytes} {rows = rows} {t = t} r p = record {
+  shaped = snoc_is rows r.shaped p.shaped;
+  counted = snoc_length rows t ∙ ap (λ (k : ℕ). k + 1) r.counted;
+  spelled = snoc_spelled rows t bytes (normal t) r.spelled p.spelled;
+  normally = snoc_normal rows t ∙ ap (λ (z : List ℕ). z ++ normal t) r.normally;
+}
+
+module _ (s : Shape) {bytes : List ℕ} where
+  pub held_none : bytes ≡ [] → Held s 0 bytes
+  held_none e = let P : List ℕ → Type 0 = λ z. Held s 0 z in subst P (sym e) ([], ∣ are_none s ∣₁)
+
+  pub held_none_is : sound (Shape.many s) ≡ true → (h : Held s 0 bytes) → bytes ≡ [] → held_rows s 0 bytes h ≡ []
+  unfolding held_rows
+  held_none_is passes h e =
+      let P : List ℕ → Type 0 = λ z. (k : Held s 0 z) → k.0 ≡ [] in
+      subst P (sym e) (λ k. Held-one s passes 0 [] k ([], ∣ are_none s ∣₁)) h
+
+module _ {s : Shape} {n : ℕ} {bytes : List ℕ} (h : Held s n bytes) where
+  pub held_length : length (held_rows s n bytes h) ≡ n
+  unfolding held_rows
+  held_length = ∥∥₁_elim h.1 (Coded-set coded_ℕ (length h.0) n) (λ r. r.counted)
+
+  -- the body is the number of the rows, and their spelling
+  pub held_normal : normal (body_tree (held_rows s n bytes h)) ≡ leb n ++ bytes
+  unfolding held_rows
+  held_normal =
+      ap₂ (λ (k : ℕ) (z : List ℕ). leb k ++ z) (count_rows h.0 ∙ held_length)
+      (∥∥₁_elim h.1 (Coded-set (coded_list coded_ℕ) (normal (rows_tree h.0)) bytes) (λ r. r.normally))
+
+  -- it spells a vector of rows
+  pub held_spells : n < 2 ^ 32 → BodySpells s (held_rows s n bytes h)
+  unfolding held_rows
+  held_spells small = record {
+    spells = ∥∥₁_map h.1 (λ r. record { shaped = Is.vec r.shaped; spelled = go h.0 r });
+    reads_back = λ shape d. ∥∥₁_map h.1 (λ r. record { shaped = d; spelled = go h.0 r });
+  }
+    where
+      go : (rows : List Tree) → AreHeld s n bytes rows → Spelled (body_tree rows) (normal (body_tree rows))
+      go rows r =
+          let few : count (rows_tree rows) < 2 ^ 32 = rw (count_rows rows ∙ r.counted) small in
+          let P : List ℕ → Type 0 = λ z. Spelled (rows_tree rows) z in
+          (leb (count (rows_tree rows)), normal (rows_tree rows), refl, leb_spells (count (rows_tree rows)) few, subst P (sym r.normally) r.spelled)
+
+  abbrev held_more : (t : Tree) → Spells s (normal t) t → Held s (n + 1) (bytes ++ normal t)
+  held_more t p = (h.0 ++ t ∷ [], ∥∥₁_map h.1 (λ r. are_more r p))
+
+  -- the bytes have grown by a row
+  pub held_grown : {new : List ℕ} (t : Tree) → new ≡ bytes ++ normal t → Spells s (normal t) t → Held s (n + 1) new
+  held_grown t e p = let P : List ℕ → Type 0 = λ z. Held s (n + 1) z in subst P (sym e) (held_more t p)
+
+  pub held_grown_is : {new : List ℕ} (t : Tree) → sound (Shape.many s) ≡ true → (k : Held s (n + 1) new) → new ≡ bytes ++ normal t → Spells s (normal t) t →
+      held_rows s (n + 1) new k ≡ held_rows s n bytes h ++ t ∷ []
+  unfolding held_rows
+  held_grown_is t passes k e p =
+      let P : List ℕ → Type 0 = λ z. (k : Held s (n + 1) z) → k.0 ≡ h.0 ++ t ∷ [] in
+      subst P (sym e) (λ k. Held-one s passes (n + 1) (bytes ++ normal t) k (held_more t p)) k
+
+  -- the bytes are the same
+  pub held_same : {new : List ℕ} → new ≡ bytes → Held s n new
+  held_same e = let P : List ℕ → Type 0 = λ z. Held s n z in subst P (sym e) h
+
+  pub held_same_is : {new : List ℕ} → sound (Shape.many s) ≡ true → (k : Held s n new) → new ≡ bytes → held_rows s n new k ≡ held_rows s n bytes h
+  unfolding held_rows
+  held_same_is passes k e =
+      let P : List ℕ → Type 0 = λ z. (k : Held s n z) → k.0 ≡ h.0 in
+      subst P (sym e) (λ k. Held-one s passes n bytes k h) k
+
+-- what holds anyway holds of an Ok
+pub OnOk-of : {A E : Type 0} {P : Type 0} (r : Result A E) → P → OnOk r P
+OnOk-of (Ok a) p = p
+OnOk-of (Err e) p = tt
+
+-- what was added is taken away again
+pub cut_back : {n : ℕ} {new : List ℕ} (old text : List ℕ) → n ≡ length old → new ≡ old ++ text → take n new ≡ old
+cut_back {n = n} {new = new} old text l e = rw (l, e) (take-append_seam old text)

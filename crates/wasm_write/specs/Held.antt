@@ -1,0 +1,65 @@
+-- The rows that some bytes spell.
+use Rattle.std.specs.Prelude.{◌≡◌, ℕ, List, [], ◌∷◌, length, true}
+use Rattle.std.specs.Coded.{Coded-set}
+use Rattle.std.proofs.Common.{refl, sym, ap, ◌∙◌}
+use mathlib.Core.HLevel.{Σ_prop_path}
+use mathlib.Core.Logic.{∥∥₁_elim, ∥∥₁_prop}
+use Rattle.wasm_shapes.specs.Tree.{Tree, normal}
+use Rattle.wasm_shapes.specs.TreeCode.{trees_code}
+use Rattle.wasm_shapes.specs.Shape.{Shape}
+use Rattle.wasm_shapes.specs.Sound.{sound}
+use Rattle.wasm_shapes.specs.Spells.{Is, Spelled, Spells}
+use Rattle.wasm_shapes.specs.Rows.{rows_then}
+use Rattle.wasm_shapes.proofs.Laws.{one_tree}
+
+-- rows one behind another
+abbrev pub rows_tree : List Tree → Tree
+rows_tree rows = rows_then rows Tree.nil
+
+-- the same behind their number, as the body of a section
+abbrev pub body_tree : List Tree → Tree
+body_tree rows = Tree.vec (rows_tree rows)
+
+-- The body of a section spells a vector of rows of a shape, and whatever other shape it has, as that of the rows in force.
+pub record BodySpells (row : Shape) (rows : List Tree) : Type 0 where
+  pub spells : ∥ Spells (Shape.vec row) (normal (body_tree rows)) (body_tree rows) ∥₁
+  pub reads_back : (shape : Shape) → Is shape (body_tree rows) → ∥ Spells shape (normal (body_tree rows)) (body_tree rows) ∥₁
+
+-- so many rows of a shape, whose normal spelling these bytes are
+pub record AreHeld (shape : Shape) (count : ℕ) (bytes : List ℕ) (rows : List Tree) : Type 0 where
+  pub shaped : Is (Shape.many shape) (rows_tree rows)
+  pub counted : length rows ≡ count
+  pub spelled : Spelled (rows_tree rows) bytes
+  pub normally : normal (rows_tree rows) ≡ bytes
+
+-- there are such rows
+abbrev pub Held : Shape → ℕ → List ℕ → Type 0
+Held shape count bytes = (rows : List Tree) × ∥ AreHeld shape count bytes rows ∥₁
+
+-- rows that are one tree are one list
+abbrev listed : Tree → List Tree
+listed (Tree.cons t u) = t ∷ listed u
+listed _ = []
+
+pub listed_rows : (rows : List Tree) → listed (rows_tree rows) ≡ rows
+listed_rows [] = refl
+listed_rows (t ∷ rows) = ap (λ (z : List Tree). t ∷ z) (listed_rows rows)
+
+-- where a shape passes the test, its rows are told apart by their bytes
+pub rows_are_one : {shape : Shape} {n m : ℕ} {bytes : List ℕ} {rows others : List Tree} → sound (Shape.many shape) ≡ true →
+    AreHeld shape n bytes rows → AreHeld shape m bytes others → rows ≡ others
+rows_are_one {shape = shape} {bytes = bytes} {rows = rows} {others = others} passes p q =
+    sym (listed_rows rows) ∙ ap listed (one_tree (Shape.many shape) passes bytes (rows_tree rows) (rows_tree others)
+    (record { shaped = p.shaped; spelled = p.spelled }) (record { shaped = q.shaped; spelled = q.spelled })) ∙ listed_rows others
+
+module _ (shape : Shape) (passes : sound (Shape.many shape) ≡ true) (count : ℕ) (bytes : List ℕ) where
+  pub Held-one : (p q : Held shape count bytes) → p.0 ≡ q.0
+  Held-one p q =
+      ∥∥₁_elim p.1 (Coded-set trees_code p.0 q.0) (λ r.
+      ∥∥₁_elim q.1 (Coded-set trees_code p.0 q.0) (λ s. rows_are_one passes r s))
+
+  pub Held-prop : IsProp (Held shape count bytes)
+  Held-prop p q = Σ_prop_path (λ rows. ∥∥₁_prop) (Held-one p q)
+
+unfoldable pub held_rows : (shape : Shape) (count : ℕ) (bytes : List ℕ) → Held shape count bytes → List Tree
+held_rows shape count bytes h = h.0

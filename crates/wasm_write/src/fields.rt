@@ -1,0 +1,52 @@
+//! Fields in their normal spelling.
+ghost use Rattle.std.specs.Prelude.{◌≡◌, ◌++◌, ◌<◌, ◌-◌, ◌^◌, length, take, vec_len, OnOk, OnErr, IfErr};
+ghost use Rattle.wasm_shapes.specs.Tree.{Tree, normal};
+ghost use Rattle.wasm_write.specs.Faults.{IfTooLarge};
+ghost use Rattle.wasm_write.specs.Rows.{item_tree};
+
+use crate::fault::WriteFault;
+use crate::types::ExportKind;
+use wasm_leb::{NoMemory, write_u32};
+
+/// Appends a name behind its length (WebAssembly Core Specification 3.0, section 5.2.4). A refusal leaves what stood in
+/// `out` before.
+///
+/// `TooLarge` comes exactly where the name has more than 2^32 - 1 bytes, with their number.
+pub fn write_name(out: &mut Vec<u8>, name: &str) -> Result<(), WriteFault>
+    ensures ok { OnOk result (out.new.items ≡ out.old.items ++ normal (Tree.name name.now)) }
+    ensures fits { OnOk result (length name.now < 2 ^ 32) }
+    ensures err { OnErr result (take (vec_len out.old) out.new.items ≡ out.old.items) }
+    ensures large { IfErr result (λ e. IfTooLarge e (λ size. (size ≡ length name.now) × (2 ^ 32 - 1 < size))) }
+{
+    let size = name.len();
+    if size > u32::MAX as usize {
+        return Err(WriteFault::TooLarge { size: size as u64 });
+    }
+    match write_u32(out, size as u32) {
+        Ok(()) => {}
+        Err(NoMemory) => return Err(WriteFault::NoMemory),
+    }
+    match out.extend_from_slice(name.as_bytes()) {
+        Ok(()) => Ok(()),
+        Err(_) => Err(WriteFault::NoMemory),
+    }
+}
+
+/// Appends what is exported, by its kind and its index (WebAssembly Core Specification 3.0, section 5.5.10). A refusal
+/// leaves what stood in `out` before.
+pub fn write_item(out: &mut Vec<u8>, kind: ExportKind, index: u32) -> Result<(), NoMemory>
+    ensures ok { OnOk result (out.new.items ≡ out.old.items ++ normal (item_tree kind index)) }
+    ensures err { OnErr result (take (vec_len out.old) out.new.items ≡ out.old.items) }
+{
+    let byte = match kind {
+        ExportKind::Func => 0x00,
+        ExportKind::Table => 0x01,
+        ExportKind::Memory => 0x02,
+        ExportKind::Global => 0x03,
+        ExportKind::Tag => 0x04,
+    };
+    match out.push(byte) {
+        Ok(()) => write_u32(out, index),
+        Err(_) => Err(NoMemory),
+    }
+}

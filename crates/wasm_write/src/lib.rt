@@ -1,0 +1,29 @@
+//! Writers of a core module. What is added to them is held in its normal spelling.
+#![tactic(auto)]
+
+mod exports;
+mod expressions;
+mod fault;
+mod fields;
+mod functions;
+mod module;
+mod names;
+mod section;
+mod types;
+mod values;
+
+pub use exports::ExportSection;
+pub use expressions::ConstExpr;
+pub use fault::WriteFault;
+pub use fields::{write_item, write_name};
+pub use functions::FunctionSection;
+pub use module::Module;
+pub use names::{IndirectNameMap, NameMap};
+pub use section::Section;
+pub use types::{
+    AbstractHeapType, ArrayType, BlockType, Catch, CompositeInnerType, CompositeType, ContType,
+    CustomSection, Elements, EntityType, ExportKind, FieldType, FuncType, GlobalType, Handle,
+    HeapType, Ieee32, Ieee64, Imm, Import, Imports, MemArg, MemoryType, Ordering, RecGroup, RefType,
+    StorageType, StructType, SubType, TableType, TagKind, TagType, ValType,
+};
+pub use values::{DataCountSection, RawSection, StartSection};

@@ -1,0 +1,41 @@
+//! What can be added to a module.
+ghost use Rattle.std.specs.Prelude.{◌≡◌, ◌++◌, ◌≤◌, ℕ, List, OnOk, OnErr, take, vec_len};
+ghost use Rattle.wasm_leb.specs.Leb.{leb};
+
+use wasm_leb::{NoMemory, write_u32};
+
+/// A section that can be added to a module (WebAssembly Core Specification 3.0, section 5.5.2).
+///
+/// It has two meanings: `number`, its id, which is at most 127, and `contents`, the bytes of its body.
+pub trait Section {
+    ghost number: { Self → ℕ };
+
+    ghost contents: { Self → List ℕ };
+
+    /// The section's id.
+    fn id(&self) -> u8
+        ensures { result ≡ number self.now };
+
+    /// Appends the body. Where memory is wanting, what stood in `out` before stands there still, and a part of the body
+    /// may stand behind it.
+    fn encode_body(&self, out: &mut Vec<u8>) -> Result<(), NoMemory>
+        ensures ok { OnOk result (out.new.items ≡ out.old.items ++ contents self.now) }
+        ensures err { OnErr result (take (vec_len out.old) out.new.items ≡ out.old.items) };
+
+    ghost small: { (s : Self) → number s ≤ 127 };
+}
+
+/// Appends the number of some rows and their bytes, or a part of them where memory is wanting.
+pub(crate) fn write_rows(out: &mut Vec<u8>, count: u32, bytes: &[u8]) -> Result<(), NoMemory>
+    ensures ok { OnOk result (out.new.items ≡ out.old.items ++ (leb count ++ bytes.now)) }
+    ensures err { OnErr result (take (vec_len out.old) out.new.items ≡ out.old.items) }
+{
+    match write_u32(out, count) {
+        Ok(()) => {}
+        Err(NoMemory) => return Err(NoMemory),
+    }
+    match out.extend_from_slice(bytes) {
+        Ok(()) => Ok(()),
+        Err(_) => Err(NoMemory),
+    }
+}
