@@ -1,0 +1,5 @@
+pub mod Errors
+pub mod Run
+pub mod Walk
+pub mod Moments
+pub mod Hooks
