@@ -1,12 +1,22 @@
--- The trees that the types and rows of a core module stand for, as they are read.
+-- The trees that the types and rows of a core module stand for, as they are read (WebAssembly Core Specification 3.0,
+-- section 5.3). Each is of the table with all its rows. An index inside a recursion group stands for a leaf that no
+-- shape has.
 use Rattle.std.specs.Prelude.{ℕ, Bool, true, false, List, [], ◌∷◌, map, Option, Some, None}
 use Rattle.wasm_shapes.specs.declared.Space.TheVariants as space
 use Rattle.wasm_shapes.specs.Tree.{Tree}
 use Rattle.wasm_shapes.specs.Rows.{rows_then}
 use Rattle.wasm_read.specs.declared.types.UnpackedIndex.{UnpackedIndex}
 use Rattle.wasm_read.specs.declared.types.UnpackedIndex.TheVariants as unpacked
+use Rattle.wasm_read.specs.declared.types.AbstractHeapType.{AbstractHeapType}
+use Rattle.wasm_read.specs.declared.types.AbstractHeapType.TheVariants as abstract
+use Rattle.wasm_read.specs.declared.types.HeapType.{HeapType}
+use Rattle.wasm_read.specs.declared.types.HeapType.TheVariants as heap
+use Rattle.wasm_read.specs.declared.types.RefType.{RefType}
 use Rattle.wasm_read.specs.declared.types.ValType.{ValType}
 use Rattle.wasm_read.specs.declared.types.ValType.TheVariants as value
+use Rattle.wasm_read.specs.declared.types.StorageType.{StorageType}
+use Rattle.wasm_read.specs.declared.types.StorageType.TheVariants as stored
+use Rattle.wasm_read.specs.declared.types.FieldType.{FieldType}
 use Rattle.wasm_read.specs.declared.types.FuncType.{FuncType}
 use Rattle.wasm_read.specs.declared.types.CompositeInnerType.{CompositeInnerType}
 use Rattle.wasm_read.specs.declared.types.CompositeInnerType.TheVariants as inner
@@ -26,49 +36,144 @@ module_index (unpacked.RecGroup i) = None
 abbrev pub no_reading : Tree
 no_reading = Tree.canonical 0
 
--- ---- types
+-- an index of a type, spelled without sign and with one
+abbrev pub type_index : UnpackedIndex → Tree
+type_index (unpacked.Module i) = Tree.ix space.Type_ i
+type_index (unpacked.RecGroup i) = Tree.canonical i
+
+abbrev pub signed_index : UnpackedIndex → Tree
+signed_index (unpacked.Module i) = Tree.sx space.Type_ i
+signed_index (unpacked.RecGroup i) = Tree.canonical i
+
+-- a row that begins with its byte
+abbrev pub led : ℕ → Tree → Tree
+led b t = Tree.pair (Tree.fixed b) t
+
+-- items behind their number
+abbrev pub vector_tree : List Tree → Tree
+vector_tree ts = Tree.vec (rows_then ts Tree.nil)
+
+-- ---- heap types
+
+abbrev pub abstract_tree : AbstractHeapType → Tree
+abstract_tree abstract.NoFunc = Tree.row 0 (Tree.fixed 0x73)
+abstract_tree abstract.NoExtern = Tree.row 1 (Tree.fixed 0x72)
+abstract_tree abstract.None = Tree.row 2 (Tree.fixed 0x71)
+abstract_tree abstract.Func = Tree.row 3 (Tree.fixed 0x70)
+abstract_tree abstract.Extern = Tree.row 4 (Tree.fixed 0x6f)
+abstract_tree abstract.Any = Tree.row 5 (Tree.fixed 0x6e)
+abstract_tree abstract.Eq = Tree.row 6 (Tree.fixed 0x6d)
+abstract_tree abstract.I31 = Tree.row 7 (Tree.fixed 0x6c)
+abstract_tree abstract.Struct = Tree.row 8 (Tree.fixed 0x6b)
+abstract_tree abstract.Array = Tree.row 9 (Tree.fixed 0x6a)
+abstract_tree abstract.Exn = Tree.row 10 (Tree.fixed 0x69)
+abstract_tree abstract.NoExn = Tree.row 11 (Tree.fixed 0x74)
+abstract_tree abstract.Cont = Tree.row 12 (Tree.fixed 0x68)
+abstract_tree abstract.NoCont = Tree.row 13 (Tree.fixed 0x75)
+
+abbrev pub shared_tree : Bool → AbstractHeapType → Tree
+shared_tree false ty = Tree.row 0 (abstract_tree ty)
+shared_tree true ty = Tree.row 1 (led 0x65 (abstract_tree ty))
+
+abbrev pub heap_type_tree : HeapType → Tree
+heap_type_tree (heap.Abstract shared ty) = shared_tree shared ty
+heap_type_tree (heap.Exact i) = Tree.row 2 (led 0x62 (type_index i))
+heap_type_tree (heap.Concrete i) = Tree.row 3 (signed_index i)
+
+-- ---- reference and value types
+
+-- one that may be null: as its heap type alone where that is abstract
+abbrev pub nullable_tree : HeapType → Tree
+nullable_tree (heap.Abstract shared ty) = Tree.row 1 (Tree.spare 0x63 (shared_tree shared ty))
+nullable_tree (heap.Exact i) = Tree.row 1 (Tree.kept 0x63 (Tree.row 0 (led 0x62 (type_index i))))
+nullable_tree (heap.Concrete i) = Tree.row 1 (Tree.kept 0x63 (Tree.row 1 (signed_index i)))
+
+abbrev pub reference_parts : Bool → HeapType → Tree
+reference_parts false ty = Tree.row 0 (led 0x64 (heap_type_tree ty))
+reference_parts true ty = nullable_tree ty
+
+abbrev pub ref_type_tree : RefType → Tree
+ref_type_tree ty = reference_parts ty.nullable ty.heap_type
 
 abbrev pub val_type_tree : ValType → Tree
 val_type_tree value.I32 = Tree.row 0 (Tree.fixed 0x7f)
 val_type_tree value.I64 = Tree.row 1 (Tree.fixed 0x7e)
 val_type_tree value.F32 = Tree.row 2 (Tree.fixed 0x7d)
 val_type_tree value.F64 = Tree.row 3 (Tree.fixed 0x7c)
-val_type_tree value.V128 = no_reading
-val_type_tree (value.Ref r) = no_reading
+val_type_tree value.V128 = Tree.row 4 (Tree.fixed 0x7b)
+val_type_tree (value.Ref ty) = Tree.row 5 (ref_type_tree ty)
 
--- value types one behind another, and behind their number
+-- value types behind their number
 abbrev pub val_types_tree : List ValType → Tree
-val_types_tree types = Tree.vec (rows_then (map val_type_tree types) Tree.nil)
+val_types_tree types = vector_tree (map val_type_tree types)
+
+-- ---- fields
+
+abbrev pub storage_type_tree : StorageType → Tree
+storage_type_tree stored.I8 = Tree.row 0 (Tree.fixed 0x78)
+storage_type_tree stored.I16 = Tree.row 1 (Tree.fixed 0x77)
+storage_type_tree (stored.Val ty) = Tree.row 2 (val_type_tree ty)
+
+abbrev pub mutable_tree : Bool → Tree
+mutable_tree false = Tree.row 0 (Tree.fixed 0x00)
+mutable_tree true = Tree.row 1 (Tree.fixed 0x01)
+
+abbrev pub field_type_tree : FieldType → Tree
+field_type_tree ty = Tree.pair (storage_type_tree ty.element_type) (mutable_tree ty.mutable)
+
+-- fields behind their number
+abbrev pub fields_tree : List FieldType → Tree
+fields_tree fields = vector_tree (map field_type_tree fields)
+
+-- ---- composite types
 
 abbrev pub func_type_tree : FuncType → Tree
 func_type_tree ty = Tree.pair (val_types_tree ty.params) (val_types_tree ty.results)
 
-abbrev pub composite_inner_tree : CompositeInnerType → Tree
-composite_inner_tree (inner.Func ty) = Tree.row 0 (Tree.pair (Tree.fixed 0x60) (func_type_tree ty))
-composite_inner_tree (inner.Array ty) = no_reading
-composite_inner_tree (inner.Struct ty) = no_reading
-composite_inner_tree (inner.Cont ty) = no_reading
+abbrev pub inner_tree : CompositeInnerType → Tree
+inner_tree (inner.Func ty) = Tree.row 0 (led 0x60 (func_type_tree ty))
+inner_tree (inner.Array ty) = Tree.row 1 (led 0x5e (field_type_tree ty.0))
+inner_tree (inner.Struct ty) = Tree.row 2 (led 0x5f (fields_tree ty.fields))
+inner_tree (inner.Cont ty) = Tree.row 3 (led 0x5d (signed_index ty.0))
 
--- the inner type, where it is not shared, and has no descriptor and describes nothing
-abbrev pub composite_parts : CompositeInnerType → Bool → Option UnpackedIndex → Option UnpackedIndex → Tree
-composite_parts ty false None None = composite_inner_tree ty
-composite_parts ty _ _ _ = no_reading
+-- behind its descriptor, where it has one
+abbrev pub described_tree : Option UnpackedIndex → Tree → Tree
+described_tree None t = t
+described_tree (Some i) t = Tree.row 4 (Tree.swap (led 0x4d (type_index i)) t)
+
+-- behind what it describes, where it describes a type
+abbrev pub describing_tree : Option UnpackedIndex → Tree → Tree
+describing_tree None t = t
+describing_tree (Some i) t = Tree.row 5 (Tree.swap (led 0x4c (type_index i)) t)
+
+abbrev pub shared_composite_tree : Bool → Tree → Tree
+shared_composite_tree false t = t
+shared_composite_tree true t = Tree.row 6 (led 0x65 t)
 
 abbrev pub composite_tree : CompositeType → Tree
-composite_tree ty = composite_parts ty.inner ty.shared ty.descriptor_idx ty.describes_idx
+composite_tree ty =
+    shared_composite_tree ty.shared (describing_tree ty.describes_idx (described_tree ty.descriptor_idx (inner_tree ty.inner)))
 
--- the composite type, where it is final and has no supertypes
-abbrev pub sub_parts : Bool → List UnpackedIndex → CompositeType → Tree
-sub_parts true [] ty = composite_tree ty
-sub_parts _ _ ty = no_reading
+-- ---- subtypes and groups
+
+-- supertypes behind their number
+abbrev pub supertypes_tree : List UnpackedIndex → Tree
+supertypes_tree supertypes = vector_tree (map type_index supertypes)
+
+-- a final type without supertypes is spelled as its composite type alone
+abbrev pub sub_parts : Bool → List UnpackedIndex → Tree → Tree
+sub_parts true [] t = t
+sub_parts true (i ∷ is) t = Tree.row 7 (led 0x4f (Tree.pair (supertypes_tree (i ∷ is)) t))
+sub_parts false is t = Tree.row 8 (led 0x50 (Tree.pair (supertypes_tree is) t))
 
 abbrev pub sub_type_tree : SubType → Tree
-sub_type_tree ty = sub_parts ty.is_final ty.supertype_idxs ty.composite_type
+sub_type_tree ty = sub_parts ty.is_final ty.supertype_idxs (composite_tree ty.composite_type)
 
--- the one type, where the group is not explicit
+-- a group that is not explicit holds one type, and is spelled as that type alone
 abbrev pub group_parts : Bool → List SubType → Tree
-group_parts false (ty ∷ []) = sub_type_tree ty
-group_parts _ _ = no_reading
+group_parts true types = Tree.row 9 (led 0x4e (vector_tree (map sub_type_tree types)))
+group_parts false (ty ∷ types) = sub_type_tree ty
+group_parts false [] = Tree.nil
 
 abbrev pub group_tree : RecGroup → Tree
 group_tree group = group_parts group.explicit group.types
@@ -79,9 +184,14 @@ group_tree group = group_parts group.explicit group.types
 abbrev pub function_tree : ℕ → Tree
 function_tree i = Tree.ix space.Type_ i
 
+-- what is exported, of a kind and by its index: an exact function stands for what a function stands for
 abbrev pub item_tree : ExternalKind → ℕ → Tree
-item_tree external.Func i = Tree.row 0 (Tree.pair (Tree.fixed 0x00) (Tree.ix space.Function i))
-item_tree _ i = no_reading
+item_tree external.Func i = Tree.row 0 (led 0x00 (Tree.ix space.Function i))
+item_tree external.FuncExact i = Tree.row 0 (led 0x00 (Tree.ix space.Function i))
+item_tree external.Table i = Tree.row 1 (led 0x01 (Tree.ix space.Table i))
+item_tree external.Memory i = Tree.row 2 (led 0x02 (Tree.ix space.Memory i))
+item_tree external.Global i = Tree.row 3 (led 0x03 (Tree.ix space.Global i))
+item_tree external.Tag i = Tree.row 4 (led 0x04 (Tree.ix space.Tag i))
 
 abbrev pub export_tree : Export → Tree
 export_tree row = Tree.pair (Tree.name row.name.now) (item_tree row.kind row.index)
