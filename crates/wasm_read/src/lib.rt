@@ -1,10 +1,16 @@
 //! Readers of a core module. They borrow the bytes, and copy none of them.
 #![tactic(auto)]
 
+mod code;
+#[cfg(test)]
+mod code_tests;
+mod entries;
 mod expressions;
 mod fields;
 mod groups;
+mod immediates;
 mod names;
+mod operators;
 mod payloads;
 mod rows;
 mod sections;
@@ -12,10 +18,12 @@ mod sections;
 mod tests;
 mod types;
 
+pub use code::CodeSectionReader;
 pub use expressions::ConstExpr;
 pub use fields::{front_name, read_item, read_name, read_val_type};
 pub use groups::read_group;
 pub use names::{IndirectNameMap, NameMap};
+pub use operators::{Operator, OperatorsReader};
 pub use payloads::Payloads;
 pub use sections::{ExportSectionReader, FunctionSectionReader, TypeSectionReader};
 pub use types::{

@@ -85,7 +85,7 @@ impl<'a> Payloads<'a> {
 }
 
 /// The body at the front of some bytes, behind its size, and the bytes behind it.
-fn front_sized(bytes: &[u8]) -> Option<(&[u8], &[u8])>
+pub fn front_sized(bytes: &[u8]) -> Option<(&[u8], &[u8])>
     ensures some { IfSome result (λ r. Begins (Shape.sized Shape.rest) bytes.now (Tree.sized (Tree.raw r.0.now)) r.1.now) }
     ensures none { IfNone result (BeginsNone (Shape.sized Shape.rest) bytes.now) }
 {

@@ -1,6 +1,7 @@
 use crate::{
     CompositeInnerType, CustomSection, Export, ExportSectionReader, ExternalKind,
-    FunctionSectionReader, Payload, Payloads, TypeSectionReader, UnpackedIndex, ValType, read_name,
+    FunctionSectionReader, Payload, Payloads, TypeSectionReader, UnpackedIndex, ValType,
+    read_group, read_item, read_name, read_val_type,
 };
 use std::alloc::AllocError;
 use wasm_leb::{Fault, Kind, ReadError};
@@ -168,7 +169,7 @@ fn types(rt: HostRuntime) {
 }
 
 #[test]
-fn names(rt: HostRuntime) {
+fn fields(rt: HostRuntime) {
     for (bytes, at, want) in [
         (&[0x07u8, 0x01, 0x66] as &[u8], 1, Ok(("f", 3))),
         (&[0x02, 0xc3, 0xa9, 0x00], 0, Ok(("é", 3))),
@@ -180,6 +181,12 @@ fn names(rt: HostRuntime) {
     ] {
         assert_eq!(rt; read_name(bytes, at), want, "of {bytes:?}");
     }
+    assert_eq!(rt; read_val_type(&[0x60, 0x7e], 1), Ok((ValType::I64, 2)));
+    assert_eq!(rt;
+        read_item(&[0x00, 0xac, 0x02], 0),
+        Ok((ExternalKind::Func, 300, 3))
+    );
+    assert!(rt; matches!(read_group(rt.alloc(), &ADDS, 11), Ok((_, 17))));
     assert_eq!(rt; UnpackedIndex::Module(3).as_module_index(), Some(3));
     assert_eq!(rt; UnpackedIndex::RecGroup(3).as_module_index(), None);
 }

@@ -1,0 +1,145 @@
+-- Immediates of some kinds, one by one.
+use Rattle.std.proofs.Common.{◌≡◌, ℕ, zero, suc, get_or, List, [], ◌∷◌, ◌++◌, ◌<◌, ◌+◌, length, length-append, true, refl, sym, ap, ◌∙◌, append_assoc, append-nil, arith, ◌^◌, Some, subst, Bool, false, ◌&&◌, nat_le, if◌then◌else◌}
+use Rattle.std.proofs.lemmas.Bool.{lt-ltb}
+use Rattle.wasm_shapes.specs.declared.ImmKind.{ImmKind}
+use Rattle.wasm_shapes.specs.declared.ImmKind.TheVariants as kind
+use Rattle.wasm_shapes.specs.Operators.{Code, plain, prefixed, Operators, look_up, one_byte_operators, prefixed_operators, kinds_among}
+use Rattle.wasm_shapes.specs.Tree.{Tree}
+use Rattle.wasm_shapes.specs.Shape.{Shape, closed, shape_of_kind, shape_of_kinds}
+use Rattle.wasm_shapes.specs.Sound.{sound}
+use Rattle.wasm_shapes.specs.Spells.{Is, Spelled}
+use Rattle.wasm_shapes.specs.Place.{Begins, BeginsNone}
+use Rattle.wasm_shapes.proofs.Begins.{begins_empty, begins_byte, at_byte, begins_seq, none_seq_first, none_seq_second}
+use Rattle.wasm_shapes.proofs.Lists.{both}
+use Rattle.wasm_read.specs.declared.types.Imm.{Imm}
+use Rattle.wasm_read.specs.Immediates.{AreOf, imm_tree, imms_tree, kind_of_imm, is_counted}
+use Rattle.wasm_read.specs.Operations.{is_core_kind, AreCore}
+
+-- no spelling of an immediate begins another of its kind
+kind_sound : (k : ImmKind) → (sound (shape_of_kind k) ≡ true) × (closed (shape_of_kind k) ≡ true)
+kind_sound kind.Block = (refl, refl)
+kind_sound _ = (refl, refl)
+
+-- The immediates so far, and any of the kinds that are due behind them, are those of all the kinds; and there are none of
+-- all the kinds where none of those that are due begin behind them.
+pub record ImmsSoFar (kinds : List ImmKind) (bytes : List ℕ) (imms : List Imm) (due : List ImmKind) (rest : List ℕ) : Type 0 where
+  pub begins : (others : List Imm) (left : List ℕ) → Begins (shape_of_kinds due) rest (imms_tree others) left →
+      Begins (shape_of_kinds kinds) bytes (imms_tree (imms ++ others)) left
+  pub kinded : (others : List Imm) → AreOf due others → AreOf kinds (imms ++ others)
+  pub stuck : BeginsNone (shape_of_kinds due) rest → BeginsNone (shape_of_kinds kinds) bytes
+
+pub no_imms_yet : (kinds : List ImmKind) (bytes : List ℕ) → ImmsSoFar kinds bytes [] kinds bytes
+no_imms_yet kinds bytes = record { begins = λ others left p. p; kinded = λ others p. p; stuck = λ none. none }
+
+-- a kind is due, and others behind it
+so_far_of : {kinds due others : List ImmKind} {bytes rest : List ℕ} {imms : List Imm} {k : ImmKind} → due ≡ k ∷ others → ImmsSoFar kinds bytes imms due rest →
+    ImmsSoFar kinds bytes imms (k ∷ others) rest
+so_far_of {kinds = kinds} {bytes = bytes} {rest = rest} {imms = imms} e so_far =
+    let S : List ImmKind → Type 0 = λ ds. ImmsSoFar kinds bytes imms ds rest in subst S e so_far
+
+pub one_imm_more : {kinds due others : List ImmKind} {bytes rest left : List ℕ} (imms : List Imm) (k : ImmKind) (m : Imm) → due ≡ k ∷ others →
+    ImmsSoFar kinds bytes imms due rest → Begins (shape_of_kind k) rest (imm_tree m) left → kind_of_imm m ≡ Some k →
+    ImmsSoFar kinds bytes (imms ++ m ∷ []) others left
+one_imm_more imms k m e before there same =
+    let so_far = so_far_of e before in
+    record {
+      begins = λ others left p. rw (append_assoc imms (m ∷ []) others) (so_far.begins (m ∷ others) left (begins_seq there p));
+      kinded = λ others p. rw (append_assoc imms (m ∷ []) others) (so_far.kinded (m ∷ others) (same, p));
+      stuck = λ none. so_far.stuck (none_seq_second (kind_sound k).0 (kind_sound k).1 there none);
+    }
+
+pub no_imm : {kinds due others : List ImmKind} {bytes rest : List ℕ} {imms : List Imm} {k : ImmKind} → due ≡ k ∷ others → ImmsSoFar kinds bytes imms due rest →
+    BeginsNone (shape_of_kind k) rest → BeginsNone (shape_of_kinds kinds) bytes
+no_imm e so_far none = (so_far_of e so_far).stuck (none_seq_first none)
+
+-- none is due
+pub imms_ended : {kinds due : List ImmKind} {bytes rest : List ℕ} (imms : List Imm) → due ≡ [] → ImmsSoFar kinds bytes imms due rest →
+    Begins (shape_of_kinds kinds) bytes (imms_tree imms) rest × AreOf kinds imms
+imms_ended {kinds = kinds} {bytes = bytes} {rest = rest} imms e before =
+    let S : List ImmKind → Type 0 = λ ds. ImmsSoFar kinds bytes imms ds rest in
+    let so_far : ImmsSoFar kinds bytes imms [] rest = subst S e before in
+    let whole = so_far.begins [] rest begins_empty in
+    let fit = so_far.kinded [] tt in
+    (rw (append-nil imms) at whole, rw (append-nil imms) at fit)
+
+pub core_of : {due others : List ImmKind} {k : ImmKind} → due ≡ k ∷ others → AreCore due → (is_core_kind k ≡ true) × AreCore others
+core_of e p = subst AreCore e p
+
+-- ---- the rows of the tables
+
+abbrev are_core : List ImmKind → Bool
+are_core [] = true
+are_core (k ∷ ks) = is_core_kind k && are_core ks
+
+abbrev rows_are_core : List Operators → Bool
+rows_are_core [] = true
+rows_are_core (o ∷ os) = are_core o.kinds && rows_are_core os
+
+are_core_sound : (ks : List ImmKind) → are_core ks ≡ true → AreCore ks
+are_core_sound [] e = tt
+are_core_sound (k ∷ ks) e = let parts : (is_core_kind k ≡ true) × (are_core ks ≡ true) = both _ _ e in (parts.0, are_core_sound ks parts.1)
+
+row_core : (os : List Operators) (n : ℕ) (ks : List ImmKind) → rows_are_core os ≡ true → look_up os n ≡ Some ks → AreCore ks
+row_core [] n ks k e = absurd cc
+row_core (o ∷ os) n ks k e =
+    let parts : (are_core o.kinds ≡ true) × (rows_are_core os ≡ true) = both _ _ k in
+    go (nat_le o.from n && nat_le n o.to) parts.0 e (row_core os n ks parts.1)
+  where
+    go : (p : Bool) → are_core o.kinds ≡ true → (if p then Some o.kinds else look_up os n) ≡ Some ks → (look_up os n ≡ Some ks → AreCore ks) → AreCore ks
+    go true h e others = let same : o.kinds ≡ ks = cc in subst AreCore same (are_core_sound o.kinds h)
+    go false h e others = others e
+
+prefixed_core : (p : ℕ) → rows_are_core (prefixed_operators p) ≡ true
+prefixed_core p = refl
+
+-- no row has an index of a space that core modules do not have
+pub kinds_core : (c : Code) (ks : List ImmKind) → kinds_among true c ≡ Some ks → AreCore ks
+kinds_core (plain b) ks e = row_core (one_byte_operators true) b ks refl e
+kinds_core (prefixed p n) ks e = row_core (prefixed_operators p) n ks (prefixed_core p) e
+
+-- ---- single kinds
+
+pub begins_zero : {b : ℕ} {bytes left : List ℕ} → bytes ≡ b ∷ left → b ≡ 0 → Begins (Shape.fixed 0) bytes (Tree.fixed 0) left
+begins_zero here is = begins_byte (at_byte here is)
+
+pub begins_lane : {b : ℕ} {bytes left : List ℕ} → b < 256 → bytes ≡ b ∷ left → Begins Shape.byte bytes (Tree.byte b) left
+begins_lane {b = b} small e = record { text = b ∷ []; spells = record { shaped = Is.byte; spelled = (refl, small) }; reads = e }
+
+pub begins_bytes : {n : ℕ} {bytes text left : List ℕ} → bytes ≡ text ++ left → length text ≡ n → Begins (Shape.bytes n) bytes (Tree.raw text) left
+begins_bytes {text = text} e l = record { text = text; spells = record { shaped = Is.bytes l; spelled = refl }; reads = e }
+
+pub none_bytes : {n : ℕ} {bytes : List ℕ} → length bytes < n → BeginsNone (Shape.bytes n) bytes
+none_bytes {n = n} {bytes = bytes} short = record { none = λ text left tree p e. go text left tree p.shaped p.spelled e }
+  where
+    go : (text left : List ℕ) (tree : Tree) → Is (Shape.bytes n) tree → Spelled tree text → bytes ≡ text ++ left → ⊥
+    go text left tree (Is.bytes {bs = bs} l) p e =
+        let same : text ≡ bs = p in
+        let long : length text ≡ length bs = ap length same in
+        let parts : length bytes ≡ length text + length left = ap length e ∙ length-append text left in
+        omega arith
+
+-- what holds of each byte holds of those at the front
+pub bytes_fit : (bytes text left : List ℕ) → bytes ≡ text ++ left → ((i : ℕ) → get_or bytes i 0 < 256) → (i : ℕ) → get_or text i 0 < 256
+bytes_fit bytes [] left e fits i = omega arith
+bytes_fit [] (b ∷ text) left e fits i = absurd cc
+bytes_fit (a ∷ bytes) (b ∷ text) left e fits zero = let same : a ≡ b = cc in let first = fits 0 in omega arith
+bytes_fit (a ∷ bytes) (b ∷ text) left e fits (suc i) =
+    let others : (k : ℕ) → get_or bytes k 0 < 256 = λ k. fits (suc k) in
+    let behind : bytes ≡ text ++ left = cc in
+    bytes_fit bytes text left behind others i
+
+pub same_bytes : {n : ℕ} {bytes text other left : List ℕ} → other ≡ text → Begins (Shape.bytes n) bytes (Tree.raw text) left →
+    Begins (Shape.bytes n) bytes (Tree.raw other) left
+same_bytes {n = n} {bytes = bytes} {left = left} e p = let B : List ℕ → Type 0 = λ z. Begins (Shape.bytes n) bytes (Tree.raw z) left in subst B (sym e) p
+
+pub raw_reads : {n : ℕ} {bytes text left : List ℕ} → Begins (Shape.bytes n) bytes (Tree.raw text) left → bytes ≡ text ++ left
+raw_reads {text = text} {left = left} p = let same : p.text ≡ text = p.spells.spelled in p.reads ∙ ap (λ (z : List ℕ). z ++ left) same
+
+-- ---- lists whose count has a spelling
+
+counted_test : (n : ℕ) → n < 2 ^ 32 → is_counted n ≡ true
+counted_test n small = lt-ltb n (2 ^ 32) small
+
+-- what stands for a list with such a count
+pub counted_tree : (n : ℕ) (t u : Tree) → n < 2 ^ 32 → (if is_counted n then t else u) ≡ t
+counted_tree n t u small = rw (counted_test n small) refl

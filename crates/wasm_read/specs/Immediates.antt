@@ -1,0 +1,159 @@
+-- What immediates stand for, and their kinds (WebAssembly Core Specification 3.0, section 5.4).
+use Rattle.std.specs.Prelude.{◌≡◌, ℕ, ◌^◌, Bool, true, false, nat_lt, nat_eq, if◌then◌else◌, List, [], ◌∷◌, length, map, Option, Some, None}
+use Rattle.std.specs.Int.{to_le_bytes, w32, w64}
+use Rattle.wasm_shapes.specs.declared.Space.{Space}
+use Rattle.wasm_shapes.specs.declared.Space.TheVariants as space
+use Rattle.wasm_shapes.specs.declared.ImmKind.{ImmKind}
+use Rattle.wasm_shapes.specs.declared.ImmKind.TheVariants as kind
+use Rattle.wasm_shapes.specs.declared.Opcode.{Opcode}
+use Rattle.wasm_shapes.specs.Operators.{kinds_of, code_of}
+use Rattle.wasm_shapes.specs.Tree.{Tree}
+use Rattle.wasm_shapes.specs.Shape.{Shape, choice, lead}
+use Rattle.wasm_shapes.specs.Rows.{rows_then}
+use Rattle.wasm_read.specs.declared.types.Imm.{Imm}
+use Rattle.wasm_read.specs.declared.types.Imm.TheVariants as imm
+use Rattle.wasm_read.specs.declared.types.Catch.{Catch}
+use Rattle.wasm_read.specs.declared.types.Catch.TheVariants as catch
+use Rattle.wasm_read.specs.declared.types.Handle.{Handle}
+use Rattle.wasm_read.specs.declared.types.Handle.TheVariants as handle
+use Rattle.wasm_read.specs.declared.types.ValType.{ValType}
+use Rattle.wasm_read.specs.Types.{val_type_tree, val_types_tree, no_reading}
+
+-- ---- kinds
+
+-- the spaces of core modules
+abbrev pub is_core : Space → Bool
+is_core space.Data = true
+is_core space.Element = true
+is_core space.Function = true
+is_core space.Global = true
+is_core space.Memory = true
+is_core space.Table = true
+is_core space.Tag = true
+is_core space.Type_ = true
+is_core _ = false
+
+-- a list whose count has a spelling
+abbrev pub is_counted : ℕ → Bool
+is_counted n = nat_lt n (2 ^ 32)
+
+-- The kind of an immediate. An index of a space that no core module has, sixteen bytes that are not sixteen, and a list
+-- whose count has no spelling have none.
+abbrev pub kind_of_imm : Imm → Option ImmKind
+kind_of_imm (imm.Block b) = Some kind.Block
+kind_of_imm (imm.Label i) = Some kind.Label
+kind_of_imm (imm.Labels targets default) = if is_counted (length targets) then Some kind.Labels else None
+kind_of_imm (imm.Index s i) = if is_core s then Some (kind.Index s) else None
+kind_of_imm (imm.Local i) = Some kind.Local
+kind_of_imm (imm.Field i) = Some kind.Field
+kind_of_imm (imm.Size n) = Some kind.Size
+kind_of_imm (imm.Types ts) = if is_counted (length ts) then Some kind.Types else None
+kind_of_imm (imm.Mem m) = Some kind.Mem
+kind_of_imm (imm.S32 z) = Some kind.S32
+kind_of_imm (imm.S64 z) = Some kind.S64
+kind_of_imm (imm.Four b) = Some kind.Four
+kind_of_imm (imm.Eight b) = Some kind.Eight
+kind_of_imm (imm.Sixteen b) = if nat_eq (length b.now) 16 then Some kind.Sixteen else None
+kind_of_imm (imm.Lanes b) = if nat_eq (length b.now) 16 then Some kind.Lanes else None
+kind_of_imm (imm.Lane b) = Some kind.Lane
+kind_of_imm (imm.Heap h) = Some kind.Heap
+kind_of_imm (imm.Catches cs) = if is_counted (length cs) then Some kind.Catches else None
+kind_of_imm (imm.Cast label from to) = Some kind.Cast
+kind_of_imm (imm.Handlers hs) = if is_counted (length hs) then Some kind.Handlers else None
+kind_of_imm imm.Zero = Some kind.Zero
+
+-- the immediates have these kinds, one by one
+abbrev pub AreOf : List ImmKind → List Imm → Type 0
+AreOf [] [] = Unit {0}
+AreOf (k ∷ ks) (m ∷ ms) = (kind_of_imm m ≡ Some k) × AreOf ks ms
+AreOf _ _ = ⊥
+
+abbrev pub AreOfRow : Option (List ImmKind) → List Imm → Type 0
+AreOfRow (Some ks) ms = AreOf ks ms
+AreOfRow None ms = ⊥
+
+-- they are the immediates of the opcode
+abbrev pub FitOpcode : Opcode → List Imm → Type 0
+FitOpcode op ms = AreOfRow (kinds_of op) ms
+
+-- ---- trees
+
+abbrev pub vector_tree : List Tree → Tree
+vector_tree ts = Tree.vec (rows_then ts Tree.nil)
+
+-- a tag and a label
+abbrev pub tagged_label : Shape
+tagged_label = Shape.seq (Shape.ix space.Tag) Shape.u32
+
+abbrev pub tagged_label_tree : ℕ → ℕ → Tree
+tagged_label_tree tag label = Tree.pair (Tree.ix space.Tag tag) (Tree.u32 label)
+
+-- what a block catches: the rows of `Catches`
+abbrev pub catch_row : Shape
+catch_row = choice (lead 0x00 tagged_label ∷ lead 0x01 tagged_label ∷ lead 0x02 Shape.u32 ∷ lead 0x03 Shape.u32 ∷ [])
+
+abbrev pub catch_tree : Catch → Tree
+catch_tree (catch.One tag label) = Tree.row 0 (Tree.pair (Tree.fixed 0x00) (tagged_label_tree tag label))
+catch_tree (catch.OneRef tag label) = Tree.row 1 (Tree.pair (Tree.fixed 0x01) (tagged_label_tree tag label))
+catch_tree (catch.All label) = Tree.row 2 (Tree.pair (Tree.fixed 0x02) (Tree.u32 label))
+catch_tree (catch.AllRef label) = Tree.row 3 (Tree.pair (Tree.fixed 0x03) (Tree.u32 label))
+
+-- how a tag is handled: the rows of `Handlers`
+abbrev pub handle_row : Shape
+handle_row = choice (lead 0x00 tagged_label ∷ lead 0x01 (Shape.ix space.Tag) ∷ [])
+
+abbrev pub handle_tree : Handle → Tree
+handle_tree (handle.OnLabel tag label) = Tree.row 0 (Tree.pair (Tree.fixed 0x00) (tagged_label_tree tag label))
+handle_tree (handle.OnSwitch tag) = Tree.row 1 (Tree.pair (Tree.fixed 0x01) (Tree.ix space.Tag tag))
+
+-- What an immediate stands for. One that has no kind stands for nothing, and so do block types, heap types and casts
+-- until their tables come.
+abbrev pub imm_tree : Imm → Tree
+imm_tree (imm.Label i) = Tree.u32 i
+imm_tree (imm.Labels targets default) =
+    if is_counted (length targets) then Tree.pair (vector_tree (map Tree.u32 targets)) (Tree.u32 default) else no_reading
+imm_tree (imm.Index s i) = if is_core s then Tree.ix s i else no_reading
+imm_tree (imm.Local i) = Tree.u32 i
+imm_tree (imm.Field i) = Tree.u32 i
+imm_tree (imm.Size n) = Tree.u32 n
+imm_tree (imm.Types ts) = if is_counted (length ts) then val_types_tree ts else no_reading
+imm_tree (imm.Mem m) = Tree.mem m.align m.memory m.offset
+imm_tree (imm.S32 z) = Tree.s32 z
+imm_tree (imm.S64 z) = Tree.s64 z
+imm_tree (imm.Four b) = Tree.raw (to_le_bytes w32 b.0)
+imm_tree (imm.Eight b) = Tree.raw (to_le_bytes w64 b.0)
+imm_tree (imm.Sixteen b) = if nat_eq (length b.now) 16 then Tree.raw b.now else no_reading
+imm_tree (imm.Lanes b) = if nat_eq (length b.now) 16 then Tree.raw b.now else no_reading
+imm_tree (imm.Lane b) = Tree.byte b
+imm_tree (imm.Catches cs) = if is_counted (length cs) then vector_tree (map catch_tree cs) else no_reading
+imm_tree (imm.Handlers hs) = if is_counted (length hs) then vector_tree (map handle_tree hs) else no_reading
+imm_tree imm.Zero = Tree.fixed 0x00
+imm_tree _ = no_reading
+
+-- immediates one behind another
+abbrev pub imms_tree : List Imm → Tree
+imms_tree [] = Tree.empty
+imms_tree (m ∷ ms) = Tree.pair (imm_tree m) (imms_tree ms)
+
+-- ---- locals
+
+-- so many locals of a type
+abbrev pub local_tree : ℕ × ValType → Tree
+local_tree l = Tree.pair (Tree.u32 l.0) (val_type_tree l.1)
+
+abbrev pub locals_tree : List (ℕ × ValType) → Tree
+locals_tree ls = vector_tree (map local_tree ls)
+
+-- ---- operators
+
+-- an operator as contracts see it
+pub record Operation : Type 0 where
+  pub opcode : Opcode
+  pub imms : List Imm
+
+abbrev pub operation : Opcode → List Imm → Operation
+operation op ms = record { opcode = op; imms = ms }
+
+-- what an operator stands for
+abbrev pub operator_tree : Operation → Tree
+operator_tree o = Tree.op (code_of o.opcode) (imms_tree o.imms)

@@ -1,0 +1,247 @@
+//! Vectors at the front of some bytes.
+ghost use Rattle.std.specs.Prelude.{◌≡◌, ◌^◌, ◌<◌, List, true, refl, map, length, IfOk, IfSome, IfNone};
+ghost use Rattle.wasm_shapes.specs.Module.{local_row};
+ghost use Rattle.wasm_shapes.specs.Place.{Begins, BeginsNone};
+ghost use Rattle.wasm_shapes.specs.Rows.{rows_then};
+ghost use Rattle.wasm_shapes.specs.Shape.{Shape, Named, closed};
+ghost use Rattle.wasm_shapes.specs.Sound.{sound};
+ghost use Rattle.wasm_shapes.specs.Tree.{Tree};
+ghost use Rattle.wasm_read.specs.Types.{val_type_tree};
+ghost use Rattle.wasm_read.specs.Immediates.{local_tree, tagged_label, tagged_label_tree};
+
+use crate::fields::front_val_type;
+use crate::types::{Catch, Handle, ValType};
+use std::alloc::Global;
+use wasm_leb::{List, NoMemory, front_byte, front_u32};
+
+/// What stands in a vector.
+pub trait Entry {
+    ghost shape: { Shape };
+
+    ghost tree: { Self → Tree };
+
+    /// The entry at the front of some bytes, and the bytes behind it.
+    fn front(bytes: &[u8]) -> Option<(Self, &[u8])>
+        ensures some { IfSome result (λ r. Begins shape bytes.now (tree r.0) r.1.now) }
+        ensures none { IfNone result (BeginsNone shape bytes.now) };
+
+    /// How many entries can stand in so many bytes.
+    fn most(bytes: usize) -> usize;
+
+    ghost is_sound: { sound shape ≡ true };
+
+    ghost is_closed: { closed shape ≡ true };
+}
+
+/// An index that is no index of a space, as that of a label.
+impl Entry for u32 {
+    ghost shape = { Shape.u32 };
+
+    ghost tree = { Tree.u32 };
+
+    ghost is_sound = { refl };
+
+    ghost is_closed = { refl };
+
+    fn front(bytes: &[u8]) -> Option<(u32, &[u8])> {
+        match front_u32(bytes) {
+            Some((index, rest)) => Some((index, rest)),
+            None => None,
+        }
+    }
+
+    fn most(bytes: usize) -> usize {
+        bytes
+    }
+}
+
+impl Entry for ValType {
+    ghost shape = { Shape.ref Named.value };
+
+    ghost tree = { val_type_tree };
+
+    ghost is_sound = { refl };
+
+    ghost is_closed = { refl };
+
+    fn front(bytes: &[u8]) -> Option<(ValType, &[u8])> {
+        front_val_type(bytes)
+    }
+
+    fn most(bytes: usize) -> usize {
+        bytes
+    }
+}
+
+/// So many locals of a type.
+impl Entry for (u32, ValType) {
+    ghost shape = { local_row };
+
+    ghost tree = { local_tree };
+
+    ghost is_sound = { refl };
+
+    ghost is_closed = { refl };
+
+    fn front(bytes: &[u8]) -> Option<((u32, ValType), &[u8])> {
+        let Some((count, rest)) = front_u32(bytes) else {
+            return None;
+        };
+        match front_val_type(rest) {
+            Some((ty, rest)) => Some(((count, ty), rest)),
+            None => None,
+        }
+    }
+
+    fn most(bytes: usize) -> usize {
+        bytes / 2
+    }
+}
+
+impl Entry for Catch {
+    ghost use Rattle.std.specs.Prelude.{refl};
+    ghost use Rattle.wasm_read.specs.Immediates.{catch_row, catch_tree};
+
+    ghost shape = { catch_row };
+
+    ghost tree = { catch_tree };
+
+    ghost is_sound = { refl };
+
+    ghost is_closed = { refl };
+
+    fn front(bytes: &[u8]) -> Option<(Catch, &[u8])> {
+        let Some((first, rest)) = front_byte(bytes) else {
+            return None;
+        };
+        match first {
+            0x00 => match front_tag_and_label(rest) {
+                Some((tag, label, rest)) => Some((Catch::One { tag, label }, rest)),
+                None => None,
+            },
+            0x01 => match front_tag_and_label(rest) {
+                Some((tag, label, rest)) => Some((Catch::OneRef { tag, label }, rest)),
+                None => None,
+            },
+            0x02 => match front_u32(rest) {
+                Some((label, rest)) => Some((Catch::All { label }, rest)),
+                None => None,
+            },
+            0x03 => match front_u32(rest) {
+                Some((label, rest)) => Some((Catch::AllRef { label }, rest)),
+                None => None,
+            },
+            _ => None,
+        }
+    }
+
+    fn most(bytes: usize) -> usize {
+        bytes / 2
+    }
+}
+
+impl Entry for Handle {
+    ghost use Rattle.std.specs.Prelude.{refl};
+    ghost use Rattle.wasm_read.specs.Immediates.{handle_row, handle_tree};
+
+    ghost shape = { handle_row };
+
+    ghost tree = { handle_tree };
+
+    ghost is_sound = { refl };
+
+    ghost is_closed = { refl };
+
+    fn front(bytes: &[u8]) -> Option<(Handle, &[u8])> {
+        let Some((first, rest)) = front_byte(bytes) else {
+            return None;
+        };
+        match first {
+            0x00 => match front_tag_and_label(rest) {
+                Some((tag, label, rest)) => Some((Handle::OnLabel { tag, label }, rest)),
+                None => None,
+            },
+            0x01 => match front_u32(rest) {
+                Some((tag, rest)) => Some((Handle::OnSwitch { tag }, rest)),
+                None => None,
+            },
+            _ => None,
+        }
+    }
+
+    fn most(bytes: usize) -> usize {
+        bytes / 2
+    }
+}
+
+/// A tag and a label at the front of some bytes, and the bytes behind them.
+fn front_tag_and_label(bytes: &[u8]) -> Option<(u32, u32, &[u8])>
+    ensures some { IfSome result (λ r. Begins tagged_label bytes.now (tagged_label_tree r.0 r.1) r.2.now) }
+    ensures none { IfNone result (BeginsNone tagged_label bytes.now) }
+{
+    let Some((tag, rest)) = front_u32(bytes) else {
+        return None;
+    };
+    match front_u32(rest) {
+        Some((label, rest)) => Some((tag, label, rest)),
+        None => None,
+    }
+}
+
+/// The vector of entries at the front of some bytes, and the bytes behind it. Memory is taken for no more entries than
+/// the bytes can hold.
+pub fn front_vec<T: Entry + Drop>(
+    alloc: Global,
+    bytes: &[u8],
+) -> Result<Option<(List<T>, &[u8])>, NoMemory>
+    ensures some { IfOk result (λ o. IfSome o (λ r. Begins (Shape.vec T.shape) bytes.now (Tree.vec (rows_then (map T.tree r.0) Tree.nil)) r.1.now)) }
+    ensures counted { IfOk result (λ o. IfSome o (λ r. length r.0 < 2 ^ 32)) }
+    ensures none { IfOk result (λ o. IfNone o (BeginsNone (Shape.vec T.shape) bytes.now)) }
+{
+    let Some((count, start)) = front_u32(bytes) else {
+        return Ok(None);
+    };
+    let most = T::most(start.len()).min(count as usize);
+    let mut entries = match List::with_capacity(alloc, most) {
+        Ok(entries) => entries,
+        Err(NoMemory) => return Err(NoMemory),
+    };
+    let mut rest = start;
+    let mut left = count;
+    'entries: while left > 0 {
+        match T::front(rest) {
+            Some((entry, behind)) => {
+                match entries.push(entry) {
+                    Ok(()) => {}
+                    Err(NoMemory) => return Err(NoMemory),
+                }
+                rest = behind;
+                left -= 1;
+            }
+            None => return Ok(None),
+        }
+    }
+    Ok(Some((entries, rest)))
+}
+
+/// The bytes behind the vector of entries at the front of some bytes.
+pub fn behind_vec<T: Entry + Drop>(bytes: &[u8]) -> Option<&[u8]>
+    ensures some { IfSome result (λ r. (t : Tree) × Begins (Shape.vec T.shape) bytes.now t r.now) }
+    ensures none { IfNone result (BeginsNone (Shape.vec T.shape) bytes.now) }
+{
+    let Some((count, start)) = front_u32(bytes) else {
+        return None;
+    };
+    let mut rest = start;
+    let mut left = count;
+    'entries: while left > 0 {
+        match T::front(rest) {
+            Some((_, behind)) => {
+                rest = behind;
+                left -= 1;
+            }
+            None => return None,
+        }
+    }
+    Some(rest)
+}
