@@ -115,3 +115,7 @@ OnOk-of (Err e) p = tt
 -- what was added is taken away again
 pub cut_back : {n : ℕ} {new : List ℕ} (old text : List ℕ) → n ≡ length old → new ≡ old ++ text → take n new ≡ old
 cut_back {n = n} {new = new} old text l e = rw (l, e) (take-append_seam old text)
+
+pub OnOk-map : {A E : Type 0} {P Q : Type 0} (r : Result A E) → OnOk r P → (P → Q) → OnOk r Q
+OnOk-map (Ok a) p f = f p
+OnOk-map (Err e) p f = tt

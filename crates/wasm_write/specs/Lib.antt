@@ -1,5 +1,7 @@
+pub mod Counts
 pub mod Faults
 pub mod Held
+pub mod Instructions
 pub mod Rows
 pub mod Sections
 pub mod Types

@@ -49,3 +49,11 @@ data_count_tree n = Tree.ix space.DataCount n
 -- a name, and bytes
 abbrev pub custom_tree : List ℕ → List ℕ → Tree
 custom_tree name contents = Tree.pair (Tree.name name) (Tree.raw contents)
+
+-- ---- types
+
+abbrev pub full_group_row : Shape
+full_group_row = Shape.ref Named.full_group
+
+pub groups_sound : sound (Shape.many full_group_row) ≡ true
+groups_sound = refl

@@ -6,24 +6,34 @@ mod expressions;
 mod fault;
 mod fields;
 mod functions;
+mod groups;
+mod immediates;
+mod instructions;
 mod module;
 mod names;
 mod section;
+mod type_section;
 mod types;
+mod types_write;
 mod values;
+mod vectors;
 
 pub use exports::ExportSection;
 pub use expressions::ConstExpr;
 pub use fault::WriteFault;
 pub use fields::{write_item, write_name};
 pub use functions::FunctionSection;
+pub use groups::write_group;
+pub use instructions::Instruction;
 pub use module::Module;
 pub use names::{IndirectNameMap, NameMap};
 pub use section::Section;
+pub use type_section::TypeSection;
 pub use types::{
     AbstractHeapType, ArrayType, BlockType, Catch, CompositeInnerType, CompositeType, ContType,
     CustomSection, Elements, EntityType, ExportKind, FieldType, FuncType, GlobalType, Handle,
     HeapType, Ieee32, Ieee64, Imm, Import, Imports, MemArg, MemoryType, Ordering, RecGroup, RefType,
     StorageType, StructType, SubType, TableType, TagKind, TagType, ValType,
 };
+pub use types_write::write_val_type;
 pub use values::{DataCountSection, RawSection, StartSection};

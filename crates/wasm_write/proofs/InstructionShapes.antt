@@ -1,0 +1,247 @@
+-- The trees of instructions have the shapes of their rows, and no frames.
+use Rattle.std.specs.Prelude.{IsSome}
+use Rattle.std.specs.Coded.{Coded-set, coded_bool, le_prop}
+use Rattle.std.proofs.Common.{◌≡◌, ℕ, zero, suc, ◌+◌, ◌<◌, ◌≤◌, ◌-◌, ◌^◌, Bool, true, false, ◌&&◌, nat_le, nat_lt, nat_eq, if◌then◌else◌, List, [], ◌∷◌, ◌++◌, length, map, Option, Some, None, refl, sym, ap, ap₂, ◌∙◌, subst, arith, All}
+use Rattle.std.proofs.lemmas.Bool.{leb-true, ltb-true, eqb-true}
+use Rattle.std.proofs.lemmas.List.Elements.{All-cons}
+use mathlib.Core.HLevel.{Π_prop}
+use mathlib.Core.Logic.{∥∥₁_elim, ∥∥₁_map}
+use Rattle.wasm_shapes.specs.declared.Space.{Space}
+use Rattle.wasm_shapes.specs.declared.Space.TheVariants as space
+use Rattle.wasm_shapes.specs.declared.ImmKind.{ImmKind}
+use Rattle.wasm_shapes.specs.declared.ImmKind.TheVariants as kind
+use Rattle.wasm_shapes.specs.declared.Opcode.{Opcode}
+use Rattle.wasm_shapes.specs.Operators.{Code, plain, prefixed, code_from, code_of, is_prefix, is_code, Operators, look_up, one_byte_operators, prefixed_operators, plain_operators, kinds_among, kinds_of}
+use Rattle.wasm_shapes.specs.Tree.{Tree, normal, frames}
+use Rattle.wasm_shapes.specs.Shape.{Shape, Named, shape_of_kind, shape_of_kinds, shape_of_row, immediates}
+use Rattle.wasm_shapes.specs.Spells.{Is, Spells}
+use Rattle.wasm_shapes.specs.Fits.{InRange, CodeInRange}
+use Rattle.wasm_shapes.proofs.Lists.{both}
+use Rattle.wasm_shapes.proofs.ReadBack.{read_back}
+use Rattle.wasm_write.specs.declared.types.BlockType.{BlockType}
+use Rattle.wasm_write.specs.declared.types.BlockType.TheVariants as block
+use Rattle.wasm_write.specs.declared.types.Catch.{Catch}
+use Rattle.wasm_write.specs.declared.types.Catch.TheVariants as catch
+use Rattle.wasm_write.specs.declared.types.Handle.{Handle}
+use Rattle.wasm_write.specs.declared.types.Handle.TheVariants as handle
+use Rattle.wasm_write.specs.declared.types.Imm.{Imm}
+use Rattle.wasm_write.specs.declared.types.Imm.TheVariants as imm
+use Rattle.wasm_write.specs.Held.{rows_tree, body_tree}
+use Rattle.wasm_write.specs.Instructions.{if_few, if_sixteen, index_kind, imm_kind, HasKinds, Parts, block_type_tree, label_tree, catch_tree, handle_tree, imm_tree, imms_tree, instruction_tree}
+use Rattle.wasm_write.proofs.TypeShapes.{items_are, items_frameless, frameless_fits, heap_frameless, value_frameless}
+
+-- ---- the tables of operators
+
+-- all rows pass a test
+abbrev each : (Operators → Bool) → List Operators → Bool
+each test [] = true
+each test (o ∷ os) = test o && each test os
+
+-- the row that was looked up
+record Found (os : List Operators) (n : ℕ) (kinds : List ImmKind) : Type 0 where
+  row : Operators
+  among : (test : Operators → Bool) → each test os ≡ true → test row ≡ true
+  below : n ≤ row.to
+  same : row.kinds ≡ kinds
+
+found : (os : List Operators) (n : ℕ) (kinds : List ImmKind) → look_up os n ≡ Some kinds → Found os n kinds
+found [] n kinds e = absurd cc
+found (o ∷ os) n kinds e = go (nat_le o.from n && nat_le n o.to) refl e (found os n kinds)
+  where
+    go : (b : Bool) → (nat_le o.from n && nat_le n o.to) ≡ b → (if b then Some o.kinds else look_up os n) ≡ Some kinds →
+        (look_up os n ≡ Some kinds → Found os n kinds) → Found (o ∷ os) n kinds
+    go true inside is others = record {
+      row = o;
+      among = λ test all. (both (test o) (each test os) all).0;
+      below = leb-true n o.to (both (nat_le o.from n) (nat_le n o.to) inside).1;
+      same = cc;
+    }
+    go false inside is others = further (others is)
+      where
+        further : Found os n kinds → Found (o ∷ os) n kinds
+        further f = record {
+          row = f.row;
+          among = λ test all. f.among test (both (test o) (each test os) all).1;
+          below = f.below;
+          same = f.same;
+        }
+
+-- the numbers of a row are below those of prefixes
+abbrev below_prefixes : Operators → Bool
+below_prefixes o = nat_lt o.to 0xfb
+
+-- kinds whose shapes have all their rows
+abbrev settled : ImmKind → Bool
+settled kind.Block = false
+settled kind.Types = false
+settled kind.Heap = false
+settled kind.Cast = false
+settled _ = true
+
+abbrev all_settled : List ImmKind → Bool
+all_settled [] = true
+all_settled (k ∷ ks) = settled k && all_settled ks
+
+abbrev settled_row : Operators → Bool
+settled_row o = all_settled o.kinds
+
+plain_small : (n : ℕ) (kinds : List ImmKind) → look_up (one_byte_operators true) n ≡ Some kinds → n < 0xfb
+plain_small n kinds e =
+    let f = found (one_byte_operators true) n kinds e in
+    let top : f.row.to < 0xfb = ltb-true f.row.to 0xfb (f.among below_prefixes refl) in
+    omega (arith, f.below)
+
+kinds_settled : (c : Code) (kinds : List ImmKind) → kinds_among true c ≡ Some kinds → all_settled kinds ≡ true
+kinds_settled (plain n) kinds e =
+    let f = found (one_byte_operators true) n kinds e in
+    ap all_settled (sym f.same) ∙ f.among settled_row refl
+kinds_settled (prefixed p n) kinds e =
+    let f = found (prefixed_operators p) n kinds e in
+    ap all_settled (sym f.same) ∙ f.among settled_row refl
+
+small_no_prefix : (n : ℕ) → n < 0xfb → (b : Bool) → nat_le 0xfb n ≡ b → (b && nat_le n 0xfe) ≡ false
+small_no_prefix n h true e = absurd (omega (arith, leb-true 0xfb n e))
+small_no_prefix n h false e = refl
+
+code_is : (c : Code) (kinds : List ImmKind) → kinds_among true c ≡ Some kinds → is_code c ≡ true
+code_is (plain n) kinds e = rw (small_no_prefix n (plain_small n kinds e) (nat_le 0xfb n) refl) refl
+code_is (prefixed p n) kinds e = absurd cc
+
+-- a one-byte operator is a byte
+pub opcode_byte : (op : Opcode) (imms : List Imm) → HasKinds op imms → op.prefix ≡ 0 → op.sub < 256
+opcode_byte op imms h none = go op.prefix none h.row
+  where
+    go : (p : ℕ) → p ≡ 0 → kinds_among true (code_from p op.sub) ≡ Some h.kinds → op.sub < 256
+    go zero e row = let small : op.sub < 0xfb = plain_small op.sub h.kinds row in omega arith
+    go (suc p) e row = absurd (omega arith)
+
+pub opcode_byte_of : (op : Opcode) (imms : List Imm) → ∥ HasKinds op imms ∥₁ → op.prefix ≡ 0 → op.sub < 256
+opcode_byte_of op imms h none = ∥∥₁_elim h le_prop (λ k. opcode_byte op imms k none)
+
+-- each immediate has a kind
+kinds_each : (imms : List Imm) (kinds : List ImmKind) → map imm_kind imms ≡ map Some kinds → All (λ i. IsSome (imm_kind i)) imms
+kinds_each [] kinds e = λ k d h. absurd (omega arith)
+kinds_each (i ∷ imms) [] e = absurd cc
+kinds_each (i ∷ imms) (k ∷ kinds) e =
+    let one : imm_kind i ≡ Some k = cc in
+    let others : map imm_kind imms ≡ map Some kinds = cc in
+    All-cons (λ j. IsSome (imm_kind j)) i imms (rw one refl) (kinds_each imms kinds others)
+
+pub kinds_each_of : (op : Opcode) (imms : List Imm) → ∥ HasKinds op imms ∥₁ → All (λ i. IsSome (imm_kind i)) imms
+kinds_each_of op imms h =
+    ∥∥₁_elim h (Π_prop (λ k. Π_prop (λ d. Π_prop (λ l. Coded-set coded_bool _ _)))) (λ p. kinds_each imms p.kinds p.same)
+
+-- ---- immediates
+
+catch_is : (c : Catch) → Is (Shape.or (Shape.seq (Shape.fixed 0) (Shape.seq (Shape.ix space.Tag) Shape.u32)) (Shape.or (Shape.seq (Shape.fixed 1) (Shape.seq (Shape.ix space.Tag) Shape.u32))
+    (Shape.or (Shape.seq (Shape.fixed 2) Shape.u32) (Shape.or (Shape.seq (Shape.fixed 3) Shape.u32) Shape.none)))) (catch_tree c)
+catch_is (catch.One tag label) = Is.first (Is.seq Is.fixed (Is.seq Is.ix Is.u32))
+catch_is (catch.OneRef tag label) = Is.later {k = 0} (Is.first (Is.seq Is.fixed (Is.seq Is.ix Is.u32)))
+catch_is (catch.All label) = Is.later {k = 1} (Is.later {k = 0} (Is.first (Is.seq Is.fixed Is.u32)))
+catch_is (catch.AllRef label) = Is.later {k = 2} (Is.later {k = 1} (Is.later {k = 0} (Is.first (Is.seq Is.fixed Is.u32))))
+
+handle_is : (h : Handle) → Is (Shape.or (Shape.seq (Shape.fixed 0) (Shape.seq (Shape.ix space.Tag) Shape.u32)) (Shape.or (Shape.seq (Shape.fixed 1) (Shape.ix space.Tag)) Shape.none)) (handle_tree h)
+handle_is (handle.OnLabel tag label) = Is.first (Is.seq Is.fixed (Is.seq Is.ix Is.u32))
+handle_is (handle.OnSwitch tag) = Is.later {k = 0} (Is.first (Is.seq Is.fixed Is.ix))
+
+few_is : (n : ℕ) (j k : ImmKind) → if_few n j ≡ Some k → j ≡ k
+few_is n j k e = go (nat_lt n (2 ^ 32)) e
+  where
+    go : (b : Bool) → (if b then Some j else None) ≡ Some k → j ≡ k
+    go true is = cc
+    go false is = absurd cc
+
+sixteen_is : (bs : List ℕ) (j k : ImmKind) → if_sixteen bs j ≡ Some k → (j ≡ k) × (length bs ≡ 16)
+sixteen_is bs j k e = go (nat_eq (length bs) 16) refl e
+  where
+    go : (b : Bool) → nat_eq (length bs) 16 ≡ b → (if b then Some j else None) ≡ Some k → (j ≡ k) × (length bs ≡ 16)
+    go true same is = (cc, eqb-true (length bs) 16 same)
+    go false same is = absurd cc
+
+index_is : (s : Space) (i : ℕ) (k : ImmKind) → index_kind s ≡ Some k → Is (shape_of_kind k) (Tree.ix s i)
+index_is space.Data i k e = let P : ImmKind → Type 0 = λ j. Is (shape_of_kind j) (Tree.ix space.Data i) in let same : kind.Index space.Data ≡ k = cc in subst P same Is.ix
+index_is space.Element i k e = let P : ImmKind → Type 0 = λ j. Is (shape_of_kind j) (Tree.ix space.Element i) in let same : kind.Index space.Element ≡ k = cc in subst P same Is.ix
+index_is space.Function i k e = let P : ImmKind → Type 0 = λ j. Is (shape_of_kind j) (Tree.ix space.Function i) in let same : kind.Index space.Function ≡ k = cc in subst P same Is.ix
+index_is space.Global i k e = let P : ImmKind → Type 0 = λ j. Is (shape_of_kind j) (Tree.ix space.Global i) in let same : kind.Index space.Global ≡ k = cc in subst P same Is.ix
+index_is space.Memory i k e = let P : ImmKind → Type 0 = λ j. Is (shape_of_kind j) (Tree.ix space.Memory i) in let same : kind.Index space.Memory ≡ k = cc in subst P same Is.ix
+index_is space.Table i k e = let P : ImmKind → Type 0 = λ j. Is (shape_of_kind j) (Tree.ix space.Table i) in let same : kind.Index space.Table ≡ k = cc in subst P same Is.ix
+index_is space.Tag i k e = let P : ImmKind → Type 0 = λ j. Is (shape_of_kind j) (Tree.ix space.Tag i) in let same : kind.Index space.Tag ≡ k = cc in subst P same Is.ix
+index_is space.Type_ i k e = let P : ImmKind → Type 0 = λ j. Is (shape_of_kind j) (Tree.ix space.Type_ i) in let same : kind.Index space.Type_ ≡ k = cc in subst P same Is.ix
+index_is _ i k e = absurd cc
+
+-- an immediate of a kind has its shape
+imm_is : (i : Imm) (k : ImmKind) → imm_kind i ≡ Some k → settled k ≡ true → Is (shape_of_kind k) (imm_tree i)
+imm_is (imm.Block ty) k e s = let same : kind.Block ≡ k = cc in let no : false ≡ true = rw (← same) at s in absurd cc
+imm_is (imm.Label n) k e s = let P : ImmKind → Type 0 = λ j. Is (shape_of_kind j) (imm_tree (imm.Label n)) in let same : kind.Label ≡ k = cc in subst P same (Is.u32)
+imm_is (imm.Labels targets default) k e s = let P : ImmKind → Type 0 = λ j. Is (shape_of_kind j) (imm_tree (imm.Labels targets default)) in subst P (few_is (length targets) kind.Labels k e) (Is.seq (Is.vec (items_are Shape.u32 label_tree (λ n. Is.u32) targets)) Is.u32)
+imm_is (imm.Index x i) k e s = index_is x i k e
+imm_is (imm.Local n) k e s = let P : ImmKind → Type 0 = λ j. Is (shape_of_kind j) (imm_tree (imm.Local n)) in let same : kind.Local ≡ k = cc in subst P same (Is.u32)
+imm_is (imm.Field n) k e s = let P : ImmKind → Type 0 = λ j. Is (shape_of_kind j) (imm_tree (imm.Field n)) in let same : kind.Field ≡ k = cc in subst P same (Is.u32)
+imm_is (imm.Size n) k e s = let P : ImmKind → Type 0 = λ j. Is (shape_of_kind j) (imm_tree (imm.Size n)) in let same : kind.Size ≡ k = cc in subst P same (Is.u32)
+imm_is (imm.Types types) k e s = let same : kind.Types ≡ k = few_is (length types) kind.Types k e in let no : false ≡ true = rw (← same) at s in absurd cc
+imm_is (imm.Mem m) k e s = let P : ImmKind → Type 0 = λ j. Is (shape_of_kind j) (imm_tree (imm.Mem m)) in let same : kind.Mem ≡ k = cc in subst P same (Is.mem)
+imm_is (imm.S32 z) k e s = let P : ImmKind → Type 0 = λ j. Is (shape_of_kind j) (imm_tree (imm.S32 z)) in let same : kind.S32 ≡ k = cc in subst P same (Is.s32)
+imm_is (imm.S64 z) k e s = let P : ImmKind → Type 0 = λ j. Is (shape_of_kind j) (imm_tree (imm.S64 z)) in let same : kind.S64 ≡ k = cc in subst P same (Is.s64)
+imm_is (imm.Four bits) k e s = let P : ImmKind → Type 0 = λ j. Is (shape_of_kind j) (imm_tree (imm.Four bits)) in let same : kind.Four ≡ k = cc in subst P same (Is.bytes refl)
+imm_is (imm.Eight bits) k e s = let P : ImmKind → Type 0 = λ j. Is (shape_of_kind j) (imm_tree (imm.Eight bits)) in let same : kind.Eight ≡ k = cc in subst P same (Is.bytes refl)
+imm_is (imm.Sixteen bs) k e s = let P : ImmKind → Type 0 = λ j. Is (shape_of_kind j) (Tree.raw bs.now) in let same = sixteen_is bs.now kind.Sixteen k e in subst P same.0 (Is.bytes same.1)
+imm_is (imm.Lanes bs) k e s = let P : ImmKind → Type 0 = λ j. Is (shape_of_kind j) (Tree.raw bs.now) in let same = sixteen_is bs.now kind.Lanes k e in subst P same.0 (Is.bytes same.1)
+imm_is (imm.Lane b) k e s = let P : ImmKind → Type 0 = λ j. Is (shape_of_kind j) (imm_tree (imm.Lane b)) in let same : kind.Lane ≡ k = cc in subst P same (Is.byte)
+imm_is (imm.Heap ty) k e s = let same : kind.Heap ≡ k = cc in let no : false ≡ true = rw (← same) at s in absurd cc
+imm_is (imm.Catches catches) k e s = let P : ImmKind → Type 0 = λ j. Is (shape_of_kind j) (imm_tree (imm.Catches catches)) in subst P (few_is (length catches) kind.Catches k e) (Is.vec (items_are _ catch_tree catch_is catches))
+imm_is (imm.Cast label from to) k e s = let same : kind.Cast ≡ k = cc in let no : false ≡ true = rw (← same) at s in absurd cc
+imm_is (imm.Handlers handlers) k e s = let P : ImmKind → Type 0 = λ j. Is (shape_of_kind j) (imm_tree (imm.Handlers handlers)) in subst P (few_is (length handlers) kind.Handlers k e) (Is.vec (items_are _ handle_tree handle_is handlers))
+imm_is imm.Zero k e s = let P : ImmKind → Type 0 = λ j. Is (shape_of_kind j) (imm_tree imm.Zero) in let same : kind.Zero ≡ k = cc in subst P same (Is.fixed)
+
+imms_are : (imms : List Imm) (kinds : List ImmKind) → map imm_kind imms ≡ map Some kinds → all_settled kinds ≡ true → Is (shape_of_kinds kinds) (imms_tree imms)
+imms_are [] [] e s = Is.empty
+imms_are [] (k ∷ kinds) e s = absurd cc
+imms_are (i ∷ imms) [] e s = absurd cc
+imms_are (i ∷ imms) (k ∷ kinds) e s =
+    let one : imm_kind i ≡ Some k = cc in
+    let others : map imm_kind imms ≡ map Some kinds = cc in
+    let parts = both (settled k) (all_settled kinds) s in
+    Is.seq (imm_is i k one parts.0) (imms_are imms kinds others parts.1)
+
+instruction_is : (i : Parts) → HasKinds i.opcode i.imms → Is (Shape.op true) (instruction_tree i)
+instruction_is i h =
+    let P : Option (List ImmKind) → Type 0 = λ o. Is (shape_of_row o) (imms_tree i.imms) in
+    Is.op (code_is (code_of i.opcode) h.kinds h.row)
+    (subst P (sym h.row) (imms_are i.imms h.kinds h.same (kinds_settled (code_of i.opcode) h.kinds h.row)))
+
+-- ---- frames
+
+block_frameless : (ty : BlockType) → frames (block_type_tree ty) ≡ []
+block_frameless (block.Result ty) = value_frameless ty
+block_frameless _ = refl
+
+catch_frameless : (c : Catch) → frames (catch_tree c) ≡ []
+catch_frameless (catch.One tag label) = refl
+catch_frameless _ = refl
+
+handle_frameless : (h : Handle) → frames (handle_tree h) ≡ []
+handle_frameless (handle.OnLabel tag label) = refl
+handle_frameless _ = refl
+
+imm_frameless : (i : Imm) → frames (imm_tree i) ≡ []
+imm_frameless (imm.Block ty) = block_frameless ty
+imm_frameless (imm.Labels targets default) = ap (λ (z : List ℕ). z ++ []) (items_frameless label_tree (λ n. refl) targets)
+imm_frameless (imm.Types types) = items_frameless _ value_frameless types
+imm_frameless (imm.Heap ty) = heap_frameless ty
+imm_frameless (imm.Catches catches) = items_frameless catch_tree catch_frameless catches
+imm_frameless (imm.Cast label from to) = ap₂ (λ (y z : List ℕ). y ++ z) (heap_frameless from.heap_type) (heap_frameless to.heap_type)
+imm_frameless (imm.Handlers handlers) = items_frameless handle_tree handle_frameless handlers
+imm_frameless _ = refl
+
+imms_frameless : (imms : List Imm) → frames (imms_tree imms) ≡ []
+imms_frameless [] = refl
+imms_frameless (i ∷ imms) = ap₂ (λ (y z : List ℕ). y ++ z) (imm_frameless i) (imms_frameless imms)
+
+-- ---- what is in range spells an instruction
+
+pub instruction_spelled : (i : Parts) → HasKinds i.opcode i.imms → CodeInRange (code_of i.opcode) → InRange (imms_tree i.imms) →
+    Spells (Shape.op true) (normal (instruction_tree i)) (instruction_tree i)
+instruction_spelled i h c r = record {
+  shaped = instruction_is i h;
+  spelled = read_back (instruction_tree i) (c, r) (frameless_fits (instruction_tree i) (imms_frameless i.imms));
+}

@@ -1,0 +1,41 @@
+use Rattle.std.proofs.Common.{◌≡◌, ◌+◌, ◌-◌, ◌<◌, ◌^◌, ◌++◌, ◌∷◌, [], ap, ◌∙◌, arith, length}
+use Rattle.wasm_write.specs.Counts.{counts, IsTooLarge}
+use Rattle.wasm_write.specs.Rows.{groups_sound}
+use Rattle.wasm_write.specs.Types.{group_tree}
+use Rattle.wasm_write.proofs.Holding.{held_length, held_grown, held_grown_is, held_same_is, cut_back}
+use Rattle.wasm_write.proofs.Items.{large_left, large_last}
+use Rattle.wasm_write.proofs.TypeShapes.{group_spelled}
+use Rattle.wasm_write.proofs.type_section.TypeSection.group.Goals as goal
+
+pub returns-in-Err-clause-err : goal.returns-in-Err-clause-err
+returns-in-Err-clause-err c =
+    held_same_is c.self.inside.held groups_sound _ (c.truncate.ensures.items ∙ rw c.len-len.ensures c.in-Err.ensures.err) ∙ c.self.view_is
+
+pub returns-in-Err-clause-large : goal.returns-in-Err-clause-large
+returns-in-Err-clause-large c = large_left c.in-Err.fault (counts (group_tree c.args.group.now)) _ c.in-Err.ensures.large
+
+pub returns-then-self-clause-err : goal.returns-then-self-clause-err
+returns-then-self-clause-err c =
+    held_same_is c.self.inside.held groups_sound _ (c.truncate-then-self.ensures.items
+    ∙ cut_back _ _ (c.len-len.ensures ∙ c.self.inside.bytes.ok.0) c.in-Ok.ensures.ok) ∙ c.self.view_is
+
+pub returns-then-self-clause-large : goal.returns-then-self-clause-large
+returns-then-self-clause-large c =
+    let n = held_length c.self.inside.held in
+    rw (← c.self.view_is) (large_last (counts (group_tree c.args.group.now)) (omega (arith, n)) (omega arith))
+
+pub invariant_of-self-inside-2 : goal.invariant_of-self-inside-2
+invariant_of-self-inside-2 c =
+    (held_grown c.self.inside.held (group_tree c.args.group.now) c.in-Ok.ensures.ok
+    (group_spelled c.args.group.now c.in-Ok.ensures.in_range), tt)
+
+pub returns-clause-ok : goal.returns-clause-ok
+returns-clause-ok c =
+    let t = group_tree c.args.group.now in
+    held_grown_is c.self.inside.held t groups_sound _ c.in-Ok.ensures.ok (group_spelled c.args.group.now c.in-Ok.ensures.in_range)
+    ∙ ap (λ l. l ++ t ∷ []) c.self.view_is
+
+pub returns-clause-fits : goal.returns-clause-fits
+returns-clause-fits c =
+    let n = held_length c.self.inside.held in
+    rw (← c.self.view_is) (omega (arith, n))

@@ -1,0 +1,147 @@
+-- The trees that instructions stand for (WebAssembly Core Specification 3.0, section 5.4).
+use Rattle.std.specs.Prelude.{◌≡◌, ℕ, ◌+◌, ◌<◌, ◌^◌, Bool, true, false, List, [], ◌∷◌, length, map, Option, Some, None, nat_lt, nat_eq, if◌then◌else◌}
+use Rattle.std.specs.Int.{to_le_bytes, w32, w64}
+use Rattle.wasm_shapes.specs.declared.Space.{Space}
+use Rattle.wasm_shapes.specs.declared.Space.TheVariants as space
+use Rattle.wasm_shapes.specs.declared.ImmKind.{ImmKind}
+use Rattle.wasm_shapes.specs.declared.ImmKind.TheVariants as kind
+use Rattle.wasm_shapes.specs.declared.Opcode.{Opcode}
+use Rattle.wasm_shapes.specs.Operators.{kinds_of, code_of}
+use Rattle.wasm_shapes.specs.Tree.{Tree}
+use Rattle.wasm_write.specs.declared.types.RefType.{RefType}
+use Rattle.wasm_write.specs.declared.types.BlockType.{BlockType}
+use Rattle.wasm_write.specs.declared.types.BlockType.TheVariants as block
+use Rattle.wasm_write.specs.declared.types.Catch.{Catch}
+use Rattle.wasm_write.specs.declared.types.Catch.TheVariants as catch
+use Rattle.wasm_write.specs.declared.types.Handle.{Handle}
+use Rattle.wasm_write.specs.declared.types.Handle.TheVariants as handle
+use Rattle.wasm_write.specs.declared.types.Imm.{Imm}
+use Rattle.wasm_write.specs.declared.types.Imm.TheVariants as imm
+use Rattle.wasm_write.specs.Held.{body_tree}
+use Rattle.wasm_write.specs.Types.{led, signed_index, heap_type_tree, val_type_tree, val_types_tree}
+
+-- ---- kinds
+
+-- the kind, where so many items can be counted
+abbrev pub if_few : ℕ → ImmKind → Option ImmKind
+if_few n k = if nat_lt n (2 ^ 32) then Some k else None
+
+-- the kind, where there are 16 bytes
+abbrev pub if_sixteen : List ℕ → ImmKind → Option ImmKind
+if_sixteen bs k = if nat_eq (length bs) 16 then Some k else None
+
+-- the kind of an index, where its space is one of a core module
+abbrev pub index_kind : Space → Option ImmKind
+index_kind space.Data = Some (kind.Index space.Data)
+index_kind space.Element = Some (kind.Index space.Element)
+index_kind space.Function = Some (kind.Index space.Function)
+index_kind space.Global = Some (kind.Index space.Global)
+index_kind space.Memory = Some (kind.Index space.Memory)
+index_kind space.Table = Some (kind.Index space.Table)
+index_kind space.Tag = Some (kind.Index space.Tag)
+index_kind space.Type_ = Some (kind.Index space.Type_)
+index_kind _ = None
+
+-- the kind of an immediate, where it has one
+abbrev pub imm_kind : Imm → Option ImmKind
+imm_kind (imm.Block ty) = Some kind.Block
+imm_kind (imm.Label label) = Some kind.Label
+imm_kind (imm.Labels targets default) = if_few (length targets) kind.Labels
+imm_kind (imm.Index s i) = index_kind s
+imm_kind (imm.Local i) = Some kind.Local
+imm_kind (imm.Field i) = Some kind.Field
+imm_kind (imm.Size n) = Some kind.Size
+imm_kind (imm.Types types) = if_few (length types) kind.Types
+imm_kind (imm.Mem m) = Some kind.Mem
+imm_kind (imm.S32 z) = Some kind.S32
+imm_kind (imm.S64 z) = Some kind.S64
+imm_kind (imm.Four bits) = Some kind.Four
+imm_kind (imm.Eight bits) = Some kind.Eight
+imm_kind (imm.Sixteen bs) = if_sixteen bs.now kind.Sixteen
+imm_kind (imm.Lanes bs) = if_sixteen bs.now kind.Lanes
+imm_kind (imm.Lane b) = Some kind.Lane
+imm_kind (imm.Heap ty) = Some kind.Heap
+imm_kind (imm.Catches catches) = if_few (length catches) kind.Catches
+imm_kind (imm.Cast label from to) = Some kind.Cast
+imm_kind (imm.Handlers handlers) = if_few (length handlers) kind.Handlers
+imm_kind imm.Zero = Some kind.Zero
+
+-- the opcode has a row, and the immediates have its kinds
+pub record HasKinds (opcode : Opcode) (imms : List Imm) : Type 0 where
+  pub kinds : List ImmKind
+  pub row : kinds_of opcode ≡ Some kinds
+  pub same : map imm_kind imms ≡ map Some kinds
+
+-- an opcode and its immediates
+pub record Parts : Type 0 where
+  pub opcode : Opcode
+  pub imms : List Imm
+
+-- ---- trees
+
+abbrev pub block_type_tree : BlockType → Tree
+block_type_tree block.Empty = Tree.row 0 (Tree.fixed 0x40)
+block_type_tree (block.Result ty) = Tree.row 1 (val_type_tree ty)
+block_type_tree (block.FunctionType i) = Tree.row 2 (signed_index i)
+
+abbrev pub label_tree : ℕ → Tree
+label_tree n = Tree.u32 n
+
+abbrev pub catch_tree : Catch → Tree
+catch_tree (catch.One tag label) = Tree.row 0 (led 0x00 (Tree.pair (Tree.ix space.Tag tag) (Tree.u32 label)))
+catch_tree (catch.OneRef tag label) = Tree.row 1 (led 0x01 (Tree.pair (Tree.ix space.Tag tag) (Tree.u32 label)))
+catch_tree (catch.All label) = Tree.row 2 (led 0x02 (Tree.u32 label))
+catch_tree (catch.AllRef label) = Tree.row 3 (led 0x03 (Tree.u32 label))
+
+abbrev pub handle_tree : Handle → Tree
+handle_tree (handle.OnLabel tag label) = Tree.row 0 (led 0x00 (Tree.pair (Tree.ix space.Tag tag) (Tree.u32 label)))
+handle_tree (handle.OnSwitch tag) = Tree.row 1 (led 0x01 (Tree.ix space.Tag tag))
+
+-- bit 0 says that the first reference may be null, and bit 1 that the second may
+abbrev pub cast_flags : Bool → Bool → ℕ
+cast_flags false false = 0
+cast_flags true false = 1
+cast_flags false true = 2
+cast_flags true true = 3
+
+-- labels and the default one
+abbrev pub targets_tree : List ℕ → ℕ → Tree
+targets_tree targets default = Tree.pair (body_tree (map label_tree targets)) (Tree.u32 default)
+
+-- the flags, the label and the heap types of a cast
+abbrev pub cast_tree : ℕ → RefType → RefType → Tree
+cast_tree label from to =
+    Tree.pair (Tree.byte (cast_flags from.nullable to.nullable))
+    (Tree.pair (Tree.u32 label) (Tree.pair (heap_type_tree from.heap_type) (heap_type_tree to.heap_type)))
+
+abbrev pub imm_tree : Imm → Tree
+imm_tree (imm.Block ty) = block_type_tree ty
+imm_tree (imm.Label label) = Tree.u32 label
+imm_tree (imm.Labels targets default) = targets_tree targets default
+imm_tree (imm.Index s i) = Tree.ix s i
+imm_tree (imm.Local i) = Tree.u32 i
+imm_tree (imm.Field i) = Tree.u32 i
+imm_tree (imm.Size n) = Tree.u32 n
+imm_tree (imm.Types types) = val_types_tree types
+imm_tree (imm.Mem m) = Tree.mem m.align m.memory m.offset
+imm_tree (imm.S32 z) = Tree.s32 z
+imm_tree (imm.S64 z) = Tree.s64 z
+imm_tree (imm.Four bits) = Tree.raw (to_le_bytes w32 bits.0)
+imm_tree (imm.Eight bits) = Tree.raw (to_le_bytes w64 bits.0)
+imm_tree (imm.Sixteen bs) = Tree.raw bs.now
+imm_tree (imm.Lanes bs) = Tree.raw bs.now
+imm_tree (imm.Lane b) = Tree.byte b
+imm_tree (imm.Heap ty) = heap_type_tree ty
+imm_tree (imm.Catches catches) = body_tree (map catch_tree catches)
+imm_tree (imm.Cast label from to) = cast_tree label from to
+imm_tree (imm.Handlers handlers) = body_tree (map handle_tree handlers)
+imm_tree imm.Zero = Tree.fixed 0x00
+
+-- immediates one behind another
+abbrev pub imms_tree : List Imm → Tree
+imms_tree [] = Tree.empty
+imms_tree (i ∷ is) = Tree.pair (imm_tree i) (imms_tree is)
+
+-- the operator with its immediates
+abbrev pub instruction_tree : Parts → Tree
+instruction_tree i = Tree.op (code_of i.opcode) (imms_tree i.imms)
