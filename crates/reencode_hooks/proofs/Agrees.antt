@@ -1,5 +1,5 @@
 -- A walk is what happens on it, one moment after another, with the answers filled in.
-use Rattle.std.proofs.Common.{◌≡◌, ℕ, zero, suc, ◌+◌, ◌≤◌, List, [], ◌∷◌, ◌++◌, length, length-append, drop, get_or, Option, Some, None, Bool, true, false, nat_le, if◌then◌else◌, refl, sym, ap, ◌∙◌, subst, append_assoc, append-nil, arith}
+use Rattle.std.proofs.Common.{◌≡◌, ℕ, suc, ◌+◌, ◌≤◌, List, [], ◌∷◌, ◌++◌, length, length-append, drop, get_or, Option, Some, None, Bool, true, false, nat_le, if◌then◌else◌, refl, sym, ap, ◌∙◌, append_assoc, append-nil, arith}
 use Rattle.std.specs.Prelude.{map}
 use Rattle.std.specs.Prelude.{take}
 use Rattle.std.proofs.Math.Seq.{drop-append_seam}
@@ -8,7 +8,7 @@ use Rattle.wasm_shapes.specs.declared.SectionId.{SectionId}
 use Rattle.wasm_shapes.specs.declared.Space.TheVariants as space
 use Rattle.wasm_shapes.specs.declared.Visit.{Visit}
 use Rattle.wasm_shapes.specs.declared.Visit.TheVariants.{Index, Outer, Section, Push, Pop}
-use Rattle.wasm_shapes.specs.Tree.{Tree, normal, before, kind, visits, visits_from, fill, after, aimed_at}
+use Rattle.wasm_shapes.specs.Tree.{Tree, normal, before, kind, visits_from, fill, aimed_at}
 use Rattle.reencode_hooks.specs.declared.error.Error.{Error}
 use Rattle.reencode_hooks.specs.declared.error.Error.TheVariants.{TooLarge, CanonicalizedHeapTypeReference}
 use Rattle.reencode_hooks.specs.Run.{Step, accepted, refused, and_then, run, answers, then_answers}
@@ -32,7 +32,7 @@ and_then-and_then (refused e s) f g = refl
 
 -- ---- moments side by side
 
-asked_in-append : (xs ys : List Moment) → asked_in (xs ++ ys) ≡ asked_in xs ++ asked_in ys
+pub asked_in-append : (xs ys : List Moment) → asked_in (xs ++ ys) ≡ asked_in xs ++ asked_in ys
 asked_in-append [] ys = refl
 asked_in-append (asks v ∷ xs) ys = ap (λ (z : List Visit). v ∷ z) (asked_in-append xs ys)
 asked_in-append (closes n ∷ xs) ys = asked_in-append xs ys
@@ -166,11 +166,11 @@ module _ {S E : Type 0} (asked : S → Visit → Step S (Error E) ℕ) (c : ℕ)
       let back : length (drop (length V1) a) ≡ length V2 = rw (length-drop (length V1) a) (omega arith) in
       let whole = take-append-drop (length V1) a in
       let first : F1 (a ++ more) ≡ F1 a =
-          ap (λ (z : List ℕ). F1 (z ++ more)) (sym whole)
-          ∙ ap F1 (append_assoc (take n a) (drop n a) more)
-          ∙ p (take n a) (drop n a ++ more) front
-          ∙ sym (p (take n a) (drop n a) front)
-          ∙ ap F1 whole in
+      ap (λ (z : List ℕ). F1 (z ++ more)) (sym whole)
+      ∙ ap F1 (append_assoc (take n a) (drop n a) more)
+      ∙ p (take n a) (drop n a ++ more) front
+      ∙ sym (p (take n a) (drop n a) front)
+      ∙ ap F1 whole in
       rw (first, drop-append-le (length V1) a more fits) (q (F1 a) (drop (length V1) a) more back)
 
   agrees_bind : {X Y : Type 0} {V1 V2 : List Visit} {W1 : S → Step S (Error E) X} {M1 : List ℕ → List Moment} {F1 : List ℕ → X}
@@ -201,7 +201,7 @@ module _ {S E : Type 0} (asked : S → Visit → Step S (Error E) ℕ) (c : ℕ)
           let counted : length a ≡ length V1 = run_length s V1 h in
           let own : drop (length V1) (a ++ rest) ≡ rest = rw (← counted) (drop-append_seam a rest) in
           let first : W1 s ≡ and_then (passed asked c s (M1 (a ++ rest))) (λ a m. accepted (F1 a) m) =
-              p.same s rest ∙ rw (answers_all s V1 a k h) refl in
+          p.same s rest ∙ rw (answers_all s V1 a k h) refl in
           let P = passed asked c s (M1 (a ++ rest)) in
           rw (all, own, first, passed-append s (M1 (a ++ rest)) (M2 rest))
           (both_refused P F1 W2 _ (λ b m hp. after_first s k more a h counted b m (same_run (M1 (a ++ rest)) s (p.visits_are (a ++ rest)) h hp))
@@ -273,8 +273,8 @@ module _ {S E : Type 0} (asked : S → Visit → Step S (Error E) ℕ) (c : ℕ)
           let filled : F B ≡ F a = ap (λ (z : List ℕ). F (z ++ more)) (answers_all s V a k h) ∙ p.steady a more counted in
           rw (p.same s more, passed-append s (M B) (closes (length (normal (F B))) ∷ []))
           (both_refused P F (λ u m. closed c u m) _ (λ b m hp.
-              let e = same_run (M B) s (p.visits_are B) h hp in
-              rw (filled, e.0) (tested (nat_le (length (normal (F a))) c) (length (normal (F a))) a m))
+          let e = same_run (M B) s (p.visits_are B) h hp in
+          rw (filled, e.0) (tested (nat_le (length (normal (F a))) c) (length (normal (F a))) a m))
           ∙ sym (and_then-and_then P (λ a m. last (length (normal (F B))) a m) fin))
       go s more (refused e k) h =
           let B = answers asked s V ++ more in

@@ -1,1 +1,6 @@
 pub mod Agrees
+pub mod Moments
+pub mod Walks
+pub mod Tables
+pub mod Frames
+pub mod Rows

@@ -3,3 +3,9 @@ pub mod Run
 pub mod Walk
 pub mod Moments
 pub mod Hooks
+pub mod Laws
+pub mod Rows
+pub mod Frames
+pub mod Tables
+pub mod Renamings
+pub mod Renamed

@@ -1,13 +1,13 @@
 -- What happens on a walk over a tree, in order: visits, frames that close, and indices that are lost.
-use Rattle.std.specs.Prelude.{◌≡◌, ◌<◌, ◌≤◌, ◌++◌, ℕ, List, [], ◌∷◌, length, drop, map, nat_le, Option, Some, None, if◌then◌else◌}
+use Rattle.std.specs.Prelude.{◌≡◌, ◌<◌, ◌≤◌, ◌++◌, ℕ, List, [], ◌∷◌, length, drop, map, nat_le, All, Option, None, if◌then◌else◌}
 use Rattle.wasm_shapes.specs.declared.SectionId.{SectionId}
 use Rattle.wasm_shapes.specs.declared.Space.TheVariants as space
 use Rattle.wasm_shapes.specs.declared.Visit.{Visit}
 use Rattle.wasm_shapes.specs.declared.Visit.TheVariants.{Index, Outer, Section, Push, Pop}
-use Rattle.wasm_shapes.specs.Tree.{Tree, normal, before, kind, visits, fill, after}
+use Rattle.wasm_shapes.specs.Tree.{Tree, normal, before, kind, fill, after}
 use Rattle.reencode_hooks.specs.declared.error.Error.{Error}
 use Rattle.reencode_hooks.specs.declared.error.Error.TheVariants.{TooLarge, CanonicalizedHeapTypeReference}
-use Rattle.reencode_hooks.specs.Run.{Step, accepted, refused, and_then}
+use Rattle.reencode_hooks.specs.Run.{Step, accepted, refused, and_then, run}
 
 -- a visit, a frame of this length that closes, or an index that no binary spells
 pub data Moment : Type 0 where
@@ -72,6 +72,28 @@ NoneLost (asks v ∷ ms) = NoneLost ms
 NoneLost (closes n ∷ ms) = NoneLost ms
 NoneLost (lost ∷ ms) = ⊥
 
+-- the lengths of the frames of a tree in the order in which they close where its parts are visited in their order
+abbrev pub closings : Tree → List ℕ
+closings (Tree.pair t u) = closings t ++ closings u
+closings (Tree.swap t u) = closings u ++ closings t
+closings (Tree.cons t u) = closings t ++ closings u
+closings (Tree.vec t) = closings t
+closings (Tree.present t) = closings t
+closings (Tree.sized t) = closings t ++ (length (normal t) ∷ [])
+closings (Tree.row k t) = closings t
+closings (Tree.scope t) = closings t
+closings (Tree.spare b t) = closings t
+closings (Tree.kept b t) = closings t
+closings (Tree.final t u) = closings t ++ closings u
+closings (Tree.until b t) = closings t
+closings (Tree.op c t) = closings t
+closings (Tree.left w o t) = closings t ++ closings o
+closings (Tree.aimed w i o t) = closings t ++ closings o
+closings (Tree.placed i o t) = closings o ++ closings t
+closings (Tree.told k t) = closings t
+closings (Tree.also t u) = closings t ++ closings u
+closings _ = []
+
 -- one after another: a visit is asked, a frame above the ceiling is refused, and so is a lost index
 abbrev pub passed : {S E : Type 0} → (S → Visit → Step S (Error E) ℕ) → ℕ → S → List Moment → Step S (Error E) (List ℕ)
 passed asked c s [] = accepted [] s
@@ -84,3 +106,16 @@ abbrev pub Ends : {S E : Type 0} → (S → Visit → Step S (Error E) ℕ) → 
 Ends asked c s (asks v) e m = asked s v ≡ refused e m
 Ends asked c s (closes n) e m = (c < n) × (e ≡ TooLarge n) × (m ≡ s)
 Ends asked c s lost e m = (e ≡ CanonicalizedHeapTypeReference) × (m ≡ s)
+
+-- one of these moments ends a walk: those before it were passed, to these answers and this state
+pub record Stops {S E : Type 0} (asked : S → Visit → Step S (Error E) ℕ) (c : ℕ) (s : S) (moments : List Moment) (e : Error E) (m : S) : Type 0 where
+  pub front : List Moment
+  pub moment : Moment
+  pub rest : List Moment
+  pub parts : moments ≡ front ++ moment ∷ rest
+  pub so_far : List ℕ
+  pub state : S
+  pub ran : run asked s (asked_in front) ≡ accepted so_far state
+  pub fits : All (λ n. n ≤ c) (closed_in front)
+  pub known : NoneLost front
+  pub ends : Ends asked c state moment e m

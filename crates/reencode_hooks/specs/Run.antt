@@ -1,5 +1,5 @@
 -- Steps of a reencoder, and its run over a list of visits.
-use Rattle.std.specs.Prelude.{◌≡◌, ◌≢◌, ◌++◌, ℕ, Bool, List, [], ◌∷◌, Result, Ok, Err, IsErrOf, IsTrue}
+use Rattle.std.specs.Prelude.{◌≡◌, ◌≢◌, ◌++◌, ℕ, Bool, List, [], ◌∷◌, Result, Ok, Err, IfErr, IsErrOf, IsTrue}
 use Rattle.wasm_shapes.specs.declared.Visit.{Visit}
 use Rattle.reencode_hooks.specs.declared.error.Error.{Error}
 use Rattle.reencode_hooks.specs.declared.error.Error.TheVariants.{UserError, NoMemory}
@@ -49,6 +49,10 @@ pub record Visited {S E : Type 0} (asked : S → Visit → Step S E ℕ) (s : S)
   pub rest : List Visit
   pub parts : visits ≡ front ++ rest
   pub state : state_after (run asked s front) ≡ m
+
+-- an error left the state after a front part of these visits
+abbrev pub LeavesVisited : {S E A : Type 0} → (S → Visit → Step S (Error E) ℕ) → S → List Visit → S → Result A (Error E) → Type 0
+LeavesVisited asked s visits new result = IfErr result (λ e. Visited asked s visits new)
 
 -- a call answered what a step gave, seen by `view`, and left its state; of `NoMemory` nothing is said
 abbrev pub Gives : {S E A B : Type 0} → Step S (Error E) B → (A → B) → S → Result A (Error E) → Type 0

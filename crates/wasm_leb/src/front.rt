@@ -3,7 +3,8 @@ ghost use Rattle.std.specs.Prelude.{◌≡◌, ℕ, ◌<◌, ◌≤◌, ◌^◌,
 ghost use Rattle.wasm_leb.specs.Leb.{one_byte_signed};
 ghost use Rattle.wasm_leb.specs.Place.{BeginsNumber, BeginsNoNumber, BeginsSigned, BeginsNoSigned};
 
-/// The byte at the front of some bytes, and the bytes behind it.
+/// The byte at the front of some bytes, and the bytes behind it. None exactly where there is no byte.
+/// WebAssembly Core Specification 3.0, section 5.2.1.
 #[inline(always)]
 pub fn front_byte(bytes: &[u8]) -> Option<(u8, &[u8])>
     ensures some { IfSome result (λ r. bytes.now ≡ r.0 ∷ r.1.now) }
@@ -117,6 +118,7 @@ fn one_byte(byte: u8) -> i8
 }
 
 /// The number of 32 bits without sign at the front of some bytes, and the bytes behind it.
+/// None exactly where no spelling begins there. WebAssembly Core Specification 3.0, section 5.2.2.
 #[inline(always)]
 pub fn front_u32(bytes: &[u8]) -> Option<(u32, &[u8])>
     ensures some { IfSome result (λ r. BeginsNumber 128 32 32 bytes.now r.0 r.1.now) }
@@ -136,6 +138,7 @@ pub fn front_u32(bytes: &[u8]) -> Option<(u32, &[u8])>
 }
 
 /// The number of 64 bits without sign at the front of some bytes, and the bytes behind it.
+/// None exactly where no spelling begins there. WebAssembly Core Specification 3.0, section 5.2.2.
 #[inline(always)]
 pub fn front_u64(bytes: &[u8]) -> Option<(u64, &[u8])>
     ensures some { IfSome result (λ r. BeginsNumber 128 64 64 bytes.now r.0 r.1.now) }
@@ -154,7 +157,9 @@ pub fn front_u64(bytes: &[u8]) -> Option<(u64, &[u8])>
     }
 }
 
-/// The index at the front of some bytes, spelled as a number of 33 bits with sign that is not negative, and the bytes behind it.
+/// The index at the front of some bytes, spelled as a number of 33 bits with sign that is not negative, and
+/// the bytes behind it. None exactly where no such spelling begins there. WebAssembly Core Specification 3.0, sections
+/// 5.2.2 and 5.3.
 #[inline(always)]
 pub fn front_index(bytes: &[u8]) -> Option<(u32, &[u8])>
     ensures some { IfSome result (λ r. BeginsNumber 64 33 32 bytes.now r.0 r.1.now) }
@@ -174,6 +179,7 @@ pub fn front_index(bytes: &[u8]) -> Option<(u32, &[u8])>
 }
 
 /// The number of 32 bits with sign at the front of some bytes, and the bytes behind it.
+/// None exactly where no spelling begins there. WebAssembly Core Specification 3.0, section 5.2.2.
 #[inline(always)]
 pub fn front_s32(bytes: &[u8]) -> Option<(i32, &[u8])>
     ensures some { IfSome result (λ r. BeginsSigned 32 bytes.now r.0 r.1.now) }
@@ -193,6 +199,7 @@ pub fn front_s32(bytes: &[u8]) -> Option<(i32, &[u8])>
 }
 
 /// The number of 33 bits with sign at the front of some bytes, and the bytes behind it.
+/// None exactly where no spelling begins there. WebAssembly Core Specification 3.0, section 5.2.2.
 #[inline(always)]
 pub fn front_s33(bytes: &[u8]) -> Option<(i64, &[u8])>
     ensures some { IfSome result (λ r. BeginsSigned 33 bytes.now r.0 r.1.now) }
@@ -212,6 +219,7 @@ pub fn front_s33(bytes: &[u8]) -> Option<(i64, &[u8])>
 }
 
 /// The number of 64 bits with sign at the front of some bytes, and the bytes behind it.
+/// None exactly where no spelling begins there. WebAssembly Core Specification 3.0, section 5.2.2.
 #[inline(always)]
 pub fn front_s64(bytes: &[u8]) -> Option<(i64, &[u8])>
     ensures some { IfSome result (λ r. BeginsSigned 64 bytes.now r.0 r.1.now) }

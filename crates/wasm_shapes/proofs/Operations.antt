@@ -49,6 +49,7 @@ none_plain {ends = ends} {b = b} {bytes = bytes} {middle = middle} e k none = re
         let out : b ∷ middle ≡ d ∷ (p.0 ++ (z ++ left)) = r ∙ ap (λ (v : List ℕ). v ++ (z ++ left)) p.1 in
         let same : d ≡ b = cc in
         not_both (is_prefix b) (ap is_prefix (sym same) ∙ l) k
+
     go : (text left : List ℕ) (tree : Tree) → Is (Shape.op ends) tree → Spelled tree text → bytes ≡ text ++ left → ⊥
     go text left tree (Is.op {c = c} {t = t} l s) p r = at c t p.0 p.1 left l s p.3 p.4 (parts c p.0 p.1 left bytes text middle e r p.2)
 
@@ -68,6 +69,7 @@ none_behind {ends = ends} {b = b} {bytes = bytes} {numbers = numbers} e k none =
         let behind : numbers ≡ p.0 ++ (z ++ left) = cc in
         let P : ℕ → Type 0 = λ m. Is (immediates ends (prefixed m n)) t in
         (none n (z ++ left) (p.0, p.2, behind)).none z left t (record { shaped = subst P same s; spelled = q }) refl
+
     go : (text left : List ℕ) (tree : Tree) → Is (Shape.op ends) tree → Spelled tree text → bytes ≡ text ++ left → ⊥
     go text left tree (Is.op {c = c} {t = t} l s) p r = at c t p.0 p.1 left l s p.3 p.4 (parts c p.0 p.1 left bytes text numbers e r p.2)
 

@@ -1,0 +1,269 @@
+//! A reencoder that renames indices, and counts what it is asked.
+ghost use Rattle.std.specs.Prelude.{◌≡◌, ◌<◌, OnOk, OnErr};
+ghost use Rattle.reencode_hooks.specs.declared.asked.Asked.TheVariants.{Of};
+ghost use Rattle.reencode_hooks.specs.Renamings.{no_renaming, with_entry, count_of, noted, renamed, space_number, count_place, is_core_space};
+
+use crate::asked::{Asked, Unmapped};
+use crate::error::Error;
+use crate::indices::ReencodeIndices;
+use crate::table::Table;
+use std::alloc::Global;
+use std::marker::Model;
+use wasm_leb::NoMemory;
+use wasm_shapes::{SectionId, Space};
+use wasm_write::Module;
+
+/// Answers an index by its entry, and otherwise as it is; a strict one refuses an index of a core space that has no entry.
+/// It counts what it is asked.
+///
+/// Contracts see it as its entries by space, whether it is strict, and its counts. As a reencoder it keeps the default
+/// methods, adds no section, and never wants memory.
+#[derive(Drop)]
+pub struct Renamer {
+    // by the numbers of the spaces
+    tables: [Table; 16],
+    strict: bool,
+    // by the places of what is counted
+    counts: [u64; 19],
+}
+
+impl Model for Renamer {
+    ghost use Rattle.reencode_hooks.specs.Renamings.{Renaming, renaming_code};
+
+    ghost Value = { Renaming };
+
+    ghost coded = { renaming_code };
+
+    ghost view = { λ r. record { entries = r.tables; strict = r.strict; counts = r.counts } };
+}
+
+// The number of a space.
+#[inline(always)]
+fn number(space: Space) -> usize
+    ensures is { result ≡ space_number space }
+    ensures within { result < 16 }
+{
+    match space {
+        Space::Data => 0,
+        Space::Element => 1,
+        Space::Function => 2,
+        Space::Global => 3,
+        Space::Memory => 4,
+        Space::Table => 5,
+        Space::Tag => 6,
+        Space::Type_ => 7,
+        Space::DataCount => 8,
+        Space::ComponentType => 9,
+        Space::ComponentInstance => 10,
+        Space::ComponentFunc => 11,
+        Space::Component => 12,
+        Space::Module => 13,
+        Space::Instance => 14,
+        Space::ComponentValue => 15,
+    }
+}
+
+// The place of a count.
+#[inline(always)]
+fn place(what: Asked) -> usize
+    ensures is { result ≡ count_place what }
+    ensures within { result < 19 }
+{
+    match what {
+        Asked::Of(space) => number(space),
+        Asked::SectionHook => 16,
+        Asked::Push => 17,
+        Asked::Pop => 18,
+    }
+}
+
+// Whether a space is one of core modules.
+#[inline(always)]
+fn is_core(space: Space) -> bool
+    ensures { result ≡ is_core_space space }
+{
+    match space {
+        Space::Data
+        | Space::Element
+        | Space::Function
+        | Space::Global
+        | Space::Memory
+        | Space::Table
+        | Space::Tag
+        | Space::Type_ => true,
+        Space::DataCount
+        | Space::ComponentType
+        | Space::ComponentInstance
+        | Space::ComponentFunc
+        | Space::Component
+        | Space::Module
+        | Space::Instance
+        | Space::ComponentValue => false,
+    }
+}
+
+impl Renamer {
+    /// A renamer without entries, which is not strict and has counted nothing. It takes no memory.
+    pub fn new(alloc: Global) -> Renamer
+        ensures { result ≡ no_renaming }
+    {
+        Renamer {
+            tables: [
+                Table::new(alloc),
+                Table::new(alloc),
+                Table::new(alloc),
+                Table::new(alloc),
+                Table::new(alloc),
+                Table::new(alloc),
+                Table::new(alloc),
+                Table::new(alloc),
+                Table::new(alloc),
+                Table::new(alloc),
+                Table::new(alloc),
+                Table::new(alloc),
+                Table::new(alloc),
+                Table::new(alloc),
+                Table::new(alloc),
+                Table::new(alloc),
+            ],
+            strict: false,
+            counts: [0; 19],
+        }
+    }
+
+    /// Renames an index of a space, in place of an older entry. Where memory is wanting, it changes nothing.
+    pub fn set(&mut self, space: Space, from: u32, to: u32) -> Result<(), NoMemory>
+        ensures ok { OnOk result (self.new ≡ with_entry self.old space from to) }
+        ensures err { OnErr result (self.new ≡ self.old) }
+    {
+        let table = &mut self.tables[number(space)];
+        table.set(from, to)
+    }
+
+    /// Says whether an index of a core space without an entry is refused.
+    pub fn set_strict(&mut self, strict: bool)
+        ensures { self.new ≡ record self.old { strict = strict } }
+    {
+        self.strict = strict;
+    }
+
+    /// Adds one to the count of what was asked. A count at 2^64 - 1 stays there.
+    #[inline(always)]
+    pub fn note(&mut self, what: Asked)
+        ensures { self.new ≡ noted self.old what }
+    {
+        let at = place(what);
+        let count = self.counts[at];
+        self.counts[at] = count.saturating_add(1);
+    }
+
+    /// How often this was asked.
+    pub fn count(&self, what: Asked) -> u64
+        ensures { result ≡ count_of self.now what }
+    {
+        self.counts[place(what)]
+    }
+
+    /// The answer to an index of a space, which adds one to the count of the space, also where it is refused.
+    ///
+    /// It is the index's entry, and the index itself where it has none; `Unmapped` comes exactly where it has none, the
+    /// renamer is strict, and the space is one of core modules.
+    #[inline(always)]
+    pub fn ask(&mut self, space: Space, index: u32) -> Result<u32, Unmapped>
+        ensures answer { result ≡ renamed self.old space index }
+        ensures after { self.new ≡ noted self.old (Of space) }
+    {
+        self.note(Asked::Of(space));
+        let table = &self.tables[number(space)];
+        match table.get(index) {
+            Some(to) => Ok(to),
+            None => {
+                if self.strict && is_core(space) {
+                    Err(Unmapped { space, index })
+                } else {
+                    Ok(index)
+                }
+            }
+        }
+    }
+}
+
+// Asks the entries.
+macro_rules! ask {
+    ($renamer:ident, $space:expr, $index:ident) => {
+        match $renamer.ask($space, $index) {
+            Ok(answer) => Ok(answer),
+            Err(e) => Err(Error::UserError(e)),
+        }
+    };
+}
+
+impl ReencodeIndices for Renamer {
+    ghost use Rattle.std.specs.Prelude.{true, [], refl};
+    ghost use Rattle.reencode_hooks.specs.Renamings.{renamer_reply, renamer_next};
+    ghost use Rattle.reencode_hooks.specs.Renamed.{renamer_answers};
+
+    type Error = Unmapped;
+
+    ghost reply = { renamer_reply };
+
+    ghost next = { renamer_next };
+
+    ghost adds = { λ _ _ _. [] };
+
+    ghost keeps_defaults = { true };
+
+    ghost adds_nothing = { true };
+
+    ghost sure = { true };
+
+    ghost answers_ok = { renamer_answers };
+
+    ghost adds_ok = { λ _ _ _ _. refl };
+
+    fn data_index(&mut self, index: u32) -> Result<u32, Error<Unmapped>> {
+        ask!(self, Space::Data, index)
+    }
+
+    fn element_index(&mut self, index: u32) -> Result<u32, Error<Unmapped>> {
+        ask!(self, Space::Element, index)
+    }
+
+    fn function_index(&mut self, index: u32) -> Result<u32, Error<Unmapped>> {
+        ask!(self, Space::Function, index)
+    }
+
+    fn global_index(&mut self, index: u32) -> Result<u32, Error<Unmapped>> {
+        ask!(self, Space::Global, index)
+    }
+
+    fn memory_index(&mut self, index: u32) -> Result<u32, Error<Unmapped>> {
+        ask!(self, Space::Memory, index)
+    }
+
+    fn table_index(&mut self, index: u32) -> Result<u32, Error<Unmapped>> {
+        ask!(self, Space::Table, index)
+    }
+
+    fn tag_index(&mut self, index: u32) -> Result<u32, Error<Unmapped>> {
+        ask!(self, Space::Tag, index)
+    }
+
+    fn type_index(&mut self, index: u32) -> Result<u32, Error<Unmapped>> {
+        ask!(self, Space::Type_, index)
+    }
+
+    fn data_count(&mut self, count: u32) -> Result<u32, Error<Unmapped>> {
+        ask!(self, Space::DataCount, count)
+    }
+
+    fn intersperse_section_hook(
+        &mut self,
+        _module: &mut Module,
+        _after: Option<SectionId>,
+        _before: Option<SectionId>,
+    ) -> Result<(), Error<Unmapped>> {
+        self.note(Asked::SectionHook);
+        Ok(())
+    }
+}
