@@ -54,6 +54,18 @@ usage_of (ParseError at) words o status s h n = absurd (n h.0)
 usage_of TooLong words o status s h n = absurd (n h.0)
 usage_of NotHexadecimal words o status s h n = absurd (n h.0)
 
+-- with another status the words are accepted
+pub words_of : (answer : Answer) (words : List (List ℕ)) (o : Outside) (status : ℕ) → status ≡ status_of answer → Ends answer words o
+    → status ≢ 2 → words ≡ plain_words
+words_of Printed words o status s h n = h.0
+words_of NoMemory words o status s h n = h.0
+words_of Usage words o status s h n = absurd (n s)
+words_of ReadFault words o status s h n = h.0
+words_of WriteFault words o status s h n = h.0
+words_of (ParseError at) words o status s h n = h.0
+words_of TooLong words o status s h n = h.0
+words_of NotHexadecimal words o status s h n = h.0
+
 -- the message of an end
 pub message_of : (answer : Answer) (status : ℕ) → status ≡ status_of answer → status ≢ 0 → status ≢ 5 → text_of answer ++ codes "\n" ≡ message status
 message_of Printed status s n m = absurd (n s)

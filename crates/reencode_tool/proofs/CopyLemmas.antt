@@ -144,8 +144,7 @@ pub items_more : {s : Shape} {total more fewer : ℕ} {start rest rest' old new 
 items_more {s = s} {fewer = fewer} {rest = rest} {new = new} {d = d} k h e so_far p = record {
   forth = λ u left b.
       let P : ℕ → Type 0 = λ n. BeginsItems s n rest (Tree.cons p.tree u) left in
-      let all = so_far.forth (Tree.cons p.tree u) left (subst P (sym e) (items_cons p.begins b)) in
-      (
+      let all = so_far.forth (Tree.cons p.tree u) left (subst P (sym e) (items_cons p.begins b)) in (
         all.0,
         all.1,
         all.2 ∙ sym (append_assoc new (normal p.tree) (normal u)) ∙ ap (λ (z : List ℕ). z ++ normal u) (sym p.written),
@@ -231,8 +230,7 @@ many_more {s = s} {rest = rest} {rest' = rest'} {new = new} {d = d} k h some so_
   forth = λ u b.
       let whole : FillItems s rest (Tree.cons p.tree u) =
       record { shaped = Is.cons p.begins.spells.shaped b.shaped; spelled = (p.begins.text, rest', p.begins.reads, p.begins.spells.spelled, b.spelled) } in
-      let all = so_far.forth (Tree.cons p.tree u) whole in
-      (
+      let all = so_far.forth (Tree.cons p.tree u) whole in (
         all.0,
         all.1,
         all.2 ∙ sym (append_assoc new (normal p.tree) (normal u)) ∙ ap (λ (z : List ℕ). z ++ normal u) (sym p.written),
@@ -247,6 +245,7 @@ many_stuck {s = s} {start = start} {rest = rest} some so_far none = record { non
     go : (u : Tree) → Is (Shape.many s) u → Spelled u rest → ⊥
     go u Is.nil p = some p
     go u (Is.cons {t = v} d d') p = none.none p.0 p.1 v (record { shaped = d; spelled = p.3 }) p.2
+
     stuck : (u : Tree) → FillItems s rest u → ⊥
     stuck u b = go u b.shaped b.spelled
 
@@ -407,6 +406,7 @@ none_operator {b = b} {bytes = bytes} {rest = rest} e unlisted = go (is_prefix b
     none_row : (o : Option (List ImmKind)) → o ≡ None → BeginsNone (shape_of_row o) rest
     none_row None f = none_none
     none_row (Some ks) f = absurd cc
+
     go : (p : Bool) → is_prefix b ≡ p → BeginsNone (Shape.op true) bytes
     go true f = none_prefix e f (λ n middle there. none_none)
     go false f = none_plain e (ap not f) (none_row (look_up (one_byte_operators true) b) unlisted)

@@ -128,7 +128,7 @@ sections_more k {rest = rest} {rest' = rest'} {new = new} {d = d} u so_far f p w
             all.1,
             all.2 ∙ sym (append_assoc new (normal t) (normal v)) ∙ ap (λ (z : List ℕ). z ++ normal v) (sym w),
             all.3 ∙ first ∙ counted-append (raised d 16) (visits t) (visits_from (kind so_far.last t) v)
-            ∙ ap (λ (z : List ℕ). counted z (visits_from (kind so_far.last t) v)) (sym a),
+                ∙ ap (λ (z : List ℕ). counted z (visits_from (kind so_far.last t) v)) (sym a),
           );
       back = λ none. so_far.back (behind_first (some_framed f) there none);
     }

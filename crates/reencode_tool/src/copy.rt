@@ -8,8 +8,8 @@ ghost use Rattle.reencode_tool.specs.Report.{place_of};
 ghost use Rattle.reencode_tool.specs.Copies.{space_place, Copied, CopiedWhole, NoWhole, IfParse, IsPart, body_shape};
 
 use crate::report::{Counted, Counts};
-use wasm_leb::{front_byte, front_s32, front_u32, write_s32, write_u32, write_u64};
 use std::alloc::Global;
+use wasm_leb::{front_byte, front_s32, front_u32, write_s32, write_u32, write_u64};
 use wasm_read::front_name;
 use wasm_shapes::SectionId;
 

@@ -3,10 +3,10 @@ ghost use Rattle.std.specs.Prelude.{◌||◌, Err, ◌≡◌, ◌-◌, ◌<◌, 
 ghost use Rattle.reencode_tool.specs.Memory.{fails_next, is_full, one_more, told_held, written};
 ghost use Rattle.reencode_tool.specs.Outside.{Rose, WhereTold, before, followed, HasText, IsLonger};
 
-use crate::list::{List, NoMemory};
 use crate::outside::{Failed, Shelf, ShelfFault, Sink, Source};
 use std::alloc::Global;
 use std::marker::Model;
+use wasm_leb::{List, NoMemory};
 
 /// Puts a front of the bytes into the front of a buffer, and answers how many: as many as there are,
 /// have room, and are not more than `most`.

@@ -1,18 +1,20 @@
 //! The standard streams. What they give and take is not told.
-ghost use Rattle.std.specs.Prelude.{◌≡◌, ℕ, List, Option, None};
+ghost use Rattle.std.specs.Prelude.{◌≡◌, ◌≤◌, ℕ, List, Option, None};
 ghost use Rattle.reencode_tool.specs.Outside.{Rose};
 
 use crate::outside::{Failed, Sink, Source};
-use std::io::{Read, Write};
+use std::io::{ErrorKind, Read, Write};
 
 /// One failure more. A count at 2^64 - 1 stays.
 fn one_more(faults: u64) -> u64
-    ensures { Rose faults result }
+    ensures rises { faults ≤ result }
+    ensures rose { Rose faults result }
 {
     faults.saturating_add(1)
 }
 
-/// A source over a reader of std. It counts each error as a failure, and does not tell its content.
+/// A source over a reader of std. It counts each error as a failure, goes on after one that was an
+/// interruption, and does not tell its content.
 #[derive(Drop)]
 pub struct StdSource<R> {
     reader: R,
@@ -35,18 +37,23 @@ impl<R: Read> Source for StdSource<R> {
     ghost faults = { λ s. s.faults };
 
     fn read(&mut self, buf: &mut [u8]) -> Result<usize, Failed> {
-        match self.reader.read(buf) {
-            Ok(n) => Ok(n),
-            Err(_) => {
-                self.faults = one_more(self.faults);
-                Err(Failed)
+        'tries: for _ in 0..u64::MAX {
+            match self.reader.read(buf) {
+                Ok(n) => return Ok(n),
+                Err(e) => {
+                    self.faults = one_more(self.faults);
+                    if e.kind() != ErrorKind::Interrupted {
+                        return Err(Failed);
+                    }
+                }
             }
         }
+        Err(Failed)
     }
 }
 
 /// A sink over a writer of std. It counts each error as a failure, and a write that takes nothing of
-/// a piece that is not empty. It does not tell its content.
+/// a piece that is not empty; it goes on after an interruption. It does not tell its content.
 #[derive(Drop)]
 pub struct StdSink<W> {
     writer: W,
@@ -69,12 +76,21 @@ impl<W: Write> Sink for StdSink<W> {
     ghost faults = { λ s. s.faults };
 
     fn write(&mut self, piece: &[u8]) -> Result<usize, Failed> {
-        match self.writer.write(piece) {
-            Ok(n) if n > 0 || piece.is_empty() => Ok(n),
-            _ => {
-                self.faults = one_more(self.faults);
-                Err(Failed)
+        'tries: for _ in 0..u64::MAX {
+            match self.writer.write(piece) {
+                Ok(n) if n > 0 || piece.is_empty() => return Ok(n),
+                Ok(_) => {
+                    self.faults = one_more(self.faults);
+                    return Err(Failed);
+                }
+                Err(e) => {
+                    self.faults = one_more(self.faults);
+                    if e.kind() != ErrorKind::Interrupted {
+                        return Err(Failed);
+                    }
+                }
             }
         }
+        Err(Failed)
     }
 }

@@ -145,6 +145,7 @@ pub fn run<F: Shelf, S: Source, K: Sink, D: Sink>(
 
     // Status 2 comes by the words alone, and before anything is read.
     ensures usage { (result ≡ 2) ↔ (map string_bytes words.now ≢ plain_words) }
+    ensures accepted { result ≢ 2 → map string_bytes words.now ≡ plain_words }
     ensures unread { result ≡ 2 → input.new ≡ input.old }
 
     // Status 3 comes only where the source failed, and 4 only where the sink failed; a front of the

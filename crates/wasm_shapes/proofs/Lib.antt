@@ -7,3 +7,4 @@ pub mod Rows
 pub mod Framing
 pub mod Laws
 pub mod Operations
+pub mod OwnAnswers

@@ -10,3 +10,4 @@ pub mod Rows
 pub mod Module
 pub mod Laws
 pub mod TreeCode
+pub mod Own

@@ -1,4 +1,5 @@
 //! The laws of spelling, as functions that do nothing: each one's contract is the law.
+ghost use Rattle.wasm_shapes.specs.Own.{IsOwn};
 ghost use Rattle.wasm_shapes.specs.Laws.{IsUnique, HasOneTree, IsReadBack, IsReadBackAsIs, AreSound, IsHeaded};
 
 /// No spelling of a closed shape that passes the test begins another, and one text has one tree.
@@ -30,4 +31,10 @@ pub fn tables_are_sound()
 #[tactic(auto, using(crate::proofs::Laws::module_headed))]
 pub fn header_spells()
     ensures { IsHeaded }
+{}
+
+/// A tree filled with the indices that its own visits ask is the same tree.
+#[tactic(auto, using(crate::proofs::OwnAnswers::fill_own))]
+pub fn own_answers_change_nothing()
+    ensures { IsOwn }
 {}

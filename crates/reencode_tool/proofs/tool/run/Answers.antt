@@ -1,7 +1,7 @@
 use Rattle.std.proofs.Common.{◌≡◌, ap, ◌∙◌}
 use Rattle.reencode_tool.specs.declared.answer.Answer.TheVariants.{Printed, ParseError}
 use Rattle.reencode_tool.specs.Answer.{status_of}
-use Rattle.reencode_tool.proofs.AnswerLemmas.{decided_of, is_parse_error, is_printed, is_usage, message_of, status_among, usage_of}
+use Rattle.reencode_tool.proofs.AnswerLemmas.{decided_of, is_parse_error, is_printed, is_usage, message_of, status_among, usage_of, words_of}
 use Rattle.reencode_tool.proofs.tool.run.Goals as goal
 
 pub returns-clause-printed : goal.returns-clause-printed
@@ -32,3 +32,6 @@ pub returns-clause-says : goal.returns-clause-says
 returns-clause-says g c n m =
     let says = c.tell.ensures.says (λ same. n (c.status.ensures ∙ ap status_of same)) in
     rw (message_of _ _ c.status.ensures n m) at says
+
+pub returns-clause-accepted : goal.returns-clause-accepted
+returns-clause-accepted g c = words_of _ _ _ _ c.status.ensures c.reencode-answer.ensures.ends

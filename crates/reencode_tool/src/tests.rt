@@ -1,0 +1,353 @@
+//! What no clause says: that the calls succeed over memory, what is printed and said, and how the
+//! program ends where the outside is slow or fails.
+use crate::answer::Answer;
+use crate::memory::{MemSink, MemSource, SureShelf, SureSink, SureSource};
+use crate::outside::{Failed, Shelf, Sink, Source};
+use crate::report::{Counted, Counts, tail};
+use crate::tool::run;
+use std::alloc::{AllocError, Global};
+use std::process::Abort;
+use std::test::Fail;
+use wasm_leb::{List, NoMemory};
+
+/// The small module that a README shows, as digits: one function that adds two numbers.
+const MODULE: &[u8] =
+    b"0061736d0100000001070160027f7f017f03020100070501016600000a09010700200020016a0b";
+
+/// What is printed of it.
+const REPORT: &[u8] =
+    b"0061736d0100000001070160027f7f017f03020100070501016600000a09010700200020016a0b\nasked function 1 type 1 section_hook 5\n";
+
+/// It, with blanks and digits of both cases.
+const SPACED: &[u8] =
+    b"00 61 73 6D 01 00 00 00\r\n01070160027F7F017F\t0302010007\n05010166000 00A09010700200020016a0b\r\n";
+
+const PLAIN: &[&str] = &["-x", "plain"];
+
+const USAGE: &[u8] = b"usage: -x plain\n";
+
+fn list_of<T: Copy + Drop>(alloc: Global, items: &[T]) -> Result<List<T>, NoMemory> {
+    let mut list = List::new(alloc);
+    for item in items {
+        list.push(*item)?;
+    }
+    Ok(list)
+}
+
+fn strings(alloc: Global, words: &[&str]) -> Result<Vec<String>, AllocError> {
+    let mut strings = Vec::new(alloc);
+    for word in words {
+        strings.push(String::from_str(alloc, word)?)?;
+    }
+    Ok(strings)
+}
+
+/// A run over memory. A read and a write take at most `most` bytes, and the calls of these numbers
+/// fail. The run ends with the status, and the sinks then hold these bytes.
+#[derive(Clone, Copy)]
+struct Case<'a> {
+    words: &'a [&'a str],
+    text: &'a [u8],
+    most: usize,
+    read_fails: &'a [u64],
+    write_fails: &'a [u64],
+    err_fails: &'a [u64],
+    status: u8,
+    out: &'a [u8],
+    err: &'a [u8],
+}
+
+const USUAL: Case<'static> = Case {
+    words: PLAIN,
+    text: MODULE,
+    most: 16,
+    read_fails: &[],
+    write_fails: &[],
+    err_fails: &[],
+    status: 0,
+    out: b"",
+    err: b"",
+};
+
+/// It is re-encoded.
+const PRINTED: Case<'static> = Case {
+    out: REPORT,
+    ..USUAL
+};
+
+/// It has no reading from the header on.
+const NO_HEADER: Case<'static> = Case {
+    status: 5,
+    err: b"parse error at 0\n",
+    ..USUAL
+};
+
+fn try_case(rt: &impl Abort, alloc: Global, case: &Case) -> Result<(), Fail> {
+    let most = case.most.max(1);
+    let words = strings(alloc, case.words)?;
+    let mut input = MemSource::new(
+        list_of(alloc, case.text)?,
+        most,
+        list_of(alloc, case.read_fails)?,
+    );
+    let mut out = MemSink::new(alloc, 1000, most, list_of(alloc, case.write_fails)?)?;
+    let mut err = MemSink::new(alloc, 100, most, list_of(alloc, case.err_fails)?)?;
+    let status = run(
+        alloc,
+        words.as_slice(),
+        &mut SureShelf::new(alloc),
+        &mut input,
+        &mut out,
+        &mut err,
+    );
+    assert_eq!(rt; status, case.status);
+    assert_eq!(rt; out.held(), case.out);
+    assert_eq!(rt; err.held(), case.err);
+    Ok(())
+}
+
+/// How a run ends.
+static CASES: [Case<'static>; 18] = [
+    Case {
+        words: &["rename"],
+        status: 2,
+        err: USAGE,
+        ..USUAL
+    },
+    Case {
+        words: &["-m", "6", "-x", "plain"],
+        status: 2,
+        err: USAGE,
+        ..USUAL
+    },
+    Case {
+        words: &[],
+        status: 2,
+        err: USAGE,
+        ..USUAL
+    },
+    // The second read fails.
+    Case {
+        read_fails: &[2],
+        status: 3,
+        err: b"read fault\n",
+        ..USUAL
+    },
+    // The first write fails, and the fifth.
+    Case {
+        write_fails: &[1],
+        status: 4,
+        err: b"write fault\n",
+        ..USUAL
+    },
+    Case {
+        most: 3,
+        write_fails: &[5],
+        status: 4,
+        out: b"0061736d0100",
+        err: b"write fault\n",
+        ..USUAL
+    },
+    Case {
+        text: b"00617",
+        status: 14,
+        err: b"not hex\n",
+        ..USUAL
+    },
+    Case {
+        text: b"0x",
+        most: 1,
+        status: 14,
+        err: b"not hex\n",
+        ..USUAL
+    },
+    // A failure of the last sink ends its text and changes no status.
+    Case {
+        text: b"00617",
+        most: 3,
+        err_fails: &[2],
+        status: 14,
+        err: b"not",
+        ..USUAL
+    },
+    PRINTED,
+    Case {
+        text: SPACED,
+        most: 1,
+        ..PRINTED
+    },
+    // The header alone.
+    Case {
+        text: b"0061736d01000000",
+        out: b"0061736d01000000\nasked section_hook 1\n",
+        ..USUAL
+    },
+    // Longer numbers than needed are written in the shortest spelling.
+    Case {
+        text: b"0061736d01000000 0303018000",
+        out: b"0061736d0100000003020100\nasked type 1 section_hook 2\n",
+        ..USUAL
+    },
+    Case {
+        text: b"0061736d01000000 030601ffffffff0f",
+        out: b"0061736d01000000030601ffffffff0f\nasked type 1 section_hook 2\n",
+        ..USUAL
+    },
+    Case {
+        text: b"0061736d01000000 030601ffffffff1f",
+        err: b"parse error at 8\n",
+        ..NO_HEADER
+    },
+    Case {
+        text: b"",
+        ..NO_HEADER
+    },
+    Case {
+        text: b"0061736d010000",
+        ..NO_HEADER
+    },
+    Case {
+        text: b"0061736d0d000100",
+        ..NO_HEADER
+    },
+];
+
+#[test]
+fn ends(rt: HostRuntime) -> Result<(), Fail> {
+    for case in &CASES {
+        try_case(&rt, rt.alloc(), case)?;
+    }
+    Ok(())
+}
+
+/// A source that gives the digit 0 for ever.
+#[derive(Drop)]
+struct Endless;
+
+impl Source for Endless {
+    ghost use Rattle.std.specs.Prelude.{None};
+
+    ghost left = { λ _. None };
+
+    ghost faults = { λ _. 0 };
+
+    fn read(&mut self, buf: &mut [u8]) -> Result<usize, Failed> {
+        buf.fill(b'0');
+        Ok(buf.len())
+    }
+}
+
+#[test]
+fn endless_input(rt: HostRuntime) -> Result<(), Fail> {
+    let alloc = rt.alloc();
+    let words = strings(alloc, PLAIN)?;
+    let mut out = SureSink::new(alloc, 100)?;
+    let mut err = SureSink::new(alloc, 100)?;
+    let status = run(
+        alloc,
+        words.as_slice(),
+        &mut SureShelf::new(alloc),
+        &mut Endless,
+        &mut out,
+        &mut err,
+    );
+    assert_eq!(rt; status, 13);
+    assert_eq!(rt; out.held(), b"".as_slice());
+    assert_eq!(rt; err.held(), b"too long\n".as_slice());
+    Ok(())
+}
+
+#[test]
+fn sure_outside(rt: HostRuntime) -> Result<(), Fail> {
+    let alloc = rt.alloc();
+    let mut source = SureSource::new(list_of(alloc, b"abcde")?, 3);
+    let mut buf = [0u8; 4];
+    assert_eq!(rt; source.read(&mut buf), Ok(3));
+    assert_eq!(rt; &buf, b"abc\0");
+    assert_eq!(rt; source.read(&mut buf[..1]), Ok(1));
+    assert_eq!(rt; source.read(&mut buf), Ok(1));
+    assert_eq!(rt; &buf, b"ebc\0");
+    assert_eq!(rt; source.read(&mut buf), Ok(0));
+    // A write past the room is taken and not kept.
+    let mut sink = SureSink::new(alloc, 5)?;
+    assert_eq!(rt; sink.write(b"abc"), Ok(3));
+    assert_eq!(rt; sink.write(b"def"), Ok(3));
+    assert_eq!(rt; sink.write(b"gh"), Ok(2));
+    assert_eq!(rt; sink.held(), b"abc".as_slice());
+    // A text that is not there is empty.
+    let mut shelf = SureShelf::new(alloc);
+    let text = shelf.fetch(alloc, "a", 0).or(Err("no text"))?;
+    assert!(rt; text.is_empty());
+    Ok(())
+}
+
+#[test]
+fn failing_outside(rt: HostRuntime) -> Result<(), Fail> {
+    let alloc = rt.alloc();
+    let mut source = MemSource::new(list_of(alloc, b"abcde")?, 2, list_of(alloc, &[1, 3])?);
+    let mut buf = [0u8; 4];
+    for (answer, held) in [
+        (Err(Failed), b"\0\0\0\0"),
+        (Ok(2), b"ab\0\0"),
+        (Err(Failed), b"ab\0\0"),
+        (Ok(2), b"cd\0\0"),
+        (Ok(1), b"ed\0\0"),
+        (Ok(0), b"ed\0\0"),
+    ] {
+        assert_eq!(rt; source.read(&mut buf), answer);
+        assert_eq!(rt; &buf, held);
+    }
+    let mut sink = MemSink::new(alloc, 5, 3, list_of(alloc, &[2])?)?;
+    for (piece, answer) in [
+        (&b"abcd"[..], Ok(3)),
+        (b"d", Err(Failed)),
+        (b"", Ok(0)),
+        (b"defg", Ok(2)),
+        (b"fg", Err(Failed)),
+        (b"", Ok(0)),
+    ] {
+        assert_eq!(rt; sink.write(piece), answer);
+    }
+    assert_eq!(rt; sink.held(), b"abcde".as_slice());
+    Ok(())
+}
+
+#[test]
+fn line_of_counts(rt: HostRuntime) -> Result<(), Fail> {
+    let alloc = rt.alloc();
+    let mut counts = Counts::new();
+    assert_eq!(rt; tail(alloc, &counts)?.as_slice(), b"\nasked\n".as_slice());
+    for _ in 0..10 {
+        counts.add(Counted::SectionHook);
+    }
+    for what in [
+        Counted::Pop,
+        Counted::Type_,
+        Counted::Function,
+        Counted::Type_,
+        Counted::DataCount,
+    ] {
+        counts.add(what);
+    }
+    assert_eq!(rt;
+        tail(alloc, &counts)?.as_slice(),
+        b"\nasked function 1 type 2 data_count 1 section_hook 10 pop 1\n".as_slice()
+    );
+    Ok(())
+}
+
+#[test]
+fn place_of_a_fault(rt: HostRuntime) -> Result<(), Fail> {
+    for (at, text) in [
+        (0, &b"parse error at 0\n"[..]),
+        (8, b"parse error at 8\n"),
+        (u64::MAX as usize, b"parse error at 18446744073709551615\n"),
+    ] {
+        let mut err = SureSink::new(rt.alloc(), 40)?;
+        let answer = Answer::ParseError { at };
+        assert_eq!(rt; answer.status(), 5);
+        assert_eq!(rt; answer.say(&mut err), Ok(()));
+        assert_eq!(rt; err.held(), text);
+    }
+    Ok(())
+}
