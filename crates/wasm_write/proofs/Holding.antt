@@ -2,7 +2,7 @@
 use Rattle.std.proofs.Common.{◌≡◌, ℕ, suc, ◌+◌, ◌<◌, ◌^◌, List, [], ◌∷◌, ◌++◌, length, refl, sym, ap, ap₂, ◌∙◌, append-nil, append_assoc, subst, true, length-append, Result, Ok, Err, OnOk, take}
 use Rattle.std.proofs.Math.Seq.{take-append_seam}
 use Rattle.std.specs.Coded.{Coded-set, coded_ℕ, coded_list}
-use mathlib.Core.Logic.{∥∥₁_elim, ∥∥₁_map}
+use mathlib.Core.Logic.{∥∥₁_elim, ∥∥₁_map, ∥∥₁_prop}
 use Rattle.wasm_leb.specs.Leb.{leb}
 use Rattle.wasm_leb.proofs.Shortest.{leb_spells}
 use Rattle.wasm_shapes.specs.Tree.{Tree, count, normal}
@@ -17,20 +17,20 @@ pub count_rows : (rows : List Tree) → count (rows_tree rows) ≡ length rows
 count_rows [] = refl
 count_rows (t ∷ rows) = ap suc (count_rows rows)
 
-snoc_is : {s : Shape} (rows : List Tree) {t : Tree} → Is (Shape.many s) (rows_tree rows) → Is s t → Is (Shape.many s) (rows_tree (rows ++ t ∷ []))
+pub snoc_is : {s : Shape} (rows : List Tree) {t : Tree} → Is (Shape.many s) (rows_tree rows) → Is s t → Is (Shape.many s) (rows_tree (rows ++ t ∷ []))
 snoc_is [] d e = Is.cons e d
 snoc_is (u ∷ rows) (Is.cons d d') e = Is.cons d (snoc_is rows d' e)
 
-snoc_spelled : (rows : List Tree) (t : Tree) (x y : List ℕ) → Spelled (rows_tree rows) x → Spelled t y → Spelled (rows_tree (rows ++ t ∷ [])) (x ++ y)
+pub snoc_spelled : (rows : List Tree) (t : Tree) (x y : List ℕ) → Spelled (rows_tree rows) x → Spelled t y → Spelled (rows_tree (rows ++ t ∷ [])) (x ++ y)
 snoc_spelled [] t x y p q = (y, [], ap (λ (z : List ℕ). z ++ y) p ∙ sym (append-nil y), q, refl)
 snoc_spelled (u ∷ rows) t x y p q =
     (p.0, p.1 ++ y, ap (λ (z : List ℕ). z ++ y) p.2 ∙ append_assoc p.0 p.1 y, p.3, snoc_spelled rows t p.1 y p.4 q)
 
-snoc_normal : (rows : List Tree) (t : Tree) → normal (rows_tree (rows ++ t ∷ [])) ≡ normal (rows_tree rows) ++ normal t
+pub snoc_normal : (rows : List Tree) (t : Tree) → normal (rows_tree (rows ++ t ∷ [])) ≡ normal (rows_tree rows) ++ normal t
 snoc_normal [] t = append-nil (normal t)
 snoc_normal (u ∷ rows) t = ap (λ (z : List ℕ). normal u ++ z) (snoc_normal rows t) ∙ sym (append_assoc (normal u) (normal (rows_tree rows)) (normal t))
 
-snoc_length : (rows : List Tree) (t : Tree) → length (rows ++ t ∷ []) ≡ length rows + 1
+pub snoc_length : (rows : List Tree) (t : Tree) → length (rows ++ t ∷ []) ≡ length rows + 1
 snoc_length rows t = length-append rows (t ∷ [])
 
 -- ---- none, one more, the same
@@ -83,14 +83,14 @@ module _ {s : Shape} {n : ℕ} {bytes : List ℕ} (h : Held s n bytes) where
           let P : List ℕ → Type 0 = λ z. Spelled (rows_tree rows) z in
           (leb (count (rows_tree rows)), normal (rows_tree rows), refl, leb_spells (count (rows_tree rows)) few, subst P (sym r.normally) r.spelled)
 
-  abbrev held_more : (t : Tree) → Spells s (normal t) t → Held s (n + 1) (bytes ++ normal t)
-  held_more t p = (h.0 ++ t ∷ [], ∥∥₁_map h.1 (λ r. are_more r p))
+  abbrev held_more : (t : Tree) → ∥ Spells s (normal t) t ∥₁ → Held s (n + 1) (bytes ++ normal t)
+  held_more t p = (h.0 ++ t ∷ [], ∥∥₁_elim h.1 ∥∥₁_prop (λ r. ∥∥₁_map p (λ q. are_more r q)))
 
   -- the bytes have grown by a row
-  pub held_grown : {new : List ℕ} (t : Tree) → new ≡ bytes ++ normal t → Spells s (normal t) t → Held s (n + 1) new
+  pub held_grown : {new : List ℕ} (t : Tree) → new ≡ bytes ++ normal t → ∥ Spells s (normal t) t ∥₁ → Held s (n + 1) new
   held_grown t e p = let P : List ℕ → Type 0 = λ z. Held s (n + 1) z in subst P (sym e) (held_more t p)
 
-  pub held_grown_is : {new : List ℕ} (t : Tree) → sound (Shape.many s) ≡ true → (k : Held s (n + 1) new) → new ≡ bytes ++ normal t → Spells s (normal t) t →
+  pub held_grown_is : {new : List ℕ} (t : Tree) → sound (Shape.many s) ≡ true → (k : Held s (n + 1) new) → new ≡ bytes ++ normal t → ∥ Spells s (normal t) t ∥₁ →
       held_rows s (n + 1) new k ≡ held_rows s n bytes h ++ t ∷ []
   unfolding held_rows
   held_grown_is t passes k e p =

@@ -1,5 +1,5 @@
 -- Immediates that are written one behind another.
-use Rattle.std.proofs.Common.{◌≡◌, ◌≤◌, ℕ, List, [], ◌++◌, length, drop, sym, ap, ◌∙◌, append-nil, subst}
+use Rattle.std.proofs.Common.{◌≡◌, ◌≤◌, ℕ, List, ◌++◌, length, drop, sym, ◌∙◌, append-nil, subst}
 use Rattle.std.proofs.Math.ListN.{drop_of_length-le}
 use Rattle.wasm_shapes.specs.Tree.{normal}
 use Rattle.wasm_shapes.specs.Fits.{InRange}

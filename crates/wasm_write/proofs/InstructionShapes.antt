@@ -1,19 +1,19 @@
 -- The trees of instructions have the shapes of their rows, and no frames.
 use Rattle.std.specs.Prelude.{IsSome}
 use Rattle.std.specs.Coded.{Coded-set, coded_bool, le_prop}
-use Rattle.std.proofs.Common.{◌≡◌, ℕ, zero, suc, ◌+◌, ◌<◌, ◌≤◌, ◌-◌, ◌^◌, Bool, true, false, ◌&&◌, nat_le, nat_lt, nat_eq, if◌then◌else◌, List, [], ◌∷◌, ◌++◌, length, map, Option, Some, None, refl, sym, ap, ap₂, ◌∙◌, subst, arith, All}
+use Rattle.std.proofs.Common.{◌≡◌, ℕ, zero, suc, ◌<◌, ◌≤◌, ◌^◌, Bool, true, false, ◌&&◌, nat_le, nat_lt, nat_eq, if◌then◌else◌, List, [], ◌∷◌, ◌++◌, length, map, Option, Some, None, refl, sym, ap, ap₂, ◌∙◌, subst, arith, All}
 use Rattle.std.proofs.lemmas.Bool.{leb-true, ltb-true, eqb-true}
 use Rattle.std.proofs.lemmas.List.Elements.{All-cons}
 use mathlib.Core.HLevel.{Π_prop}
-use mathlib.Core.Logic.{∥∥₁_elim, ∥∥₁_map}
+use mathlib.Core.Logic.{∥∥₁_elim}
 use Rattle.wasm_shapes.specs.declared.Space.{Space}
 use Rattle.wasm_shapes.specs.declared.Space.TheVariants as space
 use Rattle.wasm_shapes.specs.declared.ImmKind.{ImmKind}
 use Rattle.wasm_shapes.specs.declared.ImmKind.TheVariants as kind
 use Rattle.wasm_shapes.specs.declared.Opcode.{Opcode}
-use Rattle.wasm_shapes.specs.Operators.{Code, plain, prefixed, code_from, code_of, is_prefix, is_code, Operators, look_up, one_byte_operators, prefixed_operators, plain_operators, kinds_among, kinds_of}
+use Rattle.wasm_shapes.specs.Operators.{Code, plain, prefixed, code_from, code_of, is_code, Operators, look_up, one_byte_operators, prefixed_operators, kinds_among}
 use Rattle.wasm_shapes.specs.Tree.{Tree, normal, frames}
-use Rattle.wasm_shapes.specs.Shape.{Shape, Named, shape_of_kind, shape_of_kinds, shape_of_row, immediates}
+use Rattle.wasm_shapes.specs.Shape.{Shape, shape_of_kind, shape_of_kinds, shape_of_row}
 use Rattle.wasm_shapes.specs.Spells.{Is, Spells}
 use Rattle.wasm_shapes.specs.Fits.{InRange, CodeInRange}
 use Rattle.wasm_shapes.proofs.Lists.{both}
@@ -26,7 +26,6 @@ use Rattle.wasm_write.specs.declared.types.Handle.{Handle}
 use Rattle.wasm_write.specs.declared.types.Handle.TheVariants as handle
 use Rattle.wasm_write.specs.declared.types.Imm.{Imm}
 use Rattle.wasm_write.specs.declared.types.Imm.TheVariants as imm
-use Rattle.wasm_write.specs.Held.{rows_tree, body_tree}
 use Rattle.wasm_write.specs.Instructions.{if_few, if_sixteen, index_kind, imm_kind, HasKinds, Parts, block_type_tree, label_tree, catch_tree, handle_tree, imm_tree, imms_tree, instruction_tree}
 use Rattle.wasm_write.proofs.TypeShapes.{items_are, items_frameless, frameless_fits, heap_frameless, value_frameless}
 

@@ -6,3 +6,4 @@ pub mod Fronts
 pub mod TypeShapes
 pub mod ImmsSoFar
 pub mod InstructionShapes
+pub mod HoldingBodies

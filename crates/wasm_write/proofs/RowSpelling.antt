@@ -2,7 +2,7 @@
 use Rattle.std.proofs.Common.{ℕ, ◌<◌, ◌^◌, List, [], ◌∷◌, ◌++◌, length, refl, IsUtf8}
 use Rattle.wasm_leb.specs.Leb.{leb}
 use Rattle.wasm_leb.proofs.Shortest.{leb_spells}
-use Rattle.wasm_shapes.specs.Tree.{Tree, normal}
+use Rattle.wasm_shapes.specs.Tree.{normal}
 use Rattle.wasm_shapes.specs.Shape.{Shape, Named}
 use Rattle.wasm_shapes.specs.Spells.{Is, Spelled, Spells}
 use Rattle.wasm_shapes.specs.Module.{function_row}

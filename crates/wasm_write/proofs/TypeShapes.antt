@@ -1,5 +1,5 @@
 -- The trees of types have the shapes of their tables, and no frames.
-use Rattle.std.proofs.Common.{◌≡◌, ℕ, ◌≤◌, ◌-◌, ◌^◌, Bool, true, false, List, [], ◌∷◌, ◌++◌, length, map, Option, Some, None, refl, sym, ap, ap₂, ◌∙◌, arith}
+use Rattle.std.proofs.Common.{◌≡◌, ℕ, ◌-◌, ◌^◌, Bool, true, false, List, [], ◌∷◌, ◌++◌, length, map, Option, Some, None, refl, ap₂, arith}
 use Rattle.wasm_shapes.specs.declared.Space.TheVariants as space
 use Rattle.wasm_shapes.specs.Tree.{Tree, normal, frames}
 use Rattle.wasm_shapes.specs.Shape.{Shape, Named, choice, abstract_heap, heap, reference, storage, field, full_values, inner_rows, rows_and, described_rows, describing_rows, composite_rows, sub_rows, group_rows}
@@ -10,20 +10,18 @@ use Rattle.wasm_write.specs.declared.types.AbstractHeapType.{AbstractHeapType}
 use Rattle.wasm_write.specs.declared.types.AbstractHeapType.TheVariants as abstract
 use Rattle.wasm_write.specs.declared.types.HeapType.{HeapType}
 use Rattle.wasm_write.specs.declared.types.HeapType.TheVariants as variant
-use Rattle.wasm_write.specs.declared.types.RefType.{RefType}
 use Rattle.wasm_write.specs.declared.types.ValType.{ValType}
 use Rattle.wasm_write.specs.declared.types.ValType.TheVariants as value
 use Rattle.wasm_write.specs.declared.types.StorageType.{StorageType}
 use Rattle.wasm_write.specs.declared.types.StorageType.TheVariants as stored
 use Rattle.wasm_write.specs.declared.types.FieldType.{FieldType}
-use Rattle.wasm_write.specs.declared.types.FuncType.{FuncType}
 use Rattle.wasm_write.specs.declared.types.CompositeInnerType.{CompositeInnerType}
 use Rattle.wasm_write.specs.declared.types.CompositeInnerType.TheVariants as inner
 use Rattle.wasm_write.specs.declared.types.CompositeType.{CompositeType}
 use Rattle.wasm_write.specs.declared.types.SubType.{SubType}
 use Rattle.wasm_write.specs.declared.types.RecGroup.{RecGroup}
-use Rattle.wasm_write.specs.Held.{rows_tree, body_tree}
-use Rattle.wasm_write.specs.Types.{type_index, signed_index, led, abstract_tree, shared_tree, heap_type_tree, nullable_tree, reference_parts, ref_type_tree, val_type_tree, val_types_tree, storage_type_tree, mutable_tree, field_type_tree, func_type_tree, inner_tree, described_tree, describing_tree, shared_composite_tree, composite_tree, supertypes_tree, sub_parts, sub_type_tree, group_parts, group_tree}
+use Rattle.wasm_write.specs.Held.{rows_tree}
+use Rattle.wasm_write.specs.Types.{type_index, abstract_tree, heap_type_tree, nullable_tree, reference_parts, val_type_tree, val_types_tree, storage_type_tree, mutable_tree, field_type_tree, inner_tree, described_tree, describing_tree, shared_composite_tree, composite_tree, supertypes_tree, sub_parts, sub_type_tree, group_parts, group_tree}
 
 -- ---- items
 

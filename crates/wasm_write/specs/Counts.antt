@@ -1,5 +1,5 @@
 -- The counts and lengths that a tree is spelled with.
-use Rattle.std.specs.Prelude.{◌≡◌, ℕ, ◌+◌, ◌-◌, ◌^◌, ◌<◌, List, [], ◌∷◌, ◌++◌, length, Contains}
+use Rattle.std.specs.Prelude.{ℕ, ◌-◌, ◌^◌, ◌<◌, List, [], ◌∷◌, ◌++◌, length, Contains}
 use Rattle.wasm_shapes.specs.Tree.{Tree, count}
 
 -- the numbers of items and the lengths of texts, each behind those of its items

@@ -37,7 +37,7 @@ abbrev pub Held : Shape → ℕ → List ℕ → Type 0
 Held shape count bytes = (rows : List Tree) × ∥ AreHeld shape count bytes rows ∥₁
 
 -- rows that are one tree are one list
-abbrev listed : Tree → List Tree
+abbrev pub listed : Tree → List Tree
 listed (Tree.cons t u) = t ∷ listed u
 listed _ = []
 

@@ -1,3 +1,4 @@
+pub mod Bodies
 pub mod Counts
 pub mod Faults
 pub mod Held

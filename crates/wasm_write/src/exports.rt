@@ -79,7 +79,12 @@ impl ExportSection {
 }
 
 /// Appends a name and what is exported under it, or a part of them where that is refused.
-fn write_export(out: &mut Vec<u8>, name: &str, kind: ExportKind, index: u32) -> Result<(), WriteFault>
+fn write_export(
+    out: &mut Vec<u8>,
+    name: &str,
+    kind: ExportKind,
+    index: u32,
+) -> Result<(), WriteFault>
     ensures ok { OnOk result (out.new.items ≡ out.old.items ++ normal (export_tree name.now kind index)) }
     ensures fits { OnOk result (length name.now < 2 ^ 32) }
     ensures err { OnErr result (take (vec_len out.old) out.new.items ≡ out.old.items) }

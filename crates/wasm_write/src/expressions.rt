@@ -1,7 +1,60 @@
 //! Constant expressions, as they are written.
+ghost use Rattle.std.specs.Prelude.{◌≡◌, ◌≢◌, ◌++◌, ◌∷◌, [], OnOk, OnErr};
+ghost use Rattle.wasm_shapes.specs.Operators.{code_of, plain};
+ghost use Rattle.wasm_write.specs.Instructions.{instruction_tree};
+ghost use Rattle.wasm_write.specs.Bodies.{HeldOperators, HeldOperators-prop};
+
+use crate::instructions::Instruction;
+use std::alloc::Global;
+use std::marker::Model;
+use wasm_leb::NoMemory;
 
 /// A constant expression (WebAssembly Core Specification 3.0, section 5.4.13).
+///
+/// Contracts see it as the list of its operators. It holds their normal spelling; the byte that closes the expression is
+/// written by the section that it is added to.
 #[derive(Drop)]
 pub struct ConstExpr {
     bytes: Vec<u8>,
+    ghost held: { HeldOperators bytes.items } by { HeldOperators-prop bytes.items },
+}
+
+impl Model for ConstExpr {
+    ghost use Rattle.std.specs.Prelude.{List};
+    ghost use Rattle.wasm_shapes.specs.Tree.{Tree};
+    ghost use Rattle.wasm_shapes.specs.TreeCode.{trees_code};
+    ghost use Rattle.wasm_write.specs.Bodies.{held_operators};
+
+    ghost Value = { List Tree };
+
+    ghost coded = { trees_code };
+
+    ghost view = { λ e. held_operators e.bytes.items e.held };
+}
+
+impl ConstExpr {
+    /// An expression without operators. It takes no memory.
+    pub fn new(alloc: Global) -> ConstExpr
+        ensures { result ≡ [] }
+    {
+        ConstExpr {
+            bytes: Vec::new(alloc),
+        }
+    }
+
+    /// Adds an operator other than `end`, or nothing where memory is wanting.
+    pub fn instruction(&mut self, instruction: &Instruction<'_>) -> Result<(), NoMemory>
+        requires { code_of instruction.now.opcode ≢ plain 0x0b }
+        ensures ok { OnOk result (self.new ≡ self.old ++ instruction_tree instruction.now ∷ []) }
+        ensures err { OnErr result (self.new ≡ self.old) }
+    {
+        let len = self.bytes.len();
+        match instruction.encode(&mut self.bytes) {
+            Ok(()) => Ok(()),
+            Err(NoMemory) => {
+                self.bytes.truncate(len);
+                Err(NoMemory)
+            }
+        }
+    }
 }

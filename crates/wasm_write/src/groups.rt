@@ -75,7 +75,11 @@ fn write_inner(out: &mut Vec<u8>, ty: &CompositeInnerType) -> Result<(), WriteFa
 }
 
 /// Appends an inner type behind its descriptor, where it has one, or a part of that where it is refused.
-fn write_described(out: &mut Vec<u8>, descriptor: Option<u32>, ty: &CompositeInnerType) -> Result<(), WriteFault>
+fn write_described(
+    out: &mut Vec<u8>,
+    descriptor: Option<u32>,
+    ty: &CompositeInnerType,
+) -> Result<(), WriteFault>
     ensures ok { OnOk result (out.new.items ≡ out.old.items ++ normal (described_tree descriptor (inner_tree ty.now))) }
     ensures in_range { OnOk result (InRange (described_tree descriptor (inner_tree ty.now))) }
     ensures err { OnErr result (take (vec_len out.old) out.new.items ≡ out.old.items) }

@@ -54,7 +54,11 @@ fn kind_of_index(space: Space) -> Option<ImmKind>
 fn if_counted(count: usize, kind: ImmKind) -> Option<ImmKind>
     ensures { result ≡ if_few count kind }
 {
-    if count <= u32::MAX as usize { Some(kind) } else { None }
+    if count <= u32::MAX as usize {
+        Some(kind)
+    } else {
+        None
+    }
 }
 
 /// The kind, where there are 16 bytes.

@@ -1,6 +1,8 @@
 //! Writers of a core module. What is added to them is held in its normal spelling.
 #![tactic(auto)]
 
+mod bodies;
+mod code;
 mod exports;
 mod expressions;
 mod fault;
@@ -12,12 +14,16 @@ mod instructions;
 mod module;
 mod names;
 mod section;
+#[cfg(test)]
+mod tests;
 mod type_section;
 mod types;
 mod types_write;
 mod values;
 mod vectors;
 
+pub use bodies::Function;
+pub use code::CodeSection;
 pub use exports::ExportSection;
 pub use expressions::ConstExpr;
 pub use fault::WriteFault;
@@ -32,8 +38,8 @@ pub use type_section::TypeSection;
 pub use types::{
     AbstractHeapType, ArrayType, BlockType, Catch, CompositeInnerType, CompositeType, ContType,
     CustomSection, Elements, EntityType, ExportKind, FieldType, FuncType, GlobalType, Handle,
-    HeapType, Ieee32, Ieee64, Imm, Import, Imports, MemArg, MemoryType, Ordering, RecGroup, RefType,
-    StorageType, StructType, SubType, TableType, TagKind, TagType, ValType,
+    HeapType, Ieee32, Ieee64, Imm, Import, Imports, MemArg, MemoryType, Ordering, RecGroup,
+    RefType, StorageType, StructType, SubType, TableType, TagKind, TagType, ValType,
 };
 pub use types_write::write_val_type;
 pub use values::{DataCountSection, RawSection, StartSection};

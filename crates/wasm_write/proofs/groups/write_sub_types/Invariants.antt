@@ -7,5 +7,5 @@ use Rattle.wasm_write.proofs.groups.write_sub_types.Given as goal
 abbrev pub invariant-loop-ty : goal.invariant-loop-ty
 invariant-loop-ty l = record {
   so_far : ItemsSoFar (map sub_type_tree (drop l.ty-index l.types)) (map sub_type_tree l.types) l.initial.out.items l.out.items;
-  kept : take (vec_len l.fn.out) l.out.items ≡ l.fn.out.items
+  kept : take (vec_len l.fn.out) l.out.items ≡ l.fn.out.items;
 }

@@ -1,4 +1,4 @@
-use Rattle.std.proofs.Common.{◌≡◌, ◌++◌, ◌∙◌, append_assoc}
+use Rattle.std.proofs.Common.{◌∙◌, append_assoc}
 use Rattle.wasm_write.proofs.Fronts.{front_stays_on}
 use Rattle.wasm_write.proofs.immediates.write_cast.Goals as goal
 

@@ -6,5 +6,5 @@ use Rattle.wasm_write.proofs.instructions.write_imms.Given as goal
 abbrev pub invariant-loop-imm : goal.invariant-loop-imm
 invariant-loop-imm l = record {
   so_far : ImmsSoFar (drop l.imm-index l.imms) l.imms l.initial.out.items l.out.items;
-  kept : take (vec_len l.fn.out) l.out.items ≡ l.fn.out.items
+  kept : take (vec_len l.fn.out) l.out.items ≡ l.fn.out.items;
 }

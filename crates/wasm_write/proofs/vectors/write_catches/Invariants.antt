@@ -7,5 +7,5 @@ use Rattle.wasm_write.proofs.vectors.write_catches.Given as goal
 abbrev pub invariant-loop-catch : goal.invariant-loop-catch
 invariant-loop-catch l = record {
   so_far : ItemsSoFar (map catch_tree (drop l.catch-index l.catches)) (map catch_tree l.catches) l.initial.out.items l.out.items;
-  kept : take (vec_len l.fn.out) l.out.items ≡ l.fn.out.items
+  kept : take (vec_len l.fn.out) l.out.items ≡ l.fn.out.items;
 }

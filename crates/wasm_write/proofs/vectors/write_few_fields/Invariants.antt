@@ -7,5 +7,5 @@ use Rattle.wasm_write.proofs.vectors.write_few_fields.Given as goal
 abbrev pub invariant-loop-field : goal.invariant-loop-field
 invariant-loop-field l = record {
   so_far : ItemsSoFar (map field_type_tree (drop l.field-index l.fields)) (map field_type_tree l.fields) l.initial.out.items l.out.items;
-  kept : take (vec_len l.fn.out) l.out.items ≡ l.fn.out.items
+  kept : take (vec_len l.fn.out) l.out.items ≡ l.fn.out.items;
 }

@@ -1,4 +1,4 @@
-use Rattle.std.proofs.Common.{◌≡◌, refl, arith, length}
+use Rattle.std.proofs.Common.{refl, arith, length}
 use Rattle.wasm_write.specs.Types.{field_type_tree}
 use Rattle.wasm_write.specs.declared.fault.WriteFault.TheVariants.{TooLarge}
 use Rattle.wasm_write.proofs.Items.{items_too_large}

@@ -7,5 +7,5 @@ use Rattle.wasm_write.proofs.vectors.write_handlers.Given as goal
 abbrev pub invariant-loop-handler : goal.invariant-loop-handler
 invariant-loop-handler l = record {
   so_far : ItemsSoFar (map handle_tree (drop l.handler-index l.handlers)) (map handle_tree l.handlers) l.initial.out.items l.out.items;
-  kept : take (vec_len l.fn.out) l.out.items ≡ l.fn.out.items
+  kept : take (vec_len l.fn.out) l.out.items ≡ l.fn.out.items;
 }

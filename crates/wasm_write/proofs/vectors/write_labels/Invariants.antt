@@ -7,5 +7,5 @@ use Rattle.wasm_write.proofs.vectors.write_labels.Given as goal
 abbrev pub invariant-loop-label : goal.invariant-loop-label
 invariant-loop-label l = record {
   so_far : ItemsSoFar (map label_tree (drop l.label-index l.labels)) (map label_tree l.labels) l.initial.out.items l.out.items;
-  kept : take (vec_len l.fn.out) l.out.items ≡ l.fn.out.items
+  kept : take (vec_len l.fn.out) l.out.items ≡ l.fn.out.items;
 }

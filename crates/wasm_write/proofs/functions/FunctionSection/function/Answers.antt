@@ -11,12 +11,12 @@ returns-then-self-clause-large c =
 
 pub invariant_of-self-inside : goal.invariant_of-self-inside
 invariant_of-self-inside c =
-    (held_grown c.self.inside.held (function_tree c.args.type_index) c.in-Ok.ensures.ok (function_spelled _ (omega arith)), tt)
+    (held_grown c.self.inside.held (function_tree c.args.type_index) c.in-Ok.ensures.ok (∣ function_spelled _ (omega arith) ∣₁), tt)
 
 pub returns-in-Ok-clause-ok : goal.returns-in-Ok-clause-ok
 returns-in-Ok-clause-ok c =
     let t = function_tree c.args.type_index in
-    held_grown_is c.self.inside.held t functions_sound _ c.in-Ok.ensures.ok (function_spelled _ (omega arith)) ∙ ap (λ l. l ++ t ∷ []) c.self.view_is
+    held_grown_is c.self.inside.held t functions_sound _ c.in-Ok.ensures.ok (∣ function_spelled _ (omega arith) ∣₁) ∙ ap (λ l. l ++ t ∷ []) c.self.view_is
 
 pub returns-in-Ok-clause-fits : goal.returns-in-Ok-clause-fits
 returns-in-Ok-clause-fits c =

@@ -1,4 +1,3 @@
-use Rattle.std.proofs.Common.{◌≡◌}
 use mathlib.Core.Logic.{∥∥₁_map}
 use Rattle.wasm_write.proofs.Holding.{OnOk-map}
 use Rattle.wasm_write.proofs.InstructionShapes.{opcode_byte_of, kinds_each_of, instruction_spelled}

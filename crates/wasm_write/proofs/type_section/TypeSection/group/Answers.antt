@@ -1,5 +1,5 @@
-use Rattle.std.proofs.Common.{◌≡◌, ◌+◌, ◌-◌, ◌<◌, ◌^◌, ◌++◌, ◌∷◌, [], ap, ◌∙◌, arith, length}
-use Rattle.wasm_write.specs.Counts.{counts, IsTooLarge}
+use Rattle.std.proofs.Common.{◌++◌, ◌∷◌, [], ap, ◌∙◌, arith}
+use Rattle.wasm_write.specs.Counts.{counts}
 use Rattle.wasm_write.specs.Rows.{groups_sound}
 use Rattle.wasm_write.specs.Types.{group_tree}
 use Rattle.wasm_write.proofs.Holding.{held_length, held_grown, held_grown_is, held_same_is, cut_back}
@@ -25,14 +25,16 @@ returns-then-self-clause-large c =
     rw (← c.self.view_is) (large_last (counts (group_tree c.args.group.now)) (omega (arith, n)) (omega arith))
 
 pub invariant_of-self-inside-2 : goal.invariant_of-self-inside-2
-invariant_of-self-inside-2 c =
-    (held_grown c.self.inside.held (group_tree c.args.group.now) c.in-Ok.ensures.ok
-    (group_spelled c.args.group.now c.in-Ok.ensures.in_range), tt)
+invariant_of-self-inside-2 c = (
+  held_grown c.self.inside.held (group_tree c.args.group.now) c.in-Ok.ensures.ok
+      (∣ group_spelled c.args.group.now c.in-Ok.ensures.in_range ∣₁),
+  tt,
+)
 
 pub returns-clause-ok : goal.returns-clause-ok
 returns-clause-ok c =
     let t = group_tree c.args.group.now in
-    held_grown_is c.self.inside.held t groups_sound _ c.in-Ok.ensures.ok (group_spelled c.args.group.now c.in-Ok.ensures.in_range)
+    held_grown_is c.self.inside.held t groups_sound _ c.in-Ok.ensures.ok (∣ group_spelled c.args.group.now c.in-Ok.ensures.in_range ∣₁)
     ∙ ap (λ l. l ++ t ∷ []) c.self.view_is
 
 pub returns-clause-fits : goal.returns-clause-fits

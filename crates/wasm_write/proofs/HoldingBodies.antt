@@ -1,0 +1,184 @@
+-- Functions, code sections and constant expressions that are held, and one operator or row more.
+use Rattle.std.proofs.Common.{◌≡◌, ℕ, ◌+◌, ◌<◌, ◌^◌, List, [], ◌∷◌, ◌++◌, length, map, refl, sym, ap, ◌∙◌, append-nil, append_assoc, subst, true, false, arith, ◌≢◌, ◌&&◌, Bool, nat_le, if◌then◌else◌, Option, Some}
+use Rattle.std.proofs.lemmas.Bool.{leb-true}
+use Rattle.std.specs.Coded.{Coded-set, coded_ℕ, coded_list}
+use mathlib.Core.Logic.{∥∥₁_elim, ∥∥₁_map, ∥∥₁_prop}
+use Rattle.wasm_leb.specs.Leb.{leb}
+use Rattle.wasm_leb.proofs.Shortest.{leb_spells}
+use Rattle.wasm_shapes.specs.Tree.{Tree, normal}
+use Rattle.wasm_shapes.specs.declared.ImmKind.{ImmKind}
+use Rattle.wasm_shapes.specs.Operators.{Code, plain, prefixed, code_of, kinds_among, look_up, plain_operators}
+use Rattle.wasm_shapes.specs.Shape.{Shape, shape_of_row}
+use Rattle.wasm_shapes.specs.Spells.{Is, Spelled, Spells}
+use Rattle.wasm_shapes.specs.Fits.{InRange}
+use Rattle.wasm_shapes.proofs.Lists.{both}
+use Rattle.wasm_shapes.proofs.ReadBack.{read_back}
+use Rattle.wasm_write.specs.declared.types.ValType.{ValType}
+use Rattle.wasm_write.specs.Held.{rows_tree, body_tree, AreHeld, Held, held_rows}
+use Rattle.wasm_write.specs.Instructions.{Parts, imms_tree, instruction_tree}
+use Rattle.wasm_write.specs.Bodies.{Body, local_tree, with_operator, function_body, code_tree, full_local_row, full_body, full_code_row, code_sound, IsBody, HeldBody, HeldBody-one, held_body, CodeRows, with_row, HeldOperators, HeldOperators-one, held_operators}
+use Rattle.wasm_write.proofs.Holding.{snoc_is, snoc_spelled, snoc_normal, snoc_length, are_none, are_more, held_length, held_grown_is, held_same_is}
+use Rattle.wasm_write.proofs.TypeShapes.{items_are, items_frameless, frameless_fits, value_is, value_frameless}
+
+abbrev with_locals : List (ℕ × ValType) → Body
+with_locals locals = record { locals = map local_tree locals; operators = [] }
+
+is_new : (locals : List (ℕ × ValType)) → InRange (body_tree (map local_tree locals)) → IsBody (normal (body_tree (map local_tree locals))) (with_locals locals)
+is_new locals r =
+    let rows = body_tree (map local_tree locals) in record {
+      shaped = Is.seq (Is.vec (items_are full_local_row local_tree (λ l. Is.seq Is.u32 (value_is l.1)) locals)) Is.nil;
+      spelled = (
+        normal rows,
+        [],
+        sym (append-nil (normal rows)),
+        read_back rows r (frameless_fits rows (items_frameless local_tree (λ l. value_frameless l.1) locals)),
+        refl,
+      );
+      normally = append-nil (normal rows);
+    }
+
+is_more : {bytes : List ℕ} {f : Body} {t : Tree} → IsBody bytes f → Spells (Shape.op true) (normal t) t → IsBody (bytes ++ normal t) (with_operator f t)
+is_more {bytes = bytes} {f = f} {t = t} b p = record {
+  shaped = go b.shaped;
+  spelled = (
+    b.spelled.0,
+    b.spelled.1 ++ normal t,
+    ap (λ (z : List ℕ). z ++ normal t) b.spelled.2 ∙ append_assoc b.spelled.0 b.spelled.1 (normal t),
+    b.spelled.3,
+    snoc_spelled f.operators t b.spelled.1 (normal t) b.spelled.4 p.spelled,
+  );
+  normally =
+      ap (λ (z : List ℕ). normal (body_tree f.locals) ++ z) (snoc_normal f.operators t)
+      ∙ sym (append_assoc (normal (body_tree f.locals)) (normal (rows_tree f.operators)) (normal t)) ∙ ap (λ (z : List ℕ). z ++ normal t) b.normally;
+}
+  where
+    go : Is full_body (function_body f) → Is full_body (function_body (with_operator f t))
+    go (Is.seq d e) = Is.seq d (snoc_is f.operators e p.shaped)
+
+module _ {bytes : List ℕ} (locals : List (ℕ × ValType)) (e : bytes ≡ normal (body_tree (map local_tree locals))) (r : InRange (body_tree (map local_tree locals))) where
+  pub body_new : HeldBody bytes
+  body_new = let P : List ℕ → Type 0 = λ z. HeldBody z in subst P (sym e) (with_locals locals, ∣ is_new locals r ∣₁)
+
+  pub body_new_is : (h : HeldBody bytes) → held_body bytes h ≡ with_locals locals
+  unfolding held_body
+  body_new_is h =
+      let P : List ℕ → Type 0 = λ z. (k : HeldBody z) → k.0 ≡ with_locals locals in
+      subst P (sym e) (λ k. HeldBody-one _ k (with_locals locals, ∣ is_new locals r ∣₁)) h
+
+module _ {bytes : List ℕ} (h : HeldBody bytes) where
+  pub body_normal : normal (function_body (held_body bytes h)) ≡ bytes
+  unfolding held_body
+  body_normal = ∥∥₁_elim h.1 (Coded-set (coded_list coded_ℕ) (normal (function_body h.0)) bytes) (λ b. b.normally)
+
+  pub body_spells : ∥ Spells full_body (normal (function_body (held_body bytes h))) (function_body (held_body bytes h)) ∥₁
+  unfolding held_body
+  body_spells =
+      let P : List ℕ → Type 0 = λ z. Spelled (function_body h.0) z in
+      ∥∥₁_map h.1 (λ b. record { shaped = b.shaped; spelled = subst P (sym b.normally) b.spelled })
+
+  abbrev body_more : (t : Tree) → ∥ Spells (Shape.op true) (normal t) t ∥₁ → HeldBody (bytes ++ normal t)
+  body_more t p = (with_operator h.0 t, ∥∥₁_elim h.1 ∥∥₁_prop (λ b. ∥∥₁_map p (λ q. is_more b q)))
+
+  -- the bytes have grown by an operator
+  pub body_grown : {new : List ℕ} (t : Tree) → new ≡ bytes ++ normal t → ∥ Spells (Shape.op true) (normal t) t ∥₁ → HeldBody new
+  body_grown t e p = let P : List ℕ → Type 0 = λ z. HeldBody z in subst P (sym e) (body_more t p)
+
+  pub body_grown_is : {new : List ℕ} (t : Tree) (k : HeldBody new) → new ≡ bytes ++ normal t → ∥ Spells (Shape.op true) (normal t) t ∥₁ →
+      held_body new k ≡ with_operator (held_body bytes h) t
+  unfolding held_body
+  body_grown_is t k e p =
+      let P : List ℕ → Type 0 = λ z. (k : HeldBody z) → k.0 ≡ with_operator h.0 t in
+      subst P (sym e) (λ k. HeldBody-one (bytes ++ normal t) k (body_more t p)) k
+
+  -- the bytes are the same
+  pub body_same_is : {new : List ℕ} (k : HeldBody new) → new ≡ bytes → held_body new k ≡ held_body bytes h
+  unfolding held_body
+  body_same_is k e =
+      let P : List ℕ → Type 0 = λ z. (k : HeldBody z) → k.0 ≡ h.0 in
+      subst P (sym e) (λ k. HeldBody-one bytes k h) k
+
+-- ---- a code section
+
+abbrev view : ℕ → List Tree → CodeRows
+view ceiling rows = record { ceiling = ceiling; rows = rows }
+
+module _ {n : ℕ} {bytes : List ℕ} (h : Held full_code_row n bytes) (ceiling : ℕ) {s : CodeRows} (is : view ceiling (held_rows full_code_row n bytes h) ≡ s) where
+  pub code_length : length s.rows ≡ n
+  code_length = rw (← is) (held_length h)
+
+  pub code_same : {new : List ℕ} (k : Held full_code_row n new) → new ≡ bytes → view ceiling (held_rows full_code_row n new k) ≡ s
+  code_same k e = ap (view ceiling) (held_same_is h code_sound k e) ∙ is
+
+  pub code_grown : {new : List ℕ} (t : Tree) (k : Held full_code_row (n + 1) new) → new ≡ bytes ++ normal t → ∥ Spells full_code_row (normal t) t ∥₁ →
+      view ceiling (held_rows full_code_row (n + 1) new k) ≡ with_row s t
+  code_grown t k e p = ap (view ceiling) (held_grown_is h t code_sound k e p) ∙ ap (λ (z : CodeRows). with_row z t) is
+
+-- a function in its frame
+pub framed_spells : (f : Body) → length (normal (function_body f)) < 2 ^ 32 → ∥ Spells full_body (normal (function_body f)) (function_body f) ∥₁ →
+    ∥ Spells full_code_row (normal (code_tree f)) (code_tree f) ∥₁
+framed_spells f small p =
+    let body = normal (function_body f) in
+    ∥∥₁_map p (λ q. record {
+      shaped = Is.sized q.shaped;
+      spelled = (leb (length body), body, refl, leb_spells (length body) small, q.spelled);
+    })
+
+-- ---- a constant expression
+
+-- an operator other than `end` has the same row in an expression
+same_row : (c : Code) → c ≢ plain 0x0b → kinds_among true c ≡ kinds_among false c
+same_row (plain b) other = go (nat_le 0x0b b && nat_le b 0x0b) refl
+  where
+    go : (q : Bool) → (nat_le 0x0b b && nat_le b 0x0b) ≡ q → (if q then Some [] else look_up plain_operators b) ≡ look_up plain_operators b
+    go true at =
+        let ends = both (nat_le 0x0b b) (nat_le b 0x0b) at in
+        let is : b ≡ 0x0b = omega (arith, leb-true 0x0b b ends.0, leb-true b 0x0b ends.1) in
+        absurd (other (ap plain is))
+    go false at = refl
+same_row (prefixed p n) other = refl
+
+inner_is : (c : Code) (u : Tree) → c ≢ plain 0x0b → Is (Shape.op true) (Tree.op c u) → Is (Shape.op false) (Tree.op c u)
+inner_is c u other (Is.op k d) = let P : Option (List ImmKind) → Type 0 = λ o. Is (shape_of_row o) u in Is.op k (subst P (same_row c other) d)
+
+inner_operator : (i : Parts) → code_of i.opcode ≢ plain 0x0b → Spells (Shape.op true) (normal (instruction_tree i)) (instruction_tree i) →
+    Spells (Shape.op false) (normal (instruction_tree i)) (instruction_tree i)
+inner_operator i other p = record { shaped = inner_is (code_of i.opcode) (imms_tree i.imms) other p.shaped; spelled = p.spelled }
+
+expression_more : {bytes : List ℕ} {rows : List Tree} {t : Tree} → AreHeld (Shape.op false) (length rows) bytes rows → Spells (Shape.op false) (normal t) t →
+    AreHeld (Shape.op false) (length (rows ++ t ∷ [])) (bytes ++ normal t) (rows ++ t ∷ [])
+expression_more {rows = rows} {t = t} r p = rw (snoc_length rows t) (are_more r p)
+
+pub expression_none : {bytes : List ℕ} → bytes ≡ [] → HeldOperators bytes
+expression_none e = let P : List ℕ → Type 0 = λ z. HeldOperators z in subst P (sym e) ([], ∣ are_none (Shape.op false) ∣₁)
+
+pub expression_none_is : {bytes : List ℕ} (h : HeldOperators bytes) → bytes ≡ [] → held_operators bytes h ≡ []
+unfolding held_operators
+expression_none_is h e =
+    let P : List ℕ → Type 0 = λ z. (k : HeldOperators z) → k.0 ≡ [] in
+    subst P (sym e) (λ k. HeldOperators-one [] k ([], ∣ are_none (Shape.op false) ∣₁)) h
+
+module _ {bytes : List ℕ} (h : HeldOperators bytes) where
+  abbrev operators_more : (i : Parts) → code_of i.opcode ≢ plain 0x0b → ∥ Spells (Shape.op true) (normal (instruction_tree i)) (instruction_tree i) ∥₁ →
+      HeldOperators (bytes ++ normal (instruction_tree i))
+  operators_more i other p =
+      let t = instruction_tree i in
+      (h.0 ++ t ∷ [], ∥∥₁_elim h.1 ∥∥₁_prop (λ r. ∥∥₁_map p (λ q. expression_more r (inner_operator i other q))))
+
+  -- the bytes have grown by an operator
+  pub operators_grown : {new : List ℕ} (i : Parts) → code_of i.opcode ≢ plain 0x0b → new ≡ bytes ++ normal (instruction_tree i) →
+      ∥ Spells (Shape.op true) (normal (instruction_tree i)) (instruction_tree i) ∥₁ → HeldOperators new
+  operators_grown i other e p = let P : List ℕ → Type 0 = λ z. HeldOperators z in subst P (sym e) (operators_more i other p)
+
+  pub operators_grown_is : {new : List ℕ} (i : Parts) (k : HeldOperators new) → code_of i.opcode ≢ plain 0x0b → new ≡ bytes ++ normal (instruction_tree i) →
+      ∥ Spells (Shape.op true) (normal (instruction_tree i)) (instruction_tree i) ∥₁ → held_operators new k ≡ held_operators bytes h ++ instruction_tree i ∷ []
+  unfolding held_operators
+  operators_grown_is i k other e p =
+      let P : List ℕ → Type 0 = λ z. (k : HeldOperators z) → k.0 ≡ h.0 ++ instruction_tree i ∷ [] in
+      subst P (sym e) (λ k. HeldOperators-one (bytes ++ normal (instruction_tree i)) k (operators_more i other p)) k
+
+  -- the bytes are the same
+  pub operators_same_is : {new : List ℕ} (k : HeldOperators new) → new ≡ bytes → held_operators new k ≡ held_operators bytes h
+  unfolding held_operators
+  operators_same_is k e =
+      let P : List ℕ → Type 0 = λ z. (k : HeldOperators z) → k.0 ≡ h.0 in
+      subst P (sym e) (λ k. HeldOperators-one bytes k h) k

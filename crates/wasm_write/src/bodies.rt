@@ -1,0 +1,113 @@
+//! Functions.
+ghost use Rattle.std.specs.Prelude.{◌≡◌, ◌++◌, ◌-◌, ◌^◌, ◌<◌, [], length, map, true, take, vec_len, OnOk, OnErr, IfOk, IfErr};
+ghost use Rattle.wasm_shapes.specs.Tree.{normal};
+ghost use Rattle.wasm_shapes.specs.Spells.{Spells};
+ghost use Rattle.wasm_shapes.specs.Fits.{InRange};
+ghost use Rattle.wasm_write.specs.Faults.{IfTooLarge};
+ghost use Rattle.wasm_write.specs.Held.{body_tree};
+ghost use Rattle.wasm_write.specs.Instructions.{instruction_tree};
+ghost use Rattle.wasm_write.specs.Bodies.{HeldBody, HeldBody-prop, full_body, function_body, local_tree, with_operator};
+
+use crate::fault::WriteFault;
+use crate::instructions::Instruction;
+use crate::types::ValType;
+use crate::types_write::write_val_type;
+use std::alloc::Global;
+use std::marker::Model;
+use wasm_leb::{List, NoMemory, write_u32};
+
+/// A function under construction (WebAssembly Core Specification 3.0, section 5.5.13).
+///
+/// Contracts see it as its locals and its operators. It holds their normal spelling.
+#[derive(Drop)]
+pub struct Function {
+    bytes: Vec<u8>,
+    ghost held: { HeldBody bytes.items } by { HeldBody-prop bytes.items },
+}
+
+impl Model for Function {
+    ghost use Rattle.wasm_write.specs.Bodies.{Body, body_code, held_body};
+
+    ghost Value = { Body };
+
+    ghost coded = { body_code };
+
+    ghost view = { λ f. held_body f.bytes.items f.held };
+}
+
+/// Appends so many locals of a type, or a part of them where memory is wanting.
+fn write_local(out: &mut Vec<u8>, local: (u32, ValType)) -> Result<(), NoMemory>
+    ensures ok { OnOk result (out.new.items ≡ out.old.items ++ normal (local_tree local)) }
+    ensures in_range { OnOk result (InRange (local_tree local)) }
+    ensures err { OnErr result (take (vec_len out.old) out.new.items ≡ out.old.items) }
+{
+    match write_u32(out, local.0) {
+        Ok(()) => write_val_type(out, local.1),
+        Err(NoMemory) => Err(NoMemory),
+    }
+}
+
+/// Appends locals behind their number, or a part of that where memory is wanting.
+fn write_locals(out: &mut Vec<u8>, locals: &[(u32, ValType)]) -> Result<(), NoMemory>
+    requires { length locals.now < 2 ^ 32 }
+    ensures ok { OnOk result (out.new.items ≡ out.old.items ++ normal (body_tree (map local_tree locals.now))) }
+    ensures in_range { OnOk result (InRange (body_tree (map local_tree locals.now))) }
+    ensures err { OnErr result (take (vec_len out.old) out.new.items ≡ out.old.items) }
+{
+    match write_u32(out, locals.len() as u32) {
+        Ok(()) => {}
+        Err(NoMemory) => return Err(NoMemory),
+    }
+    for local in locals {
+        match write_local(out, *local) {
+            Ok(()) => {}
+            Err(NoMemory) => return Err(NoMemory),
+        }
+    }
+    Ok(())
+}
+
+impl Function {
+    /// A function with these locals, each a number of them and their type, and no operator.
+    ///
+    /// `TooLarge` comes exactly where there are more than 2^32 - 1 pairs, with their number.
+    pub fn new(alloc: Global, locals: &List<(u32, ValType)>) -> Result<Function, WriteFault>
+        ensures ok { IfOk result (λ f. f ≡ record { locals = map local_tree locals.now; operators = [] }) }
+        ensures fits { OnOk result (length locals.now < 2 ^ 32) }
+        ensures large { IfErr result (λ e. IfTooLarge e (λ size. (size ≡ length locals.now) × (2 ^ 32 - 1 < size))) }
+    {
+        let count = locals.len();
+        if count > u32::MAX as usize {
+            return Err(WriteFault::TooLarge { size: count as u64 });
+        }
+        let mut bytes = Vec::new(alloc);
+        match write_locals(&mut bytes, locals.as_slice()) {
+            Ok(()) => Ok(Function { bytes }),
+            Err(NoMemory) => Err(WriteFault::NoMemory),
+        }
+    }
+
+    /// Adds an operator. The one refusal is want of memory, and changes nothing.
+    pub fn instruction(&mut self, instruction: &Instruction<'_>) -> Result<(), WriteFault>
+        ensures ok { OnOk result (self.new ≡ with_operator self.old (instruction_tree instruction.now)) }
+        ensures err { OnErr result (self.new ≡ self.old) }
+        ensures wants { IfErr result (λ e. e ≡ WriteFault.NoMemory) }
+    {
+        let len = self.bytes.len();
+        match instruction.encode(&mut self.bytes) {
+            Ok(()) => Ok(()),
+            Err(NoMemory) => {
+                self.bytes.truncate(len);
+                Err(WriteFault::NoMemory)
+            }
+        }
+    }
+
+    /// The normal spelling of the locals and the operators, which reads back as this function.
+    pub(crate) fn as_bytes(&self) -> &[u8]
+        ensures value { result.now ≡ normal (function_body self.now) }
+        ensures spells { ∥ Spells full_body (normal (function_body self.now)) (function_body self.now) ∥₁ }
+    {
+        &self.bytes
+    }
+}
