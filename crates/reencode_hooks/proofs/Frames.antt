@@ -1,13 +1,13 @@
 -- The frames of a shape that holds none out of order close in the order of its bytes.
-use Rattle.std.proofs.Common.{◌≡◌, ℕ, List, [], ◌∷◌, ◌++◌, Bool, true, false, Option, Some, None, length, refl, sym, ap, ◌∙◌}
+use Rattle.std.proofs.Common.{◌≡◌, ℕ, List, [], ◌∷◌, ◌++◌, true, Option, Some, None, length, refl, sym, ap, ◌∙◌}
 use mathlib.Core.Bool.{false≢true}
 use Rattle.std.specs.Prelude.{◌&&◌}
 use Rattle.wasm_shapes.specs.declared.ImmKind.{ImmKind}
 use Rattle.wasm_shapes.specs.declared.ImmKind.TheVariants as kind
-use Rattle.wasm_shapes.specs.Operators.{Code, kinds_among}
-use Rattle.wasm_shapes.specs.Tree.{Tree, Listed, typed, frames, fill, normal}
-use Rattle.wasm_shapes.specs.Shape.{Shape, Named, shape_of, shape_of_kind, shape_of_kinds, shape_of_row, immediates, listing}
-use Rattle.wasm_shapes.specs.Spells.{Is, Spells}
+use Rattle.wasm_shapes.specs.Operators.{kinds_among}
+use Rattle.wasm_shapes.specs.Tree.{Tree, Listed, frames, normal}
+use Rattle.wasm_shapes.specs.Shape.{Shape, Named, shape_of, shape_of_kind, shape_of_kinds, shape_of_row, listing}
+use Rattle.wasm_shapes.specs.Spells.{Is}
 use Rattle.wasm_shapes.proofs.Lists.{both}
 use Rattle.wasm_shapes.proofs.ReadBack.{fill_is}
 use Rattle.reencode_hooks.specs.Moments.{closings}

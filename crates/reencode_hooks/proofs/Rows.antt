@@ -1,5 +1,5 @@
 -- Rows that are walked one after another.
-use Rattle.std.proofs.Common.{◌≡◌, ℕ, List, [], ◌∷◌, ◌++◌, refl, sym, ap, ◌∙◌, append_assoc}
+use Rattle.std.proofs.Common.{◌≡◌, ℕ, List, [], ◌∷◌, ◌++◌, refl, sym, ap, ◌∙◌}
 use Rattle.wasm_shapes.specs.declared.Visit.{Visit}
 use Rattle.wasm_shapes.specs.Tree.{Tree}
 use Rattle.wasm_shapes.specs.Rows.{rows_then}

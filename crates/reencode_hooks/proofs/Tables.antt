@@ -68,7 +68,7 @@ get-insert (x ∷ l) k v (suc i) no_key q = grind (arith, nat_tests, no_key 0 (o
 inserted : (l new : Pairs) (k v : ℕ) → GetsAfterSet l new k v → entries_of new ≡ map.insert (entries_of l) k v
 inserted l new k v h =
     map.same_map nat_cmp_total nat_cmp-IsAntisymmetric (entries_of new) (map.insert (entries_of l) k v) (λ q.
-        get-entries_of new q ∙ h q ∙ sym (map.get-insert nat_cmp_total (entries_of l) k v q ∙ rw (same_test q k, get-entries_of l q) refl))
+    get-entries_of new q ∙ h q ∙ sym (map.get-insert nat_cmp_total (entries_of l) k v q ∙ rw (same_test q k, get-entries_of l q) refl))
 
 module _ (l : Pairs) (sorted : IsStrictlySorted l) (k at : ℕ) where
   before_it : at < length l → key_at l at ≡ k → NoKeyBefore l k at

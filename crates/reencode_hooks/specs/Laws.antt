@@ -1,10 +1,11 @@
 -- Laws of walks and runs.
-use Rattle.std.specs.Prelude.{◌≡◌, ◌≤◌, ℕ, List, All, ◌↔◌}
+use Rattle.std.specs.Prelude.{◌≡◌, ◌<◌, ◌≤◌, ◌⊎◌, ℕ, List, All, ◌↔◌}
 use Rattle.wasm_shapes.specs.declared.Visit.{Visit}
 use Rattle.wasm_shapes.specs.Tree.{Tree, visits, fill}
 use Rattle.wasm_shapes.specs.Spells.{Spelled}
 use Rattle.wasm_shapes.specs.Fits.{Fits}
 use Rattle.reencode_hooks.specs.declared.error.Error.{Error}
+use Rattle.reencode_hooks.specs.declared.error.Error.TheVariants.{UserError, TooLarge}
 use Rattle.reencode_hooks.specs.Run.{Step, accepted, refused, and_then, run, answers, state_after, Visited}
 use Rattle.reencode_hooks.specs.Walk.{walk}
 use Rattle.reencode_hooks.specs.Moments.{moments, asked_in, closed_in, closings, NoneLost, passed, Stops}
@@ -32,6 +33,20 @@ pub record WalkIsRun {S E : Type 0} (asked : S → Visit → Step S (Error E) �
 abbrev pub WalkStops : {S E : Type 0} → (S → Visit → Step S (Error E) ℕ) → Type 0
 WalkStops {S} {E} asked = (c : ℕ) (s m : S) (t : Tree) (e : Error E) →
     (walk asked c s t ≡ refused e m) ↔ Stops asked c s (moments t (answers asked s (visits t))) e m
+
+-- a frame of this walk was above the ceiling
+pub record FrameRefused {S E : Type 0} (asked : S → Visit → Step S (Error E) ℕ) (c : ℕ) (s : S) (t : Tree) : Type 0 where
+  pub size : ℕ
+  pub state : S
+  pub above : c < size
+  pub is : walk asked c s t ≡ refused (TooLarge size) state
+
+-- The reencoder's refusal of a walk is that of the run; and where the run is refused, so is the walk of a tree that bytes
+-- spell, unless a frame was above the ceiling before.
+pub record WalkRefuses {S E : Type 0} (asked : S → Visit → Step S (Error E) ℕ) : Type 0 where
+  pub forth : (c : ℕ) (s m : S) (t : Tree) (x : E) → walk asked c s t ≡ refused (UserError x) m → run asked s (visits t) ≡ refused (UserError x) m
+  pub back : (c : ℕ) (s m : S) (t : Tree) (e : Error E) (bytes : List ℕ) → Spelled t bytes → run asked s (visits t) ≡ refused e m →
+      (walk asked c s t ≡ refused e m) ⊎ FrameRefused asked c s t
 
 -- The state after a walk is that of the run over a front part of the tree's visits.
 abbrev pub WalkVisits : {S E : Type 0} → (S → Visit → Step S (Error E) ℕ) → Type 0

@@ -7,7 +7,7 @@ use Rattle.wasm_shapes.specs.declared.Space.{Space}
 use Rattle.wasm_shapes.specs.declared.Space.TheVariants as space
 use Rattle.wasm_shapes.specs.declared.Visit.TheVariants.{Index, Outer, Section, Push, Pop}
 use Rattle.reencode_hooks.specs.Hooks.{IsAnswer, KeepsAnswers, is_of_components}
-use Rattle.reencode_hooks.specs.Renamings.{Renaming, is_core_space, if_index, entry_of, entries_in, or_itself, renamer_reply}
+use Rattle.reencode_hooks.specs.Renamings.{is_core_space, if_index, entry_of, entries_in, or_itself, renamer_reply}
 use Rattle.std.specs.FinMap as map
 
 within : (b : Bool) (n : ℕ) → nat_lt n (2 ^ 32) ≡ b → IfSome (if b then Some n else None) (λ m. m < 2 ^ 32)

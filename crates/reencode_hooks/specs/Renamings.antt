@@ -1,6 +1,6 @@
 -- What a renamer holds, and what it answers.
 use Rattle.std.specs.Fmt.{decimal}
-use Rattle.std.specs.Prelude.{◌++◌, codes, ◌≡◌, ◌<◌, ◌≤◌, ◌+◌, ◌-◌, ◌*◌, ◌^◌, ◌&&◌, ℕ, Bool, true, false, List, [], ◌∷◌, min, nat_lt, length, replicate, slice_index, slice_index_or, slice_set, Option, Some, None, Result, Ok, Err, if◌then◌else◌, refl}
+use Rattle.std.specs.Prelude.{◌++◌, codes, ◌+◌, ◌-◌, ◌^◌, ◌&&◌, ℕ, Bool, true, false, List, min, nat_lt, replicate, slice_index, slice_index_or, slice_set, Option, Some, None, Result, Ok, Err, if◌then◌else◌, refl}
 use Rattle.std.specs.Ordering.{nat_cmp}
 use Rattle.std.specs.FinMap as map
 use Rattle.std.specs.Coded.{Coded, code_by, coded×, coded_list, coded_bool, coded_ℕ}
@@ -9,7 +9,6 @@ use Rattle.wasm_shapes.specs.declared.Space.TheVariants as space
 use Rattle.wasm_shapes.specs.declared.Visit.{Visit}
 use Rattle.wasm_shapes.specs.declared.Visit.TheVariants.{Index, Outer, Section, Push, Pop}
 use Rattle.wasm_shapes.specs.Names.{space_name}
-use Rattle.reencode_hooks.specs.Hooks.{IsInRange, IsAnswer, KeepsAnswers, is_of_components}
 use Rattle.reencode_hooks.specs.declared.asked.Asked.{Asked}
 use Rattle.reencode_hooks.specs.declared.asked.Asked.TheVariants as what
 use Rattle.reencode_hooks.specs.declared.asked.Unmapped.{Unmapped}

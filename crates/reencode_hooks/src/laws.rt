@@ -1,7 +1,7 @@
 //! Laws of walks and runs, each the contract of a function that does nothing.
 ghost use Rattle.reencode_hooks.specs.Run.{ask};
 ghost use Rattle.reencode_hooks.specs.Frames.{FramesAreInOrder};
-ghost use Rattle.reencode_hooks.specs.Laws.{WalkIsPassed, WalkIsRun, WalkStops, WalkVisits, MomentsAre};
+ghost use Rattle.reencode_hooks.specs.Laws.{WalkIsPassed, WalkIsRun, WalkStops, WalkRefuses, WalkVisits, MomentsAre};
 
 use crate::indices::ReencodeIndices;
 
@@ -20,6 +20,12 @@ pub fn walk_is_run<T: ReencodeIndices>(_reencoder: &T)
 /// A walk is refused exactly where a visit is refused, or a frame is above the ceiling, before any other.
 pub fn walk_stops<T: ReencodeIndices>(_reencoder: &T)
     ensures { WalkStops (ask T.reply T.next) }
+{}
+
+/// The reencoder's refusal of a walk is that of the fold of the hooks over the tree's visits; and where that fold is
+/// refused, so is the walk, unless a frame was above the ceiling before.
+pub fn walk_refuses<T: ReencodeIndices>(_reencoder: &T)
+    ensures { WalkRefuses (ask T.reply T.next) }
 {}
 
 /// The state after a walk is that of the fold of the hooks over a front part of the tree's visits.

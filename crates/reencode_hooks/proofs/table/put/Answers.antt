@@ -1,6 +1,5 @@
-use Rattle.std.proofs.Common.{◌∙◌, ap, subst, arith}
+use Rattle.std.proofs.Common.{◌∙◌, ap}
 use Rattle.reencode_hooks.specs.Renamings.{entries_of}
-use Rattle.reencode_hooks.specs.Tables.{IsStrictlySorted}
 use Rattle.reencode_hooks.proofs.Tables.{set_there, set_new, new_sorted, when_true, when_false}
 use Rattle.reencode_hooks.proofs.table.put.Goals as goal
 

@@ -1,4 +1,4 @@
-use Rattle.std.proofs.Common.{◌≡◌, sym, arith, length}
+use Rattle.std.proofs.Common.{sym, arith}
 use Rattle.reencode_hooks.proofs.Tables.{none_held}
 use Rattle.reencode_hooks.proofs.table.Table.get.Goals as goal
 
