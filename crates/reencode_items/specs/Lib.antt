@@ -1,1 +1,2 @@
+pub mod Immediates
 pub mod Maps

@@ -186,13 +186,81 @@ macro_rules! val_types {
     };
 }
 
+macro_rules! block_type {
+    ($reencoder:ident, $arg:ident) => {
+        match $arg {
+            r::BlockType::Empty => Ok(w::BlockType::Empty),
+            r::BlockType::Type_(ty) => Ok(w::BlockType::Result($reencoder.val_type(ty)?)),
+            r::BlockType::FuncType(index) => {
+                Ok(w::BlockType::FunctionType($reencoder.type_index(index)?))
+            }
+        }
+    };
+}
+
+macro_rules! index {
+    ($reencoder:ident, $space:ident, $index:ident) => {
+        match $space {
+            Space::Data => Ok(w::Imm::Index($space, $reencoder.data_index($index)?)),
+            Space::Element => Ok(w::Imm::Index($space, $reencoder.element_index($index)?)),
+            Space::Function => Ok(w::Imm::Index($space, $reencoder.function_index($index)?)),
+            Space::Global => Ok(w::Imm::Index($space, $reencoder.global_index($index)?)),
+            Space::Memory => Ok(w::Imm::Index($space, $reencoder.memory_index($index)?)),
+            Space::Table => Ok(w::Imm::Index($space, $reencoder.table_index($index)?)),
+            Space::Tag => Ok(w::Imm::Index($space, $reencoder.tag_index($index)?)),
+            Space::Type_ => Ok(w::Imm::Index($space, $reencoder.type_index($index)?)),
+            _ => unreachable!(),
+        }
+    };
+}
+
+macro_rules! immediate {
+    ($reencoder:ident, $imm:ident) => {
+        match $imm {
+            r::Imm::Index(space, index) => bodies::index!($reencoder, space, index),
+            r::Imm::Local(index) => Ok(w::Imm::Local(index)),
+            r::Imm::S32(number) => Ok(w::Imm::S32(number)),
+            _ => unreachable!(),
+        }
+    };
+}
+
+macro_rules! instruction {
+    ($reencoder:ident, $alloc:ident, $arg:ident) => {
+        {
+            let opcode = $arg.opcode();
+            let imms = $arg.into_imms();
+            let mut mapped = List::with_capacity($alloc, imms.len())?;
+            for imm in imms.into_vec() {
+                let imm = $reencoder.immediate($alloc, imm)?;
+                mapped.push(imm)?;
+            }
+            Ok(instructions::instruction_of(opcode, mapped))
+        }
+    };
+}
+
+macro_rules! parse_instruction {
+    ($reencoder:ident, $alloc:ident, $reader:ident) => {
+        {
+            let operator = $reader.read($alloc)?;
+            $reencoder.instruction($alloc, operator)
+        }
+    };
+}
+
 pub(crate) use array_type;
+pub(crate) use block_type;
 pub(crate) use composite_type;
 pub(crate) use cont_type;
 pub(crate) use external_index;
 pub(crate) use field_type;
 pub(crate) use func_type;
 pub(crate) use heap_type;
+pub(crate) use immediate;
+pub(crate) use index;
+pub(crate) use instruction;
+pub(crate) use parse_instruction;
 pub(crate) use ref_type;
 pub(crate) use storage_type;
 pub(crate) use struct_type;

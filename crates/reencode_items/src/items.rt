@@ -1,17 +1,21 @@
 //! The items of a core module, re-encoded through a reencoder's hooks.
-ghost use Rattle.std.specs.Prelude.{◌≡◌, ℕ, IsTrue, IfOk, length, map};
+ghost use Rattle.std.specs.Prelude.{◌≡◌, ℕ, IsTrue, IfOk, length, map, true};
 ghost use Rattle.reencode_hooks.specs.Run.{Gives, NeverWants, accepted};
+ghost use Rattle.wasm_read.specs.Immediates as immediates;
 ghost use Rattle.wasm_read.specs.Types as read;
 ghost use Rattle.wasm_write.specs.Held.{body_tree};
+ghost use Rattle.wasm_write.specs.Instructions as instructions;
 ghost use Rattle.wasm_write.specs.Rows as rows;
 ghost use Rattle.wasm_write.specs.Types as write;
-ghost use Rattle.reencode_items.specs.Maps.{Maps};
+ghost use Rattle.reencode_items.specs.Immediates.{is_mapped};
+ghost use Rattle.reencode_items.specs.Maps.{Maps, MovesOn, ParsesOperator};
 
-use crate::{bodies, kinds};
+use crate::{bodies, instructions, kinds};
 use reencode_hooks::{Error, ReencodeIndices};
 use std::alloc::Global;
 use wasm_leb::List;
 use wasm_read as r;
+use wasm_shapes::Space;
 use wasm_write as w;
 
 /// What a re-encoder does with each item. A default body asks the hook of each index of the item in the order of the
@@ -196,5 +200,58 @@ pub trait ReencodeItems: ReencodeIndices {
             → Maps Self.reply Self.next self.old (read.val_types_tree val_tys) write.val_types_tree self.new result }
     {
         bodies::val_types!(self, alloc, val_tys)
+    }
+
+    /// The type of a block (section 5.4.1).
+    fn block_type(&mut self, arg: r::BlockType) -> Result<w::BlockType, Error<Self::Error>>
+        ensures default { IsTrue Self.keeps_defaults
+            → Maps Self.reply Self.next self.old (read.block_type_tree arg) instructions.block_type_tree self.new result }
+        ensures sure { IsTrue Self.keeps_defaults → NeverWants Self.sure result }
+    {
+        bodies::block_type!(self, arg)
+    }
+
+    /// An immediate of an operator (section 5.4): an index of a space of core modules, a local or a number of 32 bits. The
+    /// new one is of the same kind, also where the defaults are not kept.
+    fn immediate<'a>(
+        &mut self,
+        alloc: Global,
+        imm: r::Imm<'a>,
+    ) -> Result<w::Imm<'a>, Error<Self::Error>>
+        requires { is_mapped imm ≡ true }
+        ensures kind { IfOk result (λ made. instructions.imm_kind made ≡ immediates.kind_of_imm imm.entry) }
+        ensures default { IsTrue Self.keeps_defaults
+            → Maps Self.reply Self.next self.old (immediates.imm_tree imm.entry) instructions.imm_tree self.new result }
+    {
+        bodies::immediate!(self, imm)
+    }
+
+    /// An operator (section 5.4), each immediate by the method `immediate`.
+    fn instruction<'a>(
+        &mut self,
+        alloc: Global,
+        arg: r::Operator<'a>,
+    ) -> Result<w::Instruction<'a>, Error<Self::Error>>
+        ensures default { IsTrue Self.keeps_defaults
+            → Maps Self.reply Self.next self.old (immediates.operator_tree arg.entry) instructions.instruction_tree self.new result }
+    {
+        bodies::instruction!(self, alloc, arg)
+    }
+
+    /// The operator that begins at a reader's place, by the method `instruction`. The reader stands further on then, also
+    /// where the defaults are not kept; by default it stands directly behind the operator.
+    ///
+    /// `ParseError` comes exactly where no operator begins, and holds the reader's place. After an error the reader's place
+    /// is left open.
+    fn parse_instruction<'a>(
+        &mut self,
+        alloc: Global,
+        reader: &mut r::OperatorsReader<'a>,
+    ) -> Result<w::Instruction<'a>, Error<Self::Error>>
+        ensures taken { IfOk result (λ _. MovesOn reader.old reader.new) }
+        ensures default { IsTrue Self.keeps_defaults
+            → ParsesOperator Self.reply Self.next self.old reader.old instructions.instruction_tree self.new reader.new result }
+    {
+        bodies::parse_instruction!(self, alloc, reader)
     }
 }

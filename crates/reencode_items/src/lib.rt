@@ -2,6 +2,7 @@
 #![tactic(auto)]
 
 mod bodies;
+mod instructions;
 mod items;
 mod kinds;
 mod plain;

@@ -1,18 +1,22 @@
 //! The default bodies of `ReencodeItems`, as functions of any reencoder.
-ghost use Rattle.std.specs.Prelude.{◌≡◌, ℕ, IsTrue, IfOk, length, map};
+ghost use Rattle.std.specs.Prelude.{◌≡◌, ℕ, IsTrue, IfOk, length, map, true};
 ghost use Rattle.reencode_hooks.specs.Run.{NeverWants};
+ghost use Rattle.wasm_read.specs.Immediates as immediates;
 ghost use Rattle.wasm_read.specs.Types as read;
 ghost use Rattle.wasm_write.specs.Held.{body_tree};
+ghost use Rattle.wasm_write.specs.Instructions as instructions;
 ghost use Rattle.wasm_write.specs.Rows as rows;
 ghost use Rattle.wasm_write.specs.Types as write;
-ghost use Rattle.reencode_items.specs.Maps.{Maps};
+ghost use Rattle.reencode_items.specs.Immediates.{is_mapped};
+ghost use Rattle.reencode_items.specs.Maps.{Maps, MovesOn, ParsesOperator};
 
 use crate::items::ReencodeItems;
-use crate::{bodies, kinds};
+use crate::{bodies, instructions, kinds};
 use reencode_hooks::Error;
 use std::alloc::Global;
 use wasm_leb::List;
 use wasm_read as r;
+use wasm_shapes::Space;
 use wasm_write as w;
 
 /// A heap type that names no type of the module (WebAssembly Core Specification 3.0, section 5.3.3).
@@ -212,4 +216,60 @@ pub fn val_types<T: ReencodeItems>(
         → Maps T.reply T.next reencoder.old (read.val_types_tree val_tys) write.val_types_tree reencoder.new result }
 {
     bodies::val_types!(reencoder, alloc, val_tys)
+}
+
+/// The type of a block (section 5.4.1).
+pub fn block_type<T: ReencodeItems>(
+    reencoder: &mut T,
+    arg: r::BlockType,
+) -> Result<w::BlockType, Error<T::Error>>
+    ensures default { IsTrue T.keeps_defaults
+        → Maps T.reply T.next reencoder.old (read.block_type_tree arg) instructions.block_type_tree reencoder.new result }
+    ensures sure { IsTrue T.keeps_defaults → NeverWants T.sure result }
+{
+    bodies::block_type!(reencoder, arg)
+}
+
+/// An immediate of an operator (section 5.4): an index of a space of core modules, a local or a number of 32 bits. The
+/// new one is of the same kind, also where the defaults are not kept.
+pub fn immediate<'a, T: ReencodeItems>(
+    reencoder: &mut T,
+    alloc: Global,
+    imm: r::Imm<'a>,
+) -> Result<w::Imm<'a>, Error<T::Error>>
+    requires { is_mapped imm ≡ true }
+    ensures kind { IfOk result (λ made. instructions.imm_kind made ≡ immediates.kind_of_imm imm.entry) }
+    ensures default { IsTrue T.keeps_defaults
+        → Maps T.reply T.next reencoder.old (immediates.imm_tree imm.entry) instructions.imm_tree reencoder.new result }
+{
+    bodies::immediate!(reencoder, imm)
+}
+
+/// An operator (section 5.4), each immediate by the method `immediate`.
+pub fn instruction<'a, T: ReencodeItems>(
+    reencoder: &mut T,
+    alloc: Global,
+    arg: r::Operator<'a>,
+) -> Result<w::Instruction<'a>, Error<T::Error>>
+    ensures default { IsTrue T.keeps_defaults
+        → Maps T.reply T.next reencoder.old (immediates.operator_tree arg.entry) instructions.instruction_tree reencoder.new result }
+{
+    bodies::instruction!(reencoder, alloc, arg)
+}
+
+/// The operator that begins at a reader's place, by the method `instruction`. The reader stands further on then, also
+/// where the defaults are not kept; by default it stands directly behind the operator.
+///
+/// `ParseError` comes exactly where no operator begins, and holds the reader's place. After an error the reader's place
+/// is left open.
+pub fn parse_instruction<'a, T: ReencodeItems>(
+    reencoder: &mut T,
+    alloc: Global,
+    reader: &mut r::OperatorsReader<'a>,
+) -> Result<w::Instruction<'a>, Error<T::Error>>
+    ensures taken { IfOk result (λ _. MovesOn reader.old reader.new) }
+    ensures default { IsTrue T.keeps_defaults
+        → ParsesOperator T.reply T.next reencoder.old reader.old instructions.instruction_tree reencoder.new reader.new result }
+{
+    bodies::parse_instruction!(reencoder, alloc, reader)
 }
