@@ -1,0 +1,82 @@
+-- The walks over composite types and subtypes, by those over the parts that have a call of their own.
+use Rattle.std.proofs.Common.{◌≡◌, ℕ, Bool, true, false, List, [], ◌∷◌, length, Option, Some, None, sym, subst}
+use Rattle.wasm_shapes.specs.declared.Visit.{Visit}
+use Rattle.wasm_shapes.specs.Tree.{Tree}
+use Rattle.wasm_read.specs.declared.types.UnpackedIndex.{UnpackedIndex}
+use Rattle.wasm_read.specs.Types as read
+use Rattle.wasm_write.specs.Types as write
+use Rattle.reencode_hooks.specs.declared.error.Error.{Error}
+use Rattle.reencode_hooks.specs.Run.{Step, accepted, refused}
+use Rattle.reencode_items.proofs.Steps.{Accepts, Refuses, row_accepts, row_refuses, led_accepts, led_refuses, pair_accepts, pair_refuses, pair_refuses_second, swap_accepts, swap_refuses, swap_refuses_first}
+
+-- An index that may be left out was asked, where it is there.
+pub data OptionAccepts {S E : Type 0} (asked : S → Visit → Step S (Error E) ℕ) (c : ℕ) (s : S) : Option UnpackedIndex → Option ℕ → S → Type 0 where
+  left_out : OptionAccepts asked c s None None s
+  answered : {i : UnpackedIndex} {n : ℕ} {m : S} → Accepts asked c s (read.type_index i) (write.type_index n) m → OptionAccepts asked c s (Some i) (Some n) m
+
+same_state : {S E : Type 0} {s m : S} {t u : Tree} → ◌≡◌ {A = Step S (Error E) Tree} (accepted t s) (accepted u m) → s ≡ m
+same_state h = cc
+
+never : {S E : Type 0} {t : Tree} {s m : S} {e : Error E} → ◌≡◌ {A = Step S (Error E) Tree} (accepted t s) (refused e m) → ⊥
+never h = cc
+
+module _ {S E : Type 0} {asked : S → Visit → Step S (Error E) ℕ} {c : ℕ} where
+  -- ---- composite types
+
+  pub described_accepts : {s m n : S} {t u : Tree} {i : Option UnpackedIndex} {j : Option ℕ} → Accepts asked c s t u m → OptionAccepts asked c m i j n →
+      Accepts asked c s (read.described_tree i t) (write.described_tree j u) n
+  described_accepts h left_out = h
+  described_accepts h (answered k) = row_accepts (swap_accepts h (led_accepts k))
+
+  pub described_refuses : {s m : S} {t : Tree} {e : Error E} (i : Option UnpackedIndex) → Refuses asked c s t e m → Refuses asked c s (read.described_tree i t) e m
+  described_refuses None h = h
+  described_refuses (Some i) h = row_refuses (swap_refuses h)
+
+  pub descriptor_refuses : {s m n : S} {t u : Tree} {e : Error E} (i : UnpackedIndex) → Accepts asked c s t u m → Refuses asked c m (read.type_index i) e n →
+      Refuses asked c s (read.described_tree (Some i) t) e n
+  descriptor_refuses i h k = row_refuses (swap_refuses_first h (led_refuses k))
+
+  pub describing_accepts : {s m n : S} {t u : Tree} {i : Option UnpackedIndex} {j : Option ℕ} → Accepts asked c s t u m → OptionAccepts asked c m i j n →
+      Accepts asked c s (read.describing_tree i t) (write.describing_tree j u) n
+  describing_accepts h left_out = h
+  describing_accepts h (answered k) = row_accepts (swap_accepts h (led_accepts k))
+
+  pub describing_refuses : {s m : S} {t : Tree} {e : Error E} (i : Option UnpackedIndex) → Refuses asked c s t e m → Refuses asked c s (read.describing_tree i t) e m
+  describing_refuses None h = h
+  describing_refuses (Some i) h = row_refuses (swap_refuses h)
+
+  pub describes_refuses : {s m n : S} {t u : Tree} {e : Error E} (i : UnpackedIndex) → Accepts asked c s t u m → Refuses asked c m (read.type_index i) e n →
+      Refuses asked c s (read.describing_tree (Some i) t) e n
+  describes_refuses i h k = row_refuses (swap_refuses_first h (led_refuses k))
+
+  pub shared_accepts : {s m : S} {t u : Tree} (b : Bool) → Accepts asked c s t u m →
+      Accepts asked c s (read.shared_composite_tree b t) (write.shared_composite_tree b u) m
+  shared_accepts false h = h
+  shared_accepts true h = row_accepts (led_accepts h)
+
+  pub shared_refuses : {s m : S} {t : Tree} {e : Error E} (b : Bool) → Refuses asked c s t e m → Refuses asked c s (read.shared_composite_tree b t) e m
+  shared_refuses false h = h
+  shared_refuses true h = row_refuses (led_refuses h)
+
+  -- ---- subtypes
+
+  pub sub_accepts : {s m n : S} {t u : Tree} (b : Bool) (is : List UnpackedIndex) (js : List ℕ) → length js ≡ length is →
+      Accepts asked c s (read.supertypes_tree is) (write.supertypes_tree js) m → Accepts asked c m t u n →
+      Accepts asked c s (read.sub_parts b is t) (write.sub_parts b js u) n
+  sub_accepts {n = n} {t = t} {u = u} true [] [] l h k = subst (λ (z : S). Accepts asked c z t u n) (sym (same_state h.is)) k
+  sub_accepts true [] (j ∷ js) l h k = absurd cc
+  sub_accepts true (i ∷ is) [] l h k = absurd cc
+  sub_accepts true (i ∷ is) (j ∷ js) l h k = row_accepts (led_accepts (pair_accepts h k))
+  sub_accepts false is js l h k = row_accepts (led_accepts (pair_accepts h k))
+
+  pub supertypes_refuse : {s m : S} {e : Error E} (b : Bool) (is : List UnpackedIndex) (t : Tree) → Refuses asked c s (read.supertypes_tree is) e m →
+      Refuses asked c s (read.sub_parts b is t) e m
+  supertypes_refuse true [] t h = absurd (never h.is)
+  supertypes_refuse true (i ∷ is) t h = row_refuses (led_refuses (pair_refuses h))
+  supertypes_refuse false is t h = row_refuses (led_refuses (pair_refuses h))
+
+  pub composite_refuses : {s m n : S} {t u : Tree} {e : Error E} (b : Bool) (is : List UnpackedIndex) → Accepts asked c s (read.supertypes_tree is) u m →
+      Refuses asked c m t e n → Refuses asked c s (read.sub_parts b is t) e n
+  composite_refuses {n = n} {t = t} {e = e} true [] h k = subst (λ (z : S). Refuses asked c z t e n) (sym (same_state h.is)) k
+  composite_refuses true (i ∷ is) h k = row_refuses (led_refuses (pair_refuses_second h k))
+  composite_refuses false is h k = row_refuses (led_refuses (pair_refuses_second h k))

@@ -1,0 +1,140 @@
+-- A walk over a tree by the walks over its parts.
+use Rattle.std.proofs.Common.{◌≡◌, ◌<◌, ◌≤◌, ℕ, ◌+◌, List, [], ◌∷◌, ◌++◌, length, drop, get_or, refl, sym, ap, ◌∙◌, drop-cons, add-one}
+use Rattle.std.specs.Prelude.{map}
+use Rattle.std.proofs.lemmas.List.{map-append, drop_all}
+use Rattle.wasm_shapes.specs.declared.Visit.{Visit}
+use Rattle.wasm_shapes.specs.Tree.{Tree}
+use Rattle.wasm_shapes.specs.Rows.{rows_then}
+use Rattle.reencode_hooks.specs.declared.error.Error.{Error}
+use Rattle.reencode_hooks.specs.Run.{Step, accepted, refused, and_then}
+use Rattle.reencode_hooks.specs.Walk.{walk}
+
+-- The walk over a tree is accepted: it gives this tree and this state.
+pub record Accepts {S E : Type 0} (asked : S → Visit → Step S (Error E) ℕ) (c : ℕ) (s : S) (t u : Tree) (m : S) : Type 0 where
+  pub is : walk asked c s t ≡ accepted u m
+
+-- It is refused with this error, in this state.
+pub record Refuses {S E : Type 0} (asked : S → Visit → Step S (Error E) ℕ) (c : ℕ) (s : S) (t : Tree) (e : Error E) (m : S) : Type 0 where
+  pub is : walk asked c s t ≡ refused e m
+
+module _ {S E : Type 0} {asked : S → Visit → Step S (Error E) ℕ} {c : ℕ} where
+  -- ---- one part
+
+  pub row_accepts : {s m : S} {k : ℕ} {t u : Tree} → Accepts asked c s t u m → Accepts asked c s (Tree.row k t) (Tree.row k u) m
+  row_accepts h = record { is = rw h.is refl }
+
+  pub row_refuses : {s m : S} {k : ℕ} {t : Tree} {e : Error E} → Refuses asked c s t e m → Refuses asked c s (Tree.row k t) e m
+  row_refuses h = record { is = rw h.is refl }
+
+  pub vec_accepts : {s m : S} {t u : Tree} → Accepts asked c s t u m → Accepts asked c s (Tree.vec t) (Tree.vec u) m
+  vec_accepts h = record { is = rw h.is refl }
+
+  pub vec_refuses : {s m : S} {t : Tree} {e : Error E} → Refuses asked c s t e m → Refuses asked c s (Tree.vec t) e m
+  vec_refuses h = record { is = rw h.is refl }
+
+  -- behind a fixed byte
+  pub led_accepts : {s m : S} {b : ℕ} {t u : Tree} → Accepts asked c s t u m → Accepts asked c s (Tree.pair (Tree.fixed b) t) (Tree.pair (Tree.fixed b) u) m
+  led_accepts h = record { is = rw h.is refl }
+
+  pub led_refuses : {s m : S} {b : ℕ} {t : Tree} {e : Error E} → Refuses asked c s t e m → Refuses asked c s (Tree.pair (Tree.fixed b) t) e m
+  led_refuses h = record { is = rw h.is refl }
+
+  -- ---- two parts
+
+  pub pair_accepts : {s m n : S} {t u t' u' : Tree} → Accepts asked c s t t' m → Accepts asked c m u u' n →
+      Accepts asked c s (Tree.pair t u) (Tree.pair t' u') n
+  pair_accepts h k = record { is = rw (h.is, k.is) refl }
+
+  pub pair_refuses : {s m : S} {t u : Tree} {e : Error E} → Refuses asked c s t e m → Refuses asked c s (Tree.pair t u) e m
+  pair_refuses h = record { is = rw h.is refl }
+
+  pub pair_refuses_second : {s m n : S} {t u t' : Tree} {e : Error E} → Accepts asked c s t t' m → Refuses asked c m u e n →
+      Refuses asked c s (Tree.pair t u) e n
+  pair_refuses_second h k = record { is = rw (h.is, k.is) refl }
+
+  -- of which the second is visited first
+  pub swap_accepts : {s m n : S} {t u t' u' : Tree} → Accepts asked c s u u' m → Accepts asked c m t t' n →
+      Accepts asked c s (Tree.swap t u) (Tree.swap t' u') n
+  swap_accepts h k = record { is = rw (h.is, k.is) refl }
+
+  pub swap_refuses : {s m : S} {t u : Tree} {e : Error E} → Refuses asked c s u e m → Refuses asked c s (Tree.swap t u) e m
+  swap_refuses h = record { is = rw h.is refl }
+
+  pub swap_refuses_first : {s m n : S} {t u u' : Tree} {e : Error E} → Accepts asked c s u u' m → Refuses asked c m t e n →
+      Refuses asked c s (Tree.swap t u) e n
+  swap_refuses_first h k = record { is = rw (h.is, k.is) refl }
+
+-- ---- items one behind another
+
+-- a step behind rows that were accepted
+abbrev pub onto_rows : {S E : Type 0} → List Tree → Step S E Tree → Step S E Tree
+onto_rows rows step = and_then step (λ u m. accepted (rows_then rows u) m)
+
+-- Of the items of a list those in front of a place were walked, to what is made so far and this state, and the others are
+-- walked from here.
+pub record ItemsDone {S E A B : Type 0} (asked : S → Visit → Step S (Error E) ℕ) (read : A → Tree) (write : B → Tree)
+    (s0 : S) (items : List A) (place : ℕ) (s : S) (made : List B) : Type 0 where
+  pub walks : (c : ℕ) → walk asked c s0 (rows_then (map read items) Tree.nil)
+      ≡ onto_rows (map write made) (walk asked c s (rows_then (map read (drop place items)) Tree.nil))
+
+onto_nothing : {S E : Type 0} (step : Step S E Tree) → step ≡ onto_rows [] step
+onto_nothing (accepted u m) = refl
+onto_nothing (refused e m) = refl
+
+rows_then-append : (ts : List Tree) (t u : Tree) → rows_then (ts ++ t ∷ []) u ≡ rows_then ts (Tree.cons t u)
+rows_then-append [] t u = refl
+rows_then-append (x ∷ ts) t u = ap (λ (z : Tree). Tree.cons x z) (rows_then-append ts t u)
+
+-- one row more in front of a step
+one_onto : {S E B : Type 0} (write : B → Tree) (made : List B) (b : B) (step : Step S E Tree) →
+    onto_rows (map write made) (and_then step (λ u m. accepted (Tree.cons (write b) u) m)) ≡ onto_rows (map write (made ++ b ∷ [])) step
+one_onto write made b (accepted u m) =
+    ap (λ (t : Tree). accepted t m)
+    (sym (rows_then-append (map write made) (write b) u) ∙ ap (λ (ts : List Tree). rows_then ts u) (sym (map-append write made (b ∷ []))))
+one_onto write made b (refused e m) = refl
+
+-- the item at a place, in front of those behind it
+pub drop_at : {A : Type 0} (items : List A) (i : ℕ) (d : A) → i < length items → drop i items ≡ get_or items i d ∷ drop (i + 1) items
+drop_at items i d h = rw add-one (drop-cons items i d h)
+
+module _ {S E A B : Type 0} {asked : S → Visit → Step S (Error E) ℕ} {read : A → Tree} {write : B → Tree} where
+  pub items_begin : (s : S) (items : List A) → ItemsDone asked read write s items 0 s []
+  items_begin s items = record { walks = λ c. onto_nothing (walk asked c s (rows_then (map read items) Tree.nil)) }
+
+  -- The item at the place was accepted. The loop goes over a slice of the items.
+  pub items_more : {s0 s m : S} {items slice : List A} {i : ℕ} {made more : List B} (d : A) {b : B} →
+      ItemsDone asked read write s0 items i s made → slice ≡ items → i < length slice →
+      ((c : ℕ) → walk asked c s (read (get_or slice i d)) ≡ accepted (write b) m) → more ≡ made ++ b ∷ [] →
+      ItemsDone asked read write s0 items (i + 1) m more
+  items_more {s = s} {m = m} {items = items} {slice = slice} {i = i} {made = made} d {b = b} done e h step pushed = record {
+    walks = λ c. rw pushed (
+        let x : A = get_or slice i d in
+        let rest : Tree = rows_then (map read (drop (i + 1) slice)) Tree.nil in
+        let here : drop i items ≡ x ∷ drop (i + 1) slice = rw (← e) (drop_at slice i d h) in
+        let first : walk asked c s (Tree.cons (read x) rest) ≡ and_then (walk asked c m rest) (λ u n. accepted (Tree.cons (write b) u) n) = rw (step c) refl in
+        done.walks c ∙ rw here (ap (λ (r : Step S (Error E) Tree). onto_rows (map write made) r) first ∙ rw e (one_onto write made b (walk asked c m (rows_then (map read (drop (i + 1) items)) Tree.nil)))));
+  }
+
+  -- The item at the place was refused.
+  pub items_refuse : {s0 s m : S} {items slice : List A} {i : ℕ} {made : List B} {e : Error E} (d : A) (c : ℕ) →
+      ItemsDone asked read write s0 items i s made → slice ≡ items → i < length slice →
+      walk asked c s (read (get_or slice i d)) ≡ refused e m →
+      Refuses asked c s0 (Tree.vec (rows_then (map read items) Tree.nil)) e m
+  items_refuse {s = s} {m = m} {items = items} {slice = slice} {i = i} {made = made} {e = err} d c done e h step =
+      let x : A = get_or slice i d in
+      let rest : Tree = rows_then (map read (drop (i + 1) slice)) Tree.nil in
+      let here : drop i items ≡ x ∷ drop (i + 1) slice = rw (← e) (drop_at slice i d h) in
+      let first : walk asked c s (Tree.cons (read x) rest) ≡ refused err m = rw step refl in
+      let all : Refuses asked c _ (rows_then (map read items) Tree.nil) err m =
+      record { is = done.walks c ∙ rw here (ap (λ (r : Step S (Error E) Tree). onto_rows (map write made) r) first) } in
+      vec_refuses all
+
+  -- All were accepted.
+  pub items_accept : {s0 s : S} {items slice : List A} {i : ℕ} {made : List B} (c : ℕ) →
+      ItemsDone asked read write s0 items i s made → slice ≡ items → length slice ≤ i →
+      Accepts asked c s0 (Tree.vec (rows_then (map read items) Tree.nil)) (Tree.vec (rows_then (map write made) Tree.nil)) s
+  items_accept {s0 = s0} {s = s} {items = items} {i = i} {made = made} c done e all =
+      let none : drop i items ≡ [] = rw (← e) (drop_all i _ all) in
+      let whole : Accepts asked c s0 (rows_then (map read items) Tree.nil) (rows_then (map write made) Tree.nil) s =
+      record { is = done.walks c ∙ rw none refl } in
+      vec_accepts whole

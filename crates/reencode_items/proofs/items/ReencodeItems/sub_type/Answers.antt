@@ -1,0 +1,42 @@
+use Rattle.std.proofs.Common.{◌≡◌, length, arith}
+use Rattle.std.proofs.lemmas.Grind.{common_steps}
+use Rattle.std.proofs.lemmas.Result.{err_from_is_err_and}
+use Rattle.reencode_items.proofs.Steps.{items_more, items_refuse, items_accept}
+use Rattle.reencode_items.proofs.Composites.{sub_accepts, supertypes_refuse, composite_refuses}
+use Rattle.reencode_items.proofs.items.ReencodeItems.sub_type.Goals as goal
+
+pub returns-in_err-index : goal.returns-in_err-index
+returns-in_err-index g c =
+    let p = err_from_is_err_and c.from_residual-in_err-index.result c.from_residual-in_err-index.ensures.1 in
+    rw (p.1, p.2) (record {
+      default = λ k ceiling other.
+          let ty = c.args.sub_ty in
+          (supertypes_refuse ty.is_final ty.supertype_idxs _ (items_refuse _ ceiling (c.loop-index.invariant.default k) c.as_slice-index-items.ensures c.loop-index-test.true
+          (c.in_err-index.ensures.default k ceiling other))).is;
+    })
+
+pub loop-index-preserved : goal.loop-index-preserved
+loop-index-preserved g c = record {
+  counted = rw c.in_ok-push.ensures.ok (grind (arith, common_steps));
+  default = λ k. items_more _ (c.loop-index.invariant.default k) c.as_slice-index-items.ensures c.loop-index-test.true (c.in_ok-index.ensures.default k) c.in_ok-push.ensures.ok;
+}
+
+pub returns-in_err-composite_type : goal.returns-in_err-composite_type
+returns-in_err-composite_type g c =
+    let p = err_from_is_err_and c.from_residual-in_err-composite_type.result c.from_residual-in_err-composite_type.ensures.1 in
+    rw (p.1, p.2) (record {
+      default = λ k ceiling other.
+          let ty = c.args.sub_ty in
+          (composite_refuses ty.is_final ty.supertype_idxs (items_accept ceiling (c.loop-index.invariant.default k) c.as_slice-index-items.ensures c.loop-index-test.false)
+          (record { is = c.in_err-composite_type.ensures.default k ceiling other })).is;
+    })
+
+pub returns : goal.returns
+returns g c = record {
+  default = λ k ceiling.
+      let ty = c.args.sub_ty in
+      let same : length c.loop-index.supertype_idxs ≡ length ty.supertype_idxs = rw (← c.as_slice-index-items.ensures) (omega arith) in
+      (sub_accepts ty.is_final ty.supertype_idxs c.loop-index.supertype_idxs same
+      (items_accept ceiling (c.loop-index.invariant.default k) c.as_slice-index-items.ensures c.loop-index-test.false)
+      (record { is = c.in_ok-composite_type.ensures.default k ceiling })).is;
+}

@@ -1,0 +1,270 @@
+//! The default bodies, which the trait and `utils` share: a body of a trait cannot pass its receiver to a function that
+//! is bounded by that trait.
+
+macro_rules! type_index_unpacked {
+    ($reencoder:ident, $ty:ident) => {
+        match $ty {
+            r::UnpackedIndex::Module(index) => $reencoder.type_index(index),
+            r::UnpackedIndex::RecGroup(_) => Err(Error::CanonicalizedHeapTypeReference),
+        }
+    };
+}
+
+macro_rules! external_index {
+    ($reencoder:ident, $kind:ident, $index:ident) => {
+        match $kind {
+            r::ExternalKind::Func | r::ExternalKind::FuncExact => $reencoder.function_index($index),
+            r::ExternalKind::Table => $reencoder.table_index($index),
+            r::ExternalKind::Memory => $reencoder.memory_index($index),
+            r::ExternalKind::Global => $reencoder.global_index($index),
+            r::ExternalKind::Tag => $reencoder.tag_index($index),
+        }
+    };
+}
+
+macro_rules! array_type {
+    ($reencoder:ident, $array_ty:ident) => {
+        Ok(w::ArrayType($reencoder.field_type($array_ty.0)?))
+    };
+}
+
+macro_rules! cont_type {
+    ($reencoder:ident, $cont_ty:ident) => {
+        Ok(w::ContType($reencoder.type_index_unpacked($cont_ty.0)?))
+    };
+}
+
+macro_rules! field_type {
+    ($reencoder:ident, $field_ty:ident) => {
+        Ok(w::FieldType {
+            element_type: $reencoder.storage_type($field_ty.element_type)?,
+            mutable: $field_ty.mutable,
+        })
+    };
+}
+
+macro_rules! heap_type {
+    ($reencoder:ident, $heap_type:ident) => {
+        match $heap_type {
+            r::HeapType::Abstract { shared, ty } => Ok(w::HeapType::Abstract {
+                shared,
+                ty: $reencoder.abstract_heap_type(ty)?,
+            }),
+            r::HeapType::Concrete(index) => {
+                Ok(w::HeapType::Concrete($reencoder.type_index_unpacked(index)?))
+            }
+            r::HeapType::Exact(index) => {
+                Ok(w::HeapType::Exact($reencoder.type_index_unpacked(index)?))
+            }
+        }
+    };
+}
+
+macro_rules! ref_type {
+    ($reencoder:ident, $ref_type:ident) => {
+        Ok(w::RefType {
+            nullable: $ref_type.nullable,
+            heap_type: $reencoder.heap_type($ref_type.heap_type)?,
+        })
+    };
+}
+
+macro_rules! storage_type {
+    ($reencoder:ident, $storage_ty:ident) => {
+        match $storage_ty {
+            r::StorageType::I8 => Ok(w::StorageType::I8),
+            r::StorageType::I16 => Ok(w::StorageType::I16),
+            r::StorageType::Val(ty) => Ok(w::StorageType::Val($reencoder.val_type(ty)?)),
+        }
+    };
+}
+
+macro_rules! val_type {
+    ($reencoder:ident, $val_ty:ident) => {
+        match $val_ty {
+            r::ValType::I32 => Ok(w::ValType::I32),
+            r::ValType::I64 => Ok(w::ValType::I64),
+            r::ValType::F32 => Ok(w::ValType::F32),
+            r::ValType::F64 => Ok(w::ValType::F64),
+            r::ValType::V128 => Ok(w::ValType::V128),
+            r::ValType::Ref(ref_type) => Ok(w::ValType::Ref($reencoder.ref_type(ref_type)?)),
+        }
+    };
+}
+
+macro_rules! composite_type {
+    ($reencoder:ident, $alloc:ident, $composite_ty:ident) => {
+        {
+            let r::CompositeType {
+                inner,
+                shared,
+                descriptor_idx,
+                describes_idx,
+            } = $composite_ty;
+            let inner = match inner {
+                r::CompositeInnerType::Func(ty) => {
+                    w::CompositeInnerType::Func($reencoder.func_type($alloc, ty)?)
+                }
+                r::CompositeInnerType::Array(ty) => {
+                    w::CompositeInnerType::Array($reencoder.array_type(ty)?)
+                }
+                r::CompositeInnerType::Struct(ty) => {
+                    w::CompositeInnerType::Struct($reencoder.struct_type($alloc, ty)?)
+                }
+                r::CompositeInnerType::Cont(ty) => {
+                    w::CompositeInnerType::Cont($reencoder.cont_type(ty)?)
+                }
+            };
+            let descriptor = match descriptor_idx {
+                Some(index) => Some($reencoder.type_index_unpacked(index)?),
+                None => None,
+            };
+            let describes = match describes_idx {
+                Some(index) => Some($reencoder.type_index_unpacked(index)?),
+                None => None,
+            };
+            Ok(w::CompositeType {
+                inner,
+                shared,
+                descriptor,
+                describes,
+            })
+        }
+    };
+}
+
+macro_rules! func_type {
+    ($reencoder:ident, $alloc:ident, $func_ty:ident) => {
+        Ok(w::FuncType {
+            params: $reencoder.val_types($alloc, $func_ty.params)?,
+            results: $reencoder.val_types($alloc, $func_ty.results)?,
+        })
+    };
+}
+
+macro_rules! struct_type {
+    ($reencoder:ident, $alloc:ident, $struct_ty:ident) => {
+        {
+            let mut fields = List::with_capacity($alloc, $struct_ty.fields.len())?;
+            for field in $struct_ty.fields.as_slice() {
+                let field = $reencoder.field_type(*field)?;
+                fields.push(field)?;
+            }
+            Ok(w::StructType { fields })
+        }
+    };
+}
+
+macro_rules! sub_type {
+    ($reencoder:ident, $alloc:ident, $sub_ty:ident) => {
+        {
+            let mut supertype_idxs = List::with_capacity($alloc, $sub_ty.supertype_idxs.len())?;
+            for index in $sub_ty.supertype_idxs.as_slice() {
+                let index = $reencoder.type_index_unpacked(*index)?;
+                supertype_idxs.push(index)?;
+            }
+            let composite_type = $reencoder.composite_type($alloc, $sub_ty.composite_type)?;
+            Ok(w::SubType {
+                is_final: $sub_ty.is_final,
+                supertype_idxs,
+                composite_type,
+            })
+        }
+    };
+}
+
+macro_rules! val_types {
+    ($reencoder:ident, $alloc:ident, $val_tys:ident) => {
+        {
+            let mut mapped = List::with_capacity($alloc, $val_tys.len())?;
+            for ty in $val_tys.as_slice() {
+                let ty = $reencoder.val_type(*ty)?;
+                mapped.push(ty)?;
+            }
+            Ok(mapped)
+        }
+    };
+}
+
+macro_rules! block_type {
+    ($reencoder:ident, $arg:ident) => {
+        match $arg {
+            r::BlockType::Empty => Ok(w::BlockType::Empty),
+            r::BlockType::Type_(ty) => Ok(w::BlockType::Result($reencoder.val_type(ty)?)),
+            r::BlockType::FuncType(index) => {
+                Ok(w::BlockType::FunctionType($reencoder.type_index(index)?))
+            }
+        }
+    };
+}
+
+macro_rules! index {
+    ($reencoder:ident, $space:ident, $index:ident) => {
+        match $space {
+            Space::Data => Ok(w::Imm::Index($space, $reencoder.data_index($index)?)),
+            Space::Element => Ok(w::Imm::Index($space, $reencoder.element_index($index)?)),
+            Space::Function => Ok(w::Imm::Index($space, $reencoder.function_index($index)?)),
+            Space::Global => Ok(w::Imm::Index($space, $reencoder.global_index($index)?)),
+            Space::Memory => Ok(w::Imm::Index($space, $reencoder.memory_index($index)?)),
+            Space::Table => Ok(w::Imm::Index($space, $reencoder.table_index($index)?)),
+            Space::Tag => Ok(w::Imm::Index($space, $reencoder.tag_index($index)?)),
+            Space::Type_ => Ok(w::Imm::Index($space, $reencoder.type_index($index)?)),
+            _ => unreachable!(),
+        }
+    };
+}
+
+macro_rules! immediate {
+    ($reencoder:ident, $imm:ident) => {
+        match $imm {
+            r::Imm::Index(space, index) => bodies::index!($reencoder, space, index),
+            r::Imm::Local(index) => Ok(w::Imm::Local(index)),
+            r::Imm::S32(number) => Ok(w::Imm::S32(number)),
+            _ => unreachable!(),
+        }
+    };
+}
+
+macro_rules! instruction {
+    ($reencoder:ident, $alloc:ident, $arg:ident) => {
+        {
+            let opcode = $arg.opcode();
+            let imms = $arg.into_imms();
+            let mut mapped = List::with_capacity($alloc, imms.len())?;
+            for imm in imms.into_vec() {
+                let imm = $reencoder.immediate($alloc, imm)?;
+                mapped.push(imm)?;
+            }
+            Ok(instructions::instruction_of(opcode, mapped))
+        }
+    };
+}
+
+macro_rules! parse_instruction {
+    ($reencoder:ident, $alloc:ident, $reader:ident) => {
+        {
+            let operator = $reader.read($alloc)?;
+            $reencoder.instruction($alloc, operator)
+        }
+    };
+}
+
+pub(crate) use array_type;
+pub(crate) use block_type;
+pub(crate) use composite_type;
+pub(crate) use cont_type;
+pub(crate) use external_index;
+pub(crate) use field_type;
+pub(crate) use func_type;
+pub(crate) use heap_type;
+pub(crate) use immediate;
+pub(crate) use index;
+pub(crate) use instruction;
+pub(crate) use parse_instruction;
+pub(crate) use ref_type;
+pub(crate) use storage_type;
+pub(crate) use struct_type;
+pub(crate) use sub_type;
+pub(crate) use type_index_unpacked;
+pub(crate) use val_type;
+pub(crate) use val_types;

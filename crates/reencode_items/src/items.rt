@@ -1,0 +1,257 @@
+//! The items of a core module, re-encoded through a reencoder's hooks.
+ghost use Rattle.std.specs.Prelude.{◌≡◌, ℕ, IsTrue, IfOk, length, map, true};
+ghost use Rattle.reencode_hooks.specs.Run.{Gives, NeverWants, accepted};
+ghost use Rattle.wasm_read.specs.Immediates as immediates;
+ghost use Rattle.wasm_read.specs.Types as read;
+ghost use Rattle.wasm_write.specs.Held.{body_tree};
+ghost use Rattle.wasm_write.specs.Instructions as instructions;
+ghost use Rattle.wasm_write.specs.Rows as rows;
+ghost use Rattle.wasm_write.specs.Types as write;
+ghost use Rattle.reencode_items.specs.Immediates.{is_mapped};
+ghost use Rattle.reencode_items.specs.Maps.{Maps, MovesOn, ParsesOperator};
+
+use crate::{bodies, instructions, kinds};
+use reencode_hooks::{Error, ReencodeIndices};
+use std::alloc::Global;
+use wasm_leb::List;
+use wasm_read as r;
+use wasm_shapes::Space;
+use wasm_write as w;
+
+/// What a re-encoder does with each item. A default body asks the hook of each index of the item in the order of the
+/// visits, and answers the item with each index replaced by its hook's answer; the first refusal ends it and is the
+/// answer. A part of an item that has a method of its own is mapped by that method.
+///
+/// The clause `default` of each method, and `sure`, hold where the reencoder keeps the defaults.
+pub trait ReencodeItems: ReencodeIndices {
+    /// The index of a type. `CanonicalizedHeapTypeReference` comes for one inside a recursion group.
+    fn type_index_unpacked(&mut self, ty: r::UnpackedIndex) -> Result<u32, Error<Self::Error>>
+        ensures default { IsTrue Self.keeps_defaults
+            → Maps Self.reply Self.next self.old (read.type_index ty) write.type_index self.new result }
+        ensures sure { IsTrue Self.keeps_defaults → NeverWants Self.sure result }
+    {
+        bodies::type_index_unpacked!(self, ty)
+    }
+
+    /// The index of what is exported, by the hook of its kind.
+    fn external_index(
+        &mut self,
+        kind: r::ExternalKind,
+        index: u32,
+    ) -> Result<u32, Error<Self::Error>>
+        ensures default { IsTrue Self.keeps_defaults
+            → Maps Self.reply Self.next self.old (read.item_tree kind index) (read.item_tree kind) self.new result }
+        ensures sure { IsTrue Self.keeps_defaults → NeverWants Self.sure result }
+    {
+        bodies::external_index!(self, kind, index)
+    }
+
+    /// A heap type that names no type of the module (WebAssembly Core Specification 3.0, section 5.3.3).
+    fn abstract_heap_type(
+        &mut self,
+        value: r::AbstractHeapType,
+    ) -> Result<w::AbstractHeapType, Error<Self::Error>>
+        ensures default { IsTrue Self.keeps_defaults
+            → Maps Self.reply Self.next self.old (read.abstract_tree value) write.abstract_tree self.new result }
+        ensures sure { IsTrue Self.keeps_defaults → NeverWants Self.sure result }
+    {
+        Ok(kinds::abstract_heap_type(value))
+    }
+
+    /// An array by the type of its elements (section 5.3.8).
+    fn array_type(&mut self, array_ty: r::ArrayType) -> Result<w::ArrayType, Error<Self::Error>>
+        ensures default { IsTrue Self.keeps_defaults
+            → Maps Self.reply Self.next self.old (read.field_type_tree array_ty.0) (λ ty. write.field_type_tree ty.0) self.new result }
+        ensures sure { IsTrue Self.keeps_defaults → NeverWants Self.sure result }
+    {
+        bodies::array_type!(self, array_ty)
+    }
+
+    /// A continuation by the type of its function.
+    #[tactic(auto, using(crate::proofs::Parts::walk_signed))]
+    fn cont_type(&mut self, cont_ty: r::ContType) -> Result<w::ContType, Error<Self::Error>>
+        ensures default { IsTrue Self.keeps_defaults
+            → Maps Self.reply Self.next self.old (read.signed_index cont_ty.0) (λ ty. write.signed_index ty.0) self.new result }
+        ensures sure { IsTrue Self.keeps_defaults → NeverWants Self.sure result }
+    {
+        bodies::cont_type!(self, cont_ty)
+    }
+
+    /// The kind of what is exported (section 5.5.10): with each index it is the same item. An exact function becomes a
+    /// function.
+    fn export_kind(
+        &mut self,
+        external_kind: r::ExternalKind,
+    ) -> Result<w::ExportKind, Error<Self::Error>>
+        ensures default { IsTrue Self.keeps_defaults
+            → (index : ℕ) → Gives (accepted (read.item_tree external_kind index) self.old) (λ kind. rows.item_tree kind index) self.new result }
+        ensures sure { IsTrue Self.keeps_defaults → NeverWants Self.sure result }
+    {
+        Ok(kinds::export_kind(external_kind))
+    }
+
+    /// A field of a structure or of an array (section 5.3.8).
+    fn field_type(&mut self, field_ty: r::FieldType) -> Result<w::FieldType, Error<Self::Error>>
+        ensures default { IsTrue Self.keeps_defaults
+            → Maps Self.reply Self.next self.old (read.field_type_tree field_ty) write.field_type_tree self.new result }
+        ensures sure { IsTrue Self.keeps_defaults → NeverWants Self.sure result }
+    {
+        bodies::field_type!(self, field_ty)
+    }
+
+    /// What a reference points to (section 5.3.3).
+    #[tactic(auto, using(crate::proofs::Parts::walk_signed))]
+    fn heap_type(&mut self, heap_type: r::HeapType) -> Result<w::HeapType, Error<Self::Error>>
+        ensures default { IsTrue Self.keeps_defaults
+            → Maps Self.reply Self.next self.old (read.heap_type_tree heap_type) write.heap_type_tree self.new result }
+        ensures sure { IsTrue Self.keeps_defaults → NeverWants Self.sure result }
+    {
+        bodies::heap_type!(self, heap_type)
+    }
+
+    /// A reference type (section 5.3.4).
+    #[tactic(auto, using(crate::proofs::Parts::walk_reference, crate::proofs::Parts::reference_written))]
+    fn ref_type(&mut self, ref_type: r::RefType) -> Result<w::RefType, Error<Self::Error>>
+        ensures default { IsTrue Self.keeps_defaults
+            → Maps Self.reply Self.next self.old (read.ref_type_tree ref_type) write.ref_type_tree self.new result }
+        ensures sure { IsTrue Self.keeps_defaults → NeverWants Self.sure result }
+    {
+        bodies::ref_type!(self, ref_type)
+    }
+
+    /// The type of a field as it is stored (section 5.3.8).
+    fn storage_type(
+        &mut self,
+        storage_ty: r::StorageType,
+    ) -> Result<w::StorageType, Error<Self::Error>>
+        ensures default { IsTrue Self.keeps_defaults
+            → Maps Self.reply Self.next self.old (read.storage_type_tree storage_ty) write.storage_type_tree self.new result }
+        ensures sure { IsTrue Self.keeps_defaults → NeverWants Self.sure result }
+    {
+        bodies::storage_type!(self, storage_ty)
+    }
+
+    /// A value type (section 5.3.5).
+    fn val_type(&mut self, val_ty: r::ValType) -> Result<w::ValType, Error<Self::Error>>
+        ensures default { IsTrue Self.keeps_defaults
+            → Maps Self.reply Self.next self.old (read.val_type_tree val_ty) write.val_type_tree self.new result }
+        ensures sure { IsTrue Self.keeps_defaults → NeverWants Self.sure result }
+    {
+        bodies::val_type!(self, val_ty)
+    }
+
+    /// A composite type (section 5.3.8). What it holds is asked before the type that describes it, and that before the
+    /// type that it describes.
+    fn composite_type(
+        &mut self,
+        alloc: Global,
+        composite_ty: r::CompositeType,
+    ) -> Result<w::CompositeType, Error<Self::Error>>
+        ensures default { IsTrue Self.keeps_defaults
+            → Maps Self.reply Self.next self.old (read.composite_tree composite_ty) write.composite_tree self.new result }
+    {
+        bodies::composite_type!(self, alloc, composite_ty)
+    }
+
+    /// The parameters and results of a function (section 5.3.8).
+    fn func_type(
+        &mut self,
+        alloc: Global,
+        func_ty: r::FuncType,
+    ) -> Result<w::FuncType, Error<Self::Error>>
+        ensures default { IsTrue Self.keeps_defaults
+            → Maps Self.reply Self.next self.old (read.func_type_tree func_ty) write.func_type_tree self.new result }
+    {
+        bodies::func_type!(self, alloc, func_ty)
+    }
+
+    /// A structure by its fields (section 5.3.8).
+    fn struct_type(
+        &mut self,
+        alloc: Global,
+        struct_ty: r::StructType,
+    ) -> Result<w::StructType, Error<Self::Error>>
+        ensures default { IsTrue Self.keeps_defaults
+            → Maps Self.reply Self.next self.old (read.fields_tree struct_ty.fields) (λ ty. body_tree (map write.field_type_tree ty.fields)) self.new result }
+    {
+        bodies::struct_type!(self, alloc, struct_ty)
+    }
+
+    /// A composite type with its supertypes, which are asked first (section 5.3.9).
+    fn sub_type(
+        &mut self,
+        alloc: Global,
+        sub_ty: r::SubType,
+    ) -> Result<w::SubType, Error<Self::Error>>
+        ensures default { IsTrue Self.keeps_defaults
+            → Maps Self.reply Self.next self.old (read.sub_type_tree sub_ty) write.sub_type_tree self.new result }
+    {
+        bodies::sub_type!(self, alloc, sub_ty)
+    }
+
+    /// Value types, each by the method `val_type`. There are as many as there were, also where the defaults are not kept.
+    fn val_types(
+        &mut self,
+        alloc: Global,
+        val_tys: List<r::ValType>,
+    ) -> Result<List<w::ValType>, Error<Self::Error>>
+        ensures counted { IfOk result (λ types. length types ≡ length val_tys) }
+        ensures default { IsTrue Self.keeps_defaults
+            → Maps Self.reply Self.next self.old (read.val_types_tree val_tys) write.val_types_tree self.new result }
+    {
+        bodies::val_types!(self, alloc, val_tys)
+    }
+
+    /// The type of a block (section 5.4.1).
+    fn block_type(&mut self, arg: r::BlockType) -> Result<w::BlockType, Error<Self::Error>>
+        ensures default { IsTrue Self.keeps_defaults
+            → Maps Self.reply Self.next self.old (read.block_type_tree arg) instructions.block_type_tree self.new result }
+        ensures sure { IsTrue Self.keeps_defaults → NeverWants Self.sure result }
+    {
+        bodies::block_type!(self, arg)
+    }
+
+    /// An immediate of an operator (section 5.4): an index of a space of core modules, a local or a number of 32 bits. The
+    /// new one is of the same kind, also where the defaults are not kept.
+    fn immediate<'a>(
+        &mut self,
+        alloc: Global,
+        imm: r::Imm<'a>,
+    ) -> Result<w::Imm<'a>, Error<Self::Error>>
+        requires { is_mapped imm ≡ true }
+        ensures kind { IfOk result (λ made. instructions.imm_kind made ≡ immediates.kind_of_imm imm.entry) }
+        ensures default { IsTrue Self.keeps_defaults
+            → Maps Self.reply Self.next self.old (immediates.imm_tree imm.entry) instructions.imm_tree self.new result }
+    {
+        bodies::immediate!(self, imm)
+    }
+
+    /// An operator (section 5.4), each immediate by the method `immediate`.
+    fn instruction<'a>(
+        &mut self,
+        alloc: Global,
+        arg: r::Operator<'a>,
+    ) -> Result<w::Instruction<'a>, Error<Self::Error>>
+        ensures default { IsTrue Self.keeps_defaults
+            → Maps Self.reply Self.next self.old (immediates.operator_tree arg.entry) instructions.instruction_tree self.new result }
+    {
+        bodies::instruction!(self, alloc, arg)
+    }
+
+    /// The operator that begins at a reader's place, by the method `instruction`. The reader stands further on then, also
+    /// where the defaults are not kept; by default it stands directly behind the operator.
+    ///
+    /// `ParseError` comes exactly where no operator begins, and holds the reader's place. After an error the reader's place
+    /// is left open.
+    fn parse_instruction<'a>(
+        &mut self,
+        alloc: Global,
+        reader: &mut r::OperatorsReader<'a>,
+    ) -> Result<w::Instruction<'a>, Error<Self::Error>>
+        ensures taken { IfOk result (λ _. MovesOn reader.old reader.new) }
+        ensures default { IsTrue Self.keeps_defaults
+            → ParsesOperator Self.reply Self.next self.old reader.old instructions.instruction_tree self.new reader.new result }
+    {
+        bodies::parse_instruction!(self, alloc, reader)
+    }
+}

@@ -1,0 +1,43 @@
+//! Kinds, which hold no index.
+ghost use Rattle.std.specs.Prelude.{◌≡◌, ℕ};
+ghost use Rattle.wasm_read.specs.Types as read;
+ghost use Rattle.wasm_write.specs.Rows as rows;
+ghost use Rattle.wasm_write.specs.Types as write;
+
+use wasm_read as r;
+use wasm_write as w;
+
+/// The heap type of the same name.
+pub(crate) fn abstract_heap_type(value: r::AbstractHeapType) -> w::AbstractHeapType
+    ensures { write.abstract_tree result ≡ read.abstract_tree value }
+{
+    match value {
+        r::AbstractHeapType::Func => w::AbstractHeapType::Func,
+        r::AbstractHeapType::Extern => w::AbstractHeapType::Extern,
+        r::AbstractHeapType::Any => w::AbstractHeapType::Any,
+        r::AbstractHeapType::None => w::AbstractHeapType::None,
+        r::AbstractHeapType::NoExtern => w::AbstractHeapType::NoExtern,
+        r::AbstractHeapType::NoFunc => w::AbstractHeapType::NoFunc,
+        r::AbstractHeapType::Eq => w::AbstractHeapType::Eq,
+        r::AbstractHeapType::Struct => w::AbstractHeapType::Struct,
+        r::AbstractHeapType::Array => w::AbstractHeapType::Array,
+        r::AbstractHeapType::I31 => w::AbstractHeapType::I31,
+        r::AbstractHeapType::Exn => w::AbstractHeapType::Exn,
+        r::AbstractHeapType::NoExn => w::AbstractHeapType::NoExn,
+        r::AbstractHeapType::Cont => w::AbstractHeapType::Cont,
+        r::AbstractHeapType::NoCont => w::AbstractHeapType::NoCont,
+    }
+}
+
+/// The kind of the same name; an exact function is exported as a function.
+pub(crate) fn export_kind(external_kind: r::ExternalKind) -> w::ExportKind
+    ensures { (index : ℕ) → rows.item_tree result index ≡ read.item_tree external_kind index }
+{
+    match external_kind {
+        r::ExternalKind::Func | r::ExternalKind::FuncExact => w::ExportKind::Func,
+        r::ExternalKind::Table => w::ExportKind::Table,
+        r::ExternalKind::Memory => w::ExportKind::Memory,
+        r::ExternalKind::Global => w::ExportKind::Global,
+        r::ExternalKind::Tag => w::ExportKind::Tag,
+    }
+}

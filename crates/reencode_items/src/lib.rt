@@ -1,0 +1,11 @@
+//! The items of a core module, re-encoded through a reencoder's hooks.
+#![tactic(auto)]
+
+mod bodies;
+mod instructions;
+mod items;
+mod kinds;
+mod plain;
+pub mod utils;
+
+pub use items::ReencodeItems;

@@ -1,0 +1,275 @@
+//! The default bodies of `ReencodeItems`, as functions of any reencoder.
+ghost use Rattle.std.specs.Prelude.{◌≡◌, ℕ, IsTrue, IfOk, length, map, true};
+ghost use Rattle.reencode_hooks.specs.Run.{NeverWants};
+ghost use Rattle.wasm_read.specs.Immediates as immediates;
+ghost use Rattle.wasm_read.specs.Types as read;
+ghost use Rattle.wasm_write.specs.Held.{body_tree};
+ghost use Rattle.wasm_write.specs.Instructions as instructions;
+ghost use Rattle.wasm_write.specs.Rows as rows;
+ghost use Rattle.wasm_write.specs.Types as write;
+ghost use Rattle.reencode_items.specs.Immediates.{is_mapped};
+ghost use Rattle.reencode_items.specs.Maps.{Maps, MovesOn, ParsesOperator};
+
+use crate::items::ReencodeItems;
+use crate::{bodies, instructions, kinds};
+use reencode_hooks::Error;
+use std::alloc::Global;
+use wasm_leb::List;
+use wasm_read as r;
+use wasm_shapes::Space;
+use wasm_write as w;
+
+/// A heap type that names no type of the module (WebAssembly Core Specification 3.0, section 5.3.3).
+pub fn abstract_heap_type<T: ReencodeItems>(
+    reencoder: &mut T,
+    value: r::AbstractHeapType,
+) -> w::AbstractHeapType
+    ensures value { write.abstract_tree result ≡ read.abstract_tree value }
+    ensures state { reencoder.new ≡ reencoder.old }
+{
+    let _ = reencoder;
+    kinds::abstract_heap_type(value)
+}
+
+/// The kind of what is exported (section 5.5.10): with each index it is the same item. An exact function becomes a
+/// function.
+pub fn export_kind<T: ReencodeItems>(
+    reencoder: &mut T,
+    external_kind: r::ExternalKind,
+) -> w::ExportKind
+    ensures value { (index : ℕ) → rows.item_tree result index ≡ read.item_tree external_kind index }
+    ensures state { reencoder.new ≡ reencoder.old }
+{
+    let _ = reencoder;
+    kinds::export_kind(external_kind)
+}
+
+/// The index of a type. `CanonicalizedHeapTypeReference` comes for one inside a recursion group.
+pub fn type_index_unpacked<T: ReencodeItems>(
+    reencoder: &mut T,
+    ty: r::UnpackedIndex,
+) -> Result<u32, Error<T::Error>>
+    ensures default { IsTrue T.keeps_defaults
+        → Maps T.reply T.next reencoder.old (read.type_index ty) write.type_index reencoder.new result }
+    ensures sure { IsTrue T.keeps_defaults → NeverWants T.sure result }
+{
+    bodies::type_index_unpacked!(reencoder, ty)
+}
+
+/// The index of what is exported, by the hook of its kind.
+pub fn external_index<T: ReencodeItems>(
+    reencoder: &mut T,
+    kind: r::ExternalKind,
+    index: u32,
+) -> Result<u32, Error<T::Error>>
+    ensures default { IsTrue T.keeps_defaults
+        → Maps T.reply T.next reencoder.old (read.item_tree kind index) (read.item_tree kind) reencoder.new result }
+    ensures sure { IsTrue T.keeps_defaults → NeverWants T.sure result }
+{
+    bodies::external_index!(reencoder, kind, index)
+}
+
+/// An array by the type of its elements (section 5.3.8).
+pub fn array_type<T: ReencodeItems>(
+    reencoder: &mut T,
+    array_ty: r::ArrayType,
+) -> Result<w::ArrayType, Error<T::Error>>
+    ensures default { IsTrue T.keeps_defaults
+        → Maps T.reply T.next reencoder.old (read.field_type_tree array_ty.0) (λ ty. write.field_type_tree ty.0) reencoder.new result }
+    ensures sure { IsTrue T.keeps_defaults → NeverWants T.sure result }
+{
+    bodies::array_type!(reencoder, array_ty)
+}
+
+/// A continuation by the type of its function.
+#[tactic(auto, using(crate::proofs::Parts::walk_signed))]
+pub fn cont_type<T: ReencodeItems>(
+    reencoder: &mut T,
+    cont_ty: r::ContType,
+) -> Result<w::ContType, Error<T::Error>>
+    ensures default { IsTrue T.keeps_defaults
+        → Maps T.reply T.next reencoder.old (read.signed_index cont_ty.0) (λ ty. write.signed_index ty.0) reencoder.new result }
+    ensures sure { IsTrue T.keeps_defaults → NeverWants T.sure result }
+{
+    bodies::cont_type!(reencoder, cont_ty)
+}
+
+/// A field of a structure or of an array (section 5.3.8).
+pub fn field_type<T: ReencodeItems>(
+    reencoder: &mut T,
+    field_ty: r::FieldType,
+) -> Result<w::FieldType, Error<T::Error>>
+    ensures default { IsTrue T.keeps_defaults
+        → Maps T.reply T.next reencoder.old (read.field_type_tree field_ty) write.field_type_tree reencoder.new result }
+    ensures sure { IsTrue T.keeps_defaults → NeverWants T.sure result }
+{
+    bodies::field_type!(reencoder, field_ty)
+}
+
+/// What a reference points to (section 5.3.3).
+#[tactic(auto, using(crate::proofs::Parts::walk_signed))]
+pub fn heap_type<T: ReencodeItems>(
+    reencoder: &mut T,
+    heap_type: r::HeapType,
+) -> Result<w::HeapType, Error<T::Error>>
+    ensures default { IsTrue T.keeps_defaults
+        → Maps T.reply T.next reencoder.old (read.heap_type_tree heap_type) write.heap_type_tree reencoder.new result }
+    ensures sure { IsTrue T.keeps_defaults → NeverWants T.sure result }
+{
+    bodies::heap_type!(reencoder, heap_type)
+}
+
+/// A reference type (section 5.3.4).
+#[tactic(auto, using(crate::proofs::Parts::walk_reference, crate::proofs::Parts::reference_written))]
+pub fn ref_type<T: ReencodeItems>(
+    reencoder: &mut T,
+    ref_type: r::RefType,
+) -> Result<w::RefType, Error<T::Error>>
+    ensures default { IsTrue T.keeps_defaults
+        → Maps T.reply T.next reencoder.old (read.ref_type_tree ref_type) write.ref_type_tree reencoder.new result }
+    ensures sure { IsTrue T.keeps_defaults → NeverWants T.sure result }
+{
+    bodies::ref_type!(reencoder, ref_type)
+}
+
+/// The type of a field as it is stored (section 5.3.8).
+pub fn storage_type<T: ReencodeItems>(
+    reencoder: &mut T,
+    storage_ty: r::StorageType,
+) -> Result<w::StorageType, Error<T::Error>>
+    ensures default { IsTrue T.keeps_defaults
+        → Maps T.reply T.next reencoder.old (read.storage_type_tree storage_ty) write.storage_type_tree reencoder.new result }
+    ensures sure { IsTrue T.keeps_defaults → NeverWants T.sure result }
+{
+    bodies::storage_type!(reencoder, storage_ty)
+}
+
+/// A value type (section 5.3.5).
+pub fn val_type<T: ReencodeItems>(
+    reencoder: &mut T,
+    val_ty: r::ValType,
+) -> Result<w::ValType, Error<T::Error>>
+    ensures default { IsTrue T.keeps_defaults
+        → Maps T.reply T.next reencoder.old (read.val_type_tree val_ty) write.val_type_tree reencoder.new result }
+    ensures sure { IsTrue T.keeps_defaults → NeverWants T.sure result }
+{
+    bodies::val_type!(reencoder, val_ty)
+}
+
+/// A composite type (section 5.3.8). What it holds is asked before the type that describes it, and that before the
+/// type that it describes.
+pub fn composite_type<T: ReencodeItems>(
+    reencoder: &mut T,
+    alloc: Global,
+    composite_ty: r::CompositeType,
+) -> Result<w::CompositeType, Error<T::Error>>
+    ensures default { IsTrue T.keeps_defaults
+        → Maps T.reply T.next reencoder.old (read.composite_tree composite_ty) write.composite_tree reencoder.new result }
+{
+    bodies::composite_type!(reencoder, alloc, composite_ty)
+}
+
+/// The parameters and results of a function (section 5.3.8).
+pub fn func_type<T: ReencodeItems>(
+    reencoder: &mut T,
+    alloc: Global,
+    func_ty: r::FuncType,
+) -> Result<w::FuncType, Error<T::Error>>
+    ensures default { IsTrue T.keeps_defaults
+        → Maps T.reply T.next reencoder.old (read.func_type_tree func_ty) write.func_type_tree reencoder.new result }
+{
+    bodies::func_type!(reencoder, alloc, func_ty)
+}
+
+/// A structure by its fields (section 5.3.8).
+pub fn struct_type<T: ReencodeItems>(
+    reencoder: &mut T,
+    alloc: Global,
+    struct_ty: r::StructType,
+) -> Result<w::StructType, Error<T::Error>>
+    ensures default { IsTrue T.keeps_defaults
+        → Maps T.reply T.next reencoder.old (read.fields_tree struct_ty.fields) (λ ty. body_tree (map write.field_type_tree ty.fields)) reencoder.new result }
+{
+    bodies::struct_type!(reencoder, alloc, struct_ty)
+}
+
+/// A composite type with its supertypes, which are asked first (section 5.3.9).
+pub fn sub_type<T: ReencodeItems>(
+    reencoder: &mut T,
+    alloc: Global,
+    sub_ty: r::SubType,
+) -> Result<w::SubType, Error<T::Error>>
+    ensures default { IsTrue T.keeps_defaults
+        → Maps T.reply T.next reencoder.old (read.sub_type_tree sub_ty) write.sub_type_tree reencoder.new result }
+{
+    bodies::sub_type!(reencoder, alloc, sub_ty)
+}
+
+/// Value types, each by the method `val_type`. There are as many as there were, also where the defaults are not kept.
+pub fn val_types<T: ReencodeItems>(
+    reencoder: &mut T,
+    alloc: Global,
+    val_tys: List<r::ValType>,
+) -> Result<List<w::ValType>, Error<T::Error>>
+    ensures counted { IfOk result (λ types. length types ≡ length val_tys) }
+    ensures default { IsTrue T.keeps_defaults
+        → Maps T.reply T.next reencoder.old (read.val_types_tree val_tys) write.val_types_tree reencoder.new result }
+{
+    bodies::val_types!(reencoder, alloc, val_tys)
+}
+
+/// The type of a block (section 5.4.1).
+pub fn block_type<T: ReencodeItems>(
+    reencoder: &mut T,
+    arg: r::BlockType,
+) -> Result<w::BlockType, Error<T::Error>>
+    ensures default { IsTrue T.keeps_defaults
+        → Maps T.reply T.next reencoder.old (read.block_type_tree arg) instructions.block_type_tree reencoder.new result }
+    ensures sure { IsTrue T.keeps_defaults → NeverWants T.sure result }
+{
+    bodies::block_type!(reencoder, arg)
+}
+
+/// An immediate of an operator (section 5.4): an index of a space of core modules, a local or a number of 32 bits. The
+/// new one is of the same kind, also where the defaults are not kept.
+pub fn immediate<'a, T: ReencodeItems>(
+    reencoder: &mut T,
+    alloc: Global,
+    imm: r::Imm<'a>,
+) -> Result<w::Imm<'a>, Error<T::Error>>
+    requires { is_mapped imm ≡ true }
+    ensures kind { IfOk result (λ made. instructions.imm_kind made ≡ immediates.kind_of_imm imm.entry) }
+    ensures default { IsTrue T.keeps_defaults
+        → Maps T.reply T.next reencoder.old (immediates.imm_tree imm.entry) instructions.imm_tree reencoder.new result }
+{
+    bodies::immediate!(reencoder, imm)
+}
+
+/// An operator (section 5.4), each immediate by the method `immediate`.
+pub fn instruction<'a, T: ReencodeItems>(
+    reencoder: &mut T,
+    alloc: Global,
+    arg: r::Operator<'a>,
+) -> Result<w::Instruction<'a>, Error<T::Error>>
+    ensures default { IsTrue T.keeps_defaults
+        → Maps T.reply T.next reencoder.old (immediates.operator_tree arg.entry) instructions.instruction_tree reencoder.new result }
+{
+    bodies::instruction!(reencoder, alloc, arg)
+}
+
+/// The operator that begins at a reader's place, by the method `instruction`. The reader stands further on then, also
+/// where the defaults are not kept; by default it stands directly behind the operator.
+///
+/// `ParseError` comes exactly where no operator begins, and holds the reader's place. After an error the reader's place
+/// is left open.
+pub fn parse_instruction<'a, T: ReencodeItems>(
+    reencoder: &mut T,
+    alloc: Global,
+    reader: &mut r::OperatorsReader<'a>,
+) -> Result<w::Instruction<'a>, Error<T::Error>>
+    ensures taken { IfOk result (λ _. MovesOn reader.old reader.new) }
+    ensures default { IsTrue T.keeps_defaults
+        → ParsesOperator T.reply T.next reencoder.old reader.old instructions.instruction_tree reencoder.new reader.new result }
+{
+    bodies::parse_instruction!(reencoder, alloc, reader)
+}
