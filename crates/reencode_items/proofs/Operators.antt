@@ -13,7 +13,7 @@ use Rattle.wasm_leb.specs.declared.fault.Fault.{Fault}
 use Rattle.wasm_leb.specs.declared.fault.Fault.TheVariants as fault
 use Rattle.wasm_shapes.specs.Shape.{Shape}
 use Rattle.wasm_shapes.specs.Place.{Begins, BeginsNone}
-use Rattle.wasm_read.specs.Operations.{OperatorsStanding, rest_of}
+use Rattle.wasm_read.specs.Operations.{Reading, rest_of}
 use Rattle.wasm_read.specs.Reading.{ReadsNoneOrWants}
 use Rattle.reencode_hooks.specs.Errors.{error_of_fault}
 use Rattle.reencode_items.specs.Maps.{Maps, MapsOperator, ParsesOperator}
@@ -179,7 +179,7 @@ never_parse {S} {E} reply next c s m t at h =
 -- ---- the operator at a reader's place
 
 -- none was read
-pub parse_unread : {S E B : Type 0} (reply : S → Visit → Result ℕ E) (next : S → Visit → S) (s : S) (reader behind : OperatorsStanding) (view : B → Tree) (fault : Fault) →
+pub parse_unread : {S E B : Type 0} (reply : S → Visit → Result ℕ E) (next : S → Visit → S) (s : S) (reader behind : Reading) (view : B → Tree) (fault : Fault) →
     ReadsNoneOrWants fault reader.at (BeginsNone (Shape.op true) (rest_of reader)) →
     ParsesOperator {B = B} reply next s reader view s behind (Err (error_of_fault fault))
 parse_unread reply next s reader behind view (fault.Read e) h = (h.0, h.1, refl)
@@ -188,7 +188,7 @@ parse_unread reply next s reader behind view (fault.Header k) h = absurd h
 parse_unread reply next s reader behind view fault.NoMemory h = tt
 
 -- one was read and mapped
-pub parse_mapped : {S E B : Type 0} (reply : S → Visit → Result ℕ E) (next : S → Visit → S) (s m : S) (reader behind : OperatorsStanding) (view : B → Tree) (operator : Tree)
+pub parse_mapped : {S E B : Type 0} (reply : S → Visit → Result ℕ E) (next : S → Visit → S) (s m : S) (reader behind : Reading) (view : B → Tree) (operator : Tree)
     (r : Result B (Error E)) → Begins (Shape.op true) (rest_of reader) operator (rest_of behind) → Maps reply next s operator view m r →
     ParsesOperator reply next s reader view m behind r
 parse_mapped reply next s m reader behind view operator (Ok b) begins maps =

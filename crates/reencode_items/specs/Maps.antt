@@ -4,7 +4,11 @@ use Rattle.wasm_shapes.specs.declared.Visit.{Visit}
 use Rattle.wasm_shapes.specs.Tree.{Tree}
 use Rattle.wasm_shapes.specs.Shape.{Shape}
 use Rattle.wasm_shapes.specs.Place.{Begins, BeginsNone}
-use Rattle.wasm_read.specs.Operations.{OperatorsStanding, rest_of}
+use Rattle.wasm_shapes.specs.declared.Space.TheVariants as space
+use Rattle.wasm_read.specs.declared.types.BlockType.{BlockType}
+use Rattle.wasm_read.specs.declared.types.BlockType.TheVariants as block
+use Rattle.wasm_read.specs.Types.{val_type_tree}
+use Rattle.wasm_read.specs.Operations.{Reading, rest_of}
 use Rattle.reencode_hooks.specs.declared.error.Error.{Error}
 use Rattle.reencode_hooks.specs.declared.error.Error.TheVariants.{ParseError, NoMemory}
 use Rattle.reencode_hooks.specs.Run.{Gives, ask}
@@ -19,14 +23,20 @@ Maps reply next old t view new result = (ceiling : ℕ) → Gives (walk (ask rep
 
 -- ---- operators
 
+-- the type of a block: an index of a function type is spelled with its sign
+abbrev pub block_type_tree : BlockType → Tree
+block_type_tree block.Empty = Tree.row 0 (Tree.fixed 0x40)
+block_type_tree (block.Type_ ty) = Tree.row 1 (val_type_tree ty)
+block_type_tree (block.FuncType i) = Tree.row 2 (Tree.sx space.Type_ i)
+
 -- a reader stands further on in the same bytes
-pub record MovesOn (old new : OperatorsStanding) : Type 0 where
+pub record MovesOn (old new : Reading) : Type 0 where
   pub bytes : new.bytes ≡ old.bytes
   pub forward : old.at < new.at
 
 -- An operator begins at a reader's place, and was mapped. Where it was accepted, the reader stands directly behind it.
-pub record MapsOperator {S E B : Type 0} (reply : S → Visit → Result ℕ E) (next : S → Visit → S) (old : S) (reader : OperatorsStanding)
-    (view : B → Tree) (new : S) (behind : OperatorsStanding) (result : Result B (Error E)) : Type 0 where
+pub record MapsOperator {S E B : Type 0} (reply : S → Visit → Result ℕ E) (next : S → Visit → S) (old : S) (reader : Reading)
+    (view : B → Tree) (new : S) (behind : Reading) (result : Result B (Error E)) : Type 0 where
   pub operator : Tree
   pub rest : List ℕ
   pub begins : Begins (Shape.op true) (rest_of reader) operator rest
@@ -35,7 +45,7 @@ pub record MapsOperator {S E B : Type 0} (reply : S → Visit → Result ℕ E) 
 
 -- The call read the operator at a reader's place and mapped it, or none begins there: the error then holds the place, and
 -- nothing was asked.
-abbrev pub ParsesOperator : {S E B : Type 0} → (S → Visit → Result ℕ E) → (S → Visit → S) → S → OperatorsStanding → (B → Tree) → S → OperatorsStanding
+abbrev pub ParsesOperator : {S E B : Type 0} → (S → Visit → Result ℕ E) → (S → Visit → S) → S → Reading → (B → Tree) → S → Reading
     → Result B (Error E) → Type 0
 ParsesOperator reply next old reader view new behind (Ok b) = MapsOperator reply next old reader view new behind (Ok b)
 ParsesOperator reply next old reader view new behind (Err (ParseError e)) =

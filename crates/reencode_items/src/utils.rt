@@ -8,7 +8,7 @@ ghost use Rattle.wasm_write.specs.Instructions as instructions;
 ghost use Rattle.wasm_write.specs.Rows as rows;
 ghost use Rattle.wasm_write.specs.Types as write;
 ghost use Rattle.reencode_items.specs.Immediates.{is_mapped};
-ghost use Rattle.reencode_items.specs.Maps.{Maps, MovesOn, ParsesOperator};
+ghost use Rattle.reencode_items.specs.Maps.{Maps, MovesOn, ParsesOperator, block_type_tree};
 
 use crate::items::ReencodeItems;
 use crate::{bodies, instructions, kinds};
@@ -224,7 +224,7 @@ pub fn block_type<T: ReencodeItems>(
     arg: r::BlockType,
 ) -> Result<w::BlockType, Error<T::Error>>
     ensures default { IsTrue T.keeps_defaults
-        → Maps T.reply T.next reencoder.old (read.block_type_tree arg) instructions.block_type_tree reencoder.new result }
+        → Maps T.reply T.next reencoder.old (block_type_tree arg) instructions.block_type_tree reencoder.new result }
     ensures sure { IsTrue T.keeps_defaults → NeverWants T.sure result }
 {
     bodies::block_type!(reencoder, arg)

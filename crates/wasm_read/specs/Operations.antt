@@ -30,12 +30,12 @@ AreCore [] = Unit {0}
 AreCore (k ∷ ks) = (is_core_kind k ≡ true) × AreCore ks
 
 -- where a reader of operators stands: all its bytes, and a place in them
-pub record OperatorsStanding : Type 0 where
+pub record Reading : Type 0 where
   pub bytes : List ℕ
   pub at : ℕ
 
 -- the bytes from the place on
-abbrev pub rest_of : OperatorsStanding → List ℕ
+abbrev pub rest_of : Reading → List ℕ
 rest_of reader = drop reader.at reader.bytes
 
 -- ---- bodies

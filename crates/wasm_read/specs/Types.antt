@@ -14,8 +14,6 @@ use Rattle.wasm_read.specs.declared.types.HeapType.TheVariants as heap
 use Rattle.wasm_read.specs.declared.types.RefType.{RefType}
 use Rattle.wasm_read.specs.declared.types.ValType.{ValType}
 use Rattle.wasm_read.specs.declared.types.ValType.TheVariants as value
-use Rattle.wasm_read.specs.declared.types.BlockType.{BlockType}
-use Rattle.wasm_read.specs.declared.types.BlockType.TheVariants as block
 use Rattle.wasm_read.specs.declared.types.StorageType.{StorageType}
 use Rattle.wasm_read.specs.declared.types.StorageType.TheVariants as stored
 use Rattle.wasm_read.specs.declared.types.FieldType.{FieldType}
@@ -108,12 +106,6 @@ val_type_tree (value.Ref ty) = Tree.row 5 (ref_type_tree ty)
 -- value types behind their number
 abbrev pub val_types_tree : List ValType → Tree
 val_types_tree types = vector_tree (map val_type_tree types)
-
--- the type of a block: an index of a function type is spelled with its sign
-abbrev pub block_type_tree : BlockType → Tree
-block_type_tree block.Empty = Tree.row 0 (Tree.fixed 0x40)
-block_type_tree (block.Type_ ty) = Tree.row 1 (val_type_tree ty)
-block_type_tree (block.FuncType i) = Tree.row 2 (Tree.sx space.Type_ i)
 
 -- ---- fields
 

@@ -4,13 +4,46 @@ ghost use Rattle.wasm_shapes.specs.Place.{Begins, BeginsNone};
 ghost use Rattle.wasm_shapes.specs.Shape.{Shape, Named};
 ghost use Rattle.wasm_shapes.specs.Tree.{Tree};
 ghost use Rattle.wasm_read.specs.Reading.{ReadsNoneOrWants};
-ghost use Rattle.wasm_read.specs.Types.{func_type_tree, group_tree};
+ghost use Rattle.wasm_read.specs.Types.{val_types_tree, func_type_tree, group_tree};
 
-use crate::entries::front_vec;
-use crate::fields::from_place;
-use crate::types::{CompositeInnerType, CompositeType, FuncType, RecGroup, SubType};
+use crate::fields::{from_place, front_val_type};
+use crate::types::{CompositeInnerType, CompositeType, FuncType, RecGroup, SubType, ValType};
 use std::alloc::Global;
-use wasm_leb::{Fault, List, NoMemory, ReadError, front_byte};
+use wasm_leb::{Fault, List, NoMemory, ReadError, front_byte, front_u32};
+
+/// The vector of value types at the front of some bytes, and the bytes behind it.
+///
+/// It takes memory for no more types than there are bytes.
+pub fn front_val_types(
+    alloc: Global,
+    bytes: &[u8],
+) -> Result<Option<(List<ValType>, &[u8])>, NoMemory>
+    ensures some { IfOk result (λ o. IfSome o (λ r. Begins (Shape.vec (Shape.ref Named.value)) bytes.now (val_types_tree r.0) r.1.now)) }
+    ensures none { IfOk result (λ o. IfNone o (BeginsNone (Shape.vec (Shape.ref Named.value)) bytes.now)) }
+{
+    let Some((count, start)) = front_u32(bytes) else {
+        return Ok(None);
+    };
+    let room = start.len().min(count as usize);
+    let mut types = match List::with_capacity(alloc, room) {
+        Ok(types) => types,
+        Err(NoMemory) => return Err(NoMemory),
+    };
+    let mut left = count;
+    let mut rest = start;
+    'types: while left > 0 {
+        let Some((ty, behind)) = front_val_type(rest) else {
+            return Ok(None);
+        };
+        match types.push(ty) {
+            Ok(()) => {}
+            Err(NoMemory) => return Err(NoMemory),
+        }
+        rest = behind;
+        left -= 1;
+    }
+    Ok(Some((types, rest)))
+}
 
 /// The parameters and results of a function at the front of some bytes, and the bytes behind them.
 pub fn front_func_type(alloc: Global, bytes: &[u8]) -> Result<Option<(FuncType, &[u8])>, NoMemory>
@@ -18,12 +51,12 @@ pub fn front_func_type(alloc: Global, bytes: &[u8]) -> Result<Option<(FuncType, 
         Begins (Shape.seq (Shape.vec (Shape.ref Named.value)) (Shape.vec (Shape.ref Named.value))) bytes.now (func_type_tree r.0) r.1.now)) }
     ensures none { IfOk result (λ o. IfNone o (BeginsNone (Shape.seq (Shape.vec (Shape.ref Named.value)) (Shape.vec (Shape.ref Named.value))) bytes.now)) }
 {
-    let (params, rest) = match front_vec(alloc, bytes) {
+    let (params, rest) = match front_val_types(alloc, bytes) {
         Ok(Some((params, rest))) => (params, rest),
         Ok(None) => return Ok(None),
         Err(NoMemory) => return Err(NoMemory),
     };
-    match front_vec(alloc, rest) {
+    match front_val_types(alloc, rest) {
         Ok(Some((results, rest))) => Ok(Some((FuncType { params, results }, rest))),
         Ok(None) => Ok(None),
         Err(NoMemory) => Err(NoMemory),

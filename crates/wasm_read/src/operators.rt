@@ -82,9 +82,9 @@ pub struct OperatorsReader<'a> {
 
 impl<'a> Model for OperatorsReader<'a> {
     ghost use Rattle.std.specs.Prelude.{◌≤◌, length};
-    ghost use Rattle.wasm_read.specs.Operations.{OperatorsStanding};
+    ghost use Rattle.wasm_read.specs.Operations.{Reading};
 
-    ghost Value = { OperatorsStanding };
+    ghost Value = { Reading };
 
     ghost view = { λ reader. record { bytes = reader.bytes.now; at = reader.at } };
 
