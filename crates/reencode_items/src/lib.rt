@@ -6,8 +6,6 @@ mod instructions;
 mod items;
 mod kinds;
 mod plain;
-#[cfg(test)]
-mod tests;
 pub mod utils;
 
 pub use items::ReencodeItems;

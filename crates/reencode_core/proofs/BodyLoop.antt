@@ -1,0 +1,272 @@
+-- Function bodies: their locals, their operators and their frames.
+use Rattle.std.proofs.Common.{◌≡◌, ◌≢◌, ℕ, suc, ◌+◌, ◌-◌, ◌<◌, ◌≤◌, ◌^◌, List, [], ◌∷◌, ◌++◌, length, length-append, map, drop, take, Bool, true, false, Result, Ok, Err, refl, sym, ap, ◌∙◌, append_assoc, append-nil, arith, subst, ◌⊎◌, inl, inr}
+use Rattle.std.proofs.lemmas.List.{append_cancel_left, length-drop}
+use Rattle.wasm_leb.specs.Place.{BeginsNumber}
+use Rattle.wasm_shapes.specs.declared.Visit.{Visit}
+use Rattle.wasm_shapes.specs.Tree.{Tree, count, normal}
+use Rattle.wasm_shapes.specs.Shape.{Shape, closed}
+use Rattle.wasm_shapes.specs.Sound.{sound, nullable}
+use Rattle.wasm_shapes.specs.Spells.{Is, Spelled, Spells}
+use Rattle.wasm_shapes.specs.Place.{Begins, BeginsNone}
+use Rattle.wasm_shapes.specs.Rows.{RowsLeft, NoRows, rows_then}
+use Rattle.wasm_shapes.specs.Module.{local_row, body, code_row}
+use Rattle.wasm_shapes.proofs.Unique.{unique}
+use Rattle.wasm_shapes.proofs.Begins.{none_at_end}
+use Rattle.wasm_shapes.proofs.Rows.{no_row, no_rows_behind, rows_then-append}
+use Rattle.wasm_read.specs.Operations.{frame_row}
+use Rattle.wasm_read.specs.Reading.{Standing, place_of, ReadsNone, ReadsNoneOrWants, RowRead, RowMissing}
+use Rattle.wasm_leb.specs.declared.fault.Fault.{Fault}
+use Rattle.wasm_leb.specs.declared.fault.Fault.TheVariants as fault
+use Rattle.reencode_hooks.specs.Errors.{error_of_fault}
+use Rattle.std.proofs.Math.Seq.{take-length}
+use Rattle.wasm_write.specs.Bodies.{CodeRows}
+use Rattle.reencode_hooks.specs.declared.error.Error.{Error}
+use Rattle.reencode_hooks.specs.declared.error.Error.TheVariants.{CanonicalizedHeapTypeReference, InvalidConstExpr, InvalidCodeSectionSize, UnexpectedNonCoreModuleSection, UnexpectedNonComponentSection, UnsupportedCoreTypeInComponent, ParseError, UserError, TooLarge, NoMemory}
+use Rattle.reencode_hooks.specs.Run.{Step, accepted, refused, and_then, ask}
+use Rattle.reencode_hooks.specs.Walk.{walk}
+use Rattle.reencode_core.specs.Errors.{IfParse, placed_at}
+use Rattle.reencode_core.specs.Rows.{Asks, onto_rows, AcceptsRows, RowsBefore, GivesRow, GivesRows}
+use Rattle.reencode_core.proofs.RowLoop.{RowsDone, rows_more, before_more, onto_nothing, one_onto, rows_unread, rows_faulty, rows_refused_if}
+use Rattle.reencode_core.proofs.Known.{closed_fits, closed_large}
+use Rattle.reencode_core.specs.Bodies.{locals, KeepsCode, GivesBody}
+
+-- ---- frames and bodies
+
+-- a body in its frame
+pub code_begins : {bytes body' left : List ℕ} {t : Tree} → Begins frame_row bytes (Tree.sized (Tree.raw body')) left → Spells body body' t → Begins code_row bytes (Tree.sized t) left
+code_begins {body' = body'} {t = t} there p =
+    let s = there.spells.spelled in
+    let P : List ℕ → Type 0 = λ z. Spelled t z in record {
+      text = there.text;
+      spells = record { shaped = Is.sized p.shaped; spelled = (s.0, s.1, s.2, s.3, subst P (sym s.4) p.spelled) };
+      reads = there.reads;
+    }
+
+-- a frame holds what stands in it
+frame_of : {bytes left : List ℕ} {t : Tree} → Begins code_row bytes t left → (body' : List ℕ) × (u : Tree) × Begins frame_row bytes (Tree.sized (Tree.raw body')) left × Spells body body' u
+frame_of {bytes = bytes} {left = left} {t = t} there = go t there.text there.spells.shaped there.spells.spelled there.reads
+  where
+    go : (t : Tree) (x : List ℕ) → Is code_row t → Spelled t x → bytes ≡ x ++ left →
+        (body' : List ℕ) × (u : Tree) × Begins frame_row bytes (Tree.sized (Tree.raw body')) left × Spells body body' u
+    go t x (Is.sized {t = u} d) s e = (
+      s.1,
+      u,
+      record { text = x; spells = record { shaped = Is.sized Is.rest; spelled = (s.0, s.1, s.2, s.3, refl) }; reads = e },
+      record { shaped = d; spelled = s.4 },
+    )
+
+pub code_none : {bytes body' left : List ℕ} → Begins frame_row bytes (Tree.sized (Tree.raw body')) left → ((t : Tree) → Spells body body' t → ⊥) → BeginsNone code_row bytes
+code_none {bytes = bytes} {body' = body'} {left = left} there none = record {
+  none = λ text left' t p e.
+      let f = frame_of (record { text = text; spells = p; reads = e }) in
+      let same = unique there.spells.shaped f.2.spells.shaped there.text f.2.text left left' refl (inl refl) there.spells.spelled f.2.spells.spelled (sym there.reads ∙ f.2.reads) in
+      let trees : Tree.sized (Tree.raw body') ≡ Tree.sized (Tree.raw f.0) = same.1 in
+      let bodies : body' ≡ f.0 = cc in
+      let P : List ℕ → Type 0 = λ z. Spells body z f.1 in
+      none f.1 (subst P (sym bodies) f.3);
+}
+
+no_frame_no_code : {bytes : List ℕ} → BeginsNone frame_row bytes → BeginsNone code_row bytes
+no_frame_no_code none = record {
+  none = λ text left t p e. let f = frame_of (record { text = text; spells = p; reads = e }) in none.none f.2.text left (Tree.sized (Tree.raw f.0)) f.2.spells f.2.reads;
+}
+
+-- no rows where none begins
+pub rows_missing : {row : Shape} {reader : Standing} → ((0 < reader.left) × BeginsNone row reader.rest) ⊎ ((reader.left ≡ 0) × (reader.rest ≢ [])) → RowMissing row reader
+rows_missing {row = row} {reader = reader} here = record { here = here; rows = go here }
+  where
+    go : ((0 < reader.left) × BeginsNone row reader.rest) ⊎ ((reader.left ≡ 0) × (reader.rest ≢ [])) → NoRows row reader.left reader.rest
+    go (inl h) = let some : 0 < reader.left = h.0 in no_row {n = reader.left - 1} (omega arith) h.1
+    go (inr h) = no_rows_behind h.0 h.1
+
+pub code_missing : {reader : Standing} → RowMissing frame_row reader → RowMissing code_row reader
+code_missing {reader = reader} m = rows_missing (go m.here)
+  where
+    go : ((0 < reader.left) × BeginsNone frame_row reader.rest) ⊎ ((reader.left ≡ 0) × (reader.rest ≢ [])) → ((0 < reader.left) × BeginsNone code_row reader.rest) ⊎ ((reader.left ≡ 0) × (reader.rest ≢ []))
+    go (inl h) = inl (h.0, no_frame_no_code h.1)
+    go (inr h) = inr h
+
+pub code_read : {reader reader' : Standing} {body' : List ℕ} {t : Tree} → RowRead frame_row reader (Tree.sized (Tree.raw body')) reader' → Spells body body' t → RowRead code_row reader (Tree.sized t) reader'
+code_read r p = record { begins = code_begins r.begins p; counted = r.counted; len = r.len }
+
+pub code_unread : {reader reader' : Standing} {body' : List ℕ} → RowRead frame_row reader (Tree.sized (Tree.raw body')) reader' → ((t : Tree) → Spells body body' t → ⊥) → RowMissing code_row reader
+code_unread {reader = reader} r none = let less = r.counted in rows_missing (inl (omega arith, code_none r.begins none))
+
+-- ---- locals and operators
+
+-- operators that fill these bytes
+pub record ManyLeft (bytes : List ℕ) (t : Tree) : Type 0 where
+  pub shaped : Is (Shape.many (Shape.op true)) t
+  pub spelled : Spelled t bytes
+
+-- a body is its locals and its operators
+pub body_is : {bytes rest : List ℕ} {l : Tree} → Begins locals bytes l rest → (t : Tree) → Spells body bytes t → (ops : Tree) × (t ≡ Tree.pair l ops) × ManyLeft rest ops
+body_is {bytes = bytes} {rest = rest} {l = l} there t p = go t p.shaped p.spelled
+  where
+    go : (t : Tree) → Is body t → Spelled t bytes → (ops : Tree) × (t ≡ Tree.pair l ops) × ManyLeft rest ops
+    go t (Is.seq {t = v} {u = w} d d') p =
+        let both_ways : there.text ++ rest ≡ p.0 ++ p.1 = sym there.reads ∙ p.2 in
+        let same : (there.text ≡ p.0) × (l ≡ v) = unique there.spells.shaped d there.text p.0 rest p.1 refl (inl refl) there.spells.spelled p.3 both_ways in
+        let shifted : p.0 ++ rest ≡ p.0 ++ p.1 = ap (λ (z : List ℕ). z ++ rest) (sym same.0) ∙ both_ways in
+        let behind : rest ≡ p.1 = append_cancel_left p.0 rest p.1 shifted in
+        let P : List ℕ → Type 0 = λ z. Spelled w z in
+        (w, ap (λ (v : Tree). Tree.pair v w) (sym same.1), record { shaped = d'; spelled = subst P (sym behind) p.4 })
+
+pub body_spelled : {bytes rest : List ℕ} {l ops : Tree} → Begins locals bytes l rest → ManyLeft rest ops → Spells body bytes (Tree.pair l ops)
+body_spelled {rest = rest} there m = record { shaped = Is.seq there.spells.shaped m.shaped; spelled = (there.text, rest, there.reads, there.spells.spelled, m.spelled) }
+
+pub no_locals : {bytes : List ℕ} → BeginsNone locals bytes → (t : Tree) → Spells body bytes t → ⊥
+no_locals {bytes = bytes} none t p = go t p.shaped p.spelled
+  where
+    go : (t : Tree) → Is body t → Spelled t bytes → ⊥
+    go t (Is.seq {t = v} d d') p = none.none p.0 p.1 v (record { shaped = d; spelled = p.3 }) p.2
+
+-- the locals that stand there are these
+pub same_locals : {bytes rest rest' : List ℕ} {l l' : Tree} → Begins locals bytes l rest → Begins locals bytes l' rest' → (l ≡ l') × (rest ≡ rest')
+same_locals {rest = rest} {rest' = rest'} {l = l} {l' = l'} a b =
+    let both_ways : a.text ++ rest ≡ b.text ++ rest' = sym a.reads ∙ b.reads in
+    let same : (a.text ≡ b.text) × (l ≡ l') = unique a.spells.shaped b.spells.shaped a.text b.text rest rest' refl (inl refl) a.spells.spelled b.spells.spelled both_ways in
+    let shifted : b.text ++ rest ≡ b.text ++ rest' = ap (λ (z : List ℕ). z ++ rest) (sym same.0) ∙ both_ways in
+    (same.1, append_cancel_left b.text rest rest' shifted)
+
+-- ---- operators one behind another
+
+-- Operators were read and walked, and the others are read and walked from here.
+pub record OperatorsDone {S E : Type 0} (asked : Asks S E) (c : ℕ) (start : List ℕ) (s0 : S) (rest : List ℕ) (s : S) (made : List Tree) : Type 0 where
+  pub read : List Tree
+  pub before : RowsBefore (Shape.op true) start read rest
+  pub back : (t : Tree) → ManyLeft start t → (others : Tree) × (t ≡ rows_then read others) × ManyLeft rest others
+  pub accepts : AcceptsRows asked c s0 read made s
+
+-- where an operator begins, the others stand behind it
+pub many_first : {bytes left : List ℕ} {t : Tree} → Begins (Shape.op true) bytes t left → (rows : Tree) → ManyLeft bytes rows → (others : Tree) × (rows ≡ Tree.cons t others) × ManyLeft left others
+many_first {bytes = bytes} {left = left} {t = t} there rows r = go rows r.shaped r.spelled
+  where
+    go : (rows : Tree) → Is (Shape.many (Shape.op true)) rows → Spelled rows bytes → (others : Tree) × (rows ≡ Tree.cons t others) × ManyLeft left others
+    go rows Is.nil p = let none : BeginsNone (Shape.op true) [] = none_at_end refl in absurd (none.none there.text left t there.spells (sym p ∙ there.reads))
+    go rows (Is.cons {t = v} {u = u} d d') p =
+        let both_ways : there.text ++ left ≡ p.0 ++ p.1 = sym there.reads ∙ p.2 in
+        let same : (there.text ≡ p.0) × (t ≡ v) = unique there.spells.shaped d there.text p.0 left p.1 refl (inl refl) there.spells.spelled p.3 both_ways in
+        let shifted : p.0 ++ left ≡ p.0 ++ p.1 = ap (λ (z : List ℕ). z ++ left) (sym same.0) ∙ both_ways in
+        let behind : left ≡ p.1 = append_cancel_left p.0 left p.1 shifted in
+        let P : List ℕ → Type 0 = λ z. Spelled u z in
+        (u, ap (λ (w : Tree). Tree.cons w u) (sym same.1), record { shaped = d'; spelled = subst P (sym behind) p.4 })
+
+pub no_many : {bytes : List ℕ} → BeginsNone (Shape.op true) bytes → bytes ≢ [] → (t : Tree) → ManyLeft bytes t → ⊥
+no_many {bytes = bytes} none some t r = go t r.shaped r.spelled
+  where
+    go : (t : Tree) → Is (Shape.many (Shape.op true)) t → Spelled t bytes → ⊥
+    go t Is.nil p = some p
+    go t (Is.cons {t = v} d d') p = none.none p.0 p.1 v (record { shaped = d; spelled = p.3 }) p.2
+
+pub many_none : (t : Tree) → ManyLeft [] t → t ≡ Tree.nil
+many_none t r = go t r.shaped r.spelled
+  where
+    go : (t : Tree) → Is (Shape.many (Shape.op true)) t → Spelled t [] → t ≡ Tree.nil
+    go t Is.nil p = refl
+    go t (Is.cons {t = v} d d') p =
+        let none : BeginsNone (Shape.op true) [] = none_at_end refl in absurd (none.none p.0 p.1 v (record { shaped = d; spelled = p.3 }) p.2)
+
+module _ {S E : Type 0} (asked : Asks S E) (c : ℕ) where
+  pub operators_begin : (start : List ℕ) (s : S) → OperatorsDone asked c start s start s []
+  operators_begin start s = record {
+    read = [];
+    before = record { text = []; shaped = Is.nil; spelled = refl; stands = refl };
+    back = λ t r. (t, refl, r);
+    accepts = λ others. onto_nothing asked (walk asked c s others);
+  }
+
+  pub operators_more : {start rest left : List ℕ} {s0 s m : S} {made : List Tree} {t v : Tree} → OperatorsDone asked c start s0 rest s made → Begins (Shape.op true) rest t left →
+      walk asked c s t ≡ accepted v m → OperatorsDone asked c start s0 left m (made ++ v ∷ [])
+  operators_more {s = s} {m = m} {made = made} {t = t} {v = v} d there e = record {
+    read = d.read ++ t ∷ [];
+    before = before_more d.before there;
+    back = λ u r.
+        let b = d.back u r in
+        let f = many_first there b.0 b.2 in
+        (f.0, b.1 ∙ ap (rows_then d.read) f.1 ∙ sym (rows_then-append d.read t f.0), f.2);
+    accepts = λ others.
+        let step : walk asked c s (Tree.cons t others) ≡ and_then (walk asked c m others) (λ u n. accepted (Tree.cons v u) n) = rw e refl in
+        rw (rows_then-append d.read t others)
+        (d.accepts (Tree.cons t others) ∙ ap (λ (r : Step S (Error E) Tree). onto_rows made r) step ∙ one_onto asked made v (walk asked c m others));
+  }
+
+  -- ---- the body
+
+  pub pair_accepted : (s m n : S) (l l' u u' : Tree) → walk asked c s l ≡ accepted l' m → walk asked c m u ≡ accepted u' n → walk asked c s (Tree.pair l u) ≡ accepted (Tree.pair l' u') n
+  pair_accepted s m n l l' u u' h k = rw (h, k) refl
+
+  pub sized_refused : (s n : S) (t : Tree) (e : Error E) → walk asked c s t ≡ refused e n → walk asked c s (Tree.sized t) ≡ refused e n
+  sized_refused s n t e h = rw h refl
+
+  pub pair_refused : (s m n : S) (l l' u : Tree) (e : Error E) → walk asked c s l ≡ accepted l' m → walk asked c m u ≡ refused e n → walk asked c s (Tree.pair l u) ≡ refused e n
+  pair_refused s m n l l' u e h k = rw (h, k) refl
+
+  pub first_refused : (s n : S) (l u : Tree) (e : Error E) → walk asked c s l ≡ refused e n → walk asked c s (Tree.pair l u) ≡ refused e n
+  first_refused s n l u e h = rw h refl
+
+  pub sized_fits : (s n : S) (t u : Tree) → walk asked c s t ≡ accepted u n → length (normal u) ≤ c → walk asked c s (Tree.sized t) ≡ accepted (Tree.sized u) n
+  sized_fits s n t u h l = rw (h, closed_fits {E = E} c u n l) refl
+
+  pub sized_large : (s n : S) (t u : Tree) → walk asked c s t ≡ accepted u n → c < length (normal u) → walk asked c s (Tree.sized t) ≡ refused (TooLarge (length (normal u))) n
+  sized_large s n t u h l = rw (h, closed_large {E = E} c u n l) refl
+
+-- ---- a body's row in a code section
+
+-- what stands in the frame
+in_frame : {reader reader' : Standing} {bytes : List ℕ} → RowRead frame_row reader (Tree.sized (Tree.raw bytes)) reader' → (t : Tree) (left : List ℕ) → Begins code_row reader.rest t left →
+    (u : Tree) × (t ≡ Tree.sized u) × Spells body bytes u
+in_frame {reader = reader} {reader' = reader'} {bytes = bytes} r t left there = go t there.spells.shaped there.spells.spelled
+  where
+    go : (t : Tree) → Is code_row t → Spelled t there.text → (u : Tree) × (t ≡ Tree.sized u) × Spells body bytes u
+    go t (Is.sized {t = u} e) p =
+        let frame : Begins frame_row reader.rest (Tree.sized (Tree.raw p.1)) left =
+        record { text = there.text; spells = record { shaped = Is.sized Is.rest; spelled = (p.0, p.1, p.2, p.3, refl) }; reads = there.reads } in
+        let one = unique r.begins.spells.shaped frame.spells.shaped r.begins.text there.text reader'.rest left refl (inl refl) r.begins.spells.spelled frame.spells.spelled (sym r.begins.reads ∙ there.reads) in
+        let trees : Tree.sized (Tree.raw bytes) ≡ Tree.sized (Tree.raw p.1) = one.1 in
+        let bodies : bytes ≡ p.1 = cc in
+        let P : List ℕ → Type 0 = λ z. Spelled u z in
+        (u, refl, record { shaped = e; spelled = subst P (sym bodies) p.4 })
+
+module _ {S E : Type 0} (reply : S → Visit → Result ℕ E) (next : S → Visit → S) {c : ℕ} {start reader reader' : Standing} {s0 s s' : S} {old : List Tree} {mid new : CodeRows} {bytes : List ℕ}
+    (same : mid.ceiling ≡ c) (d : RowsDone (ask reply next) c code_row start s0 old reader s mid.rows) (r : RowRead frame_row reader (Tree.sized (Tree.raw bytes)) reader') where
+  pub body_more : GivesBody (ask reply next) bytes s mid s' new (Ok tt) → RowsDone (ask reply next) c code_row start s0 old reader' s' new.rows
+  body_more g =
+      let t = g.readable.0 in
+      let q = g.reading t g.readable.1 in
+      let W : ℕ → Type 0 = λ n. walk (ask reply next) n s (Tree.sized t) ≡ accepted q.0 s' in
+      rows_more (ask reply next) refl refl d (code_read r g.readable.1) (subst W same q.1) q.2
+
+  pub body_err : (e : Error E) (at : ℕ) → GivesBody (ask reply next) bytes s mid s' new (Err e) → at ≡ place_of reader → GivesRows (ask reply next) c code_row start s0 old s' new.rows (Err (placed_at e at))
+  body_err e at g place = go e g
+    where
+      refusal : (e : Error E) → GivesBody (ask reply next) bytes s mid s' new (Err e) → IfParse e (λ at. ⊥) → GivesRows (ask reply next) c code_row start s0 old s' new.rows (Err e)
+      refusal e g usual =
+          let less = r.counted in
+          rows_refused_if reply next d e reader'.left (omega arith) (λ t left there.
+          let f = in_frame r t left there in
+          let q = g.reading f.0 f.2 in
+          let P : Tree → Type 0 = λ z. GivesRow (ask reply next) c s z mid.rows s' new.rows (Err e) in
+          let N : ℕ → Type 0 = λ n. GivesRow (ask reply next) n s (Tree.sized f.0) mid.rows s' new.rows (Err e) in
+          subst P (sym f.1) (subst N same q)) (ap CodeRows.rows g.unchanged) usual
+
+      go : (e : Error E) → GivesBody (ask reply next) bytes s mid s' new (Err e) → GivesRows (ask reply next) c code_row start s0 old s' new.rows (Err (placed_at e at))
+      go (ParseError x) g = rows_faulty reply next d at (code_unread r g.unreadable.0) place g.unreadable.2 (ap CodeRows.rows g.unchanged)
+      go (UserError x) g = refusal (UserError x) g tt
+      go (TooLarge x) g = refusal (TooLarge x) g tt
+      go NoMemory g = refusal NoMemory g tt
+      go _ g = absurd g.unreadable
+
+pub keeps_code : (code : CodeRows) → KeepsCode code code
+keeps_code code = record { ceiling = refl; rows = take-length code.rows }
+
+-- no frame is there
+pub frames_unread : {S E : Type 0} (asked : Asks S E) {c : ℕ} {start reader : Standing} {s0 s : S} {old new : List Tree} (f : Fault) → RowsDone asked c code_row start s0 old reader s new →
+    ReadsNone f (place_of reader) (RowMissing frame_row reader) → GivesRows asked c code_row start s0 old s new (Err (error_of_fault f))
+frames_unread asked {reader = reader} f d none = rows_unread asked f d (go f none)
+  where
+    go : (f : Fault) → ReadsNone f (place_of reader) (RowMissing frame_row reader) → ReadsNoneOrWants f (place_of reader) (RowMissing code_row reader)
+    go (fault.Read x) h = (h.0, code_missing h.1)
+    go fault.NoMemory h = tt
+    go fault.CodeSize h = h
+    go (fault.Header k) h = h

@@ -1,0 +1,484 @@
+-- The loop over the sections of a module.
+use Rattle.std.proofs.Common.{◌≡◌, ◌≢◌, ◌-◌, ℕ, List, [], ◌∷◌, ◌++◌, length, Option, Some, None, Result, Ok, Err, refl, sym, ap, ◌∙◌, subst, append_assoc, append-nil, ◌⊎◌, inl, inr, Bool, IsTrue}
+use Rattle.std.proofs.lemmas.List.{append_cancel_left}
+use Rattle.wasm_leb.specs.declared.fault.Fault.{Fault}
+use Rattle.wasm_leb.specs.declared.fault.Fault.TheVariants as fault
+use Rattle.wasm_leb.specs.declared.fault.Kind.TheVariants as kinds
+use Rattle.wasm_shapes.specs.declared.SectionId.{SectionId}
+use Rattle.wasm_shapes.specs.declared.Visit.{Visit}
+use Rattle.wasm_shapes.specs.declared.Visit.TheVariants.{Section}
+use Rattle.wasm_shapes.specs.Tree.{Tree, kind, normal}
+use Rattle.wasm_shapes.specs.Spells.{Is, Spelled, Spells}
+use Rattle.wasm_shapes.specs.Place.{Begins, BeginsNone}
+use Rattle.wasm_shapes.specs.Module.{core_header, component_header, section, sections, frame, alsos, CoreReading, FaultAt}
+use Rattle.wasm_shapes.proofs.Unique.{unique}
+use Rattle.wasm_shapes.proofs.Begins.{none_at_end}
+use Rattle.wasm_shapes.proofs.Framing.{none_section}
+use Rattle.wasm_read.specs.Frames.{section_number, numbered_frame, NoCoreHeader}
+use Rattle.wasm_read.specs.Reading.{ReadsNone}
+use Rattle.wasm_write.specs.Sections.{Sections, SectionRow, section_row, section_bytes, sections_bytes, with_section}
+use Rattle.reencode_hooks.specs.declared.error.Error.{Error}
+use Rattle.reencode_hooks.specs.declared.error.Error.TheVariants.{CanonicalizedHeapTypeReference, InvalidConstExpr, InvalidCodeSectionSize, UnexpectedNonCoreModuleSection, UnexpectedNonComponentSection, UnsupportedCoreTypeInComponent, ParseError, UserError, TooLarge, NoMemory}
+use Rattle.reencode_hooks.specs.Errors.{error_of_fault}
+use Rattle.reencode_hooks.specs.Run.{Step, accepted, refused, and_then, ask}
+use Rattle.reencode_hooks.specs.Walk.{walk, walk_from, announced}
+use Rattle.reencode_hooks.specs.Hooks.{RepliesSection, KeepsAdds, Gains}
+use Rattle.reencode_core.specs.Errors.{IfParse, placed_at}
+use Rattle.reencode_core.specs.Rows.{Asks}
+use Rattle.reencode_core.specs.Sections.{section_tree, ReadsAs, BodyFault, GivesSection}
+use Rattle.reencode_core.specs.Core.{hooked, onto, AcceptsSections, RefusesNext, StopsSections, GivesModule, NoHeader, RefusedIn, AcceptedAll, BeforeFault, IsCause, GivesCore}
+use Rattle.reencode_core.proofs.Usual.{IfParse-map, usual_ask, stops_usual}
+use Rattle.reencode_core.proofs.Known.{numbered_is, section_begins, section_none, section_announced, reads_begun, some_begun}
+
+-- ---- lists of sections
+
+pub alsos-append : (ts us : List Tree) (others : Tree) → alsos (ts ++ us) others ≡ alsos ts (alsos us others)
+alsos-append [] us others = refl
+alsos-append (t ∷ ts) us others = ap (λ (u : Tree). Tree.also t u) (alsos-append ts us others)
+
+abbrev list_of : Tree → List Tree
+list_of (Tree.also t u) = t ∷ list_of u
+list_of _ = []
+
+list_of-alsos : (ts : List Tree) (others : Tree) → list_of (alsos ts others) ≡ ts ++ list_of others
+list_of-alsos [] others = refl
+list_of-alsos (t ∷ ts) others = ap (λ (us : List Tree). t ∷ us) (list_of-alsos ts others)
+
+-- sections, and others behind them
+joined : (ts : List Tree) {u : Tree} (x y : List ℕ) → Spells sections x (alsos ts Tree.finish) → Spells sections y u → Spells sections (x ++ y) (alsos ts u)
+joined [] {u = u} x y p q =
+    let none : x ≡ [] = p.spelled in
+    let P : List ℕ → Type 0 = λ z. Spells sections (z ++ y) u in
+    subst P (sym none) q
+joined (t ∷ ts) {u = u} x y p q = go p.shaped p.spelled (λ z r. joined ts {u = u} z y r q)
+  where
+    go : Is sections (Tree.also t (alsos ts Tree.finish)) → Spelled (Tree.also t (alsos ts Tree.finish)) x →
+        ((z : List ℕ) → Spells sections z (alsos ts Tree.finish) → Spells sections (z ++ y) (alsos ts u)) → Spells sections (x ++ y) (Tree.also t (alsos ts u))
+    go (Is.also d d') s again =
+        let rest = again s.1 (record { shaped = d'; spelled = s.4 }) in record {
+          shaped = Is.also d rest.shaped;
+          spelled = (s.0, s.1 ++ y, ap (λ (z : List ℕ). z ++ y) s.2 ∙ append_assoc s.0 s.1 y, s.3, rest.spelled);
+        }
+
+one_section : {t : Tree} {x : List ℕ} → Spells section x t → Spells sections x (Tree.also t Tree.finish)
+one_section {x = x} p = record { shaped = Is.also p.shaped Is.finish; spelled = (x, [], sym (append-nil x), p.spelled, refl) }
+
+-- what other sections from the same start are: the same, and then those that stand behind
+pub data Ahead (before : List Tree) (rest : List ℕ) (all : Tree) (rest' : List ℕ) : Type 0 where
+  same : all ≡ alsos before Tree.finish → rest ≡ rest' → Ahead before rest all rest'
+  more : (t u : Tree) (left : List ℕ) → all ≡ alsos before (Tree.also t u) → Begins section rest t left → Ahead before rest all rest'
+
+ahead_cons : {ts : List Tree} {rest rest' : List ℕ} {t u : Tree} → Ahead ts rest u rest' → Ahead (t ∷ ts) rest (Tree.also t u) rest'
+ahead_cons {t = t} (same e r) = same (ap (λ (v : Tree). Tree.also t v) e) r
+ahead_cons {t = t} (more v w left e b) = more v w left (ap (λ (z : Tree). Tree.also t z) e) b
+
+ahead : (before : List Tree) (start text rest text' rest' : List ℕ) (all : Tree) → Spells sections text (alsos before Tree.finish) → start ≡ text ++ rest →
+    Spells sections text' all → start ≡ text' ++ rest' → BeginsNone section rest' → Ahead before rest all rest'
+ahead [] start text rest text' rest' all p e q f none = go all q.shaped q.spelled
+  where
+    here : rest ≡ text' ++ rest'
+    here = let empty : text ≡ [] = p.spelled in ap (λ (z : List ℕ). z ++ rest) (sym empty) ∙ sym e ∙ f
+
+    go : (all : Tree) → Is sections all → Spelled all text' → Ahead [] rest all rest'
+    go all Is.finish s = same refl (here ∙ ap (λ (z : List ℕ). z ++ rest') s)
+    go all (Is.also {t = t} {u = u} d d') s =
+        more t u (s.1 ++ rest') refl (record {
+          text = s.0;
+          spells = record { shaped = d; spelled = s.3 };
+          reads = here ∙ ap (λ (z : List ℕ). z ++ rest') s.2 ∙ append_assoc s.0 s.1 rest';
+        })
+ahead (t ∷ ts) start text rest text' rest' all p e q f none =
+    outer p.shaped p.spelled (λ start text text' u p e q f. ahead ts start text rest text' rest' u p e q f none)
+  where
+    outer : Is sections (Tree.also t (alsos ts Tree.finish)) → Spelled (Tree.also t (alsos ts Tree.finish)) text →
+        ((start text text' : List ℕ) (u : Tree) → Spells sections text (alsos ts Tree.finish) → start ≡ text ++ rest → Spells sections text' u → start ≡ text' ++ rest' → Ahead ts rest u rest') →
+        Ahead (t ∷ ts) rest all rest'
+    outer (Is.also d d') s again = go all q.shaped q.spelled
+      where
+        parts : start ≡ s.0 ++ (s.1 ++ rest)
+        parts = e ∙ ap (λ (z : List ℕ). z ++ rest) s.2 ∙ append_assoc s.0 s.1 rest
+
+        go : (all : Tree) → Is sections all → Spelled all text' → Ahead (t ∷ ts) rest all rest'
+        go all Is.finish r =
+            let at : rest' ≡ s.0 ++ (s.1 ++ rest) = sym (f ∙ ap (λ (z : List ℕ). z ++ rest') r) ∙ parts in
+            absurd (none.none s.0 (s.1 ++ rest) t (record { shaped = d; spelled = s.3 }) at)
+        go all (Is.also {t = v} {u = u} c c') r =
+            let others : start ≡ r.0 ++ (r.1 ++ rest') = f ∙ ap (λ (z : List ℕ). z ++ rest') r.2 ∙ append_assoc r.0 r.1 rest' in
+            let both_ways : s.0 ++ (s.1 ++ rest) ≡ r.0 ++ (r.1 ++ rest') = sym parts ∙ others in
+            let agree = unique d c s.0 r.0 (s.1 ++ rest) (r.1 ++ rest') refl (inl refl) s.3 r.3 both_ways in
+            let shifted : r.0 ++ (s.1 ++ rest) ≡ r.0 ++ (r.1 ++ rest') = ap (λ (z : List ℕ). z ++ (s.1 ++ rest)) (sym agree.0) ∙ both_ways in
+            let behind : s.1 ++ rest ≡ r.1 ++ rest' = append_cancel_left r.0 (s.1 ++ rest) (r.1 ++ rest') shifted in
+            let next = again (s.1 ++ rest) s.1 r.1 u (record { shaped = d'; spelled = s.4 }) refl (record { shaped = c'; spelled = r.4 }) behind in
+            let P : Tree → Type 0 = λ w. Ahead (t ∷ ts) rest (Tree.also w u) rest' in
+            subst P agree.1 (ahead_cons next)
+
+none_behind : BeginsNone section []
+none_behind = none_at_end refl
+
+-- ---- the spelling of sections
+
+abbrev normals : List Tree → List ℕ
+normals [] = []
+normals (u ∷ us) = normal u ++ normals us
+
+normal-alsos : (us : List Tree) → normal (alsos us Tree.finish) ≡ normals us
+normal-alsos [] = refl
+normal-alsos (u ∷ us) = ap (λ (z : List ℕ). normal u ++ z) (normal-alsos us)
+
+normals-append : (us vs : List Tree) → normals (us ++ vs) ≡ normals us ++ normals vs
+normals-append [] vs = refl
+normals-append (u ∷ us) vs = ap (λ (z : List ℕ). normal u ++ z) (normals-append us vs) ∙ sym (append_assoc (normal u) (normals us) (normals vs))
+
+sections_bytes-append : (rows others : List SectionRow) → sections_bytes (rows ++ others) ≡ sections_bytes rows ++ sections_bytes others
+sections_bytes-append [] others = refl
+sections_bytes-append (s ∷ rows) others =
+    ap (λ (z : List ℕ). section_bytes s ++ z) (sections_bytes-append rows others) ∙ sym (append_assoc (section_bytes s) (sections_bytes rows) (sections_bytes others))
+
+-- ---- steps
+
+assoc : {S E A B C : Type 0} (a : Step S E A) (f : A → S → Step S E B) (g : B → S → Step S E C) →
+    and_then (and_then a f) g ≡ and_then a (λ x m. and_then (f x m) g)
+assoc (accepted a s) f g = refl
+assoc (refused e s) f g = refl
+
+-- ---- the section hook of a reencoder that adds nothing
+
+module _ {S E : Type 0} (reply : S → Visit → Result ℕ E) (next : S → Visit → S) (adds : S → Option SectionId → Option SectionId → List SectionRow) (nothing : Bool)
+    (keeps : KeepsAdds adds nothing) (sure : IsTrue nothing) (s m : S) (old new : Sections) (a b : Option SectionId) where
+  gains_nothing : {rows : List SectionRow} → rows ≡ [] → Gains old new rows → new ≡ old
+  gains_nothing none g =
+      g ∙ ap (λ (rows : List SectionRow). record old { sections = old.sections ++ rows }) none ∙ ap (λ (rows : List SectionRow). record old { sections = rows }) (append-nil old.sections)
+
+  front_nothing : (part rest : List SectionRow) → [] ≡ part ++ rest → part ≡ []
+  front_nothing [] rest e = refl
+  front_nothing (x ∷ part) rest e = absurd cc
+
+  pub hook_ok : (u : Unit {0}) → RepliesSection reply next adds s m old new a b (Ok u) → (ask reply next s (Section a b) ≡ accepted 0 m) × (new ≡ old)
+  hook_ok u r = (r.0, gains_nothing (keeps sure s a b) r.1)
+
+  pub hook_kept : (e : Error E) → RepliesSection reply next adds s m old new a b (Err e) → new ≡ old
+  hook_kept e r = let none : [] ≡ r.1.part ++ r.1.rest = sym (keeps sure s a b) ∙ r.1.parts in gains_nothing (front_nothing r.1.part r.1.rest none) r.1.gains
+
+  pub hook_err : (e : Error E) → RepliesSection reply next adds s m old new a b (Err e) → e ≢ NoMemory → ask reply next s (Section a b) ≡ refused e m
+  hook_err NoMemory r other = absurd (other refl)
+  hook_err (TooLarge n) r other = let none : adds s a b ≡ [] = keeps sure s a b in absurd (none_too_large r.0.front r.0.row r.0.rest (sym none ∙ r.0.parts))
+    where
+      none_too_large : (front : List SectionRow) (row : SectionRow) (rest : List SectionRow) → [] ≡ front ++ row ∷ rest → ⊥
+      none_too_large [] row rest e = cc
+      none_too_large (x ∷ front) row rest e = cc
+  hook_err (ParseError x) r other = r.0
+  hook_err (UserError x) r other = r.0
+  hook_err CanonicalizedHeapTypeReference r other = r.0
+  hook_err InvalidConstExpr r other = r.0
+  hook_err InvalidCodeSectionSize r other = r.0
+  hook_err UnexpectedNonCoreModuleSection r other = r.0
+  hook_err UnexpectedNonComponentSection r other = r.0
+  hook_err UnsupportedCoreTypeInComponent r other = r.0
+
+  pub hook_usual : (e : Error E) → RepliesSection reply next adds s m old new a b (Err e) → IfParse e (λ at. ⊥)
+  hook_usual e r = stops_usual (λ at. ⊥) (ask reply next s (Section a b)) e m (usual_ask reply next s (Section a b)) (hook_err e r)
+
+-- ---- the loop
+
+-- Sections were read and walked, what they became was added, and the others are read and walked from here.
+pub record SectionsDone {S E : Type 0} (asked : Asks S E) (start : List ℕ) (s0 : S) (old : Sections) (rest : List ℕ) (last : Option SectionId) (s : S) (new : Sections) : Type 0 where
+  pub read : List Tree
+  pub made : List Tree
+  pub text : List ℕ
+  pub rows : List SectionRow
+  pub spells : Spells sections text (alsos read Tree.finish)
+  pub stands : start ≡ text ++ rest
+  pub accepts : AcceptsSections asked old.ceiling s0 read made last s
+  pub gains : Gains old new rows
+  pub spelled : sections_bytes rows ≡ normals made
+
+module _ {S E : Type 0} (asked : Asks S E) where
+  onto_nothing : (step : Step S (Error E) Tree) → step ≡ onto [] step
+  onto_nothing (accepted u m) = refl
+  onto_nothing (refused e m) = refl
+
+  pub sections_begin : (start : List ℕ) (s : S) (old : Sections) → SectionsDone asked start s old start None s old
+  sections_begin start s old = record {
+    read = [];
+    made = [];
+    text = [];
+    rows = [];
+    spells = record { shaped = Is.finish; spelled = refl };
+    stands = refl;
+    accepts = λ others. onto_nothing (walk asked old.ceiling s others);
+    gains = ap (λ (rows : List SectionRow). record old { sections = rows }) (sym (append-nil old.sections));
+    spelled = refl;
+  }
+
+  pub also_hooked : (c : ℕ) (last : Option SectionId) (s : S) (t u : Tree) →
+      walk_from asked c last s (Tree.also t u) ≡ and_then (hooked asked c last s t) (λ t' n. and_then (walk_from asked c (kind last t) n u) (λ u' k. accepted (Tree.also t' u') k))
+  also_hooked c last s t u =
+      sym (assoc (announced asked s last t) (λ _ m. walk asked c m t) (λ t' n. and_then (walk_from asked c (kind last t) n u) (λ u' k. accepted (Tree.also t' u') k)))
+
+  one_onto : (made : List Tree) (v : Tree) (step : Step S (Error E) Tree) →
+      onto made (and_then step (λ u m. accepted (Tree.also v u) m)) ≡ onto (made ++ v ∷ []) step
+  one_onto made v (accepted u m) = ap (λ (t : Tree). accepted t m) (sym (alsos-append made (v ∷ []) u))
+  one_onto made v (refused e m) = refl
+
+  -- the hook before a section, and the section
+  hooked_ok : (c : ℕ) (k : SectionId) {body : List ℕ} (last : Option SectionId) (s n m : S) (t v : Tree) → ReadsAs k body t →
+      asked s (Section last (Some k)) ≡ accepted 0 n → walk asked c n t ≡ accepted v m → (hooked asked c last s t ≡ accepted v m) × (kind last t ≡ Some k)
+  hooked_ok c k last s n m t v r h w =
+      let a = section_announced asked s last k r.0 r.2 in
+      let told : announced asked s last t ≡ accepted 0 n = rw r.1 (a.0 ∙ h) in
+      let kinds : kind last t ≡ Some k = rw r.1 a.1 in
+      (and_then_ok told w, kinds)
+    where
+      and_then_ok : announced asked s last t ≡ accepted 0 n → walk asked c n t ≡ accepted v m → hooked asked c last s t ≡ accepted v m
+      and_then_ok told w = ap (λ (a : Step S (Error E) ℕ). and_then a (λ _ m. walk asked c m t)) told ∙ w
+
+  hooked_err : (c : ℕ) (k : SectionId) {body : List ℕ} (last : Option SectionId) (s n m : S) (t : Tree) (e : Error E) → ReadsAs k body t →
+      asked s (Section last (Some k)) ≡ accepted 0 n → walk asked c n t ≡ refused e m → hooked asked c last s t ≡ refused e m
+  hooked_err c k last s n m t e r h w =
+      let a = section_announced asked s last k r.0 r.2 in
+      let told : announced asked s last t ≡ accepted 0 n = rw r.1 (a.0 ∙ h) in
+      ap (λ (a : Step S (Error E) ℕ). and_then a (λ _ m. walk asked c m t)) told ∙ w
+
+  hooked_refused : (c : ℕ) (k : SectionId) {body : List ℕ} (last : Option SectionId) (s m : S) (t : Tree) (e : Error E) → ReadsAs k body t →
+      asked s (Section last (Some k)) ≡ refused e m → hooked asked c last s t ≡ refused e m
+  hooked_refused c k last s m t e r h =
+      let a = section_announced asked s last k r.0 r.2 in
+      let told : announced asked s last t ≡ refused e m = rw r.1 (a.0 ∙ h) in
+      ap (λ (a : Step S (Error E) ℕ). and_then a (λ _ m. walk asked c m t)) told
+
+  pub sections_more : (k : SectionId) {start rest rest' body : List ℕ} {s0 s n s' : S} {old new mid new' : Sections} {last : Option SectionId} →
+      SectionsDone asked start s0 old rest last s new → Begins frame rest (numbered_frame (section_number k) body) rest' →
+      (asked s (Section last (Some k)) ≡ accepted 0 n) × (mid ≡ new) → GivesSection asked k body n mid s' new' (Ok tt) →
+      SectionsDone asked start s0 old rest' (Some k) s' new'
+  sections_more k {rest = rest} {rest' = rest'} {body = body} {s = s} {n = n} {s' = s'} {old = old} {new = new} {mid = mid} {new' = new'} {last = last} d there hook given =
+      let P : Sections → Type 0 = λ z. GivesSection asked k body n z s' new' (Ok tt) in
+      let g = subst P hook.1 given in
+      let t : Tree = g.readable.0 in
+      let reads : ReadsAs k body t = g.readable.1 in
+      let begun = section_begins k reads.0 (numbered_is there) reads.2 in
+      let B : Tree → Type 0 = λ v. Begins section rest v rest' in
+      let here = subst B (sym reads.1) begun in
+      let q = g.reading t reads in
+      let ceiling : new.ceiling ≡ old.ceiling = ap Sections.ceiling d.gains in
+      let W : ℕ → Type 0 = λ c. walk asked c n t ≡ accepted q.0 s' in
+      let walked : walk asked old.ceiling n t ≡ accepted q.0 s' = subst W ceiling q.2 in
+      let step = hooked_ok old.ceiling k last s n s' t q.0 reads hook.0 walked in
+      let row : SectionRow = section_row (section_number k) q.1 in record {
+        read = d.read ++ t ∷ [];
+        made = d.made ++ q.0 ∷ [];
+        text = d.text ++ here.text;
+        rows = d.rows ++ row ∷ [];
+        spells = rw (alsos-append d.read (t ∷ []) Tree.finish) (joined d.read d.text here.text d.spells (one_section here.spells));
+        stands = d.stands ∙ ap (λ (z : List ℕ). d.text ++ z) here.reads ∙ sym (append_assoc d.text here.text _);
+        accepts = λ others.
+            let next : walk_from asked old.ceiling last s (Tree.also t others) ≡ and_then (walk_from asked old.ceiling (Some k) s' others) (λ u m. accepted (Tree.also q.0 u) m) =
+            also_hooked old.ceiling last s t others ∙ rw (step.0, step.1) refl in
+            rw (alsos-append d.read (t ∷ []) others)
+            (d.accepts (Tree.also t others) ∙ ap (λ (r : Step S (Error E) Tree). onto d.made r) next ∙ one_onto d.made q.0 (walk_from asked old.ceiling (Some k) s' others));
+        gains = q.3 ∙ ap (λ (m : Sections). record m { sections = m.sections ++ row ∷ [] }) d.gains
+            ∙ ap (λ (rows : List SectionRow). record old { sections = rows }) (append_assoc old.sections d.rows (row ∷ []));
+        spelled = sections_bytes-append d.rows (row ∷ []) ∙ ap (λ (z : List ℕ). z ++ sections_bytes (row ∷ [])) d.spelled
+            ∙ ap (λ (z : List ℕ). normals d.made ++ (z ++ [])) q.4 ∙ sym (normals-append d.made (q.0 ∷ []));
+      }
+
+  -- ---- the ends of the loop
+
+  module _ {start bytes rest : List ℕ} {s0 s : S} {old new : Sections} {last : Option SectionId} (reads : bytes ≡ core_header ++ start)
+      (d : SectionsDone asked start s0 old rest last s new) where
+    read_ahead : (t : Tree) → CoreReading bytes t → Ahead d.read rest t []
+    read_ahead t r =
+        let same : start ≡ r.rest = append_cancel_left core_header start r.rest (sym reads ∙ r.stands) in
+        ahead d.read start d.text rest r.rest [] t d.spells d.stands r.spells (same ∙ sym (append-nil r.rest)) none_behind
+
+    fault_ahead : (before : List Tree) (left : List ℕ) → FaultAt bytes before left → Ahead d.read rest (alsos before Tree.finish) left
+    fault_ahead before left f =
+        let same : start ≡ f.front.text ++ left = append_cancel_left core_header start (f.front.text ++ left) (sym reads ∙ f.front.stands) in
+        ahead d.read start d.text rest f.front.text left (alsos before Tree.finish) d.spells d.stands f.front.spells same f.front.ends
+
+    refused_at : {e : Error E} {s' : S} (t u : Tree) → hooked asked old.ceiling last s t ≡ refused e s' → walk asked old.ceiling s0 (alsos d.read (Tree.also t u)) ≡ refused e s'
+    refused_at {e = e} {s' = s'} t u h =
+        let step : walk_from asked old.ceiling last s (Tree.also t u) ≡ refused e s' = also_hooked old.ceiling last s t u ∙ rw h refl in
+        d.accepts (Tree.also t u) ∙ ap (λ (r : Step S (Error E) Tree). onto d.made r) step
+
+    -- the sections so far are those before a fault
+    all_before : (before : List Tree) → alsos before Tree.finish ≡ alsos d.read Tree.finish → before ≡ d.read
+    all_before before e =
+        sym (append-nil before) ∙ sym (list_of-alsos before Tree.finish) ∙ ap list_of e ∙ list_of-alsos d.read Tree.finish ∙ append-nil d.read
+
+    more_before : (before : List Tree) (t u : Tree) → alsos before Tree.finish ≡ alsos d.read (Tree.also t u) → before ≡ d.read ++ t ∷ list_of u
+    more_before before t u e = sym (append-nil before) ∙ sym (list_of-alsos before Tree.finish) ∙ ap list_of e ∙ list_of-alsos d.read (Tree.also t u)
+
+    accepted_all : (before : List Tree) → before ≡ d.read → AcceptedAll asked old.ceiling s0 before
+    accepted_all before e = (d.made, last, s, λ others. rw e (d.accepts others))
+
+    refused_in : {e : Error E} {s' : S} (before : List Tree) (t u : Tree) → before ≡ d.read ++ t ∷ list_of u → hooked asked old.ceiling last s t ≡ refused e s' →
+        RefusedIn asked old.ceiling s0 before e s'
+    refused_in before t u e h others = rw (e, alsos-append d.read (t ∷ list_of u) others) (refused_at t (alsos (list_of u) others) h)
+
+    -- what was added when a refusal comes, and why it comes
+    stopped : (e : Error E) (s' : S) (new' : Sections) (t u : Tree) → t ≡ alsos d.read u → new' ≡ new →
+        (e ≢ NoMemory → RefusesNext asked old.ceiling last s u e s') → StopsSections asked old.ceiling s0 t old s' new' e
+    stopped e s' new' t u f unchanged stops = record {
+      read = d.read;
+      others = u;
+      made = d.made;
+      rows = d.rows;
+      last = last;
+      at = s;
+      parts = f;
+      accepts = d.accepts;
+      gains = unchanged ∙ d.gains;
+      spelled = d.spelled ∙ sym (normal-alsos d.made);
+      refuses = stops;
+    }
+
+    -- a section, or the hook before it, is refused
+    pub section_refused : (k : SectionId) {left body : List ℕ} {s' : S} {new' : Sections} (e : Error E) → Begins frame rest (numbered_frame (section_number k) body) left →
+        ((t : Tree) → ReadsAs k body t → (new' ≡ new) × (e ≢ NoMemory → hooked asked old.ceiling last s t ≡ refused e s')) → IfParse e (λ at. ⊥) → GivesCore asked bytes s0 old s' new' (Err e)
+    section_refused k {body = body} {s' = s'} {new' = new'} e there stops usual = record {
+      reading = λ t r. go t (read_ahead t r);
+      readable = tt;
+      cause = cause e refl usual;
+    }
+      where
+        go : (t : Tree) → Ahead d.read rest t [] → StopsSections asked old.ceiling s0 t old s' new' e
+        go t (same f empty) = absurd (some_begun there empty)
+        go t (more u v left f b) = let h = stops u (reads_begun k there b) in stopped e s' new' t (Tree.also u v) f h.0 h.1
+
+        either : e ≢ NoMemory → (before : List Tree) (left : List ℕ) → Ahead d.read rest (alsos before Tree.finish) left →
+            RefusedIn asked old.ceiling s0 before e s' ⊎ AcceptedAll asked old.ceiling s0 before
+        either h before left (same f r) = inr (accepted_all before (all_before before f))
+        either h before left (more t u behind f b) = inl (refused_in before t u (more_before before t u f) ((stops t (reads_begun k there b)).1 h))
+
+        before_fault : (w : Error E) → e ≡ w → e ≢ NoMemory → BeforeFault asked old.ceiling bytes s0 s' w
+        before_fault w same_e h = rw (← same_e) ((start, reads), λ before left fault. either h before left (fault_ahead before left fault))
+
+        cause : (w : Error E) → e ≡ w → IfParse w (λ at. ⊥) → IsCause asked old.ceiling bytes s0 s' w
+        cause NoMemory same_e q = tt
+        cause (UserError x) same_e q = before_fault (UserError x) same_e (λ h. let c : UserError x ≡ NoMemory = sym same_e ∙ h in cc)
+        cause (TooLarge x) same_e q = before_fault (TooLarge x) same_e (λ h. let c : TooLarge x ≡ NoMemory = sym same_e ∙ h in cc)
+        cause _ same_e q = absurd q
+
+    -- no section begins, though bytes are left
+    pub no_section : {s' : S} {new' : Sections} (at : ℕ) → BeginsNone section rest → rest ≢ [] → at ≡ length bytes - length rest →
+        GivesCore asked bytes s0 old s' new' (Err (ParseError (record { at = at })))
+    no_section {s' = s'} {new' = new'} at none some place = record {
+      reading = λ t r. absurd (go t (read_ahead t r));
+      readable = tt;
+      cause = inr (d.read, rest, record { front = record { text = d.text; spells = d.spells; stands = reads ∙ ap (λ (z : List ℕ). core_header ++ z) d.stands; ends = none }; some = some }, place, accepted_all d.read refl);
+    }
+      where
+        go : (t : Tree) → Ahead d.read rest t [] → ⊥
+        go t (same f empty) = some empty
+        go t (more u v left f b) = none.none b.text left u b.spells b.reads
+
+    -- no frame begins
+    pub no_frame : {s' : S} {new' : Sections} (f : Fault) (at : ℕ) → ReadsNone f at (BeginsNone frame rest × (rest ≢ [])) → at ≡ length bytes - length rest →
+        GivesCore asked bytes s0 old s' new' (Err (error_of_fault f))
+    no_frame {s' = s'} {new' = new'} (fault.Read x) at h place = no_section x.at (none_section h.1.0) h.1.1 (h.0 ∙ place)
+    no_frame (fault.Header k) at h place = absurd h
+    no_frame fault.CodeSize at h place = absurd h
+    no_frame fault.NoMemory at h place = absurd h
+
+    -- the error of the hook before a section
+    pub hook_refused : (k : SectionId) {left body : List ℕ} {s' : S} {new' : Sections} (e : Error E) → Begins frame rest (numbered_frame (section_number k) body) left → new' ≡ new →
+        (e ≢ NoMemory → asked s (Section last (Some k)) ≡ refused e s') → IfParse e (λ at. ⊥) → GivesCore asked bytes s0 old s' new' (Err e)
+    hook_refused k {s' = s'} e there unchanged stops usual =
+        section_refused k e there (λ t r. (unchanged, λ other. hooked_refused old.ceiling k last s s' t e r (stops other))) usual
+
+    -- a section's error, at the section's place
+    pub section_err : (k : SectionId) {left body : List ℕ} {n s' : S} {mid new' : Sections} (e : Error E) (at : ℕ) → Begins frame rest (numbered_frame (section_number k) body) left →
+        (asked s (Section last (Some k)) ≡ accepted 0 n) × (mid ≡ new) → GivesSection asked k body n mid s' new' (Err e) → at ≡ length bytes - length rest →
+        GivesCore asked bytes s0 old s' new' (Err (placed_at e at))
+    section_err k {body = body} {n = n} {s' = s'} {mid = mid} {new' = new'} e at there hook given place = go e given
+      where
+        unchanged : (w : Error E) → GivesSection asked k body n mid s' new' (Err w) → GivesSection asked k body n new s' new' (Err w)
+        unchanged w g = let P : Sections → Type 0 = λ z. GivesSection asked k body n z s' new' (Err w) in subst P hook.1 g
+
+        stops : (w : Error E) → GivesSection asked k body n mid s' new' (Err w) → (t : Tree) → ReadsAs k body t → (new' ≡ new) × (w ≢ NoMemory → hooked asked old.ceiling last s t ≡ refused w s')
+        stops w given t r =
+            let g = (unchanged w given).reading t r in
+            let ceiling : new.ceiling ≡ old.ceiling = ap Sections.ceiling d.gains in
+            let W : ℕ → Type 0 = λ c. walk asked c n t ≡ refused w s' in
+            (g.0, λ h. hooked_err old.ceiling k last s n s' t w r hook.0 (subst W ceiling (g.1 h)))
+
+        go : (w : Error E) → GivesSection asked k body n mid s' new' (Err w) → GivesCore asked bytes s0 old s' new' (Err (placed_at w at))
+        go (ParseError x) g = no_section at (section_none k (numbered_is there) g.unreadable.0) (some_begun there) place
+        go (UserError x) g = section_refused k (UserError x) there (stops (UserError x) g) tt
+        go (TooLarge x) g = section_refused k (TooLarge x) there (stops (TooLarge x) g) tt
+        go NoMemory g = section_refused k NoMemory there (stops NoMemory g) tt
+        go _ g = absurd g.unreadable
+
+    -- the end
+    pub sections_end : {s' : S} {new' : Sections} → rest ≡ [] → (asked s (Section last None) ≡ accepted 0 s') × (new' ≡ new) → GivesCore asked bytes s0 old s' new' (Ok tt)
+    sections_end {s' = s'} {new' = new'} empty h = record {
+      reading = λ t r. go t (read_ahead t r);
+      readable = (alsos d.read Tree.finish, record { rest = start; stands = reads; spells = all });
+      cause = tt;
+    }
+      where
+        all : Spells sections start (alsos d.read Tree.finish)
+        all =
+            let whole : d.text ≡ start = sym (append-nil d.text) ∙ ap (λ (z : List ℕ). d.text ++ z) (sym empty) ∙ sym d.stands in
+            let P : List ℕ → Type 0 = λ z. Spells sections z (alsos d.read Tree.finish) in
+            subst P whole d.spells
+
+        go : (t : Tree) → Ahead d.read rest t [] → GivesModule asked s0 t old s' new' (Ok tt)
+        go t (same f _) =
+            let last_step : walk_from asked old.ceiling last s Tree.finish ≡ accepted Tree.finish s' = rw h.0 refl in
+            let walked : walk asked old.ceiling s0 t ≡ accepted (alsos d.made Tree.finish) s' = rw f (d.accepts Tree.finish ∙ ap (λ (r : Step S (Error E) Tree). onto d.made r) last_step) in
+            (alsos d.made Tree.finish, d.rows, walked, h.1 ∙ d.gains, d.spelled ∙ sym (normal-alsos d.made))
+        go t (more u v left f b) = absurd (none_behind.none b.text left u b.spells (sym empty ∙ b.reads))
+
+    pub end_refused : {s' : S} {new' : Sections} (e : Error E) → rest ≡ [] → new' ≡ new → (e ≢ NoMemory → asked s (Section last None) ≡ refused e s') → IfParse e (λ at. ⊥) →
+        GivesCore asked bytes s0 old s' new' (Err e)
+    end_refused {s' = s'} {new' = new'} e empty same_module stops usual = record {
+      reading = λ t r. go t (read_ahead t r);
+      readable = tt;
+      cause = cause e usual;
+    }
+      where
+        go : (t : Tree) → Ahead d.read rest t [] → StopsSections asked old.ceiling s0 t old s' new' e
+        go t (same f _) = stopped e s' new' t Tree.finish f same_module stops
+        go t (more u v left f b) = absurd (none_behind.none b.text left u b.spells (sym empty ∙ b.reads))
+
+        no_fault : (before : List Tree) (left : List ℕ) → FaultAt bytes before left → Ahead d.read rest (alsos before Tree.finish) left → ⊥
+        no_fault before left fault (same f r) = fault.some (sym r ∙ empty)
+        no_fault before left fault (more t u behind f b) = none_behind.none b.text behind t b.spells (sym empty ∙ b.reads)
+
+        before_fault : (w : Error E) → BeforeFault asked old.ceiling bytes s0 s' w
+        before_fault w = ((start, reads), λ before left fault. absurd (no_fault before left fault (fault_ahead before left fault)))
+
+        cause : (w : Error E) → IfParse w (λ at. ⊥) → IsCause asked old.ceiling bytes s0 s' w
+        cause NoMemory q = tt
+        cause (UserError x) q = before_fault (UserError x)
+        cause (TooLarge x) q = before_fault (TooLarge x)
+        cause _ q = absurd q
+
+  -- ---- no module
+
+  pub header_wrong : {bytes : List ℕ} (s : S) (old : Sections) (f : Fault) → NoCoreHeader f bytes → GivesCore asked bytes s old s old (Err (error_of_fault f))
+  header_wrong {bytes = bytes} s old (fault.Header kinds.Component) there = record {
+    reading = λ t r. absurd (let e : core_header ++ r.rest ≡ component_header ++ there.0 = sym r.stands ∙ there.1 in cc);
+    readable = tt;
+    cause = (there.0, there.1, refl);
+  }
+  header_wrong s old (fault.Read x) none = record {
+    reading = λ t r. absurd ((none.1 r.rest).0 r.stands);
+    readable = tt;
+    cause = inl (none.1, none.0, refl);
+  }
+  header_wrong s old (fault.Header kinds.Module) none = absurd none
+  header_wrong s old fault.CodeSize none = absurd none
+  header_wrong s old fault.NoMemory none = absurd none
+
+-- the section hook at the end
+pub end_given : {S E : Type 0} (reply : S → Visit → Result ℕ E) (next : S → Visit → S) (adds : S → Option SectionId → Option SectionId → List SectionRow) (nothing : Bool) →
+    KeepsAdds adds nothing → IsTrue nothing → {start bytes rest : List ℕ} {s0 s : S} {old new : Sections} {last : Option SectionId} → bytes ≡ core_header ++ start →
+    SectionsDone (ask reply next) start s0 old rest last s new → rest ≡ [] → (s' : S) (new' : Sections) (r : Result (Unit {0}) (Error E)) →
+    RepliesSection reply next adds s s' new new' last None r → GivesCore (ask reply next) bytes s0 old s' new' r
+end_given reply next adds nothing keeps sure {s = s} {new = new} {last = last} reads d empty s' new' (Ok u) h =
+    sections_end (ask reply next) reads d empty (hook_ok reply next adds nothing keeps sure s s' new new' last None u h)
+end_given reply next adds nothing keeps sure {s = s} {new = new} {last = last} reads d empty s' new' (Err e) h =
+    end_refused (ask reply next) reads d e empty (hook_kept reply next adds nothing keeps sure s s' new new' last None e h)
+    (hook_err reply next adds nothing keeps sure s s' new new' last None e h) (hook_usual reply next adds nothing keeps sure s s' new new' last None e h)

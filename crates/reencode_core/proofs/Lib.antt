@@ -1,0 +1,12 @@
+pub mod Usual
+pub mod Known
+pub mod Counts
+pub mod RowLoop
+pub mod OneSection
+pub mod CoreLoop
+pub mod WholeBytes
+pub mod ExportRow
+pub mod Group
+pub mod BodyLoop
+pub mod Locals
+pub mod WholeBody

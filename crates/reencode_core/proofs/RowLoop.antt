@@ -1,0 +1,346 @@
+-- The loop over the rows of a section.
+use Rattle.std.proofs.Common.{◌≡◌, ◌≢◌, ℕ, suc, ◌+◌, ◌-◌, ◌<◌, ◌^◌, List, [], ◌∷◌, ◌++◌, length, length-append, take, Option, None, Result, Ok, Err, ◌≤◌, refl, sym, ap, ◌∙◌, append_assoc, append-nil, arith, subst, ◌⊎◌, inl, inr, true}
+use Rattle.std.proofs.lemmas.List.{take-take, length-take}
+use Rattle.wasm_shapes.specs.declared.Space.{Space}
+use Rattle.wasm_shapes.specs.declared.Visit.{Visit}
+use Rattle.wasm_shapes.specs.declared.Visit.TheVariants.{Index}
+use Rattle.wasm_shapes.specs.Tree.{Tree, count}
+use Rattle.wasm_shapes.specs.Shape.{Shape, closed}
+use Rattle.wasm_shapes.specs.Sound.{sound}
+use Rattle.wasm_shapes.specs.Spells.{Is, Spelled}
+use Rattle.wasm_shapes.specs.Place.{Begins, BeginsNone}
+use Rattle.wasm_shapes.specs.Rows.{RowsLeft, NoRows, rows_then}
+use Rattle.wasm_shapes.proofs.Rows.{RowsSoFar, so_far_none, so_far_more, so_far_stuck, rows_end, rows_then-append, rows_first}
+use Rattle.wasm_leb.specs.declared.fault.Fault.{Fault}
+use Rattle.wasm_leb.specs.declared.fault.Fault.TheVariants as fault
+use Rattle.wasm_read.specs.Reading.{Standing, place_of, ReadsNone, ReadsNoneOrWants, RowRead, RowMissing, RowsEnded}
+use Rattle.reencode_hooks.specs.Errors.{error_of_fault, error_of_write}
+use Rattle.wasm_write.specs.declared.fault.WriteFault.{WriteFault}
+use Rattle.wasm_write.specs.declared.fault.WriteFault.TheVariants as write
+use Rattle.wasm_write.specs.Faults.{IfTooLarge}
+use Rattle.wasm_write.specs.Counts.{counts, IsTooLarge}
+use Rattle.reencode_hooks.specs.declared.error.Error.{Error}
+use Rattle.reencode_hooks.specs.declared.error.Error.TheVariants.{CanonicalizedHeapTypeReference, InvalidConstExpr, InvalidCodeSectionSize, UnexpectedNonCoreModuleSection, UnexpectedNonComponentSection, UnsupportedCoreTypeInComponent, ParseError, UserError, TooLarge, NoMemory}
+use Rattle.reencode_hooks.specs.Run.{Step, accepted, refused, and_then, ask}
+use Rattle.reencode_hooks.specs.Walk.{walk}
+use Rattle.reencode_core.specs.Errors.{IfParse}
+use Rattle.reencode_core.specs.Rows.{Asks, KeepsFront, AcceptedHooks, TooLargeMade, TooLargeRow, GivesRow, onto_rows, AcceptsRows, TooMany, RefusesFirst, StopsRows, GivesAll, RowsBefore, RowsFault, Further, GivesRows}
+use Rattle.reencode_core.proofs.Usual.{IfParse-map, usual_walk, stops_usual}
+use Rattle.reencode_core.proofs.Counts.{only_rows}
+
+-- Rows were read and walked, what they became was added, and the others are read and walked from here.
+pub record RowsDone {S E : Type 0} (asked : Asks S E) (c : ℕ) (row : Shape) (start : Standing) (s0 : S) (old : List Tree)
+    (reader : Standing) (s : S) (new : List Tree) : Type 0 where
+  pub read : List Tree
+  pub made : List Tree
+  pub so_far : RowsSoFar row start.left start.rest read reader.left reader.rest
+  pub before : RowsBefore row start.rest read reader.rest
+  pub numbered : start.left ≡ length read + reader.left
+  pub len : reader.len ≡ start.len
+  pub accepts : AcceptsRows asked c s0 read made s
+  pub counted : length made ≡ length read
+  pub gains : new ≡ old ++ made
+
+-- rows, and others behind them
+rows_joined : {row : Shape} (ts : List Tree) {u : Tree} (x y : List ℕ) → Is (Shape.many row) (rows_then ts Tree.nil) → Spelled (rows_then ts Tree.nil) x →
+    Is (Shape.many row) u → Spelled u y → Is (Shape.many row) (rows_then ts u) × Spelled (rows_then ts u) (x ++ y)
+rows_joined [] {u = u} x y d p d' q =
+    let none : x ≡ [] = p in
+    let P : List ℕ → Type 0 = λ z. Spelled u (z ++ y) in
+    (d', subst P (sym none) q)
+rows_joined {row = row} (t ∷ ts) {u = u} x y d p d' q = go d (λ e. rows_joined ts p.1 y e p.4 d' q)
+  where
+    go : Is (Shape.many row) (Tree.cons t (rows_then ts Tree.nil)) → (Is (Shape.many row) (rows_then ts Tree.nil) → Is (Shape.many row) (rows_then ts u) × Spelled (rows_then ts u) (p.1 ++ y)) →
+        Is (Shape.many row) (Tree.cons t (rows_then ts u)) × Spelled (Tree.cons t (rows_then ts u)) (x ++ y)
+    go (Is.cons e e') again =
+        let r = again e' in
+        (Is.cons e r.0, (p.0, p.1 ++ y, ap (λ (z : List ℕ). z ++ y) p.2 ∙ append_assoc p.0 p.1 y, p.3, r.1))
+
+pub before_more : {row : Shape} {bytes rest left : List ℕ} {ts : List Tree} {t : Tree} → RowsBefore row bytes ts rest → Begins row rest t left → RowsBefore row bytes (ts ++ t ∷ []) left
+before_more {ts = ts} {t = t} b there =
+    let one : Is _ (Tree.cons t Tree.nil) = Is.cons there.spells.shaped Is.nil in
+    let r = rows_joined ts b.text there.text b.shaped b.spelled one (there.text, [], sym (append-nil there.text), there.spells.spelled, refl) in record {
+      text = b.text ++ there.text;
+      shaped = rw (rows_then-append ts t Tree.nil) r.0;
+      spelled = rw (rows_then-append ts t Tree.nil) r.1;
+      stands = b.stands ∙ ap (λ (z : List ℕ). b.text ++ z) there.reads ∙ sym (append_assoc b.text there.text _);
+    }
+
+-- the number of rows in front of others
+length_more : (ts : List Tree) (t : Tree) → length (ts ++ t ∷ []) ≡ length ts + 1
+length_more ts t = length-append ts (t ∷ [])
+
+-- where a row is missing, by the number of those before it
+missing_after : {row : Shape} (n total : ℕ) (reader : Standing) → total ≡ n + reader.left → ((0 < reader.left) × BeginsNone row reader.rest) ⊎ ((reader.left ≡ 0) × (reader.rest ≢ [])) →
+    ((n < total) × BeginsNone row reader.rest) ⊎ ((n ≡ total) × (reader.rest ≢ []))
+missing_after n total reader k (inl h) = let some : 0 < reader.left = h.0 in inl (omega arith, h.1)
+missing_after n total reader k (inr h) = let none : reader.left ≡ 0 = h.0 in inr (omega arith, h.1)
+
+-- rows under one ceiling
+pub at_ceiling : {S E : Type 0} {asked : Asks S E} {row : Shape} {reader : Standing} {s m : S} {old new : List Tree} {result : Result (Unit {0}) (Error E)} (a b : ℕ) → a ≡ b →
+    GivesRows asked a row reader s old m new result → GivesRows asked b row reader s old m new result
+at_ceiling {asked = asked} {row = row} {reader = reader} {s = s} {m = m} {old = old} {new = new} {result = result} a b e g =
+    let P : ℕ → Type 0 = λ n. GivesRows asked n row reader s old m new result in subst P e g
+
+-- a reader that takes no memory
+pub none_or_wants : (f : Fault) (at : ℕ) (P : Type 0) → ReadsNone f at P → ReadsNoneOrWants f at P
+none_or_wants (fault.Read x) at P h = h
+none_or_wants fault.NoMemory at P h = tt
+none_or_wants fault.CodeSize at P h = h
+none_or_wants (fault.Header k) at P h = h
+
+module _ {S E : Type 0} (asked : Asks S E) where
+  pub onto_nothing : (step : Step S (Error E) Tree) → step ≡ onto_rows [] step
+  onto_nothing (accepted u m) = refl
+  onto_nothing (refused e m) = refl
+
+  pub rows_begin : (c : ℕ) (row : Shape) (start : Standing) (s : S) (old : List Tree) → RowsDone asked c row start s old start s old
+  rows_begin c row start s old = record {
+    read = [];
+    made = [];
+    so_far = so_far_none row start.left start.rest;
+    before = record { text = []; shaped = Is.nil; spelled = refl; stands = refl };
+    numbered = omega arith;
+    len = refl;
+    accepts = λ others. onto_nothing (walk asked c s others);
+    counted = refl;
+    gains = sym (append-nil old);
+  }
+
+  -- one row more in front of a step
+  pub one_onto : (made : List Tree) (v : Tree) (step : Step S (Error E) Tree) →
+      onto_rows made (and_then step (λ u m. accepted (Tree.cons v u) m)) ≡ onto_rows (made ++ v ∷ []) step
+  one_onto made v (accepted u m) = ap (λ (t : Tree). accepted t m) (sym (rows_then-append made v u))
+  one_onto made v (refused e m) = refl
+
+  pub rows_more : {c : ℕ} {row : Shape} {start reader reader' : Standing} {s0 s s' : S} {old new new' : List Tree} {t v : Tree} → sound row ≡ true → closed row ≡ true →
+      RowsDone asked c row start s0 old reader s new → RowRead row reader t reader' →
+      walk asked c s t ≡ accepted v s' → new' ≡ new ++ v ∷ [] → RowsDone asked c row start s0 old reader' s' new'
+  rows_more {c = c} {s = s} {s' = s'} {t = t} {v = v} k h d r e g =
+      let less = r.counted in record {
+        read = d.read ++ t ∷ [];
+        made = d.made ++ v ∷ [];
+        so_far = so_far_more d.read k h (omega arith) r.begins d.so_far;
+        before = before_more d.before r.begins;
+        numbered = let one = length_more d.read t in let all = d.numbered in omega arith;
+        len = r.len ∙ d.len;
+        accepts = λ others.
+            let step : walk asked c s (Tree.cons t others) ≡ and_then (walk asked c s' others) (λ u m. accepted (Tree.cons v u) m) = rw e refl in
+            rw (rows_then-append d.read t others)
+            (d.accepts (Tree.cons t others) ∙ ap (λ (r : Step S (Error E) Tree). onto_rows d.made r) step ∙ one_onto d.made v (walk asked c s' others));
+        counted = let one = length_more d.read t in let other = length_more d.made v in let all = d.counted in omega arith;
+        gains = g ∙ ap (λ (z : List Tree). z ++ v ∷ []) d.gains ∙ append_assoc _ d.made (v ∷ []);
+      }
+
+  -- ---- the ends of the loop
+
+  pub rows_all : {c : ℕ} {row : Shape} {start reader reader' : Standing} {s0 s : S} {old new : List Tree} → RowsDone asked c row start s0 old reader s new →
+      RowsEnded reader reader' → GivesRows asked c row start s0 old s new (Ok tt)
+  rows_all {row = row} {s = s} d ended = record {
+    reading = λ t r.
+        let b = d.so_far.back t r in
+        let last : b.0 ≡ Tree.nil = none_left b.0 b.2 ended.counted in
+        (d.made, rw (b.1, last) (d.accepts Tree.nil), d.gains);
+    readable = (rows_then d.read Tree.nil, d.so_far.forth Tree.nil (rows_end ended.counted ended.filled));
+    unreadable = tt;
+  }
+    where
+      none_left : {n : ℕ} {bytes : List ℕ} (t : Tree) → RowsLeft row n bytes t → n ≡ 0 → t ≡ Tree.nil
+      none_left {n = n} t r k = go t r.shaped r.counted
+        where
+          go : (t : Tree) → Is (Shape.many row) t → count t ≡ n → t ≡ Tree.nil
+          go t Is.nil counted = refl
+          go t (Is.cons {u = u} e e') counted = let some : suc (count u) ≡ n = counted in absurd (omega arith)
+
+  -- no row is there
+  pub rows_fault : {c : ℕ} {row : Shape} {start reader : Standing} {s0 s m : S} {old new new' : List Tree} (at : ℕ) → RowsDone asked c row start s0 old reader s new →
+      RowMissing row reader → at ≡ place_of reader → Further asked s m → new' ≡ new → RowsFault asked c row start s0 old m new' at
+  rows_fault {start = start} {reader = reader} {s = s} at d missing place further unchanged = record {
+    none = so_far_stuck d.so_far missing.rows;
+    read = d.read;
+    rest = reader.rest;
+    made = d.made;
+    state = s;
+    before = d.before;
+    missing = missing_after (length d.read) start.left reader d.numbered missing.here;
+    place = place ∙ ap (λ (n : ℕ). n - length reader.rest) d.len;
+    accepts = d.accepts;
+    further = further;
+    gains = unchanged ∙ d.gains;
+  }
+
+  pub rows_unread : {c : ℕ} {row : Shape} {start reader : Standing} {s0 s : S} {old new : List Tree} (f : Fault) → RowsDone asked c row start s0 old reader s new →
+      ReadsNoneOrWants f (place_of reader) (RowMissing row reader) → GivesRows asked c row start s0 old s new (Err (error_of_fault f))
+  rows_unread {c = c} {row = row} {start = start} {reader = reader} {s0 = s0} {s = s} {old = old} {new = new} f d missing = record {
+    reading = λ t r.
+        let b = d.so_far.back t r in record {
+          read = d.read;
+          others = b.0;
+          made = d.made;
+          at = s;
+          parts = b.1;
+          accepts = d.accepts;
+          counted = d.counted;
+          gains = d.gains;
+          refuses = λ other. absurd (never f missing other b.0 b.2);
+        };
+    readable = tt;
+    unreadable = parse f missing;
+  }
+    where
+      never : (f : Fault) → ReadsNoneOrWants f (place_of reader) (RowMissing row reader) → error_of_fault {E = E} f ≢ NoMemory → (t : Tree) → RowsLeft row reader.left reader.rest t → ⊥
+      never (fault.Read x) h other t r = h.1.rows.none t r
+      never fault.NoMemory h other t r = other refl
+      never fault.CodeSize h other t r = h
+      never (fault.Header k) h other t r = h
+
+      parse : (f : Fault) → ReadsNoneOrWants f (place_of reader) (RowMissing row reader) → IfParse (error_of_fault {E = E} f) (RowsFault asked c row start s0 old s new)
+      parse (fault.Read x) h = rows_fault x.at d h.1 h.0 (record { visits = []; given = []; ran = refl }) refl
+      parse fault.NoMemory h = tt
+      parse fault.CodeSize h = absurd h
+      parse (fault.Header k) h = absurd h
+
+  -- the next row is refused
+  pub rows_refused : {c : ℕ} {row : Shape} {start reader reader' : Standing} {s0 s s' : S} {old new : List Tree} {t : Tree} (e : Error E) → sound row ≡ true → closed row ≡ true →
+      RowsDone asked c row start s0 old reader s new → RowRead row reader t reader' →
+      (e ≢ NoMemory → (walk asked c s t ≡ refused e s') ⊎ (AcceptedHooks asked s t s' × TooMany e (length new))) → IfParse e (λ at. ⊥) →
+      GivesRows asked c row start s0 old s' new (Err e)
+  rows_refused {reader' = reader'} {s = s} {s' = s'} {t = t} e k h d r stops parse = record {
+    reading = λ rows all.
+        let b = d.so_far.back rows all in
+        let less = r.counted in
+        let f = rows_first {n = reader'.left} k h (omega arith) r.begins b.0 b.2 in record {
+          read = d.read;
+          others = b.0;
+          made = d.made;
+          at = s;
+          parts = b.1;
+          accepts = d.accepts;
+          counted = d.counted;
+          gains = d.gains;
+          refuses = λ other. record { row = t; behind = f.0; parts = f.1; refusal = stops other };
+        };
+    readable = tt;
+    unreadable = IfParse-map e (λ at never. absurd never) parse;
+  }
+
+-- one row too many
+pub too_many : {S E : Type 0} (asked : Asks S E) (c : ℕ) (s m : S) (t u : Tree) (n : ℕ) (w : WriteFault) → walk asked c s t ≡ accepted u m →
+    IfTooLarge w (λ size. (size ≡ n + 1) × (2 ^ 32 - 1 < size)) → error_of_write {E = E} w ≢ NoMemory →
+    (walk asked c s t ≡ refused (error_of_write w) m) ⊎ (AcceptedHooks asked s t m × TooMany (error_of_write {E = E} w) n)
+too_many asked c s m t u n (write.TooLarge size) e h other = inr (record { ceiling = c; made = u; walked = e }, h)
+too_many asked c s m t u n write.NoMemory e h other = absurd (other refl)
+
+-- an index alone
+pub ix_accepted : {S E : Type 0} (asked : Asks S E) (c : ℕ) (s m : S) (p : Space) (i n : ℕ) → asked s (Index p i) ≡ accepted n m →
+    walk asked c s (Tree.ix p i) ≡ accepted (Tree.ix p n) m
+ix_accepted asked c s m p i n e = rw e refl
+
+pub ix_refused : {S E : Type 0} (asked : Asks S E) (c : ℕ) (s m : S) (p : Space) (i : ℕ) (e : Error E) → asked s (Index p i) ≡ refused e m →
+    walk asked c s (Tree.ix p i) ≡ refused e m
+ix_refused asked c s m p i e h = rw h refl
+
+-- a row that was read is too large only for its section
+pub row_too_many : {S E : Type 0} (asked : Asks S E) (c : ℕ) (s m : S) (t u : Tree) (x : List ℕ) (n : ℕ) (w : WriteFault) → Spelled t x → walk asked c s t ≡ accepted u m →
+    IfTooLarge w (IsTooLarge (counts u ++ (n + 1) ∷ [])) → error_of_write {E = E} w ≢ NoMemory →
+    (walk asked c s t ≡ refused (error_of_write w) m) ⊎ (AcceptedHooks asked s t m × TooMany (error_of_write {E = E} w) n)
+row_too_many asked c s m t u x n (write.TooLarge size) p e h other = inr (record { ceiling = c; made = u; walked = e }, only_rows asked c s m t u x (n + 1) size p e h)
+row_too_many asked c s m t u x n write.NoMemory p e h other = absurd (other refl)
+
+-- a sink that gained rows twice
+pub kept_on : (old mid new : List Tree) → KeepsFront old mid → KeepsFront mid new → KeepsFront old new
+kept_on old mid new p q =
+    let short : length old ≤ length mid = let taken : length (take (length old) mid) ≡ length old = ap length p in omega (arith, length-take (length old) mid, taken) in
+    sym (take-take (length old) (length mid) new short) ∙ ap (take (length old)) q ∙ p
+
+-- a row that was read is refused as its walk is, or is too large
+row_usual_at : {S E : Type 0} (reply : S → Visit → Result ℕ E) (next : S → Visit → S) (c : ℕ) (s m : S) (t : Tree) (x : List ℕ) (n : ℕ) (e : Error E) → Spelled t x →
+    (walk (ask reply next) c s t ≡ refused e m) ⊎ TooLargeMade (ask reply next) s t n e m → ((u : Tree) → TooLargeRow e u n → ⊥) →
+    IfParse e (λ at. ⊥)
+row_usual_at reply next c s m t x n e p (inl h) never = stops_usual (λ at. ⊥) (walk (ask reply next) c s t) e m (usual_walk reply next c None s t x p) (λ other. h)
+row_usual_at reply next c s m t x n e p (inr h) never = absurd (never h.accepts.made h.large)
+
+-- the next row is refused, by the call that maps it
+pub row_refused : {S E : Type 0} (reply : S → Visit → Result ℕ E) (next : S → Visit → S) {c : ℕ} {row : Shape} {start reader reader' : Standing} {s0 s s' : S} {old new new' : List Tree} {t : Tree}
+    {e : Error E} → sound row ≡ true → closed row ≡ true → RowsDone (ask reply next) c row start s0 old reader s new → RowRead row reader t reader' →
+    GivesRow (ask reply next) c s t new s' new' (Err e) → GivesRows (ask reply next) c row start s0 old s' new' (Err e)
+row_refused {E = E} reply next {c = c} {row = row} {start = start} {reader = reader} {s0 = s0} {s = s} {s' = s'} {old = old} {new = new} {new' = new'} {t = t} {e = e} k h d r given =
+    let P : List Tree → Type 0 = λ z. GivesRows (ask reply next) c row start s0 old s' z (Err e) in
+    subst P (sym given.0) (rows_refused (ask reply next) e k h d r (λ other. either (given.1 other)) (usual e given.1))
+  where
+    many : (e : Error E) (k : ℕ) (u : Tree) (n : ℕ) → walk (ask reply next) k s t ≡ accepted u s' → TooLargeRow e u n → TooMany e n
+    many (TooLarge size) k u n h q = only_rows (ask reply next) k s s' t u r.begins.text (n + 1) size r.begins.spells.spelled h q
+    many _ k u n h q = absurd q
+
+    either : (walk (ask reply next) c s t ≡ refused e s') ⊎ TooLargeMade (ask reply next) s t (length new) e s' →
+        (walk (ask reply next) c s t ≡ refused e s') ⊎ (AcceptedHooks (ask reply next) s t s' × TooMany e (length new))
+    either (inl q) = inl q
+    either (inr q) = inr (q.accepts, many e q.accepts.ceiling q.accepts.made (length new) q.accepts.walked q.large)
+
+    usual : (e : Error E) → (e ≢ NoMemory → (walk (ask reply next) c s t ≡ refused e s') ⊎ TooLargeMade (ask reply next) s t (length new) e s') → IfParse e (λ at. ⊥)
+    usual (TooLarge size) q = tt
+    usual (UserError x) q = tt
+    usual NoMemory q = tt
+    usual (ParseError x) q = row_usual_at reply next c s s' t r.begins.text (length new) (ParseError x) r.begins.spells.spelled (q (λ b. cc)) (λ u b. b)
+    usual CanonicalizedHeapTypeReference q = row_usual_at reply next c s s' t r.begins.text (length new) CanonicalizedHeapTypeReference r.begins.spells.spelled (q (λ b. cc)) (λ u b. b)
+    usual InvalidConstExpr q = row_usual_at reply next c s s' t r.begins.text (length new) InvalidConstExpr r.begins.spells.spelled (q (λ b. cc)) (λ u b. b)
+    usual InvalidCodeSectionSize q = row_usual_at reply next c s s' t r.begins.text (length new) InvalidCodeSectionSize r.begins.spells.spelled (q (λ b. cc)) (λ u b. b)
+    usual UnexpectedNonCoreModuleSection q = row_usual_at reply next c s s' t r.begins.text (length new) UnexpectedNonCoreModuleSection r.begins.spells.spelled (q (λ b. cc)) (λ u b. b)
+    usual UnexpectedNonComponentSection q = row_usual_at reply next c s s' t r.begins.text (length new) UnexpectedNonComponentSection r.begins.spells.spelled (q (λ b. cc)) (λ u b. b)
+    usual UnsupportedCoreTypeInComponent q = row_usual_at reply next c s s' t r.begins.text (length new) UnsupportedCoreTypeInComponent r.begins.spells.spelled (q (λ b. cc)) (λ u b. b)
+
+-- ---- a row that is read in part
+
+-- where rows are left, the first of them begins there
+first_of : {row : Shape} {n m : ℕ} {bytes : List ℕ} (rows : Tree) → m ≡ suc n → RowsLeft row m bytes rows → (t : Tree) × (behind : Tree) × (left : List ℕ) × (rows ≡ Tree.cons t behind) × Begins row bytes t left
+first_of {row = row} {n = n} {m = m} {bytes = bytes} rows k r = go rows r.shaped r.counted r.spelled
+  where
+    go : (rows : Tree) → Is (Shape.many row) rows → count rows ≡ m → Spelled rows bytes → (t : Tree) × (behind : Tree) × (left : List ℕ) × (rows ≡ Tree.cons t behind) × Begins row bytes t left
+    go rows Is.nil counted p = absurd (omega arith)
+    go rows (Is.cons {t = t} {u = u} d d') counted p = (t, u, p.1, refl, record { text = p.0; spells = record { shaped = d; spelled = p.3 }; reads = p.2 })
+
+module _ {S E : Type 0} (reply : S → Visit → Result ℕ E) (next : S → Visit → S) {c : ℕ} {row : Shape} {start reader : Standing} {s0 s s' : S} {old new new' : List Tree}
+    (d : RowsDone (ask reply next) c row start s0 old reader s new) where
+  -- no row is there, as further visits showed
+  pub rows_faulty : (at : ℕ) → RowMissing row reader → at ≡ place_of reader → Further (ask reply next) s s' → new' ≡ new →
+      GivesRows (ask reply next) c row start s0 old s' new' (Err (ParseError (record { at = at })))
+  rows_faulty at missing place further unchanged = record {
+    reading = λ t r. absurd ((so_far_stuck d.so_far missing.rows).none t r);
+    readable = tt;
+    unreadable = rows_fault (ask reply next) at d missing place further unchanged;
+  }
+
+  -- the next row is refused, if there is one
+  pub rows_refused_if : (e : Error E) (n : ℕ) → reader.left ≡ suc n → ((t : Tree) (left : List ℕ) → Begins row reader.rest t left → GivesRow (ask reply next) c s t new s' new' (Err e)) → new' ≡ new →
+      IfParse e (λ at. ⊥) → GivesRows (ask reply next) c row start s0 old s' new' (Err e)
+  rows_refused_if e n left given unchanged usual = record {
+    reading = λ rows all.
+        let b = d.so_far.back rows all in
+        let f = first_of b.0 left b.2 in record {
+          read = d.read;
+          others = b.0;
+          made = d.made;
+          at = s;
+          parts = b.1;
+          accepts = d.accepts;
+          counted = d.counted;
+          gains = unchanged ∙ d.gains;
+          refuses = λ other. record {
+            row = f.0;
+            behind = f.1;
+            parts = f.3;
+            refusal = rw unchanged (either f.0 f.4.text f.4.spells.spelled ((given f.0 f.2 f.4).1 other));
+          };
+        };
+    readable = tt;
+    unreadable = IfParse-map e (λ at never. absurd never) usual;
+  }
+    where
+      many : (e : Error E) (k : ℕ) (t u : Tree) (x : List ℕ) → Spelled t x → walk (ask reply next) k s t ≡ accepted u s' → TooLargeRow e u (length new) → TooMany e (length new)
+      many (TooLarge size) k t u x p h q = only_rows (ask reply next) k s s' t u x (length new + 1) size p h q
+      many _ k t u x p h q = absurd q
+
+      either : (t : Tree) (x : List ℕ) → Spelled t x → (walk (ask reply next) c s t ≡ refused e s') ⊎ TooLargeMade (ask reply next) s t (length new) e s' →
+          (walk (ask reply next) c s t ≡ refused e s') ⊎ (AcceptedHooks (ask reply next) s t s' × TooMany e (length new))
+      either t x p (inl q) = inl q
+      either t x p (inr q) = inr (q.accepts, many e q.accepts.ceiling t q.accepts.made x p q.accepts.walked q.large)

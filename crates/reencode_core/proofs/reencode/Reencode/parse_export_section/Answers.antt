@@ -1,0 +1,34 @@
+use Rattle.std.proofs.Common.{◌≡◌, ◌+◌, ◌++◌, List, refl, arith}
+use Rattle.std.proofs.lemmas.Grind.{common_steps}
+use Rattle.std.proofs.lemmas.Result.{err_from_is_err_and}
+use Rattle.reencode_hooks.specs.Run.{ask}
+use Rattle.reencode_core.proofs.RowLoop.{rows_begin, rows_more, rows_all, rows_unread, row_refused, none_or_wants, kept_on}
+use Rattle.reencode_core.proofs.reencode.Reencode.parse_export_section.Goals as goal
+
+pub rows-init : goal.rows-init
+rows-init g c = record { kept = grind (arith, common_steps); default = λ k n. rows_begin _ _ _ _ _ _ }
+
+pub rows-preserved : goal.rows-preserved
+rows-preserved g c =
+    let row = rw c.in-Some.is at c.in_ok-export.ensures.row in
+    record {
+      kept = kept_on _ _ _ c.rows.invariant.kept c.in_ok-parse_export-in-Some.ensures.kept;
+      default = λ k n. let q = c.in_ok-parse_export-in-Some.ensures.default k n in rows_more _ refl refl (c.rows.invariant.default k n) row q.1 q.2;
+    }
+
+pub returns-in_err-export-clause-default : goal.returns-in_err-export-clause-default
+returns-in_err-export-clause-default g c =
+    let p = err_from_is_err_and c.from_residual.result c.from_residual.ensures.1 in
+    rw (p.1, p.2) (λ k n. rows_unread _ _ (c.rows.invariant.default k n) (none_or_wants _ _ _ c.in_err-export.ensures.err))
+
+pub returns-in_err-parse_export-in-Some-clause-default : goal.returns-in_err-parse_export-in-Some-clause-default
+returns-in_err-parse_export-in-Some-clause-default g c =
+    let p = err_from_is_err_and c.from_residual-in_err-parse_export-in-Some.result c.from_residual-in_err-parse_export-in-Some.ensures.1 in
+    let i = g.Self.ReencodeIndices in
+    let row = rw c.in-Some.is at c.in_ok-export.ensures.row in
+    rw (p.1, p.2) (λ k n. row_refused i.reply i.next refl refl (c.rows.invariant.default k n) row (c.in_err-parse_export-in-Some.ensures.default k n))
+
+pub returns-in-None-clause-default : goal.returns-in-None-clause-default
+returns-in-None-clause-default g c =
+    let ended = rw c.in-None.is at c.in_ok-export.ensures.ended in
+    λ k n. rows_all _ (c.rows.invariant.default k n) ended

@@ -1,0 +1,88 @@
+use Rattle.std.proofs.Common.{◌≡◌, ◌∙◌, ap}
+use Rattle.wasm_write.specs.Bodies.{CodeRows}
+use Rattle.reencode_core.proofs.RowLoop.{at_ceiling}
+use Rattle.std.proofs.lemmas.Result.{err_from_is_err_and}
+use Rattle.reencode_core.proofs.Known.{types_in_force, functions_in_force, exports_in_force, code_in_force, other_shape, keeps_same}
+use Rattle.reencode_core.proofs.OneSection.{rows_stop, section_given, section_not_given, not_in_force}
+use Rattle.reencode_core.proofs.utils.parse_section.Goals as goal
+
+pub returns-in_err-parse_type_section-in-Type_-clause-default : goal.returns-in_err-parse_type_section-in-Type_-clause-default
+returns-in_err-parse_type_section-in-Type_-clause-default g c =
+    let p = err_from_is_err_and c.from_residual-in_err-parse_type_section-in-Type_.result c.from_residual-in_err-parse_type_section-in-Type_.ensures.1 in
+    rw (p.1, p.2, c.in-Type_.is) (λ k.
+    rows_stop _ _ types_in_force _ _ _ _ _ _ _ _ c.new-types.ensures c.in_ok-rows-in-Type_.ensures.ok (c.in_err-parse_type_section-in-Type_.ensures.default k _))
+
+pub returns-in_err-section-in-Type_-clause-default : goal.returns-in_err-section-in-Type_-clause-default
+returns-in_err-section-in-Type_-clause-default g c =
+    let p = err_from_is_err_and c.from_residual-in_err-section-in-Type_.result c.from_residual-in_err-section-in-Type_.ensures.1 in
+    rw (p.1, p.2, c.in-Type_.is, c.in_err-section-in-Type_.ensures.err) (λ k.
+    section_not_given _ _ types_in_force _ _ _ _ _ _ _ _ c.new-types.ensures c.in_ok-rows-in-Type_.ensures.ok (c.in_ok-parse_type_section-in-Type_.ensures.default k _)
+    c.in_err-section-in-Type_.ensures.large)
+
+pub returns-in_ok-section-in-Type_-clause-default : goal.returns-in_ok-section-in-Type_-clause-default
+returns-in_ok-section-in-Type_-clause-default g c =
+    rw c.in-Type_.is (λ k.
+    section_given _ _ types_in_force _ _ _ _ _ _ _ _ c.new-types.ensures c.in_ok-rows-in-Type_.ensures.ok (c.in_ok-parse_type_section-in-Type_.ensures.default k _)
+    c.in_ok-section-in-Type_.ensures.ok c.in_ok-section-in-Type_.ensures.fits)
+
+pub returns-in_err-parse_function_section-in-Function-clause-default : goal.returns-in_err-parse_function_section-in-Function-clause-default
+returns-in_err-parse_function_section-in-Function-clause-default g c =
+    let p = err_from_is_err_and c.from_residual-in_err-parse_function_section-in-Function.result c.from_residual-in_err-parse_function_section-in-Function.ensures.1 in
+    rw (p.1, p.2, c.in-Function.is) (λ k.
+    rows_stop _ _ functions_in_force _ _ _ _ _ _ _ _ c.new-functions.ensures c.in_ok-rows-in-Function.ensures.ok (c.in_err-parse_function_section-in-Function.ensures.default k _))
+
+pub returns-in_err-section-in-Function-clause-default : goal.returns-in_err-section-in-Function-clause-default
+returns-in_err-section-in-Function-clause-default g c =
+    let p = err_from_is_err_and c.from_residual-in_err-section-in-Function.result c.from_residual-in_err-section-in-Function.ensures.1 in
+    rw (p.1, p.2, c.in-Function.is, c.in_err-section-in-Function.ensures.err) (λ k.
+    section_not_given _ _ functions_in_force _ _ _ _ _ _ _ _ c.new-functions.ensures c.in_ok-rows-in-Function.ensures.ok (c.in_ok-parse_function_section-in-Function.ensures.default k _)
+    c.in_err-section-in-Function.ensures.large)
+
+pub returns-in_ok-section-in-Function-clause-default : goal.returns-in_ok-section-in-Function-clause-default
+returns-in_ok-section-in-Function-clause-default g c =
+    rw c.in-Function.is (λ k.
+    section_given _ _ functions_in_force _ _ _ _ _ _ _ _ c.new-functions.ensures c.in_ok-rows-in-Function.ensures.ok (c.in_ok-parse_function_section-in-Function.ensures.default k _)
+    c.in_ok-section-in-Function.ensures.ok c.in_ok-section-in-Function.ensures.fits)
+
+pub returns-in_err-parse_export_section-in-Export-clause-default : goal.returns-in_err-parse_export_section-in-Export-clause-default
+returns-in_err-parse_export_section-in-Export-clause-default g c =
+    let p = err_from_is_err_and c.from_residual-in_err-parse_export_section-in-Export.result c.from_residual-in_err-parse_export_section-in-Export.ensures.1 in
+    rw (p.1, p.2, c.in-Export.is) (λ k.
+    rows_stop _ _ exports_in_force _ _ _ _ _ _ _ _ c.new-exports.ensures c.in_ok-rows-in-Export.ensures.ok (c.in_err-parse_export_section-in-Export.ensures.default k _))
+
+pub returns-in_err-section-in-Export-clause-default : goal.returns-in_err-section-in-Export-clause-default
+returns-in_err-section-in-Export-clause-default g c =
+    let p = err_from_is_err_and c.from_residual-in_err-section-in-Export.result c.from_residual-in_err-section-in-Export.ensures.1 in
+    rw (p.1, p.2, c.in-Export.is, c.in_err-section-in-Export.ensures.err) (λ k.
+    section_not_given _ _ exports_in_force _ _ _ _ _ _ _ _ c.new-exports.ensures c.in_ok-rows-in-Export.ensures.ok (c.in_ok-parse_export_section-in-Export.ensures.default k _)
+    c.in_err-section-in-Export.ensures.large)
+
+pub returns-in_ok-section-in-Export-clause-default : goal.returns-in_ok-section-in-Export-clause-default
+returns-in_ok-section-in-Export-clause-default g c =
+    rw c.in-Export.is (λ k.
+    section_given _ _ exports_in_force _ _ _ _ _ _ _ _ c.new-exports.ensures c.in_ok-rows-in-Export.ensures.ok (c.in_ok-parse_export_section-in-Export.ensures.default k _)
+    c.in_ok-section-in-Export.ensures.ok c.in_ok-section-in-Export.ensures.fits)
+
+pub returns-in_err-parse_code_section-in-Code-clause-default : goal.returns-in_err-parse_code_section-in-Code-clause-default
+returns-in_err-parse_code_section-in-Code-clause-default g c =
+    let p = err_from_is_err_and c.from_residual-in_err-parse_code_section-in-Code.result c.from_residual-in_err-parse_code_section-in-Code.ensures.1 in
+    rw (p.1, p.2, c.in-Code.is) (λ k.
+    rows_stop _ _ code_in_force _ _ _ _ _ _ _ _ (ap CodeRows.rows c.new-code.ensures) c.in_ok-rows-in-Code.ensures.ok (at_ceiling _ _ (ap CodeRows.ceiling c.new-code.ensures ∙ c.ceiling.ensures) (c.in_err-parse_code_section-in-Code.ensures.default k)))
+
+pub returns-in_err-section-in-Code-clause-default : goal.returns-in_err-section-in-Code-clause-default
+returns-in_err-section-in-Code-clause-default g c =
+    let p = err_from_is_err_and c.from_residual-in_err-section-in-Code.result c.from_residual-in_err-section-in-Code.ensures.1 in
+    rw (p.1, p.2, c.in-Code.is, c.in_err-section-in-Code.ensures.err) (λ k.
+    section_not_given _ _ code_in_force _ _ _ _ _ _ _ _ (ap CodeRows.rows c.new-code.ensures) c.in_ok-rows-in-Code.ensures.ok (at_ceiling _ _ (ap CodeRows.ceiling c.new-code.ensures ∙ c.ceiling.ensures) (c.in_ok-parse_code_section-in-Code.ensures.default k))
+    c.in_err-section-in-Code.ensures.large)
+
+pub returns-in_ok-section-in-Code-clause-default : goal.returns-in_ok-section-in-Code-clause-default
+returns-in_ok-section-in-Code-clause-default g c =
+    rw c.in-Code.is (λ k.
+    section_given _ _ code_in_force _ _ _ _ _ _ _ _ (ap CodeRows.rows c.new-code.ensures) c.in_ok-rows-in-Code.ensures.ok (at_ceiling _ _ (ap CodeRows.ceiling c.new-code.ensures ∙ c.ceiling.ensures) (c.in_ok-parse_code_section-in-Code.ensures.default k))
+    c.in_ok-section-in-Code.ensures.ok c.in_ok-section-in-Code.ensures.fits)
+
+pub returns-in_default : goal.returns-in_default
+returns-in_default g c =
+    let o = c.in_default in
+    record { kept = keeps_same _; default = λ k. not_in_force _ _ _ _ _ (other_shape _ o.not-Type_ o.not-Function o.not-Export o.not-Code) }

@@ -1,0 +1,117 @@
+-- What the calls that map a whole core module give.
+use Rattle.std.specs.Prelude.{◌≡◌, ◌≢◌, ◌-◌, ◌⊎◌, ◌∷◌, ℕ, List, [], ◌++◌, length, Option, Some, None, Result, Ok, Err, IfOk, IfErr}
+use Rattle.wasm_leb.specs.declared.fault.Fault.{Fault}
+use Rattle.wasm_shapes.specs.declared.SectionId.{SectionId}
+use Rattle.wasm_shapes.specs.declared.Visit.TheVariants.{Section}
+use Rattle.wasm_shapes.specs.Tree.{Tree, normal, kind}
+use Rattle.wasm_shapes.specs.Spells.{Spells}
+use Rattle.wasm_shapes.specs.Module.{core_header, component_header, core_module, alsos, FaultAt, CoreReading}
+use Rattle.wasm_write.specs.Sections.{Sections, SectionRow, sections_bytes}
+use Rattle.reencode_hooks.specs.declared.error.Error.{Error}
+use Rattle.reencode_hooks.specs.declared.error.Error.TheVariants.{UnexpectedNonCoreModuleSection, ParseError, UserError, TooLarge, NoMemory}
+use Rattle.reencode_hooks.specs.Run.{Step, accepted, refused, and_then}
+use Rattle.reencode_hooks.specs.Walk.{walk, walk_from, announced}
+use Rattle.reencode_hooks.specs.Hooks.{Gains}
+use Rattle.reencode_core.specs.Errors.{IfParse}
+use Rattle.reencode_core.specs.Rows.{Asks}
+use Rattle.reencode_core.specs.Sections.{ReadsAs}
+
+-- ---- sections one behind another
+
+-- a section and the section hook before it
+abbrev pub hooked : {S E : Type 0} → Asks S E → ℕ → Option SectionId → S → Tree → Step S (Error E) Tree
+hooked asked c last s t = and_then (announced asked s last t) (λ _ m. walk asked c m t)
+
+-- sections that were accepted, in front of a step over those behind them
+abbrev pub onto : {S E : Type 0} → List Tree → Step S (Error E) Tree → Step S (Error E) Tree
+onto made step = and_then step (λ u m. accepted (alsos made u) m)
+
+-- These sections are accepted, whatever stands behind them, and become those; what stands behind them is walked from here,
+-- behind a section of that kind.
+abbrev pub AcceptsSections : {S E : Type 0} → Asks S E → ℕ → S → List Tree → List Tree → Option SectionId → S → Type 0
+AcceptsSections asked c s read made last m =
+    (others : Tree) → walk asked c s (alsos read others) ≡ onto made (walk_from asked c last m others)
+
+-- the first of these sections is refused, or the section hook at the end
+abbrev pub RefusesNext : {S E : Type 0} → Asks S E → ℕ → Option SectionId → S → Tree → Error E → S → Type 0
+RefusesNext asked c last s (Tree.also t others) e m = hooked asked c last s t ≡ refused e m
+RefusesNext asked c last s Tree.finish e m = asked s (Section last None) ≡ refused e m
+RefusesNext asked c last s _ e m = ⊥
+
+-- The sections before the refused one were accepted, and what they became was added, and no more.
+pub record StopsSections {S E : Type 0} (asked : Asks S E) (c : ℕ) (s : S) (t : Tree) (old : Sections) (m : S) (new : Sections) (e : Error E) : Type 0 where
+  pub read : List Tree
+  pub others : Tree
+  pub made : List Tree
+  pub rows : List SectionRow
+  pub last : Option SectionId
+  pub at : S
+  pub parts : t ≡ alsos read others
+  pub accepts : AcceptsSections asked c s read made last at
+  pub gains : Gains old new rows
+  pub spelled : sections_bytes rows ≡ normal (alsos made Tree.finish)
+  pub refuses : e ≢ NoMemory → RefusesNext asked c last at others e m
+
+-- The sections became others, which were added, or one of them was refused, or the section hook at the end.
+abbrev pub GivesModule : {S E : Type 0} → Asks S E → S → Tree → Sections → S → Sections → Result (Unit {0}) (Error E) → Type 0
+GivesModule asked s t old m new (Ok _) =
+    (u : Tree) × (rows : List SectionRow) × (walk asked old.ceiling s t ≡ accepted u m) × Gains old new rows × (sections_bytes rows ≡ normal u)
+GivesModule asked s t old m new (Err e) = StopsSections asked old.ceiling s t old m new e
+
+-- ---- errors
+
+-- neither header stands there
+abbrev pub NoHeader : List ℕ → Type 0
+NoHeader bytes = (rest : List ℕ) → (bytes ≢ core_header ++ rest) × (bytes ≢ component_header ++ rest)
+
+-- Some sections, whatever stands behind them: the walk of them is refused, or all are accepted.
+abbrev pub RefusedIn : {S E : Type 0} → Asks S E → ℕ → S → List Tree → Error E → S → Type 0
+RefusedIn asked c s before e m = (others : Tree) → walk asked c s (alsos before others) ≡ refused e m
+
+abbrev pub AcceptedAll : {S E : Type 0} → Asks S E → ℕ → S → List Tree → Type 0
+AcceptedAll {S} asked c s before =
+    (made : List Tree) × (last : Option SectionId) × (m : S) × AcceptsSections asked c s before made last m
+
+-- the header of a component stands there, and nothing was asked
+abbrev pub NonCore : {S : Type 0} → List ℕ → S → S → Type 0
+NonCore bytes s m = (rest : List ℕ) × (bytes ≡ component_header ++ rest) × (m ≡ s)
+
+-- Neither header stands there, the place is 0 and nothing was asked; or the place is the first where no section begins, and
+-- all sections before it were accepted.
+abbrev pub FaultThere : {S E : Type 0} → Asks S E → ℕ → List ℕ → S → S → ℕ → Type 0
+FaultThere asked c bytes s m at =
+    (NoHeader bytes × (at ≡ 0) × (m ≡ s))
+    ⊎ ((before : List Tree) × (rest : List ℕ) × FaultAt bytes before rest × (at ≡ length bytes - length rest) × AcceptedAll asked c s before)
+
+-- a refusal: where the bytes have no reading, it is that of the sections before the fault, or all of these were accepted
+abbrev pub BeforeFault : {S E : Type 0} → Asks S E → ℕ → List ℕ → S → S → Error E → Type 0
+BeforeFault asked c bytes s m e =
+    ((rest : List ℕ) × (bytes ≡ core_header ++ rest))
+    × ((before : List Tree) (rest : List ℕ) → FaultAt bytes before rest → RefusedIn asked c s before e m ⊎ AcceptedAll asked c s before)
+
+-- why an error comes; no error comes of which nothing is said here
+abbrev pub IsCause : {S E : Type 0} → Asks S E → ℕ → List ℕ → S → S → Error E → Type 0
+IsCause asked c bytes s m UnexpectedNonCoreModuleSection = NonCore bytes s m
+IsCause asked c bytes s m (ParseError e) = FaultThere asked c bytes s m e.at
+IsCause asked c bytes s m (UserError e) = BeforeFault asked c bytes s m (UserError e)
+IsCause asked c bytes s m (TooLarge size) = BeforeFault asked c bytes s m (TooLarge size)
+IsCause asked c bytes s m NoMemory = Unit {0}
+IsCause asked c bytes s m _ = ⊥
+
+-- ---- the module, and its bytes
+
+pub record GivesCore {S E : Type 0} (asked : Asks S E) (bytes : List ℕ) (s : S) (old : Sections) (m : S) (new : Sections)
+    (result : Result (Unit {0}) (Error E)) : Type 0 where
+  pub reading : (t : Tree) → CoreReading bytes t → GivesModule asked s t old m new result
+  pub readable : IfOk result (λ _. (t : Tree) × CoreReading bytes t)
+  pub cause : IfErr result (IsCause asked old.ceiling bytes s m)
+
+-- The bytes of the walk's tree are the answer, or the walk's refusal, or memory is wanting.
+abbrev pub GivesNormal : {S E A : Type 0} → Step S (Error E) Tree → S → Result A (Error E) → (A → List ℕ) → Type 0
+GivesNormal step m (Ok out) view = (u : Tree) × (step ≡ accepted u m) × (view out ≡ normal u)
+GivesNormal step m (Err e) view = e ≢ NoMemory → step ≡ refused e m
+
+pub record GivesBytes {S E A : Type 0} (asked : Asks S E) (ceiling : ℕ) (bytes : List ℕ) (s m : S) (result : Result A (Error E)) (view : A → List ℕ) : Type 0 where
+  pub reading : (t : Tree) → Spells core_module bytes t → GivesNormal (walk asked ceiling s t) m result view
+  pub readable : IfOk result (λ _. (t : Tree) × Spells core_module bytes t)
+  pub cause : IfErr result (IsCause asked ceiling bytes s m)

@@ -1,0 +1,20 @@
+-- The errors of calls that keep the defaults.
+use Rattle.std.specs.Prelude.{ℕ}
+use Rattle.wasm_leb.specs.declared.fault.Fault.{Fault}
+use Rattle.reencode_hooks.specs.declared.error.Error.{Error}
+use Rattle.reencode_hooks.specs.declared.error.Error.TheVariants.{CanonicalizedHeapTypeReference, InvalidConstExpr, InvalidCodeSectionSize, UnexpectedNonCoreModuleSection, UnexpectedNonComponentSection, UnsupportedCoreTypeInComponent, ParseError, UserError, TooLarge, NoMemory}
+use Rattle.reencode_hooks.specs.Errors.{error_of_fault}
+
+-- The fact about the place, where the bytes are at fault. A refusal of the reencoder, a size and want of memory say
+-- nothing of the bytes, and no other error comes.
+abbrev pub IfParse : {E : Type 0} → Error E → (ℕ → Type 0) → Type 0
+IfParse (ParseError e) P = P e.at
+IfParse (UserError _) P = Unit {0}
+IfParse (TooLarge _) P = Unit {0}
+IfParse NoMemory P = Unit {0}
+IfParse _ P = ⊥
+
+-- an error inside a part that begins at a place, at that place
+abbrev pub placed_at : {E : Type 0} → Error E → ℕ → Error E
+placed_at (ParseError _) at = ParseError (record { at = at })
+placed_at e at = e

@@ -1,0 +1,5 @@
+pub mod Errors
+pub mod Rows
+pub mod Bodies
+pub mod Sections
+pub mod Core

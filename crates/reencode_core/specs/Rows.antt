@@ -1,0 +1,124 @@
+-- What the calls that map rows give.
+use Rattle.std.specs.Prelude.{◌≡◌, ◌≢◌, ◌+◌, ◌-◌, ◌^◌, ◌<◌, ◌⊎◌, ℕ, List, [], ◌∷◌, ◌++◌, length, take, Result, Ok, Err, IfOk, IfErr}
+use Rattle.wasm_shapes.specs.declared.Visit.{Visit}
+use Rattle.wasm_shapes.specs.Shape.{Shape}
+use Rattle.wasm_shapes.specs.Tree.{Tree}
+use Rattle.wasm_shapes.specs.Spells.{Is, Spelled}
+use Rattle.wasm_shapes.specs.Place.{BeginsNone}
+use Rattle.wasm_shapes.specs.Rows.{RowsLeft, NoRows, rows_then}
+use Rattle.wasm_read.specs.Reading.{Standing}
+use Rattle.wasm_write.specs.Counts.{counts, IsTooLarge}
+use Rattle.reencode_hooks.specs.declared.error.Error.{Error}
+use Rattle.reencode_hooks.specs.declared.error.Error.TheVariants.{TooLarge, NoMemory}
+use Rattle.reencode_hooks.specs.Run.{Step, accepted, refused, and_then, run}
+use Rattle.reencode_hooks.specs.Walk.{walk}
+use Rattle.reencode_core.specs.Errors.{IfParse}
+
+-- the second begins with the first
+abbrev pub KeepsFront : {R : Type 0} → List R → List R → Type 0
+KeepsFront old new = take (length old) new ≡ old
+
+-- what is asked: a visit, in a state
+abbrev pub Asks : (S E : Type 0) → Type 0
+Asks S E = S → Visit → Step S (Error E) ℕ
+
+-- rows that were accepted, in front of a step over those behind them
+abbrev pub onto_rows : {S E : Type 0} → List Tree → Step S (Error E) Tree → Step S (Error E) Tree
+onto_rows made step = and_then step (λ u m. accepted (rows_then made u) m)
+
+-- These rows are accepted, whatever stands behind them, and become those; what stands behind them is walked from here.
+abbrev pub AcceptsRows : {S E : Type 0} → Asks S E → ℕ → S → List Tree → List Tree → S → Type 0
+AcceptsRows asked c s read made m = (others : Tree) → walk asked c s (rows_then read others) ≡ onto_rows made (walk asked c m others)
+
+-- all visits of the row are accepted: under some ceiling the walk of it is
+pub record AcceptedHooks {S E : Type 0} (asked : Asks S E) (s : S) (row : Tree) (m : S) : Type 0 where
+  pub ceiling : ℕ
+  pub made : Tree
+  pub walked : walk asked ceiling s row ≡ accepted made m
+
+-- a section of so many rows holds no further one
+abbrev pub TooMany : {E : Type 0} → Error E → ℕ → Type 0
+TooMany (TooLarge size) n = (size ≡ n + 1) × (2 ^ 32 - 1 < size)
+TooMany _ n = ⊥
+
+-- the first of these rows is refused; or its visits are accepted, and it is one too many
+pub record RefusesFirst {S E : Type 0} (asked : Asks S E) (c : ℕ) (s : S) (rows : Tree) (n : ℕ) (e : Error E) (m : S) : Type 0 where
+  pub row : Tree
+  pub behind : Tree
+  pub parts : rows ≡ Tree.cons row behind
+  pub refusal : (walk asked c s row ≡ refused e m) ⊎ (AcceptedHooks asked s row m × TooMany e n)
+
+-- The rows before the refused one were accepted, and what they became was added, and no more.
+pub record StopsRows {S E : Type 0} (asked : Asks S E) (c : ℕ) (s : S) (rows : Tree) (old : List Tree) (m : S) (new : List Tree) (e : Error E) : Type 0 where
+  pub read : List Tree
+  pub others : Tree
+  pub made : List Tree
+  pub at : S
+  pub parts : rows ≡ rows_then read others
+  pub accepts : AcceptsRows asked c s read made at
+  pub counted : length made ≡ length read
+  pub gains : new ≡ old ++ made
+  pub refuses : e ≢ NoMemory → RefusesFirst asked c at others (length new) e m
+
+-- The rows became others, which were added, or one of them was refused.
+abbrev pub GivesAll : {S E : Type 0} → Asks S E → ℕ → S → Tree → List Tree → S → List Tree → Result (Unit {0}) (Error E) → Type 0
+GivesAll asked c s rows old m new (Ok _) =
+    (made : List Tree) × (walk asked c s rows ≡ accepted (rows_then made Tree.nil) m) × (new ≡ old ++ made)
+GivesAll asked c s rows old m new (Err e) = StopsRows asked c s rows old m new e
+
+-- ---- one row
+
+-- a count or a length of this row is too large, or the section holds no further one
+abbrev pub TooLargeRow : {E : Type 0} → Error E → Tree → ℕ → Type 0
+TooLargeRow (TooLarge size) u n = IsTooLarge (counts u ++ (n + 1) ∷ []) size
+TooLargeRow _ u n = ⊥
+
+-- all visits of the row are accepted, and what it became is too large
+pub record TooLargeMade {S E : Type 0} (asked : Asks S E) (s : S) (row : Tree) (n : ℕ) (e : Error E) (m : S) : Type 0 where
+  pub accepts : AcceptedHooks asked s row m
+  pub large : TooLargeRow e accepts.made n
+
+-- The row became another, which was added, or it was refused, and nothing was added.
+abbrev pub GivesRow : {S E : Type 0} → Asks S E → ℕ → S → Tree → List Tree → S → List Tree → Result (Unit {0}) (Error E) → Type 0
+GivesRow asked c s t old m new (Ok _) = (u : Tree) × (walk asked c s t ≡ accepted u m) × (new ≡ old ++ u ∷ [])
+GivesRow asked c s t old m new (Err e) =
+    (new ≡ old) × (e ≢ NoMemory → (walk asked c s t ≡ refused e m) ⊎ TooLargeMade asked s t (length old) e m)
+
+-- ---- bytes that are no rows
+
+-- these rows stand in front of what is left
+pub record RowsBefore (row : Shape) (bytes : List ℕ) (rows : List Tree) (rest : List ℕ) : Type 0 where
+  pub text : List ℕ
+  pub shaped : Is (Shape.many row) (rows_then rows Tree.nil)
+  pub spelled : Spelled (rows_then rows Tree.nil) text
+  pub stands : bytes ≡ text ++ rest
+
+-- Some further visits, all accepted, lead from the first state to the second.
+pub record Further {S E : Type 0} (asked : Asks S E) (s m : S) : Type 0 where
+  pub visits : List Visit
+  pub given : List ℕ
+  pub ran : run asked s visits ≡ accepted given m
+
+-- At this place a row is due and none begins, or bytes are left behind the last row. All rows before it were accepted, and
+-- what they became was added; further visits may follow, of a row that is read in part.
+pub record RowsFault {S E : Type 0} (asked : Asks S E) (c : ℕ) (row : Shape) (reader : Standing) (s : S) (old : List Tree) (m : S) (new : List Tree)
+    (at : ℕ) : Type 0 where
+  pub none : NoRows row reader.left reader.rest
+  pub read : List Tree
+  pub rest : List ℕ
+  pub made : List Tree
+  pub state : S
+  pub before : RowsBefore row reader.rest read rest
+  pub missing : ((length read < reader.left) × BeginsNone row rest) ⊎ ((length read ≡ reader.left) × (rest ≢ []))
+  pub place : at ≡ reader.len - length rest
+  pub accepts : AcceptsRows asked c s read made state
+  pub further : Further asked state m
+  pub gains : new ≡ old ++ made
+
+-- ---- a section of rows
+
+pub record GivesRows {S E : Type 0} (asked : Asks S E) (c : ℕ) (row : Shape) (reader : Standing) (s : S) (old : List Tree) (m : S) (new : List Tree)
+    (result : Result (Unit {0}) (Error E)) : Type 0 where
+  pub reading : (rows : Tree) → RowsLeft row reader.left reader.rest rows → GivesAll asked c s rows old m new result
+  pub readable : IfOk result (λ _. (rows : Tree) × RowsLeft row reader.left reader.rest rows)
+  pub unreadable : IfErr result (λ e. IfParse e (RowsFault asked c row reader s old m new))

@@ -1,0 +1,10 @@
+//! The re-encoding of a core module (WebAssembly Core Specification 3.0, section 5.5).
+#![tactic(auto)]
+
+mod bodies;
+mod errors;
+mod plain;
+mod reencode;
+pub mod utils;
+
+pub use reencode::{Reencode, reencode_core};

@@ -1,0 +1,177 @@
+//! What a re-encoder does with each section.
+ghost use Rattle.std.specs.Prelude.{◌≡◌, IsTrue, ℕ};
+ghost use Rattle.wasm_shapes.specs.declared.SectionId.TheVariants as kinds;
+ghost use Rattle.wasm_read.specs.Types as read;
+ghost use Rattle.wasm_write.specs.Types as write;
+ghost use Rattle.reencode_hooks.specs.Run.{ask};
+ghost use Rattle.reencode_items.specs.Maps.{Maps};
+ghost use Rattle.reencode_core.specs.Rows.{KeepsFront, GivesRow, GivesRows};
+ghost use Rattle.reencode_core.specs.Bodies.{KeepsCode, GivesLocals, GivesBody};
+ghost use Rattle.reencode_core.specs.Sections.{KeepsModule, row_shape, GivesSection};
+ghost use Rattle.reencode_core.specs.Core.{GivesCore, GivesBytes};
+
+use crate::bodies;
+use crate::errors::placed;
+use reencode_hooks::Error;
+use reencode_items::ReencodeItems;
+use std::alloc::Global;
+use wasm_leb::{List, ReadError};
+use wasm_read as r;
+use wasm_shapes::SectionId;
+use wasm_write as w;
+
+/// What a re-encoder does with each section of a core module.
+pub trait Reencode: ReencodeItems {
+    /// Maps the rows that the reader still has, each by `parse_recursive_type_group`, and adds each row once it is mapped.
+    fn parse_type_section(
+        &mut self,
+        alloc: Global,
+        types: &mut w::TypeSection,
+        section: r::TypeSectionReader<'_>,
+    ) -> Result<(), Error<Self::Error>>
+        ensures kept { KeepsFront types.old types.new }
+        ensures default { IsTrue Self.keeps_defaults → (c : ℕ)
+            → GivesRows (ask Self.reply Self.next) c (row_shape kinds.Type_) section.entry self.old types.old self.new types.new result }
+    {
+        bodies::parse_type_section!(self, alloc, types, section)
+    }
+
+    /// Maps each type of a group by `sub_type`.
+    fn parse_recursive_type_group(
+        &mut self,
+        alloc: Global,
+        rec_group: r::RecGroup,
+    ) -> Result<w::RecGroup, Error<Self::Error>>
+        ensures default { IsTrue Self.keeps_defaults
+            → Maps Self.reply Self.next self.old (read.group_tree rec_group) write.group_tree self.new result }
+    {
+        bodies::parse_recursive_type_group!(self, alloc, rec_group)
+    }
+
+    /// Maps the rows that the reader still has, each index by `type_index`, and adds each row once its index was answered.
+    fn parse_function_section(
+        &mut self,
+        alloc: Global,
+        functions: &mut w::FunctionSection,
+        section: r::FunctionSectionReader<'_>,
+    ) -> Result<(), Error<Self::Error>>
+        ensures kept { KeepsFront functions.old functions.new }
+        ensures default { IsTrue Self.keeps_defaults → (c : ℕ)
+            → GivesRows (ask Self.reply Self.next) c (row_shape kinds.Function) section.entry self.old functions.old self.new functions.new result }
+    {
+        bodies::parse_function_section!(self, alloc, functions, section)
+    }
+
+    /// Maps the rows that the reader still has, each by `parse_export`.
+    fn parse_export_section(
+        &mut self,
+        alloc: Global,
+        exports: &mut w::ExportSection,
+        section: r::ExportSectionReader<'_>,
+    ) -> Result<(), Error<Self::Error>>
+        ensures kept { KeepsFront exports.old exports.new }
+        ensures default { IsTrue Self.keeps_defaults → (c : ℕ)
+            → GivesRows (ask Self.reply Self.next) c (row_shape kinds.Export) section.entry self.old exports.old self.new exports.new result }
+    {
+        bodies::parse_export_section!(self, alloc, exports, section)
+    }
+
+    /// Maps an export by `export_kind` and `external_index`, and adds it.
+    fn parse_export(
+        &mut self,
+        exports: &mut w::ExportSection,
+        export: r::Export<'_>,
+    ) -> Result<(), Error<Self::Error>>
+        ensures kept { KeepsFront exports.old exports.new }
+        ensures default { IsTrue Self.keeps_defaults → (c : ℕ)
+            → GivesRow (ask Self.reply Self.next) c self.old (read.export_tree export.entry) exports.old self.new exports.new result }
+    {
+        bodies::parse_export!(self, exports, export)
+    }
+
+    /// Maps the rows that the reader still has, each by `parse_function_body`. A `ParseError` holds the place of the row in
+    /// fault in the section's body.
+    fn parse_code_section(
+        &mut self,
+        alloc: Global,
+        code: &mut w::CodeSection,
+        section: r::CodeSectionReader<'_>,
+    ) -> Result<(), Error<Self::Error>>
+        ensures kept { KeepsCode code.old code.new }
+        ensures default { IsTrue Self.keeps_defaults
+            → GivesRows (ask Self.reply Self.next) code.old.ceiling (row_shape kinds.Code) section.entry self.old code.old.rows self.new code.new.rows result }
+    {
+        bodies::parse_code_section!(self, alloc, code, section)
+    }
+
+    /// Maps the locals of a body by `new_function_with_parsed_locals` and its operators by `parse_instruction`, and adds the
+    /// function.
+    fn parse_function_body(
+        &mut self,
+        alloc: Global,
+        code: &mut w::CodeSection,
+        func: r::FunctionBody<'_>,
+    ) -> Result<(), Error<Self::Error>>
+        ensures kept { KeepsCode code.old code.new }
+        ensures default { IsTrue Self.keeps_defaults
+            → GivesBody (ask Self.reply Self.next) func.entry.bytes.now self.old code.old self.new code.new result }
+    {
+        bodies::parse_function_body!(self, alloc, code, func)
+    }
+
+    /// A function with the locals that a body begins with, each type by `val_type`, and no operator.
+    fn new_function_with_parsed_locals(
+        &mut self,
+        alloc: Global,
+        func: &r::FunctionBody<'_>,
+    ) -> Result<w::Function, Error<Self::Error>>
+        ensures default { IsTrue Self.keeps_defaults
+            → GivesLocals (ask Self.reply Self.next) func.now.bytes.now self.old self.new result (λ f. f) }
+    {
+        bodies::new_function_with_parsed_locals!(self, alloc, func)
+    }
+
+    /// Maps the body of a section of a kind by the methods of that kind, and adds the section. It calls no section hook.
+    fn parse_section(
+        &mut self,
+        alloc: Global,
+        module: &mut w::Module,
+        id: SectionId,
+        body: &[u8],
+    ) -> Result<(), Error<Self::Error>>
+        ensures kept { KeepsModule «module».old «module».new }
+        ensures default { IsTrue Self.keeps_defaults
+            → GivesSection (ask Self.reply Self.next) id body.now self.old «module».old self.new «module».new result }
+    {
+        bodies::parse_section!(self, alloc, module, id, body)
+    }
+
+    /// Reads a module and adds what its sections become. The section hook is called before each section and at the end.
+    fn parse_core_module(
+        &mut self,
+        alloc: Global,
+        module: &mut w::Module,
+        bytes: &[u8],
+    ) -> Result<(), Error<Self::Error>>
+        ensures kept { KeepsModule «module».old «module».new }
+        ensures default { IsTrue Self.keeps_defaults → IsTrue Self.adds_nothing
+            → GivesCore (ask Self.reply Self.next) bytes.now self.old «module».old self.new «module».new result }
+    {
+        bodies::parse_core_module!(self, alloc, module, bytes)
+    }
+}
+
+/// Reads a core module and answers its bytes in normal spelling.
+pub fn reencode_core<R: Reencode>(
+    alloc: Global,
+    r: &mut R,
+    bytes: &[u8],
+    ceiling: u32,
+) -> Result<Vec<u8>, Error<R::Error>>
+    ensures { IsTrue R.keeps_defaults → IsTrue R.adds_nothing
+        → GivesBytes (ask R.reply R.next) ceiling bytes.now r.old r.new result (λ v. v.items) }
+{
+    let mut module = w::Module::new(alloc, ceiling)?;
+    r.parse_core_module(alloc, &mut module, bytes)?;
+    Ok(module.finish())
+}

@@ -1,0 +1,159 @@
+//! The default bodies of `Reencode`, as functions of any reencoder.
+ghost use Rattle.std.specs.Prelude.{◌≡◌, IsTrue, ℕ};
+ghost use Rattle.wasm_shapes.specs.declared.SectionId.TheVariants as kinds;
+ghost use Rattle.wasm_read.specs.Types as read;
+ghost use Rattle.wasm_write.specs.Types as write;
+ghost use Rattle.reencode_hooks.specs.Run.{ask};
+ghost use Rattle.reencode_items.specs.Maps.{Maps};
+ghost use Rattle.reencode_core.specs.Rows.{KeepsFront, GivesRow, GivesRows};
+ghost use Rattle.reencode_core.specs.Bodies.{KeepsCode, GivesLocals, GivesBody};
+ghost use Rattle.reencode_core.specs.Sections.{KeepsModule, row_shape, GivesSection};
+ghost use Rattle.reencode_core.specs.Core.{GivesCore};
+
+use crate::bodies;
+use crate::errors::placed;
+use crate::reencode::Reencode;
+use reencode_hooks::Error;
+use std::alloc::Global;
+use wasm_leb::{List, ReadError};
+use wasm_read as r;
+use wasm_shapes::SectionId;
+use wasm_write as w;
+
+/// Maps the rows that the reader still has, each by `parse_recursive_type_group`, and adds each row once it is mapped.
+pub fn parse_type_section<T: Reencode>(
+    reencoder: &mut T,
+    alloc: Global,
+    types: &mut w::TypeSection,
+    section: r::TypeSectionReader<'_>,
+) -> Result<(), Error<T::Error>>
+    ensures kept { KeepsFront types.old types.new }
+    ensures default { IsTrue T.keeps_defaults → (c : ℕ)
+        → GivesRows (ask T.reply T.next) c (row_shape kinds.Type_) section.entry reencoder.old types.old reencoder.new types.new result }
+{
+    bodies::parse_type_section!(reencoder, alloc, types, section)
+}
+
+/// Maps each type of a group by `sub_type`.
+pub fn parse_recursive_type_group<T: Reencode>(
+    reencoder: &mut T,
+    alloc: Global,
+    rec_group: r::RecGroup,
+) -> Result<w::RecGroup, Error<T::Error>>
+    ensures default { IsTrue T.keeps_defaults
+        → Maps T.reply T.next reencoder.old (read.group_tree rec_group) write.group_tree reencoder.new result }
+{
+    bodies::parse_recursive_type_group!(reencoder, alloc, rec_group)
+}
+
+/// Maps the rows that the reader still has, each index by `type_index`, and adds each row once its index was answered.
+pub fn parse_function_section<T: Reencode>(
+    reencoder: &mut T,
+    alloc: Global,
+    functions: &mut w::FunctionSection,
+    section: r::FunctionSectionReader<'_>,
+) -> Result<(), Error<T::Error>>
+    ensures kept { KeepsFront functions.old functions.new }
+    ensures default { IsTrue T.keeps_defaults → (c : ℕ)
+        → GivesRows (ask T.reply T.next) c (row_shape kinds.Function) section.entry reencoder.old functions.old reencoder.new functions.new result }
+{
+    bodies::parse_function_section!(reencoder, alloc, functions, section)
+}
+
+/// Maps the rows that the reader still has, each by `parse_export`.
+pub fn parse_export_section<T: Reencode>(
+    reencoder: &mut T,
+    alloc: Global,
+    exports: &mut w::ExportSection,
+    section: r::ExportSectionReader<'_>,
+) -> Result<(), Error<T::Error>>
+    ensures kept { KeepsFront exports.old exports.new }
+    ensures default { IsTrue T.keeps_defaults → (c : ℕ)
+        → GivesRows (ask T.reply T.next) c (row_shape kinds.Export) section.entry reencoder.old exports.old reencoder.new exports.new result }
+{
+    bodies::parse_export_section!(reencoder, alloc, exports, section)
+}
+
+/// Maps an export by `export_kind` and `external_index`, and adds it.
+pub fn parse_export<T: Reencode>(
+    reencoder: &mut T,
+    exports: &mut w::ExportSection,
+    export: r::Export<'_>,
+) -> Result<(), Error<T::Error>>
+    ensures kept { KeepsFront exports.old exports.new }
+    ensures default { IsTrue T.keeps_defaults → (c : ℕ)
+        → GivesRow (ask T.reply T.next) c reencoder.old (read.export_tree export.entry) exports.old reencoder.new exports.new result }
+{
+    bodies::parse_export!(reencoder, exports, export)
+}
+
+/// Maps the rows that the reader still has, each by `parse_function_body`. A `ParseError` holds the place of the row in
+/// fault in the section's body.
+pub fn parse_code_section<T: Reencode>(
+    reencoder: &mut T,
+    alloc: Global,
+    code: &mut w::CodeSection,
+    section: r::CodeSectionReader<'_>,
+) -> Result<(), Error<T::Error>>
+    ensures kept { KeepsCode code.old code.new }
+    ensures default { IsTrue T.keeps_defaults
+        → GivesRows (ask T.reply T.next) code.old.ceiling (row_shape kinds.Code) section.entry reencoder.old code.old.rows reencoder.new code.new.rows result }
+{
+    bodies::parse_code_section!(reencoder, alloc, code, section)
+}
+
+/// Maps the locals of a body by `new_function_with_parsed_locals` and its operators by `parse_instruction`, and adds the
+/// function.
+pub fn parse_function_body<T: Reencode>(
+    reencoder: &mut T,
+    alloc: Global,
+    code: &mut w::CodeSection,
+    func: r::FunctionBody<'_>,
+) -> Result<(), Error<T::Error>>
+    ensures kept { KeepsCode code.old code.new }
+    ensures default { IsTrue T.keeps_defaults
+        → GivesBody (ask T.reply T.next) func.entry.bytes.now reencoder.old code.old reencoder.new code.new result }
+{
+    bodies::parse_function_body!(reencoder, alloc, code, func)
+}
+
+/// A function with the locals that a body begins with, each type by `val_type`, and no operator.
+pub fn new_function_with_parsed_locals<T: Reencode>(
+    reencoder: &mut T,
+    alloc: Global,
+    func: &r::FunctionBody<'_>,
+) -> Result<w::Function, Error<T::Error>>
+    ensures default { IsTrue T.keeps_defaults
+        → GivesLocals (ask T.reply T.next) func.now.bytes.now reencoder.old reencoder.new result (λ f. f) }
+{
+    bodies::new_function_with_parsed_locals!(reencoder, alloc, func)
+}
+
+/// Maps the body of a section of a kind by the methods of that kind, and adds the section. It calls no section hook.
+pub fn parse_section<T: Reencode>(
+    reencoder: &mut T,
+    alloc: Global,
+    module: &mut w::Module,
+    id: SectionId,
+    body: &[u8],
+) -> Result<(), Error<T::Error>>
+    ensures kept { KeepsModule «module».old «module».new }
+    ensures default { IsTrue T.keeps_defaults
+        → GivesSection (ask T.reply T.next) id body.now reencoder.old «module».old reencoder.new «module».new result }
+{
+    bodies::parse_section!(reencoder, alloc, module, id, body)
+}
+
+/// Reads a module and adds what its sections become. The section hook is called before each section and at the end.
+pub fn parse_core_module<T: Reencode>(
+    reencoder: &mut T,
+    alloc: Global,
+    module: &mut w::Module,
+    bytes: &[u8],
+) -> Result<(), Error<T::Error>>
+    ensures kept { KeepsModule «module».old «module».new }
+    ensures default { IsTrue T.keeps_defaults → IsTrue T.adds_nothing
+        → GivesCore (ask T.reply T.next) bytes.now reencoder.old «module».old reencoder.new «module».new result }
+{
+    bodies::parse_core_module!(reencoder, alloc, module, bytes)
+}
