@@ -6,6 +6,8 @@ mod instructions;
 mod items;
 mod kinds;
 mod plain;
+#[cfg(test)]
+mod tests;
 pub mod utils;
 
 pub use items::ReencodeItems;
