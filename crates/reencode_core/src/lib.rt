@@ -5,6 +5,8 @@ mod bodies;
 mod errors;
 mod plain;
 mod reencode;
+#[cfg(test)]
+mod tests;
 pub mod utils;
 
 pub use reencode::{Reencode, reencode_core};
