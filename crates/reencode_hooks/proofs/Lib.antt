@@ -3,4 +3,3 @@ pub mod Moments
 pub mod Walks
 pub mod Tables
 pub mod Frames
-pub mod Rows

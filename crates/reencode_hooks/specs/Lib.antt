@@ -4,7 +4,6 @@ pub mod Walk
 pub mod Moments
 pub mod Hooks
 pub mod Laws
-pub mod Rows
 pub mod Frames
 pub mod Tables
 pub mod Renamings
