@@ -28,7 +28,8 @@ use Rattle.reencode_core.specs.Errors.{IfParse, placed_at}
 use Rattle.reencode_core.specs.Rows.{Asks, onto_rows, AcceptsRows, RowsBefore, GivesRow, GivesRows}
 use Rattle.reencode_core.proofs.RowLoop.{RowsDone, rows_more, before_more, onto_nothing, one_onto, rows_unread, rows_faulty, rows_refused_if}
 use Rattle.reencode_core.proofs.Known.{closed_fits, closed_large}
-use Rattle.reencode_core.specs.Bodies.{locals, KeepsCode, GivesBody}
+use Rattle.reencode_core.specs.Bodies.{KeepsCode, GivesBody}
+use Rattle.reencode_core.specs.Rows.{locals}
 
 -- ---- frames and bodies
 

@@ -22,7 +22,8 @@ use Rattle.reencode_hooks.specs.Run.{Step, accepted, refused, ask}
 use Rattle.reencode_hooks.specs.Walk.{walk}
 use Rattle.reencode_core.specs.Errors.{IfParse}
 use Rattle.reencode_core.specs.Rows.{Asks, onto_rows}
-use Rattle.reencode_core.specs.Bodies.{locals, GivesLocals}
+use Rattle.reencode_core.specs.Bodies.{GivesLocals}
+use Rattle.reencode_core.specs.Rows.{locals}
 use Rattle.reencode_core.proofs.Usual.{usual_walk, stops_usual, write_usual}
 use Rattle.reencode_core.proofs.Group.{ItemsDone, rows_then-both}
 use Rattle.reencode_core.proofs.BodyLoop.{same_locals}

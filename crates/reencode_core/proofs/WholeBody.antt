@@ -27,7 +27,8 @@ use Rattle.reencode_hooks.specs.Walk.{walk}
 use Rattle.reencode_items.specs.Maps.{MapsOperator, ParsesOperator}
 use Rattle.reencode_core.specs.Errors.{IfParse}
 use Rattle.reencode_core.specs.Rows.{Asks, onto_rows, RowsBefore, GivesRow, TooLargeMade}
-use Rattle.reencode_core.specs.Bodies.{locals, GivesLocals, GivesBody, NoOperator}
+use Rattle.reencode_core.specs.Bodies.{GivesLocals, GivesBody, NoOperator}
+use Rattle.reencode_core.specs.Rows.{locals}
 use Rattle.reencode_core.proofs.Usual.{IfParse-map, usual_walk, stops_usual, write_usual}
 use Rattle.reencode_core.proofs.Counts.{walk_further}
 use Rattle.reencode_core.proofs.BodyLoop.{ManyLeft, OperatorsDone, operators_begin, operators_more, body_is, body_spelled, no_locals, many_first, many_none, no_many, pair_accepted, sized_refused, pair_refused, first_refused, sized_fits, sized_large}

@@ -5,7 +5,9 @@ use Rattle.wasm_shapes.specs.declared.SectionId.{SectionId}
 use Rattle.wasm_shapes.specs.declared.Visit.TheVariants.{Section}
 use Rattle.wasm_shapes.specs.Tree.{Tree, normal, kind}
 use Rattle.wasm_shapes.specs.Spells.{Spells}
-use Rattle.wasm_shapes.specs.Module.{core_header, component_header, core_module, alsos, FaultAt, CoreReading}
+use Rattle.wasm_shapes.specs.Module.{core_header, component_header, core_module, alsos, frame, FaultAt, CoreReading}
+use Rattle.wasm_shapes.specs.Place.{Begins}
+use Rattle.wasm_read.specs.Frames.{section_number, numbered_frame}
 use Rattle.wasm_write.specs.Sections.{Sections, SectionRow, sections_bytes}
 use Rattle.reencode_hooks.specs.declared.error.Error.{Error}
 use Rattle.reencode_hooks.specs.declared.error.Error.TheVariants.{UnexpectedNonCoreModuleSection, ParseError, UserError, TooLarge, NoMemory}
@@ -14,7 +16,7 @@ use Rattle.reencode_hooks.specs.Walk.{walk, walk_from, announced}
 use Rattle.reencode_hooks.specs.Hooks.{Gains}
 use Rattle.reencode_core.specs.Errors.{IfParse}
 use Rattle.reencode_core.specs.Rows.{Asks}
-use Rattle.reencode_core.specs.Sections.{ReadsAs}
+use Rattle.reencode_core.specs.Sections.{StopsSection}
 
 -- ---- sections one behind another
 
@@ -83,11 +85,23 @@ FaultThere asked c bytes s m at =
     (NoHeader bytes × (at ≡ 0) × (m ≡ s))
     ⊎ ((before : List Tree) × (rest : List ℕ) × FaultAt bytes before rest × (at ≡ length bytes - length rest) × AcceptedAll asked c s before)
 
--- a refusal: where the bytes have no reading, it is that of the sections before the fault, or all of these were accepted
+-- A section that has no reading stands there in its frame. The section hook before it is refused; or that is accepted, and a
+-- row of the section is refused.
+pub record StopsInside {S E : Type 0} (asked : Asks S E) (c : ℕ) (bytes : List ℕ) (last : Option SectionId) (s : S) (e : Error E) (m : S) : Type 0 where
+  pub id : SectionId
+  pub body : List ℕ
+  pub left : List ℕ
+  pub framed : Begins frame bytes (numbered_frame (section_number id) body) left
+  pub stops : (asked s (Section last (Some id)) ≡ refused e m)
+      ⊎ ((n : S) × (asked s (Section last (Some id)) ≡ accepted 0 n) × StopsSection asked c id body n e m)
+
+-- A refusal, or a size that is too large: where the bytes have no reading, it comes of the sections before the fault; or all of
+-- these were accepted, and it comes of what stands whole, before the fault, in the section in fault.
 abbrev pub BeforeFault : {S E : Type 0} → Asks S E → ℕ → List ℕ → S → S → Error E → Type 0
-BeforeFault asked c bytes s m e =
+BeforeFault {S} asked c bytes s m e =
     ((rest : List ℕ) × (bytes ≡ core_header ++ rest))
-    × ((before : List Tree) (rest : List ℕ) → FaultAt bytes before rest → RefusedIn asked c s before e m ⊎ AcceptedAll asked c s before)
+    × ((before : List Tree) (rest : List ℕ) → FaultAt bytes before rest → RefusedIn asked c s before e m
+        ⊎ ((made : List Tree) × (last : Option SectionId) × (n : S) × AcceptsSections asked c s before made last n × StopsInside asked c rest last n e m))
 
 -- why an error comes; no error comes of which nothing is said here
 abbrev pub IsCause : {S E : Type 0} → Asks S E → ℕ → List ℕ → S → S → Error E → Type 0

@@ -14,6 +14,12 @@ IfParse (TooLarge _) P = Unit {0}
 IfParse NoMemory P = Unit {0}
 IfParse _ P = ⊥
 
+-- The fact, where a visit was refused or a size is too large. Of a place and of want of memory it says nothing.
+abbrev pub IfRefused : {E : Type 0} → Error E → Type 0 → Type 0
+IfRefused (UserError _) P = P
+IfRefused (TooLarge _) P = P
+IfRefused _ P = Unit {0}
+
 -- an error inside a part that begins at a place, at that place
 abbrev pub placed_at : {E : Type 0} → Error E → ℕ → Error E
 placed_at (ParseError _) at = ParseError (record { at = at })
