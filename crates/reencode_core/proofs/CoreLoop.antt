@@ -10,13 +10,14 @@ use Rattle.wasm_shapes.specs.declared.Visit.TheVariants.{Section}
 use Rattle.wasm_shapes.specs.Tree.{Tree, kind, normal}
 use Rattle.wasm_shapes.specs.Spells.{Is, Spelled, Spells}
 use Rattle.wasm_shapes.specs.Place.{Begins, BeginsNone}
+use Rattle.wasm_shapes.specs.Rows.{rows_then}
 use Rattle.wasm_shapes.specs.Module.{core_header, component_header, section, sections, frame, alsos, CoreReading, FaultAt}
 use Rattle.wasm_shapes.proofs.Unique.{unique}
 use Rattle.wasm_shapes.proofs.Begins.{none_at_end}
 use Rattle.wasm_shapes.proofs.Framing.{none_section}
 use Rattle.wasm_read.specs.Frames.{section_number, numbered_frame, NoCoreHeader}
 use Rattle.wasm_read.specs.Reading.{ReadsNone}
-use Rattle.wasm_write.specs.Sections.{Sections, SectionRow, section_row, section_bytes, sections_bytes, with_section}
+use Rattle.wasm_write.specs.Sections.{Sections, SectionRow, section_row, section_bytes, sections_bytes}
 use Rattle.reencode_hooks.specs.declared.error.Error.{Error}
 use Rattle.reencode_hooks.specs.declared.error.Error.TheVariants.{CanonicalizedHeapTypeReference, InvalidConstExpr, InvalidCodeSectionSize, UnexpectedNonCoreModuleSection, UnexpectedNonComponentSection, UnsupportedCoreTypeInComponent, ParseError, UserError, TooLarge, NoMemory}
 use Rattle.reencode_hooks.specs.Errors.{error_of_fault}
@@ -24,10 +25,11 @@ use Rattle.reencode_hooks.specs.Run.{Step, accepted, refused, and_then, ask}
 use Rattle.reencode_hooks.specs.Walk.{walk, walk_from, announced}
 use Rattle.reencode_hooks.specs.Hooks.{RepliesSection, KeepsAdds, Gains}
 use Rattle.reencode_core.specs.Errors.{IfParse, IfRefused, placed_at}
-use Rattle.reencode_core.specs.Rows.{Asks}
+use Rattle.reencode_core.specs.Rows.{Asks, Further}
 use Rattle.reencode_core.specs.Sections.{section_tree, ReadsAs, BodyFault, StopsSection, GivesSection}
-use Rattle.reencode_core.specs.Core.{hooked, onto, AcceptsSections, RefusesNext, StopsSections, GivesModule, NoHeader, RefusedIn, AcceptedAll, StopsInside, BeforeFault, IsCause, GivesCore}
-use Rattle.reencode_core.proofs.Usual.{IfParse-map, IfRefused-map, unless_wanting, usual_ask, stops_usual}
+use Rattle.reencode_core.specs.Core.{hooked, onto, AcceptsSections, RefusesNext, StopsSections, GivesModule, RefusedIn, StopsInside, BeforeFault, IsCause, GivesCore}
+use Rattle.reencode_core.proofs.Counts.{walk_further, further_none, further_one, further_then}
+use Rattle.reencode_core.proofs.Usual.{IfRefused-map, unless_wanting, usual_ask, stops_usual}
 use Rattle.reencode_core.proofs.Known.{numbered_is, section_begins, section_none, section_announced, reads_begun, some_begun}
 
 -- ---- lists of sections
@@ -370,23 +372,28 @@ module _ {S E : Type 0} (asked : Asks S E) where
         cause (TooLarge x) h p q = before_fault (TooLarge x) (λ t r. h t r (λ c. cc)) q
         cause _ h p q = absurd p
 
-    -- no section begins, though bytes are left
-    pub no_section : {s' : S} {new' : Sections} (at : ℕ) → BeginsNone section rest → rest ≢ [] → at ≡ length bytes - length rest →
+    -- no section begins, though bytes are left, as further visits showed
+    fault_behind : {s' : S} {new' : Sections} (at : ℕ) → BeginsNone section rest → rest ≢ [] → at ≡ length bytes - length rest → Further asked s s' →
         GivesCore asked bytes s0 old s' new' (Err (ParseError (record { at = at })))
-    no_section {s' = s'} {new' = new'} at none some place = record {
+    fault_behind {s' = s'} {new' = new'} at none some place further = record {
       reading = λ t r. absurd (go t (read_ahead t r));
       readable = tt;
-      cause = inr (d.read, rest, record { front = record { text = d.text; spells = d.spells; stands = reads ∙ ap (λ (z : List ℕ). core_header ++ z) d.stands; ends = none }; some = some }, place, (d.made, last, s, d.accepts));
+      cause = inr (d.read, rest, record { front = record { text = d.text; spells = d.spells; stands = reads ∙ ap (λ (z : List ℕ). core_header ++ z) d.stands; ends = none }; some = some }, place, d.made, last, s, d.accepts, further);
     }
       where
         go : (t : Tree) → Ahead d.read rest t [] → ⊥
         go t (same f empty) = some empty
         go t (more u v left f b) = none.none b.text left u b.spells b.reads
 
+    -- no section begins
+    pub no_section : {new' : Sections} (at : ℕ) → BeginsNone section rest → rest ≢ [] → at ≡ length bytes - length rest →
+        GivesCore asked bytes s0 old s new' (Err (ParseError (record { at = at })))
+    no_section at none some place = fault_behind at none some place (further_none asked s)
+
     -- no frame begins
-    pub no_frame : {s' : S} {new' : Sections} (f : Fault) (at : ℕ) → ReadsNone f at (BeginsNone frame rest × (rest ≢ [])) → at ≡ length bytes - length rest →
-        GivesCore asked bytes s0 old s' new' (Err (error_of_fault f))
-    no_frame {s' = s'} {new' = new'} (fault.Read x) at h place = no_section x.at (none_section h.1.0) h.1.1 (h.0 ∙ place)
+    pub no_frame : {new' : Sections} (f : Fault) (at : ℕ) → ReadsNone f at (BeginsNone frame rest × (rest ≢ [])) → at ≡ length bytes - length rest →
+        GivesCore asked bytes s0 old s new' (Err (error_of_fault f))
+    no_frame (fault.Read x) at h place = no_section x.at (none_section h.1.0) h.1.1 (h.0 ∙ place)
     no_frame (fault.Header k) at h place = absurd h
     no_frame fault.CodeSize at h place = absurd h
     no_frame fault.NoMemory at h place = absurd h
@@ -425,8 +432,18 @@ module _ {S E : Type 0} (asked : Asks S E) where
                 let ceiling : new.ceiling ≡ old.ceiling = ap Sections.ceiling d.gains in
                 inr (record { id = k; body = body; left = left; framed = there; stops = inr (n, hook.0, subst P ceiling q) })
 
+        -- the visits before a fault inside it
+        within : (at : ℕ) → BodyFault asked mid.ceiling k body n s' at → Further asked n s'
+        within at (_, inl q) = let P : S → Type 0 = λ z. Further asked n z in subst P (sym q.2) (further_none asked n)
+        within at (_, inr q) =
+            let f = q.3 in
+            let walked : walk asked mid.ceiling n (rows_then f.read Tree.nil) ≡ accepted (rows_then f.made Tree.nil) f.state = f.accepts Tree.nil in
+            further_then asked n f.state s' (walk_further asked mid.ceiling n f.state (rows_then f.read Tree.nil) (rows_then f.made Tree.nil) walked) f.further
+
         go : (w : Error E) → GivesSection asked k body n mid s' new' (Err w) → GivesCore asked bytes s0 old s' new' (Err (placed_at w at))
-        go (ParseError x) g = no_section at (section_none k (numbered_is there) g.unreadable.0) (some_begun there) place
+        go (ParseError x) g =
+            fault_behind at (section_none k (numbered_is there) g.unreadable.0) (some_begun there) place
+            (further_then asked s n s' (further_one asked s n (Section last (Some k)) 0 hook.0) (within x.at g.unreadable))
         go (UserError x) g = section_refused k (UserError x) there (stops (UserError x) g) tt (inside (UserError x) g)
         go (TooLarge x) g = section_refused k (TooLarge x) there (stops (TooLarge x) g) tt (inside (TooLarge x) g)
         go NoMemory g = section_refused k NoMemory there (stops NoMemory g) tt (inside NoMemory g)

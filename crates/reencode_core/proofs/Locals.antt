@@ -1,8 +1,7 @@
 -- The locals of a body as they are mapped.
-use Rattle.std.proofs.Common.{◌≡◌, ◌≢◌, ℕ, ◌+◌, ◌-◌, ◌^◌, ◌<◌, List, [], ◌∷◌, ◌++◌, length, map, suc, Option, None, Result, Ok, Err, refl, sym, ap, ◌∙◌, subst, arith}
+use Rattle.std.proofs.Common.{◌≡◌, ◌≢◌, ℕ, ◌-◌, ◌^◌, ◌<◌, List, [], ◌∷◌, ◌++◌, length, map, suc, None, Result, Ok, Err, refl, ap, ◌∙◌, subst, arith}
 use Rattle.wasm_shapes.specs.declared.Visit.{Visit}
 use Rattle.wasm_shapes.specs.Tree.{Tree, count}
-use Rattle.wasm_shapes.specs.Spells.{Spelled}
 use Rattle.wasm_shapes.specs.Place.{Begins}
 use Rattle.wasm_shapes.specs.Rows.{rows_then}
 use Rattle.wasm_read.specs.declared.types.ValType as r
@@ -14,17 +13,15 @@ use Rattle.wasm_write.specs.Bodies as write
 use Rattle.wasm_write.specs.declared.fault.WriteFault.{WriteFault}
 use Rattle.wasm_write.specs.declared.fault.WriteFault.TheVariants as faults
 use Rattle.wasm_write.specs.Faults.{IfTooLarge}
-use Rattle.wasm_write.specs.Held.{body_tree}
 use Rattle.reencode_hooks.specs.declared.error.Error.{Error}
 use Rattle.reencode_hooks.specs.declared.error.Error.TheVariants.{NoMemory}
 use Rattle.reencode_hooks.specs.Errors.{error_of_write}
 use Rattle.reencode_hooks.specs.Run.{Step, accepted, refused, ask}
 use Rattle.reencode_hooks.specs.Walk.{walk}
-use Rattle.reencode_core.specs.Errors.{IfParse}
 use Rattle.reencode_core.specs.Rows.{Asks, onto_rows}
 use Rattle.reencode_core.specs.Bodies.{GivesLocals}
 use Rattle.reencode_core.specs.Rows.{locals}
-use Rattle.reencode_core.proofs.Usual.{unless_wanting, usual_walk, stops_usual, write_usual}
+use Rattle.reencode_core.proofs.Usual.{unless_wanting, usual_walk, stops_usual}
 use Rattle.reencode_core.proofs.Group.{ItemsDone, rows_then-both}
 use Rattle.reencode_core.proofs.BodyLoop.{same_locals}
 use Rattle.std.proofs.lemmas.List.{map-append}

@@ -1,5 +1,5 @@
 -- The loop over the rows of a section.
-use Rattle.std.proofs.Common.{◌≡◌, ◌≢◌, ℕ, suc, ◌+◌, ◌-◌, ◌<◌, ◌^◌, List, [], ◌∷◌, ◌++◌, length, length-append, take, Option, None, Result, Ok, Err, ◌≤◌, refl, sym, ap, ◌∙◌, append_assoc, append-nil, arith, subst, ◌⊎◌, inl, inr, true}
+use Rattle.std.proofs.Common.{◌≡◌, ◌≢◌, ℕ, suc, ◌+◌, ◌-◌, ◌<◌, ◌^◌, List, [], ◌∷◌, ◌++◌, length, length-append, take, None, Result, Ok, Err, ◌≤◌, refl, sym, ap, ◌∙◌, append_assoc, append-nil, arith, subst, ◌⊎◌, inl, inr, true}
 use Rattle.std.proofs.lemmas.List.{take-take, length-take}
 use Rattle.wasm_shapes.specs.declared.Space.{Space}
 use Rattle.wasm_shapes.specs.declared.Visit.{Visit}
@@ -9,7 +9,7 @@ use Rattle.wasm_shapes.specs.Shape.{Shape, closed}
 use Rattle.wasm_shapes.specs.Sound.{sound}
 use Rattle.wasm_shapes.specs.Spells.{Is, Spelled}
 use Rattle.wasm_shapes.specs.Place.{Begins, BeginsNone}
-use Rattle.wasm_shapes.specs.Rows.{RowsLeft, NoRows, rows_then}
+use Rattle.wasm_shapes.specs.Rows.{RowsLeft, rows_then}
 use Rattle.wasm_shapes.proofs.Rows.{RowsSoFar, so_far_none, so_far_more, so_far_stuck, rows_end, rows_then-append, rows_first}
 use Rattle.wasm_leb.specs.declared.fault.Fault.{Fault}
 use Rattle.wasm_leb.specs.declared.fault.Fault.TheVariants as fault
@@ -24,7 +24,7 @@ use Rattle.reencode_hooks.specs.declared.error.Error.TheVariants.{CanonicalizedH
 use Rattle.reencode_hooks.specs.Run.{Step, accepted, refused, and_then, ask}
 use Rattle.reencode_hooks.specs.Walk.{walk}
 use Rattle.reencode_core.specs.Errors.{IfParse, IfRefused}
-use Rattle.reencode_core.specs.Rows.{Asks, KeepsFront, AcceptedHooks, TooLargeMade, TooLargeRow, GivesRow, onto_rows, AcceptsRows, TooMany, RefusesFirst, StopsRows, GivesAll, RowsBefore, RowsFault, Further, RefusesWhole, RefusesInside, StopsAtRow, GivesRows}
+use Rattle.reencode_core.specs.Rows.{Asks, KeepsFront, AcceptedHooks, TooLargeMade, TooLargeRow, GivesRow, onto_rows, AcceptsRows, TooMany, RowsBefore, RowsFault, Further, RefusesWhole, RefusesInside, StopsAtRow, GivesRows}
 use Rattle.reencode_core.proofs.Usual.{IfParse-map, IfRefused-map, unless_wanting, fault_unrefused, usual_walk, stops_usual}
 use Rattle.reencode_core.proofs.Counts.{only_rows}
 

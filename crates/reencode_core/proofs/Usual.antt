@@ -1,11 +1,10 @@
 -- The walk over a tree that is spelled is refused by the reencoder or by a frame, and by nothing else.
-use Rattle.std.proofs.Common.{◌≡◌, ◌≢◌, ℕ, length, nat_le, Bool, true, false, if◌then◌else◌, Option, Some, None, List, Result, Ok, Err, refl, inl, inr, subst}
+use Rattle.std.proofs.Common.{◌≡◌, ◌≢◌, ℕ, length, nat_le, Bool, true, false, if◌then◌else◌, Option, Some, None, List, Result, Ok, Err, inl, inr, subst}
 use Rattle.wasm_shapes.specs.declared.SectionId.{SectionId}
-use Rattle.wasm_shapes.specs.declared.Space.{Space}
 use Rattle.wasm_shapes.specs.declared.Space.TheVariants as space
 use Rattle.wasm_shapes.specs.declared.Visit.{Visit}
 use Rattle.wasm_shapes.specs.declared.Visit.TheVariants.{Index, Outer, Section, Push, Pop}
-use Rattle.wasm_shapes.specs.Tree.{Tree, normal, kind, Listed}
+use Rattle.wasm_shapes.specs.Tree.{Tree, normal, kind}
 use Rattle.wasm_shapes.specs.Spells.{Spelled}
 use Rattle.wasm_leb.specs.declared.fault.Fault.{Fault}
 use Rattle.wasm_leb.specs.declared.fault.Fault.TheVariants as fault
@@ -16,7 +15,7 @@ use Rattle.reencode_hooks.specs.declared.error.Error.{Error}
 use Rattle.reencode_hooks.specs.declared.error.Error.TheVariants.{CanonicalizedHeapTypeReference, InvalidConstExpr, InvalidCodeSectionSize, UnexpectedNonCoreModuleSection, UnexpectedNonComponentSection, UnsupportedCoreTypeInComponent, ParseError, UserError, TooLarge, NoMemory}
 use Rattle.reencode_hooks.specs.Errors.{error_of_fault, error_of_write}
 use Rattle.reencode_hooks.specs.Run.{Step, accepted, refused, and_then, ask, answered}
-use Rattle.reencode_hooks.specs.Walk.{walk, walk_from, closed, announced}
+use Rattle.reencode_hooks.specs.Walk.{walk_from, closed, announced}
 use Rattle.reencode_core.specs.Errors.{IfParse, IfRefused}
 
 pub IfParse-map : {E : Type 0} {P Q : ℕ → Type 0} (e : Error E) → ((at : ℕ) → P at → Q at) → IfParse e P → IfParse e Q

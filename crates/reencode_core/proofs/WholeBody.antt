@@ -1,5 +1,5 @@
 -- A body, from its locals and its operators.
-use Rattle.std.proofs.Common.{◌≡◌, ◌≢◌, ℕ, ◌+◌, ◌-◌, ◌<◌, ◌≤◌, ◌^◌, List, [], ◌∷◌, ◌++◌, length, drop, Option, None, Contains, Result, Ok, Err, refl, sym, ap, ◌∙◌, append-nil, arith, subst, ◌⊎◌, inl, inr, Bool, true, false, IsTrue}
+use Rattle.std.proofs.Common.{◌≡◌, ◌≢◌, ℕ, ◌+◌, ◌-◌, ◌<◌, ◌≤◌, ◌^◌, List, [], ◌∷◌, ◌++◌, length, None, Contains, Result, Ok, Err, refl, sym, ap, ◌∙◌, append-nil, arith, subst, ◌⊎◌, inl, inr, Bool, true, false, IsTrue}
 use Rattle.std.proofs.lemmas.List.{length-drop}
 use Rattle.std.proofs.lemmas.List.Elements.{Contains-append_right}
 use Rattle.wasm_leb.specs.declared.fault.Fault.{Fault}
@@ -16,18 +16,18 @@ use Rattle.wasm_read.specs.Reading.{ReadsNone}
 use Rattle.wasm_write.specs.declared.fault.WriteFault.{WriteFault}
 use Rattle.wasm_write.specs.declared.fault.WriteFault.TheVariants as write
 use Rattle.wasm_write.specs.Faults.{IfTooLarge}
-use Rattle.wasm_write.specs.Counts.{counts, IsTooLarge}
+use Rattle.wasm_write.specs.Counts.{counts}
 use Rattle.wasm_write.specs.Held.{rows_tree, body_tree}
 use Rattle.wasm_write.specs.Bodies.{Body, CodeRows, function_body, code_tree, with_row, with_operator}
 use Rattle.reencode_hooks.specs.declared.error.Error.{Error}
 use Rattle.reencode_hooks.specs.declared.error.Error.TheVariants.{CanonicalizedHeapTypeReference, InvalidConstExpr, InvalidCodeSectionSize, UnexpectedNonCoreModuleSection, UnexpectedNonComponentSection, UnsupportedCoreTypeInComponent, ParseError, UserError, TooLarge, NoMemory}
-use Rattle.reencode_hooks.specs.Errors.{error_of_fault, error_of_write}
-use Rattle.reencode_hooks.specs.Run.{Step, accepted, refused, and_then, ask}
+use Rattle.reencode_hooks.specs.Errors.{error_of_write}
+use Rattle.reencode_hooks.specs.Run.{Step, accepted, refused, ask}
 use Rattle.reencode_hooks.specs.Walk.{walk}
 use Rattle.reencode_items.specs.Maps.{MapsOperator, ParsesOperator}
-use Rattle.reencode_core.specs.Errors.{IfParse, IfRefused}
-use Rattle.reencode_core.specs.Rows.{Asks, onto_rows, RowsBefore, GivesRow, TooLargeMade, locals, StopsBody}
-use Rattle.reencode_core.specs.Bodies.{GivesLocals, GivesBody, NoOperator}
+use Rattle.reencode_core.specs.Errors.{IfRefused}
+use Rattle.reencode_core.specs.Rows.{Asks, onto_rows, TooLargeMade, locals, StopsBody}
+use Rattle.reencode_core.specs.Bodies.{GivesLocals, GivesBody}
 use Rattle.reencode_core.proofs.Usual.{IfParse-map, unless_wanting, usual_walk, stops_usual, write_usual}
 use Rattle.reencode_core.proofs.Counts.{walk_further}
 use Rattle.reencode_core.proofs.BodyLoop.{ManyLeft, OperatorsDone, operators_begin, operators_more, body_is, body_spelled, no_locals, many_first, many_none, no_many, pair_accepted, sized_refused, pair_refused, first_refused, sized_fits, sized_large}
@@ -167,18 +167,26 @@ module _ {S E : Type 0} (reply : S → Visit → Result ℕ E) (next : S → Vis
     unreadable = stops_usual _ (walk (ask reply next) 0 s operator) e n (usual_walk reply next 0 None s operator there.text there.spells.spelled) (stops 0);
     refusal = unless_wanting e (λ other.
         let d = done old.ceiling in
-        inr (inr (l, start, body_tree f0.locals, m, begins, walked old.ceiling, record {
-          read = d.read;
-          rest = rest;
-          made = ops;
-          state = s;
-          before = d.before;
-          accepts = d.accepts;
-          operator = operator;
-          left = left;
-          begins = there;
-          refuses = stops old.ceiling other;
-        })));
+        inr (inr (
+          l,
+          start,
+          body_tree f0.locals,
+          m,
+          begins,
+          walked old.ceiling,
+          record {
+            read = d.read;
+            rest = rest;
+            made = ops;
+            state = s;
+            before = d.before;
+            accepts = d.accepts;
+            operator = operator;
+            left = left;
+            begins = there;
+            refuses = stops old.ceiling other;
+          },
+        )));
   }
     where
       go : (t : Tree) → Spells body bytes t → e ≢ NoMemory → walk (ask reply next) old.ceiling s0 (Tree.sized t) ≡ refused e n

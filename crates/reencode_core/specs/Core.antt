@@ -1,9 +1,8 @@
 -- What the calls that map a whole core module give.
-use Rattle.std.specs.Prelude.{◌≡◌, ◌≢◌, ◌-◌, ◌⊎◌, ◌∷◌, ℕ, List, [], ◌++◌, length, Option, Some, None, Result, Ok, Err, IfOk, IfErr}
-use Rattle.wasm_leb.specs.declared.fault.Fault.{Fault}
+use Rattle.std.specs.Prelude.{◌≡◌, ◌≢◌, ◌-◌, ◌⊎◌, ℕ, List, ◌++◌, length, Option, Some, None, Result, Ok, Err, IfOk, IfErr}
 use Rattle.wasm_shapes.specs.declared.SectionId.{SectionId}
 use Rattle.wasm_shapes.specs.declared.Visit.TheVariants.{Section}
-use Rattle.wasm_shapes.specs.Tree.{Tree, normal, kind}
+use Rattle.wasm_shapes.specs.Tree.{Tree, normal}
 use Rattle.wasm_shapes.specs.Spells.{Spells}
 use Rattle.wasm_shapes.specs.Module.{core_header, component_header, core_module, alsos, frame, FaultAt, CoreReading}
 use Rattle.wasm_shapes.specs.Place.{Begins}
@@ -14,8 +13,7 @@ use Rattle.reencode_hooks.specs.declared.error.Error.TheVariants.{UnexpectedNonC
 use Rattle.reencode_hooks.specs.Run.{Step, accepted, refused, and_then}
 use Rattle.reencode_hooks.specs.Walk.{walk, walk_from, announced}
 use Rattle.reencode_hooks.specs.Hooks.{Gains}
-use Rattle.reencode_core.specs.Errors.{IfParse}
-use Rattle.reencode_core.specs.Rows.{Asks}
+use Rattle.reencode_core.specs.Rows.{Asks, Further}
 use Rattle.reencode_core.specs.Sections.{StopsSection}
 
 -- ---- sections one behind another
@@ -66,24 +64,21 @@ GivesModule asked s t old m new (Err e) = StopsSections asked old.ceiling s t ol
 abbrev pub NoHeader : List ℕ → Type 0
 NoHeader bytes = (rest : List ℕ) → (bytes ≢ core_header ++ rest) × (bytes ≢ component_header ++ rest)
 
--- Some sections, whatever stands behind them: the walk of them is refused, or all are accepted.
+-- the walk of some sections is refused, whatever stands behind them
 abbrev pub RefusedIn : {S E : Type 0} → Asks S E → ℕ → S → List Tree → Error E → S → Type 0
 RefusedIn asked c s before e m = (others : Tree) → walk asked c s (alsos before others) ≡ refused e m
-
-abbrev pub AcceptedAll : {S E : Type 0} → Asks S E → ℕ → S → List Tree → Type 0
-AcceptedAll {S} asked c s before =
-    (made : List Tree) × (last : Option SectionId) × (m : S) × AcceptsSections asked c s before made last m
 
 -- the header of a component stands there, and nothing was asked
 abbrev pub NonCore : {S : Type 0} → List ℕ → S → S → Type 0
 NonCore bytes s m = (rest : List ℕ) × (bytes ≡ component_header ++ rest) × (m ≡ s)
 
 -- Neither header stands there, the place is 0 and nothing was asked; or the place is the first where no section begins, and
--- all sections before it were accepted.
+-- all sections before it were accepted; further visits may follow, of a section that is read in part.
 abbrev pub FaultThere : {S E : Type 0} → Asks S E → ℕ → List ℕ → S → S → ℕ → Type 0
-FaultThere asked c bytes s m at =
+FaultThere {S} asked c bytes s m at =
     (NoHeader bytes × (at ≡ 0) × (m ≡ s))
-    ⊎ ((before : List Tree) × (rest : List ℕ) × FaultAt bytes before rest × (at ≡ length bytes - length rest) × AcceptedAll asked c s before)
+    ⊎ ((before : List Tree) × (rest : List ℕ) × FaultAt bytes before rest × (at ≡ length bytes - length rest)
+    × (made : List Tree) × (last : Option SectionId) × (n : S) × AcceptsSections asked c s before made last n × Further asked n m)
 
 -- A section that has no reading stands there in its frame. The section hook before it is refused; or that is accepted, and a
 -- row of the section is refused.
@@ -101,7 +96,7 @@ abbrev pub BeforeFault : {S E : Type 0} → Asks S E → ℕ → List ℕ → S 
 BeforeFault {S} asked c bytes s m e =
     ((rest : List ℕ) × (bytes ≡ core_header ++ rest))
     × ((before : List Tree) (rest : List ℕ) → FaultAt bytes before rest → RefusedIn asked c s before e m
-        ⊎ ((made : List Tree) × (last : Option SectionId) × (n : S) × AcceptsSections asked c s before made last n × StopsInside asked c rest last n e m))
+    ⊎ ((made : List Tree) × (last : Option SectionId) × (n : S) × AcceptsSections asked c s before made last n × StopsInside asked c rest last n e m))
 
 -- why an error comes; no error comes of which nothing is said here
 abbrev pub IsCause : {S E : Type 0} → Asks S E → ℕ → List ℕ → S → S → Error E → Type 0

@@ -1,9 +1,7 @@
 -- The errors of calls that keep the defaults.
 use Rattle.std.specs.Prelude.{ℕ}
-use Rattle.wasm_leb.specs.declared.fault.Fault.{Fault}
 use Rattle.reencode_hooks.specs.declared.error.Error.{Error}
-use Rattle.reencode_hooks.specs.declared.error.Error.TheVariants.{CanonicalizedHeapTypeReference, InvalidConstExpr, InvalidCodeSectionSize, UnexpectedNonCoreModuleSection, UnexpectedNonComponentSection, UnsupportedCoreTypeInComponent, ParseError, UserError, TooLarge, NoMemory}
-use Rattle.reencode_hooks.specs.Errors.{error_of_fault}
+use Rattle.reencode_hooks.specs.declared.error.Error.TheVariants.{ParseError, UserError, TooLarge, NoMemory}
 
 -- The fact about the place, where the bytes are at fault. A refusal of the reencoder, a size and want of memory say
 -- nothing of the bytes, and no other error comes.

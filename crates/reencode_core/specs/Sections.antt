@@ -1,6 +1,6 @@
 -- What the call that maps one section gives.
-use Rattle.std.specs.Prelude.{◌≡◌, ◌≢◌, ◌++◌, ◌-◌, ◌⊎◌, ℕ, List, [], length, Result, Ok, Err, IfOk, IfErr}
-use Rattle.wasm_leb.specs.Place.{BeginsNumber, BeginsNoNumber}
+use Rattle.std.specs.Prelude.{◌≡◌, ◌≢◌, ◌⊎◌, ℕ, List, [], Result, Ok, Err, IfOk, IfErr}
+use Rattle.wasm_leb.specs.Place.{BeginsNoNumber}
 use Rattle.wasm_shapes.specs.declared.SectionId.{SectionId}
 use Rattle.wasm_shapes.specs.declared.SectionId.TheVariants as id
 use Rattle.wasm_shapes.specs.Shape.{Shape, Named}
