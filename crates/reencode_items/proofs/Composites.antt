@@ -1,12 +1,14 @@
 -- The walks over composite types and subtypes, by those over the parts that have a call of their own.
 use Rattle.std.proofs.Common.{◌≡◌, ℕ, Bool, true, false, List, [], ◌∷◌, length, Option, Some, None, sym, subst}
 use Rattle.wasm_shapes.specs.declared.Visit.{Visit}
-use Rattle.wasm_shapes.specs.Tree.{Tree}
+use Rattle.wasm_shapes.specs.Tree.{Tree, visits}
 use Rattle.wasm_read.specs.declared.types.UnpackedIndex.{UnpackedIndex}
+use Rattle.wasm_read.specs.declared.types.CompositeType.{CompositeType}
 use Rattle.wasm_read.specs.Types as read
 use Rattle.wasm_write.specs.Types as write
 use Rattle.reencode_hooks.specs.declared.error.Error.{Error}
-use Rattle.reencode_hooks.specs.Run.{Step, accepted, refused}
+use Rattle.reencode_hooks.specs.Run.{Step, accepted, refused, Visited}
+use Rattle.reencode_items.proofs.Leaving.{first_visited, second_visited}
 use Rattle.reencode_items.proofs.Steps.{Accepts, Refuses, row_accepts, row_refuses, led_accepts, led_refuses, pair_accepts, pair_refuses, pair_refuses_second, swap_accepts, swap_refuses, swap_refuses_first}
 
 -- An index that may be left out was asked, where it is there.
@@ -80,3 +82,39 @@ module _ {S E : Type 0} {asked : S → Visit → Step S (Error E) ℕ} {c : ℕ}
   composite_refuses {n = n} {t = t} {e = e} true [] h k = subst (λ (z : S). Refuses asked c z t e n) (sym (same_state h.is)) k
   composite_refuses true (i ∷ is) h k = row_refuses (led_refuses (pair_refuses_second h k))
   composite_refuses false is h k = row_refuses (led_refuses (pair_refuses_second h k))
+
+-- ---- the state that is left
+
+module _ {S E : Type 0} {asked : S → Visit → Step S (Error E) ℕ} where
+  described_leaves : {s m : S} (t : Tree) (i : Option UnpackedIndex) → Visited asked s (visits t) m → Visited asked s (visits (read.described_tree i t)) m
+  described_leaves t None v = v
+  described_leaves t (Some i) v = first_visited (visits (read.type_index i)) v
+
+  describing_leaves : {s m : S} (t : Tree) (i : Option UnpackedIndex) → Visited asked s (visits t) m → Visited asked s (visits (read.describing_tree i t)) m
+  describing_leaves t None v = v
+  describing_leaves t (Some i) v = first_visited (visits (read.type_index i)) v
+
+  shared_leaves : {s m : S} (t : Tree) (b : Bool) → Visited asked s (visits t) m → Visited asked s (visits (read.shared_composite_tree b t)) m
+  shared_leaves t false v = v
+  shared_leaves t true v = v
+
+  -- what a composite type holds was asked in part
+  pub inner_leaves : {s m : S} (ty : CompositeType) → Visited asked s (visits (read.inner_tree ty.inner)) m → Visited asked s (visits (read.composite_tree ty)) m
+  inner_leaves ty v =
+      let described = read.described_tree ty.descriptor_idx (read.inner_tree ty.inner) in
+      shared_leaves (read.describing_tree ty.describes_idx described) ty.shared
+      (describing_leaves described ty.describes_idx (described_leaves (read.inner_tree ty.inner) ty.descriptor_idx v))
+
+  -- the supertypes were asked in part
+  pub supertypes_leave : {s m : S} (b : Bool) (is : List UnpackedIndex) (t : Tree) → Visited asked s (visits (read.supertypes_tree is)) m →
+      Visited asked s (visits (read.sub_parts b is t)) m
+  supertypes_leave true [] t v = first_visited (visits t) v
+  supertypes_leave true (i ∷ is) t v = first_visited (visits t) v
+  supertypes_leave false is t v = first_visited (visits t) v
+
+  -- they were accepted, and the composite type was asked in part
+  pub composite_leaves : {c : ℕ} {s m n : S} {u : Tree} (b : Bool) (is : List UnpackedIndex) (t : Tree) → Accepts asked c s (read.supertypes_tree is) u m →
+      Visited asked m (visits t) n → Visited asked s (visits (read.sub_parts b is t)) n
+  composite_leaves {c = c} true [] t h v = second_visited c (read.supertypes_tree []) h.is v
+  composite_leaves {c = c} true (i ∷ is) t h v = second_visited c (read.supertypes_tree (i ∷ is)) h.is v
+  composite_leaves {c = c} false is t h v = second_visited c (read.supertypes_tree is) h.is v

@@ -1,3 +1,4 @@
+pub mod Leaving
 pub mod Steps
 pub mod Parts
 pub mod Composites

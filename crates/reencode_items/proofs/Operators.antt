@@ -6,7 +6,7 @@ use Rattle.wasm_shapes.specs.declared.Visit.{Visit}
 use Rattle.wasm_shapes.specs.declared.ImmKind.{ImmKind}
 use Rattle.wasm_shapes.specs.declared.Opcode.{Opcode}
 use Rattle.wasm_shapes.specs.Operators.{Code, plain, prefixed, Operators, look_up, kinds_among, kinds_of, code_of, one_byte_operators, prefixed_operators}
-use Rattle.wasm_shapes.specs.Tree.{Tree}
+use Rattle.wasm_shapes.specs.Tree.{Tree, visits}
 use Rattle.wasm_shapes.proofs.Lists.{both}
 use Rattle.wasm_leb.specs.declared.fault.ReadError.{ReadError}
 use Rattle.wasm_leb.specs.declared.fault.Fault.{Fault}
@@ -23,10 +23,11 @@ use Rattle.wasm_write.specs.declared.types.Imm.{Imm as WrittenImm}
 use Rattle.wasm_write.specs.Instructions as write
 use Rattle.reencode_hooks.specs.declared.error.Error.{Error}
 use Rattle.reencode_hooks.specs.declared.error.Error.TheVariants.{CanonicalizedHeapTypeReference, InvalidConstExpr, InvalidCodeSectionSize, UnexpectedNonCoreModuleSection, UnexpectedNonComponentSection, UnsupportedCoreTypeInComponent, ParseError, UserError, TooLarge, NoMemory}
-use Rattle.reencode_hooks.specs.Run.{Step, accepted, refused, and_then, ask, answered}
+use Rattle.reencode_hooks.specs.Run.{Step, accepted, refused, and_then, ask, answered, Visited}
 use Rattle.reencode_hooks.specs.Walk.{walk}
 use Rattle.reencode_hooks.specs.Moments.{Moment, asks, closes, lost, Ends}
 use Rattle.reencode_hooks.proofs.Walks.{walk_stops}
+use Rattle.reencode_items.proofs.Leaving.{first_visited, second_visited}
 use Rattle.reencode_items.specs.Immediates.{is_mapped_kind, has_mapped, is_mapped}
 
 -- ---- the kinds of a row
@@ -108,6 +109,8 @@ onto_pairs ts step = and_then step (λ u m. accepted (pairs_then ts u) m)
 -- Of some immediates those in front were walked, to what is made so far and this state, and the rest is walked from here.
 pub record ImmsDone {S E : Type 0} (asked : S → Visit → Step S (Error E) ℕ) (s0 : S) (imms rest : List ReadImm) (s : S) (made : List WrittenImm) : Type 0 where
   pub walks : (c : ℕ) → walk asked c s0 (read.imms_tree imms) ≡ onto_pairs (map write.imm_tree made) (walk asked c s (read.imms_tree rest))
+  -- what was asked of the rest was asked behind the first
+  pub onward : (m : S) → Visited asked s (visits (read.imms_tree rest)) m → Visited asked s0 (visits (read.imms_tree imms)) m
 
 onto_nothing : {S E : Type 0} (step : Step S E Tree) → step ≡ onto_pairs [] step
 onto_nothing (accepted u m) = refl
@@ -130,7 +133,10 @@ imms_are (m ∷ ms) = ap (λ (z : Tree). Tree.pair (write.imm_tree m) z) (imms_a
 
 module _ {S E : Type 0} {asked : S → Visit → Step S (Error E) ℕ} where
   pub imms_begin : (s : S) (imms rest : List ReadImm) → rest ≡ imms → ImmsDone asked s imms rest s []
-  imms_begin s imms rest e = record { walks = λ c. rw e (onto_nothing (walk asked c s (read.imms_tree imms))) }
+  imms_begin s imms rest e = record {
+    walks = λ c. rw e (onto_nothing (walk asked c s (read.imms_tree imms)));
+    onward = λ m v. let P : List ReadImm → Type 0 = λ z. Visited asked s (visits (read.imms_tree z)) m in subst P e v;
+  }
 
   pub imms_more : {s0 s m : S} {imms rest others : List ReadImm} {made more : List WrittenImm} (a : ReadImm) (b : WrittenImm) →
       ImmsDone asked s0 imms rest s made → rest ≡ a ∷ others → ((c : ℕ) → walk asked c s (read.imm_tree a) ≡ accepted (write.imm_tree b) m) →
@@ -140,7 +146,17 @@ module _ {S E : Type 0} {asked : S → Visit → Step S (Error E) ℕ} where
         let tail : Step S (Error E) Tree = walk asked c m (read.imms_tree others) in
         let first : walk asked c s (Tree.pair (read.imm_tree a) (read.imms_tree others)) ≡ and_then tail (λ u n. accepted (Tree.pair (write.imm_tree b) u) n) = rw (step c) refl in
         done.walks c ∙ rw (here, pushed) (ap (λ (r : Step S (Error E) Tree). onto_pairs (map write.imm_tree made) r) first ∙ one_onto made b tail);
+    onward = λ n v.
+        let P : List ReadImm → Type 0 = λ z. Visited asked s (visits (read.imms_tree z)) n in
+        done.onward n (subst P (sym here) (second_visited 0 (read.imm_tree a) (step 0) v));
   }
+
+  -- the next was asked in part
+  pub imms_leave : {s0 s m : S} {imms rest others : List ReadImm} {made : List WrittenImm} (a : ReadImm) →
+      ImmsDone asked s0 imms rest s made → rest ≡ a ∷ others → Visited asked s (visits (read.imm_tree a)) m → Visited asked s0 (visits (read.imms_tree imms)) m
+  imms_leave {s = s} {m = m} {others = others} a done here v =
+      let P : List ReadImm → Type 0 = λ z. Visited asked s (visits (read.imms_tree z)) m in
+      done.onward m (subst P (sym here) (first_visited (visits (read.imms_tree others)) v))
 
   -- the operator with these immediates is refused where the next is
   pub operator_refused : {s0 s m : S} {imms rest others : List ReadImm} {made : List WrittenImm} {e : Error E} (code : Code) (a : ReadImm) (c : ℕ) →

@@ -1,13 +1,14 @@
 -- A walk over a tree by the walks over its parts.
-use Rattle.std.proofs.Common.{◌≡◌, ◌<◌, ◌≤◌, ℕ, ◌+◌, List, [], ◌∷◌, ◌++◌, length, drop, get_or, refl, sym, ap, ◌∙◌, drop-cons, add-one}
+use Rattle.std.proofs.Common.{◌≡◌, ◌<◌, ◌≤◌, ℕ, ◌+◌, List, [], ◌∷◌, ◌++◌, length, drop, get_or, refl, sym, subst, ap, ◌∙◌, drop-cons, add-one}
 use Rattle.std.specs.Prelude.{map}
 use Rattle.std.proofs.lemmas.List.{map-append, drop_all}
 use Rattle.wasm_shapes.specs.declared.Visit.{Visit}
-use Rattle.wasm_shapes.specs.Tree.{Tree}
+use Rattle.wasm_shapes.specs.Tree.{Tree, visits}
 use Rattle.wasm_shapes.specs.Rows.{rows_then}
 use Rattle.reencode_hooks.specs.declared.error.Error.{Error}
-use Rattle.reencode_hooks.specs.Run.{Step, accepted, refused, and_then}
+use Rattle.reencode_hooks.specs.Run.{Step, accepted, refused, and_then, Visited}
 use Rattle.reencode_hooks.specs.Walk.{walk}
+use Rattle.reencode_items.proofs.Leaving.{accepted_visited, first_visited, refused_visited, second_visited}
 
 -- The walk over a tree is accepted: it gives this tree and this state.
 pub record Accepts {S E : Type 0} (asked : S → Visit → Step S (Error E) ℕ) (c : ℕ) (s : S) (t u : Tree) (m : S) : Type 0 where
@@ -76,6 +77,8 @@ pub record ItemsDone {S E A B : Type 0} (asked : S → Visit → Step S (Error E
     (s0 : S) (items : List A) (place : ℕ) (s : S) (made : List B) : Type 0 where
   pub walks : (c : ℕ) → walk asked c s0 (rows_then (map read items) Tree.nil)
       ≡ onto_rows (map write made) (walk asked c s (rows_then (map read (drop place items)) Tree.nil))
+  -- what was asked of the others was asked behind the first
+  pub onward : (m : S) → Visited asked s (visits (rows_then (map read (drop place items)) Tree.nil)) m → Visited asked s0 (visits (rows_then (map read items) Tree.nil)) m
 
 onto_nothing : {S E : Type 0} (step : Step S E Tree) → step ≡ onto_rows [] step
 onto_nothing (accepted u m) = refl
@@ -99,7 +102,16 @@ drop_at items i d h = rw add-one (drop-cons items i d h)
 
 module _ {S E A B : Type 0} {asked : S → Visit → Step S (Error E) ℕ} {read : A → Tree} {write : B → Tree} where
   pub items_begin : (s : S) (items : List A) → ItemsDone asked read write s items 0 s []
-  items_begin s items = record { walks = λ c. onto_nothing (walk asked c s (rows_then (map read items) Tree.nil)) }
+  items_begin s items = record { walks = λ c. onto_nothing (walk asked c s (rows_then (map read items) Tree.nil)); onward = λ m v. v }
+
+  items_leave : {s0 s m : S} {items slice : List A} {i : ℕ} {made : List B} (d : A) →
+      ItemsDone asked read write s0 items i s made → slice ≡ items → i < length slice →
+      Visited asked s (visits (read (get_or slice i d))) m → Visited asked s0 (visits (rows_then (map read items) Tree.nil)) m
+  items_leave {s = s} {m = m} {items = items} {slice = slice} {i = i} d done e h v =
+      let x : A = get_or slice i d in
+      let here : drop i items ≡ x ∷ drop (i + 1) items = rw (← e) (drop_at slice i d h) in
+      let P : List A → Type 0 = λ z. Visited asked s (visits (rows_then (map read z) Tree.nil)) m in
+      done.onward m (subst P (sym here) (first_visited (visits (rows_then (map read (drop (i + 1) items)) Tree.nil)) v))
 
   -- The item at the place was accepted. The loop goes over a slice of the items.
   pub items_more : {s0 s m : S} {items slice : List A} {i : ℕ} {made more : List B} (d : A) {b : B} →
@@ -113,6 +125,11 @@ module _ {S E A B : Type 0} {asked : S → Visit → Step S (Error E) ℕ} {read
         let here : drop i items ≡ x ∷ drop (i + 1) slice = rw (← e) (drop_at slice i d h) in
         let first : walk asked c s (Tree.cons (read x) rest) ≡ and_then (walk asked c m rest) (λ u n. accepted (Tree.cons (write b) u) n) = rw (step c) refl in
         done.walks c ∙ rw here (ap (λ (r : Step S (Error E) Tree). onto_rows (map write made) r) first ∙ rw e (one_onto write made b (walk asked c m (rows_then (map read (drop (i + 1) items)) Tree.nil)))));
+    onward = λ n v.
+        let x : A = get_or slice i d in
+        let here : drop i items ≡ x ∷ drop (i + 1) items = rw (← e) (drop_at slice i d h) in
+        let P : List A → Type 0 = λ z. Visited asked s (visits (rows_then (map read z) Tree.nil)) n in
+        done.onward n (subst P (sym here) (second_visited 0 (read x) (step 0) v));
   }
 
   -- The item at the place was refused.
@@ -128,6 +145,17 @@ module _ {S E A B : Type 0} {asked : S → Visit → Step S (Error E) ℕ} {read
       let all : Refuses asked c _ (rows_then (map read items) Tree.nil) err m =
       record { is = done.walks c ∙ rw here (ap (λ (r : Step S (Error E) Tree). onto_rows (map write made) r) first) } in
       vec_refuses all
+
+  -- What is left where the item at the place was refused, and where it was accepted.
+  pub items_leave_refused : {s0 s m : S} {items slice : List A} {i : ℕ} {made : List B} {e : Error E} (d : A) →
+      ItemsDone asked read write s0 items i s made → slice ≡ items → i < length slice →
+      walk asked 0 s (read (get_or slice i d)) ≡ refused e m → Visited asked s0 (visits (rows_then (map read items) Tree.nil)) m
+  items_leave_refused {slice = slice} {i = i} d done e h step = items_leave d done e h (refused_visited 0 (read (get_or slice i d)) step)
+
+  pub items_leave_accepted : {s0 s m : S} {items slice : List A} {i : ℕ} {made : List B} {u : Tree} (d : A) →
+      ItemsDone asked read write s0 items i s made → slice ≡ items → i < length slice →
+      walk asked 0 s (read (get_or slice i d)) ≡ accepted u m → Visited asked s0 (visits (rows_then (map read items) Tree.nil)) m
+  items_leave_accepted {slice = slice} {i = i} d done e h step = items_leave d done e h (accepted_visited 0 (read (get_or slice i d)) step)
 
   -- All were accepted.
   pub items_accept : {s0 s : S} {items slice : List A} {i : ℕ} {made : List B} (c : ℕ) →

@@ -1,7 +1,7 @@
 -- What a call that maps an item gives.
-use Rattle.std.specs.Prelude.{◌≡◌, ℕ, ◌<◌, true, List, Result, Ok, Err, IfOk}
+use Rattle.std.specs.Prelude.{◌≡◌, ℕ, ◌<◌, ◌⊎◌, true, List, Result, Ok, Err, IfErr, IfOk}
 use Rattle.wasm_shapes.specs.declared.Visit.{Visit}
-use Rattle.wasm_shapes.specs.Tree.{Tree}
+use Rattle.wasm_shapes.specs.Tree.{Tree, visits}
 use Rattle.wasm_shapes.specs.Shape.{Shape}
 use Rattle.wasm_shapes.specs.Place.{Begins, BeginsNone}
 use Rattle.wasm_shapes.specs.declared.Space.TheVariants as space
@@ -11,7 +11,7 @@ use Rattle.wasm_read.specs.Types.{val_type_tree}
 use Rattle.wasm_read.specs.Operations.{Reading, rest_of}
 use Rattle.reencode_hooks.specs.declared.error.Error.{Error}
 use Rattle.reencode_hooks.specs.declared.error.Error.TheVariants.{ParseError, NoMemory}
-use Rattle.reencode_hooks.specs.Run.{Gives, ask}
+use Rattle.reencode_hooks.specs.Run.{Gives, Step, Visited, ask}
 use Rattle.reencode_hooks.specs.Walk.{walk}
 
 -- The call answered what the walk over the item's tree gives, and left its state: each index of the tree is asked in the
@@ -52,3 +52,14 @@ ParsesOperator reply next old reader view new behind (Err (ParseError e)) =
     (e.at ≡ reader.at) × BeginsNone (Shape.op true) (rest_of reader) × (new ≡ old)
 ParsesOperator reply next old reader view new behind (Err NoMemory) = Unit {0}
 ParsesOperator reply next old reader view new behind (Err e) = MapsOperator reply next old reader view new behind (Err e)
+
+-- An operator begins at a reader's place, and a front part of its visits was asked.
+pub record VisitedOperator {S E : Type 0} (asked : S → Visit → Step S (Error E) ℕ) (old : S) (reader : Reading) (new : S) : Type 0 where
+  pub operator : Tree
+  pub rest : List ℕ
+  pub begins : Begins (Shape.op true) (rest_of reader) operator rest
+  pub visited : Visited asked old (visits operator) new
+
+-- An error left the state as it was, or after a front part of the visits of the operator at a reader's place.
+abbrev pub LeavesOperator : {S E B : Type 0} → (S → Visit → Step S (Error E) ℕ) → S → Reading → S → Result B (Error E) → Type 0
+LeavesOperator asked old reader new result = IfErr result (λ e. (new ≡ old) ⊎ VisitedOperator asked old reader new)

@@ -1,14 +1,15 @@
 //! The default bodies of `ReencodeItems`, as functions of any reencoder.
 ghost use Rattle.std.specs.Prelude.{◌≡◌, ℕ, IsTrue, IfOk, length, map, true};
-ghost use Rattle.reencode_hooks.specs.Run.{NeverWants};
+ghost use Rattle.reencode_hooks.specs.Run.{LeavesVisited, NeverWants, ask};
 ghost use Rattle.wasm_read.specs.Immediates as immediates;
 ghost use Rattle.wasm_read.specs.Types as read;
+ghost use Rattle.wasm_shapes.specs.Tree.{visits};
 ghost use Rattle.wasm_write.specs.Held.{body_tree};
 ghost use Rattle.wasm_write.specs.Instructions as instructions;
 ghost use Rattle.wasm_write.specs.Rows as rows;
 ghost use Rattle.wasm_write.specs.Types as write;
 ghost use Rattle.reencode_items.specs.Immediates.{is_mapped};
-ghost use Rattle.reencode_items.specs.Maps.{Maps, MovesOn, ParsesOperator, block_type_tree};
+ghost use Rattle.reencode_items.specs.Maps.{LeavesOperator, Maps, MovesOn, ParsesOperator, block_type_tree};
 
 use crate::items::ReencodeItems;
 use crate::{bodies, instructions, kinds};
@@ -165,6 +166,8 @@ pub fn composite_type<T: ReencodeItems>(
 ) -> Result<w::CompositeType, Error<T::Error>>
     ensures default { IsTrue T.keeps_defaults
         → Maps T.reply T.next reencoder.old (read.composite_tree composite_ty) write.composite_tree reencoder.new result }
+    ensures left { IsTrue T.keeps_defaults → IsTrue T.sure
+        → LeavesVisited (ask T.reply T.next) reencoder.old (visits (read.composite_tree composite_ty)) reencoder.new result }
 {
     bodies::composite_type!(reencoder, alloc, composite_ty)
 }
@@ -177,6 +180,8 @@ pub fn func_type<T: ReencodeItems>(
 ) -> Result<w::FuncType, Error<T::Error>>
     ensures default { IsTrue T.keeps_defaults
         → Maps T.reply T.next reencoder.old (read.func_type_tree func_ty) write.func_type_tree reencoder.new result }
+    ensures left { IsTrue T.keeps_defaults → IsTrue T.sure
+        → LeavesVisited (ask T.reply T.next) reencoder.old (visits (read.func_type_tree func_ty)) reencoder.new result }
 {
     bodies::func_type!(reencoder, alloc, func_ty)
 }
@@ -189,6 +194,8 @@ pub fn struct_type<T: ReencodeItems>(
 ) -> Result<w::StructType, Error<T::Error>>
     ensures default { IsTrue T.keeps_defaults
         → Maps T.reply T.next reencoder.old (read.fields_tree struct_ty.fields) (λ ty. body_tree (map write.field_type_tree ty.fields)) reencoder.new result }
+    ensures left { IsTrue T.keeps_defaults → IsTrue T.sure
+        → LeavesVisited (ask T.reply T.next) reencoder.old (visits (read.fields_tree struct_ty.fields)) reencoder.new result }
 {
     bodies::struct_type!(reencoder, alloc, struct_ty)
 }
@@ -201,6 +208,8 @@ pub fn sub_type<T: ReencodeItems>(
 ) -> Result<w::SubType, Error<T::Error>>
     ensures default { IsTrue T.keeps_defaults
         → Maps T.reply T.next reencoder.old (read.sub_type_tree sub_ty) write.sub_type_tree reencoder.new result }
+    ensures left { IsTrue T.keeps_defaults → IsTrue T.sure
+        → LeavesVisited (ask T.reply T.next) reencoder.old (visits (read.sub_type_tree sub_ty)) reencoder.new result }
 {
     bodies::sub_type!(reencoder, alloc, sub_ty)
 }
@@ -214,6 +223,8 @@ pub fn val_types<T: ReencodeItems>(
     ensures counted { IfOk result (λ types. length types ≡ length val_tys) }
     ensures default { IsTrue T.keeps_defaults
         → Maps T.reply T.next reencoder.old (read.val_types_tree val_tys) write.val_types_tree reencoder.new result }
+    ensures left { IsTrue T.keeps_defaults → IsTrue T.sure
+        → LeavesVisited (ask T.reply T.next) reencoder.old (visits (read.val_types_tree val_tys)) reencoder.new result }
 {
     bodies::val_types!(reencoder, alloc, val_tys)
 }
@@ -241,6 +252,8 @@ pub fn immediate<'a, T: ReencodeItems>(
     ensures kind { IfOk result (λ made. instructions.imm_kind made ≡ immediates.kind_of_imm imm.entry) }
     ensures default { IsTrue T.keeps_defaults
         → Maps T.reply T.next reencoder.old (immediates.imm_tree imm.entry) instructions.imm_tree reencoder.new result }
+    ensures left { IsTrue T.keeps_defaults → IsTrue T.sure
+        → LeavesVisited (ask T.reply T.next) reencoder.old (visits (immediates.imm_tree imm.entry)) reencoder.new result }
 {
     bodies::immediate!(reencoder, imm)
 }
@@ -253,6 +266,8 @@ pub fn instruction<'a, T: ReencodeItems>(
 ) -> Result<w::Instruction<'a>, Error<T::Error>>
     ensures default { IsTrue T.keeps_defaults
         → Maps T.reply T.next reencoder.old (immediates.operator_tree arg.entry) instructions.instruction_tree reencoder.new result }
+    ensures left { IsTrue T.keeps_defaults → IsTrue T.sure
+        → LeavesVisited (ask T.reply T.next) reencoder.old (visits (immediates.operator_tree arg.entry)) reencoder.new result }
 {
     bodies::instruction!(reencoder, alloc, arg)
 }
@@ -270,6 +285,8 @@ pub fn parse_instruction<'a, T: ReencodeItems>(
     ensures taken { IfOk result (λ _. MovesOn reader.old reader.new) }
     ensures default { IsTrue T.keeps_defaults
         → ParsesOperator T.reply T.next reencoder.old reader.old instructions.instruction_tree reencoder.new reader.new result }
+    ensures left { IsTrue T.keeps_defaults → IsTrue T.sure
+        → LeavesOperator (ask T.reply T.next) reencoder.old reader.old reencoder.new result }
 {
     bodies::parse_instruction!(reencoder, alloc, reader)
 }

@@ -5,7 +5,8 @@ use Rattle.std.proofs.lemmas.Result.{err_from_is_err_and}
 use Rattle.wasm_read.specs.Immediates as read
 use Rattle.wasm_write.specs.Instructions as write
 use Rattle.wasm_shapes.specs.Operators.{code_of}
-use Rattle.reencode_items.proofs.Operators.{AllMapped, imms_begin, imms_more, operator_refused, operator_accepted, operator_mapped, operator_kinds}
+use Rattle.reencode_items.proofs.Leaving.{accepted_visited, visited_left}
+use Rattle.reencode_items.proofs.Operators.{AllMapped, imms_begin, imms_leave, imms_more, operator_refused, operator_accepted, operator_mapped, operator_kinds}
 use Rattle.reencode_items.proofs.utils.instruction.Goals as goal
 
 pub loop-imm-init : goal.loop-imm-init
@@ -25,14 +26,22 @@ immediate-requires g c =
     let steps : into_iter_items c.loop-imm.imm-iterator ≡ c.in-Some.imm ∷ into_iter_items c.next.new.self = c.in-Some.ensures.steps.0 in
     (subst AllMapped steps c.loop-imm.invariant.left).0
 
-pub returns-in_err-imm : goal.returns-in_err-imm
-returns-in_err-imm g c =
+pub returns-in_err-imm-clause-default : goal.returns-in_err-imm-clause-default
+returns-in_err-imm-clause-default g c =
     let p = err_from_is_err_and c.from_residual-in_err-imm.result c.from_residual-in_err-imm.ensures.1 in
     let steps : into_iter_items c.loop-imm.imm-iterator ≡ c.in-Some.imm ∷ into_iter_items c.next.new.self = c.in-Some.ensures.steps.0 in
-    rw (p.1, p.2) (record {
-      default = λ k ceiling other. operator_refused (code_of c.args.arg.opcode) c.in-Some.imm ceiling (c.loop-imm.invariant.default k) steps
-          (c.in_err-imm.ensures.default k ceiling other);
-    })
+    rw (p.1, p.2) (λ k ceiling other. operator_refused (code_of c.args.arg.opcode) c.in-Some.imm ceiling (c.loop-imm.invariant.default k) steps
+    (c.in_err-imm.ensures.default k ceiling other))
+
+pub returns-in_err-imm-clause-left : goal.returns-in_err-imm-clause-left
+returns-in_err-imm-clause-left g c = λ k sure.
+    let steps : into_iter_items c.loop-imm.imm-iterator ≡ c.in-Some.imm ∷ into_iter_items c.next.new.self = c.in-Some.ensures.steps.0 in
+    visited_left _ (imms_leave c.in-Some.imm (c.loop-imm.invariant.default k) steps (c.in_err-imm.ensures.left k sure))
+
+pub returns-in_err-push-clause-left : goal.returns-in_err-push-clause-left
+returns-in_err-push-clause-left g c = λ k sure.
+    let steps : into_iter_items c.loop-imm.imm-iterator ≡ c.in-Some.imm ∷ into_iter_items c.next.new.self = c.in-Some.ensures.steps.0 in
+    visited_left _ (imms_leave c.in-Some.imm (c.loop-imm.invariant.default k) steps (accepted_visited 0 (read.imm_tree c.in-Some.imm) (c.in_ok-imm.ensures.default k 0)))
 
 pub loop-imm-preserved : goal.loop-imm-preserved
 loop-imm-preserved g c =
@@ -63,11 +72,9 @@ instruction_of-requires g c =
     rw c.opcode-opcode.ensures (operator_kinds c.args.arg.opcode c.args.arg.imms at.mapped c.into_imms-imms.ensures.fit
     (at.invariant.kinds ∙ ap (map read.kind_of_imm) all))
 
-pub returns : goal.returns
-returns g c =
+pub returns-clause-default : goal.returns-clause-default
+returns-clause-default g c =
     let at = c.loop-imm in
     let none : into_iter_items at.imm-iterator ≡ [] = nothing_left _ (sym at.invariant.counted ∙ c.in-None.ensures.steps.0) in
-    record {
-      default = λ k ceiling. rw (c.instruction_of.ensures.opcode, c.instruction_of.ensures.imms, c.opcode-opcode.ensures)
-          (operator_accepted (code_of c.args.arg.opcode) ceiling (at.invariant.default k) none);
-    }
+    λ k ceiling. rw (c.instruction_of.ensures.opcode, c.instruction_of.ensures.imms, c.opcode-opcode.ensures)
+    (operator_accepted (code_of c.args.arg.opcode) ceiling (at.invariant.default k) none)

@@ -1,0 +1,69 @@
+-- The state that a call leaves, after a front part of the visits of a tree.
+use Rattle.std.proofs.Common.{◌≡◌, ◌≢◌, ℕ, Bool, List, [], ◌∷◌, ◌++◌, Result, Ok, Err, refl, sym, ap, ◌∙◌, subst}
+use Rattle.std.specs.Prelude.{IsTrue}
+use Rattle.wasm_shapes.specs.declared.Visit.{Visit}
+use Rattle.wasm_shapes.specs.Tree.{Tree, visits}
+use Rattle.reencode_hooks.specs.declared.error.Error.{Error}
+use Rattle.reencode_hooks.specs.declared.error.Error.TheVariants.{NoMemory}
+use Rattle.reencode_hooks.specs.Run.{Step, accepted, refused, ask, state_after, Visited, LeavesVisited, NeverWants}
+use Rattle.reencode_hooks.specs.Hooks.{Replies}
+use Rattle.reencode_hooks.specs.Walk.{walk}
+use Rattle.reencode_hooks.proofs.Walks.{visited_first, visited_then, walk_is_run, walk_visits}
+use Rattle.reencode_items.specs.Maps.{Maps}
+
+module _ {S E : Type 0} {asked : S → Visit → Step S (Error E) ℕ} where
+  -- nothing was asked
+  pub none_visited : (s : S) (xs : List Visit) → Visited asked s xs s
+  none_visited s xs = record { front = []; rest = xs; parts = refl; state = refl }
+
+  -- of a tree whose walk is refused
+  pub refused_visited : {s m : S} {e : Error E} (c : ℕ) (t : Tree) → walk asked c s t ≡ refused e m → Visited asked s (visits t) m
+  refused_visited {s = s} c t h =
+      let P : Step S (Error E) Tree → Type 0 = λ r. Visited asked s (visits t) (state_after r) in subst P h (walk_visits asked c s t)
+
+  -- all of a tree whose walk is accepted
+  pub accepted_visited : {s m : S} {u : Tree} (c : ℕ) (t : Tree) → walk asked c s t ≡ accepted u m → Visited asked s (visits t) m
+  accepted_visited {s = s} c t h =
+      let P : Step S (Error E) Tree → Type 0 = λ r. Visited asked s (visits t) (state_after r) in subst P h (walk_visits asked c s t)
+
+  -- of the first of two parts
+  pub first_visited : {s m : S} {xs : List Visit} (ys : List Visit) → Visited asked s xs m → Visited asked s (xs ++ ys) m
+  first_visited ys v = visited_first asked ys v
+
+  -- of the second, where the first was accepted
+  pub second_visited : {s k m : S} {u : Tree} (c : ℕ) (t : Tree) {ys : List Visit} → walk asked c s t ≡ accepted u k → Visited asked k ys m → Visited asked s (visits t ++ ys) m
+  second_visited {s = s} {k = k} {u = u} c t h v = visited_then asked (visits t) ((walk_is_run asked).forth c s k t u h).ran v
+
+  -- all of the first, which was accepted
+  pub all_visited : {s m : S} {u : Tree} (c : ℕ) (t : Tree) (ys : List Visit) → walk asked c s t ≡ accepted u m → Visited asked s (visits t ++ ys) m
+  all_visited {m = m} c t ys h = second_visited c t h (none_visited m ys)
+
+  -- an error or none leaves such a state
+  pub visited_left : {A : Type 0} {s m : S} {xs : List Visit} (r : Result A (Error E)) → Visited asked s xs m → LeavesVisited asked s xs m r
+  visited_left (Ok a) v = tt
+  visited_left (Err e) v = v
+
+  -- one visit was refused
+  pub one_visited : {s m : S} {e : Error E} (v : Visit) → asked s v ≡ refused e m → Visited asked s (v ∷ []) m
+  one_visited v h = record { front = v ∷ []; rest = []; parts = refl; state = rw h refl }
+
+-- ---- calls that never want memory where the reencoder is sure
+
+pub never_wants : {E B : Type 0} {sure : Bool} (e : Error E) → NeverWants {A = B} sure (Err e) → IsTrue sure → e ≢ NoMemory
+never_wants {B = B} e never k h =
+    let same : ◌≡◌ {A = Result B (Error _)} (Err e) (Err NoMemory) = ap (λ (x : Error _). Err x) h in never k same
+
+pub sure_visited : {S E B : Type 0} (reply : S → Visit → Result ℕ E) (next : S → Visit → S) {s m : S} {sure : Bool} (t : Tree) (view : B → Tree) (e : Error E) →
+    Maps reply next s t view m (Err e) → NeverWants {A = B} sure (Err e) → IsTrue sure → Visited (ask reply next) s (visits t) m
+sure_visited reply next t view e maps never k = refused_visited 0 t (maps 0 (never_wants e never k))
+
+pub hook_visited : {S E : Type 0} (reply : S → Visit → Result ℕ E) (next : S → Visit → S) {s m : S} {sure : Bool} (v : Visit) (e : Error E) →
+    Replies reply next s m v (Err e) → NeverWants {A = ℕ} sure (Err e) → IsTrue sure → Visited (ask reply next) s (v ∷ []) m
+hook_visited reply next v e answer never k = one_visited v (answer (never_wants e never k))
+
+-- a call that answered a part's error, which is no want of memory
+pub maps_left : {S E A : Type 0} (reply : S → Visit → Result ℕ E) (next : S → Visit → S) (s m : S) (t : Tree) (view : A → Tree) (r : Result A (Error E)) (d e : Error E) →
+    r ≡ Err d → d ≡ e → Maps reply next s t view m r → e ≢ NoMemory → LeavesVisited (ask reply next) s (visits t) m r
+maps_left reply next s m t view (Ok a) d e same part maps other = tt
+maps_left reply next s m t view (Err x) d e same part maps other =
+    let here : x ≡ d = cc in refused_visited 0 t (maps 0 (λ h. other (sym part ∙ sym here ∙ h)))
