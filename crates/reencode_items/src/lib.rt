@@ -5,6 +5,8 @@ mod bodies;
 mod instructions;
 mod items;
 mod kinds;
+#[cfg(test)]
+mod overriding_tests;
 mod plain;
 #[cfg(test)]
 mod tests;

@@ -1,12 +1,11 @@
-//! Each call once through its bound, and a reencoder that overrides a method.
+//! Each call once through its bound.
 use super::*;
-use reencode_hooks::{Asked, Error, ReencodeIndices, Renamer, RoundtripReencoder, Unmapped};
+use reencode_hooks::{Asked, Error, Renamer, RoundtripReencoder, Unmapped};
 use std::alloc::Global;
-use std::convert::Infallible;
 use std::test::Fail;
 use wasm_leb::{List, NoMemory, ReadError};
 use wasm_read as r;
-use wasm_shapes::{CALL, END, I32_CONST, SectionId, Space};
+use wasm_shapes::{CALL, END, I32_CONST, Space};
 use wasm_write as w;
 
 fn module(index: u32) -> r::UnpackedIndex {
@@ -41,42 +40,98 @@ fn written_field(index: u32) -> w::FieldType {
     }
 }
 
-/// The calls on types that hold no list, as methods. Each index is 1 or 2; they are to become 11 and 22.
-fn types_by_methods<R: ReencodeItems>(reencoder: &mut R) -> Result<bool, Error<R::Error>> {
-    let index = reencoder.type_index_unpacked(module(1))? == 11
-        && reencoder.external_index(r::ExternalKind::FuncExact, 2)? == 22
-        && reencoder.cont_type(r::ContType(module(1)))? == w::ContType(11);
-    let kinds = reencoder.abstract_heap_type(r::AbstractHeapType::Exn)? == w::AbstractHeapType::Exn
-        && reencoder.export_kind(r::ExternalKind::FuncExact)? == w::ExportKind::Func;
-    let heap = reencoder.heap_type(r::HeapType::Exact(module(1)))? == w::HeapType::Exact(11);
-    let ty = reencoder.ref_type(reference(1))? == written(11);
-    let value = reencoder.val_type(r::ValType::Ref(reference(1)))? == w::ValType::Ref(written(11));
-    let stored = reencoder.storage_type(r::StorageType::I16)? == w::StorageType::I16;
-    let fields = reencoder.field_type(field(1))? == written_field(11)
-        && reencoder.array_type(r::ArrayType(field(1)))? == w::ArrayType(written_field(11));
-    let block = reencoder.block_type(r::BlockType::FuncType(1))? == w::BlockType::FunctionType(11);
-    Ok(index && kinds && heap && ty && value && stored && fields && block)
+/// The calls on indices and kinds, as methods. Each index is 1 or 2; they are to become 11 and 22.
+fn indices_by_methods<R: ReencodeItems>(reencoder: &mut R) -> Result<bool, Error<R::Error>> {
+    let index = reencoder.type_index_unpacked(module(1))?;
+    let item = reencoder.external_index(r::ExternalKind::FuncExact, 2)?;
+    let kind = reencoder.export_kind(r::ExternalKind::FuncExact)?;
+    Ok([index == 11, item == 22, kind == w::ExportKind::Func] == [true; 3])
 }
 
 /// The same as functions.
-fn types_by_functions<R: ReencodeItems>(reencoder: &mut R) -> Result<bool, Error<R::Error>> {
-    let index = utils::type_index_unpacked(reencoder, module(1))? == 11
-        && utils::external_index(reencoder, r::ExternalKind::FuncExact, 2)? == 22
-        && utils::cont_type(reencoder, r::ContType(module(1)))? == w::ContType(11);
-    let kinds = utils::abstract_heap_type(reencoder, r::AbstractHeapType::Exn)
-        == w::AbstractHeapType::Exn
-        && utils::export_kind(reencoder, r::ExternalKind::FuncExact) == w::ExportKind::Func;
-    let heap = utils::heap_type(reencoder, r::HeapType::Exact(module(1)))?
-        == w::HeapType::Exact(11);
-    let ty = utils::ref_type(reencoder, reference(1))? == written(11);
-    let value = utils::val_type(reencoder, r::ValType::Ref(reference(1)))?
-        == w::ValType::Ref(written(11));
-    let stored = utils::storage_type(reencoder, r::StorageType::I16)? == w::StorageType::I16;
-    let fields = utils::field_type(reencoder, field(1))? == written_field(11)
-        && utils::array_type(reencoder, r::ArrayType(field(1)))? == w::ArrayType(written_field(11));
-    let block = utils::block_type(reencoder, r::BlockType::FuncType(1))?
-        == w::BlockType::FunctionType(11);
-    Ok(index && kinds && heap && ty && value && stored && fields && block)
+fn indices_by_functions<R: ReencodeItems>(reencoder: &mut R) -> Result<bool, Error<R::Error>> {
+    let index = utils::type_index_unpacked(reencoder, module(1))?;
+    let item = utils::external_index(reencoder, r::ExternalKind::FuncExact, 2)?;
+    let kind = utils::export_kind(reencoder, r::ExternalKind::FuncExact);
+    Ok([index == 11, item == 22, kind == w::ExportKind::Func] == [true; 3])
+}
+
+/// The calls on heap types and continuations, as methods.
+fn heaps_by_methods<R: ReencodeItems>(reencoder: &mut R) -> Result<bool, Error<R::Error>> {
+    let continued = reencoder.cont_type(r::ContType(module(1)))?;
+    let named = reencoder.abstract_heap_type(r::AbstractHeapType::Exn)?;
+    let heap = reencoder.heap_type(r::HeapType::Exact(module(1)))?;
+    let made = [
+        continued == w::ContType(11),
+        named == w::AbstractHeapType::Exn,
+        heap == w::HeapType::Exact(11),
+    ];
+    Ok(made == [true; 3])
+}
+
+/// The same as functions.
+fn heaps_by_functions<R: ReencodeItems>(reencoder: &mut R) -> Result<bool, Error<R::Error>> {
+    let continued = utils::cont_type(reencoder, r::ContType(module(1)))?;
+    let named = utils::abstract_heap_type(reencoder, r::AbstractHeapType::Exn);
+    let heap = utils::heap_type(reencoder, r::HeapType::Exact(module(1)))?;
+    let made = [
+        continued == w::ContType(11),
+        named == w::AbstractHeapType::Exn,
+        heap == w::HeapType::Exact(11),
+    ];
+    Ok(made == [true; 3])
+}
+
+/// The calls on value types, as methods.
+fn values_by_methods<R: ReencodeItems>(reencoder: &mut R) -> Result<bool, Error<R::Error>> {
+    let ty = reencoder.ref_type(reference(1))?;
+    let value = reencoder.val_type(r::ValType::Ref(reference(1)))?;
+    let block = reencoder.block_type(r::BlockType::FuncType(1))?;
+    let made = [
+        ty == written(11),
+        value == w::ValType::Ref(written(11)),
+        block == w::BlockType::FunctionType(11),
+    ];
+    Ok(made == [true; 3])
+}
+
+/// The same as functions.
+fn values_by_functions<R: ReencodeItems>(reencoder: &mut R) -> Result<bool, Error<R::Error>> {
+    let ty = utils::ref_type(reencoder, reference(1))?;
+    let value = utils::val_type(reencoder, r::ValType::Ref(reference(1)))?;
+    let block = utils::block_type(reencoder, r::BlockType::FuncType(1))?;
+    let made = [
+        ty == written(11),
+        value == w::ValType::Ref(written(11)),
+        block == w::BlockType::FunctionType(11),
+    ];
+    Ok(made == [true; 3])
+}
+
+/// The calls on fields, as methods.
+fn fields_by_methods<R: ReencodeItems>(reencoder: &mut R) -> Result<bool, Error<R::Error>> {
+    let stored = reencoder.storage_type(r::StorageType::I16)?;
+    let field_ty = reencoder.field_type(field(1))?;
+    let array = reencoder.array_type(r::ArrayType(field(1)))?;
+    let made = [
+        stored == w::StorageType::I16,
+        field_ty == written_field(11),
+        array == w::ArrayType(written_field(11)),
+    ];
+    Ok(made == [true; 3])
+}
+
+/// The same as functions.
+fn fields_by_functions<R: ReencodeItems>(reencoder: &mut R) -> Result<bool, Error<R::Error>> {
+    let stored = utils::storage_type(reencoder, r::StorageType::I16)?;
+    let field_ty = utils::field_type(reencoder, field(1))?;
+    let array = utils::array_type(reencoder, r::ArrayType(field(1)))?;
+    let made = [
+        stored == w::StorageType::I16,
+        field_ty == written_field(11),
+        array == w::ArrayType(written_field(11)),
+    ];
+    Ok(made == [true; 3])
 }
 
 /// A renamer that makes type 1 type 11, and function 2 function 22.
@@ -90,11 +145,24 @@ fn renamer(alloc: Global) -> Result<Renamer, NoMemory> {
 #[test]
 fn types(rt: HostRuntime) -> Result<(), Fail> {
     let mut renamer = renamer(rt.alloc())?;
-    assert_eq!(rt; types_by_methods(&mut renamer)?, true);
+    assert_eq!(rt; indices_by_methods(&mut renamer)?, true);
+    assert_eq!(rt; heaps_by_methods(&mut renamer)?, true);
+    assert_eq!(rt; values_by_methods(&mut renamer)?, true);
+    assert_eq!(rt; fields_by_methods(&mut renamer)?, true);
     assert_eq!(rt; renamer.count(Asked::Of(Space::Type_)), 8);
-    assert_eq!(rt; types_by_functions(&mut renamer)?, true);
-    assert_eq!(rt; renamer.count(Asked::Of(Space::Type_)), 16);
-    assert_eq!(rt; renamer.count(Asked::Of(Space::Function)), 2);
+    assert_eq!(rt; renamer.count(Asked::Of(Space::Function)), 1);
+    Ok(())
+}
+
+#[test]
+fn types_by_functions(rt: HostRuntime) -> Result<(), Fail> {
+    let mut renamer = renamer(rt.alloc())?;
+    assert_eq!(rt; indices_by_functions(&mut renamer)?, true);
+    assert_eq!(rt; heaps_by_functions(&mut renamer)?, true);
+    assert_eq!(rt; values_by_functions(&mut renamer)?, true);
+    assert_eq!(rt; fields_by_functions(&mut renamer)?, true);
+    assert_eq!(rt; renamer.count(Asked::Of(Space::Type_)), 8);
+    assert_eq!(rt; renamer.count(Asked::Of(Space::Function)), 1);
     Ok(())
 }
 
@@ -162,7 +230,7 @@ fn structure(alloc: Global) -> Result<r::SubType, NoMemory> {
     })
 }
 
-/// The calls on lists, as methods: each index 1 is to become 11.
+/// The calls on lists of types, as methods: each index 1 is to become 11.
 fn lists_by_methods<R: ReencodeItems>(
     reencoder: &mut R,
     alloc: Global,
@@ -172,18 +240,12 @@ fn lists_by_methods<R: ReencodeItems>(
     let params = List::new(alloc);
     let results = list_of(alloc, &[r::ValType::I32])?;
     let function = reencoder.func_type(alloc, r::FuncType { params, results })?;
-    let fields = list_of(alloc, &[field(1)])?;
-    let fields = reencoder
-        .struct_type(alloc, r::StructType { fields })?
-        .fields;
-    let sub_type = reencoder.sub_type(alloc, structure(alloc)?)?;
-    Ok(
-        types.as_slice() == [w::ValType::Ref(written(11)), w::ValType::F64].as_slice()
-            && function.params.is_empty()
-            && function.results.as_slice() == [w::ValType::I32].as_slice()
-            && fields.as_slice() == [written_field(11)].as_slice()
-            && sub_type.supertype_idxs.as_slice() == [11].as_slice(),
-    )
+    let made = [
+        types.as_slice() == [w::ValType::Ref(written(11)), w::ValType::F64].as_slice(),
+        function.params.is_empty(),
+        function.results.as_slice() == [w::ValType::I32].as_slice(),
+    ];
+    Ok(made == [true; 3])
 }
 
 /// The same as functions.
@@ -196,27 +258,63 @@ fn lists_by_functions<R: ReencodeItems>(
     let params = List::new(alloc);
     let results = list_of(alloc, &[r::ValType::I32])?;
     let function = utils::func_type(reencoder, alloc, r::FuncType { params, results })?;
+    let made = [
+        types.as_slice() == [w::ValType::Ref(written(11)), w::ValType::F64].as_slice(),
+        function.params.is_empty(),
+        function.results.as_slice() == [w::ValType::I32].as_slice(),
+    ];
+    Ok(made == [true; 3])
+}
+
+/// The calls on composite types, as methods.
+fn composites_by_methods<R: ReencodeItems>(
+    reencoder: &mut R,
+    alloc: Global,
+) -> Result<bool, Error<R::Error>> {
+    let fields = list_of(alloc, &[field(1)])?;
+    let fields = reencoder
+        .struct_type(alloc, r::StructType { fields })?
+        .fields;
+    let sub_type = reencoder.sub_type(alloc, structure(alloc)?)?;
+    let made = [
+        fields.as_slice() == [written_field(11)].as_slice(),
+        sub_type.supertype_idxs.as_slice() == [11].as_slice(),
+    ];
+    Ok(made == [true; 2])
+}
+
+/// The same as functions.
+fn composites_by_functions<R: ReencodeItems>(
+    reencoder: &mut R,
+    alloc: Global,
+) -> Result<bool, Error<R::Error>> {
     let fields = list_of(alloc, &[field(1)])?;
     let fields = utils::struct_type(reencoder, alloc, r::StructType { fields })?.fields;
     let sub_type = utils::sub_type(reencoder, alloc, structure(alloc)?)?;
     let composite = utils::composite_type(reencoder, alloc, structure(alloc)?.composite_type)?;
-    Ok(
-        types.as_slice() == [w::ValType::Ref(written(11)), w::ValType::F64].as_slice()
-            && function.params.is_empty()
-            && function.results.as_slice() == [w::ValType::I32].as_slice()
-            && fields.as_slice() == [written_field(11)].as_slice()
-            && sub_type.supertype_idxs.as_slice() == [11].as_slice()
-            && composite.shared,
-    )
+    let made = [
+        fields.as_slice() == [written_field(11)].as_slice(),
+        sub_type.supertype_idxs.as_slice() == [11].as_slice(),
+        composite.shared,
+    ];
+    Ok(made == [true; 3])
 }
 
 #[test]
 fn lists(rt: HostRuntime) -> Result<(), Fail> {
     let mut renamer = renamer(rt.alloc())?;
     assert_eq!(rt; lists_by_methods(&mut renamer, rt.alloc())?, true);
+    assert_eq!(rt; composites_by_methods(&mut renamer, rt.alloc())?, true);
     assert_eq!(rt; renamer.count(Asked::Of(Space::Type_)), 4);
+    Ok(())
+}
+
+#[test]
+fn lists_by_utils(rt: HostRuntime) -> Result<(), Fail> {
+    let mut renamer = renamer(rt.alloc())?;
     assert_eq!(rt; lists_by_functions(&mut renamer, rt.alloc())?, true);
-    assert_eq!(rt; renamer.count(Asked::Of(Space::Type_)), 9);
+    assert_eq!(rt; composites_by_functions(&mut renamer, rt.alloc())?, true);
+    assert_eq!(rt; renamer.count(Asked::Of(Space::Type_)), 5);
     Ok(())
 }
 
@@ -258,14 +356,15 @@ fn operators_by_calls<R: ReencodeItems>(
     let second = utils::parse_instruction(reencoder, alloc, &mut reader)?;
     let third = reader.read(alloc)?;
     let third = utils::instruction(reencoder, alloc, third)?;
-    Ok(
-        matches!(index, w::Imm::Index(Space::Function, 22))
-            && matches!(local, w::Imm::Local(2))
-            && calls(&first)
-            && calls(&second)
-            && calls(&third)
-            && reader.is_end_then_eof(),
-    )
+    let made = [
+        matches!(index, w::Imm::Index(Space::Function, 22)),
+        matches!(local, w::Imm::Local(2)),
+        calls(&first),
+        calls(&second),
+        calls(&third),
+        reader.is_end_then_eof(),
+    ];
+    Ok(made == [true; 6])
 }
 
 #[test]
@@ -281,100 +380,5 @@ fn operators(rt: HostRuntime) -> Result<(), Fail> {
     assert_eq!(rt; end.opcode(), END);
     let result = renamer.parse_instruction(rt.alloc(), &mut reader);
     assert!(rt; matches!(result, Err(Error::ParseError(ReadError { at: 2 }))));
-    Ok(())
-}
-
-/// Answers every index as it is, and writes every `i32` as an `i64`.
-#[derive(Clone, Copy)]
-struct Widener;
-
-impl ReencodeIndices for Widener {
-    ghost use Rattle.std.specs.Prelude.{true, false, Ok, refl, []};
-    ghost use Rattle.reencode_hooks.specs.Hooks.{index_of, index_of-given};
-
-    type Error = Infallible;
-
-    ghost reply = { λ _ visit. Ok (index_of visit) };
-
-    ghost next = { λ s _. s };
-
-    ghost adds = { λ _ _ _. [] };
-
-    ghost keeps_defaults = { false };
-
-    ghost adds_nothing = { true };
-
-    ghost sure = { true };
-
-    ghost answers_ok = { λ _ visit h. index_of-given visit h };
-
-    ghost adds_ok = { λ _ _ _ _. refl };
-
-    fn data_index(&mut self, index: u32) -> Result<u32, Error<Infallible>> {
-        Ok(index)
-    }
-
-    fn element_index(&mut self, index: u32) -> Result<u32, Error<Infallible>> {
-        Ok(index)
-    }
-
-    fn function_index(&mut self, index: u32) -> Result<u32, Error<Infallible>> {
-        Ok(index)
-    }
-
-    fn global_index(&mut self, index: u32) -> Result<u32, Error<Infallible>> {
-        Ok(index)
-    }
-
-    fn memory_index(&mut self, index: u32) -> Result<u32, Error<Infallible>> {
-        Ok(index)
-    }
-
-    fn table_index(&mut self, index: u32) -> Result<u32, Error<Infallible>> {
-        Ok(index)
-    }
-
-    fn tag_index(&mut self, index: u32) -> Result<u32, Error<Infallible>> {
-        Ok(index)
-    }
-
-    fn type_index(&mut self, index: u32) -> Result<u32, Error<Infallible>> {
-        Ok(index)
-    }
-
-    fn data_count(&mut self, count: u32) -> Result<u32, Error<Infallible>> {
-        Ok(count)
-    }
-
-    fn intersperse_section_hook(
-        &mut self,
-        _module: &mut w::Module,
-        _after: Option<SectionId>,
-        _before: Option<SectionId>,
-    ) -> Result<(), Error<Infallible>> {
-        Ok(())
-    }
-}
-
-impl ReencodeItems for Widener {
-    fn val_type(&mut self, val_ty: r::ValType) -> Result<w::ValType, Error<Infallible>> {
-        match val_ty {
-            r::ValType::I32 | r::ValType::I64 => Ok(w::ValType::I64),
-            r::ValType::F32 => Ok(w::ValType::F32),
-            r::ValType::F64 => Ok(w::ValType::F64),
-            r::ValType::V128 => Ok(w::ValType::V128),
-            r::ValType::Ref(ty) => Ok(w::ValType::Ref(self.ref_type(ty)?)),
-        }
-    }
-}
-
-#[test]
-fn overrides_are_called(rt: HostRuntime) -> Result<(), Fail> {
-    let types = list_of(rt.alloc(), &[r::ValType::I32, r::ValType::F32])?;
-    let types = Widener.val_types(rt.alloc(), types)?;
-    assert_eq!(rt;
-        types.as_slice(),
-        [w::ValType::I64, w::ValType::F32].as_slice()
-    );
     Ok(())
 }
