@@ -123,7 +123,7 @@ module _ {S E : Type 0} (reply : S → Visit → Result ℕ E) (next : S → Vis
   }
 
   pub body_not_added : (f : Body) (w : WriteFault) → rest ≡ [] → f.locals ≡ f0.locals → f.operators ≡ ops →
-      IfTooLarge w (λ size. ((size ≡ length (normal (function_body f))) × (old.ceiling < size)) ⊎ ((size ≡ length old.rows + 1) × (2 ^ 32 - 1 < size))) →
+      IfTooLarge w (λ size. ((size ≡ length (normal (function_body f))) × (old.ceiling < size)) ⊎ ((size ≡ length old.rows + 1) × (2 ^ 32 - 1 < size) × (length (normal (function_body f)) ≤ old.ceiling))) →
       GivesBody (ask reply next) bytes s0 old s old (Err (error_of_write w))
   body_not_added f w empty same_locals same_operators large = record {
     reading = λ t p. (refl, go t p w large);
@@ -143,7 +143,7 @@ module _ {S E : Type 0} (reply : S → Visit → Result ℕ E) (next : S → Vis
       among n e = Contains-append_right (counts (code_tree f)) ((length old.rows + 1) ∷ []) n (0, omega arith, sym e)
 
       go : (t : Tree) → Spells body bytes t → (w : WriteFault) →
-          IfTooLarge w (λ size. ((size ≡ length (normal (function_body f))) × (old.ceiling < size)) ⊎ ((size ≡ length old.rows + 1) × (2 ^ 32 - 1 < size))) →
+          IfTooLarge w (λ size. ((size ≡ length (normal (function_body f))) × (old.ceiling < size)) ⊎ ((size ≡ length old.rows + 1) × (2 ^ 32 - 1 < size) × (length (normal (function_body f)) ≤ old.ceiling))) →
           error_of_write {E = E} w ≢ NoMemory → (walk (ask reply next) old.ceiling s0 (Tree.sized t) ≡ refused (error_of_write w) s) ⊎ TooLargeMade (ask reply next) s0 (Tree.sized t) (length old.rows) (error_of_write {E = E} w) s
       go t p (write.TooLarge n) (inl q) other =
           let same : n ≡ size = q.0 in
