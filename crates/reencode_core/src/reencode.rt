@@ -25,6 +25,9 @@ use wasm_shapes::SectionId;
 use wasm_write as w;
 
 /// What a re-encoder does with each section of a core module.
+///
+/// The clauses `default` and `left` of each method hold where the reencoder keeps the defaults. `left` says that, where it is
+/// sure too, every error leaves the state after a front part of the visits of what was to be read, want of memory too.
 pub trait Reencode: ReencodeItems {
     /// Maps the rows that the reader still has, each by `parse_recursive_type_group`, and adds each row once it is mapped.
     fn parse_type_section(
