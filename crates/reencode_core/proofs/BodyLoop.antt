@@ -212,7 +212,7 @@ module _ {S E : Type 0} (asked : Asks S E) (c : ℕ) where
 -- ---- a body's row in a code section
 
 -- what stands in the frame
-in_frame : {reader reader' : Standing} {bytes : List ℕ} → RowRead frame_row reader (Tree.sized (Tree.raw bytes)) reader' → (t : Tree) (left : List ℕ) → Begins code_row reader.rest t left →
+pub in_frame : {reader reader' : Standing} {bytes : List ℕ} → RowRead frame_row reader (Tree.sized (Tree.raw bytes)) reader' → (t : Tree) (left : List ℕ) → Begins code_row reader.rest t left →
     (u : Tree) × (t ≡ Tree.sized u) × Spells body bytes u
 in_frame {reader = reader} {reader' = reader'} {bytes = bytes} r t left there = go t there.spells.shaped there.spells.spelled
   where

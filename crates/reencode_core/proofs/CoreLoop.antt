@@ -7,7 +7,7 @@ use Rattle.wasm_leb.specs.declared.fault.Kind.TheVariants as kinds
 use Rattle.wasm_shapes.specs.declared.SectionId.{SectionId}
 use Rattle.wasm_shapes.specs.declared.Visit.{Visit}
 use Rattle.wasm_shapes.specs.declared.Visit.TheVariants.{Section}
-use Rattle.wasm_shapes.specs.Tree.{Tree, kind, normal}
+use Rattle.wasm_shapes.specs.Tree.{Tree, kind, normal, visits, visits_from}
 use Rattle.wasm_shapes.specs.Spells.{Is, Spelled, Spells}
 use Rattle.wasm_shapes.specs.Place.{Begins, BeginsNone}
 use Rattle.wasm_shapes.specs.Rows.{rows_then}
@@ -21,16 +21,18 @@ use Rattle.wasm_write.specs.Sections.{Sections, SectionRow, section_row, section
 use Rattle.reencode_hooks.specs.declared.error.Error.{Error}
 use Rattle.reencode_hooks.specs.declared.error.Error.TheVariants.{CanonicalizedHeapTypeReference, InvalidConstExpr, InvalidCodeSectionSize, UnexpectedNonCoreModuleSection, UnexpectedNonComponentSection, UnsupportedCoreTypeInComponent, ParseError, UserError, TooLarge, NoMemory}
 use Rattle.reencode_hooks.specs.Errors.{error_of_fault}
-use Rattle.reencode_hooks.specs.Run.{Step, accepted, refused, and_then, ask}
+use Rattle.reencode_hooks.specs.Run.{Step, accepted, refused, and_then, ask, Visited, NeverWants}
 use Rattle.reencode_hooks.specs.Walk.{walk, walk_from, announced}
 use Rattle.reencode_hooks.specs.Hooks.{RepliesSection, KeepsAdds, Gains}
+use Rattle.reencode_items.proofs.Leaving.{never_wants, none_visited, one_visited}
+use Rattle.reencode_core.specs.Leaves.{LeavesReading}
 use Rattle.reencode_core.specs.Errors.{IfParse, IfRefused, placed_at}
 use Rattle.reencode_core.specs.Rows.{Asks, Further}
 use Rattle.reencode_core.specs.Sections.{section_tree, ReadsAs, BodyFault, StopsSection, GivesSection}
 use Rattle.reencode_core.specs.Core.{hooked, onto, AcceptsSections, RefusesNext, StopsSections, GivesModule, RefusedIn, StopsInside, BeforeFault, IsCause, GivesCore}
 use Rattle.reencode_core.proofs.Counts.{walk_further, further_none, further_one, further_then}
 use Rattle.reencode_core.proofs.Usual.{IfRefused-map, unless_wanting, usual_ask, stops_usual}
-use Rattle.reencode_core.proofs.Known.{numbered_is, section_begins, section_none, section_announced, reads_begun, some_begun}
+use Rattle.reencode_core.proofs.Known.{numbered_is, section_begins, section_none, section_announced, section_onward, hook_visits, inside_visits, reads_begun, some_begun}
 
 -- ---- lists of sections
 
@@ -193,6 +195,8 @@ pub record SectionsDone {S E : Type 0} (asked : Asks S E) (start : List ℕ) (s0
   pub accepts : AcceptsSections asked old.ceiling s0 read made last s
   pub gains : Gains old new rows
   pub spelled : sections_bytes rows ≡ normals made
+  -- what was asked of the others was asked behind the first
+  pub onward : (others : Tree) (m : S) → Visited asked s (visits_from last others) m → Visited asked s0 (visits (alsos read others)) m
 
 module _ {S E : Type 0} (asked : Asks S E) where
   onto_nothing : (step : Step S (Error E) Tree) → step ≡ onto [] step
@@ -210,6 +214,7 @@ module _ {S E : Type 0} (asked : Asks S E) where
     accepts = λ others. onto_nothing (walk asked old.ceiling s others);
     gains = ap (λ (rows : List SectionRow). record old { sections = rows }) (sym (append-nil old.sections));
     spelled = refl;
+    onward = λ others m v. v;
   }
 
   pub also_hooked : (c : ℕ) (last : Option SectionId) (s : S) (t u : Tree) →
@@ -252,7 +257,7 @@ module _ {S E : Type 0} (asked : Asks S E) where
       SectionsDone asked start s0 old rest last s new → Begins frame rest (numbered_frame (section_number k) body) rest' →
       (asked s (Section last (Some k)) ≡ accepted 0 n) × (mid ≡ new) → GivesSection asked k body n mid s' new' (Ok tt) →
       SectionsDone asked start s0 old rest' (Some k) s' new'
-  sections_more k {rest = rest} {rest' = rest'} {body = body} {s = s} {n = n} {s' = s'} {old = old} {new = new} {mid = mid} {new' = new'} {last = last} d there hook given =
+  sections_more k {rest = rest} {rest' = rest'} {body = body} {s0 = s0} {s = s} {n = n} {s' = s'} {old = old} {new = new} {mid = mid} {new' = new'} {last = last} d there hook given =
       let P : Sections → Type 0 = λ z. GivesSection asked k body n z s' new' (Ok tt) in
       let g = subst P hook.1 given in
       let t : Tree = g.readable.0 in
@@ -281,6 +286,10 @@ module _ {S E : Type 0} (asked : Asks S E) where
             ∙ ap (λ (rows : List SectionRow). record old { sections = rows }) (append_assoc old.sections d.rows (row ∷ []));
         spelled = sections_bytes-append d.rows (row ∷ []) ∙ ap (λ (z : List ℕ). z ++ sections_bytes (row ∷ [])) d.spelled
             ∙ ap (λ (z : List ℕ). normals d.made ++ (z ++ [])) q.4 ∙ sym (normals-append d.made (q.0 ∷ []));
+        onward = λ others m v.
+            let P : Tree → Type 0 = λ z. Visited asked s0 (visits z) m in
+            subst P (sym (alsos-append d.read (t ∷ []) others))
+            (d.onward (Tree.also t others) m (section_onward asked k old.ceiling last s n s' m t q.0 others reads hook.0 walked v));
       }
 
   -- ---- the ends of the loop
@@ -495,6 +504,44 @@ module _ {S E : Type 0} (asked : Asks S E) where
         cause (TooLarge x) q = before_fault (TooLarge x)
         cause _ q = absurd q
 
+    -- ---- the state that is left
+
+    leaves_at : {m : S} (t others : Tree) → t ≡ alsos d.read others → Visited asked s (visits_from last others) m → Visited asked s0 (visits t) m
+    leaves_at {m = m} t others e v = let P : Tree → Type 0 = λ z. Visited asked s0 (visits z) m in subst P (sym e) (d.onward others m v)
+
+    -- no further section was asked
+    pub core_leaves_none : (t : Tree) → CoreReading bytes t → Visited asked s0 (visits t) s
+    core_leaves_none t r = go t (read_ahead t r)
+      where
+        go : (t : Tree) → Ahead d.read rest t [] → Visited asked s0 (visits t) s
+        go t (same f _) = leaves_at t Tree.finish f (none_visited s (visits_from last Tree.finish))
+        go t (more u v left f b) = leaves_at t (Tree.also u v) f (none_visited s (visits_from last (Tree.also u v)))
+
+    -- the next section, or the hook before it, was asked in part
+    leaves_section : {m : S} (k : SectionId) {left body : List ℕ} → Begins frame rest (numbered_frame (section_number k) body) left →
+        ((t others : Tree) → ReadsAs k body t → Visited asked s (visits_from last (Tree.also t others)) m) → (t : Tree) → CoreReading bytes t → Visited asked s0 (visits t) m
+    leaves_section {m = m} k there leaves t r = go t (read_ahead t r)
+      where
+        go : (t : Tree) → Ahead d.read rest t [] → Visited asked s0 (visits t) m
+        go t (same f empty) = absurd (some_begun there empty)
+        go t (more u v left f b) = leaves_at t (Tree.also u v) f (leaves u v (reads_begun k there b))
+
+    pub core_leaves_hook : {m : S} {e : Error E} (k : SectionId) {left body : List ℕ} → Begins frame rest (numbered_frame (section_number k) body) left →
+        asked s (Section last (Some k)) ≡ refused e m → (t : Tree) → CoreReading bytes t → Visited asked s0 (visits t) m
+    core_leaves_hook {m = m} {e = e} k there h = leaves_section k there (λ t others r. hook_visits asked k last s m e t others r h)
+
+    pub core_leaves_inside : {m n : S} (k : SectionId) {left body : List ℕ} → Begins frame rest (numbered_frame (section_number k) body) left →
+        asked s (Section last (Some k)) ≡ accepted 0 n → ((t : Tree) → ReadsAs k body t → Visited asked n (visits t) m) → (t : Tree) → CoreReading bytes t → Visited asked s0 (visits t) m
+    core_leaves_inside {m = m} {n = n} k there h leaves = leaves_section k there (λ t others r. inside_visits asked k last s n m t others r h (leaves t r))
+
+    -- the hook at the end was refused
+    pub core_leaves_end : {m : S} {e : Error E} → rest ≡ [] → asked s (Section last None) ≡ refused e m → (t : Tree) → CoreReading bytes t → Visited asked s0 (visits t) m
+    core_leaves_end {m = m} empty h t r = go t (read_ahead t r)
+      where
+        go : (t : Tree) → Ahead d.read rest t [] → Visited asked s0 (visits t) m
+        go t (same f _) = leaves_at t Tree.finish f (one_visited (Section last None) h)
+        go t (more u v left f b) = absurd (none_behind.none b.text left u b.spells (sym empty ∙ b.reads))
+
   -- ---- no module
 
   pub header_wrong : {bytes : List ℕ} (s : S) (old : Sections) (f : Fault) → NoCoreHeader f bytes → GivesCore asked bytes s old s old (Err (error_of_fault f))
@@ -522,3 +569,11 @@ end_given reply next adds nothing keeps sure {s = s} {new = new} {last = last} r
 end_given reply next adds nothing keeps sure {s = s} {new = new} {last = last} reads d empty s' new' (Err e) h =
     end_refused (ask reply next) reads d e empty (hook_kept reply next adds nothing keeps sure s s' new new' last None e h)
     (hook_err reply next adds nothing keeps sure s s' new new' last None e h) (hook_usual reply next adds nothing keeps sure s s' new new' last None e h)
+
+pub end_left : {S E : Type 0} (reply : S → Visit → Result ℕ E) (next : S → Visit → S) (adds : S → Option SectionId → Option SectionId → List SectionRow) (nothing : Bool) →
+    KeepsAdds adds nothing → IsTrue nothing → {start bytes rest : List ℕ} {s0 s : S} {old new : Sections} {last : Option SectionId} → bytes ≡ core_header ++ start →
+    SectionsDone (ask reply next) start s0 old rest last s new → rest ≡ [] → (s' : S) (new' : Sections) (r : Result (Unit {0}) (Error E)) →
+    RepliesSection reply next adds s s' new new' last None r → {sure : Bool} → NeverWants sure r → IsTrue sure → LeavesReading (CoreReading bytes) (ask reply next) s0 s' r
+end_left reply next adds nothing keeps none reads d empty s' new' (Ok u) h never k = λ t r. tt
+end_left reply next adds nothing keeps none {s = s} {new = new} {last = last} reads d empty s' new' (Err e) h never k =
+    core_leaves_end (ask reply next) reads d empty (hook_err reply next adds nothing keeps none s s' new new' last None e h (never_wants e never k))

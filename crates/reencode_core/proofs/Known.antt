@@ -8,7 +8,7 @@ use Rattle.wasm_shapes.specs.declared.SectionId.{SectionId}
 use Rattle.wasm_shapes.specs.declared.SectionId.TheVariants as id
 use Rattle.wasm_shapes.specs.declared.Visit.{Visit}
 use Rattle.wasm_shapes.specs.declared.Visit.TheVariants.{Section}
-use Rattle.wasm_shapes.specs.Tree.{Tree, normal, count, kind}
+use Rattle.wasm_shapes.specs.Tree.{Tree, normal, count, kind, before, visits, visits_from}
 use Rattle.wasm_shapes.specs.Shape.{Shape}
 use Rattle.wasm_shapes.specs.Sound.{first_bytes}
 use Rattle.wasm_shapes.specs.Spells.{Is, Spelled, Spells}
@@ -24,8 +24,10 @@ use Rattle.wasm_write.specs.Sections.{Sections, SectionRow, section_row, section
 use Rattle.reencode_hooks.specs.Hooks.{RepliesSection}
 use Rattle.reencode_hooks.specs.declared.error.Error.{Error}
 use Rattle.reencode_hooks.specs.declared.error.Error.TheVariants.{TooLarge}
-use Rattle.reencode_hooks.specs.Run.{Step, accepted, refused}
+use Rattle.reencode_hooks.specs.Run.{Step, accepted, refused, run, Visited}
 use Rattle.reencode_hooks.specs.Walk.{walk, closed, announced}
+use Rattle.reencode_hooks.proofs.Walks.{visited_then}
+use Rattle.reencode_items.proofs.Leaving.{first_visited, one_visited, second_visited}
 use Rattle.reencode_core.specs.Rows.{Asks}
 use Rattle.reencode_core.specs.Sections.{KeepsModule, row_shape, body_shape, section_tree, ReadsAs}
 
@@ -45,6 +47,7 @@ closed_large {S = S} {E = E} c u m h = go (nat_le (length (normal u)) c) refl
 -- A kind that is in force: its bodies are vectors of its rows, and a section is walked as its body and its frame are.
 pub record InForce (k : SectionId) : Type 1 where
   pub rows : body_shape k ≡ Shape.vec (row_shape k)
+  pub visited : (u : Tree) → visits (section_tree k u) ≡ visits u
   pub spelled : (u : Tree) → section_bytes (section_row (section_number k) (normal u)) ≡ normal (section_tree k u)
   pub refuses : (S E : Type 0) (asked : Asks S E) (c : ℕ) (s m : S) (t : Tree) (e : Error E) → walk asked c s t ≡ refused e m → walk asked c s (section_tree k t) ≡ refused e m
   pub fits : (S E : Type 0) (asked : Asks S E) (c : ℕ) (s m : S) (t u : Tree) → walk asked c s t ≡ accepted u m → length (normal u) ≤ c →
@@ -55,6 +58,7 @@ pub record InForce (k : SectionId) : Type 1 where
 pub types_in_force : InForce id.Type_
 types_in_force = record {
   rows = refl;
+  visited = λ u. refl;
   spelled = λ u. refl;
   refuses = λ S E asked c s m t e h. rw h refl;
   fits = λ S E asked c s m t u h l. rw (h, closed_fits {E = E} c u m l) refl;
@@ -64,6 +68,7 @@ types_in_force = record {
 pub functions_in_force : InForce id.Function
 functions_in_force = record {
   rows = refl;
+  visited = λ u. refl;
   spelled = λ u. refl;
   refuses = λ S E asked c s m t e h. rw h refl;
   fits = λ S E asked c s m t u h l. rw (h, closed_fits {E = E} c u m l) refl;
@@ -73,6 +78,7 @@ functions_in_force = record {
 pub exports_in_force : InForce id.Export
 exports_in_force = record {
   rows = refl;
+  visited = λ u. refl;
   spelled = λ u. refl;
   refuses = λ S E asked c s m t e h. rw h refl;
   fits = λ S E asked c s m t u h l. rw (h, closed_fits {E = E} c u m l) refl;
@@ -82,6 +88,7 @@ exports_in_force = record {
 pub code_in_force : InForce id.Code
 code_in_force = record {
   rows = refl;
+  visited = λ u. refl;
   spelled = λ u. refl;
   refuses = λ S E asked c s m t e h. rw h refl;
   fits = λ S E asked c s m t u h l. rw (h, closed_fits {E = E} c u m l) refl;
@@ -124,6 +131,43 @@ section_announced asked s last id.Function u p = (refl, refl)
 section_announced asked s last id.Export u p = (refl, refl)
 section_announced asked s last id.Code u p = (refl, refl)
 section_announced asked s last _ u p = elim p.shaped [ ]
+
+pub section_before : (last : Option SectionId) (k : SectionId) {body : List ℕ} (u : Tree) → Spells (body_shape k) body u →
+    (before last (section_tree k u) ≡ Section last (Some k) ∷ []) × (kind last (section_tree k u) ≡ Some k)
+section_before last id.Type_ u p = (refl, refl)
+section_before last id.Function u p = (refl, refl)
+section_before last id.Export u p = (refl, refl)
+section_before last id.Code u p = (refl, refl)
+section_before last _ u p = elim p.shaped [ ]
+
+module _ {S E : Type 0} (asked : Asks S E) (k : SectionId) where
+  -- the hook before a section and the section were accepted
+  pub section_onward : {body : List ℕ} (c : ℕ) (last : Option SectionId) (s n m j : S) (t v others : Tree) → ReadsAs k body t →
+      asked s (Section last (Some k)) ≡ accepted 0 n → walk asked c n t ≡ accepted v m → Visited asked m (visits_from (Some k) others) j →
+      Visited asked s (visits_from last (Tree.also t others)) j
+  section_onward c last s n m j t v others r h w u =
+      let b = section_before last k r.0 r.2 in
+      let told : before last t ≡ Section last (Some k) ∷ [] = rw r.1 b.0 in
+      let kinds : kind last t ≡ Some k = rw r.1 b.1 in
+      let ran : run asked s (Section last (Some k) ∷ []) ≡ accepted (0 ∷ []) n = rw h refl in
+      rw (told, kinds) (visited_then asked (Section last (Some k) ∷ []) ran (second_visited c t w u))
+
+  -- the hook was accepted, and the section was asked in part
+  pub inside_visits : {body : List ℕ} (last : Option SectionId) (s n m : S) (t others : Tree) → ReadsAs k body t →
+      asked s (Section last (Some k)) ≡ accepted 0 n → Visited asked n (visits t) m → Visited asked s (visits_from last (Tree.also t others)) m
+  inside_visits last s n m t others r h v =
+      let b = section_before last k r.0 r.2 in
+      let told : before last t ≡ Section last (Some k) ∷ [] = rw r.1 b.0 in
+      let ran : run asked s (Section last (Some k) ∷ []) ≡ accepted (0 ∷ []) n = rw h refl in
+      rw told (visited_then asked (Section last (Some k) ∷ []) ran (first_visited (visits_from (kind last t) others) v))
+
+  -- the hook was refused
+  pub hook_visits : {body : List ℕ} (last : Option SectionId) (s m : S) (e : Error E) (t others : Tree) → ReadsAs k body t →
+      asked s (Section last (Some k)) ≡ refused e m → Visited asked s (visits_from last (Tree.also t others)) m
+  hook_visits last s m e t others r h =
+      let b = section_before last k r.0 r.2 in
+      let told : before last t ≡ Section last (Some k) ∷ [] = rw r.1 b.0 in
+      rw told (first_visited (visits t ++ visits_from (kind last t) others) (one_visited (Section last (Some k)) h))
 
 -- ---- a section that begins where a frame does is read from it
 

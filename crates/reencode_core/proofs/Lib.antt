@@ -10,3 +10,4 @@ pub mod Group
 pub mod BodyLoop
 pub mod Locals
 pub mod WholeBody
+pub mod Leaving

@@ -34,7 +34,7 @@ rows_count (t ∷ ts) u = let again : count (rows_then ts u) ≡ length ts + cou
 
 module _ {S E : Type 0} (asked : Asks S E) (k : SectionId) (known : InForce k) where
   -- the rows of the section's body
-  rows_read : {body : List ℕ} {reader : Standing} → CountRead body reader → (t : Tree) → ReadsAs k body t →
+  pub rows_read : {body : List ℕ} {reader : Standing} → CountRead body reader → (t : Tree) → ReadsAs k body t →
       (rows : Tree) × (t ≡ section_tree k (Tree.vec rows)) × RowsLeft (row_shape k) reader.left reader.rest rows
   rows_read {body = body} there t r =
       let P : Shape → Type 0 = λ s. Spells s body r.0 in

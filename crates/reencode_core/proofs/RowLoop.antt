@@ -321,7 +321,7 @@ row_refused {E = E} reply next {c = c} {row = row} {start = start} {reader = rea
 -- ---- a row that is read in part
 
 -- where rows are left, the first of them begins there
-first_of : {row : Shape} {n m : ℕ} {bytes : List ℕ} (rows : Tree) → m ≡ suc n → RowsLeft row m bytes rows → (t : Tree) × (behind : Tree) × (left : List ℕ) × (rows ≡ Tree.cons t behind) × Begins row bytes t left
+pub first_of : {row : Shape} {n m : ℕ} {bytes : List ℕ} (rows : Tree) → m ≡ suc n → RowsLeft row m bytes rows → (t : Tree) × (behind : Tree) × (left : List ℕ) × (rows ≡ Tree.cons t behind) × Begins row bytes t left
 first_of {row = row} {n = n} {m = m} {bytes = bytes} rows k r = go rows r.shaped r.counted r.spelled
   where
     go : (rows : Tree) → Is (Shape.many row) rows → count rows ≡ m → Spelled rows bytes → (t : Tree) × (behind : Tree) × (left : List ℕ) × (rows ≡ Tree.cons t behind) × Begins row bytes t left

@@ -83,7 +83,7 @@ module _ {S E : Type 0} (reply : S → Visit → Result ℕ E) (next : S → Vis
   walked c = g.reading c l start begins
 
   -- what stands behind the operators that were read
-  others_of : (c : ℕ) (t : Tree) → Spells body bytes t → (read : List Tree) × (others : Tree) × (t ≡ Tree.pair l (rows_then read others)) × ManyLeft rest others
+  pub others_of : (c : ℕ) (t : Tree) → Spells body bytes t → (read : List Tree) × (others : Tree) × (t ≡ Tree.pair l (rows_then read others)) × ManyLeft rest others
       × (walk (ask reply next) c m (rows_then read others) ≡ onto_rows ops (walk (ask reply next) c s others))
   others_of c t p =
       let b = body_is begins t p in

@@ -3,3 +3,4 @@ pub mod Rows
 pub mod Bodies
 pub mod Sections
 pub mod Core
+pub mod Leaves

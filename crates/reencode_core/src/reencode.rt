@@ -1,14 +1,18 @@
 //! What a re-encoder does with each section.
 ghost use Rattle.std.specs.Prelude.{◌≡◌, IsTrue, ℕ};
 ghost use Rattle.wasm_shapes.specs.declared.SectionId.TheVariants as kinds;
+ghost use Rattle.wasm_shapes.specs.Module.{CoreReading, core_module};
+ghost use Rattle.wasm_shapes.specs.Spells.{Spells};
+ghost use Rattle.wasm_shapes.specs.Tree.{visits};
 ghost use Rattle.wasm_read.specs.Types as read;
 ghost use Rattle.wasm_write.specs.Types as write;
-ghost use Rattle.reencode_hooks.specs.Run.{ask};
+ghost use Rattle.reencode_hooks.specs.Run.{LeavesVisited, ask};
 ghost use Rattle.reencode_items.specs.Maps.{Maps};
 ghost use Rattle.reencode_core.specs.Rows.{KeepsFront, GivesRow, GivesRows};
 ghost use Rattle.reencode_core.specs.Bodies.{KeepsCode, GivesLocals, GivesBody};
-ghost use Rattle.reencode_core.specs.Sections.{KeepsModule, row_shape, GivesSection};
+ghost use Rattle.reencode_core.specs.Sections.{KeepsModule, ReadsAs, row_shape, GivesSection};
 ghost use Rattle.reencode_core.specs.Core.{GivesCore, GivesBytes};
+ghost use Rattle.reencode_core.specs.Leaves.{BodyOf, LeavesReading, LocalsOf, RowsOf};
 
 use crate::bodies;
 use crate::errors::placed;
@@ -21,6 +25,9 @@ use wasm_shapes::SectionId;
 use wasm_write as w;
 
 /// What a re-encoder does with each section of a core module.
+///
+/// The clauses `default` and `left` of each method hold where the reencoder keeps the defaults. `left` says that, where it is
+/// sure too, every error leaves the state after a front part of the visits of what was to be read, want of memory too.
 pub trait Reencode: ReencodeItems {
     /// Maps the rows that the reader still has, each by `parse_recursive_type_group`, and adds each row once it is mapped.
     fn parse_type_section(
@@ -32,6 +39,8 @@ pub trait Reencode: ReencodeItems {
         ensures kept { KeepsFront types.old types.new }
         ensures default { IsTrue Self.keeps_defaults → (c : ℕ)
             → GivesRows (ask Self.reply Self.next) c (row_shape kinds.Type_) section.entry self.old types.old self.new types.new result }
+        ensures left { IsTrue Self.keeps_defaults → IsTrue Self.sure
+            → LeavesReading (RowsOf (row_shape kinds.Type_) section.entry) (ask Self.reply Self.next) self.old self.new result }
     {
         bodies::parse_type_section!(self, alloc, types, section)
     }
@@ -44,6 +53,8 @@ pub trait Reencode: ReencodeItems {
     ) -> Result<w::RecGroup, Error<Self::Error>>
         ensures default { IsTrue Self.keeps_defaults
             → Maps Self.reply Self.next self.old (read.group_tree rec_group) write.group_tree self.new result }
+        ensures left { IsTrue Self.keeps_defaults → IsTrue Self.sure
+            → LeavesVisited (ask Self.reply Self.next) self.old (visits (read.group_tree rec_group)) self.new result }
     {
         bodies::parse_recursive_type_group!(self, alloc, rec_group)
     }
@@ -58,6 +69,8 @@ pub trait Reencode: ReencodeItems {
         ensures kept { KeepsFront functions.old functions.new }
         ensures default { IsTrue Self.keeps_defaults → (c : ℕ)
             → GivesRows (ask Self.reply Self.next) c (row_shape kinds.Function) section.entry self.old functions.old self.new functions.new result }
+        ensures left { IsTrue Self.keeps_defaults → IsTrue Self.sure
+            → LeavesReading (RowsOf (row_shape kinds.Function) section.entry) (ask Self.reply Self.next) self.old self.new result }
     {
         bodies::parse_function_section!(self, alloc, functions, section)
     }
@@ -72,6 +85,8 @@ pub trait Reencode: ReencodeItems {
         ensures kept { KeepsFront exports.old exports.new }
         ensures default { IsTrue Self.keeps_defaults → (c : ℕ)
             → GivesRows (ask Self.reply Self.next) c (row_shape kinds.Export) section.entry self.old exports.old self.new exports.new result }
+        ensures left { IsTrue Self.keeps_defaults → IsTrue Self.sure
+            → LeavesReading (RowsOf (row_shape kinds.Export) section.entry) (ask Self.reply Self.next) self.old self.new result }
     {
         bodies::parse_export_section!(self, alloc, exports, section)
     }
@@ -85,6 +100,8 @@ pub trait Reencode: ReencodeItems {
         ensures kept { KeepsFront exports.old exports.new }
         ensures default { IsTrue Self.keeps_defaults → (c : ℕ)
             → GivesRow (ask Self.reply Self.next) c self.old (read.export_tree export.entry) exports.old self.new exports.new result }
+        ensures left { IsTrue Self.keeps_defaults → IsTrue Self.sure
+            → LeavesVisited (ask Self.reply Self.next) self.old (visits (read.export_tree export.entry)) self.new result }
     {
         bodies::parse_export!(self, exports, export)
     }
@@ -100,6 +117,8 @@ pub trait Reencode: ReencodeItems {
         ensures kept { KeepsCode code.old code.new }
         ensures default { IsTrue Self.keeps_defaults
             → GivesRows (ask Self.reply Self.next) code.old.ceiling (row_shape kinds.Code) section.entry self.old code.old.rows self.new code.new.rows result }
+        ensures left { IsTrue Self.keeps_defaults → IsTrue Self.sure
+            → LeavesReading (RowsOf (row_shape kinds.Code) section.entry) (ask Self.reply Self.next) self.old self.new result }
     {
         bodies::parse_code_section!(self, alloc, code, section)
     }
@@ -115,6 +134,8 @@ pub trait Reencode: ReencodeItems {
         ensures kept { KeepsCode code.old code.new }
         ensures default { IsTrue Self.keeps_defaults
             → GivesBody (ask Self.reply Self.next) func.entry.bytes.now self.old code.old self.new code.new result }
+        ensures left { IsTrue Self.keeps_defaults → IsTrue Self.sure
+            → LeavesReading (BodyOf func.entry.bytes.now) (ask Self.reply Self.next) self.old self.new result }
     {
         bodies::parse_function_body!(self, alloc, code, func)
     }
@@ -127,6 +148,8 @@ pub trait Reencode: ReencodeItems {
     ) -> Result<w::Function, Error<Self::Error>>
         ensures default { IsTrue Self.keeps_defaults
             → GivesLocals (ask Self.reply Self.next) func.now.bytes.now self.old self.new result (λ f. f) }
+        ensures left { IsTrue Self.keeps_defaults → IsTrue Self.sure
+            → LeavesReading (LocalsOf func.now.bytes.now) (ask Self.reply Self.next) self.old self.new result }
     {
         bodies::new_function_with_parsed_locals!(self, alloc, func)
     }
@@ -142,6 +165,8 @@ pub trait Reencode: ReencodeItems {
         ensures kept { KeepsModule «module».old «module».new }
         ensures default { IsTrue Self.keeps_defaults
             → GivesSection (ask Self.reply Self.next) id body.now self.old «module».old self.new «module».new result }
+        ensures left { IsTrue Self.keeps_defaults → IsTrue Self.sure
+            → LeavesReading (ReadsAs id body.now) (ask Self.reply Self.next) self.old self.new result }
     {
         bodies::parse_section!(self, alloc, module, id, body)
     }
@@ -156,6 +181,8 @@ pub trait Reencode: ReencodeItems {
         ensures kept { KeepsModule «module».old «module».new }
         ensures default { IsTrue Self.keeps_defaults → IsTrue Self.adds_nothing
             → GivesCore (ask Self.reply Self.next) bytes.now self.old «module».old self.new «module».new result }
+        ensures left { IsTrue Self.keeps_defaults → IsTrue Self.adds_nothing → IsTrue Self.sure
+            → LeavesReading (CoreReading bytes.now) (ask Self.reply Self.next) self.old self.new result }
     {
         bodies::parse_core_module!(self, alloc, module, bytes)
     }
@@ -168,8 +195,10 @@ pub fn reencode_core<R: Reencode>(
     bytes: &[u8],
     ceiling: u32,
 ) -> Result<Vec<u8>, Error<R::Error>>
-    ensures { IsTrue R.keeps_defaults → IsTrue R.adds_nothing
+    ensures default { IsTrue R.keeps_defaults → IsTrue R.adds_nothing
         → GivesBytes (ask R.reply R.next) ceiling bytes.now r.old r.new result (λ v. v.items) }
+    ensures left { IsTrue R.keeps_defaults → IsTrue R.adds_nothing → IsTrue R.sure
+        → LeavesReading (Spells core_module bytes.now) (ask R.reply R.next) r.old r.new result }
 {
     let mut module = w::Module::new(alloc, ceiling)?;
     r.parse_core_module(alloc, &mut module, bytes)?;

@@ -1,14 +1,17 @@
 //! The default bodies of `Reencode`, as functions of any reencoder.
 ghost use Rattle.std.specs.Prelude.{◌≡◌, IsTrue, ℕ};
 ghost use Rattle.wasm_shapes.specs.declared.SectionId.TheVariants as kinds;
+ghost use Rattle.wasm_shapes.specs.Module.{CoreReading};
+ghost use Rattle.wasm_shapes.specs.Tree.{visits};
 ghost use Rattle.wasm_read.specs.Types as read;
 ghost use Rattle.wasm_write.specs.Types as write;
-ghost use Rattle.reencode_hooks.specs.Run.{ask};
+ghost use Rattle.reencode_hooks.specs.Run.{LeavesVisited, ask};
 ghost use Rattle.reencode_items.specs.Maps.{Maps};
 ghost use Rattle.reencode_core.specs.Rows.{KeepsFront, GivesRow, GivesRows};
 ghost use Rattle.reencode_core.specs.Bodies.{KeepsCode, GivesLocals, GivesBody};
-ghost use Rattle.reencode_core.specs.Sections.{KeepsModule, row_shape, GivesSection};
+ghost use Rattle.reencode_core.specs.Sections.{KeepsModule, ReadsAs, row_shape, GivesSection};
 ghost use Rattle.reencode_core.specs.Core.{GivesCore};
+ghost use Rattle.reencode_core.specs.Leaves.{BodyOf, LeavesReading, LocalsOf, RowsOf};
 
 use crate::bodies;
 use crate::errors::placed;
@@ -30,6 +33,8 @@ pub fn parse_type_section<T: Reencode>(
     ensures kept { KeepsFront types.old types.new }
     ensures default { IsTrue T.keeps_defaults → (c : ℕ)
         → GivesRows (ask T.reply T.next) c (row_shape kinds.Type_) section.entry reencoder.old types.old reencoder.new types.new result }
+    ensures left { IsTrue T.keeps_defaults → IsTrue T.sure
+        → LeavesReading (RowsOf (row_shape kinds.Type_) section.entry) (ask T.reply T.next) reencoder.old reencoder.new result }
 {
     bodies::parse_type_section!(reencoder, alloc, types, section)
 }
@@ -42,6 +47,8 @@ pub fn parse_recursive_type_group<T: Reencode>(
 ) -> Result<w::RecGroup, Error<T::Error>>
     ensures default { IsTrue T.keeps_defaults
         → Maps T.reply T.next reencoder.old (read.group_tree rec_group) write.group_tree reencoder.new result }
+    ensures left { IsTrue T.keeps_defaults → IsTrue T.sure
+        → LeavesVisited (ask T.reply T.next) reencoder.old (visits (read.group_tree rec_group)) reencoder.new result }
 {
     bodies::parse_recursive_type_group!(reencoder, alloc, rec_group)
 }
@@ -56,6 +63,8 @@ pub fn parse_function_section<T: Reencode>(
     ensures kept { KeepsFront functions.old functions.new }
     ensures default { IsTrue T.keeps_defaults → (c : ℕ)
         → GivesRows (ask T.reply T.next) c (row_shape kinds.Function) section.entry reencoder.old functions.old reencoder.new functions.new result }
+    ensures left { IsTrue T.keeps_defaults → IsTrue T.sure
+        → LeavesReading (RowsOf (row_shape kinds.Function) section.entry) (ask T.reply T.next) reencoder.old reencoder.new result }
 {
     bodies::parse_function_section!(reencoder, alloc, functions, section)
 }
@@ -70,6 +79,8 @@ pub fn parse_export_section<T: Reencode>(
     ensures kept { KeepsFront exports.old exports.new }
     ensures default { IsTrue T.keeps_defaults → (c : ℕ)
         → GivesRows (ask T.reply T.next) c (row_shape kinds.Export) section.entry reencoder.old exports.old reencoder.new exports.new result }
+    ensures left { IsTrue T.keeps_defaults → IsTrue T.sure
+        → LeavesReading (RowsOf (row_shape kinds.Export) section.entry) (ask T.reply T.next) reencoder.old reencoder.new result }
 {
     bodies::parse_export_section!(reencoder, alloc, exports, section)
 }
@@ -83,6 +94,8 @@ pub fn parse_export<T: Reencode>(
     ensures kept { KeepsFront exports.old exports.new }
     ensures default { IsTrue T.keeps_defaults → (c : ℕ)
         → GivesRow (ask T.reply T.next) c reencoder.old (read.export_tree export.entry) exports.old reencoder.new exports.new result }
+    ensures left { IsTrue T.keeps_defaults → IsTrue T.sure
+        → LeavesVisited (ask T.reply T.next) reencoder.old (visits (read.export_tree export.entry)) reencoder.new result }
 {
     bodies::parse_export!(reencoder, exports, export)
 }
@@ -98,6 +111,8 @@ pub fn parse_code_section<T: Reencode>(
     ensures kept { KeepsCode code.old code.new }
     ensures default { IsTrue T.keeps_defaults
         → GivesRows (ask T.reply T.next) code.old.ceiling (row_shape kinds.Code) section.entry reencoder.old code.old.rows reencoder.new code.new.rows result }
+    ensures left { IsTrue T.keeps_defaults → IsTrue T.sure
+        → LeavesReading (RowsOf (row_shape kinds.Code) section.entry) (ask T.reply T.next) reencoder.old reencoder.new result }
 {
     bodies::parse_code_section!(reencoder, alloc, code, section)
 }
@@ -113,6 +128,8 @@ pub fn parse_function_body<T: Reencode>(
     ensures kept { KeepsCode code.old code.new }
     ensures default { IsTrue T.keeps_defaults
         → GivesBody (ask T.reply T.next) func.entry.bytes.now reencoder.old code.old reencoder.new code.new result }
+    ensures left { IsTrue T.keeps_defaults → IsTrue T.sure
+        → LeavesReading (BodyOf func.entry.bytes.now) (ask T.reply T.next) reencoder.old reencoder.new result }
 {
     bodies::parse_function_body!(reencoder, alloc, code, func)
 }
@@ -125,6 +142,8 @@ pub fn new_function_with_parsed_locals<T: Reencode>(
 ) -> Result<w::Function, Error<T::Error>>
     ensures default { IsTrue T.keeps_defaults
         → GivesLocals (ask T.reply T.next) func.now.bytes.now reencoder.old reencoder.new result (λ f. f) }
+    ensures left { IsTrue T.keeps_defaults → IsTrue T.sure
+        → LeavesReading (LocalsOf func.now.bytes.now) (ask T.reply T.next) reencoder.old reencoder.new result }
 {
     bodies::new_function_with_parsed_locals!(reencoder, alloc, func)
 }
@@ -140,6 +159,8 @@ pub fn parse_section<T: Reencode>(
     ensures kept { KeepsModule «module».old «module».new }
     ensures default { IsTrue T.keeps_defaults
         → GivesSection (ask T.reply T.next) id body.now reencoder.old «module».old reencoder.new «module».new result }
+    ensures left { IsTrue T.keeps_defaults → IsTrue T.sure
+        → LeavesReading (ReadsAs id body.now) (ask T.reply T.next) reencoder.old reencoder.new result }
 {
     bodies::parse_section!(reencoder, alloc, module, id, body)
 }
@@ -154,6 +175,8 @@ pub fn parse_core_module<T: Reencode>(
     ensures kept { KeepsModule «module».old «module».new }
     ensures default { IsTrue T.keeps_defaults → IsTrue T.adds_nothing
         → GivesCore (ask T.reply T.next) bytes.now reencoder.old «module».old reencoder.new «module».new result }
+    ensures left { IsTrue T.keeps_defaults → IsTrue T.adds_nothing → IsTrue T.sure
+        → LeavesReading (CoreReading bytes.now) (ask T.reply T.next) reencoder.old reencoder.new result }
 {
     bodies::parse_core_module!(reencoder, alloc, module, bytes)
 }

@@ -1,8 +1,8 @@
-use Rattle.std.proofs.Common.{◌≡◌, ◌+◌, ◌++◌, List, refl, arith}
+use Rattle.std.proofs.Common.{refl, arith}
 use Rattle.std.proofs.lemmas.Grind.{common_steps}
 use Rattle.std.proofs.lemmas.Result.{err_from_is_err_and}
-use Rattle.reencode_hooks.specs.Run.{ask}
 use Rattle.reencode_core.proofs.RowLoop.{rows_begin, rows_more, rows_all, rows_unread, row_refused, none_or_wants, kept_on}
+use Rattle.reencode_core.proofs.Leaving.{reading_left, rows_leave_none, rows_leave_next}
 use Rattle.reencode_core.proofs.utils.parse_export_section.Goals as goal
 
 pub rows-init : goal.rows-init
@@ -32,3 +32,11 @@ pub returns-in-None-clause-default : goal.returns-in-None-clause-default
 returns-in-None-clause-default g c =
     let ended = rw c.in-None.is at c.in_ok-export.ensures.ended in
     λ k n. rows_all _ (c.rows.invariant.default k n) ended
+
+pub returns-in_err-export-clause-left : goal.returns-in_err-export-clause-left
+returns-in_err-export-clause-left g c = λ k sure. reading_left _ (rows_leave_none (c.rows.invariant.default k 0))
+
+pub returns-in_err-parse_export-in-Some-clause-left : goal.returns-in_err-parse_export-in-Some-clause-left
+returns-in_err-parse_export-in-Some-clause-left g c =
+    let row = rw c.in-Some.is at c.in_ok-export.ensures.row in
+    λ k sure. reading_left _ (rows_leave_next (c.rows.invariant.default k 0) refl refl row (c.in_err-parse_export-in-Some.ensures.left k sure))

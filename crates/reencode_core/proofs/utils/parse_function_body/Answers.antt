@@ -1,10 +1,12 @@
-use Rattle.std.proofs.Common.{◌≡◌, ◌≢◌, ◌∙◌, [], ℕ, ap, refl, sym}
+use Rattle.std.proofs.Common.{◌∙◌, ap, refl}
 use Rattle.std.proofs.lemmas.Result.{err_from_is_err_and}
 use Rattle.wasm_read.specs.Operations.{rest_of}
 use Rattle.wasm_write.specs.Bodies.{Body}
 use Rattle.wasm_write.specs.Instructions.{instruction_tree}
 use Rattle.reencode_hooks.specs.Run.{ask}
 use Rattle.reencode_core.proofs.WholeBody.{body_locals_refused, body_given, body_not_added, operator_err, operators_none, operators_on, some_left, none_left}
+use Rattle.reencode_items.proofs.Leaving.{accepted_visited}
+use Rattle.reencode_core.proofs.Leaving.{body_leaves_locals, body_leaves_none, body_leaves_next, body_leaves_operator, reading_left}
 use Rattle.reencode_core.proofs.utils.parse_function_body.Goals as goal
 
 pub returns-in_err-function-clause-default : goal.returns-in_err-function-clause-default
@@ -56,3 +58,24 @@ returns-clause-default g c =
     let begins = c.in_ok-reader.ensures.ok.1 in
     let none = none_left c.eof.result (rest_of c.operators.reader) c.eof.ensures c.operators-test.false in
     λ k. body_given i.reply i.next _ _ _ _ _ _ begins (c.in_ok-function.ensures.default k) (inv.default k) _ _ none inv.locals refl c.in_ok-function-2.ensures.ok c.in_ok-function-2.ensures.fits.0
+
+pub returns-in_err-function-clause-left : goal.returns-in_err-function-clause-left
+returns-in_err-function-clause-left g c = λ k sure. reading_left _ (body_leaves_locals (c.in_err-function.ensures.left k sure))
+
+pub returns-in_err-reader-clause-left : goal.returns-in_err-reader-clause-left
+returns-in_err-reader-clause-left g c = λ k sure. reading_left _ (body_leaves_locals (λ t p. accepted_visited 0 t ((c.in_ok-function.ensures.default k).reading 0 t p.0 p.1)))
+
+pub returns-in_err-instruction-clause-left : goal.returns-in_err-instruction-clause-left
+returns-in_err-instruction-clause-left g c =
+    let begins = c.in_ok-reader.ensures.ok.1 in
+    λ k sure. reading_left _ (body_leaves_operator begins ((c.in_ok-function.ensures.default k).reading 0 _ _ begins) (c.operators.invariant.default k 0) c.operators.reader refl (c.in_err-instruction.ensures.left k sure))
+
+pub returns-in_err-instruction-2-clause-left : goal.returns-in_err-instruction-2-clause-left
+returns-in_err-instruction-2-clause-left g c =
+    let begins = c.in_ok-reader.ensures.ok.1 in
+    λ k sure. let q = c.in_ok-instruction.ensures.default k in reading_left _ (body_leaves_next begins ((c.in_ok-function.ensures.default k).reading 0 _ _ begins) (c.operators.invariant.default k 0) q.begins (accepted_visited 0 q.operator (q.maps 0)))
+
+pub returns-in_err-function-2-clause-left : goal.returns-in_err-function-2-clause-left
+returns-in_err-function-2-clause-left g c =
+    let begins = c.in_ok-reader.ensures.ok.1 in
+    λ k sure. reading_left _ (body_leaves_none begins ((c.in_ok-function.ensures.default k).reading 0 _ _ begins) (c.operators.invariant.default k 0))

@@ -1,9 +1,12 @@
-use Rattle.std.proofs.Common.{◌≡◌, ◌∙◌, ap}
+use Rattle.std.proofs.Common.{◌∙◌, ap}
 use Rattle.wasm_write.specs.Bodies.{CodeRows}
 use Rattle.reencode_core.proofs.RowLoop.{at_ceiling}
 use Rattle.std.proofs.lemmas.Result.{err_from_is_err_and}
 use Rattle.reencode_core.proofs.Known.{types_in_force, functions_in_force, exports_in_force, code_in_force, other_shape, keeps_same}
 use Rattle.reencode_core.proofs.OneSection.{rows_stop, section_given, section_not_given, not_in_force}
+use Rattle.wasm_shapes.specs.declared.SectionId.TheVariants as kinds
+use Rattle.reencode_items.proofs.Leaving.{none_visited}
+use Rattle.reencode_core.proofs.Leaving.{reading_left, section_leaves, section_leaves_all}
 use Rattle.reencode_core.proofs.utils.parse_section.Goals as goal
 
 pub returns-in_err-parse_type_section-in-Type_-clause-default : goal.returns-in_err-parse_type_section-in-Type_-clause-default
@@ -85,4 +88,48 @@ returns-in_ok-section-in-Code-clause-default g c =
 pub returns-in_default : goal.returns-in_default
 returns-in_default g c =
     let o = c.in_default in
-    record { kept = keeps_same _; default = λ k. not_in_force _ _ _ _ _ (other_shape _ o.not-Type_ o.not-Function o.not-Export o.not-Code) }
+    record { kept = keeps_same _; default = λ k. not_in_force _ _ _ _ _ (other_shape _ o.not-Type_ o.not-Function o.not-Export o.not-Code); left = λ k sure t p. none_visited _ _ }
+
+pub returns-in_err-rows-in-Type_-clause-left : goal.returns-in_err-rows-in-Type_-clause-left
+returns-in_err-rows-in-Type_-clause-left g c = λ k sure. reading_left _ (λ t p. none_visited _ _)
+
+pub returns-in_err-parse_type_section-in-Type_-clause-left : goal.returns-in_err-parse_type_section-in-Type_-clause-left
+returns-in_err-parse_type_section-in-Type_-clause-left g c =
+    rw c.in-Type_.is (λ k sure. reading_left _ (section_leaves kinds.Type_ types_in_force c.in_ok-rows-in-Type_.ensures.ok (c.in_err-parse_type_section-in-Type_.ensures.left k sure)))
+
+pub returns-in_err-section-in-Type_-clause-left : goal.returns-in_err-section-in-Type_-clause-left
+returns-in_err-section-in-Type_-clause-left g c =
+    rw c.in-Type_.is (λ k sure. reading_left _ (section_leaves_all kinds.Type_ types_in_force c.in_ok-rows-in-Type_.ensures.ok (c.in_ok-parse_type_section-in-Type_.ensures.default k 0)))
+
+pub returns-in_err-rows-in-Function-clause-left : goal.returns-in_err-rows-in-Function-clause-left
+returns-in_err-rows-in-Function-clause-left g c = λ k sure. reading_left _ (λ t p. none_visited _ _)
+
+pub returns-in_err-parse_function_section-in-Function-clause-left : goal.returns-in_err-parse_function_section-in-Function-clause-left
+returns-in_err-parse_function_section-in-Function-clause-left g c =
+    rw c.in-Function.is (λ k sure. reading_left _ (section_leaves kinds.Function functions_in_force c.in_ok-rows-in-Function.ensures.ok (c.in_err-parse_function_section-in-Function.ensures.left k sure)))
+
+pub returns-in_err-section-in-Function-clause-left : goal.returns-in_err-section-in-Function-clause-left
+returns-in_err-section-in-Function-clause-left g c =
+    rw c.in-Function.is (λ k sure. reading_left _ (section_leaves_all kinds.Function functions_in_force c.in_ok-rows-in-Function.ensures.ok (c.in_ok-parse_function_section-in-Function.ensures.default k 0)))
+
+pub returns-in_err-rows-in-Export-clause-left : goal.returns-in_err-rows-in-Export-clause-left
+returns-in_err-rows-in-Export-clause-left g c = λ k sure. reading_left _ (λ t p. none_visited _ _)
+
+pub returns-in_err-parse_export_section-in-Export-clause-left : goal.returns-in_err-parse_export_section-in-Export-clause-left
+returns-in_err-parse_export_section-in-Export-clause-left g c =
+    rw c.in-Export.is (λ k sure. reading_left _ (section_leaves kinds.Export exports_in_force c.in_ok-rows-in-Export.ensures.ok (c.in_err-parse_export_section-in-Export.ensures.left k sure)))
+
+pub returns-in_err-section-in-Export-clause-left : goal.returns-in_err-section-in-Export-clause-left
+returns-in_err-section-in-Export-clause-left g c =
+    rw c.in-Export.is (λ k sure. reading_left _ (section_leaves_all kinds.Export exports_in_force c.in_ok-rows-in-Export.ensures.ok (c.in_ok-parse_export_section-in-Export.ensures.default k 0)))
+
+pub returns-in_err-rows-in-Code-clause-left : goal.returns-in_err-rows-in-Code-clause-left
+returns-in_err-rows-in-Code-clause-left g c = λ k sure. reading_left _ (λ t p. none_visited _ _)
+
+pub returns-in_err-parse_code_section-in-Code-clause-left : goal.returns-in_err-parse_code_section-in-Code-clause-left
+returns-in_err-parse_code_section-in-Code-clause-left g c =
+    rw c.in-Code.is (λ k sure. reading_left _ (section_leaves kinds.Code code_in_force c.in_ok-rows-in-Code.ensures.ok (c.in_err-parse_code_section-in-Code.ensures.left k sure)))
+
+pub returns-in_err-section-in-Code-clause-left : goal.returns-in_err-section-in-Code-clause-left
+returns-in_err-section-in-Code-clause-left g c =
+    rw c.in-Code.is (λ k sure. reading_left _ (section_leaves_all kinds.Code code_in_force c.in_ok-rows-in-Code.ensures.ok (c.in_ok-parse_code_section-in-Code.ensures.default k)))

@@ -1,8 +1,8 @@
-use Rattle.std.proofs.Common.{◌≡◌, ◌∙◌, ap, refl}
-use Rattle.std.proofs.lemmas.Grind.{common_steps}
+use Rattle.std.proofs.Common.{◌∙◌}
 use Rattle.std.proofs.lemmas.Result.{err_from_is_err_and}
-use Rattle.reencode_core.proofs.RowLoop.{rows_begin, rows_all, rows_unread, none_or_wants, kept_on}
-use Rattle.reencode_core.proofs.BodyLoop.{body_more, body_err, code_missing, keeps_code, frames_unread}
+use Rattle.reencode_core.proofs.RowLoop.{rows_begin, rows_all, kept_on}
+use Rattle.reencode_core.proofs.BodyLoop.{body_more, body_err, keeps_code, frames_unread}
+use Rattle.reencode_core.proofs.Leaving.{code_leaves_next, reading_left, rows_leave_none}
 use Rattle.reencode_core.proofs.reencode.Reencode.parse_code_section.Goals as goal
 
 pub rows-init : goal.rows-init
@@ -35,3 +35,11 @@ pub returns-in-None-clause-default : goal.returns-in-None-clause-default
 returns-in-None-clause-default g c =
     let ended = rw c.in-None.is at c.in_ok-func.ensures.ended in
     λ k. rows_all _ (c.rows.invariant.default k) ended
+
+pub returns-in_err-func-clause-left : goal.returns-in_err-func-clause-left
+returns-in_err-func-clause-left g c = λ k sure. reading_left _ (rows_leave_none (c.rows.invariant.default k))
+
+pub returns-in-Err-clause-left : goal.returns-in-Err-clause-left
+returns-in-Err-clause-left g c =
+    let row = rw c.in-Some.is at c.in_ok-func.ensures.row in
+    λ k sure. code_leaves_next (c.rows.invariant.default k) row (c.in-Err.ensures.left k sure)

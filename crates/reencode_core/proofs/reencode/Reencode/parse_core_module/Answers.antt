@@ -1,7 +1,9 @@
-use Rattle.std.proofs.Common.{◌-◌, ◌∙◌, ap, ℕ, length, refl, Ok, Err, Some, None}
+use Rattle.std.proofs.Common.{◌-◌, ◌∙◌, ap, ℕ, length, refl, Some}
 use Rattle.std.proofs.lemmas.Result.{err_from_is_err_and}
 use Rattle.reencode_core.proofs.Known.{keeps_same, keeps_more, hook_keeps, none_custom, none_unknown, some_begun}
-use Rattle.reencode_core.proofs.CoreLoop.{sections_begin, sections_more, section_err, no_section, no_frame, hook_refused, hook_ok, hook_err, hook_kept, hook_usual, end_given, header_wrong}
+use Rattle.reencode_core.proofs.CoreLoop.{core_leaves_hook, core_leaves_inside, core_leaves_none, end_left, sections_begin, sections_more, section_err, no_section, no_frame, hook_refused, hook_ok, hook_err, hook_kept, hook_usual, end_given, header_wrong}
+use Rattle.reencode_items.proofs.Leaving.{never_wants, none_visited}
+use Rattle.reencode_core.proofs.Leaving.{reading_left}
 use Rattle.reencode_core.proofs.reencode.Reencode.parse_core_module.Goals as goal
 
 pub returns-in_err-payloads-clause-default : goal.returns-in_err-payloads-clause-default
@@ -88,3 +90,44 @@ returns-in-None-clause-default g c =
     λ k n.
     end_given i.reply i.next i.adds i.adds_nothing keeps n c.in_ok-payloads.ensures.ok.stands (c.sections.invariant.default k n) ended.0
     _ _ c.intersperse_section_hook-in-None.result c.intersperse_section_hook-in-None.ensures.answer
+
+pub returns-in_err-payloads-clause-left : goal.returns-in_err-payloads-clause-left
+returns-in_err-payloads-clause-left g c = λ k n sure. reading_left _ (λ t p. none_visited _ _)
+
+pub returns-in_err-id-clause-left : goal.returns-in_err-id-clause-left
+returns-in_err-id-clause-left g c = λ k n sure. reading_left _ (core_leaves_none _ c.in_ok-payloads.ensures.ok.stands (c.sections.invariant.default k n))
+
+pub returns-in_err-intersperse_section_hook-in-Some-Section-clause-left : goal.returns-in_err-intersperse_section_hook-in-Some-Section-clause-left
+returns-in_err-intersperse_section_hook-in-Some-Section-clause-left g c =
+    let i = g.Self.ReencodeIndices in
+    let keeps = g.met.Self.ReencodeIndices.adds_ok in
+    let read = c.in_ok-payloads.ensures.ok in
+    let frame = rw (c.in-Some-Section.is, c.in-Some-Section.field-0-is) at c.in_ok-id.ensures.some in
+    let hook = c.in_err-intersperse_section_hook-in-Some-Section.ensures in
+    λ k n sure. reading_left _ (core_leaves_hook _ read.stands (c.sections.invariant.default k n) c.in-Some-Section.id frame
+    (hook_err i.reply i.next i.adds i.adds_nothing keeps n _ _ _ _ _ _ _ hook.answer (never_wants _ hook.sure sure)))
+
+pub returns-in-Err-clause-left : goal.returns-in-Err-clause-left
+returns-in-Err-clause-left g c =
+    let i = g.Self.ReencodeIndices in
+    let keeps = g.met.Self.ReencodeIndices.adds_ok in
+    let read = c.in_ok-payloads.ensures.ok in
+    let frame = rw (c.in-Some-Section.is, c.in-Some-Section.field-0-is) at c.in_ok-id.ensures.some in
+    let hook = c.in_ok-intersperse_section_hook-in-Some-Section.ensures.answer in
+    λ k n sure. core_leaves_inside _ read.stands (c.sections.invariant.default k n) c.in-Some-Section.id frame
+    (hook_ok i.reply i.next i.adds i.adds_nothing keeps n _ _ _ _ _ _ _ hook).0 (c.in-Err.ensures.left k sure)
+
+pub returns-in-Some-Custom-clause-left : goal.returns-in-Some-Custom-clause-left
+returns-in-Some-Custom-clause-left g c = λ k n sure. core_leaves_none _ c.in_ok-payloads.ensures.ok.stands (c.sections.invariant.default k n)
+
+pub returns-in-Some-Unknown-clause-left : goal.returns-in-Some-Unknown-clause-left
+returns-in-Some-Unknown-clause-left g c = λ k n sure. core_leaves_none _ c.in_ok-payloads.ensures.ok.stands (c.sections.invariant.default k n)
+
+pub returns-in-None-clause-left : goal.returns-in-None-clause-left
+returns-in-None-clause-left g c =
+    let i = g.Self.ReencodeIndices in
+    let keeps = g.met.Self.ReencodeIndices.adds_ok in
+    let ended = rw c.in-None.is at c.in_ok-id.ensures.ended in
+    let hook = c.intersperse_section_hook-in-None.ensures in
+    λ k n sure. end_left i.reply i.next i.adds i.adds_nothing keeps n c.in_ok-payloads.ensures.ok.stands (c.sections.invariant.default k n) ended.0
+    _ _ c.intersperse_section_hook-in-None.result hook.answer hook.sure sure

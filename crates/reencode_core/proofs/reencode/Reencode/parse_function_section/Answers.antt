@@ -1,4 +1,4 @@
-use Rattle.std.proofs.Common.{◌≡◌, ◌+◌, ◌++◌, List, refl, arith, inl}
+use Rattle.std.proofs.Common.{refl, arith, inl}
 use Rattle.std.proofs.lemmas.Grind.{common_steps}
 use Rattle.std.proofs.lemmas.Result.{err_from_is_err_and}
 use Rattle.wasm_shapes.specs.declared.Space.TheVariants as space
@@ -7,6 +7,8 @@ use Rattle.wasm_read.specs.Types.{function_tree}
 use Rattle.reencode_hooks.specs.Run.{ask}
 use Rattle.reencode_core.proofs.Usual.{usual_ask, stops_usual, write_usual}
 use Rattle.reencode_core.proofs.RowLoop.{rows_begin, rows_more, rows_all, rows_unread, rows_refused, none_or_wants, too_many, ix_accepted, ix_refused}
+use Rattle.reencode_items.proofs.Leaving.{accepted_visited, hook_visited}
+use Rattle.reencode_core.proofs.Leaving.{reading_left, rows_leave_none, rows_leave_next}
 use Rattle.reencode_core.proofs.reencode.Reencode.parse_function_section.Goals as goal
 
 pub rows-init : goal.rows-init
@@ -48,3 +50,19 @@ pub returns-in-None-clause-default : goal.returns-in-None-clause-default
 returns-in-None-clause-default g c =
     let ended = rw c.in-None.is at c.in_ok-index.ensures.ended in
     λ k n. rows_all _ (c.rows.invariant.default k n) ended
+
+pub returns-in_err-index-clause-left : goal.returns-in_err-index-clause-left
+returns-in_err-index-clause-left g c = λ k sure. reading_left _ (rows_leave_none (c.rows.invariant.default k 0))
+
+pub returns-in_err-index-in-Some-clause-left : goal.returns-in_err-index-in-Some-clause-left
+returns-in_err-index-in-Some-clause-left g c =
+    let read = rw c.in-Some.is at c.in_ok-index.ensures.row in
+    let gone = c.in_err-index-in-Some.ensures in
+    λ k sure. reading_left _ (rows_leave_next (c.rows.invariant.default k 0) refl refl read (hook_visited g.Self.ReencodeIndices.reply g.Self.ReencodeIndices.next (Index space.Type_ c.in-Some.index) _ gone.answer gone.sure sure))
+
+pub returns-in_err-function-in-Some-clause-left : goal.returns-in_err-function-in-Some-clause-left
+returns-in_err-function-in-Some-clause-left g c =
+    let i = g.Self.ReencodeIndices in
+    let read = rw c.in-Some.is at c.in_ok-index.ensures.row in
+    λ k sure. reading_left _ (rows_leave_next (c.rows.invariant.default k 0) refl refl read (accepted_visited 0 (function_tree c.in-Some.index)
+    (ix_accepted (ask i.reply i.next) 0 _ _ space.Type_ _ _ c.in_ok-index-in-Some.ensures.answer)))

@@ -1,4 +1,4 @@
-use Rattle.std.proofs.Common.{◌≡◌, ◌+◌, ◌++◌, List, refl, arith, inl}
+use Rattle.std.proofs.Common.{refl, arith, inl}
 use Rattle.std.proofs.lemmas.Grind.{common_steps}
 use Rattle.std.proofs.lemmas.Result.{err_from_is_err_and}
 use Rattle.wasm_read.specs.Types as read
@@ -6,6 +6,8 @@ use Rattle.wasm_write.specs.Types as write
 use Rattle.reencode_hooks.specs.Run.{ask}
 use Rattle.reencode_core.proofs.Usual.{usual_walk, stops_usual, write_usual}
 use Rattle.reencode_core.proofs.RowLoop.{rows_begin, rows_more, rows_all, rows_unread, rows_refused, row_too_many}
+use Rattle.reencode_items.proofs.Leaving.{accepted_visited}
+use Rattle.reencode_core.proofs.Leaving.{reading_left, rows_leave_none, rows_leave_next}
 use Rattle.reencode_core.proofs.reencode.Reencode.parse_type_section.Goals as goal
 
 pub rows-init : goal.rows-init
@@ -46,3 +48,16 @@ pub returns-in-None-clause-default : goal.returns-in-None-clause-default
 returns-in-None-clause-default g c =
     let ended = rw c.in-None.is at c.in_ok-group.ensures.ended in
     λ k n. rows_all _ (c.rows.invariant.default k n) ended
+
+pub returns-in_err-group-clause-left : goal.returns-in_err-group-clause-left
+returns-in_err-group-clause-left g c = λ k sure. reading_left _ (rows_leave_none (c.rows.invariant.default k 0))
+
+pub returns-in_err-group-in-Some-clause-left : goal.returns-in_err-group-in-Some-clause-left
+returns-in_err-group-in-Some-clause-left g c =
+    let row = rw c.in-Some.is at c.in_ok-group.ensures.row in
+    λ k sure. reading_left _ (rows_leave_next (c.rows.invariant.default k 0) refl refl row (c.in_err-group-in-Some.ensures.left k sure))
+
+pub returns-in_err-group-in-Some-2-clause-left : goal.returns-in_err-group-in-Some-2-clause-left
+returns-in_err-group-in-Some-2-clause-left g c =
+    let row = rw c.in-Some.is at c.in_ok-group.ensures.row in
+    λ k sure. reading_left _ (rows_leave_next (c.rows.invariant.default k 0) refl refl row (accepted_visited 0 (read.group_tree c.in-Some.group) (c.in_ok-group-in-Some.ensures.default k 0)))
