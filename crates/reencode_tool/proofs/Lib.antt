@@ -1,4 +1,2 @@
 pub mod OutsideLemmas
 pub mod AnswerLemmas
-pub mod CopyLemmas
-pub mod PlainLemmas
