@@ -1,2 +1,4 @@
 pub mod OutsideLemmas
 pub mod AnswerLemmas
+pub mod Shortest
+pub mod Blank
