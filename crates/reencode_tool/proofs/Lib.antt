@@ -2,3 +2,5 @@ pub mod OutsideLemmas
 pub mod AnswerLemmas
 pub mod Shortest
 pub mod Blank
+pub mod Refusals
+pub mod Outcomes
