@@ -1,15 +1,13 @@
 -- Function bodies: their locals, their operators and their frames.
-use Rattle.std.proofs.Common.{◌≡◌, ◌≢◌, ℕ, suc, ◌+◌, ◌-◌, ◌<◌, ◌≤◌, ◌^◌, List, [], ◌∷◌, ◌++◌, length, length-append, map, drop, take, Bool, true, false, Result, Ok, Err, refl, sym, ap, ◌∙◌, append_assoc, append-nil, arith, subst, ◌⊎◌, inl, inr}
-use Rattle.std.proofs.lemmas.List.{append_cancel_left, length-drop}
-use Rattle.wasm_leb.specs.Place.{BeginsNumber}
+use Rattle.std.proofs.Common.{◌≡◌, ◌≢◌, ℕ, ◌-◌, ◌<◌, ◌≤◌, List, [], ◌∷◌, ◌++◌, length, true, Result, Ok, Err, refl, sym, ap, ◌∙◌, arith, subst, ◌⊎◌, inl, inr}
+use Rattle.std.proofs.lemmas.List.{append_cancel_left}
 use Rattle.wasm_shapes.specs.declared.Visit.{Visit}
-use Rattle.wasm_shapes.specs.Tree.{Tree, count, normal}
-use Rattle.wasm_shapes.specs.Shape.{Shape, closed}
-use Rattle.wasm_shapes.specs.Sound.{sound, nullable}
+use Rattle.wasm_shapes.specs.Tree.{Tree, normal}
+use Rattle.wasm_shapes.specs.Shape.{Shape}
 use Rattle.wasm_shapes.specs.Spells.{Is, Spelled, Spells}
 use Rattle.wasm_shapes.specs.Place.{Begins, BeginsNone}
-use Rattle.wasm_shapes.specs.Rows.{RowsLeft, NoRows, rows_then}
-use Rattle.wasm_shapes.specs.Module.{local_row, body, code_row}
+use Rattle.wasm_shapes.specs.Rows.{NoRows, rows_then}
+use Rattle.wasm_shapes.specs.Module.{body, code_row}
 use Rattle.wasm_shapes.proofs.Unique.{unique}
 use Rattle.wasm_shapes.proofs.Begins.{none_at_end}
 use Rattle.wasm_shapes.proofs.Rows.{no_row, no_rows_behind, rows_then-append}
@@ -21,14 +19,14 @@ use Rattle.reencode_hooks.specs.Errors.{error_of_fault}
 use Rattle.std.proofs.Math.Seq.{take-length}
 use Rattle.wasm_write.specs.Bodies.{CodeRows}
 use Rattle.reencode_hooks.specs.declared.error.Error.{Error}
-use Rattle.reencode_hooks.specs.declared.error.Error.TheVariants.{CanonicalizedHeapTypeReference, InvalidConstExpr, InvalidCodeSectionSize, UnexpectedNonCoreModuleSection, UnexpectedNonComponentSection, UnsupportedCoreTypeInComponent, ParseError, UserError, TooLarge, NoMemory}
+use Rattle.reencode_hooks.specs.declared.error.Error.TheVariants.{ParseError, UserError, TooLarge, NoMemory}
 use Rattle.reencode_hooks.specs.Run.{Step, accepted, refused, and_then, ask}
 use Rattle.reencode_hooks.specs.Walk.{walk}
-use Rattle.reencode_core.specs.Errors.{IfParse, placed_at}
-use Rattle.reencode_core.specs.Rows.{Asks, onto_rows, AcceptsRows, RowsBefore, GivesRow, GivesRows}
-use Rattle.reencode_core.proofs.RowLoop.{RowsDone, rows_more, before_more, onto_nothing, one_onto, rows_unread, rows_faulty, rows_refused_if}
+use Rattle.reencode_core.specs.Errors.{IfParse, IfRefused, placed_at}
+use Rattle.reencode_core.specs.Rows.{Asks, onto_rows, AcceptsRows, RowsBefore, GivesRow, locals, StopsBody, RefusesWhole, RefusesInside, GivesRows}
+use Rattle.reencode_core.proofs.RowLoop.{RowsDone, rows_more, before_more, onto_nothing, one_onto, rows_unread, rows_faulty, rows_refused_if, large_is_many}
 use Rattle.reencode_core.proofs.Known.{closed_fits, closed_large}
-use Rattle.reencode_core.specs.Bodies.{locals, KeepsCode, GivesBody}
+use Rattle.reencode_core.specs.Bodies.{KeepsCode, GivesBody}
 
 -- ---- frames and bodies
 
@@ -240,6 +238,24 @@ module _ {S E : Type 0} (reply : S → Visit → Result ℕ E) (next : S → Vis
   pub body_err : (e : Error E) (at : ℕ) → GivesBody (ask reply next) bytes s mid s' new (Err e) → at ≡ place_of reader → GivesRows (ask reply next) c code_row start s0 old s' new.rows (Err (placed_at e at))
   body_err e at g place = go e g
     where
+      -- where the body has a reading, its row stands whole
+      inside : (e : Error E) → GivesBody (ask reply next) bytes s mid s' new (Err e) → e ≢ NoMemory → ((t : Tree) × Spells body bytes t) ⊎ StopsBody (ask reply next) mid.ceiling bytes s e s' →
+          RefusesWhole (ask reply next) c code_row reader.rest s (length mid.rows) e s' ⊎ RefusesInside (ask reply next) c code_row reader.rest s e s'
+      inside e g other (inl q) =
+          let here = code_begins r.begins q.1 in
+          let N : ℕ → Type 0 = λ n. GivesRow (ask reply next) n s (Tree.sized q.0) mid.rows s' new.rows (Err e) in
+          let given = subst N same (g.reading q.0 q.1) in
+          inl (record { tree = Tree.sized q.0; left = reader'.rest; begins = here; refusal = large_is_many (ask reply next) c s s' (Tree.sized q.0) here.text (length mid.rows) e here.spells.spelled (given.1 other) })
+      inside e g other (inr q) =
+          let N : ℕ → Type 0 = λ n. StopsBody (ask reply next) n bytes s e s' in
+          inr (record { framed = refl; body = bytes; left = reader'.rest; begins = r.begins; stops = subst N same q })
+
+      refuses : (e : Error E) → GivesBody (ask reply next) bytes s mid s' new (Err e) →
+          IfRefused e (RefusesWhole (ask reply next) c code_row reader.rest s (length mid.rows) e s' ⊎ RefusesInside (ask reply next) c code_row reader.rest s e s')
+      refuses (UserError x) g = inside (UserError x) g (λ q. cc) g.refusal
+      refuses (TooLarge x) g = inside (TooLarge x) g (λ q. cc) g.refusal
+      refuses _ g = tt
+
       refusal : (e : Error E) → GivesBody (ask reply next) bytes s mid s' new (Err e) → IfParse e (λ at. ⊥) → GivesRows (ask reply next) c code_row start s0 old s' new.rows (Err e)
       refusal e g usual =
           let less = r.counted in
@@ -248,7 +264,7 @@ module _ {S E : Type 0} (reply : S → Visit → Result ℕ E) (next : S → Vis
           let q = g.reading f.0 f.2 in
           let P : Tree → Type 0 = λ z. GivesRow (ask reply next) c s z mid.rows s' new.rows (Err e) in
           let N : ℕ → Type 0 = λ n. GivesRow (ask reply next) n s (Tree.sized f.0) mid.rows s' new.rows (Err e) in
-          subst P (sym f.1) (subst N same q)) (ap CodeRows.rows g.unchanged) usual
+          subst P (sym f.1) (subst N same q)) (ap CodeRows.rows g.unchanged) usual (refuses e g)
 
       go : (e : Error E) → GivesBody (ask reply next) bytes s mid s' new (Err e) → GivesRows (ask reply next) c code_row start s0 old s' new.rows (Err (placed_at e at))
       go (ParseError x) g = rows_faulty reply next d at (code_unread r g.unreadable.0) place g.unreadable.2 (ap CodeRows.rows g.unchanged)

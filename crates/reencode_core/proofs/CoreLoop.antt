@@ -10,24 +10,26 @@ use Rattle.wasm_shapes.specs.declared.Visit.TheVariants.{Section}
 use Rattle.wasm_shapes.specs.Tree.{Tree, kind, normal}
 use Rattle.wasm_shapes.specs.Spells.{Is, Spelled, Spells}
 use Rattle.wasm_shapes.specs.Place.{Begins, BeginsNone}
+use Rattle.wasm_shapes.specs.Rows.{rows_then}
 use Rattle.wasm_shapes.specs.Module.{core_header, component_header, section, sections, frame, alsos, CoreReading, FaultAt}
 use Rattle.wasm_shapes.proofs.Unique.{unique}
 use Rattle.wasm_shapes.proofs.Begins.{none_at_end}
 use Rattle.wasm_shapes.proofs.Framing.{none_section}
 use Rattle.wasm_read.specs.Frames.{section_number, numbered_frame, NoCoreHeader}
 use Rattle.wasm_read.specs.Reading.{ReadsNone}
-use Rattle.wasm_write.specs.Sections.{Sections, SectionRow, section_row, section_bytes, sections_bytes, with_section}
+use Rattle.wasm_write.specs.Sections.{Sections, SectionRow, section_row, section_bytes, sections_bytes}
 use Rattle.reencode_hooks.specs.declared.error.Error.{Error}
 use Rattle.reencode_hooks.specs.declared.error.Error.TheVariants.{CanonicalizedHeapTypeReference, InvalidConstExpr, InvalidCodeSectionSize, UnexpectedNonCoreModuleSection, UnexpectedNonComponentSection, UnsupportedCoreTypeInComponent, ParseError, UserError, TooLarge, NoMemory}
 use Rattle.reencode_hooks.specs.Errors.{error_of_fault}
 use Rattle.reencode_hooks.specs.Run.{Step, accepted, refused, and_then, ask}
 use Rattle.reencode_hooks.specs.Walk.{walk, walk_from, announced}
 use Rattle.reencode_hooks.specs.Hooks.{RepliesSection, KeepsAdds, Gains}
-use Rattle.reencode_core.specs.Errors.{IfParse, placed_at}
-use Rattle.reencode_core.specs.Rows.{Asks}
-use Rattle.reencode_core.specs.Sections.{section_tree, ReadsAs, BodyFault, GivesSection}
-use Rattle.reencode_core.specs.Core.{hooked, onto, AcceptsSections, RefusesNext, StopsSections, GivesModule, NoHeader, RefusedIn, AcceptedAll, BeforeFault, IsCause, GivesCore}
-use Rattle.reencode_core.proofs.Usual.{IfParse-map, usual_ask, stops_usual}
+use Rattle.reencode_core.specs.Errors.{IfParse, IfRefused, placed_at}
+use Rattle.reencode_core.specs.Rows.{Asks, Further}
+use Rattle.reencode_core.specs.Sections.{section_tree, ReadsAs, BodyFault, StopsSection, GivesSection}
+use Rattle.reencode_core.specs.Core.{hooked, onto, AcceptsSections, RefusesNext, StopsSections, GivesModule, RefusedIn, StopsInside, BeforeFault, IsCause, GivesCore}
+use Rattle.reencode_core.proofs.Counts.{walk_further, further_none, further_one, further_then}
+use Rattle.reencode_core.proofs.Usual.{IfRefused-map, unless_wanting, usual_ask, stops_usual}
 use Rattle.reencode_core.proofs.Known.{numbered_is, section_begins, section_none, section_announced, reads_begun, some_begun}
 
 -- ---- lists of sections
@@ -308,8 +310,8 @@ module _ {S E : Type 0} (asked : Asks S E) where
     more_before : (before : List Tree) (t u : Tree) → alsos before Tree.finish ≡ alsos d.read (Tree.also t u) → before ≡ d.read ++ t ∷ list_of u
     more_before before t u e = sym (append-nil before) ∙ sym (list_of-alsos before Tree.finish) ∙ ap list_of e ∙ list_of-alsos d.read (Tree.also t u)
 
-    accepted_all : (before : List Tree) → before ≡ d.read → AcceptedAll asked old.ceiling s0 before
-    accepted_all before e = (d.made, last, s, λ others. rw e (d.accepts others))
+    accepted_before : (before : List Tree) → before ≡ d.read → AcceptsSections asked old.ceiling s0 before d.made last s
+    accepted_before before e = λ others. rw e (d.accepts others)
 
     refused_in : {e : Error E} {s' : S} (before : List Tree) (t u : Tree) → before ≡ d.read ++ t ∷ list_of u → hooked asked old.ceiling last s t ≡ refused e s' →
         RefusedIn asked old.ceiling s0 before e s'
@@ -334,48 +336,64 @@ module _ {S E : Type 0} (asked : Asks S E) where
 
     -- a section, or the hook before it, is refused
     pub section_refused : (k : SectionId) {left body : List ℕ} {s' : S} {new' : Sections} (e : Error E) → Begins frame rest (numbered_frame (section_number k) body) left →
-        ((t : Tree) → ReadsAs k body t → (new' ≡ new) × (e ≢ NoMemory → hooked asked old.ceiling last s t ≡ refused e s')) → IfParse e (λ at. ⊥) → GivesCore asked bytes s0 old s' new' (Err e)
-    section_refused k {body = body} {s' = s'} {new' = new'} e there stops usual = record {
+        ((t : Tree) → ReadsAs k body t → (new' ≡ new) × (e ≢ NoMemory → hooked asked old.ceiling last s t ≡ refused e s')) → IfParse e (λ at. ⊥) →
+        IfRefused e (((t : Tree) × ReadsAs k body t) ⊎ StopsInside asked old.ceiling rest last s e s') → GivesCore asked bytes s0 old s' new' (Err e)
+    section_refused k {left = left_behind} {body = body} {s' = s'} {new' = new'} e there stops usual inside = record {
       reading = λ t r. go t (read_ahead t r);
       readable = tt;
-      cause = cause e refl usual;
+      cause = cause e (λ t r. (stops t r).1) usual inside;
     }
       where
         go : (t : Tree) → Ahead d.read rest t [] → StopsSections asked old.ceiling s0 t old s' new' e
         go t (same f empty) = absurd (some_begun there empty)
         go t (more u v left f b) = let h = stops u (reads_begun k there b) in stopped e s' new' t (Tree.also u v) f h.0 h.1
 
-        either : e ≢ NoMemory → (before : List Tree) (left : List ℕ) → Ahead d.read rest (alsos before Tree.finish) left →
-            RefusedIn asked old.ceiling s0 before e s' ⊎ AcceptedAll asked old.ceiling s0 before
-        either h before left (same f r) = inr (accepted_all before (all_before before f))
-        either h before left (more t u behind f b) = inl (refused_in before t u (more_before before t u f) ((stops t (reads_begun k there b)).1 h))
+        -- where the section has a reading, the fault does not stand here
+        either : (w : Error E) → ((t : Tree) → ReadsAs k body t → hooked asked old.ceiling last s t ≡ refused w s') →
+            ((t : Tree) × ReadsAs k body t) ⊎ StopsInside asked old.ceiling rest last s w s' → (before : List Tree) (left : List ℕ) → FaultAt bytes before left →
+            Ahead d.read rest (alsos before Tree.finish) left → RefusedIn asked old.ceiling s0 before w s'
+            ⊎ ((made : List Tree) × (last : Option SectionId) × (n : S) × AcceptsSections asked old.ceiling s0 before made last n × StopsInside asked old.ceiling left last n w s')
+        either w h q before left fault (more t u behind f b) = inl (refused_in before t u (more_before before t u f) (h t (reads_begun k there b)))
+        either w h (inl q) before left fault (same f r) =
+            let b = section_begins k q.1.0 (numbered_is there) q.1.2 in
+            absurd (fault.front.ends.none b.text left_behind (section_tree k q.1.0) b.spells (sym r ∙ b.reads))
+        either w h (inr q) before left fault (same f r) =
+            let P : List ℕ → Type 0 = λ z. StopsInside asked old.ceiling z last s w s' in
+            inr (d.made, last, s, accepted_before before (all_before before f), subst P r q)
 
-        before_fault : (w : Error E) → e ≡ w → e ≢ NoMemory → BeforeFault asked old.ceiling bytes s0 s' w
-        before_fault w same_e h = rw (← same_e) ((start, reads), λ before left fault. either h before left (fault_ahead before left fault))
+        before_fault : (w : Error E) → ((t : Tree) → ReadsAs k body t → hooked asked old.ceiling last s t ≡ refused w s') →
+            ((t : Tree) × ReadsAs k body t) ⊎ StopsInside asked old.ceiling rest last s w s' → BeforeFault asked old.ceiling bytes s0 s' w
+        before_fault w h q = ((start, reads), λ before left fault. either w h q before left fault (fault_ahead before left fault))
 
-        cause : (w : Error E) → e ≡ w → IfParse w (λ at. ⊥) → IsCause asked old.ceiling bytes s0 s' w
-        cause NoMemory same_e q = tt
-        cause (UserError x) same_e q = before_fault (UserError x) same_e (λ h. let c : UserError x ≡ NoMemory = sym same_e ∙ h in cc)
-        cause (TooLarge x) same_e q = before_fault (TooLarge x) same_e (λ h. let c : TooLarge x ≡ NoMemory = sym same_e ∙ h in cc)
-        cause _ same_e q = absurd q
+        cause : (w : Error E) → ((t : Tree) → ReadsAs k body t → w ≢ NoMemory → hooked asked old.ceiling last s t ≡ refused w s') → IfParse w (λ at. ⊥) →
+            IfRefused w (((t : Tree) × ReadsAs k body t) ⊎ StopsInside asked old.ceiling rest last s w s') → IsCause asked old.ceiling bytes s0 s' w
+        cause NoMemory h p q = tt
+        cause (UserError x) h p q = before_fault (UserError x) (λ t r. h t r (λ c. cc)) q
+        cause (TooLarge x) h p q = before_fault (TooLarge x) (λ t r. h t r (λ c. cc)) q
+        cause _ h p q = absurd p
 
-    -- no section begins, though bytes are left
-    pub no_section : {s' : S} {new' : Sections} (at : ℕ) → BeginsNone section rest → rest ≢ [] → at ≡ length bytes - length rest →
+    -- no section begins, though bytes are left, as further visits showed
+    fault_behind : {s' : S} {new' : Sections} (at : ℕ) → BeginsNone section rest → rest ≢ [] → at ≡ length bytes - length rest → Further asked s s' →
         GivesCore asked bytes s0 old s' new' (Err (ParseError (record { at = at })))
-    no_section {s' = s'} {new' = new'} at none some place = record {
+    fault_behind {s' = s'} {new' = new'} at none some place further = record {
       reading = λ t r. absurd (go t (read_ahead t r));
       readable = tt;
-      cause = inr (d.read, rest, record { front = record { text = d.text; spells = d.spells; stands = reads ∙ ap (λ (z : List ℕ). core_header ++ z) d.stands; ends = none }; some = some }, place, accepted_all d.read refl);
+      cause = inr (d.read, rest, record { front = record { text = d.text; spells = d.spells; stands = reads ∙ ap (λ (z : List ℕ). core_header ++ z) d.stands; ends = none }; some = some }, place, d.made, last, s, d.accepts, further);
     }
       where
         go : (t : Tree) → Ahead d.read rest t [] → ⊥
         go t (same f empty) = some empty
         go t (more u v left f b) = none.none b.text left u b.spells b.reads
 
+    -- no section begins
+    pub no_section : {new' : Sections} (at : ℕ) → BeginsNone section rest → rest ≢ [] → at ≡ length bytes - length rest →
+        GivesCore asked bytes s0 old s new' (Err (ParseError (record { at = at })))
+    no_section at none some place = fault_behind at none some place (further_none asked s)
+
     -- no frame begins
-    pub no_frame : {s' : S} {new' : Sections} (f : Fault) (at : ℕ) → ReadsNone f at (BeginsNone frame rest × (rest ≢ [])) → at ≡ length bytes - length rest →
-        GivesCore asked bytes s0 old s' new' (Err (error_of_fault f))
-    no_frame {s' = s'} {new' = new'} (fault.Read x) at h place = no_section x.at (none_section h.1.0) h.1.1 (h.0 ∙ place)
+    pub no_frame : {new' : Sections} (f : Fault) (at : ℕ) → ReadsNone f at (BeginsNone frame rest × (rest ≢ [])) → at ≡ length bytes - length rest →
+        GivesCore asked bytes s0 old s new' (Err (error_of_fault f))
+    no_frame (fault.Read x) at h place = no_section x.at (none_section h.1.0) h.1.1 (h.0 ∙ place)
     no_frame (fault.Header k) at h place = absurd h
     no_frame fault.CodeSize at h place = absurd h
     no_frame fault.NoMemory at h place = absurd h
@@ -383,14 +401,15 @@ module _ {S E : Type 0} (asked : Asks S E) where
     -- the error of the hook before a section
     pub hook_refused : (k : SectionId) {left body : List ℕ} {s' : S} {new' : Sections} (e : Error E) → Begins frame rest (numbered_frame (section_number k) body) left → new' ≡ new →
         (e ≢ NoMemory → asked s (Section last (Some k)) ≡ refused e s') → IfParse e (λ at. ⊥) → GivesCore asked bytes s0 old s' new' (Err e)
-    hook_refused k {s' = s'} e there unchanged stops usual =
+    hook_refused k {left = left} {body = body} {s' = s'} e there unchanged stops usual =
         section_refused k e there (λ t r. (unchanged, λ other. hooked_refused old.ceiling k last s s' t e r (stops other))) usual
+        (unless_wanting e (λ other. inr (record { id = k; body = body; left = left; framed = there; stops = inl (stops other) })))
 
     -- a section's error, at the section's place
     pub section_err : (k : SectionId) {left body : List ℕ} {n s' : S} {mid new' : Sections} (e : Error E) (at : ℕ) → Begins frame rest (numbered_frame (section_number k) body) left →
         (asked s (Section last (Some k)) ≡ accepted 0 n) × (mid ≡ new) → GivesSection asked k body n mid s' new' (Err e) → at ≡ length bytes - length rest →
         GivesCore asked bytes s0 old s' new' (Err (placed_at e at))
-    section_err k {body = body} {n = n} {s' = s'} {mid = mid} {new' = new'} e at there hook given place = go e given
+    section_err k {left = left} {body = body} {n = n} {s' = s'} {mid = mid} {new' = new'} e at there hook given place = go e given
       where
         unchanged : (w : Error E) → GivesSection asked k body n mid s' new' (Err w) → GivesSection asked k body n new s' new' (Err w)
         unchanged w g = let P : Sections → Type 0 = λ z. GivesSection asked k body n z s' new' (Err w) in subst P hook.1 g
@@ -402,11 +421,32 @@ module _ {S E : Type 0} (asked : Asks S E) where
             let W : ℕ → Type 0 = λ c. walk asked c n t ≡ refused w s' in
             (g.0, λ h. hooked_err old.ceiling k last s n s' t w r hook.0 (subst W ceiling (g.1 h)))
 
+        -- what was refused inside it
+        inside : (w : Error E) → GivesSection asked k body n mid s' new' (Err w) → IfRefused w (((t : Tree) × ReadsAs k body t) ⊎ StopsInside asked old.ceiling rest last s w s')
+        inside w given = IfRefused-map w behind (unchanged w given).refusal
+          where
+            behind : ((t : Tree) × ReadsAs k body t) ⊎ StopsSection asked new.ceiling k body n w s' → ((t : Tree) × ReadsAs k body t) ⊎ StopsInside asked old.ceiling rest last s w s'
+            behind (inl q) = inl q
+            behind (inr q) =
+                let P : ℕ → Type 0 = λ c. StopsSection asked c k body n w s' in
+                let ceiling : new.ceiling ≡ old.ceiling = ap Sections.ceiling d.gains in
+                inr (record { id = k; body = body; left = left; framed = there; stops = inr (n, hook.0, subst P ceiling q) })
+
+        -- the visits before a fault inside it
+        within : (at : ℕ) → BodyFault asked mid.ceiling k body n s' at → Further asked n s'
+        within at (_, inl q) = let P : S → Type 0 = λ z. Further asked n z in subst P (sym q.2) (further_none asked n)
+        within at (_, inr q) =
+            let f = q.3 in
+            let walked : walk asked mid.ceiling n (rows_then f.read Tree.nil) ≡ accepted (rows_then f.made Tree.nil) f.state = f.accepts Tree.nil in
+            further_then asked n f.state s' (walk_further asked mid.ceiling n f.state (rows_then f.read Tree.nil) (rows_then f.made Tree.nil) walked) f.further
+
         go : (w : Error E) → GivesSection asked k body n mid s' new' (Err w) → GivesCore asked bytes s0 old s' new' (Err (placed_at w at))
-        go (ParseError x) g = no_section at (section_none k (numbered_is there) g.unreadable.0) (some_begun there) place
-        go (UserError x) g = section_refused k (UserError x) there (stops (UserError x) g) tt
-        go (TooLarge x) g = section_refused k (TooLarge x) there (stops (TooLarge x) g) tt
-        go NoMemory g = section_refused k NoMemory there (stops NoMemory g) tt
+        go (ParseError x) g =
+            fault_behind at (section_none k (numbered_is there) g.unreadable.0) (some_begun there) place
+            (further_then asked s n s' (further_one asked s n (Section last (Some k)) 0 hook.0) (within x.at g.unreadable))
+        go (UserError x) g = section_refused k (UserError x) there (stops (UserError x) g) tt (inside (UserError x) g)
+        go (TooLarge x) g = section_refused k (TooLarge x) there (stops (TooLarge x) g) tt (inside (TooLarge x) g)
+        go NoMemory g = section_refused k NoMemory there (stops NoMemory g) tt (inside NoMemory g)
         go _ g = absurd g.unreadable
 
     -- the end

@@ -1,5 +1,5 @@
 -- An export as it is mapped.
-use Rattle.std.proofs.Common.{◌≡◌, ◌≢◌, ℕ, ◌+◌, ◌-◌, ◌^◌, ◌<◌, List, [], ◌∷◌, ◌++◌, length, Contains, refl, sym, ap, ◌∙◌, ◌⊎◌, inl, inr, subst, Err, arith}
+use Rattle.std.proofs.Common.{◌≡◌, ◌≢◌, ℕ, ◌+◌, ◌-◌, ◌^◌, ◌<◌, List, [], ◌∷◌, ◌++◌, length, Contains, refl, sym, ◌⊎◌, inl, inr, Err, arith}
 use Rattle.std.proofs.lemmas.List.Elements.{Contains-append_left, Contains-append_right}
 use Rattle.wasm_shapes.specs.Tree.{Tree}
 use Rattle.wasm_read.specs.declared.types.Export.{Export}
@@ -8,7 +8,7 @@ use Rattle.wasm_write.specs.declared.fault.WriteFault.{WriteFault}
 use Rattle.wasm_write.specs.declared.fault.WriteFault.TheVariants as write
 use Rattle.wasm_write.specs.declared.types.ExportKind.{ExportKind}
 use Rattle.wasm_write.specs.Faults.{IfTooLarge}
-use Rattle.wasm_write.specs.Counts.{counts, IsTooLarge}
+use Rattle.wasm_write.specs.Counts.{counts}
 use Rattle.wasm_write.specs.Rows.{item_tree, export_tree}
 use Rattle.reencode_hooks.specs.declared.error.Error.{Error}
 use Rattle.reencode_hooks.specs.declared.error.Error.TheVariants.{NoMemory}

@@ -1,8 +1,7 @@
 -- The locals of a body as they are mapped.
-use Rattle.std.proofs.Common.{◌≡◌, ◌≢◌, ℕ, ◌+◌, ◌-◌, ◌^◌, ◌<◌, List, [], ◌∷◌, ◌++◌, length, map, suc, Option, None, Result, Ok, Err, refl, sym, ap, ◌∙◌, subst, arith}
+use Rattle.std.proofs.Common.{◌≡◌, ◌≢◌, ℕ, ◌-◌, ◌^◌, ◌<◌, List, [], ◌∷◌, ◌++◌, length, map, suc, None, Result, Ok, Err, refl, ap, ◌∙◌, subst, arith}
 use Rattle.wasm_shapes.specs.declared.Visit.{Visit}
 use Rattle.wasm_shapes.specs.Tree.{Tree, count}
-use Rattle.wasm_shapes.specs.Spells.{Spelled}
 use Rattle.wasm_shapes.specs.Place.{Begins}
 use Rattle.wasm_shapes.specs.Rows.{rows_then}
 use Rattle.wasm_read.specs.declared.types.ValType as r
@@ -14,16 +13,15 @@ use Rattle.wasm_write.specs.Bodies as write
 use Rattle.wasm_write.specs.declared.fault.WriteFault.{WriteFault}
 use Rattle.wasm_write.specs.declared.fault.WriteFault.TheVariants as faults
 use Rattle.wasm_write.specs.Faults.{IfTooLarge}
-use Rattle.wasm_write.specs.Held.{body_tree}
 use Rattle.reencode_hooks.specs.declared.error.Error.{Error}
 use Rattle.reencode_hooks.specs.declared.error.Error.TheVariants.{NoMemory}
 use Rattle.reencode_hooks.specs.Errors.{error_of_write}
 use Rattle.reencode_hooks.specs.Run.{Step, accepted, refused, ask}
 use Rattle.reencode_hooks.specs.Walk.{walk}
-use Rattle.reencode_core.specs.Errors.{IfParse}
 use Rattle.reencode_core.specs.Rows.{Asks, onto_rows}
-use Rattle.reencode_core.specs.Bodies.{locals, GivesLocals}
-use Rattle.reencode_core.proofs.Usual.{usual_walk, stops_usual, write_usual}
+use Rattle.reencode_core.specs.Bodies.{GivesLocals}
+use Rattle.reencode_core.specs.Rows.{locals}
+use Rattle.reencode_core.proofs.Usual.{unless_wanting, usual_walk, stops_usual}
 use Rattle.reencode_core.proofs.Group.{ItemsDone, rows_then-both}
 use Rattle.reencode_core.proofs.BodyLoop.{same_locals}
 use Rattle.std.proofs.lemmas.List.{map-append}
@@ -59,6 +57,7 @@ module _ {S E : Type 0} (asked : Asks S E) where
     bare = ap write.Body.operators is;
     readable = (read.locals_tree types, rest, begins);
     unreadable = tt;
+    refusal = tt;
   }
 
   pub locals_not_made : {bytes rest : List ℕ} (types : List ReadLocal) (n : ℕ) (s0 s : S) (fault : WriteFault) → Begins locals bytes (read.locals_tree types) rest → n ≡ length types →
@@ -74,7 +73,7 @@ module _ {S E : Type 0} (asked : Asks S E) where
       count_map : (xs : List ReadLocal) → count (rows_then (map read.local_tree xs) Tree.nil) ≡ length xs
       count_map [] = refl
       count_map (x ∷ xs) = ap suc (count_map xs)
-  locals_not_made types n s0 s faults.NoMemory begins counted large = record { reading = λ c t rest there other. absurd (other refl); bare = tt; readable = tt; unreadable = tt }
+  locals_not_made types n s0 s faults.NoMemory begins counted large = record { reading = λ c t rest there other. absurd (other refl); bare = tt; readable = tt; unreadable = tt; refusal = tt }
 
 pub locals_refused : {S E : Type 0} (reply : S → Visit → Result ℕ E) (next : S → Visit → S) {bytes rest : List ℕ} (types done left : List ReadLocal) (made : List WrittenLocal) (s0 s m : S) (x : ReadLocal) (e : Error E) →
     Begins locals bytes (read.locals_tree types) rest → ItemsDone (ask reply next) read.local_tree write.local_tree s0 done s made → done ++ x ∷ left ≡ types →
@@ -84,6 +83,7 @@ locals_refused {S = S} {E = E} reply next {bytes = bytes} {rest = rest} types do
   bare = tt;
   readable = tt;
   unreadable = stops_usual _ (walk (ask reply next) 0 s0 (read.locals_tree types)) e m (usual_walk reply next 0 None s0 (read.locals_tree types) begins.text begins.spells.spelled) (whole 0);
+  refusal = unless_wanting e (λ other. (read.locals_tree types, rest, begins));
 }
   where
     behind : Tree

@@ -1,12 +1,12 @@
 -- A section, from its rows.
-use Rattle.std.proofs.Common.{◌≡◌, ◌≢◌, ℕ, suc, ◌+◌, ◌-◌, ◌<◌, ◌≤◌, ◌^◌, List, [], ◌∷◌, ◌++◌, length, Result, Ok, Err, refl, sym, ap, ◌∙◌, append-nil, arith, subst, inl, inr, ◌⊎◌}
+use Rattle.std.proofs.Common.{◌≡◌, ◌≢◌, ℕ, suc, ◌+◌, ◌-◌, ◌<◌, ◌≤◌, ◌^◌, List, [], ◌∷◌, ◌++◌, length, Ok, Err, refl, sym, ap, ◌∙◌, arith, subst, inl, inr, ◌⊎◌}
 use Rattle.wasm_leb.specs.declared.fault.Fault.{Fault}
 use Rattle.wasm_leb.specs.declared.fault.Fault.TheVariants as fault
-use Rattle.wasm_leb.specs.Place.{BeginsNumber, BeginsNoNumber}
+use Rattle.wasm_leb.specs.Place.{BeginsNoNumber}
 use Rattle.wasm_shapes.specs.declared.SectionId.{SectionId}
 use Rattle.wasm_shapes.specs.Tree.{Tree, count, normal}
 use Rattle.wasm_shapes.specs.Shape.{Shape}
-use Rattle.wasm_shapes.specs.Spells.{Is, Spelled, Spells}
+use Rattle.wasm_shapes.specs.Spells.{Is, Spells}
 use Rattle.wasm_shapes.specs.Rows.{RowsLeft, rows_then}
 use Rattle.wasm_shapes.proofs.Rows.{vec_spelled, vec_counted}
 use Rattle.wasm_read.specs.Reading.{Standing, CountRead, ReadsNone}
@@ -22,9 +22,9 @@ use Rattle.reencode_hooks.specs.Errors.{error_of_fault, error_of_write}
 use Rattle.reencode_hooks.specs.Run.{Step, accepted, refused}
 use Rattle.reencode_hooks.specs.Walk.{walk}
 use Rattle.reencode_core.specs.Errors.{IfParse}
-use Rattle.reencode_core.specs.Rows.{Asks, onto_rows, AcceptedHooks, TooMany, RefusesFirst, StopsRows, GivesRows, RowsFault}
-use Rattle.reencode_core.specs.Sections.{row_shape, body_shape, section_tree, ReadsAs, GivesOne, BodyFault, GivesSection}
-use Rattle.reencode_core.proofs.Usual.{IfParse-map, write_usual}
+use Rattle.reencode_core.specs.Rows.{Asks, onto_rows, AcceptedHooks, TooMany, RefusesFirst, StopsRows, GivesRows}
+use Rattle.reencode_core.specs.Sections.{row_shape, body_shape, section_tree, ReadsAs, BodyFault, GivesSection}
+use Rattle.reencode_core.proofs.Usual.{IfParse-map, IfRefused-map, unless_wanting, fault_unrefused, write_usual}
 use Rattle.reencode_core.proofs.Known.{InForce, vec_is}
 
 -- so many rows stand in front of others
@@ -54,6 +54,7 @@ module _ {S E : Type 0} (asked : Asks S E) (k : SectionId) (known : InForce k) w
     reading = λ t r. absurd (never f none t r);
     readable = tt;
     unreadable = parse f none;
+    refusal = fault_unrefused E _ f;
   }
     where
       never : (f : Fault) → ReadsNone f 0 (BeginsNoNumber 128 32 32 body) → (t : Tree) → ReadsAs k body t → ⊥
@@ -106,6 +107,7 @@ module _ {S E : Type 0} (asked : Asks S E) (k : SectionId) (known : InForce k) w
             (refl, λ other. rw v.1 (known.refuses S E asked old.ceiling s m (Tree.vec v.0) e (vec_refused v.0 (rows_stopped old.ceiling reader.left s m v.0 rows e v.2.counted there.counted.1.fits (g.reading v.0 v.2) other))));
         readable = tt;
         unreadable = IfParse-map e (λ at f. ((λ t r. let v = rows_read there t r in f.none.none v.0 v.2), inr (reader, rows, there, f))) g.unreadable;
+        refusal = IfRefused-map e (λ f. inr (reader, there, f)) g.refusal;
       }
     where
       vec_refused : (u : Tree) → walk asked old.ceiling s u ≡ refused e m → walk asked old.ceiling s (Tree.vec u) ≡ refused e m
@@ -135,6 +137,7 @@ module _ {S E : Type 0} (asked : Asks S E) (k : SectionId) (known : InForce k) w
         (section_tree k (body_tree made), normal (body_tree made), rw v.1 (known.fits S E asked old.ceiling s m (Tree.vec v.0) (body_tree made) done fits), gains, known.spelled (body_tree made));
     readable = section_read there g.readable.0 g.readable.1;
     unreadable = tt;
+    refusal = tt;
   }
 
   pub section_not_given : (s m : S) (body : List ℕ) (reader : Standing) (start made : List Tree) (old : Sections) (w : WriteFault) → start ≡ [] → CountRead body reader →
@@ -148,6 +151,7 @@ module _ {S E : Type 0} (asked : Asks S E) (k : SectionId) (known : InForce k) w
         (refl, rw v.1 (stops w large (Tree.vec v.0) done));
     readable = tt;
     unreadable = write_usual E _ w;
+    refusal = unless_wanting (error_of_write w) (λ other. inl (section_read there g.readable.0 g.readable.1));
   }
     where
       stops : (w : WriteFault) → IfTooLarge w (λ size. (size ≡ length (normal (body_tree made))) × (old.ceiling < size)) → (u : Tree) →
@@ -166,6 +170,7 @@ not_in_force asked k s body old e = record {
   reading = λ t r. absurd (none r.2);
   readable = tt;
   unreadable = ((λ t r. none r.2), inl (refl, inr e, refl));
+  refusal = tt;
 }
   where
     none : {u : Tree} → Spells (body_shape k) body u → ⊥

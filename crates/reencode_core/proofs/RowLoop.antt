@@ -1,5 +1,5 @@
 -- The loop over the rows of a section.
-use Rattle.std.proofs.Common.{◌≡◌, ◌≢◌, ℕ, suc, ◌+◌, ◌-◌, ◌<◌, ◌^◌, List, [], ◌∷◌, ◌++◌, length, length-append, take, Option, None, Result, Ok, Err, ◌≤◌, refl, sym, ap, ◌∙◌, append_assoc, append-nil, arith, subst, ◌⊎◌, inl, inr, true}
+use Rattle.std.proofs.Common.{◌≡◌, ◌≢◌, ℕ, suc, ◌+◌, ◌-◌, ◌<◌, ◌^◌, List, [], ◌∷◌, ◌++◌, length, length-append, take, None, Result, Ok, Err, ◌≤◌, refl, sym, ap, ◌∙◌, append_assoc, append-nil, arith, subst, ◌⊎◌, inl, inr, true}
 use Rattle.std.proofs.lemmas.List.{take-take, length-take}
 use Rattle.wasm_shapes.specs.declared.Space.{Space}
 use Rattle.wasm_shapes.specs.declared.Visit.{Visit}
@@ -9,7 +9,7 @@ use Rattle.wasm_shapes.specs.Shape.{Shape, closed}
 use Rattle.wasm_shapes.specs.Sound.{sound}
 use Rattle.wasm_shapes.specs.Spells.{Is, Spelled}
 use Rattle.wasm_shapes.specs.Place.{Begins, BeginsNone}
-use Rattle.wasm_shapes.specs.Rows.{RowsLeft, NoRows, rows_then}
+use Rattle.wasm_shapes.specs.Rows.{RowsLeft, rows_then}
 use Rattle.wasm_shapes.proofs.Rows.{RowsSoFar, so_far_none, so_far_more, so_far_stuck, rows_end, rows_then-append, rows_first}
 use Rattle.wasm_leb.specs.declared.fault.Fault.{Fault}
 use Rattle.wasm_leb.specs.declared.fault.Fault.TheVariants as fault
@@ -23,9 +23,9 @@ use Rattle.reencode_hooks.specs.declared.error.Error.{Error}
 use Rattle.reencode_hooks.specs.declared.error.Error.TheVariants.{CanonicalizedHeapTypeReference, InvalidConstExpr, InvalidCodeSectionSize, UnexpectedNonCoreModuleSection, UnexpectedNonComponentSection, UnsupportedCoreTypeInComponent, ParseError, UserError, TooLarge, NoMemory}
 use Rattle.reencode_hooks.specs.Run.{Step, accepted, refused, and_then, ask}
 use Rattle.reencode_hooks.specs.Walk.{walk}
-use Rattle.reencode_core.specs.Errors.{IfParse}
-use Rattle.reencode_core.specs.Rows.{Asks, KeepsFront, AcceptedHooks, TooLargeMade, TooLargeRow, GivesRow, onto_rows, AcceptsRows, TooMany, RefusesFirst, StopsRows, GivesAll, RowsBefore, RowsFault, Further, GivesRows}
-use Rattle.reencode_core.proofs.Usual.{IfParse-map, usual_walk, stops_usual}
+use Rattle.reencode_core.specs.Errors.{IfParse, IfRefused}
+use Rattle.reencode_core.specs.Rows.{Asks, KeepsFront, AcceptedHooks, TooLargeMade, TooLargeRow, GivesRow, onto_rows, AcceptsRows, TooMany, RowsBefore, RowsFault, Further, RefusesWhole, RefusesInside, StopsAtRow, GivesRows}
+use Rattle.reencode_core.proofs.Usual.{IfParse-map, IfRefused-map, unless_wanting, fault_unrefused, usual_walk, stops_usual}
 use Rattle.reencode_core.proofs.Counts.{only_rows}
 
 -- Rows were read and walked, what they became was added, and the others are read and walked from here.
@@ -143,6 +143,7 @@ module _ {S E : Type 0} (asked : Asks S E) where
         (d.made, rw (b.1, last) (d.accepts Tree.nil), d.gains);
     readable = (rows_then d.read Tree.nil, d.so_far.forth Tree.nil (rows_end ended.counted ended.filled));
     unreadable = tt;
+    refusal = tt;
   }
     where
       none_left : {n : ℕ} {bytes : List ℕ} (t : Tree) → RowsLeft row n bytes t → n ≡ 0 → t ≡ Tree.nil
@@ -186,6 +187,7 @@ module _ {S E : Type 0} (asked : Asks S E) where
         };
     readable = tt;
     unreadable = parse f missing;
+    refusal = fault_unrefused E _ f;
   }
     where
       never : (f : Fault) → ReadsNoneOrWants f (place_of reader) (RowMissing row reader) → error_of_fault {E = E} f ≢ NoMemory → (t : Tree) → RowsLeft row reader.left reader.rest t → ⊥
@@ -199,6 +201,25 @@ module _ {S E : Type 0} (asked : Asks S E) where
       parse fault.NoMemory h = tt
       parse fault.CodeSize h = absurd h
       parse (fault.Header k) h = absurd h
+
+  -- as many rows more as were read
+  rows_gained : {c : ℕ} {row : Shape} {start reader : Standing} {s0 s : S} {old new : List Tree} → (d : RowsDone asked c row start s0 old reader s new) → length new ≡ length old + length d.read
+  rows_gained {old = old} d = ap length d.gains ∙ length-append old d.made ∙ ap (λ (n : ℕ). length old + n) d.counted
+
+  -- the next row, which is due, is refused
+  pub stops_at : {c : ℕ} {row : Shape} {start reader : Standing} {s0 s s' : S} {old new : List Tree} (e : Error E) → RowsDone asked c row start s0 old reader s new → 0 < reader.left →
+      RefusesWhole asked c row reader.rest s (length new) e s' ⊎ RefusesInside asked c row reader.rest s e s' → StopsAtRow asked c row start s0 (length old) e s'
+  stops_at {c = c} {row = row} {reader = reader} {s = s} {s' = s'} e d due refuses =
+      let P : ℕ → Type 0 = λ n. RefusesWhole asked c row reader.rest s n e s' ⊎ RefusesInside asked c row reader.rest s e s' in record {
+        read = d.read;
+        rest = reader.rest;
+        made = d.made;
+        state = s;
+        before = d.before;
+        due = let all = d.numbered in omega arith;
+        accepts = d.accepts;
+        refuses = subst P (rows_gained d) refuses;
+      }
 
   -- the next row is refused
   pub rows_refused : {c : ℕ} {row : Shape} {start reader reader' : Standing} {s0 s s' : S} {old new : List Tree} {t : Tree} (e : Error E) → sound row ≡ true → closed row ≡ true →
@@ -222,6 +243,9 @@ module _ {S E : Type 0} (asked : Asks S E) where
         };
     readable = tt;
     unreadable = IfParse-map e (λ at never. absurd never) parse;
+    refusal =
+        let less = r.counted in
+        unless_wanting e (λ other. stops_at e d (omega arith) (inl (record { tree = t; left = reader'.rest; begins = r.begins; refusal = stops other })));
   }
 
 -- one row too many
@@ -260,6 +284,16 @@ row_usual_at : {S E : Type 0} (reply : S → Visit → Result ℕ E) (next : S �
 row_usual_at reply next c s m t x n e p (inl h) never = stops_usual (λ at. ⊥) (walk (ask reply next) c s t) e m (usual_walk reply next c None s t x p) (λ other. h)
 row_usual_at reply next c s m t x n e p (inr h) never = absurd (never h.accepts.made h.large)
 
+-- a row that was read, and that is too large, is one too many
+pub large_is_many : {S E : Type 0} (asked : Asks S E) (c : ℕ) (s m : S) (t : Tree) (x : List ℕ) (n : ℕ) (e : Error E) → Spelled t x →
+    (walk asked c s t ≡ refused e m) ⊎ TooLargeMade asked s t n e m → (walk asked c s t ≡ refused e m) ⊎ (AcceptedHooks asked s t m × TooMany e n)
+large_is_many asked c s m t x n e p (inl q) = inl q
+large_is_many {E = E} asked c s m t x n e p (inr q) = inr (q.accepts, many e q.accepts.ceiling q.accepts.made q.accepts.walked q.large)
+  where
+    many : (e : Error E) (k : ℕ) (u : Tree) → walk asked k s t ≡ accepted u m → TooLargeRow e u n → TooMany e n
+    many (TooLarge size) k u h q = only_rows asked k s m t u x (n + 1) size p h q
+    many _ k u h q = absurd q
+
 -- the next row is refused, by the call that maps it
 pub row_refused : {S E : Type 0} (reply : S → Visit → Result ℕ E) (next : S → Visit → S) {c : ℕ} {row : Shape} {start reader reader' : Standing} {s0 s s' : S} {old new new' : List Tree} {t : Tree}
     {e : Error E} → sound row ≡ true → closed row ≡ true → RowsDone (ask reply next) c row start s0 old reader s new → RowRead row reader t reader' →
@@ -268,14 +302,9 @@ row_refused {E = E} reply next {c = c} {row = row} {start = start} {reader = rea
     let P : List Tree → Type 0 = λ z. GivesRows (ask reply next) c row start s0 old s' z (Err e) in
     subst P (sym given.0) (rows_refused (ask reply next) e k h d r (λ other. either (given.1 other)) (usual e given.1))
   where
-    many : (e : Error E) (k : ℕ) (u : Tree) (n : ℕ) → walk (ask reply next) k s t ≡ accepted u s' → TooLargeRow e u n → TooMany e n
-    many (TooLarge size) k u n h q = only_rows (ask reply next) k s s' t u r.begins.text (n + 1) size r.begins.spells.spelled h q
-    many _ k u n h q = absurd q
-
     either : (walk (ask reply next) c s t ≡ refused e s') ⊎ TooLargeMade (ask reply next) s t (length new) e s' →
         (walk (ask reply next) c s t ≡ refused e s') ⊎ (AcceptedHooks (ask reply next) s t s' × TooMany e (length new))
-    either (inl q) = inl q
-    either (inr q) = inr (q.accepts, many e q.accepts.ceiling q.accepts.made (length new) q.accepts.walked q.large)
+    either q = large_is_many (ask reply next) c s s' t r.begins.text (length new) e r.begins.spells.spelled q
 
     usual : (e : Error E) → (e ≢ NoMemory → (walk (ask reply next) c s t ≡ refused e s') ⊎ TooLargeMade (ask reply next) s t (length new) e s') → IfParse e (λ at. ⊥)
     usual (TooLarge size) q = tt
@@ -308,12 +337,14 @@ module _ {S E : Type 0} (reply : S → Visit → Result ℕ E) (next : S → Vis
     reading = λ t r. absurd ((so_far_stuck d.so_far missing.rows).none t r);
     readable = tt;
     unreadable = rows_fault (ask reply next) at d missing place further unchanged;
+    refusal = tt;
   }
 
   -- the next row is refused, if there is one
   pub rows_refused_if : (e : Error E) (n : ℕ) → reader.left ≡ suc n → ((t : Tree) (left : List ℕ) → Begins row reader.rest t left → GivesRow (ask reply next) c s t new s' new' (Err e)) → new' ≡ new →
-      IfParse e (λ at. ⊥) → GivesRows (ask reply next) c row start s0 old s' new' (Err e)
-  rows_refused_if e n left given unchanged usual = record {
+      IfParse e (λ at. ⊥) → IfRefused e (RefusesWhole (ask reply next) c row reader.rest s (length new) e s' ⊎ RefusesInside (ask reply next) c row reader.rest s e s') →
+      GivesRows (ask reply next) c row start s0 old s' new' (Err e)
+  rows_refused_if e n left given unchanged usual refuses = record {
     reading = λ rows all.
         let b = d.so_far.back rows all in
         let f = first_of b.0 left b.2 in record {
@@ -334,13 +365,9 @@ module _ {S E : Type 0} (reply : S → Visit → Result ℕ E) (next : S → Vis
         };
     readable = tt;
     unreadable = IfParse-map e (λ at never. absurd never) usual;
+    refusal = let some : 0 < reader.left = omega arith in IfRefused-map e (stops_at (ask reply next) e d some) refuses;
   }
     where
-      many : (e : Error E) (k : ℕ) (t u : Tree) (x : List ℕ) → Spelled t x → walk (ask reply next) k s t ≡ accepted u s' → TooLargeRow e u (length new) → TooMany e (length new)
-      many (TooLarge size) k t u x p h q = only_rows (ask reply next) k s s' t u x (length new + 1) size p h q
-      many _ k t u x p h q = absurd q
-
       either : (t : Tree) (x : List ℕ) → Spelled t x → (walk (ask reply next) c s t ≡ refused e s') ⊎ TooLargeMade (ask reply next) s t (length new) e s' →
           (walk (ask reply next) c s t ≡ refused e s') ⊎ (AcceptedHooks (ask reply next) s t s' × TooMany e (length new))
-      either t x p (inl q) = inl q
-      either t x p (inr q) = inr (q.accepts, many e q.accepts.ceiling t q.accepts.made x p q.accepts.walked q.large)
+      either t x p q = large_is_many (ask reply next) c s s' t x (length new) e p q

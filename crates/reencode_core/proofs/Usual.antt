@@ -1,22 +1,22 @@
 -- The walk over a tree that is spelled is refused by the reencoder or by a frame, and by nothing else.
-use Rattle.std.proofs.Common.{◌≡◌, ◌≢◌, ℕ, length, nat_le, Bool, true, false, if◌then◌else◌, Option, Some, None, List, Result, Ok, Err, refl, inl, inr, subst}
+use Rattle.std.proofs.Common.{◌≡◌, ◌≢◌, ℕ, length, nat_le, Bool, true, false, if◌then◌else◌, Option, Some, None, List, Result, Ok, Err, inl, inr, subst}
 use Rattle.wasm_shapes.specs.declared.SectionId.{SectionId}
-use Rattle.wasm_shapes.specs.declared.Space.{Space}
 use Rattle.wasm_shapes.specs.declared.Space.TheVariants as space
 use Rattle.wasm_shapes.specs.declared.Visit.{Visit}
 use Rattle.wasm_shapes.specs.declared.Visit.TheVariants.{Index, Outer, Section, Push, Pop}
-use Rattle.wasm_shapes.specs.Tree.{Tree, normal, kind, Listed}
+use Rattle.wasm_shapes.specs.Tree.{Tree, normal, kind}
 use Rattle.wasm_shapes.specs.Spells.{Spelled}
 use Rattle.wasm_leb.specs.declared.fault.Fault.{Fault}
 use Rattle.wasm_leb.specs.declared.fault.Fault.TheVariants as fault
+use Rattle.wasm_leb.specs.declared.fault.Kind.TheVariants as kinds
 use Rattle.wasm_write.specs.declared.fault.WriteFault.{WriteFault}
 use Rattle.wasm_write.specs.declared.fault.WriteFault.TheVariants as write
 use Rattle.reencode_hooks.specs.declared.error.Error.{Error}
 use Rattle.reencode_hooks.specs.declared.error.Error.TheVariants.{CanonicalizedHeapTypeReference, InvalidConstExpr, InvalidCodeSectionSize, UnexpectedNonCoreModuleSection, UnexpectedNonComponentSection, UnsupportedCoreTypeInComponent, ParseError, UserError, TooLarge, NoMemory}
-use Rattle.reencode_hooks.specs.Errors.{error_of_write}
+use Rattle.reencode_hooks.specs.Errors.{error_of_fault, error_of_write}
 use Rattle.reencode_hooks.specs.Run.{Step, accepted, refused, and_then, ask, answered}
-use Rattle.reencode_hooks.specs.Walk.{walk, walk_from, closed, announced}
-use Rattle.reencode_core.specs.Errors.{IfParse}
+use Rattle.reencode_hooks.specs.Walk.{walk_from, closed, announced}
+use Rattle.reencode_core.specs.Errors.{IfParse, IfRefused}
 
 pub IfParse-map : {E : Type 0} {P Q : ℕ → Type 0} (e : Error E) → ((at : ℕ) → P at → Q at) → IfParse e P → IfParse e Q
 IfParse-map (ParseError x) f h = f x.at h
@@ -29,6 +29,25 @@ IfParse-map InvalidCodeSectionSize f h = h
 IfParse-map UnexpectedNonCoreModuleSection f h = h
 IfParse-map UnexpectedNonComponentSection f h = h
 IfParse-map UnsupportedCoreTypeInComponent f h = h
+
+pub IfRefused-map : {E : Type 0} {P Q : Type 0} (e : Error E) → (P → Q) → IfRefused e P → IfRefused e Q
+IfRefused-map (UserError _) f h = f h
+IfRefused-map (TooLarge _) f h = f h
+IfRefused-map _ f h = tt
+
+-- what holds of every error but want of memory
+pub unless_wanting : {E : Type 0} {P : Type 0} (e : Error E) → (e ≢ NoMemory → P) → IfRefused e P
+unless_wanting (UserError _) h = h (λ q. cc)
+unless_wanting (TooLarge _) h = h (λ q. cc)
+unless_wanting _ h = tt
+
+-- a reader's fault is no refusal
+pub fault_unrefused : (E : Type 0) (P : Type 0) (f : Fault) → IfRefused {E = E} (error_of_fault f) P
+fault_unrefused E P (fault.Read _) = tt
+fault_unrefused E P fault.NoMemory = tt
+fault_unrefused E P fault.CodeSize = tt
+fault_unrefused E P (fault.Header kinds.Module) = tt
+fault_unrefused E P (fault.Header kinds.Component) = tt
 
 -- a writer's refusal says nothing of the bytes that are read
 pub write_usual : (E : Type 0) (P : ℕ → Type 0) (w : WriteFault) → IfParse {E = E} (error_of_write w) P

@@ -1,5 +1,5 @@
 -- A body, from its locals and its operators.
-use Rattle.std.proofs.Common.{◌≡◌, ◌≢◌, ℕ, ◌+◌, ◌-◌, ◌<◌, ◌≤◌, ◌^◌, List, [], ◌∷◌, ◌++◌, length, drop, Option, None, Contains, Result, Ok, Err, refl, sym, ap, ◌∙◌, append-nil, arith, subst, ◌⊎◌, inl, inr, Bool, true, false, IsTrue}
+use Rattle.std.proofs.Common.{◌≡◌, ◌≢◌, ℕ, ◌+◌, ◌-◌, ◌<◌, ◌≤◌, ◌^◌, List, [], ◌∷◌, ◌++◌, length, None, Contains, Result, Ok, Err, refl, sym, ap, ◌∙◌, append-nil, arith, subst, ◌⊎◌, inl, inr, Bool, true, false, IsTrue}
 use Rattle.std.proofs.lemmas.List.{length-drop}
 use Rattle.std.proofs.lemmas.List.Elements.{Contains-append_right}
 use Rattle.wasm_leb.specs.declared.fault.Fault.{Fault}
@@ -16,25 +16,25 @@ use Rattle.wasm_read.specs.Reading.{ReadsNone}
 use Rattle.wasm_write.specs.declared.fault.WriteFault.{WriteFault}
 use Rattle.wasm_write.specs.declared.fault.WriteFault.TheVariants as write
 use Rattle.wasm_write.specs.Faults.{IfTooLarge}
-use Rattle.wasm_write.specs.Counts.{counts, IsTooLarge}
+use Rattle.wasm_write.specs.Counts.{counts}
 use Rattle.wasm_write.specs.Held.{rows_tree, body_tree}
 use Rattle.wasm_write.specs.Bodies.{Body, CodeRows, function_body, code_tree, with_row, with_operator}
 use Rattle.reencode_hooks.specs.declared.error.Error.{Error}
 use Rattle.reencode_hooks.specs.declared.error.Error.TheVariants.{CanonicalizedHeapTypeReference, InvalidConstExpr, InvalidCodeSectionSize, UnexpectedNonCoreModuleSection, UnexpectedNonComponentSection, UnsupportedCoreTypeInComponent, ParseError, UserError, TooLarge, NoMemory}
-use Rattle.reencode_hooks.specs.Errors.{error_of_fault, error_of_write}
-use Rattle.reencode_hooks.specs.Run.{Step, accepted, refused, and_then, ask}
+use Rattle.reencode_hooks.specs.Errors.{error_of_write}
+use Rattle.reencode_hooks.specs.Run.{Step, accepted, refused, ask}
 use Rattle.reencode_hooks.specs.Walk.{walk}
 use Rattle.reencode_items.specs.Maps.{MapsOperator, ParsesOperator}
-use Rattle.reencode_core.specs.Errors.{IfParse}
-use Rattle.reencode_core.specs.Rows.{Asks, onto_rows, RowsBefore, GivesRow, TooLargeMade}
-use Rattle.reencode_core.specs.Bodies.{locals, GivesLocals, GivesBody, NoOperator}
-use Rattle.reencode_core.proofs.Usual.{IfParse-map, usual_walk, stops_usual, write_usual}
+use Rattle.reencode_core.specs.Errors.{IfRefused}
+use Rattle.reencode_core.specs.Rows.{Asks, onto_rows, TooLargeMade, locals, StopsBody}
+use Rattle.reencode_core.specs.Bodies.{GivesLocals, GivesBody}
+use Rattle.reencode_core.proofs.Usual.{IfParse-map, unless_wanting, usual_walk, stops_usual, write_usual}
 use Rattle.reencode_core.proofs.Counts.{walk_further}
 use Rattle.reencode_core.proofs.BodyLoop.{ManyLeft, OperatorsDone, operators_begin, operators_more, body_is, body_spelled, no_locals, many_first, many_none, no_many, pair_accepted, sized_refused, pair_refused, first_refused, sized_fits, sized_large}
 
 -- nothing is said of want of memory
 pub body_wants : {S E : Type 0} (asked : Asks S E) (bytes : List ℕ) (s m : S) (old : CodeRows) → GivesBody asked bytes s old m old (Err NoMemory)
-body_wants asked bytes s m old = record { reading = λ t p. (refl, λ other. absurd (other refl)); readable = tt; unchanged = refl; unreadable = tt }
+body_wants asked bytes s m old = record { reading = λ t p. (refl, λ other. absurd (other refl)); readable = tt; unchanged = refl; unreadable = tt; refusal = tt }
 
 -- the locals are refused
 pub body_locals_refused : {S E : Type 0} (asked : Asks S E) (bytes : List ℕ) (s m : S) (old : CodeRows) (e : Error E) → GivesLocals {A = Body} asked bytes s m (Err e) (λ f. f) →
@@ -44,8 +44,14 @@ body_locals_refused {S = S} {E = E} asked bytes s m old e g = record {
   readable = tt;
   unchanged = refl;
   unreadable = IfParse-map e (λ at h. (no_locals h.1, inl (h.0, h.1), rw h.2 (record { visits = []; given = []; ran = refl }))) g.unreadable;
+  refusal = refuses e g;
 }
   where
+    refuses : (e : Error E) → GivesLocals {A = Body} asked bytes s m (Err e) (λ f. f) → IfRefused e (((t : Tree) × Spells body bytes t) ⊎ StopsBody asked old.ceiling bytes s e m)
+    refuses (UserError x) g = let l = g.refusal in inr (inl (l.0, l.1, l.2, g.reading old.ceiling l.0 l.1 l.2 (λ q. cc)))
+    refuses (TooLarge x) g = let l = g.refusal in inr (inl (l.0, l.1, l.2, g.reading old.ceiling l.0 l.1 l.2 (λ q. cc)))
+    refuses _ g = tt
+
     stops : (t : Tree) → Spells body bytes t → e ≢ NoMemory → walk asked old.ceiling s (Tree.sized t) ≡ refused e m
     stops t p other = go t p.shaped p.spelled
       where
@@ -95,6 +101,14 @@ module _ {S E : Type 0} (reply : S → Visit → Result ℕ E) (next : S → Vis
       let operators : walk (ask reply next) c m (rows_then o.0 o.1) ≡ accepted (rows_tree ops) s = o.4 ∙ rw last refl in
       rw o.2 (pair_accepted (ask reply next) c s0 m s l (body_tree f0.locals) (rows_then o.0 o.1) (rows_tree ops) (walked c) operators)
 
+  -- the body that was read
+  body_read : rest ≡ [] → (t : Tree) × Spells body bytes t
+  body_read empty =
+      let d = done 0 in
+      let all : start ≡ d.before.text = d.before.stands ∙ ap (λ (z : List ℕ). d.before.text ++ z) empty ∙ append-nil d.before.text in
+      let P : List ℕ → Type 0 = λ z. Spelled (rows_then d.read Tree.nil) z in
+      (Tree.pair l (rows_then d.read Tree.nil), body_spelled begins (record { shaped = d.before.shaped; spelled = subst P (sym all) d.before.spelled }))
+
   pub body_given : (new : CodeRows) (f : Body) → rest ≡ [] → f.locals ≡ f0.locals → f.operators ≡ ops → new ≡ with_row old (code_tree f) → length (normal (function_body f)) ≤ old.ceiling →
       GivesBody (ask reply next) bytes s0 old s new (Ok tt)
   body_given new f empty same_locals same_operators gains fits = record {
@@ -102,13 +116,10 @@ module _ {S E : Type 0} (reply : S → Visit → Result ℕ E) (next : S → Vis
         let w = body_walk old.ceiling t p empty in
         let whole : walk (ask reply next) old.ceiling s0 t ≡ accepted (function_body f) s = w ∙ rw (same_locals, same_operators) refl in
         (code_tree f, sized_fits (ask reply next) old.ceiling s0 s t (function_body f) whole fits, ap CodeRows.rows gains);
-    readable =
-        let d = done 0 in
-        let all : start ≡ d.before.text = d.before.stands ∙ ap (λ (z : List ℕ). d.before.text ++ z) empty ∙ append-nil d.before.text in
-        let P : List ℕ → Type 0 = λ z. Spelled (rows_then d.read Tree.nil) z in
-        (Tree.pair l (rows_then d.read Tree.nil), body_spelled begins (record { shaped = d.before.shaped; spelled = subst P (sym all) d.before.spelled }));
+    readable = body_read empty;
     unchanged = tt;
     unreadable = tt;
+    refusal = tt;
   }
 
   pub body_not_added : (f : Body) (w : WriteFault) → rest ≡ [] → f.locals ≡ f0.locals → f.operators ≡ ops →
@@ -119,6 +130,7 @@ module _ {S E : Type 0} (reply : S → Visit → Result ℕ E) (next : S → Vis
     readable = tt;
     unchanged = refl;
     unreadable = write_usual E _ w;
+    refusal = unless_wanting (error_of_write w) (λ other. inl (body_read empty));
   }
     where
       whole : (c : ℕ) (t : Tree) → Spells body bytes t → walk (ask reply next) c s0 t ≡ accepted (function_body f) s
@@ -153,6 +165,28 @@ module _ {S E : Type 0} (reply : S → Visit → Result ℕ E) (next : S → Vis
     readable = tt;
     unchanged = refl;
     unreadable = stops_usual _ (walk (ask reply next) 0 s operator) e n (usual_walk reply next 0 None s operator there.text there.spells.spelled) (stops 0);
+    refusal = unless_wanting e (λ other.
+        let d = done old.ceiling in
+        inr (inr (
+          l,
+          start,
+          body_tree f0.locals,
+          m,
+          begins,
+          walked old.ceiling,
+          record {
+            read = d.read;
+            rest = rest;
+            made = ops;
+            state = s;
+            before = d.before;
+            accepts = d.accepts;
+            operator = operator;
+            left = left;
+            begins = there;
+            refuses = stops old.ceiling other;
+          },
+        )));
   }
     where
       go : (t : Tree) → Spells body bytes t → e ≢ NoMemory → walk (ask reply next) old.ceiling s0 (Tree.sized t) ≡ refused e n
@@ -178,6 +212,7 @@ module _ {S E : Type 0} (reply : S → Visit → Result ℕ E) (next : S → Vis
           walk_further (ask reply next) 0 s0 s (Tree.pair l (rows_then d.read Tree.nil)) (Tree.pair (body_tree f0.locals) (rows_tree ops))
               (pair_accepted (ask reply next) 0 s0 m s l (body_tree f0.locals) (rows_then d.read Tree.nil) (rows_tree ops) (walked 0) read),
         );
+        refusal = tt;
       }
 
   -- the error of the call that reads and maps an operator

@@ -1,7 +1,7 @@
 -- From the sections of a module to its bytes.
-use Rattle.std.proofs.Common.{◌≡◌, ◌≢◌, ℕ, List, [], ◌∷◌, ◌++◌, Result, Ok, Err, refl, sym, ap, ◌∙◌, subst}
-use Rattle.wasm_shapes.specs.Tree.{Tree, normal}
-use Rattle.wasm_shapes.specs.Module.{core_header, core_module, core_tree}
+use Rattle.std.proofs.Common.{◌≡◌, ◌≢◌, ℕ, List, [], ◌++◌, Ok, Err, refl, ap, ◌∙◌, subst}
+use Rattle.wasm_shapes.specs.Tree.{Tree}
+use Rattle.wasm_shapes.specs.Module.{core_header, core_tree}
 use Rattle.wasm_shapes.proofs.Laws.{module_headed}
 use Rattle.wasm_write.specs.Sections.{Sections, SectionRow, sections_bytes, module_bytes}
 use Rattle.reencode_hooks.specs.declared.error.Error.{Error}

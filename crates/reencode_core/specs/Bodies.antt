@@ -1,17 +1,17 @@
 -- What the calls that map function bodies give.
-use Rattle.std.specs.Prelude.{◌≡◌, ◌≢◌, ◌-◌, ◌⊎◌, ℕ, List, [], ◌++◌, length, true, Result, Ok, Err, IfOk, IfErr}
+use Rattle.std.specs.Prelude.{◌≡◌, ◌≢◌, ◌-◌, ◌⊎◌, ℕ, List, [], length, true, Result, IfOk, IfErr}
 use Rattle.wasm_shapes.specs.Shape.{Shape}
 use Rattle.wasm_shapes.specs.Tree.{Tree}
 use Rattle.wasm_shapes.specs.Spells.{Spells}
 use Rattle.wasm_shapes.specs.Place.{Begins, BeginsNone}
-use Rattle.wasm_shapes.specs.Module.{local_row, body}
+use Rattle.wasm_shapes.specs.Module.{body}
 use Rattle.wasm_write.specs.Held.{body_tree}
 use Rattle.wasm_write.specs.Bodies.{Body, CodeRows}
 use Rattle.reencode_hooks.specs.declared.error.Error.{Error}
 use Rattle.reencode_hooks.specs.Run.{Gives}
 use Rattle.reencode_hooks.specs.Walk.{walk}
-use Rattle.reencode_core.specs.Errors.{IfParse}
-use Rattle.reencode_core.specs.Rows.{Asks, KeepsFront, GivesRow, RowsBefore, Further}
+use Rattle.reencode_core.specs.Errors.{IfParse, IfRefused}
+use Rattle.reencode_core.specs.Rows.{Asks, KeepsFront, GivesRow, RowsBefore, Further, locals, StopsBody}
 
 -- the second has the first's ceiling and rows, and perhaps more rows after them
 pub record KeepsCode (old new : CodeRows) : Type 0 where
@@ -20,15 +20,13 @@ pub record KeepsCode (old new : CodeRows) : Type 0 where
 
 -- ---- locals
 
-abbrev pub locals : Shape
-locals = Shape.vec local_row
-
 -- A function with the locals that a body begins with, each type mapped, and no operator.
 pub record GivesLocals {S E A : Type 0} (asked : Asks S E) (bytes : List ℕ) (s m : S) (result : Result A (Error E)) (view : A → Body) : Type 0 where
   pub reading : (c : ℕ) (t : Tree) (rest : List ℕ) → Begins locals bytes t rest → Gives (walk asked c s t) (λ f. body_tree (view f).locals) m result
   pub bare : IfOk result (λ f. (view f).operators ≡ [])
   pub readable : IfOk result (λ _. (t : Tree) × (rest : List ℕ) × Begins locals bytes t rest)
   pub unreadable : IfErr result (λ e. IfParse e (λ at. (at ≡ 0) × BeginsNone locals bytes × (m ≡ s)))
+  pub refusal : IfErr result (λ e. IfRefused e ((t : Tree) × (rest : List ℕ) × Begins locals bytes t rest))
 
 -- ---- a whole body
 
@@ -44,3 +42,4 @@ pub record GivesBody {S E : Type 0} (asked : Asks S E) (bytes : List ℕ) (s : S
   pub readable : IfOk result (λ _. (t : Tree) × Spells body bytes t)
   pub unchanged : IfErr result (λ _. new ≡ old)
   pub unreadable : IfErr result (λ e. IfParse e (λ at. ((t : Tree) → Spells body bytes t → ⊥) × NoOperator bytes at × Further asked s m))
+  pub refusal : IfErr result (λ e. IfRefused e (((t : Tree) × Spells body bytes t) ⊎ StopsBody asked old.ceiling bytes s e m))

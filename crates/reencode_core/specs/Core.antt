@@ -1,20 +1,20 @@
 -- What the calls that map a whole core module give.
-use Rattle.std.specs.Prelude.{◌≡◌, ◌≢◌, ◌-◌, ◌⊎◌, ◌∷◌, ℕ, List, [], ◌++◌, length, Option, Some, None, Result, Ok, Err, IfOk, IfErr}
-use Rattle.wasm_leb.specs.declared.fault.Fault.{Fault}
+use Rattle.std.specs.Prelude.{◌≡◌, ◌≢◌, ◌-◌, ◌⊎◌, ℕ, List, ◌++◌, length, Option, Some, None, Result, Ok, Err, IfOk, IfErr}
 use Rattle.wasm_shapes.specs.declared.SectionId.{SectionId}
 use Rattle.wasm_shapes.specs.declared.Visit.TheVariants.{Section}
-use Rattle.wasm_shapes.specs.Tree.{Tree, normal, kind}
+use Rattle.wasm_shapes.specs.Tree.{Tree, normal}
 use Rattle.wasm_shapes.specs.Spells.{Spells}
-use Rattle.wasm_shapes.specs.Module.{core_header, component_header, core_module, alsos, FaultAt, CoreReading}
+use Rattle.wasm_shapes.specs.Module.{core_header, component_header, core_module, alsos, frame, FaultAt, CoreReading}
+use Rattle.wasm_shapes.specs.Place.{Begins}
+use Rattle.wasm_read.specs.Frames.{section_number, numbered_frame}
 use Rattle.wasm_write.specs.Sections.{Sections, SectionRow, sections_bytes}
 use Rattle.reencode_hooks.specs.declared.error.Error.{Error}
 use Rattle.reencode_hooks.specs.declared.error.Error.TheVariants.{UnexpectedNonCoreModuleSection, ParseError, UserError, TooLarge, NoMemory}
 use Rattle.reencode_hooks.specs.Run.{Step, accepted, refused, and_then}
 use Rattle.reencode_hooks.specs.Walk.{walk, walk_from, announced}
 use Rattle.reencode_hooks.specs.Hooks.{Gains}
-use Rattle.reencode_core.specs.Errors.{IfParse}
-use Rattle.reencode_core.specs.Rows.{Asks}
-use Rattle.reencode_core.specs.Sections.{ReadsAs}
+use Rattle.reencode_core.specs.Rows.{Asks, Further}
+use Rattle.reencode_core.specs.Sections.{StopsSection}
 
 -- ---- sections one behind another
 
@@ -64,30 +64,39 @@ GivesModule asked s t old m new (Err e) = StopsSections asked old.ceiling s t ol
 abbrev pub NoHeader : List ℕ → Type 0
 NoHeader bytes = (rest : List ℕ) → (bytes ≢ core_header ++ rest) × (bytes ≢ component_header ++ rest)
 
--- Some sections, whatever stands behind them: the walk of them is refused, or all are accepted.
+-- the walk of some sections is refused, whatever stands behind them
 abbrev pub RefusedIn : {S E : Type 0} → Asks S E → ℕ → S → List Tree → Error E → S → Type 0
 RefusedIn asked c s before e m = (others : Tree) → walk asked c s (alsos before others) ≡ refused e m
-
-abbrev pub AcceptedAll : {S E : Type 0} → Asks S E → ℕ → S → List Tree → Type 0
-AcceptedAll {S} asked c s before =
-    (made : List Tree) × (last : Option SectionId) × (m : S) × AcceptsSections asked c s before made last m
 
 -- the header of a component stands there, and nothing was asked
 abbrev pub NonCore : {S : Type 0} → List ℕ → S → S → Type 0
 NonCore bytes s m = (rest : List ℕ) × (bytes ≡ component_header ++ rest) × (m ≡ s)
 
 -- Neither header stands there, the place is 0 and nothing was asked; or the place is the first where no section begins, and
--- all sections before it were accepted.
+-- all sections before it were accepted; further visits may follow, of a section that is read in part.
 abbrev pub FaultThere : {S E : Type 0} → Asks S E → ℕ → List ℕ → S → S → ℕ → Type 0
-FaultThere asked c bytes s m at =
+FaultThere {S} asked c bytes s m at =
     (NoHeader bytes × (at ≡ 0) × (m ≡ s))
-    ⊎ ((before : List Tree) × (rest : List ℕ) × FaultAt bytes before rest × (at ≡ length bytes - length rest) × AcceptedAll asked c s before)
+    ⊎ ((before : List Tree) × (rest : List ℕ) × FaultAt bytes before rest × (at ≡ length bytes - length rest)
+    × (made : List Tree) × (last : Option SectionId) × (n : S) × AcceptsSections asked c s before made last n × Further asked n m)
 
--- a refusal: where the bytes have no reading, it is that of the sections before the fault, or all of these were accepted
+-- A section that has no reading stands there in its frame. The section hook before it is refused; or that is accepted, and a
+-- row of the section is refused.
+pub record StopsInside {S E : Type 0} (asked : Asks S E) (c : ℕ) (bytes : List ℕ) (last : Option SectionId) (s : S) (e : Error E) (m : S) : Type 0 where
+  pub id : SectionId
+  pub body : List ℕ
+  pub left : List ℕ
+  pub framed : Begins frame bytes (numbered_frame (section_number id) body) left
+  pub stops : (asked s (Section last (Some id)) ≡ refused e m)
+      ⊎ ((n : S) × (asked s (Section last (Some id)) ≡ accepted 0 n) × StopsSection asked c id body n e m)
+
+-- A refusal, or a size that is too large: where the bytes have no reading, it comes of the sections before the fault; or all of
+-- these were accepted, and it comes of what stands whole, before the fault, in the section in fault.
 abbrev pub BeforeFault : {S E : Type 0} → Asks S E → ℕ → List ℕ → S → S → Error E → Type 0
-BeforeFault asked c bytes s m e =
+BeforeFault {S} asked c bytes s m e =
     ((rest : List ℕ) × (bytes ≡ core_header ++ rest))
-    × ((before : List Tree) (rest : List ℕ) → FaultAt bytes before rest → RefusedIn asked c s before e m ⊎ AcceptedAll asked c s before)
+    × ((before : List Tree) (rest : List ℕ) → FaultAt bytes before rest → RefusedIn asked c s before e m
+    ⊎ ((made : List Tree) × (last : Option SectionId) × (n : S) × AcceptsSections asked c s before made last n × StopsInside asked c rest last n e m))
 
 -- why an error comes; no error comes of which nothing is said here
 abbrev pub IsCause : {S E : Type 0} → Asks S E → ℕ → List ℕ → S → S → Error E → Type 0

@@ -1,18 +1,20 @@
 -- What the calls that map rows give.
-use Rattle.std.specs.Prelude.{◌≡◌, ◌≢◌, ◌+◌, ◌-◌, ◌^◌, ◌<◌, ◌⊎◌, ℕ, List, [], ◌∷◌, ◌++◌, length, take, Result, Ok, Err, IfOk, IfErr}
+use Rattle.std.specs.Prelude.{◌≡◌, ◌≢◌, ◌+◌, ◌-◌, ◌^◌, ◌<◌, ◌⊎◌, ℕ, List, [], ◌∷◌, ◌++◌, length, take, true, Result, Ok, Err, IfOk, IfErr}
 use Rattle.wasm_shapes.specs.declared.Visit.{Visit}
 use Rattle.wasm_shapes.specs.Shape.{Shape}
 use Rattle.wasm_shapes.specs.Tree.{Tree}
 use Rattle.wasm_shapes.specs.Spells.{Is, Spelled}
-use Rattle.wasm_shapes.specs.Place.{BeginsNone}
+use Rattle.wasm_shapes.specs.Place.{Begins, BeginsNone}
 use Rattle.wasm_shapes.specs.Rows.{RowsLeft, NoRows, rows_then}
+use Rattle.wasm_shapes.specs.Module.{local_row, code_row}
+use Rattle.wasm_read.specs.Operations.{frame_row}
 use Rattle.wasm_read.specs.Reading.{Standing}
 use Rattle.wasm_write.specs.Counts.{counts, IsTooLarge}
 use Rattle.reencode_hooks.specs.declared.error.Error.{Error}
 use Rattle.reencode_hooks.specs.declared.error.Error.TheVariants.{TooLarge, NoMemory}
 use Rattle.reencode_hooks.specs.Run.{Step, accepted, refused, and_then, run}
 use Rattle.reencode_hooks.specs.Walk.{walk}
-use Rattle.reencode_core.specs.Errors.{IfParse}
+use Rattle.reencode_core.specs.Errors.{IfParse, IfRefused}
 
 -- the second begins with the first
 abbrev pub KeepsFront : {R : Type 0} → List R → List R → Type 0
@@ -115,6 +117,56 @@ pub record RowsFault {S E : Type 0} (asked : Asks S E) (c : ℕ) (row : Shape) (
   pub further : Further asked state m
   pub gains : new ≡ old ++ made
 
+-- ---- what was refused
+
+abbrev pub locals : Shape
+locals = Shape.vec local_row
+
+-- Operators stand there and were accepted, and the next one stands whole and is refused.
+pub record StopsOperators {S E : Type 0} (asked : Asks S E) (c : ℕ) (start : List ℕ) (s : S) (e : Error E) (m : S) : Type 0 where
+  pub read : List Tree
+  pub rest : List ℕ
+  pub made : List Tree
+  pub state : S
+  pub before : RowsBefore (Shape.op true) start read rest
+  pub accepts : AcceptsRows asked c s read made state
+  pub operator : Tree
+  pub left : List ℕ
+  pub begins : Begins (Shape.op true) rest operator left
+  pub refuses : walk asked c state operator ≡ refused e m
+
+-- The locals that a body begins with are refused; or they are accepted, and an operator behind them is refused.
+abbrev pub StopsBody : {S E : Type 0} → Asks S E → ℕ → List ℕ → S → Error E → S → Type 0
+StopsBody {S} asked c bytes s e m =
+    ((t : Tree) × (start : List ℕ) × Begins locals bytes t start × (walk asked c s t ≡ refused e m))
+    ⊎ ((t : Tree) × (start : List ℕ) × (u : Tree) × (n : S) × Begins locals bytes t start × (walk asked c s t ≡ accepted u n) × StopsOperators asked c start n e m)
+
+-- A row stands whole there, and it is refused; or its visits are accepted, and it is one too many behind so many rows.
+pub record RefusesWhole {S E : Type 0} (asked : Asks S E) (c : ℕ) (row : Shape) (bytes : List ℕ) (s : S) (n : ℕ) (e : Error E) (m : S) : Type 0 where
+  pub tree : Tree
+  pub left : List ℕ
+  pub begins : Begins row bytes tree left
+  pub refusal : (walk asked c s tree ≡ refused e m) ⊎ (AcceptedHooks asked s tree m × TooMany e n)
+
+-- The frame of a function body stands there, and a part of that body is refused.
+pub record RefusesInside {S E : Type 0} (asked : Asks S E) (c : ℕ) (row : Shape) (bytes : List ℕ) (s : S) (e : Error E) (m : S) : Type 0 where
+  pub framed : row ≡ code_row
+  pub body : List ℕ
+  pub left : List ℕ
+  pub begins : Begins frame_row bytes (Tree.sized (Tree.raw body)) left
+  pub stops : StopsBody asked c body s e m
+
+-- Rows stand there and were accepted, and the next one, which is due, is refused.
+pub record StopsAtRow {S E : Type 0} (asked : Asks S E) (c : ℕ) (row : Shape) (reader : Standing) (s : S) (old : ℕ) (e : Error E) (m : S) : Type 0 where
+  pub read : List Tree
+  pub rest : List ℕ
+  pub made : List Tree
+  pub state : S
+  pub before : RowsBefore row reader.rest read rest
+  pub due : length read < reader.left
+  pub accepts : AcceptsRows asked c s read made state
+  pub refuses : RefusesWhole asked c row rest state (old + length read) e m ⊎ RefusesInside asked c row rest state e m
+
 -- ---- a section of rows
 
 pub record GivesRows {S E : Type 0} (asked : Asks S E) (c : ℕ) (row : Shape) (reader : Standing) (s : S) (old : List Tree) (m : S) (new : List Tree)
@@ -122,3 +174,4 @@ pub record GivesRows {S E : Type 0} (asked : Asks S E) (c : ℕ) (row : Shape) (
   pub reading : (rows : Tree) → RowsLeft row reader.left reader.rest rows → GivesAll asked c s rows old m new result
   pub readable : IfOk result (λ _. (rows : Tree) × RowsLeft row reader.left reader.rest rows)
   pub unreadable : IfErr result (λ e. IfParse e (RowsFault asked c row reader s old m new))
+  pub refusal : IfErr result (λ e. IfRefused e (StopsAtRow asked c row reader s (length old) e m))

@@ -1,6 +1,6 @@
 -- What the call that maps one section gives.
-use Rattle.std.specs.Prelude.{◌≡◌, ◌≢◌, ◌++◌, ◌-◌, ◌⊎◌, ℕ, List, [], length, Result, Ok, Err, IfOk, IfErr}
-use Rattle.wasm_leb.specs.Place.{BeginsNumber, BeginsNoNumber}
+use Rattle.std.specs.Prelude.{◌≡◌, ◌≢◌, ◌⊎◌, ℕ, List, [], Result, Ok, Err, IfOk, IfErr}
+use Rattle.wasm_leb.specs.Place.{BeginsNoNumber}
 use Rattle.wasm_shapes.specs.declared.SectionId.{SectionId}
 use Rattle.wasm_shapes.specs.declared.SectionId.TheVariants as id
 use Rattle.wasm_shapes.specs.Shape.{Shape, Named}
@@ -15,8 +15,8 @@ use Rattle.reencode_hooks.specs.declared.error.Error.TheVariants.{NoMemory}
 use Rattle.reencode_hooks.specs.Run.{accepted, refused}
 use Rattle.reencode_hooks.specs.Walk.{walk}
 use Rattle.reencode_hooks.specs.Hooks.{Gains}
-use Rattle.reencode_core.specs.Errors.{IfParse}
-use Rattle.reencode_core.specs.Rows.{Asks, RowsFault}
+use Rattle.reencode_core.specs.Errors.{IfParse, IfRefused}
+use Rattle.reencode_core.specs.Rows.{Asks, RowsFault, StopsAtRow}
 
 -- the second has the first's ceiling and sections, and perhaps more sections after them
 abbrev pub KeepsModule : Sections → Sections → Type 0
@@ -65,8 +65,13 @@ BodyFault asked c kind body s m at =
     × (((at ≡ 0) × (BeginsNoNumber 128 32 32 body ⊎ (body_shape kind ≡ Shape.none)) × (m ≡ s))
     ⊎ ((reader : Standing) × (made : List Tree) × CountRead body reader × RowsFault asked c (row_shape kind) reader s [] m made at))
 
+-- The count of the rows stands there, rows behind it were accepted, and the next one is refused.
+abbrev pub StopsSection : {S E : Type 0} → Asks S E → ℕ → SectionId → List ℕ → S → Error E → S → Type 0
+StopsSection asked c kind body s e m = (reader : Standing) × CountRead body reader × StopsAtRow asked c (row_shape kind) reader s 0 e m
+
 pub record GivesSection {S E : Type 0} (asked : Asks S E) (kind : SectionId) (body : List ℕ) (s : S) (old : Sections) (m : S) (new : Sections)
     (result : Result (Unit {0}) (Error E)) : Type 0 where
   pub reading : (t : Tree) → ReadsAs kind body t → GivesOne asked kind s t old m new result
   pub readable : IfOk result (λ _. (t : Tree) × ReadsAs kind body t)
   pub unreadable : IfErr result (λ e. IfParse e (BodyFault asked old.ceiling kind body s m))
+  pub refusal : IfErr result (λ e. IfRefused e (((t : Tree) × ReadsAs kind body t) ⊎ StopsSection asked old.ceiling kind body s e m))
