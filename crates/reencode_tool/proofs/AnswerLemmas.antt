@@ -1,12 +1,14 @@
 -- What a status says of how the program ended.
-use Rattle.std.proofs.Common.{◌≡◌, ◌≢◌, ℕ, ◌<◌, ◌≤◌, inl, inr, Option, Some, None, List, [], ◌∷◌, ◌++◌, codes, length, length-append, refl, sym, ap, ◌∙◌, arith, lit<}
+use Rattle.std.proofs.Common.{◌≡◌, ◌≢◌, ℕ, ◌-◌, ◌^◌, ◌<◌, ◌≤◌, inl, inr, Option, Some, None, List, [], ◌∷◌, ◌++◌, codes, length, length-append, refl, sym, ap, ◌∙◌, arith, lit<}
 use Rattle.std.specs.Prelude.{Contains}
 use Rattle.std.proofs.lemmas.List.{append-nil}
 use Rattle.reencode_tool.specs.declared.answer.Answer.{Answer}
 use Rattle.reencode_tool.specs.declared.answer.Answer.TheVariants.{Printed, NoMemory, Usage, ReadFault, WriteFault, ParseError, Refused, CodeSectionSize, NonCoreModule, NonComponent, TooLarge, TooLong, NotHexadecimal}
-use Rattle.reencode_tool.specs.Answer.{Ends, HasComponent, HasNoDigits, HasNoReading, IsDecided, IsDecidedBy, Made, Outside, message, most_bytes, plain_words, status_of, text_of}
+use Rattle.reencode_tool.specs.Answer.{Ends, HasComponent, HasNoDigits, HasNoReading, IsDecided, Stops, IsDecidedBy, Made, Outside, message, most_bytes, plain_words, status_of, text_of}
 use Rattle.reencode_tool.specs.Hexadecimal.{binary}
 use Rattle.reencode_tool.specs.Outside.{GaveAll, Rose, TookMore}
+use Rattle.reencode_tool.specs.Plain.{IsRefused}
+use Rattle.reencode_tool.proofs.TextLemmas.{binary_length}
 
 -- ---- one status, one end
 
@@ -121,6 +123,21 @@ message_of NonComponent words o status s h n m = absurd h.1
 message_of (TooLarge size ceiling) words o status s h n m = absurd h.1
 message_of TooLong words o status s h n m = ap message (sym s)
 message_of NotHexadecimal words o status s h n m = ap message (sym s)
+
+-- ---- what is made of the bytes
+
+-- bytes that are refused say why nothing is printed of the source
+pub stops_of : (answer : Answer) (faults_old faults_new : ℕ) {left_old left_new : Option (List ℕ)} (text bytes : List ℕ) → GaveAll most_bytes left_old left_new text
+    → binary text ≡ Some bytes → IsRefused bytes answer → Stops answer faults_old faults_new left_old left_new
+stops_of NoMemory faults_old faults_new text bytes gave digits h = tt
+stops_of (ParseError at) faults_old faults_new text bytes gave digits h = record { text = text; bytes = bytes; gave = gave; digits = digits; none = h }
+stops_of NonCoreModule faults_old faults_new text bytes gave digits h = record { text = text; bytes = bytes; gave = gave; digits = digits; component = h }
+stops_of (TooLarge size ceiling) faults_old faults_new text bytes gave digits h =
+    let within : length text ≤ most_bytes = gave.within in
+    let long : 2 ^ 32 - 1 < length bytes = h in
+    let fewer : length bytes ≤ length text = binary_length text bytes digits in
+    absurd (omega arith)
+stops_of _ faults_old faults_new text bytes gave digits h = absurd h
 
 -- ---- what decides
 

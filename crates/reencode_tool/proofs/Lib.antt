@@ -1,4 +1,5 @@
 pub mod OutsideLemmas
+pub mod TextLemmas
 pub mod AnswerLemmas
 pub mod Shortest
 pub mod Blank

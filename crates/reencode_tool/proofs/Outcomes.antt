@@ -12,7 +12,9 @@ use Rattle.reencode_hooks.specs.declared.error.Error.TheVariants as error
 use Rattle.reencode_hooks.specs.Renamings.{Renaming, no_renaming}
 use Rattle.reencode_core.specs.Core.{GivesBytes, FaultThere}
 use Rattle.reencode_tool.specs.Counts.{counted, raised, visit_place}
-use Rattle.reencode_tool.specs.Plain.{IsPlain, IsRefusedAt, IsComponent, HasCoreHeader}
+use Rattle.reencode_tool.specs.declared.answer.Answer.{Answer}
+use Rattle.reencode_tool.specs.Plain.{IsPlain, IsRefused, IsRefusedAt, IsComponent}
+use Rattle.reencode_tool.specs.Answer.{EndsAs, HasStatus}
 use Rattle.reencode_tool.proofs.Blank.{asks, blank_new, walk_is, counts_after, only_large, Large}
 use Rattle.reencode_tool.proofs.Refusals.{refusal_is_large}
 
@@ -86,3 +88,18 @@ why_given bytes m (error.TooLarge size) view h =
     too_long bytes (λ short. refusal_is_large blank_new h.cause (λ t r. reading_large (λ same. cc) h t r) (λ large. let long : 2 ^ 32 - 1 < length bytes = large.long in omega arith))
 why_given bytes m error.NoMemory view h = tt
 why_given bytes m _ view h = h.cause
+
+-- ---- ends
+
+pub has_status : (bytes : List ℕ) (e : Error Unmapped) → Why bytes e → HasStatus e
+has_status bytes error.CanonicalizedHeapTypeReference h = absurd h
+has_status bytes error.InvalidConstExpr h = absurd h
+has_status bytes error.UnsupportedCoreTypeInComponent h = absurd h
+has_status bytes _ h = tt
+
+pub refused_as : (bytes : List ℕ) (ceiling : ℕ) (e : Error Unmapped) (answer : Answer) → Why bytes e → EndsAs ceiling e answer → IsRefused bytes answer
+refused_as bytes ceiling error.UnexpectedNonCoreModuleSection answer h f = rw f h
+refused_as bytes ceiling (error.ParseError e) answer h f = rw f h
+refused_as bytes ceiling (error.TooLarge size) answer h f = rw f h
+refused_as bytes ceiling error.NoMemory answer h f = rw f tt
+refused_as bytes ceiling _ answer h f = absurd h

@@ -144,19 +144,6 @@ fn say_parse_error<D: Sink>(err: &mut D, at: usize) -> Result<(), Failed>
     write_line(err, b"parse error at ", at as u64)
 }
 
-/// Writes the name of a space and a blank behind a text. After a failure a front of it was taken.
-fn write_space<D: Sink>(err: &mut D, space: &str) -> Result<(), Failed>
-    ensures rises { D.faults err.old ≤ D.faults err.new }
-    ensures ok { OnOk result (WhereTold (D.held err.new) (followed (D.held err.old) (codes "refused " ++ space.now ++ codes " "))) }
-    ensures failed { OnErr result (Rose (D.faults err.old) (D.faults err.new)) }
-    ensures front { OnErr result (TookFront (D.held err.old) (D.held err.new) (codes "refused " ++ space.now ++ codes " ")) }
-{
-    match write_both(err, b"refused ", space.as_bytes()) {
-        Ok(()) => write_all(err, b" "),
-        Err(Failed) => Err(Failed),
-    }
-}
-
 /// Says which index was refused.
 fn say_refused<D: Sink>(err: &mut D, unmapped: Unmapped) -> Result<(), Failed>
     ensures rises { D.faults err.old ≤ D.faults err.new }
@@ -164,8 +151,8 @@ fn say_refused<D: Sink>(err: &mut D, unmapped: Unmapped) -> Result<(), Failed>
     ensures failed { OnErr result (Rose (D.faults err.old) (D.faults err.new)) }
     ensures front { OnErr result (TookFront (D.held err.old) (D.held err.new) (text_of (Answer.Refused unmapped) ++ codes "\n")) }
 {
-    match write_space(err, unmapped.space.name()) {
-        Ok(()) => write_line(err, b"", unmapped.index as u64),
+    match write_both(err, b"refused ", unmapped.space.name().as_bytes()) {
+        Ok(()) => write_line(err, b" ", unmapped.index as u64),
         Err(Failed) => Err(Failed),
     }
 }
