@@ -36,7 +36,10 @@ pub enum Answer {
     /// The header or a section of a core module stands where a component is read.
     NonComponent,
     /// A frame is longer than the ceiling.
-    TooLarge { size: u64, ceiling: u32 },
+    TooLarge {
+        size: u64,
+        ceiling: u32,
+    },
     /// The input is too long.
     TooLong,
     /// The input is no hexadecimal text.

@@ -342,7 +342,10 @@ fn failing_outside(rt: HostRuntime) -> Result<(), Fail> {
 fn line_of_counts(rt: HostRuntime) -> Result<(), Fail> {
     let alloc = rt.alloc();
     let mut renamer = Renamer::new(alloc);
-    assert_eq!(rt; tail(alloc, &counts_of(&renamer))?.as_slice(), b"\nasked\n".as_slice());
+    assert_eq!(rt;
+        tail(alloc, &counts_of(&renamer))?.as_slice(),
+        b"\nasked\n".as_slice()
+    );
     for _ in 0..10 {
         renamer.note(Asked::SectionHook);
     }
@@ -385,7 +388,11 @@ fn ends_of_errors(rt: HostRuntime) -> Result<(), Fail> {
         index: 7,
     };
     for (answer, status, text) in [
-        (Answer::Refused(unmapped), 6, &b"refused component_func 7\n"[..]),
+        (
+            Answer::Refused(unmapped),
+            6,
+            &b"refused component_func 7\n"[..],
+        ),
         (Answer::CodeSectionSize, 7, b"invalid code section size\n"),
         (
             Answer::NonCoreModule,
@@ -420,10 +427,28 @@ fn answers_of_errors(rt: HostRuntime) {
         space: Space::Type_,
         index: 0,
     };
-    assert_eq!(rt; answer_of(Error::UserError(unmapped), 9), Answer::Refused(unmapped));
-    assert_eq!(rt; answer_of(Error::InvalidCodeSectionSize, 9), Answer::CodeSectionSize);
-    assert_eq!(rt; answer_of(Error::UnexpectedNonCoreModuleSection, 9), Answer::NonCoreModule);
-    assert_eq!(rt; answer_of(Error::UnexpectedNonComponentSection, 9), Answer::NonComponent);
-    assert_eq!(rt; answer_of(Error::TooLarge { size: 10 }, 9), Answer::TooLarge { size: 10, ceiling: 9 });
+    assert_eq!(rt;
+        answer_of(Error::UserError(unmapped), 9),
+        Answer::Refused(unmapped)
+    );
+    assert_eq!(rt;
+        answer_of(Error::InvalidCodeSectionSize, 9),
+        Answer::CodeSectionSize
+    );
+    assert_eq!(rt;
+        answer_of(Error::UnexpectedNonCoreModuleSection, 9),
+        Answer::NonCoreModule
+    );
+    assert_eq!(rt;
+        answer_of(Error::UnexpectedNonComponentSection, 9),
+        Answer::NonComponent
+    );
+    assert_eq!(rt;
+        answer_of(Error::TooLarge { size: 10 }, 9),
+        Answer::TooLarge {
+            size: 10,
+            ceiling: 9
+        }
+    );
     assert_eq!(rt; answer_of(Error::NoMemory, 9), Answer::NoMemory);
 }
