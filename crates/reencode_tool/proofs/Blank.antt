@@ -1,6 +1,6 @@
 -- A renamer without entries that is not strict answers each visit by its own index, and a walk of it changes nothing.
 use Rattle.std.specs.Prelude.{slice_index_or, replicate, ◌&&◌}
-use Rattle.std.proofs.Common.{◌≡◌, ℕ, ◌<◌, ◌≤◌, ◌⊎◌, inl, inr, List, [], ◌∷◌, ◌++◌, length, map, Bool, true, false, nat_lt, ltb-true, ltb-false, Option, Some, None, Result, Ok, Err, refl, sym, ap, ap₂, ◌∙◌, subst, arith}
+use Rattle.std.proofs.Common.{◌≡◌, ℕ, ◌<◌, ◌≤◌, List, [], ◌∷◌, ◌++◌, length, map, Bool, true, false, nat_lt, ltb-true, ltb-false, Option, None, Result, Ok, refl, sym, ap, ap₂, ◌∙◌, subst}
 use Rattle.std.specs.FinMap as entries
 use Rattle.wasm_shapes.specs.declared.Space.{Space}
 use Rattle.wasm_shapes.specs.declared.Space.TheVariants as space
@@ -12,9 +12,9 @@ use Rattle.wasm_shapes.specs.Own.{asked_index, own}
 use Rattle.wasm_shapes.proofs.OwnAnswers.{fill_own}
 use Rattle.reencode_hooks.specs.declared.asked.Unmapped.{Unmapped}
 use Rattle.reencode_hooks.specs.declared.error.Error.{Error}
-use Rattle.reencode_hooks.specs.declared.error.Error.TheVariants.{TooLarge, CanonicalizedHeapTypeReference}
+use Rattle.reencode_hooks.specs.declared.error.Error.TheVariants.{TooLarge}
 use Rattle.reencode_hooks.specs.Renamings.{Renaming, Entries, no_renaming, entries_in, entry_of, if_index, or_itself, is_core_space, renamed, space_number, renamer_reply, renamer_next}
-use Rattle.reencode_hooks.specs.Run.{Step, accepted, refused, ask, answered, run, answers, and_then}
+use Rattle.reencode_hooks.specs.Run.{Step, accepted, refused, ask, answered, run, answers}
 use Rattle.reencode_hooks.specs.Walk.{walk}
 use Rattle.reencode_hooks.specs.Moments as moment
 use Rattle.reencode_hooks.proofs.Walks.{walk_is_run, walk_stops}

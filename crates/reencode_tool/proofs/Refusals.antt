@@ -1,20 +1,20 @@
 -- What a refusal of a renamer without entries comes of: of a size above the ceiling, in bytes that are longer than it.
-use Rattle.std.proofs.Common.{◌≡◌, ◌≢◌, ℕ, zero, suc, ◌+◌, ◌-◌, ◌^◌, ◌<◌, ◌≤◌, ◌⊎◌, inl, inr, List, [], ◌∷◌, ◌++◌, length, length-append, append_assoc, append-nil, true, false, Option, Some, None, refl, sym, ap, ◌∙◌, subst, arith}
+use Rattle.std.proofs.Common.{◌≡◌, ℕ, zero, suc, ◌+◌, ◌-◌, ◌^◌, ◌<◌, ◌≤◌, ◌⊎◌, inl, inr, List, [], ◌∷◌, ◌++◌, length, length-append, append_assoc, append-nil, true, Option, Some, refl, sym, ap, ◌∙◌, subst, arith}
 use mathlib.Core.Bool.{false≢true}
 use Rattle.wasm_shapes.specs.declared.SectionId.{SectionId}
 use Rattle.wasm_shapes.specs.declared.Visit.{Visit}
 use Rattle.wasm_shapes.specs.declared.Visit.TheVariants.{Section}
-use Rattle.wasm_shapes.specs.Tree.{Tree, visits}
+use Rattle.wasm_shapes.specs.Tree.{Tree}
 use Rattle.wasm_shapes.specs.Shape.{Shape}
 use Rattle.wasm_shapes.specs.Sound.{nullable}
-use Rattle.wasm_shapes.specs.Spells.{Is, Spelled, Spells}
+use Rattle.wasm_shapes.specs.Spells.{Is, Spells}
 use Rattle.wasm_shapes.specs.Place.{Begins}
 use Rattle.wasm_shapes.specs.Rows.{rows_then}
 use Rattle.wasm_shapes.specs.Own.{asked_index}
 use Rattle.wasm_shapes.specs.Module.{core_header, section, sections, frame, alsos, CoreReading, NoCoreReading, FaultAt}
 use Rattle.wasm_shapes.proofs.Fronts.{nullable_sound}
 use Rattle.wasm_read.specs.Operations.{frame_row}
-use Rattle.wasm_read.specs.Frames.{section_number, numbered_frame}
+use Rattle.wasm_read.specs.Frames.{numbered_frame}
 use Rattle.wasm_read.specs.Reading.{Standing}
 use Rattle.reencode_hooks.specs.declared.asked.Unmapped.{Unmapped}
 use Rattle.reencode_hooks.specs.declared.error.Error.{Error}
@@ -23,7 +23,7 @@ use Rattle.reencode_hooks.specs.Renamings.{Renaming, renamer_next}
 use Rattle.reencode_hooks.specs.Run.{Step, accepted, refused}
 use Rattle.reencode_hooks.specs.Walk.{walk}
 use Rattle.reencode_core.specs.Rows.{AcceptsRows, AcceptedHooks, TooMany, StopsOperators, StopsBody, RefusesWhole, RefusesInside, StopsAtRow}
-use Rattle.reencode_core.specs.Sections.{StopsSection, row_shape}
+use Rattle.reencode_core.specs.Sections.{StopsSection}
 use Rattle.reencode_core.specs.Core.{AcceptsSections, RefusedIn, StopsInside, BeforeFault}
 use Rattle.reencode_tool.proofs.Blank.{Blank, Large, asks, blank_asked, blank_next, walk_blank, only_large}
 

@@ -1,5 +1,5 @@
 -- No spelling of a tree is shorter than its normal one, and no frame is longer than a text that it stands in.
-use Rattle.std.proofs.Common.{◌≡◌, ℕ, ℤ, pos, negsuc, zero, suc, ◌+◌, ◌-◌, ◌*◌, ◌/◌, ◌%◌, ◌^◌, ◌<◌, ◌≤◌, ◌≤ℤ◌, ◌<ℤ◌, List, [], ◌∷◌, ◌++◌, length, length-append, Bool, true, false, nat_lt, if◌then◌else◌, ltb-true, ltb-false, refl, sym, ap, ◌∙◌, arith, All, inl, inr, ◌⊎◌, subst}
+use Rattle.std.proofs.Common.{◌≡◌, ℕ, ℤ, pos, negsuc, zero, suc, ◌+◌, ◌/◌, ◌%◌, ◌^◌, ◌<◌, ◌≤◌, List, [], ◌∷◌, ◌++◌, length, length-append, Bool, true, false, nat_lt, if◌then◌else◌, ltb-true, ltb-false, refl, ap, arith, All, inl, inr, ◌⊎◌}
 use Rattle.std.proofs.lemmas.Int.{ints}
 use Rattle.std.proofs.lemmas.List.Elements.{All-append, All-cons}
 use Rattle.wasm_leb.specs.Leb.{leb, signed_leb, shortest, shortest_signed, IsUnsigned, IsSignedIndex, IsSigned}

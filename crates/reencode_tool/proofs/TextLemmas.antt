@@ -1,11 +1,11 @@
 -- A hexadecimal text stands for no more bytes than it has.
 use Rattle.std.specs.Prelude.{◌==◌}
-use Rattle.std.proofs.Common.{◌≡◌, ℕ, suc, ◌+◌, ◌%◌, ◌≤◌, List, [], ◌∷◌, length, Bool, true, false, not, if◌then◌else◌, filter, Option, Some, None, Result, Ok, Err, refl, ap, arith}
+use Rattle.std.proofs.Common.{◌≡◌, ℕ, suc, ◌+◌, ◌%◌, ◌≤◌, List, [], ◌∷◌, length, Bool, true, false, not, if◌then◌else◌, Some, Result, Ok, Err, refl, ap, arith}
 use Rattle.std.specs.Result.{result_ok}
 use Rattle.std.proofs.lemmas.List.Filters.{length-filter_both}
 use Rattle.hex.specs.declared.error.FromHexError.{FromHexError}
 use Rattle.hex.specs.declared.error.FromHexError.TheVariants.{OddLength}
-use Rattle.hex.specs.Hex.{◌>>=◌, decode_of, decode_pairs, pair_value}
+use Rattle.hex.specs.Hex.{◌>>=◌, decode_pairs, pair_value}
 use Rattle.reencode_tool.specs.Hexadecimal.{binary, is_blank, without_blanks}
 
 pairs_length : (i : ℕ) (s bytes : List ℕ) → decode_pairs i s ≡ Ok bytes → length bytes ≤ length s

@@ -1,5 +1,5 @@
 -- What the re-encoding that renames nothing makes of the input's bytes.
-use Rattle.std.specs.Prelude.{◌≡◌, ◌≢◌, ◌⊎◌, ◌-◌, ◌^◌, ◌<◌, ◌++◌, ℕ, List, length, replicate}
+use Rattle.std.specs.Prelude.{◌≡◌, ◌⊎◌, ◌-◌, ◌^◌, ◌<◌, ◌++◌, ℕ, List, length, replicate}
 use Rattle.wasm_shapes.specs.Tree.{Tree, normal, visits}
 use Rattle.wasm_shapes.specs.Module.{core_header, component_header, core_tree, CoreReading, NoCoreReading, FaultAt}
 use Rattle.reencode_tool.specs.Counts.{counted}

@@ -1,4 +1,4 @@
-use Rattle.std.proofs.Common.{◌≡◌, ◌++◌, List, ℕ, ap, codes, decimal, subst}
+use Rattle.std.proofs.Common.{◌≡◌, ◌++◌, List, ℕ, codes, decimal, subst}
 use Rattle.wasm_shapes.specs.Names.{space_name}
 use Rattle.reencode_tool.specs.Outside.{WhereTold, followed, TookFront}
 use Rattle.reencode_tool.proofs.OutsideLemmas.{TookFront-line, TookFront-longest, WhereTold-line}
