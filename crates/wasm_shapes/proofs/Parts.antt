@@ -1,7 +1,7 @@
 -- What bytes begin with: parts that are visited in the other order, rows among others, and bytes that may be left out.
 use Rattle.std.proofs.Common.{◌≡◌, ◌≢◌, ℕ, zero, suc, List, [], ◌∷◌, ◌++◌, refl, sym, ap, ◌∙◌, append_assoc, inl, inr, ◌⊎◌, arith}
 use Rattle.wasm_shapes.specs.Tree.{Tree, count}
-use Rattle.wasm_shapes.specs.Shape.{Shape, choice, rows_and, lead}
+use Rattle.wasm_shapes.specs.Shape.{Shape, Named, shape_of, choice, rows_and, lead}
 use Rattle.wasm_shapes.specs.Spells.{Is, Spelled}
 use Rattle.wasm_shapes.specs.Place.{Begins, BeginsNone}
 
@@ -75,6 +75,17 @@ none_among rows others {bytes = bytes} none behind = record { none = λ text lef
 
 pub none_first_rows : (rows others : List Shape) {bytes : List ℕ} → BeginsNone (choice (rows_and rows others)) bytes → BeginsNone (choice rows) bytes
 none_first_rows rows others none = record { none = λ text left tree p e. none.none text left tree (record { shaped = among rows others p.shaped; spelled = p.spelled }) e }
+
+-- ---- a shape by its name
+
+of_name : {n : Named} {t : Tree} → Is (Shape.ref n) t → Is (shape_of n) t
+of_name (Is.ref d) = d
+
+pub begins_named : {n : Named} {t : Tree} {bytes left : List ℕ} → Begins (Shape.ref n) bytes t left → Begins (shape_of n) bytes t left
+begins_named p = record { text = p.text; spells = record { shaped = of_name p.spells.shaped; spelled = p.spells.spelled }; reads = p.reads }
+
+pub none_named : (n : Named) {bytes : List ℕ} → BeginsNone (Shape.ref n) bytes → BeginsNone (shape_of n) bytes
+none_named n none = record { none = λ text left tree p e. none.none text left tree (record { shaped = Is.ref p.shaped; spelled = p.spelled }) e }
 
 -- ---- a byte that may be left out
 
