@@ -1,5 +1,5 @@
 -- Limits at the front of some bytes, by their flags.
-use Rattle.std.proofs.Common.{◌≡◌, ℕ, ◌+◌, ◌<◌, Bool, true, false, List, [], ◌∷◌, Option, Some, None, refl, ap, ◌∙◌, arith}
+use Rattle.std.proofs.Common.{◌≡◌, ℕ, ◌+◌, ◌<◌, Bool, true, false, not, List, [], ◌∷◌, Option, Some, None, refl, ap, ◌∙◌, arith}
 use Rattle.wasm_leb.specs.Place.{BeginsNumber, BeginsNoNumber}
 use Rattle.std.specs.Option.{is_some}
 use Rattle.wasm_shapes.specs.Tree.{Tree}
@@ -45,7 +45,7 @@ pub no_bounds : (m p : Bool) {bytes : List ℕ} → BeginsNone (bounds m) bytes 
 no_bounds m false none = none
 no_bounds m true none = none_seq_first none
 
-pub no_page : (m p : Bool) {t : Tree} {bytes middle : List ℕ} → p ≡ true → Begins (bounds m) bytes t middle → BeginsNoNumber 128 32 32 middle → BeginsNone (paged p (bounds m)) bytes
+pub no_page : (m p : Bool) {t : Tree} {bytes middle : List ℕ} → not p ≡ false → Begins (bounds m) bytes t middle → BeginsNoNumber 128 32 32 middle → BeginsNone (paged p (bounds m)) bytes
 no_page m true e there none = none_seq_second (bounds_sound m).0 (bounds_sound m).1 there (none_u32 none)
 no_page m false e there none = absurd cc
 
