@@ -8,3 +8,4 @@ pub mod Vectors
 pub mod Missing
 pub mod HeapTypes
 pub mod Limits
+pub mod TypeRows
