@@ -17,6 +17,8 @@ mod rows;
 mod sections;
 #[cfg(test)]
 mod tests;
+#[cfg(test)]
+mod type_tests;
 mod types;
 mod values;
 
