@@ -35,6 +35,9 @@ impl Model for Function {
     ghost view = { λ f. held_body f.bytes.items f.held };
 }
 
+/// The bytes for which a function has room from the start: most need no more, and take memory once.
+const COMMON_LENGTH: usize = 64;
+
 /// Appends so many locals of a type, or a part of them where memory is wanting.
 fn write_local(out: &mut Vec<u8>, local: (u32, ValType)) -> Result<(), NoMemory>
     ensures ok { OnOk result (out.new.items ≡ out.old.items ++ normal (local_tree local)) }
@@ -80,7 +83,10 @@ impl Function {
         if count > u32::MAX as usize {
             return Err(WriteFault::TooLarge { size: count as u64 });
         }
-        let mut bytes = Vec::new(alloc);
+        let mut bytes = match Vec::with_capacity(alloc, COMMON_LENGTH) {
+            Ok(bytes) => bytes,
+            Err(_) => return Err(WriteFault::NoMemory),
+        };
         match write_locals(&mut bytes, locals.as_slice()) {
             Ok(()) => Ok(Function { bytes }),
             Err(NoMemory) => Err(WriteFault::NoMemory),

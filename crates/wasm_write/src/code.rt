@@ -51,14 +51,14 @@ impl CodeSection {
 
     /// Adds a function. A refusal changes nothing.
     ///
-    /// `TooLarge` comes exactly where its locals and operators have more bytes than the ceiling, or the number of rows would
-    /// pass 2^32 - 1, with that number.
+    /// `TooLarge` comes exactly where its locals and operators have more bytes than the ceiling, with their number, or they
+    /// fit and the number of rows would pass 2^32 - 1, with that number.
     pub fn function(&mut self, f: &Function) -> Result<(), WriteFault>
         ensures ok { OnOk result (self.new ≡ with_row self.old (code_tree f.now)) }
         ensures fits { OnOk result ((length (normal (function_body f.now)) ≤ self.old.ceiling) × (length self.old.rows + 1 < 2 ^ 32)) }
         ensures err { OnErr result (self.new ≡ self.old) }
         ensures large { IfErr result (λ e. IfTooLarge e (λ size.
-            ((size ≡ length (normal (function_body f.now))) × (self.old.ceiling < size)) ⊎ ((size ≡ length self.old.rows + 1) × (2 ^ 32 - 1 < size)))) }
+            ((size ≡ length (normal (function_body f.now))) × (self.old.ceiling < size)) ⊎ ((size ≡ length self.old.rows + 1) × (2 ^ 32 - 1 < size) × (length (normal (function_body f.now)) ≤ self.old.ceiling)))) }
     {
         let body = f.as_bytes();
         let size = body.len() as u64;

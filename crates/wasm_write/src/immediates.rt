@@ -121,8 +121,25 @@ fn write_bytes(out: &mut Vec<u8>, bytes: &[u8]) -> Result<(), NoMemory>
     }
 }
 
-/// Appends an immediate, or a part of it where memory is wanting.
+/// Appends an immediate, or a part of it where memory is wanting. The commonest are written in line.
+#[inline(always)]
 pub(crate) fn write_imm(out: &mut Vec<u8>, imm: &Imm<'_>) -> Result<(), NoMemory>
+    requires { IsSome (imm_kind imm.now) }
+    ensures ok { OnOk result (out.new.items ≡ out.old.items ++ normal (imm_tree imm.now)) }
+    ensures in_range { OnOk result (InRange (imm_tree imm.now)) }
+    ensures err { OnErr result (take (vec_len out.old) out.new.items ≡ out.old.items) }
+{
+    match imm {
+        Imm::Label(number) | Imm::Local(number) => write_u32(out, *number),
+        Imm::Index(_, index) => write_u32(out, *index),
+        Imm::S32(number) => write_s32(out, *number),
+        _ => write_any_imm(out, imm),
+    }
+}
+
+/// Appends an immediate, or a part of it where memory is wanting. It stands apart, so that what is in line stays small.
+#[inline(never)]
+fn write_any_imm(out: &mut Vec<u8>, imm: &Imm<'_>) -> Result<(), NoMemory>
     requires { IsSome (imm_kind imm.now) }
     ensures ok { OnOk result (out.new.items ≡ out.old.items ++ normal (imm_tree imm.now)) }
     ensures in_range { OnOk result (InRange (imm_tree imm.now)) }

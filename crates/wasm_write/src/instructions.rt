@@ -150,6 +150,7 @@ impl<'a> Instruction<'a> {
 
     /// Appends the operator and its immediates, which read back as this instruction. Where memory is wanting, what stood in
     /// `out` before stands there still.
+    #[inline(always)]
     pub fn encode(&self, out: &mut Vec<u8>) -> Result<(), NoMemory>
         ensures ok { OnOk result (out.new.items ≡ out.old.items ++ normal (instruction_tree self.now)) }
         ensures spells { OnOk result (∥ Spells (Shape.op true) (normal (instruction_tree self.now)) (instruction_tree self.now) ∥₁) }
@@ -163,6 +164,7 @@ impl<'a> Instruction<'a> {
 }
 
 /// Appends the number of an operator, or a part of it where memory is wanting.
+#[inline(always)]
 fn write_opcode(out: &mut Vec<u8>, op: Opcode) -> Result<(), NoMemory>
     requires { op.prefix ≡ 0 → op.sub < 256 }
     ensures ok { OnOk result (out.new.items ≡ out.old.items ++ code_bytes (code_of op)) }
@@ -177,6 +179,7 @@ fn write_opcode(out: &mut Vec<u8>, op: Opcode) -> Result<(), NoMemory>
 }
 
 /// Appends a byte and a number, or a part of them where memory is wanting.
+#[inline(never)]
 fn write_prefixed(out: &mut Vec<u8>, prefix: u8, sub: u32) -> Result<(), NoMemory>
     ensures ok { OnOk result (out.new.items ≡ out.old.items ++ (prefix ∷ leb sub)) }
     ensures err { OnErr result (take (vec_len out.old) out.new.items ≡ out.old.items) }
@@ -188,6 +191,7 @@ fn write_prefixed(out: &mut Vec<u8>, prefix: u8, sub: u32) -> Result<(), NoMemor
 }
 
 /// Appends immediates one behind another, or a part of them where memory is wanting.
+#[inline(always)]
 fn write_imms(out: &mut Vec<u8>, imms: &[Imm<'_>]) -> Result<(), NoMemory>
     requires { All (λ i. IsSome (imm_kind i)) imms.now }
     ensures ok { OnOk result (out.new.items ≡ out.old.items ++ normal (imms_tree imms.now)) }

@@ -1,5 +1,6 @@
 //! A core module under construction.
-ghost use Rattle.std.specs.Prelude.{◌≡◌, ◌++◌, ◌<◌, ◌≤◌, ◌^◌, [], length, take, vec_len, OnOk, OnErr, IfOk, IfErr};
+ghost use Rattle.std.specs.Prelude.{◌≡◌, ◌++◌, ◌<◌, ◌≤◌, [], length, take, slice_range, vec_len, OnOk, OnErr, IfOk, IfErr};
+ghost use Rattle.std.specs.List.{remove_range};
 ghost use Rattle.wasm_write.specs.Faults.{IfTooLarge};
 ghost use Rattle.wasm_write.specs.Sections.{section_row, with_section, section_bytes, module_bytes, HeldSections, HeldSections-prop};
 
@@ -19,8 +20,6 @@ pub struct Module {
     count: usize,
     // the header and the sections
     bytes: Vec<u8>,
-    // room for the body of a section that is being added
-    scratch: Vec<u8>,
     ghost held: { HeldSections count bytes.items } by { HeldSections-prop count bytes.items },
 }
 
@@ -42,7 +41,6 @@ impl Module {
                 ceiling,
                 count: 0,
                 bytes,
-                scratch: Vec::new(alloc),
             }),
             Err(_) => Err(NoMemory),
         }
@@ -71,25 +69,15 @@ impl Module {
         ensures err { OnErr result (self.new ≡ self.old) }
         ensures large { IfErr result (λ e. IfTooLarge e (λ size. (size ≡ length (S.contents section.now)) × (self.old.ceiling < size))) }
     {
-        self.scratch.clear();
-        match section.encode_body(&mut self.scratch) {
-            Ok(()) => {}
-            Err(NoMemory) => return Err(WriteFault::NoMemory),
-        }
-        let size = self.scratch.len() as u64;
-        if size > u64::from(self.ceiling) {
-            return Err(WriteFault::TooLarge { size });
-        }
-        let id = section.id();
         let len = self.bytes.len();
-        match write_section(&mut self.bytes, id, &self.scratch) {
+        match write_section(&mut self.bytes, section, self.ceiling) {
             Ok(()) => {
                 self.count += 1;
                 Ok(())
             }
-            Err(NoMemory) => {
+            Err(fault) => {
                 self.bytes.truncate(len);
-                Err(WriteFault::NoMemory)
+                Err(fault)
             }
         }
     }
@@ -109,22 +97,41 @@ impl Module {
     }
 }
 
-/// Appends the id, the length and the body of a section, or a part of them where memory is wanting.
-fn write_section(out: &mut Vec<u8>, id: u8, body: &[u8]) -> Result<(), NoMemory>
-    requires { length body.now < 2 ^ 32 }
-    ensures ok { OnOk result (out.new.items ≡ out.old.items ++ section_bytes (section_row id body.now)) }
+/// Appends the id, the length and the body of a section, or a part of them where that is refused. The body is written where
+/// it stands in the end, but for the bytes of its length, which is known when it has been written.
+fn write_section<S: Section>(out: &mut Vec<u8>, section: &S, ceiling: u32) -> Result<(), WriteFault>
+    ensures ok { OnOk result (out.new.items ≡ out.old.items ++ section_bytes (section_row (S.number section.now) (S.contents section.now))) }
+    ensures fits { OnOk result (length (S.contents section.now) ≤ ceiling) }
     ensures err { OnErr result (take (vec_len out.old) out.new.items ≡ out.old.items) }
+    ensures large { IfErr result (λ e. IfTooLarge e (λ size. (size ≡ length (S.contents section.now)) × (ceiling < size))) }
 {
-    match out.push(id) {
+    match out.push(section.id()) {
         Ok(()) => {}
-        Err(_) => return Err(NoMemory),
+        Err(_) => return Err(WriteFault::NoMemory),
     }
-    match write_u32(out, body.len() as u32) {
+    let start = out.len();
+    match section.encode_body(out) {
         Ok(()) => {}
-        Err(NoMemory) => return Err(NoMemory),
+        Err(NoMemory) => return Err(WriteFault::NoMemory),
     }
-    match out.extend_from_slice(body) {
-        Ok(()) => Ok(()),
-        Err(_) => Err(NoMemory),
+    let end = out.len();
+    let size = (end - start) as u64;
+    if size > u64::from(ceiling) {
+        return Err(WriteFault::TooLarge { size });
     }
+    match write_u32(out, size as u32) {
+        Ok(()) => {}
+        Err(NoMemory) => return Err(WriteFault::NoMemory),
+    }
+    move_behind(out.as_mut_slice(), start, end);
+    Ok(())
+}
+
+/// Moves the bytes between two places behind all others.
+fn move_behind(bytes: &mut [u8], start: usize, end: usize)
+    requires ordered { start ≤ end }
+    requires in_bounds { end ≤ length bytes.old }
+    ensures { bytes.new ≡ remove_range bytes.old start end ++ slice_range bytes.old start end }
+{
+    bytes[start..].rotate_left(end - start);
 }

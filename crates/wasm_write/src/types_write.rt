@@ -99,6 +99,7 @@ fn write_nullable(out: &mut Vec<u8>, ty: HeapType) -> Result<(), NoMemory>
 }
 
 /// Appends a byte, or nothing.
+#[inline(always)]
 pub(crate) fn write_byte(out: &mut Vec<u8>, byte: u8) -> Result<(), NoMemory>
     ensures ok { OnOk result (out.new.items ≡ out.old.items ++ byte ∷ []) }
     ensures err { OnErr result (out.new.items ≡ out.old.items) }

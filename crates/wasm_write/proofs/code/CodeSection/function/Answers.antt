@@ -8,7 +8,7 @@ use Rattle.wasm_write.proofs.code.CodeSection.function.Goals as goal
 pub returns-then-self-clause-large : goal.returns-then-self-clause-large
 returns-then-self-clause-large c =
     let n = code_length c.self.inside.held c.self.inside.ceiling c.self.view_is in
-    inr (omega (arith, n), omega arith)
+    inr (omega (arith, n), omega arith, rw (← c.self.view_is) (omega (arith, ap length c.as_bytes-body.ensures.value)))
 
 pub invariant_of-self-inside : goal.invariant_of-self-inside
 invariant_of-self-inside c =
