@@ -1,10 +1,10 @@
 -- Heap and reference types at the front of some bytes.
-use Rattle.std.proofs.Common.{◌≡◌, ◌≢◌, ℕ, zero, suc, ◌<◌, Bool, true, false, List, [], ◌∷◌, ◌++◌, refl, sym, ap, ◌∙◌, inl, inr, ◌⊎◌}
+use Rattle.std.proofs.Common.{◌≡◌, ◌≢◌, ℕ, ◌<◌, true, false, List, [], ◌∷◌, ◌++◌, refl, sym, ap, ◌∙◌, inr, ◌⊎◌}
 use Rattle.wasm_shapes.specs.declared.Space.TheVariants as space
 use Rattle.wasm_shapes.specs.Tree.{Tree}
-use Rattle.wasm_shapes.specs.Shape.{Shape, Named, choice, lead, abstract_heap, abstract_rows, concrete_rows, heap, reference}
+use Rattle.wasm_shapes.specs.Shape.{Shape, lead, abstract_heap, abstract_rows, concrete_rows, heap, reference}
 use Rattle.wasm_shapes.specs.Sound.{first_bytes}
-use Rattle.wasm_shapes.specs.Spells.{Is, Spelled, Spells}
+use Rattle.wasm_shapes.specs.Spells.{Is, Spelled}
 use Rattle.wasm_shapes.specs.Place.{Begins, BeginsNone}
 use Rattle.wasm_shapes.proofs.Fronts.{outside}
 use Rattle.wasm_shapes.proofs.Begins.{begins_byte, begins_row, none_by_front, none_byte, none_seq_first, none_or, none_row, none_here}
@@ -13,7 +13,7 @@ use Rattle.wasm_read.specs.declared.types.AbstractHeapType.{AbstractHeapType}
 use Rattle.wasm_read.specs.declared.types.AbstractHeapType.TheVariants as abstract
 use Rattle.wasm_read.specs.declared.types.HeapType.{HeapType}
 use Rattle.wasm_read.specs.declared.types.HeapType.TheVariants as variant
-use Rattle.wasm_read.specs.Types.{abstract_byte, abstract_tree, shared_tree, concrete_tree, heap_type_tree, nullable_tree}
+use Rattle.wasm_read.specs.Types.{abstract_byte, abstract_tree, concrete_tree, heap_type_tree, nullable_tree}
 
 -- ---- abstract ones
 

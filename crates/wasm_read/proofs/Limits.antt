@@ -1,12 +1,12 @@
 -- Limits at the front of some bytes, by their flags.
-use Rattle.std.proofs.Common.{◌≡◌, ℕ, ◌+◌, ◌<◌, Bool, true, false, not, List, [], ◌∷◌, Option, Some, None, refl, ap, ◌∙◌, arith}
+use Rattle.std.proofs.Common.{◌≡◌, ℕ, ◌<◌, Bool, true, false, not, List, ◌∷◌, Option, Some, None, refl, ap, ◌∙◌, arith}
 use Rattle.wasm_leb.specs.Place.{BeginsNumber, BeginsNoNumber}
 use Rattle.std.specs.Option.{is_some}
 use Rattle.wasm_shapes.specs.Tree.{Tree}
-use Rattle.wasm_shapes.specs.Shape.{Shape, bounds, paged, table_limits, memory_type, closed}
+use Rattle.wasm_shapes.specs.Shape.{bounds, paged, table_limits, memory_type, closed}
 use Rattle.wasm_shapes.specs.Sound.{sound}
 use Rattle.wasm_shapes.specs.Place.{Begins, BeginsNone}
-use Rattle.wasm_shapes.proofs.Begins.{begins_byte, begins_row, begins_seq, begins_u32, begins_u64, none_here, none_choice, none_lead, none_seq_first, none_seq_second, none_u32, none_u64}
+use Rattle.wasm_shapes.proofs.Begins.{begins_byte, begins_row, begins_seq, begins_u64, none_here, none_choice, none_lead, none_seq_first, none_seq_second, none_u32, none_u64}
 use Rattle.wasm_read.specs.Types.{limits_flags, limits_tree, bounds_tree, paged_tree}
 
 -- ---- a minimum and a maximum

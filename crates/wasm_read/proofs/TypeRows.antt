@@ -1,9 +1,9 @@
 -- Composite types, subtypes and groups at the front of some bytes, by the bytes that they begin with.
-use Rattle.std.proofs.Common.{◌≡◌, ◌≢◌, ℕ, List, [], ◌∷◌, refl, sym}
+use Rattle.std.proofs.Common.{◌≡◌, ◌≢◌, ℕ, List, [], ◌∷◌, refl}
 use Rattle.wasm_leb.specs.Place.{BeginsNumber, BeginsNoNumber}
 use Rattle.wasm_shapes.specs.declared.Space.TheVariants as space
 use Rattle.wasm_shapes.specs.Tree.{Tree}
-use Rattle.wasm_shapes.specs.Shape.{Shape, Named, shape_of, choice, lead, inner_rows, described_rows, describing_rows, composite_rows, sub_rows, group_rows}
+use Rattle.wasm_shapes.specs.Shape.{Shape, Named, choice, lead, inner_rows, described_rows, describing_rows, composite_rows, sub_rows, group_rows}
 use Rattle.wasm_shapes.specs.Place.{Begins, BeginsNone}
 use Rattle.wasm_shapes.proofs.Begins.{begins_byte, begins_row, begins_seq, begins_ix, begins_ref, none_by_front, none_byte, none_choice, none_lead, none_seq_first, none_seq_second, none_ix, none_or, none_row, none_here, none_ref}
 use Rattle.wasm_shapes.proofs.Parts.{begins_among, none_among, begins_swap, none_swap, begins_final, begins_final_left, none_final, begins_named, none_named}

@@ -255,37 +255,55 @@ fn externals(rt: HostRuntime) {
 
 /// What a type is to be.
 #[derive(Clone, Copy)]
-struct Want<'a> {
+struct Want {
     is_final: bool,
-    supertypes: &'a [UnpackedIndex],
+    supertypes: [Option<UnpackedIndex>; 2],
     shared: bool,
     describes: Option<UnpackedIndex>,
     descriptor: Option<UnpackedIndex>,
-    inner: Inner<'a>,
+    inner: Inner,
 }
 
+/// The inner type: a function by its parameter and its two results, an array, a structure of up to two fields, or a
+/// continuation.
 #[derive(Clone, Copy)]
-enum Inner<'a> {
-    Func(&'a [ValType], &'a [ValType]),
+enum Inner {
+    Func([Option<ValType>; 3]),
     Array(FieldType),
-    Struct(&'a [FieldType]),
+    Struct([Option<FieldType>; 2]),
     Cont(UnpackedIndex),
 }
 
-fn is(ty: &SubType, want: Want<'_>) -> bool {
-    let composite = &ty.composite_type;
-    let inner = match (&composite.inner, want.inner) {
-        (CompositeInnerType::Func(ty), Inner::Func(params, results)) => {
-            ty.params.as_slice() == params && ty.results.as_slice() == results
+fn is_inner(ty: &CompositeInnerType, want: Inner) -> bool {
+    match (ty, want) {
+        (CompositeInnerType::Func(ty), Inner::Func([param, first, second])) => {
+            ty.params.get(0).copied() == param
+                && ty.params.get(1).is_none()
+                && ty.results.get(0).copied() == first
+                && ty.results.get(1).copied() == second
+                && ty.results.get(2).is_none()
         }
         (CompositeInnerType::Array(ArrayType(ty)), Inner::Array(field)) => *ty == field,
-        (CompositeInnerType::Struct(ty), Inner::Struct(fields)) => ty.fields.as_slice() == fields,
+        (CompositeInnerType::Struct(ty), Inner::Struct([first, second])) => {
+            ty.fields.get(0).copied() == first
+                && ty.fields.get(1).copied() == second
+                && ty.fields.get(2).is_none()
+        }
         (CompositeInnerType::Cont(ContType(ty)), Inner::Cont(index)) => *ty == index,
         _ => false,
+    }
+}
+
+fn is(ty: Option<&SubType>, want: Option<Want>) -> bool {
+    let (Some(ty), Some(want)) = (ty, want) else {
+        return ty.is_none() && want.is_none();
     };
-    inner
+    let composite = &ty.composite_type;
+    is_inner(&composite.inner, want.inner)
         && ty.is_final == want.is_final
-        && ty.supertype_idxs.as_slice() == want.supertypes
+        && ty.supertype_idxs.get(0).copied() == want.supertypes[0]
+        && ty.supertype_idxs.get(1).copied() == want.supertypes[1]
+        && ty.supertype_idxs.get(2).is_none()
         && composite.shared == want.shared
         && composite.describes_idx == want.describes
         && composite.descriptor_idx == want.descriptor
@@ -309,14 +327,14 @@ fn groups(rt: HostRuntime) {
     };
     let plain = Want {
         is_final: true,
-        supertypes: &[],
+        supertypes: [None, None],
         shared: false,
         describes: None,
         descriptor: None,
-        inner: Inner::Func(&[], &[]),
+        inner: Inner::Func([None, None, None]),
     };
     let empty = Want {
-        inner: Inner::Struct(&[]),
+        inner: Inner::Struct([None, None]),
         ..plain
     };
     let open = Want {
@@ -324,107 +342,144 @@ fn groups(rt: HostRuntime) {
         ..plain
     };
     for (bytes, explicit, want) in [
-        (&[0x60u8, 0x00, 0x00] as &[u8], false, &[plain] as &[Want]),
+        (&[0x60u8, 0x00, 0x00] as &[u8], false, [Some(plain), None]),
         (
             &[0x60, 0x01, 0x7e, 0x02, 0x7f, 0x70],
             false,
-            &[Want {
-                inner: Inner::Func(&[ValType::I64], &[ValType::I32, nullable(unshared(FUNC))]),
-                ..plain
-            }],
+            [
+                Some(Want {
+                    inner: Inner::Func([
+                        Some(ValType::I64),
+                        Some(ValType::I32),
+                        Some(nullable(unshared(FUNC))),
+                    ]),
+                    ..plain
+                }),
+                None,
+            ],
         ),
         (
             &[0x5e, 0x78, 0x01],
             false,
-            &[Want {
-                inner: Inner::Array(byte),
-                ..plain
-            }],
+            [
+                Some(Want {
+                    inner: Inner::Array(byte),
+                    ..plain
+                }),
+                None,
+            ],
         ),
         (
             &[0x5f, 0x02, 0x77, 0x00, 0x7f, 0x01],
             false,
-            &[Want {
-                inner: Inner::Struct(&[short, number]),
-                ..plain
-            }],
+            [
+                Some(Want {
+                    inner: Inner::Struct([Some(short), Some(number)]),
+                    ..plain
+                }),
+                None,
+            ],
         ),
         (
             &[0x5d, 0x07],
             false,
-            &[Want {
-                inner: Inner::Cont(seven),
-                ..plain
-            }],
+            [
+                Some(Want {
+                    inner: Inner::Cont(seven),
+                    ..plain
+                }),
+                None,
+            ],
         ),
         (
             &[0x4d, 0x07, 0x5f, 0x00],
             false,
-            &[Want {
-                descriptor: Some(seven),
-                ..empty
-            }],
+            [
+                Some(Want {
+                    descriptor: Some(seven),
+                    ..empty
+                }),
+                None,
+            ],
         ),
         (
             &[0x4c, 0x08, 0x5f, 0x00],
             false,
-            &[Want {
-                describes: Some(eight),
-                ..empty
-            }],
+            [
+                Some(Want {
+                    describes: Some(eight),
+                    ..empty
+                }),
+                None,
+            ],
         ),
         (
             &[0x4c, 0x08, 0x4d, 0x07, 0x5f, 0x00],
             false,
-            &[Want {
-                describes: Some(eight),
-                descriptor: Some(seven),
-                ..empty
-            }],
+            [
+                Some(Want {
+                    describes: Some(eight),
+                    descriptor: Some(seven),
+                    ..empty
+                }),
+                None,
+            ],
         ),
         (
             &[0x65, 0x60, 0x00, 0x00],
             false,
-            &[Want {
-                shared: true,
-                ..plain
-            }],
+            [
+                Some(Want {
+                    shared: true,
+                    ..plain
+                }),
+                None,
+            ],
         ),
         (
             &[0x65, 0x4c, 0x08, 0x5f, 0x00],
             false,
-            &[Want {
-                shared: true,
-                describes: Some(eight),
-                ..empty
-            }],
+            [
+                Some(Want {
+                    shared: true,
+                    describes: Some(eight),
+                    ..empty
+                }),
+                None,
+            ],
         ),
-        (&[0x4f, 0x00, 0x60, 0x00, 0x00], false, &[plain]),
+        (&[0x4f, 0x00, 0x60, 0x00, 0x00], false, [Some(plain), None]),
         (
             &[0x4f, 0x01, 0x07, 0x60, 0x00, 0x00],
             false,
-            &[Want {
-                supertypes: &[seven],
-                ..plain
-            }],
+            [
+                Some(Want {
+                    supertypes: [Some(seven), None],
+                    ..plain
+                }),
+                None,
+            ],
         ),
-        (&[0x50, 0x00, 0x60, 0x00, 0x00], false, &[open]),
+        (&[0x50, 0x00, 0x60, 0x00, 0x00], false, [Some(open), None]),
         (
             &[0x50, 0x02, 0x07, 0x08, 0x60, 0x00, 0x00],
             false,
-            &[Want {
-                supertypes: &[seven, eight],
-                ..open
-            }],
+            [
+                Some(Want {
+                    supertypes: [Some(seven), Some(eight)],
+                    ..open
+                }),
+                None,
+            ],
         ),
-        (&[0x4e, 0x00], true, &[]),
-        (&[0x4e, 0x01, 0x5f, 0x00], true, &[empty]),
+        (&[0x4e, 0x00], true, [None, None]),
+        (&[0x4e, 0x01, 0x5f, 0x00], true, [Some(empty), None]),
         (
             &[
                 0x4e, 0x02, 0x4f, 0x00, 0x5f, 0x00, 0x50, 0x00, 0x60, 0x00, 0x00,
             ],
             true,
-            &[empty, open],
+            [Some(empty), Some(open)],
         ),
     ] {
         let Ok((group, at)) = read_group(rt.alloc(), bytes, 0) else {
@@ -432,10 +487,9 @@ fn groups(rt: HostRuntime) {
         };
         assert_eq!(rt; at, bytes.len(), "of {bytes:?}");
         assert_eq!(rt; group.explicit, explicit, "of {bytes:?}");
-        assert_eq!(rt; group.types.len(), want.len(), "of {bytes:?}");
-        for (ty, want) in group.types.as_slice().iter().zip(want) {
-            assert!(rt; is(ty, *want), "of {bytes:?}");
-        }
+        assert!(rt; is(group.types.get(0), want[0]), "of {bytes:?}");
+        assert!(rt; is(group.types.get(1), want[1]), "of {bytes:?}");
+        assert!(rt; group.types.get(2).is_none(), "of {bytes:?}");
     }
     for bytes in [
         &[] as &[u8],

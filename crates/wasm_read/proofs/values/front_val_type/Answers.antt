@@ -1,4 +1,4 @@
-use Rattle.std.proofs.Common.{◌≡◌, arith, refl, sym, false, List, [], ◌∷◌}
+use Rattle.std.proofs.Common.{◌≡◌, arith, refl, false, List, [], ◌∷◌}
 use Rattle.std.proofs.lemmas.Bool.Decides.{nat_tests}
 use Rattle.wasm_shapes.specs.Shape.{Shape, choice, reference}
 use Rattle.wasm_shapes.specs.Sound.{contains, first_bytes}
