@@ -1,4 +1,7 @@
 pub mod OutsideLemmas
+pub mod TextLemmas
 pub mod AnswerLemmas
-pub mod CopyLemmas
-pub mod PlainLemmas
+pub mod Shortest
+pub mod Blank
+pub mod Refusals
+pub mod Outcomes

@@ -74,6 +74,18 @@ pub WhereTold-steps_ok : {T E : Type 0} (r : Result T E) (a b c : Option (List �
 WhereTold-steps_ok (Ok v) a b c x y h k = WhereTold-steps a b c x y h k
 WhereTold-steps_ok (Err e) a b c x y h k = k
 
+-- a text and then the three parts of a line's end
+pub WhereTold-line : {T E : Type 0} (r : Result T E) (a b c : Option (List ℕ)) (x w n z : List ℕ) → WhereTold b (followed a x)
+    → OnOk r (WhereTold c (followed b (w ++ n ++ z))) → OnOk r (WhereTold c (followed a (x ++ w ++ n ++ z)))
+WhereTold-line r a b c x w n z h k = rw (append_assoc x w n, append_assoc x (w ++ n) z) (WhereTold-steps_ok r a b c x (w ++ n ++ z) h k)
+
+pub TookFront-line : {T E : Type 0} (r : Result T E) (a b c : Option (List ℕ)) (x w n z : List ℕ) → WhereTold b (followed a x)
+    → OnErr r (TookFront b c (w ++ n ++ z)) → OnErr r (TookFront a c (x ++ w ++ n ++ z))
+TookFront-line r a b c x w n z h k = rw (append_assoc x w n, append_assoc x (w ++ n) z) (TookFront-behind_err r a b c x (w ++ n ++ z) h k)
+
+pub TookFront-longest : (a b : Option (List ℕ)) (x w n z : List ℕ) → TookFront a b x → TookFront a b (x ++ w ++ n ++ z)
+TookFront-longest a b x w n z h = TookFront-longer a b (x ++ w ++ n) z (TookFront-longer a b (x ++ w) n (TookFront-longer a b x w h))
+
 pub encode_with-append : (t xs ys : List ℕ) → encode_with t (xs ++ ys) ≡ encode_with t xs ++ encode_with t ys
 unfolding encode_with
 encode_with-append t [] ys = refl

@@ -1,11 +1,15 @@
 -- How the program ends.
 use Rattle.std.specs.Prelude.{◌≡◌, ◌≢◌, ℕ, ◌<◌, ◌≤◌, ◌==◌, ◌⊎◌, if◌then◌else◌, Option, Some, None, List, [], ◌∷◌, ◌++◌, codes, decimal, length}
 use Rattle.reencode_tool.specs.declared.answer.Answer.{Answer}
-use Rattle.reencode_tool.specs.declared.answer.Answer.TheVariants.{Printed, NoMemory, Usage, ReadFault, WriteFault, ParseError, TooLong, NotHexadecimal}
+use Rattle.reencode_tool.specs.declared.answer.Answer.TheVariants.{Printed, NoMemory, Usage, ReadFault, WriteFault, ParseError, Refused, CodeSectionSize, NonCoreModule, NonComponent, TooLarge, TooLong, NotHexadecimal}
+use Rattle.reencode_hooks.specs.declared.asked.Unmapped.{Unmapped}
+use Rattle.reencode_hooks.specs.declared.error.Error.{Error}
+use Rattle.reencode_hooks.specs.declared.error.Error.TheVariants as error
+use Rattle.reencode_hooks.specs.Renamings.{unmapped_text}
 use Rattle.reencode_tool.specs.Outside.{Rose, WhereTold, followed, GaveAll, TookMore, TookFront}
 use Rattle.reencode_tool.specs.Hexadecimal.{binary}
 use Rattle.reencode_tool.specs.Report.{report}
-use Rattle.reencode_tool.specs.Plain.{IsPlain, IsRefusedAt}
+use Rattle.reencode_tool.specs.Plain.{IsPlain, IsRefusedAt, IsComponent}
 
 -- the words that are accepted
 abbrev pub plain_words : List (List ℕ)
@@ -37,6 +41,14 @@ pub record HasNoReading (left_old left_new : Option (List ℕ)) (at : ℕ) : Typ
   pub digits : binary text ≡ Some bytes
   pub none : IsRefusedAt bytes at
 
+-- The source was read to its end, its text is hexadecimal, and its bytes begin with the header of a component.
+pub record HasComponent (left_old left_new : Option (List ℕ)) : Type 0 where
+  pub text : List ℕ
+  pub bytes : List ℕ
+  pub gave : GaveAll most_bytes left_old left_new text
+  pub digits : binary text ≡ Some bytes
+  pub component : IsComponent bytes
+
 -- The source was read to its end, and its text is no hexadecimal text.
 pub record HasNoDigits (left_old left_new : Option (List ℕ)) : Type 0 where
   pub text : List ℕ
@@ -45,14 +57,13 @@ pub record HasNoDigits (left_old left_new : Option (List ℕ)) : Type 0 where
 
 -- why nothing is printed of the source
 abbrev pub Stops : Answer → (faults_old faults_new : ℕ) (left_old left_new : Option (List ℕ)) → Type 0
-Stops Printed faults_old faults_new left_old left_new = ⊥
 Stops NoMemory faults_old faults_new left_old left_new = Unit {0}
-Stops Usage faults_old faults_new left_old left_new = ⊥
 Stops ReadFault faults_old faults_new left_old left_new = Rose faults_old faults_new
-Stops WriteFault faults_old faults_new left_old left_new = ⊥
 Stops (ParseError at) faults_old faults_new left_old left_new = HasNoReading left_old left_new at
+Stops NonCoreModule faults_old faults_new left_old left_new = HasComponent left_old left_new
 Stops TooLong faults_old faults_new left_old left_new = TookMore most_bytes left_old left_new
 Stops NotHexadecimal faults_old faults_new left_old left_new = HasNoDigits left_old left_new
+Stops _ faults_old faults_new left_old left_new = ⊥
 
 -- where the source and the sink stood before the program and stand after it
 pub record Outside : Type 0 where
@@ -85,6 +96,11 @@ status_of Usage = 2
 status_of ReadFault = 3
 status_of WriteFault = 4
 status_of (ParseError at) = 5
+status_of (Refused u) = 6
+status_of CodeSectionSize = 7
+status_of NonCoreModule = 8
+status_of NonComponent = 9
+status_of (TooLarge size ceiling) = 10
 status_of TooLong = 13
 status_of NotHexadecimal = 14
 
@@ -96,21 +112,47 @@ text_of Usage = codes "usage: -x plain"
 text_of ReadFault = codes "read fault"
 text_of WriteFault = codes "write fault"
 text_of (ParseError at) = codes "parse error at " ++ decimal at
+text_of (Refused u) = unmapped_text u
+text_of CodeSectionSize = codes "invalid code section size"
+text_of NonCoreModule = codes "There was a section that does not belong in a core wasm module"
+text_of NonComponent = codes "There was a section that does not belong in a component"
+text_of (TooLarge size ceiling) = codes "too large: " ++ decimal size ++ codes " over " ++ decimal ceiling
 text_of TooLong = codes "too long"
 text_of NotHexadecimal = codes "not hex"
+
+-- the errors that an input of a command may give: the others come to no end
+abbrev pub HasStatus : Error Unmapped → Type 0
+HasStatus error.CanonicalizedHeapTypeReference = ⊥
+HasStatus error.InvalidConstExpr = ⊥
+HasStatus error.UnsupportedCoreTypeInComponent = ⊥
+HasStatus _ = Unit {0}
+
+-- the end that an error under a ceiling comes to
+abbrev pub EndsAs : ℕ → Error Unmapped → Answer → Type 0
+EndsAs ceiling error.InvalidCodeSectionSize answer = answer ≡ CodeSectionSize
+EndsAs ceiling error.UnexpectedNonCoreModuleSection answer = answer ≡ NonCoreModule
+EndsAs ceiling error.UnexpectedNonComponentSection answer = answer ≡ NonComponent
+EndsAs ceiling (error.ParseError e) answer = answer ≡ ParseError e.at
+EndsAs ceiling (error.UserError u) answer = answer ≡ Refused u
+EndsAs ceiling (error.TooLarge size) answer = answer ≡ TooLarge size ceiling
+EndsAs ceiling error.NoMemory answer = answer ≡ NoMemory
+EndsAs ceiling _ answer = ⊥
 
 -- a sink took this text, or a front of it where it failed
 abbrev pub Says : (faults_old faults_new : ℕ) (held_old held_new : Option (List ℕ)) → List ℕ → Type 0
 Says faults_old faults_new held_old held_new text =
     WhereTold held_new (followed held_old text) ⊎ (TookFront held_old held_new text × Rose faults_old faults_new)
 
--- what is said with a status, but for 0 and 5
+-- what is said with a status, but for 0, 5, 6 and 10
 abbrev pub message : ℕ → List ℕ
 message status =
     if status == 1 then codes "no memory\n"
     else if status == 2 then codes "usage: -x plain\n"
     else if status == 3 then codes "read fault\n"
     else if status == 4 then codes "write fault\n"
+    else if status == 7 then codes "invalid code section size\n"
+    else if status == 8 then codes "There was a section that does not belong in a core wasm module\n"
+    else if status == 9 then codes "There was a section that does not belong in a component\n"
     else if status == 13 then codes "too long\n"
     else codes "not hex\n"
 
@@ -120,6 +162,7 @@ IsDecidedBy None status = (status ≡ 14) ⊎ (status ≡ 1)
 IsDecidedBy (Some bytes) status =
     ((status ≡ 0) × ((output : List ℕ) × (counts : List ℕ) × IsPlain bytes output counts))
     ⊎ ((status ≡ 5) × ((at : ℕ) × IsRefusedAt bytes at))
+    ⊎ ((status ≡ 8) × IsComponent bytes)
     ⊎ (status ≡ 1)
 
 -- which status comes for a text

@@ -1,8 +1,7 @@
 pub mod Outside
 pub mod Hexadecimal
 pub mod Report
-pub mod Copies
-pub mod Sections
+pub mod Counts
 pub mod Plain
 pub mod Answer
 pub mod Memory

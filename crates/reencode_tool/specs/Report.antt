@@ -1,30 +1,6 @@
 -- What the program prints.
 use Rattle.std.specs.Prelude.{ℕ, suc, zero, List, [], ◌∷◌, ◌++◌, codes, decimal}
-use Rattle.reencode_tool.specs.declared.report.Counted.{Counted}
-use Rattle.reencode_tool.specs.declared.report.Counted.TheVariants.{Data, Element, Function, Global, Memory, Table, Tag, Type_, DataCount, ComponentType, ComponentInstance, ComponentFunc, Component, Module, Instance, ComponentValue, SectionHook, Push, Pop}
 use Rattle.hex.specs.Hex.{encode_lower}
-
--- the place of a count among the counts
-abbrev pub place_of : Counted → ℕ
-place_of Data = 0
-place_of Element = 1
-place_of Function = 2
-place_of Global = 3
-place_of Memory = 4
-place_of Table = 5
-place_of Tag = 6
-place_of Type_ = 7
-place_of DataCount = 8
-place_of ComponentType = 9
-place_of ComponentInstance = 10
-place_of ComponentFunc = 11
-place_of Component = 12
-place_of Module = 13
-place_of Instance = 14
-place_of ComponentValue = 15
-place_of SectionHook = 16
-place_of Push = 17
-place_of Pop = 18
 
 -- the names of the counts, in order
 abbrev pub keys : List (List ℕ)

@@ -1,14 +1,16 @@
 //! How the program ends.
 ghost use Rattle.std.specs.Prelude.{◌≡◌, ◌≤◌, ◌≢◌, ◌++◌, codes, decimal, OnOk, OnErr};
-ghost use Rattle.reencode_tool.specs.Answer.{status_of, text_of};
+ghost use Rattle.reencode_tool.specs.Answer.{EndsAs, HasStatus, status_of, text_of};
 ghost use Rattle.reencode_tool.specs.Outside.{Rose, WhereTold, followed, TookFront};
 
 use crate::decimal::{MOST_DIGITS, write_decimal};
 use crate::outside::{Failed, Sink};
 use crate::write::write_all;
+use reencode_hooks::{Error, Unmapped};
+use wasm_leb::ReadError;
 
 /// How the program ends.
-#[derive(Clone, Copy, Debug, PartialEq, Eq)]
+#[derive(Clone, Copy, Debug, PartialEq)]
 pub enum Answer {
     /// All output was written.
     Printed,
@@ -24,6 +26,19 @@ pub enum Answer {
     ParseError {
         /// The place of the fault.
         at: usize,
+    },
+    /// A strict renamer has no entry for an index.
+    Refused(Unmapped),
+    /// A code section states a size that passes the end of the bytes.
+    CodeSectionSize,
+    /// The header or a section of a component stands where a core module is read.
+    NonCoreModule,
+    /// The header or a section of a core module stands where a component is read.
+    NonComponent,
+    /// A frame is longer than the ceiling.
+    TooLarge {
+        size: u64,
+        ceiling: u32,
     },
     /// The input is too long.
     TooLong,
@@ -43,6 +58,11 @@ impl Answer {
             Answer::ReadFault => 3,
             Answer::WriteFault => 4,
             Answer::ParseError { at: _ } => 5,
+            Answer::Refused(_) => 6,
+            Answer::CodeSectionSize => 7,
+            Answer::NonCoreModule => 8,
+            Answer::NonComponent => 9,
+            Answer::TooLarge { .. } => 10,
             Answer::TooLong => 13,
             Answer::NotHexadecimal => 14,
         }
@@ -62,6 +82,17 @@ impl Answer {
             Answer::ReadFault => write_all(err, b"read fault\n"),
             Answer::WriteFault => write_all(err, b"write fault\n"),
             Answer::ParseError { at } => say_parse_error(err, at),
+            Answer::Refused(unmapped) => say_refused(err, unmapped),
+            Answer::CodeSectionSize => write_all(err, b"invalid code section size\n"),
+            Answer::NonCoreModule => write_all(
+                err,
+                b"There was a section that does not belong in a core wasm module\n",
+            ),
+            Answer::NonComponent => write_all(
+                err,
+                b"There was a section that does not belong in a component\n",
+            ),
+            Answer::TooLarge { size, ceiling } => say_too_large(err, size, ceiling),
             Answer::TooLong => write_all(err, b"too long\n"),
             Answer::NotHexadecimal => write_all(err, b"not hex\n"),
         }
@@ -82,15 +113,28 @@ fn write_both<D: Sink>(err: &mut D, first: &[u8], second: &[u8]) -> Result<(), F
 }
 
 /// Writes a text and then a number in decimal. After a failure a front of both was taken.
-fn write_number<D: Sink>(err: &mut D, text: &[u8], n: usize) -> Result<(), Failed>
+fn write_number<D: Sink>(err: &mut D, text: &[u8], n: u64) -> Result<(), Failed>
     ensures rises { D.faults err.old ≤ D.faults err.new }
     ensures ok { OnOk result (WhereTold (D.held err.new) (followed (D.held err.old) (text.now ++ decimal n))) }
     ensures failed { OnErr result (Rose (D.faults err.old) (D.faults err.new)) }
     ensures front { OnErr result (TookFront (D.held err.old) (D.held err.new) (text.now ++ decimal n)) }
 {
     let mut room = [0u8; MOST_DIGITS];
-    let start = write_decimal(n as u64, &mut room);
+    let start = write_decimal(n, &mut room);
     write_both(err, text, &room[start..])
+}
+
+/// Writes a text and then a number in decimal, and ends the line. After a failure a front of it was taken.
+fn write_line<D: Sink>(err: &mut D, text: &[u8], n: u64) -> Result<(), Failed>
+    ensures rises { D.faults err.old ≤ D.faults err.new }
+    ensures ok { OnOk result (WhereTold (D.held err.new) (followed (D.held err.old) (text.now ++ decimal n ++ codes "\n"))) }
+    ensures failed { OnErr result (Rose (D.faults err.old) (D.faults err.new)) }
+    ensures front { OnErr result (TookFront (D.held err.old) (D.held err.new) (text.now ++ decimal n ++ codes "\n")) }
+{
+    match write_number(err, text, n) {
+        Ok(()) => write_all(err, b"\n"),
+        Err(Failed) => Err(Failed),
+    }
 }
 
 /// Says at which place the bytes have no reading.
@@ -100,8 +144,50 @@ fn say_parse_error<D: Sink>(err: &mut D, at: usize) -> Result<(), Failed>
     ensures failed { OnErr result (Rose (D.faults err.old) (D.faults err.new)) }
     ensures front { OnErr result (TookFront (D.held err.old) (D.held err.new) (text_of (Answer.ParseError at) ++ codes "\n")) }
 {
-    match write_number(err, b"parse error at ", at) {
-        Ok(()) => write_all(err, b"\n"),
+    write_line(err, b"parse error at ", at as u64)
+}
+
+/// Says which index was refused.
+fn say_refused<D: Sink>(err: &mut D, unmapped: Unmapped) -> Result<(), Failed>
+    ensures rises { D.faults err.old ≤ D.faults err.new }
+    ensures ok { OnOk result (WhereTold (D.held err.new) (followed (D.held err.old) (text_of (Answer.Refused unmapped) ++ codes "\n"))) }
+    ensures failed { OnErr result (Rose (D.faults err.old) (D.faults err.new)) }
+    ensures front { OnErr result (TookFront (D.held err.old) (D.held err.new) (text_of (Answer.Refused unmapped) ++ codes "\n")) }
+{
+    match write_both(err, b"refused ", unmapped.space.name().as_bytes()) {
+        Ok(()) => write_line(err, b" ", unmapped.index as u64),
         Err(Failed) => Err(Failed),
+    }
+}
+
+/// Says which size is above which ceiling.
+fn say_too_large<D: Sink>(err: &mut D, size: u64, ceiling: u32) -> Result<(), Failed>
+    ensures rises { D.faults err.old ≤ D.faults err.new }
+    ensures ok { OnOk result (WhereTold (D.held err.new) (followed (D.held err.old) (text_of (Answer.TooLarge size ceiling) ++ codes "\n"))) }
+    ensures failed { OnErr result (Rose (D.faults err.old) (D.faults err.new)) }
+    ensures front { OnErr result (TookFront (D.held err.old) (D.held err.new) (text_of (Answer.TooLarge size ceiling) ++ codes "\n")) }
+{
+    match write_number(err, b"too large: ", size) {
+        Ok(()) => write_line(err, b" over ", ceiling as u64),
+        Err(Failed) => Err(Failed),
+    }
+}
+
+/// How the program ends with an error under a ceiling. Three errors come to no end: no input of a command gives them.
+pub fn answer_of(e: Error<Unmapped>, ceiling: u32) -> Answer
+    requires { HasStatus e }
+    ensures { EndsAs ceiling e result }
+{
+    match e {
+        Error::InvalidCodeSectionSize => Answer::CodeSectionSize,
+        Error::UnexpectedNonCoreModuleSection => Answer::NonCoreModule,
+        Error::UnexpectedNonComponentSection => Answer::NonComponent,
+        Error::ParseError(ReadError { at }) => Answer::ParseError { at },
+        Error::UserError(unmapped) => Answer::Refused(unmapped),
+        Error::TooLarge { size } => Answer::TooLarge { size, ceiling },
+        Error::NoMemory => Answer::NoMemory,
+        Error::CanonicalizedHeapTypeReference
+        | Error::InvalidConstExpr
+        | Error::UnsupportedCoreTypeInComponent => unreachable!(),
     }
 }

@@ -8,7 +8,7 @@ use crate::buffer::zeros;
 use crate::hexadecimal::{TextFault, binary};
 use crate::input::{InputFault, read_all};
 use crate::outside::Source;
-use crate::plain::{PlainFault, plain};
+use crate::plain::plain;
 use crate::report::tail;
 use std::alloc::Global;
 
@@ -47,8 +47,7 @@ pub fn make<S: Source>(alloc: Global, input: &mut S) -> Result<Ready, Answer>
     };
     let (output, counts) = match plain(alloc, bytes.as_slice()) {
         Ok(made) => made,
-        Err(PlainFault::Parse { at }) => return Err(Answer::ParseError { at }),
-        Err(PlainFault::NoMemory) => return Err(Answer::NoMemory),
+        Err(answer) => return Err(answer),
     };
     let Ok(tail) = tail(alloc, &counts) else {
         return Err(Answer::NoMemory);

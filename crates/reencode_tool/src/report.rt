@@ -1,47 +1,14 @@
 //! What the program prints.
-ghost use Rattle.std.specs.Prelude.{◌≡◌, ◌+◌, ◌-◌, ◌^◌, ◌<◌, ◌++◌, min, map, length, replicate, slice_index, slice_set, OnOk, IfOk};
-ghost use Rattle.reencode_tool.specs.Report.{part, parts, place_of, tail};
+ghost use Rattle.std.specs.Prelude.{◌≡◌, ◌++◌, map, length, OnOk, IfOk};
+ghost use Rattle.reencode_tool.specs.Report.{part, parts, tail};
 
 use crate::decimal::{MOST_DIGITS, write_decimal};
+use reencode_hooks::{Asked, Renamer};
 use std::alloc::{AllocError, Global};
-use std::marker::Model;
-
-/// What is counted, in the order in which the counts are printed.
-#[derive(Clone, Copy, Debug, PartialEq, Eq)]
-pub enum Counted {
-    Data,
-    Element,
-    Function,
-    Global,
-    Memory,
-    Table,
-    Tag,
-    Type_,
-    DataCount,
-    ComponentType,
-    ComponentInstance,
-    ComponentFunc,
-    Component,
-    Module,
-    Instance,
-    ComponentValue,
-    SectionHook,
-    Push,
-    Pop,
-}
-
-impl Counted {
-    /// Its place among the counts.
-    fn place(self) -> usize
-        ensures value { result ≡ place_of self }
-        ensures within { result < 19 }
-    {
-        self as usize
-    }
-}
+use wasm_shapes::Space;
 
 /// How many things are counted.
-const KEY_COUNT: usize = 19;
+pub const KEY_COUNT: usize = 19;
 
 /// The name of each count, in order.
 const KEYS: [&str; KEY_COUNT] = [
@@ -66,45 +33,31 @@ const KEYS: [&str; KEY_COUNT] = [
     "pop",
 ];
 
-/// How often each hook was called. It is seen as the list of the counts, in order.
-#[derive(Debug, Drop)]
-pub struct Counts {
-    numbers: [u64; KEY_COUNT],
-}
-
-impl Model for Counts {
-    ghost use Rattle.std.specs.Prelude.{List, ℕ};
-
-    ghost Value = { List ℕ };
-
-    ghost view = { λ c. c.numbers };
-}
-
-impl Counts {
-    /// Counts that are all 0.
-    pub fn new() -> Counts
-        ensures { result ≡ replicate 19 0 }
-    {
-        Counts {
-            numbers: [0; KEY_COUNT],
-        }
-    }
-
-    /// The counts in order.
-    pub fn numbers(&self) -> &[u64]
-        ensures value { result.now ≡ self.now }
-        ensures len { length result.now ≡ 19 }
-    {
-        &self.numbers
-    }
-
-    /// Adds one to a count. A count at 2^64 - 1 stays.
-    pub fn add(&mut self, what: Counted)
-        ensures { self.new ≡ slice_set self.old (place_of what) (min (slice_index self.old (place_of what) + 1) (2 ^ 64 - 1)) }
-    {
-        let at = what.place();
-        self.numbers[at] = self.numbers[at].saturating_add(1);
-    }
+/// How often each was asked, in the order in which the counts are printed.
+pub fn counts_of(renamer: &Renamer) -> [u64; KEY_COUNT]
+    ensures { length renamer.now.counts ≡ 19 → result ≡ renamer.now.counts }
+{
+    [
+        renamer.count(Asked::Of(Space::Data)),
+        renamer.count(Asked::Of(Space::Element)),
+        renamer.count(Asked::Of(Space::Function)),
+        renamer.count(Asked::Of(Space::Global)),
+        renamer.count(Asked::Of(Space::Memory)),
+        renamer.count(Asked::Of(Space::Table)),
+        renamer.count(Asked::Of(Space::Tag)),
+        renamer.count(Asked::Of(Space::Type_)),
+        renamer.count(Asked::Of(Space::DataCount)),
+        renamer.count(Asked::Of(Space::ComponentType)),
+        renamer.count(Asked::Of(Space::ComponentInstance)),
+        renamer.count(Asked::Of(Space::ComponentFunc)),
+        renamer.count(Asked::Of(Space::Component)),
+        renamer.count(Asked::Of(Space::Module)),
+        renamer.count(Asked::Of(Space::Instance)),
+        renamer.count(Asked::Of(Space::ComponentValue)),
+        renamer.count(Asked::SectionHook),
+        renamer.count(Asked::Push),
+        renamer.count(Asked::Pop),
+    ]
 }
 
 /// Adds a count with its name to a line, and nothing where it is 0.
@@ -134,11 +87,11 @@ fn add_parts(line: &mut Vec<u8>, keys: &[&str], counts: &[u64]) -> Result<(), Al
 }
 
 /// What is printed behind the digits: a line end, and the line of the counts.
-pub fn tail(alloc: Global, counts: &Counts) -> Result<Vec<u8>, AllocError>
+pub fn tail(alloc: Global, counts: &[u64; KEY_COUNT]) -> Result<Vec<u8>, AllocError>
     ensures { IfOk result (λ text. text.items ≡ tail counts.now) }
 {
     let mut text = Vec::from_slice(alloc, b"\nasked")?;
-    add_parts(&mut text, &KEYS, counts.numbers())?;
+    add_parts(&mut text, &KEYS, counts)?;
     text.extend_from_slice(b"\n")?;
     Ok(text)
 }

@@ -1,14 +1,16 @@
 //! What no clause says: that the calls succeed over memory, what is printed and said, and how the
 //! program ends where the outside is slow or fails.
-use crate::answer::Answer;
+use crate::answer::{Answer, answer_of};
 use crate::memory::{MemSink, MemSource, SureShelf, SureSink, SureSource};
 use crate::outside::{Failed, Shelf, Sink, Source};
-use crate::report::{Counted, Counts, tail};
+use crate::report::{counts_of, tail};
 use crate::tool::run;
+use reencode_hooks::{Asked, Error, Renamer, Unmapped};
 use std::alloc::{AllocError, Global};
 use std::process::Abort;
 use std::test::Fail;
 use wasm_leb::{List, NoMemory};
+use wasm_shapes::Space;
 
 /// The small module that a README shows, as digits: one function that adds two numbers.
 const MODULE: &[u8] =
@@ -82,6 +84,13 @@ const NO_HEADER: Case<'static> = Case {
     ..USUAL
 };
 
+/// It begins with the header of a component.
+const COMPONENT: Case<'static> = Case {
+    status: 8,
+    err: b"There was a section that does not belong in a core wasm module\n",
+    ..USUAL
+};
+
 fn try_case(rt: &impl Abort, alloc: Global, case: &Case) -> Result<(), Fail> {
     let most = case.most.max(1);
     let words = strings(alloc, case.words)?;
@@ -107,7 +116,7 @@ fn try_case(rt: &impl Abort, alloc: Global, case: &Case) -> Result<(), Fail> {
 }
 
 /// How a run ends.
-static CASES: [Case<'static>; 18] = [
+static CASES: [Case<'static>; 21] = [
     Case {
         words: &["rename"],
         status: 2,
@@ -206,8 +215,25 @@ static CASES: [Case<'static>; 18] = [
         text: b"0061736d010000",
         ..NO_HEADER
     },
+    // The header of a component, alone and with bytes behind it.
     Case {
         text: b"0061736d0d000100",
+        ..COMPONENT
+    },
+    Case {
+        text: b"0061736d0d000100 01080061736d01000000",
+        ..COMPONENT
+    },
+    // Sections in another order, and one kind twice.
+    Case {
+        text: b"0061736d01000000 03020101 03020100",
+        out: b"0061736d010000000302010103020100\nasked type 2 section_hook 3\n",
+        ..USUAL
+    },
+    // The second section has no reading.
+    Case {
+        text: b"0061736d01000000 03020101 0303010000",
+        err: b"parse error at 12\n",
         ..NO_HEADER
     },
 ];
@@ -315,22 +341,25 @@ fn failing_outside(rt: HostRuntime) -> Result<(), Fail> {
 #[test]
 fn line_of_counts(rt: HostRuntime) -> Result<(), Fail> {
     let alloc = rt.alloc();
-    let mut counts = Counts::new();
-    assert_eq!(rt; tail(alloc, &counts)?.as_slice(), b"\nasked\n".as_slice());
+    let mut renamer = Renamer::new(alloc);
+    assert_eq!(rt;
+        tail(alloc, &counts_of(&renamer))?.as_slice(),
+        b"\nasked\n".as_slice()
+    );
     for _ in 0..10 {
-        counts.add(Counted::SectionHook);
+        renamer.note(Asked::SectionHook);
     }
     for what in [
-        Counted::Pop,
-        Counted::Type_,
-        Counted::Function,
-        Counted::Type_,
-        Counted::DataCount,
+        Asked::Pop,
+        Asked::Of(Space::Type_),
+        Asked::Of(Space::Function),
+        Asked::Of(Space::Type_),
+        Asked::Of(Space::DataCount),
     ] {
-        counts.add(what);
+        renamer.note(what);
     }
     assert_eq!(rt;
-        tail(alloc, &counts)?.as_slice(),
+        tail(alloc, &counts_of(&renamer))?.as_slice(),
         b"\nasked function 1 type 2 data_count 1 section_hook 10 pop 1\n".as_slice()
     );
     Ok(())
@@ -350,4 +379,76 @@ fn place_of_a_fault(rt: HostRuntime) -> Result<(), Fail> {
         assert_eq!(rt; err.held(), text);
     }
     Ok(())
+}
+
+#[test]
+fn ends_of_errors(rt: HostRuntime) -> Result<(), Fail> {
+    let unmapped = Unmapped {
+        space: Space::ComponentFunc,
+        index: 7,
+    };
+    for (answer, status, text) in [
+        (
+            Answer::Refused(unmapped),
+            6,
+            &b"refused component_func 7\n"[..],
+        ),
+        (Answer::CodeSectionSize, 7, b"invalid code section size\n"),
+        (
+            Answer::NonCoreModule,
+            8,
+            b"There was a section that does not belong in a core wasm module\n",
+        ),
+        (
+            Answer::NonComponent,
+            9,
+            b"There was a section that does not belong in a component\n",
+        ),
+        (
+            Answer::TooLarge {
+                size: 41,
+                ceiling: 40,
+            },
+            10,
+            b"too large: 41 over 40\n",
+        ),
+    ] {
+        let mut err = SureSink::new(rt.alloc(), 80)?;
+        assert_eq!(rt; answer.status(), status);
+        assert_eq!(rt; answer.say(&mut err), Ok(()));
+        assert_eq!(rt; err.held(), text);
+    }
+    Ok(())
+}
+
+#[test]
+fn answers_of_errors(rt: HostRuntime) {
+    let unmapped = Unmapped {
+        space: Space::Type_,
+        index: 0,
+    };
+    assert_eq!(rt;
+        answer_of(Error::UserError(unmapped), 9),
+        Answer::Refused(unmapped)
+    );
+    assert_eq!(rt;
+        answer_of(Error::InvalidCodeSectionSize, 9),
+        Answer::CodeSectionSize
+    );
+    assert_eq!(rt;
+        answer_of(Error::UnexpectedNonCoreModuleSection, 9),
+        Answer::NonCoreModule
+    );
+    assert_eq!(rt;
+        answer_of(Error::UnexpectedNonComponentSection, 9),
+        Answer::NonComponent
+    );
+    assert_eq!(rt;
+        answer_of(Error::TooLarge { size: 10 }, 9),
+        Answer::TooLarge {
+            size: 10,
+            ceiling: 9
+        }
+    );
+    assert_eq!(rt; answer_of(Error::NoMemory, 9), Answer::NoMemory);
 }

@@ -1,7 +1,7 @@
 use Rattle.std.proofs.Common.{ap, ◌++◌, subst, List, ℕ}
 use Rattle.hex.specs.Hex.{encode_lower}
-use Rattle.wasm_shapes.specs.Module.{NoCoreReading}
-use Rattle.reencode_tool.specs.Plain.{IsPlain}
+use Rattle.reencode_tool.specs.Plain.{IsPlain, IsRefused}
+use Rattle.reencode_tool.proofs.AnswerLemmas.{stops_of}
 use Rattle.reencode_tool.proofs.make.make.Goals as goal
 
 pub returns-clause-made : goal.returns-clause-made
@@ -18,12 +18,7 @@ returns-clause-made g c = (
   ap (λ (tail : List ℕ). encode_lower c.in-Ok-plain.made.0.items ++ tail) c.in-Ok-tail.ensures,
 )
 
-pub returns-in-Err-Parse-clause-stops : goal.returns-in-Err-Parse-clause-stops
-returns-in-Err-Parse-clause-stops g c =
-    record {
-      text = c.in-Ok.text.items;
-      bytes = c.in-Ok-binary.bytes.items;
-      gave = c.in-Ok.ensures.all;
-      digits = c.in-Ok-binary.ensures.ok;
-      none = subst (λ (bytes : List ℕ). NoCoreReading bytes) c.as_slice.ensures.value (rw c.in-Err-Parse.field-0-is at c.in-Err-Parse.ensures.refused);
-    }
+pub returns-in-Err-clause-stops : goal.returns-in-Err-clause-stops
+returns-in-Err-clause-stops g c =
+    stops_of c.in-Err.answer _ _ c.in-Ok.text.items c.in-Ok-binary.bytes.items c.in-Ok.ensures.all c.in-Ok-binary.ensures.ok
+    (subst (λ (bytes : List ℕ). IsRefused bytes c.in-Err.answer) c.as_slice.ensures.value c.in-Err.ensures.refused)

@@ -1,7 +1,7 @@
 use Rattle.std.proofs.Common.{◌≡◌, ap, ◌∙◌}
 use Rattle.reencode_tool.specs.declared.answer.Answer.TheVariants.{Printed, ParseError}
 use Rattle.reencode_tool.specs.Answer.{status_of}
-use Rattle.reencode_tool.proofs.AnswerLemmas.{decided_of, is_parse_error, is_printed, is_usage, message_of, status_among, usage_of, words_of}
+use Rattle.reencode_tool.proofs.AnswerLemmas.{decided_of, is_component, is_parse_error, is_printed, is_usage, message_of, status_among, usage_of, words_of}
 use Rattle.reencode_tool.proofs.tool.run.Goals as goal
 
 pub returns-clause-printed : goal.returns-clause-printed
@@ -26,12 +26,17 @@ pub returns-clause-decided : goal.returns-clause-decided
 returns-clause-decided g c = decided_of _ _ _ _ c.status.ensures c.reencode-answer.ensures.ends
 
 pub returns-clause-statuses : goal.returns-clause-statuses
-returns-clause-statuses g c = status_among _ _ c.status.ensures
+returns-clause-statuses g c = status_among _ _ _ _ c.status.ensures c.reencode-answer.ensures.ends
 
 pub returns-clause-says : goal.returns-clause-says
 returns-clause-says g c n m =
     let says = c.tell.ensures.says (λ same. n (c.status.ensures ∙ ap status_of same)) in
-    rw (message_of _ _ c.status.ensures n m) at says
+    rw (message_of _ _ _ _ c.status.ensures c.reencode-answer.ensures.ends n m) at says
 
 pub returns-clause-accepted : goal.returns-clause-accepted
 returns-clause-accepted g c = words_of _ _ _ _ c.status.ensures c.reencode-answer.ensures.ends
+
+pub returns-clause-component : goal.returns-clause-component
+returns-clause-component g c e =
+    let ends = rw (is_component _ _ c.status.ensures e) at c.reencode-answer.ensures.ends in
+    ends.1
