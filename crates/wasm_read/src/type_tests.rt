@@ -300,11 +300,18 @@ fn is_inner(ty: &CompositeInnerType, want: Inner) -> bool {
     }
 }
 
-/// Whether the supertypes are these: the indices from 7 on.
+/// Whether the supertypes are so many indices from 7 on.
 fn are_supertypes(types: &[UnpackedIndex], count: u32) -> bool {
-    types.len() == count as usize
-        && (count == 0 || types.first() == Some(&UnpackedIndex::Module(7)))
-        && (count <= 1 || types.last() == Some(&UnpackedIndex::Module(6 + count)))
+    match types {
+        [] => count == 0,
+        [first] => count == 1 && *first == UnpackedIndex::Module(7),
+        [first, second] => {
+            count == 2
+                && *first == UnpackedIndex::Module(7)
+                && *second == UnpackedIndex::Module(8)
+        }
+        _ => false,
+    }
 }
 
 fn is(ty: &SubType, want: Want) -> bool {
