@@ -306,9 +306,7 @@ fn are_supertypes(types: &[UnpackedIndex], count: u32) -> bool {
         [] => count == 0,
         [first] => count == 1 && *first == UnpackedIndex::Module(7),
         [first, second] => {
-            count == 2
-                && *first == UnpackedIndex::Module(7)
-                && *second == UnpackedIndex::Module(8)
+            count == 2 && *first == UnpackedIndex::Module(7) && *second == UnpackedIndex::Module(8)
         }
         _ => false,
     }
