@@ -5,6 +5,7 @@ use crate::{
     StorageType, SubType, TableInit, TableSectionReader, TableType, TagKind, TagSectionReader,
     TagType, TypeRef, UnpackedIndex, ValType, read_group, read_item, read_type_ref, read_val_type,
 };
+use std::alloc::Global;
 use wasm_leb::{Fault, ReadError};
 
 const FUNC: AbstractHeapType = AbstractHeapType::Func;
@@ -257,62 +258,110 @@ fn externals(rt: HostRuntime) {
 #[derive(Clone, Copy)]
 struct Want {
     is_final: bool,
-    supertypes: [Option<UnpackedIndex>; 2],
+    supertypes: u32,
     shared: bool,
     describes: Option<UnpackedIndex>,
     descriptor: Option<UnpackedIndex>,
     inner: Inner,
 }
 
-/// The inner type: a function by its parameter and its two results, an array, a structure of up to two fields, or a
+/// The inner type: a function by its one parameter and its last result, an array, a structure by its last field, or a
 /// continuation.
 #[derive(Clone, Copy)]
 enum Inner {
-    Func([Option<ValType>; 3]),
+    Func(Option<ValType>, Option<ValType>),
     Array(FieldType),
-    Struct([Option<FieldType>; 2]),
+    Struct(Option<FieldType>),
     Cont(UnpackedIndex),
 }
 
 fn is_inner(ty: &CompositeInnerType, want: Inner) -> bool {
-    match (ty, want) {
-        (CompositeInnerType::Func(ty), Inner::Func([param, first, second])) => {
-            ty.params.get(0).copied() == param
-                && ty.params.get(1).is_none()
-                && ty.results.get(0).copied() == first
-                && ty.results.get(1).copied() == second
-                && ty.results.get(2).is_none()
+    match ty {
+        CompositeInnerType::Func(ty) => match want {
+            Inner::Func(param, result) => {
+                ty.params.get(0).copied() == param
+                    && ty.params.get(1).is_none()
+                    && ty.results.as_slice().last().copied() == result
+            }
+            _ => false,
+        },
+        CompositeInnerType::Array(ArrayType(ty)) => match want {
+            Inner::Array(want) => *ty == want,
+            _ => false,
+        },
+        CompositeInnerType::Struct(ty) => match want {
+            Inner::Struct(want) => ty.fields.as_slice().last().copied() == want,
+            _ => false,
+        },
+        CompositeInnerType::Cont(ContType(ty)) => match want {
+            Inner::Cont(want) => *ty == want,
+            _ => false,
+        },
+    }
+}
+
+/// Whether the supertypes are so many indices from 7 on.
+fn are_supertypes(types: &[UnpackedIndex], count: u32) -> bool {
+    match types {
+        [] => count == 0,
+        [first] => count == 1 && *first == UnpackedIndex::Module(7),
+        [first, second] => {
+            count == 2 && *first == UnpackedIndex::Module(7) && *second == UnpackedIndex::Module(8)
         }
-        (CompositeInnerType::Array(ArrayType(ty)), Inner::Array(field)) => *ty == field,
-        (CompositeInnerType::Struct(ty), Inner::Struct([first, second])) => {
-            ty.fields.get(0).copied() == first
-                && ty.fields.get(1).copied() == second
-                && ty.fields.get(2).is_none()
-        }
-        (CompositeInnerType::Cont(ContType(ty)), Inner::Cont(index)) => *ty == index,
         _ => false,
     }
 }
 
-fn is(ty: Option<&SubType>, want: Option<Want>) -> bool {
-    let (Some(ty), Some(want)) = (ty, want) else {
-        return ty.is_none() && want.is_none();
-    };
+fn is(ty: &SubType, want: Want) -> bool {
     let composite = &ty.composite_type;
     is_inner(&composite.inner, want.inner)
         && ty.is_final == want.is_final
-        && ty.supertype_idxs.get(0).copied() == want.supertypes[0]
-        && ty.supertype_idxs.get(1).copied() == want.supertypes[1]
-        && ty.supertype_idxs.get(2).is_none()
+        && are_supertypes(ty.supertype_idxs.as_slice(), want.supertypes)
         && composite.shared == want.shared
         && composite.describes_idx == want.describes
         && composite.descriptor_idx == want.descriptor
 }
 
+/// Whether a group that is not explicit is spelled by all of the bytes, and is this type.
+fn reads(alloc: Global, bytes: &[u8], want: Want) -> bool {
+    match read_group(alloc, bytes, 0) {
+        Ok((group, at)) => {
+            let Some(ty) = group.types.get(0) else {
+                return false;
+            };
+            at == bytes.len() && !group.explicit && group.types.len() == 1 && is(ty, want)
+        }
+        Err(_) => false,
+    }
+}
+
+/// Whether an explicit group of so many types is spelled by all of the bytes, and ends with this type.
+fn reads_explicit(alloc: Global, bytes: &[u8], count: usize, want: Want) -> bool {
+    match read_group(alloc, bytes, 0) {
+        Ok((group, at)) => {
+            let Some(ty) = group.types.as_slice().last() else {
+                return count == 0 && group.explicit && at == bytes.len();
+            };
+            at == bytes.len() && group.explicit && group.types.len() == count && is(ty, want)
+        }
+        Err(_) => false,
+    }
+}
+
+/// A final type without supertypes.
+fn plain(inner: Inner) -> Want {
+    Want {
+        is_final: true,
+        supertypes: 0,
+        shared: false,
+        describes: None,
+        descriptor: None,
+        inner,
+    }
+}
+
 #[test]
-fn groups(rt: HostRuntime) {
-    let seven = UnpackedIndex::Module(7);
-    let eight = UnpackedIndex::Module(8);
+fn inner_types(rt: HostRuntime) {
     let byte = FieldType {
         element_type: StorageType::I8,
         mutable: true,
@@ -325,171 +374,73 @@ fn groups(rt: HostRuntime) {
         element_type: StorageType::Val(ValType::I32),
         mutable: true,
     };
-    let plain = Want {
-        is_final: true,
-        supertypes: [None, None],
-        shared: false,
-        describes: None,
-        descriptor: None,
-        inner: Inner::Func([None, None, None]),
-    };
-    let empty = Want {
-        inner: Inner::Struct([None, None]),
-        ..plain
-    };
-    let open = Want {
-        is_final: false,
-        ..plain
-    };
-    for (bytes, explicit, want) in [
-        (&[0x60u8, 0x00, 0x00] as &[u8], false, [Some(plain), None]),
+    for (bytes, inner) in [
+        (&[0x60u8, 0x00, 0x00] as &[u8], Inner::Func(None, None)),
         (
             &[0x60, 0x01, 0x7e, 0x02, 0x7f, 0x70],
-            false,
-            [
-                Some(Want {
-                    inner: Inner::Func([
-                        Some(ValType::I64),
-                        Some(ValType::I32),
-                        Some(nullable(unshared(FUNC))),
-                    ]),
-                    ..plain
-                }),
-                None,
-            ],
+            Inner::Func(Some(ValType::I64), Some(nullable(unshared(FUNC)))),
         ),
-        (
-            &[0x5e, 0x78, 0x01],
-            false,
-            [
-                Some(Want {
-                    inner: Inner::Array(byte),
-                    ..plain
-                }),
-                None,
-            ],
-        ),
+        (&[0x5e, 0x78, 0x01], Inner::Array(byte)),
+        (&[0x5f, 0x00], Inner::Struct(None)),
+        (&[0x5f, 0x01, 0x77, 0x00], Inner::Struct(Some(short))),
         (
             &[0x5f, 0x02, 0x77, 0x00, 0x7f, 0x01],
-            false,
-            [
-                Some(Want {
-                    inner: Inner::Struct([Some(short), Some(number)]),
-                    ..plain
-                }),
-                None,
-            ],
+            Inner::Struct(Some(number)),
         ),
-        (
-            &[0x5d, 0x07],
-            false,
-            [
-                Some(Want {
-                    inner: Inner::Cont(seven),
-                    ..plain
-                }),
-                None,
-            ],
-        ),
-        (
-            &[0x4d, 0x07, 0x5f, 0x00],
-            false,
-            [
-                Some(Want {
-                    descriptor: Some(seven),
-                    ..empty
-                }),
-                None,
-            ],
-        ),
-        (
-            &[0x4c, 0x08, 0x5f, 0x00],
-            false,
-            [
-                Some(Want {
-                    describes: Some(eight),
-                    ..empty
-                }),
-                None,
-            ],
-        ),
-        (
-            &[0x4c, 0x08, 0x4d, 0x07, 0x5f, 0x00],
-            false,
-            [
-                Some(Want {
-                    describes: Some(eight),
-                    descriptor: Some(seven),
-                    ..empty
-                }),
-                None,
-            ],
-        ),
-        (
-            &[0x65, 0x60, 0x00, 0x00],
-            false,
-            [
-                Some(Want {
-                    shared: true,
-                    ..plain
-                }),
-                None,
-            ],
-        ),
-        (
-            &[0x65, 0x4c, 0x08, 0x5f, 0x00],
-            false,
-            [
-                Some(Want {
-                    shared: true,
-                    describes: Some(eight),
-                    ..empty
-                }),
-                None,
-            ],
-        ),
-        (&[0x4f, 0x00, 0x60, 0x00, 0x00], false, [Some(plain), None]),
-        (
-            &[0x4f, 0x01, 0x07, 0x60, 0x00, 0x00],
-            false,
-            [
-                Some(Want {
-                    supertypes: [Some(seven), None],
-                    ..plain
-                }),
-                None,
-            ],
-        ),
-        (&[0x50, 0x00, 0x60, 0x00, 0x00], false, [Some(open), None]),
-        (
-            &[0x50, 0x02, 0x07, 0x08, 0x60, 0x00, 0x00],
-            false,
-            [
-                Some(Want {
-                    supertypes: [Some(seven), Some(eight)],
-                    ..open
-                }),
-                None,
-            ],
-        ),
-        (&[0x4e, 0x00], true, [None, None]),
-        (&[0x4e, 0x01, 0x5f, 0x00], true, [Some(empty), None]),
-        (
-            &[
-                0x4e, 0x02, 0x4f, 0x00, 0x5f, 0x00, 0x50, 0x00, 0x60, 0x00, 0x00,
-            ],
-            true,
-            [Some(empty), Some(open)],
-        ),
+        (&[0x5d, 0x07], Inner::Cont(UnpackedIndex::Module(7))),
+        (&[0x4f, 0x00, 0x5f, 0x00], Inner::Struct(None)),
     ] {
-        let Ok((group, at)) = read_group(rt.alloc(), bytes, 0) else {
-            panic!(rt; "a group is read at {bytes:?}");
+        assert!(rt; reads(rt.alloc(), bytes, plain(inner)), "of {bytes:?}");
+    }
+}
+
+#[test]
+fn composite_types(rt: HostRuntime) {
+    let seven = Some(UnpackedIndex::Module(7));
+    let eight = Some(UnpackedIndex::Module(8));
+    for (bytes, shared, describes, descriptor) in [
+        (&[0x4d_u8, 0x07, 0x5f, 0x00] as &[u8], false, None, seven),
+        (&[0x4c, 0x08, 0x5f, 0x00], false, eight, None),
+        (&[0x4c, 0x08, 0x4d, 0x07, 0x5f, 0x00], false, eight, seven),
+        (&[0x65, 0x5f, 0x00], true, None, None),
+        (&[0x65, 0x4d, 0x07, 0x5f, 0x00], true, None, seven),
+        (&[0x65, 0x4c, 0x08, 0x5f, 0x00], true, eight, None),
+    ] {
+        let want = Want {
+            shared,
+            describes,
+            descriptor,
+            ..plain(Inner::Struct(None))
         };
-        assert_eq!(rt; at, bytes.len(), "of {bytes:?}");
-        assert_eq!(rt; group.explicit, explicit, "of {bytes:?}");
-        assert!(rt; is(group.types.get(0), want[0]), "of {bytes:?}");
-        assert!(rt; is(group.types.get(1), want[1]), "of {bytes:?}");
-        assert!(rt; group.types.get(2).is_none(), "of {bytes:?}");
+        assert!(rt; reads(rt.alloc(), bytes, want), "of {bytes:?}");
+    }
+}
+
+#[test]
+fn groups(rt: HostRuntime) {
+    for (bytes, is_final, supertypes) in [
+        (&[0x4f_u8, 0x00, 0x5f, 0x00] as &[u8], true, 0),
+        (&[0x4f, 0x01, 0x07, 0x5f, 0x00], true, 1),
+        (&[0x50, 0x00, 0x5f, 0x00], false, 0),
+        (&[0x50, 0x02, 0x07, 0x08, 0x5f, 0x00], false, 2),
+    ] {
+        let want = Want {
+            is_final,
+            supertypes,
+            ..plain(Inner::Struct(None))
+        };
+        assert!(rt; reads(rt.alloc(), bytes, want), "of {bytes:?}");
+    }
+    for (bytes, count) in [
+        (&[0x4e_u8, 0x00] as &[u8], 0),
+        (&[0x4e, 0x01, 0x5f, 0x00], 1),
+        (&[0x4e, 0x02, 0x50, 0x00, 0x60, 0x00, 0x00, 0x5f, 0x00], 2),
+    ] {
+        let want = plain(Inner::Struct(None));
+        assert!(rt;
+            reads_explicit(rt.alloc(), bytes, count, want),
+            "of {bytes:?}"
+        );
     }
     for bytes in [
         &[] as &[u8],
