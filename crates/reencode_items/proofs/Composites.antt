@@ -1,26 +1,22 @@
 -- The walks over composite types and subtypes, by those over the parts that have a call of their own.
-use Rattle.std.proofs.Common.{◌≡◌, ℕ, Bool, true, false, List, [], ◌∷◌, length, Option, Some, None, sym, subst}
+use Rattle.std.proofs.Common.{ℕ, Bool, true, false, List, Option, Some, None}
+use Rattle.std.specs.Prelude.{map}
 use Rattle.wasm_shapes.specs.declared.Visit.{Visit}
+use Rattle.wasm_shapes.specs.Rows.{rows_then}
 use Rattle.wasm_shapes.specs.Tree.{Tree, visits}
 use Rattle.wasm_read.specs.declared.types.UnpackedIndex.{UnpackedIndex}
 use Rattle.wasm_read.specs.declared.types.CompositeType.{CompositeType}
 use Rattle.wasm_read.specs.Types as read
 use Rattle.wasm_write.specs.Types as write
 use Rattle.reencode_hooks.specs.declared.error.Error.{Error}
-use Rattle.reencode_hooks.specs.Run.{Step, accepted, refused, Visited}
+use Rattle.reencode_hooks.specs.Run.{Step, Visited}
 use Rattle.reencode_items.proofs.Leaving.{first_visited, second_visited}
-use Rattle.reencode_items.proofs.Steps.{Accepts, Refuses, row_accepts, row_refuses, led_accepts, led_refuses, pair_accepts, pair_refuses, pair_refuses_second, swap_accepts, swap_refuses, swap_refuses_first}
+use Rattle.reencode_items.proofs.Steps.{Accepts, Refuses, row_accepts, row_refuses, led_accepts, led_refuses, pair_accepts, pair_refuses, pair_refuses_second, swap_accepts, swap_refuses, swap_refuses_first, final_accepts, final_refuses, final_refuses_second, vec_accepts, vec_refuses}
 
 -- An index that may be left out was asked, where it is there.
 pub data OptionAccepts {S E : Type 0} (asked : S → Visit → Step S (Error E) ℕ) (c : ℕ) (s : S) : Option UnpackedIndex → Option ℕ → S → Type 0 where
   left_out : OptionAccepts asked c s None None s
   answered : {i : UnpackedIndex} {n : ℕ} {m : S} → Accepts asked c s (read.type_index i) (write.type_index n) m → OptionAccepts asked c s (Some i) (Some n) m
-
-same_state : {S E : Type 0} {s m : S} {t u : Tree} → ◌≡◌ {A = Step S (Error E) Tree} (accepted t s) (accepted u m) → s ≡ m
-same_state h = cc
-
-never : {S E : Type 0} {t : Tree} {s m : S} {e : Error E} → ◌≡◌ {A = Step S (Error E) Tree} (accepted t s) (refused e m) → ⊥
-never h = cc
 
 module _ {S E : Type 0} {asked : S → Visit → Step S (Error E) ℕ} {c : ℕ} where
   -- ---- composite types
@@ -62,26 +58,21 @@ module _ {S E : Type 0} {asked : S → Visit → Step S (Error E) ℕ} {c : ℕ}
 
   -- ---- subtypes
 
-  pub sub_accepts : {s m n : S} {t u : Tree} (b : Bool) (is : List UnpackedIndex) (js : List ℕ) → length js ≡ length is →
-      Accepts asked c s (read.supertypes_tree is) (write.supertypes_tree js) m → Accepts asked c m t u n →
+  pub sub_accepts : {s m n : S} {t u : Tree} (b : Bool) (is : List UnpackedIndex) (js : List ℕ) →
+      Accepts asked c s (rows_then (map read.type_index is) Tree.nil) (rows_then (map write.type_index js) Tree.nil) m → Accepts asked c m t u n →
       Accepts asked c s (read.sub_parts b is t) (write.sub_parts b js u) n
-  sub_accepts {n = n} {t = t} {u = u} true [] [] l h k = subst (λ (z : S). Accepts asked c z t u n) (sym (same_state h.is)) k
-  sub_accepts true [] (j ∷ js) l h k = absurd cc
-  sub_accepts true (i ∷ is) [] l h k = absurd cc
-  sub_accepts true (i ∷ is) (j ∷ js) l h k = row_accepts (led_accepts (pair_accepts h k))
-  sub_accepts false is js l h k = row_accepts (led_accepts (pair_accepts h k))
+  sub_accepts true is js h k = row_accepts (final_accepts h k)
+  sub_accepts false is js h k = row_accepts (led_accepts (pair_accepts (vec_accepts h) k))
 
-  pub supertypes_refuse : {s m : S} {e : Error E} (b : Bool) (is : List UnpackedIndex) (t : Tree) → Refuses asked c s (read.supertypes_tree is) e m →
-      Refuses asked c s (read.sub_parts b is t) e m
-  supertypes_refuse true [] t h = absurd (never h.is)
-  supertypes_refuse true (i ∷ is) t h = row_refuses (led_refuses (pair_refuses h))
-  supertypes_refuse false is t h = row_refuses (led_refuses (pair_refuses h))
+  pub supertypes_refuse : {s m : S} {e : Error E} (b : Bool) (is : List UnpackedIndex) (t : Tree) →
+      Refuses asked c s (rows_then (map read.type_index is) Tree.nil) e m → Refuses asked c s (read.sub_parts b is t) e m
+  supertypes_refuse true is t h = row_refuses (final_refuses h)
+  supertypes_refuse false is t h = row_refuses (led_refuses (pair_refuses (vec_refuses h)))
 
-  pub composite_refuses : {s m n : S} {t u : Tree} {e : Error E} (b : Bool) (is : List UnpackedIndex) → Accepts asked c s (read.supertypes_tree is) u m →
-      Refuses asked c m t e n → Refuses asked c s (read.sub_parts b is t) e n
-  composite_refuses {n = n} {t = t} {e = e} true [] h k = subst (λ (z : S). Refuses asked c z t e n) (sym (same_state h.is)) k
-  composite_refuses true (i ∷ is) h k = row_refuses (led_refuses (pair_refuses_second h k))
-  composite_refuses false is h k = row_refuses (led_refuses (pair_refuses_second h k))
+  pub composite_refuses : {s m n : S} {t u : Tree} {e : Error E} (b : Bool) (is : List UnpackedIndex) →
+      Accepts asked c s (rows_then (map read.type_index is) Tree.nil) u m → Refuses asked c m t e n → Refuses asked c s (read.sub_parts b is t) e n
+  composite_refuses true is h k = row_refuses (final_refuses_second h k)
+  composite_refuses false is h k = row_refuses (led_refuses (pair_refuses_second (vec_accepts h) k))
 
 -- ---- the state that is left
 
@@ -106,15 +97,13 @@ module _ {S E : Type 0} {asked : S → Visit → Step S (Error E) ℕ} where
       (describing_leaves described ty.describes_idx (described_leaves (read.inner_tree ty.inner) ty.descriptor_idx v))
 
   -- the supertypes were asked in part
-  pub supertypes_leave : {s m : S} (b : Bool) (is : List UnpackedIndex) (t : Tree) → Visited asked s (visits (read.supertypes_tree is)) m →
+  pub supertypes_leave : {s m : S} (b : Bool) (is : List UnpackedIndex) (t : Tree) → Visited asked s (visits (rows_then (map read.type_index is) Tree.nil)) m →
       Visited asked s (visits (read.sub_parts b is t)) m
-  supertypes_leave true [] t v = first_visited (visits t) v
-  supertypes_leave true (i ∷ is) t v = first_visited (visits t) v
+  supertypes_leave true is t v = first_visited (visits t) v
   supertypes_leave false is t v = first_visited (visits t) v
 
   -- they were accepted, and the composite type was asked in part
-  pub composite_leaves : {c : ℕ} {s m n : S} {u : Tree} (b : Bool) (is : List UnpackedIndex) (t : Tree) → Accepts asked c s (read.supertypes_tree is) u m →
-      Visited asked m (visits t) n → Visited asked s (visits (read.sub_parts b is t)) n
-  composite_leaves {c = c} true [] t h v = second_visited c (read.supertypes_tree []) h.is v
-  composite_leaves {c = c} true (i ∷ is) t h v = second_visited c (read.supertypes_tree (i ∷ is)) h.is v
-  composite_leaves {c = c} false is t h v = second_visited c (read.supertypes_tree is) h.is v
+  pub composite_leaves : {c : ℕ} {s m n : S} {u : Tree} (b : Bool) (is : List UnpackedIndex) (t : Tree) →
+      Accepts asked c s (rows_then (map read.type_index is) Tree.nil) u m → Visited asked m (visits t) n → Visited asked s (visits (read.sub_parts b is t)) n
+  composite_leaves {c = c} true is t h v = second_visited c (rows_then (map read.type_index is) Tree.nil) h.is v
+  composite_leaves {c = c} false is t h v = second_visited c (rows_then (map read.type_index is) Tree.nil) h.is v

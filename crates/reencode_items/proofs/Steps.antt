@@ -65,6 +65,18 @@ module _ {S E : Type 0} {asked : S → Visit → Step S (Error E) ℕ} {c : ℕ}
       Refuses asked c s (Tree.swap t u) e n
   swap_refuses_first h k = record { is = rw (h.is, k.is) refl }
 
+  -- items that may be left out, and what stands behind them
+  pub final_accepts : {s m n : S} {t u t' u' : Tree} → Accepts asked c s t t' m → Accepts asked c m u u' n →
+      Accepts asked c s (Tree.final t u) (Tree.final t' u') n
+  final_accepts h k = record { is = rw (h.is, k.is) refl }
+
+  pub final_refuses : {s m : S} {t u : Tree} {e : Error E} → Refuses asked c s t e m → Refuses asked c s (Tree.final t u) e m
+  final_refuses h = record { is = rw h.is refl }
+
+  pub final_refuses_second : {s m n : S} {t u t' : Tree} {e : Error E} → Accepts asked c s t t' m → Refuses asked c m u e n →
+      Refuses asked c s (Tree.final t u) e n
+  final_refuses_second h k = record { is = rw (h.is, k.is) refl }
+
 -- ---- items one behind another
 
 -- a step behind rows that were accepted
@@ -132,19 +144,23 @@ module _ {S E A B : Type 0} {asked : S → Visit → Step S (Error E) ℕ} {read
         done.onward n (subst P (sym here) (second_visited 0 (read x) (step 0) v));
   }
 
-  -- The item at the place was refused.
-  pub items_refuse : {s0 s m : S} {items slice : List A} {i : ℕ} {made : List B} {e : Error E} (d : A) (c : ℕ) →
+  -- The item at the place was refused, and with it the items, and the items behind their number.
+  pub rows_refuse : {s0 s m : S} {items slice : List A} {i : ℕ} {made : List B} {e : Error E} (d : A) (c : ℕ) →
       ItemsDone asked read write s0 items i s made → slice ≡ items → i < length slice →
       walk asked c s (read (get_or slice i d)) ≡ refused e m →
-      Refuses asked c s0 (Tree.vec (rows_then (map read items) Tree.nil)) e m
-  items_refuse {s = s} {m = m} {items = items} {slice = slice} {i = i} {made = made} {e = err} d c done e h step =
+      Refuses asked c s0 (rows_then (map read items) Tree.nil) e m
+  rows_refuse {s = s} {m = m} {items = items} {slice = slice} {i = i} {made = made} {e = err} d c done e h step =
       let x : A = get_or slice i d in
       let rest : Tree = rows_then (map read (drop (i + 1) slice)) Tree.nil in
       let here : drop i items ≡ x ∷ drop (i + 1) slice = rw (← e) (drop_at slice i d h) in
       let first : walk asked c s (Tree.cons (read x) rest) ≡ refused err m = rw step refl in
-      let all : Refuses asked c _ (rows_then (map read items) Tree.nil) err m =
-      record { is = done.walks c ∙ rw here (ap (λ (r : Step S (Error E) Tree). onto_rows (map write made) r) first) } in
-      vec_refuses all
+      record { is = done.walks c ∙ rw here (ap (λ (r : Step S (Error E) Tree). onto_rows (map write made) r) first) }
+
+  pub items_refuse : {s0 s m : S} {items slice : List A} {i : ℕ} {made : List B} {e : Error E} (d : A) (c : ℕ) →
+      ItemsDone asked read write s0 items i s made → slice ≡ items → i < length slice →
+      walk asked c s (read (get_or slice i d)) ≡ refused e m →
+      Refuses asked c s0 (Tree.vec (rows_then (map read items) Tree.nil)) e m
+  items_refuse d c done e h step = vec_refuses (rows_refuse d c done e h step)
 
   -- What is left where the item at the place was refused, and where it was accepted.
   pub items_leave_refused : {s0 s m : S} {items slice : List A} {i : ℕ} {made : List B} {e : Error E} (d : A) →
@@ -157,12 +173,14 @@ module _ {S E A B : Type 0} {asked : S → Visit → Step S (Error E) ℕ} {read
       walk asked 0 s (read (get_or slice i d)) ≡ accepted u m → Visited asked s0 (visits (rows_then (map read items) Tree.nil)) m
   items_leave_accepted {slice = slice} {i = i} d done e h step = items_leave d done e h (accepted_visited 0 (read (get_or slice i d)) step)
 
-  -- All were accepted.
+  -- All were accepted, and with them the items behind their number.
+  pub rows_accept : {s0 s : S} {items slice : List A} {i : ℕ} {made : List B} (c : ℕ) →
+      ItemsDone asked read write s0 items i s made → slice ≡ items → length slice ≤ i →
+      Accepts asked c s0 (rows_then (map read items) Tree.nil) (rows_then (map write made) Tree.nil) s
+  rows_accept {items = items} {i = i} c done e all =
+      let none : drop i items ≡ [] = rw (← e) (drop_all i _ all) in record { is = done.walks c ∙ rw none refl }
+
   pub items_accept : {s0 s : S} {items slice : List A} {i : ℕ} {made : List B} (c : ℕ) →
       ItemsDone asked read write s0 items i s made → slice ≡ items → length slice ≤ i →
       Accepts asked c s0 (Tree.vec (rows_then (map read items) Tree.nil)) (Tree.vec (rows_then (map write made) Tree.nil)) s
-  items_accept {s0 = s0} {s = s} {items = items} {i = i} {made = made} c done e all =
-      let none : drop i items ≡ [] = rw (← e) (drop_all i _ all) in
-      let whole : Accepts asked c s0 (rows_then (map read items) Tree.nil) (rows_then (map write made) Tree.nil) s =
-      record { is = done.walks c ∙ rw none refl } in
-      vec_accepts whole
+  items_accept c done e all = vec_accepts (rows_accept c done e all)

@@ -186,6 +186,54 @@ macro_rules! val_types {
     };
 }
 
+macro_rules! table_type {
+    ($reencoder:ident, $table_ty:ident) => {
+        Ok(w::TableType {
+            element_type: $reencoder.ref_type($table_ty.element_type)?,
+            table64: $table_ty.table64,
+            minimum: $table_ty.initial,
+            maximum: $table_ty.maximum,
+            shared: $table_ty.shared,
+        })
+    };
+}
+
+macro_rules! global_type {
+    ($reencoder:ident, $global_ty:ident) => {
+        Ok(w::GlobalType {
+            val_type: $reencoder.val_type($global_ty.content_type)?,
+            mutable: $global_ty.mutable,
+            shared: $global_ty.shared,
+        })
+    };
+}
+
+macro_rules! tag_type {
+    ($reencoder:ident, $tag_ty:ident) => {
+        Ok(w::TagType {
+            kind: $reencoder.tag_kind($tag_ty.kind)?,
+            func_type_idx: $reencoder.type_index($tag_ty.func_type_idx)?,
+        })
+    };
+}
+
+macro_rules! entity_type {
+    ($reencoder:ident, $type_ref:ident) => {
+        match $type_ref {
+            r::TypeRef::Func(index) => {
+                Ok(w::EntityType::Function($reencoder.type_index(index)?))
+            }
+            r::TypeRef::FuncExact(index) => {
+                Ok(w::EntityType::FunctionExact($reencoder.type_index(index)?))
+            }
+            r::TypeRef::Table(ty) => Ok(w::EntityType::Table($reencoder.table_type(ty)?)),
+            r::TypeRef::Memory(ty) => Ok(w::EntityType::Memory($reencoder.memory_type(ty)?)),
+            r::TypeRef::Global(ty) => Ok(w::EntityType::Global($reencoder.global_type(ty)?)),
+            r::TypeRef::Tag(ty) => Ok(w::EntityType::Tag($reencoder.tag_type(ty)?)),
+        }
+    };
+}
+
 macro_rules! block_type {
     ($reencoder:ident, $arg:ident) => {
         match $arg {
@@ -253,9 +301,11 @@ pub(crate) use array_type;
 pub(crate) use block_type;
 pub(crate) use composite_type;
 pub(crate) use cont_type;
+pub(crate) use entity_type;
 pub(crate) use external_index;
 pub(crate) use field_type;
 pub(crate) use func_type;
+pub(crate) use global_type;
 pub(crate) use heap_type;
 pub(crate) use immediate;
 pub(crate) use index;
@@ -265,6 +315,8 @@ pub(crate) use ref_type;
 pub(crate) use storage_type;
 pub(crate) use struct_type;
 pub(crate) use sub_type;
+pub(crate) use table_type;
+pub(crate) use tag_type;
 pub(crate) use type_index_unpacked;
 pub(crate) use val_type;
 pub(crate) use val_types;

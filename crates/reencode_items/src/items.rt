@@ -215,6 +215,61 @@ pub trait ReencodeItems: ReencodeIndices {
         bodies::val_types!(self, alloc, val_tys)
     }
 
+    /// A table: its elements, by the method `ref_type`, and its limits (section 5.3.11).
+    fn table_type(&mut self, table_ty: r::TableType) -> Result<w::TableType, Error<Self::Error>>
+        ensures default { IsTrue Self.keeps_defaults
+            → Maps Self.reply Self.next self.old (read.table_type_tree table_ty) write.table_type_tree self.new result }
+        ensures sure { IsTrue Self.keeps_defaults → NeverWants Self.sure result }
+    {
+        bodies::table_type!(self, table_ty)
+    }
+
+    /// A memory by its limits (section 5.3.12).
+    fn memory_type(&mut self, memory_ty: r::MemoryType) -> Result<w::MemoryType, Error<Self::Error>>
+        ensures default { IsTrue Self.keeps_defaults
+            → Maps Self.reply Self.next self.old (read.memory_type_tree memory_ty) write.memory_type_tree self.new result }
+        ensures sure { IsTrue Self.keeps_defaults → NeverWants Self.sure result }
+    {
+        Ok(kinds::memory_type(memory_ty))
+    }
+
+    /// A global: its type, by the method `val_type`, and whether it may change (section 5.3.13).
+    fn global_type(&mut self, global_ty: r::GlobalType) -> Result<w::GlobalType, Error<Self::Error>>
+        ensures default { IsTrue Self.keeps_defaults
+            → Maps Self.reply Self.next self.old (read.global_type_tree global_ty) write.global_type_tree self.new result }
+        ensures sure { IsTrue Self.keeps_defaults → NeverWants Self.sure result }
+    {
+        bodies::global_type!(self, global_ty)
+    }
+
+    /// What a tag is for (section 5.3.14): with each index it is the same tag.
+    fn tag_kind(&mut self, kind: r::TagKind) -> Result<w::TagKind, Error<Self::Error>>
+        ensures default { IsTrue Self.keeps_defaults
+            → (index : ℕ) → Gives (accepted (read.tag_type_tree (record { kind = kind; func_type_idx = index })) self.old)
+            (λ made. write.tag_type_tree (record { kind = made; func_type_idx = index })) self.new result }
+        ensures sure { IsTrue Self.keeps_defaults → NeverWants Self.sure result }
+    {
+        Ok(kinds::tag_kind(kind))
+    }
+
+    /// A tag, by the index of its function type (section 5.3.14).
+    fn tag_type(&mut self, tag_ty: r::TagType) -> Result<w::TagType, Error<Self::Error>>
+        ensures default { IsTrue Self.keeps_defaults
+            → Maps Self.reply Self.next self.old (read.tag_type_tree tag_ty) write.tag_type_tree self.new result }
+        ensures sure { IsTrue Self.keeps_defaults → NeverWants Self.sure result }
+    {
+        bodies::tag_type!(self, tag_ty)
+    }
+
+    /// The type of what is imported (section 5.3.15).
+    fn entity_type(&mut self, type_ref: r::TypeRef) -> Result<w::EntityType, Error<Self::Error>>
+        ensures default { IsTrue Self.keeps_defaults
+            → Maps Self.reply Self.next self.old (read.entity_tree type_ref) write.entity_tree self.new result }
+        ensures sure { IsTrue Self.keeps_defaults → NeverWants Self.sure result }
+    {
+        bodies::entity_type!(self, type_ref)
+    }
+
     /// The type of a block (section 5.4.1).
     fn block_type(&mut self, arg: r::BlockType) -> Result<w::BlockType, Error<Self::Error>>
         ensures default { IsTrue Self.keeps_defaults

@@ -1,4 +1,4 @@
-//! Kinds, which hold no index.
+//! Kinds and types that hold no index.
 ghost use Rattle.std.specs.Prelude.{◌≡◌, ℕ};
 ghost use Rattle.wasm_read.specs.Types as read;
 ghost use Rattle.wasm_write.specs.Rows as rows;
@@ -39,5 +39,27 @@ pub(crate) fn export_kind(external_kind: r::ExternalKind) -> w::ExportKind
         r::ExternalKind::Memory => w::ExportKind::Memory,
         r::ExternalKind::Global => w::ExportKind::Global,
         r::ExternalKind::Tag => w::ExportKind::Tag,
+    }
+}
+
+/// The kind of the same name.
+pub(crate) fn tag_kind(kind: r::TagKind) -> w::TagKind
+    ensures { (index : ℕ) → write.tag_type_tree (record { kind = result; func_type_idx = index }) ≡ read.tag_type_tree (record { kind = kind; func_type_idx = index }) }
+{
+    match kind {
+        r::TagKind::Exception => w::TagKind::Exception,
+    }
+}
+
+/// The memory with the same limits.
+pub(crate) fn memory_type(memory_ty: r::MemoryType) -> w::MemoryType
+    ensures { write.memory_type_tree result ≡ read.memory_type_tree memory_ty }
+{
+    w::MemoryType {
+        memory64: memory_ty.memory64,
+        shared: memory_ty.shared,
+        minimum: memory_ty.initial,
+        maximum: memory_ty.maximum,
+        page_size_log2: memory_ty.page_size_log2,
     }
 }

@@ -318,6 +318,120 @@ fn lists_by_utils(rt: HostRuntime) -> Result<(), Fail> {
     Ok(())
 }
 
+fn table(index: u32) -> r::TableType {
+    r::TableType {
+        element_type: reference(index),
+        table64: true,
+        initial: 1,
+        maximum: Some(2),
+        shared: false,
+    }
+}
+
+fn memory() -> r::MemoryType {
+    r::MemoryType {
+        memory64: false,
+        shared: true,
+        initial: 3,
+        maximum: None,
+        page_size_log2: Some(4),
+    }
+}
+
+fn global(index: u32) -> r::GlobalType {
+    r::GlobalType {
+        content_type: r::ValType::Ref(reference(index)),
+        mutable: true,
+        shared: false,
+    }
+}
+
+fn tag(index: u32) -> r::TagType {
+    r::TagType {
+        kind: r::TagKind::Exception,
+        func_type_idx: index,
+    }
+}
+
+fn written_table(index: u32) -> w::TableType {
+    w::TableType {
+        element_type: written(index),
+        table64: true,
+        minimum: 1,
+        maximum: Some(2),
+        shared: false,
+    }
+}
+
+fn written_memory() -> w::MemoryType {
+    w::MemoryType {
+        memory64: false,
+        shared: true,
+        minimum: 3,
+        maximum: None,
+        page_size_log2: Some(4),
+    }
+}
+
+fn written_global(index: u32) -> w::GlobalType {
+    w::GlobalType {
+        val_type: w::ValType::Ref(written(index)),
+        mutable: true,
+        shared: false,
+    }
+}
+
+fn written_tag(index: u32) -> w::TagType {
+    w::TagType {
+        kind: w::TagKind::Exception,
+        func_type_idx: index,
+    }
+}
+
+/// The calls on what is imported, as methods: each index 1 is to become 11.
+fn externals_by_methods<R: ReencodeItems>(reencoder: &mut R) -> Result<bool, Error<R::Error>> {
+    let made = [
+        reencoder.table_type(table(1))? == written_table(11),
+        reencoder.memory_type(memory())? == written_memory(),
+        reencoder.global_type(global(1))? == written_global(11),
+        reencoder.tag_kind(r::TagKind::Exception)? == w::TagKind::Exception,
+        reencoder.tag_type(tag(1))? == written_tag(11),
+        reencoder.entity_type(r::TypeRef::Func(1))? == w::EntityType::Function(11),
+        reencoder.entity_type(r::TypeRef::FuncExact(1))? == w::EntityType::FunctionExact(11),
+        reencoder.entity_type(r::TypeRef::Table(table(1)))?
+            == w::EntityType::Table(written_table(11)),
+    ];
+    Ok(made == [true; 8])
+}
+
+/// The same as functions.
+fn externals_by_functions<R: ReencodeItems>(reencoder: &mut R) -> Result<bool, Error<R::Error>> {
+    let made = [
+        utils::table_type(reencoder, table(1))? == written_table(11),
+        utils::memory_type(reencoder, memory()) == written_memory(),
+        utils::global_type(reencoder, global(1))? == written_global(11),
+        utils::tag_kind(reencoder, r::TagKind::Exception) == w::TagKind::Exception,
+        utils::tag_type(reencoder, tag(1))? == written_tag(11),
+        utils::entity_type(reencoder, r::TypeRef::Memory(memory()))?
+            == w::EntityType::Memory(written_memory()),
+        utils::entity_type(reencoder, r::TypeRef::Global(global(1)))?
+            == w::EntityType::Global(written_global(11)),
+        utils::entity_type(reencoder, r::TypeRef::Tag(tag(1)))?
+            == w::EntityType::Tag(written_tag(11)),
+    ];
+    Ok(made == [true; 8])
+}
+
+#[test]
+fn externals(rt: HostRuntime) -> Result<(), Fail> {
+    let mut renamer = renamer(rt.alloc())?;
+    assert_eq!(rt; externals_by_methods(&mut renamer)?, true);
+    assert_eq!(rt; renamer.count(Asked::Of(Space::Type_)), 6);
+    assert_eq!(rt; externals_by_functions(&mut renamer)?, true);
+    assert_eq!(rt; renamer.count(Asked::Of(Space::Type_)), 11);
+    Ok(())
+}
+
 /// The operator `i32.const 7`.
 fn seven<'a>(alloc: Global) -> Result<Option<r::Operator<'a>>, NoMemory> {
     let mut imms = List::with_capacity(alloc, 1)?;

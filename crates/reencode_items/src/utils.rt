@@ -229,6 +229,72 @@ pub fn val_types<T: ReencodeItems>(
     bodies::val_types!(reencoder, alloc, val_tys)
 }
 
+/// A table: its elements, by the method `ref_type`, and its limits (section 5.3.11).
+pub fn table_type<T: ReencodeItems>(
+    reencoder: &mut T,
+    table_ty: r::TableType,
+) -> Result<w::TableType, Error<T::Error>>
+    ensures default { IsTrue T.keeps_defaults
+        → Maps T.reply T.next reencoder.old (read.table_type_tree table_ty) write.table_type_tree reencoder.new result }
+    ensures sure { IsTrue T.keeps_defaults → NeverWants T.sure result }
+{
+    bodies::table_type!(reencoder, table_ty)
+}
+
+/// A memory by its limits (section 5.3.12).
+pub fn memory_type<T: ReencodeItems>(reencoder: &mut T, memory_ty: r::MemoryType) -> w::MemoryType
+    ensures value { write.memory_type_tree result ≡ read.memory_type_tree memory_ty }
+    ensures state { reencoder.new ≡ reencoder.old }
+{
+    let _ = reencoder;
+    kinds::memory_type(memory_ty)
+}
+
+/// A global: its type, by the method `val_type`, and whether it may change (section 5.3.13).
+pub fn global_type<T: ReencodeItems>(
+    reencoder: &mut T,
+    global_ty: r::GlobalType,
+) -> Result<w::GlobalType, Error<T::Error>>
+    ensures default { IsTrue T.keeps_defaults
+        → Maps T.reply T.next reencoder.old (read.global_type_tree global_ty) write.global_type_tree reencoder.new result }
+    ensures sure { IsTrue T.keeps_defaults → NeverWants T.sure result }
+{
+    bodies::global_type!(reencoder, global_ty)
+}
+
+/// What a tag is for (section 5.3.14): with each index it is the same tag.
+pub fn tag_kind<T: ReencodeItems>(reencoder: &mut T, kind: r::TagKind) -> w::TagKind
+    ensures value { (index : ℕ) → write.tag_type_tree (record { kind = result; func_type_idx = index }) ≡ read.tag_type_tree (record { kind = kind; func_type_idx = index }) }
+    ensures state { reencoder.new ≡ reencoder.old }
+{
+    let _ = reencoder;
+    kinds::tag_kind(kind)
+}
+
+/// A tag, by the index of its function type (section 5.3.14).
+pub fn tag_type<T: ReencodeItems>(
+    reencoder: &mut T,
+    tag_ty: r::TagType,
+) -> Result<w::TagType, Error<T::Error>>
+    ensures default { IsTrue T.keeps_defaults
+        → Maps T.reply T.next reencoder.old (read.tag_type_tree tag_ty) write.tag_type_tree reencoder.new result }
+    ensures sure { IsTrue T.keeps_defaults → NeverWants T.sure result }
+{
+    bodies::tag_type!(reencoder, tag_ty)
+}
+
+/// The type of what is imported (section 5.3.15).
+pub fn entity_type<T: ReencodeItems>(
+    reencoder: &mut T,
+    type_ref: r::TypeRef,
+) -> Result<w::EntityType, Error<T::Error>>
+    ensures default { IsTrue T.keeps_defaults
+        → Maps T.reply T.next reencoder.old (read.entity_tree type_ref) write.entity_tree reencoder.new result }
+    ensures sure { IsTrue T.keeps_defaults → NeverWants T.sure result }
+{
+    bodies::entity_type!(reencoder, type_ref)
+}
+
 /// The type of a block (section 5.4.1).
 pub fn block_type<T: ReencodeItems>(
     reencoder: &mut T,

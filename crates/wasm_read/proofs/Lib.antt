@@ -6,3 +6,6 @@ pub mod OfKinds
 pub mod Placed
 pub mod Vectors
 pub mod Missing
+pub mod HeapTypes
+pub mod Limits
+pub mod TypeRows

@@ -1,7 +1,8 @@
 -- The trees that the types and rows of a core module stand for, as they are read (WebAssembly Core Specification 3.0,
--- section 5.3). Each is of the table with all its rows. An index inside a recursion group stands for a leaf that no
+-- section 5.3). An index inside a recursion group stands for a leaf that no
 -- shape has.
-use Rattle.std.specs.Prelude.{ℕ, Bool, true, false, List, [], ◌∷◌, map, Option, Some, None}
+use Rattle.std.specs.Prelude.{ℕ, ◌+◌, Bool, true, false, List, [], ◌∷◌, map, Option, Some, None}
+use Rattle.std.specs.Option.{is_some}
 use Rattle.wasm_shapes.specs.declared.Space.TheVariants as space
 use Rattle.wasm_shapes.specs.Tree.{Tree}
 use Rattle.wasm_shapes.specs.Rows.{rows_then}
@@ -26,6 +27,17 @@ use Rattle.wasm_read.specs.declared.types.RecGroup.{RecGroup}
 use Rattle.wasm_read.specs.declared.types.ExternalKind.{ExternalKind}
 use Rattle.wasm_read.specs.declared.types.ExternalKind.TheVariants as external
 use Rattle.wasm_read.specs.declared.types.Export.{Export}
+use Rattle.wasm_read.specs.declared.types.TableType.{TableType}
+use Rattle.wasm_read.specs.declared.types.MemoryType.{MemoryType}
+use Rattle.wasm_read.specs.declared.types.GlobalType.{GlobalType}
+use Rattle.wasm_read.specs.declared.types.TagType.{TagType}
+use Rattle.wasm_read.specs.declared.types.TypeRef.{TypeRef}
+use Rattle.wasm_read.specs.declared.types.TypeRef.TheVariants as entity
+use Rattle.wasm_read.specs.declared.types.Imports.{Imports}
+use Rattle.wasm_read.specs.declared.types.Imports.TheVariants as imported
+use Rattle.wasm_read.specs.declared.types.Table.{Table}
+use Rattle.wasm_read.specs.declared.types.TableInit.{TableInit}
+use Rattle.wasm_read.specs.declared.types.TableInit.TheVariants as init
 
 -- the index of the module
 abbrev pub module_index : UnpackedIndex → Option ℕ
@@ -55,6 +67,23 @@ vector_tree ts = Tree.vec (rows_then ts Tree.nil)
 
 -- ---- heap types
 
+-- the byte that spells an abstract heap type
+abbrev pub abstract_byte : AbstractHeapType → ℕ
+abstract_byte abstract.NoFunc = 0x73
+abstract_byte abstract.NoExtern = 0x72
+abstract_byte abstract.None = 0x71
+abstract_byte abstract.Func = 0x70
+abstract_byte abstract.Extern = 0x6f
+abstract_byte abstract.Any = 0x6e
+abstract_byte abstract.Eq = 0x6d
+abstract_byte abstract.I31 = 0x6c
+abstract_byte abstract.Struct = 0x6b
+abstract_byte abstract.Array = 0x6a
+abstract_byte abstract.Exn = 0x69
+abstract_byte abstract.NoExn = 0x74
+abstract_byte abstract.Cont = 0x68
+abstract_byte abstract.NoCont = 0x75
+
 abbrev pub abstract_tree : AbstractHeapType → Tree
 abstract_tree abstract.NoFunc = Tree.row 0 (Tree.fixed 0x73)
 abstract_tree abstract.NoExtern = Tree.row 1 (Tree.fixed 0x72)
@@ -74,6 +103,12 @@ abstract_tree abstract.NoCont = Tree.row 13 (Tree.fixed 0x75)
 abbrev pub shared_tree : Bool → AbstractHeapType → Tree
 shared_tree false ty = Tree.row 0 (abstract_tree ty)
 shared_tree true ty = Tree.row 1 (led 0x65 (abstract_tree ty))
+
+-- one that names a type of the module
+abbrev pub concrete_tree : HeapType → Tree
+concrete_tree (heap.Abstract shared ty) = no_reading
+concrete_tree (heap.Exact i) = Tree.row 0 (led 0x62 (type_index i))
+concrete_tree (heap.Concrete i) = Tree.row 1 (signed_index i)
 
 abbrev pub heap_type_tree : HeapType → Tree
 heap_type_tree (heap.Abstract shared ty) = shared_tree shared ty
@@ -160,25 +195,96 @@ composite_tree ty =
 abbrev pub supertypes_tree : List UnpackedIndex → Tree
 supertypes_tree supertypes = vector_tree (map type_index supertypes)
 
--- a final type without supertypes is spelled as its composite type alone
+-- a final type, whose supertypes are left out with their number where there are none, or an open one
 abbrev pub sub_parts : Bool → List UnpackedIndex → Tree → Tree
-sub_parts true [] t = t
-sub_parts true (i ∷ is) t = Tree.row 7 (led 0x4f (Tree.pair (supertypes_tree (i ∷ is)) t))
-sub_parts false is t = Tree.row 8 (led 0x50 (Tree.pair (supertypes_tree is) t))
+sub_parts true is t = Tree.row 0 (Tree.final (rows_then (map type_index is) Tree.nil) t)
+sub_parts false is t = Tree.row 1 (led 0x50 (Tree.pair (supertypes_tree is) t))
 
 abbrev pub sub_type_tree : SubType → Tree
 sub_type_tree ty = sub_parts ty.is_final ty.supertype_idxs (composite_tree ty.composite_type)
 
+-- types behind their number
+abbrev pub sub_types_tree : List SubType → Tree
+sub_types_tree types = vector_tree (map sub_type_tree types)
+
 -- a group that is not explicit holds one type, and is spelled as that type alone
 abbrev pub group_parts : Bool → List SubType → Tree
-group_parts true types = Tree.row 9 (led 0x4e (vector_tree (map sub_type_tree types)))
+group_parts true types = Tree.row 2 (led 0x4e (sub_types_tree types))
 group_parts false (ty ∷ types) = sub_type_tree ty
 group_parts false [] = Tree.nil
 
 abbrev pub group_tree : RecGroup → Tree
 group_tree group = group_parts group.explicit group.types
 
+-- ---- limits
+
+-- so much where it is set
+abbrev pub flag : ℕ → Bool → ℕ
+flag n false = 0
+flag n true = n
+
+-- The flags of limits: whether there is a maximum, whether they are shared, whether they count in 64 bits, and whether the
+-- logarithm of the page size is written.
+abbrev pub limits_flags : Bool → Bool → Bool → Bool → ℕ
+limits_flags maximum shared wide page = flag 1 maximum + flag 2 shared + flag 4 wide + flag 8 page
+
+-- the minimum, and the maximum behind it
+abbrev pub bounds_tree : ℕ → Option ℕ → Tree
+bounds_tree initial None = Tree.u64 initial
+bounds_tree initial (Some maximum) = Tree.pair (Tree.u64 initial) (Tree.u64 maximum)
+
+-- the logarithm of the page size behind them
+abbrev pub paged_tree : Option ℕ → Tree → Tree
+paged_tree None t = t
+paged_tree (Some page) t = Tree.pair t (Tree.u32 page)
+
+-- the limits of a row's number
+abbrev pub limits_tree : ℕ → Tree → Tree
+limits_tree flags t = Tree.row flags (led flags t)
+
+-- ---- what is imported
+
+abbrev pub table_type_tree : TableType → Tree
+table_type_tree ty = Tree.pair (ref_type_tree ty.element_type)
+    (limits_tree (limits_flags (is_some ty.maximum) ty.shared ty.table64 false) (bounds_tree ty.initial ty.maximum))
+
+abbrev pub memory_type_tree : MemoryType → Tree
+memory_type_tree ty =
+    limits_tree (limits_flags (is_some ty.maximum) ty.shared ty.memory64 (is_some ty.page_size_log2))
+    (paged_tree ty.page_size_log2 (bounds_tree ty.initial ty.maximum))
+
+-- whether a global may change, and whether it is shared
+abbrev pub global_flags : Bool → Bool → ℕ
+global_flags mutable shared = flag 1 mutable + flag 2 shared
+
+abbrev pub global_type_tree : GlobalType → Tree
+global_type_tree ty = Tree.pair (val_type_tree ty.content_type)
+    (Tree.row (global_flags ty.mutable ty.shared) (Tree.fixed (global_flags ty.mutable ty.shared)))
+
+abbrev pub tag_type_tree : TagType → Tree
+tag_type_tree ty = led 0x00 (Tree.ix space.Type_ ty.func_type_idx)
+
+abbrev pub entity_tree : TypeRef → Tree
+entity_tree (entity.Func i) = Tree.row 0 (led 0x00 (Tree.ix space.Type_ i))
+entity_tree (entity.FuncExact i) = Tree.row 5 (led 0x20 (Tree.ix space.Type_ i))
+entity_tree (entity.Table ty) = Tree.row 1 (led 0x01 (table_type_tree ty))
+entity_tree (entity.Memory ty) = Tree.row 2 (led 0x02 (memory_type_tree ty))
+entity_tree (entity.Global ty) = Tree.row 3 (led 0x03 (global_type_tree ty))
+entity_tree (entity.Tag ty) = Tree.row 4 (led 0x04 (tag_type_tree ty))
+
 -- ---- rows
+
+-- a module's name, a name in it, and the type of what is imported
+abbrev pub import_tree : Imports → Tree
+import_tree (imported.Single row) = Tree.pair (Tree.name row.module.now) (Tree.pair (Tree.name row.name.now) (entity_tree row.ty))
+
+-- A table that starts with null references. One that starts with the value of an expression has no table yet.
+abbrev pub table_parts : TableInit → TableType → Tree
+table_parts init.RefNull ty = table_type_tree ty
+table_parts (init.Expr e) ty = no_reading
+
+abbrev pub table_tree : Table → Tree
+table_tree row = table_parts row.init row.ty
 
 -- the type of a function, by its index
 abbrev pub function_tree : ℕ → Tree
@@ -186,8 +292,8 @@ function_tree i = Tree.ix space.Type_ i
 
 -- what is exported, of a kind and by its index: an exact function stands for what a function stands for
 abbrev pub item_tree : ExternalKind → ℕ → Tree
-item_tree external.Func i = Tree.row 0 (led 0x00 (Tree.ix space.Function i))
-item_tree external.FuncExact i = Tree.row 0 (led 0x00 (Tree.ix space.Function i))
+item_tree external.Func i = Tree.row 0 (Tree.pair (Tree.alike 0x00 0x20) (Tree.ix space.Function i))
+item_tree external.FuncExact i = Tree.row 0 (Tree.pair (Tree.alike 0x00 0x20) (Tree.ix space.Function i))
 item_tree external.Table i = Tree.row 1 (led 0x01 (Tree.ix space.Table i))
 item_tree external.Memory i = Tree.row 2 (led 0x02 (Tree.ix space.Memory i))
 item_tree external.Global i = Tree.row 3 (led 0x03 (Tree.ix space.Global i))

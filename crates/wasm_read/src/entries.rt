@@ -3,14 +3,14 @@ ghost use Rattle.std.specs.Prelude.{◌≡◌, ◌^◌, ◌<◌, List, true, ref
 ghost use Rattle.wasm_shapes.specs.Module.{local_row};
 ghost use Rattle.wasm_shapes.specs.Place.{Begins, BeginsNone};
 ghost use Rattle.wasm_shapes.specs.Rows.{rows_then};
-ghost use Rattle.wasm_shapes.specs.Shape.{Shape, Named, closed};
+ghost use Rattle.wasm_shapes.specs.Shape.{Shape, Named, closed, field};
 ghost use Rattle.wasm_shapes.specs.Sound.{sound};
 ghost use Rattle.wasm_shapes.specs.Tree.{Tree};
-ghost use Rattle.wasm_read.specs.Types.{val_type_tree};
+ghost use Rattle.wasm_read.specs.Types.{val_type_tree, field_type_tree};
 ghost use Rattle.wasm_read.specs.Immediates.{local_tree, tagged_label, tagged_label_tree};
 
-use crate::fields::front_val_type;
-use crate::types::{Catch, Handle, ValType};
+use crate::types::{Catch, FieldType, Handle, UnpackedIndex, ValType};
+use crate::values::{front_field_type, front_val_type};
 use std::alloc::Global;
 use wasm_leb::{List, NoMemory, front_byte, front_u32};
 
@@ -66,6 +66,51 @@ impl Entry for ValType {
 
     fn front(bytes: &[u8]) -> Option<(ValType, &[u8])> {
         front_val_type(bytes)
+    }
+
+    fn most(bytes: usize) -> usize {
+        bytes
+    }
+}
+
+impl Entry for FieldType {
+    ghost shape = { field };
+
+    ghost tree = { field_type_tree };
+
+    ghost is_sound = { refl };
+
+    ghost is_closed = { refl };
+
+    fn front(bytes: &[u8]) -> Option<(FieldType, &[u8])> {
+        front_field_type(bytes)
+    }
+
+    fn most(bytes: usize) -> usize {
+        bytes / 2
+    }
+}
+
+/// The index of a supertype.
+impl Entry for UnpackedIndex {
+    ghost use Rattle.std.specs.Prelude.{refl};
+    ghost use Rattle.wasm_shapes.specs.declared.Space.TheVariants as space;
+    ghost use Rattle.wasm_shapes.specs.Shape.{Shape};
+    ghost use Rattle.wasm_read.specs.Types.{type_index};
+
+    ghost shape = { Shape.ix space.Type_ };
+
+    ghost tree = { type_index };
+
+    ghost is_sound = { refl };
+
+    ghost is_closed = { refl };
+
+    fn front(bytes: &[u8]) -> Option<(UnpackedIndex, &[u8])> {
+        match front_u32(bytes) {
+            Some((index, rest)) => Some((UnpackedIndex::Module(index), rest)),
+            None => None,
+        }
     }
 
     fn most(bytes: usize) -> usize {

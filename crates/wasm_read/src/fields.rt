@@ -4,9 +4,9 @@ ghost use Rattle.wasm_shapes.specs.Module.{function_row, export_row};
 ghost use Rattle.wasm_shapes.specs.Place.{Begins, BeginsNone};
 ghost use Rattle.wasm_shapes.specs.Shape.{Shape, Named};
 ghost use Rattle.wasm_shapes.specs.Tree.{Tree};
-ghost use Rattle.wasm_read.specs.Types.{val_type_tree, function_tree, item_tree, export_tree};
+ghost use Rattle.wasm_read.specs.Types.{function_tree, item_tree, export_tree};
 
-use crate::types::{Export, ExternalKind, ValType};
+use crate::types::{Export, ExternalKind};
 use wasm_leb::{ReadError, front_byte, front_u32};
 
 /// The name at the front of some bytes, and the bytes behind it.
@@ -50,37 +50,6 @@ pub fn read_name(bytes: &[u8], at: usize) -> Result<(&str, usize), ReadError>
     }
 }
 
-/// The value type at the front of some bytes, and the bytes behind it.
-pub fn front_val_type(bytes: &[u8]) -> Option<(ValType, &[u8])>
-    ensures some { IfSome result (λ r. Begins (Shape.ref Named.value) bytes.now (val_type_tree r.0) r.1.now) }
-    ensures none { IfNone result (BeginsNone (Shape.ref Named.value) bytes.now) }
-{
-    let Some((first, rest)) = front_byte(bytes) else {
-        return None;
-    };
-    match first {
-        0x7f => Some((ValType::I32, rest)),
-        0x7e => Some((ValType::I64, rest)),
-        0x7d => Some((ValType::F32, rest)),
-        0x7c => Some((ValType::F64, rest)),
-        _ => None,
-    }
-}
-
-/// The value type that is spelled at a place, and the place after it (WebAssembly Core Specification 3.0, section 5.3.5).
-///
-/// The error holds the place that was asked for, and comes exactly where no value type begins there, as past the end.
-pub fn read_val_type(bytes: &[u8], at: usize) -> Result<(ValType, usize), ReadError>
-    ensures ok { IfOk result (λ r. Begins (Shape.ref Named.value) (drop at bytes.now) (val_type_tree r.0) (drop r.1 bytes.now)) }
-    ensures forward { IfOk result (λ r. (at < r.1) × (r.1 ≤ length bytes.now)) }
-    ensures err { IfErr result (λ e. (e.at ≡ at) × BeginsNone (Shape.ref Named.value) (drop at bytes.now)) }
-{
-    match front_val_type(from_place(bytes, at)) {
-        Some((ty, rest)) => Ok((ty, bytes.len() - rest.len())),
-        None => Err(ReadError { at }),
-    }
-}
-
 /// The index of a function's type at the front of some bytes, and the bytes behind it.
 #[tactic(auto, using(wasm_shapes::proofs::Begins::begins_ix, wasm_shapes::proofs::Begins::none_ix))]
 pub fn front_function(bytes: &[u8]) -> Option<(u32, &[u8])>
@@ -101,6 +70,26 @@ pub fn front_item(bytes: &[u8]) -> Option<(ExternalKind, u32, &[u8])>
     match first {
         0x00 => match front_u32(rest) {
             Some((index, rest)) => Some((ExternalKind::Func, index, rest)),
+            None => None,
+        },
+        0x01 => match front_u32(rest) {
+            Some((index, rest)) => Some((ExternalKind::Table, index, rest)),
+            None => None,
+        },
+        0x02 => match front_u32(rest) {
+            Some((index, rest)) => Some((ExternalKind::Memory, index, rest)),
+            None => None,
+        },
+        0x03 => match front_u32(rest) {
+            Some((index, rest)) => Some((ExternalKind::Global, index, rest)),
+            None => None,
+        },
+        0x04 => match front_u32(rest) {
+            Some((index, rest)) => Some((ExternalKind::Tag, index, rest)),
+            None => None,
+        },
+        0x20 => match front_u32(rest) {
+            Some((index, rest)) => Some((ExternalKind::FuncExact, index, rest)),
             None => None,
         },
         _ => None,

@@ -6,6 +6,7 @@ mod code;
 mod code_tests;
 mod entries;
 mod expressions;
+mod externals;
 mod fields;
 mod groups;
 mod immediates;
@@ -16,16 +17,23 @@ mod rows;
 mod sections;
 #[cfg(test)]
 mod tests;
+#[cfg(test)]
+mod type_tests;
 mod types;
+mod values;
 
 pub use code::CodeSectionReader;
 pub use expressions::ConstExpr;
-pub use fields::{front_name, read_item, read_name, read_val_type};
+pub use externals::read_type_ref;
+pub use fields::{front_name, read_item, read_name};
 pub use groups::read_group;
 pub use names::{IndirectNameMap, NameMap};
 pub use operators::{Operator, OperatorsReader};
 pub use payloads::Payloads;
-pub use sections::{ExportSectionReader, FunctionSectionReader, TypeSectionReader};
+pub use sections::{
+    ExportSectionReader, FunctionSectionReader, ImportSectionReader, MemorySectionReader,
+    TableSectionReader, TagSectionReader, TypeSectionReader,
+};
 pub use types::{
     AbstractHeapType, ArrayType, BlockType, Catch, CompositeInnerType, CompositeType, ContType,
     CustomSection, Data, DataKind, Element, ElementItems, ElementKind, Export, ExternalKind,
@@ -34,3 +42,4 @@ pub use types::{
     RefType, StorageType, StructType, SubType, Table, TableInit, TableType, TagKind, TagType,
     TypeRef, UnpackedIndex, ValType,
 };
+pub use values::read_val_type;

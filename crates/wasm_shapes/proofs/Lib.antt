@@ -3,6 +3,7 @@ pub mod Fronts
 pub mod ReadBack
 pub mod Unique
 pub mod Begins
+pub mod Parts
 pub mod Rows
 pub mod Framing
 pub mod Laws

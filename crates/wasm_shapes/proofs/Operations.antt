@@ -6,7 +6,7 @@ use Rattle.std.proofs.lemmas.List.{append_cancel_left}
 use Rattle.wasm_shapes.specs.Operators.{Code, plain, prefixed, is_code, is_prefix}
 use Rattle.wasm_shapes.specs.Tree.{Tree}
 use Rattle.wasm_shapes.specs.Shape.{Shape, immediates}
-use Rattle.wasm_shapes.specs.Spells.{Is, Spelled, Spells, SpelledCode}
+use Rattle.wasm_shapes.specs.Spells.{Is, Spelled, SpelledCode}
 use Rattle.wasm_shapes.specs.Place.{Begins, BeginsNone}
 
 -- an operator of one byte

@@ -1,9 +1,10 @@
 -- The core module: its shape, and the trees of its sections (WebAssembly Core Specification 3.0, section 5.5).
 use Rattle.std.specs.Prelude.{◌≡◌, ℕ, List, [], ◌∷◌, ◌++◌, true}
+use Rattle.wasm_shapes.specs.declared.SectionId.{SectionId}
 use Rattle.wasm_shapes.specs.declared.SectionId.TheVariants as id
 use Rattle.wasm_shapes.specs.declared.Space.TheVariants as space
 use Rattle.wasm_shapes.specs.Tree.{Tree}
-use Rattle.wasm_shapes.specs.Shape.{Shape, Named, choice, lead}
+use Rattle.wasm_shapes.specs.Shape.{Shape, Named, choice, lead, rows_and, table_type, memory_type, tag_type, entity}
 use Rattle.wasm_shapes.specs.Spells.{Spells}
 use Rattle.wasm_shapes.specs.Place.{BeginsNone}
 
@@ -18,6 +19,10 @@ component_header = 0x00 ∷ 0x61 ∷ 0x73 ∷ 0x6d ∷ 0x0d ∷ 0x00 ∷ 0x01 �
 -- a function by the index of its type
 abbrev pub function_row : Shape
 function_row = Shape.ix space.Type_
+
+-- a module's name, a name in it, and the type of what is imported
+abbrev pub import_row : Shape
+import_row = Shape.seq Shape.name (Shape.seq Shape.name entity)
 
 -- a name and what is exported under it
 abbrev pub export_row : Shape
@@ -40,8 +45,20 @@ code_row = Shape.sized body
 abbrev pub types : Shape
 types = Shape.vec (Shape.ref Named.group)
 
+abbrev pub imports : Shape
+imports = Shape.vec import_row
+
 abbrev pub functions : Shape
 functions = Shape.vec function_row
+
+abbrev pub tables : Shape
+tables = Shape.vec table_type
+
+abbrev pub memories : Shape
+memories = Shape.vec memory_type
+
+abbrev pub tags : Shape
+tags = Shape.vec tag_type
 
 abbrev pub exports : Shape
 exports = Shape.vec export_row
@@ -51,28 +68,56 @@ code = Shape.vec code_row
 
 -- ---- sections
 
--- the sections in force
+-- a section of a kind, by its id and its body
+abbrev pub framed : SectionId → ℕ → Shape → Shape
+framed k n body = Shape.told k (lead n (Shape.sized body))
+
+-- the sections that a module has
+abbrev pub section_rows : List Shape
+section_rows =
+    framed id.Type_ 1 types ∷ framed id.Function 3 functions ∷ framed id.Export 7 exports ∷ framed id.Code 10 code ∷ []
+
+-- the sections whose bodies have tables, but which no module has yet
+abbrev pub coming_rows : List Shape
+coming_rows =
+    framed id.Import 2 imports ∷ framed id.Table 4 tables ∷ framed id.Memory 5 memories ∷ framed id.Tag 13 tags ∷ []
+
+-- the sections in force, and these with those to come
 abbrev pub section : Shape
-section = choice (
-    Shape.told id.Type_ (lead 1 (Shape.sized types)) ∷
-    Shape.told id.Function (lead 3 (Shape.sized functions)) ∷
-    Shape.told id.Export (lead 7 (Shape.sized exports)) ∷
-    Shape.told id.Code (lead 10 (Shape.sized code)) ∷ [])
+section = choice section_rows
+
+abbrev pub full_section : Shape
+full_section = choice (rows_and section_rows coming_rows)
 
 abbrev pub sections : Shape
 sections = Shape.sections section
 
+abbrev pub framed_tree : SectionId → ℕ → Tree → Tree
+framed_tree k n body = Tree.told k (Tree.pair (Tree.fixed n) (Tree.sized body))
+
 abbrev pub type_section : Tree → Tree
-type_section body = Tree.row 0 (Tree.told id.Type_ (Tree.pair (Tree.fixed 1) (Tree.sized body)))
+type_section body = Tree.row 0 (framed_tree id.Type_ 1 body)
 
 abbrev pub function_section : Tree → Tree
-function_section body = Tree.row 1 (Tree.told id.Function (Tree.pair (Tree.fixed 3) (Tree.sized body)))
+function_section body = Tree.row 1 (framed_tree id.Function 3 body)
 
 abbrev pub export_section : Tree → Tree
-export_section body = Tree.row 2 (Tree.told id.Export (Tree.pair (Tree.fixed 7) (Tree.sized body)))
+export_section body = Tree.row 2 (framed_tree id.Export 7 body)
 
 abbrev pub code_section : Tree → Tree
-code_section body = Tree.row 3 (Tree.told id.Code (Tree.pair (Tree.fixed 10) (Tree.sized body)))
+code_section body = Tree.row 3 (framed_tree id.Code 10 body)
+
+abbrev pub import_section : Tree → Tree
+import_section body = Tree.row 4 (framed_tree id.Import 2 body)
+
+abbrev pub table_section : Tree → Tree
+table_section body = Tree.row 5 (framed_tree id.Table 4 body)
+
+abbrev pub memory_section : Tree → Tree
+memory_section body = Tree.row 6 (framed_tree id.Memory 5 body)
+
+abbrev pub tag_section : Tree → Tree
+tag_section body = Tree.row 7 (framed_tree id.Tag 13 body)
 
 -- sections, and others behind them
 abbrev pub alsos : List Tree → Tree → Tree

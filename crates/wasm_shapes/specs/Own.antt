@@ -1,7 +1,7 @@
 -- The answers that change nothing.
 use Rattle.std.specs.Prelude.{◌≡◌, ℕ, List, map}
 use Rattle.wasm_shapes.specs.declared.Visit.{Visit}
-use Rattle.wasm_shapes.specs.declared.Visit.TheVariants.{Index, Outer, Section, Push, Pop}
+use Rattle.wasm_shapes.specs.declared.Visit.TheVariants.{Index, Outer}
 use Rattle.wasm_shapes.specs.Tree.{Tree, visits, fill}
 
 -- the index that a visit asks, and 0 where it asks none

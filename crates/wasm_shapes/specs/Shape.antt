@@ -1,5 +1,5 @@
 -- The shapes of the tables.
-use Rattle.std.specs.Prelude.{ℕ, List, [], ◌∷◌, Bool, true, false, ◌&&◌, Option, Some, None}
+use Rattle.std.specs.Prelude.{ℕ, ◌+◌, List, [], ◌∷◌, Bool, true, false, ◌&&◌, Option, Some, None}
 use Rattle.wasm_shapes.specs.declared.SectionId.{SectionId}
 use Rattle.wasm_shapes.specs.declared.Space.{Space}
 use Rattle.wasm_shapes.specs.declared.Space.TheVariants as space
@@ -10,9 +10,7 @@ use Rattle.wasm_shapes.specs.Tree.{Listed}
 
 -- the shapes that others name
 pub data Named : Type 0 where
-  value group item expression : Named
-  -- the same with all the rows of their tables, which no module reaches until they are in force
-  full_value full_composite full_sub full_group full_item : Named
+  value composite sub group item expression : Named
 
 pub data Shape : Type 0 where
   -- ---- leaves
@@ -80,11 +78,19 @@ abbrev pub listing : Listed → Shape → Shape → Shape
 listing Listed.functions r b = b
 listing Listed.expressions r b = Shape.swap r b
 
--- ---- types, with all their rows
+-- ---- types
 
 -- heap types that name no type of the module
 abbrev pub abstract_heap : Shape
 abstract_heap = one_of (0x73 ∷ 0x72 ∷ 0x71 ∷ 0x70 ∷ 0x6f ∷ 0x6e ∷ 0x6d ∷ 0x6c ∷ 0x6b ∷ 0x6a ∷ 0x69 ∷ 0x74 ∷ 0x68 ∷ 0x75 ∷ [])
+
+-- those and the shared ones
+abbrev pub abstract_rows : Shape
+abstract_rows = choice (abstract_heap ∷ lead 0x65 abstract_heap ∷ [])
+
+-- what names a type of the module
+abbrev pub concrete_rows : Shape
+concrete_rows = choice (lead 0x62 (Shape.ix space.Type_) ∷ Shape.sx space.Type_ ∷ [])
 
 -- what a reference points to
 abbrev pub heap : Shape
@@ -92,23 +98,21 @@ heap = choice (abstract_heap ∷ lead 0x65 abstract_heap ∷ lead 0x62 (Shape.ix
 
 -- reference types: one that may be null is spelled as its heap type alone where that is abstract
 abbrev pub reference : Shape
-reference = choice (
-    lead 0x64 heap ∷
-    Shape.spare 0x63 (choice (abstract_heap ∷ lead 0x65 abstract_heap ∷ [])) (choice (lead 0x62 (Shape.ix space.Type_) ∷ Shape.sx space.Type_ ∷ [])) ∷ [])
+reference = choice (lead 0x64 heap ∷ Shape.spare 0x63 abstract_rows concrete_rows ∷ [])
 
 abbrev pub storage : Shape
-storage = choice (Shape.fixed 0x78 ∷ Shape.fixed 0x77 ∷ Shape.ref Named.full_value ∷ [])
+storage = choice (Shape.fixed 0x78 ∷ Shape.fixed 0x77 ∷ Shape.ref Named.value ∷ [])
 
 -- a field, and whether it may change
 abbrev pub field : Shape
 field = Shape.seq storage (one_of (0x00 ∷ 0x01 ∷ []))
 
-abbrev pub full_values : Shape
-full_values = Shape.vec (Shape.ref Named.full_value)
+abbrev pub values : Shape
+values = Shape.vec (Shape.ref Named.value)
 
 -- functions, arrays, structures and continuations
 abbrev pub inner_rows : List Shape
-inner_rows = lead 0x60 (Shape.seq full_values full_values) ∷ lead 0x5e field ∷ lead 0x5f (Shape.vec field) ∷ lead 0x5d (Shape.sx space.Type_) ∷ []
+inner_rows = lead 0x60 (Shape.seq values values) ∷ lead 0x5e field ∷ lead 0x5f (Shape.vec field) ∷ lead 0x5d (Shape.sx space.Type_) ∷ []
 
 -- the rows of the second list stand behind those of the first
 abbrev pub rows_and : List Shape → List Shape → List Shape
@@ -125,30 +129,77 @@ describing_rows = rows_and described_rows (Shape.swap (lead 0x4c (Shape.ix space
 abbrev pub composite_rows : List Shape
 composite_rows = rows_and describing_rows (lead 0x65 (choice describing_rows) ∷ [])
 
--- a composite type that is final and has no supertypes, and those with supertypes
+-- A composite type with its supertypes: final or open. A final one without supertypes is spelled as the composite type
+-- alone.
 abbrev pub sub_rows : List Shape
-sub_rows = rows_and composite_rows (
-    lead 0x4f (Shape.seq (Shape.vec (Shape.ix space.Type_)) (Shape.ref Named.full_composite)) ∷
-    lead 0x50 (Shape.seq (Shape.vec (Shape.ix space.Type_)) (Shape.ref Named.full_composite)) ∷ [])
+sub_rows =
+    Shape.final (Shape.ix space.Type_) (Shape.ref Named.composite) ∷
+    lead 0x50 (Shape.seq (Shape.vec (Shape.ix space.Type_)) (Shape.ref Named.composite)) ∷ []
 
 -- a type alone, and types that may refer to each other
 abbrev pub group_rows : List Shape
-group_rows = rows_and sub_rows (lead 0x4e (Shape.vec (Shape.ref Named.full_sub)) ∷ [])
+group_rows = rows_and sub_rows (lead 0x4e (Shape.vec (Shape.ref Named.sub)) ∷ [])
 
--- The named shapes. Value types are those of numbers, a group is a bare function type, and an item is a function,
--- until more rows are in force.
+-- ---- limits
+
+-- a minimum, and a maximum behind it
+abbrev pub bounds : Bool → Shape
+bounds false = Shape.u64
+bounds true = Shape.seq Shape.u64 Shape.u64
+
+-- the logarithm of the page size behind the limits
+abbrev pub paged : Bool → Shape → Shape
+paged false s = s
+paged true s = Shape.seq s Shape.u32
+
+-- The rows of the limits by their flags byte: bit 0 says that there is a maximum, bit 1 that they are shared, bit 2 that
+-- they count in 64 bits, and bit 3 that the logarithm of the page size is written. These are four of them from a multiple
+-- of four on, and others behind them. A row's number is its flags.
+abbrev pub four_limits : ℕ → Bool → List Shape → List Shape
+four_limits flags page others =
+    lead flags (paged page (bounds false)) ∷ lead (flags + 1) (paged page (bounds true)) ∷
+    lead (flags + 2) (paged page (bounds false)) ∷ lead (flags + 3) (paged page (bounds true)) ∷ others
+
+-- the limits of a table
+abbrev pub table_limits : Shape
+table_limits = choice (four_limits 0 false (four_limits 4 false []))
+
+-- a memory
+abbrev pub memory_type : Shape
+memory_type = choice (four_limits 0 false (four_limits 4 false (four_limits 8 true (four_limits 12 true []))))
+
+-- ---- what is imported
+
+-- a table: its elements and its limits
+abbrev pub table_type : Shape
+table_type = Shape.seq reference table_limits
+
+-- a global, and whether it may change (bit 0) and is shared (bit 1)
+abbrev pub global_type : Shape
+global_type = Shape.seq (Shape.ref Named.value) (one_of (0x00 ∷ 0x01 ∷ 0x02 ∷ 0x03 ∷ []))
+
+-- a tag, by the index of its type
+abbrev pub tag_type : Shape
+tag_type = lead 0x00 (Shape.ix space.Type_)
+
+-- the type of what is imported: the last row is a function of exactly its type
+abbrev pub entity : Shape
+entity = choice (
+    lead 0x00 (Shape.ix space.Type_) ∷ lead 0x01 table_type ∷ lead 0x02 memory_type ∷ lead 0x03 global_type ∷
+    lead 0x04 tag_type ∷ lead 0x20 (Shape.ix space.Type_) ∷ [])
+
+-- ---- the named shapes
+
 abbrev pub shape_of : Named → Shape
-shape_of Named.value = one_of (0x7f ∷ 0x7e ∷ 0x7d ∷ 0x7c ∷ [])
-shape_of Named.group = choice (lead 0x60 (Shape.seq (Shape.vec (Shape.ref Named.value)) (Shape.vec (Shape.ref Named.value))) ∷ [])
-shape_of Named.item = choice (lead 0x00 (Shape.ix space.Function) ∷ [])
-shape_of Named.expression = Shape.until 0x0b (Shape.op false)
-shape_of Named.full_value = choice (Shape.fixed 0x7f ∷ Shape.fixed 0x7e ∷ Shape.fixed 0x7d ∷ Shape.fixed 0x7c ∷ Shape.fixed 0x7b ∷ reference ∷ [])
-shape_of Named.full_composite = choice composite_rows
-shape_of Named.full_sub = choice sub_rows
-shape_of Named.full_group = choice group_rows
-shape_of Named.full_item = choice (
-    lead 0x00 (Shape.ix space.Function) ∷ lead 0x01 (Shape.ix space.Table) ∷ lead 0x02 (Shape.ix space.Memory) ∷
+shape_of Named.value = choice (Shape.fixed 0x7f ∷ Shape.fixed 0x7e ∷ Shape.fixed 0x7d ∷ Shape.fixed 0x7c ∷ Shape.fixed 0x7b ∷ reference ∷ [])
+shape_of Named.composite = choice composite_rows
+shape_of Named.sub = choice sub_rows
+shape_of Named.group = choice group_rows
+-- an item by its kind and its index: a function of exactly its type is read as a function
+shape_of Named.item = choice (
+    Shape.seq (Shape.alike 0x00 0x20) (Shape.ix space.Function) ∷ lead 0x01 (Shape.ix space.Table) ∷ lead 0x02 (Shape.ix space.Memory) ∷
     lead 0x03 (Shape.ix space.Global) ∷ lead 0x04 (Shape.ix space.Tag) ∷ [])
+shape_of Named.expression = Shape.until 0x0b (Shape.op false)
 
 -- ---- immediates
 

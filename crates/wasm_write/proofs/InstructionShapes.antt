@@ -27,7 +27,7 @@ use Rattle.wasm_write.specs.declared.types.Handle.TheVariants as handle
 use Rattle.wasm_write.specs.declared.types.Imm.{Imm}
 use Rattle.wasm_write.specs.declared.types.Imm.TheVariants as imm
 use Rattle.wasm_write.specs.Instructions.{if_few, if_sixteen, index_kind, imm_kind, HasKinds, Parts, block_type_tree, label_tree, catch_tree, handle_tree, imm_tree, imms_tree, instruction_tree}
-use Rattle.wasm_write.proofs.TypeShapes.{items_are, items_frameless, frameless_fits, heap_frameless, value_frameless}
+use Rattle.wasm_write.proofs.TypeShapes.{items_are, items_frameless, frameless_fits, heap_frameless, value_frameless, values_are}
 
 -- ---- the tables of operators
 
@@ -72,7 +72,6 @@ below_prefixes o = nat_lt o.to 0xfb
 -- kinds whose shapes have all their rows
 abbrev settled : ImmKind → Bool
 settled kind.Block = false
-settled kind.Types = false
 settled kind.Heap = false
 settled kind.Cast = false
 settled _ = true
@@ -177,7 +176,7 @@ imm_is (imm.Index x i) k e s = index_is x i k e
 imm_is (imm.Local n) k e s = let P : ImmKind → Type 0 = λ j. Is (shape_of_kind j) (imm_tree (imm.Local n)) in let same : kind.Local ≡ k = cc in subst P same (Is.u32)
 imm_is (imm.Field n) k e s = let P : ImmKind → Type 0 = λ j. Is (shape_of_kind j) (imm_tree (imm.Field n)) in let same : kind.Field ≡ k = cc in subst P same (Is.u32)
 imm_is (imm.Size n) k e s = let P : ImmKind → Type 0 = λ j. Is (shape_of_kind j) (imm_tree (imm.Size n)) in let same : kind.Size ≡ k = cc in subst P same (Is.u32)
-imm_is (imm.Types types) k e s = let same : kind.Types ≡ k = few_is (length types) kind.Types k e in let no : false ≡ true = rw (← same) at s in absurd cc
+imm_is (imm.Types types) k e s = let P : ImmKind → Type 0 = λ j. Is (shape_of_kind j) (imm_tree (imm.Types types)) in subst P (few_is (length types) kind.Types k e) (values_are types)
 imm_is (imm.Mem m) k e s = let P : ImmKind → Type 0 = λ j. Is (shape_of_kind j) (imm_tree (imm.Mem m)) in let same : kind.Mem ≡ k = cc in subst P same (Is.mem)
 imm_is (imm.S32 z) k e s = let P : ImmKind → Type 0 = λ j. Is (shape_of_kind j) (imm_tree (imm.S32 z)) in let same : kind.S32 ≡ k = cc in subst P same (Is.s32)
 imm_is (imm.S64 z) k e s = let P : ImmKind → Type 0 = λ j. Is (shape_of_kind j) (imm_tree (imm.S64 z)) in let same : kind.S64 ≡ k = cc in subst P same (Is.s64)

@@ -52,15 +52,19 @@ pub large_right : (e : WriteFault) (xs ys : List ℕ) → LargeAmong e ys → La
 large_right (TooLarge size) xs ys p = record { counted = Contains-append_right xs ys size p.counted; large = p.large }
 large_right NoMemory xs ys p = tt
 
-large_one : (e : WriteFault) (n : ℕ) → IfTooLarge e (λ size. (size ≡ n) × (2 ^ 32 - 1 < size)) → LargeAmong e (n ∷ [])
-large_one (TooLarge size) n p = record { counted = (0, omega arith, sym p.0); large = p.1 }
-large_one NoMemory n p = tt
+pub large_first : (e : WriteFault) (n : ℕ) (others : List ℕ) → IfTooLarge e (λ size. (size ≡ n) × (2 ^ 32 - 1 < size)) → LargeAmong e (n ∷ others)
+large_first (TooLarge size) n others p = record { counted = (0, omega arith, sym p.0); large = p.1 }
+large_first NoMemory n others p = tt
+
+-- the second of some counts is too large
+pub large_second : (e : WriteFault) (m n : ℕ) (others : List ℕ) → IfTooLarge e (λ size. (size ≡ n) × (2 ^ 32 - 1 < size)) → LargeAmong e (m ∷ n ∷ others)
+large_second e m n others p = large_right e (m ∷ []) (n ∷ others) (large_first e n others p)
 
 -- the number of the items is too large
 pub items_too_large : {A : Type 0} (f : A → Tree) (xs : List A) (e : WriteFault) → IfTooLarge e (λ size. (size ≡ length xs) × (2 ^ 32 - 1 < size)) →
     LargeAmong e (counts (body_tree (map f xs)))
 items_too_large f xs e p =
-    large_right e (counts (rows_tree (map f xs))) (count (rows_tree (map f xs)) ∷ []) (large_one e _ (rw (count_map f xs) p))
+    large_right e (counts (rows_tree (map f xs))) (count (rows_tree (map f xs)) ∷ []) (large_first e _ [] (rw (count_map f xs) p))
 
 items_at : {A : Type 0} (f : A → Tree) (xs : List A) (i : ℕ) (x : A) (e : WriteFault) → i < length xs → x ≡ get_or xs i x → LargeAmong e (counts (f x)) →
     LargeAmong e (counts (rows_tree (map f xs)))

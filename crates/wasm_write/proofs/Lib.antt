@@ -4,6 +4,8 @@ pub mod HoldingSections
 pub mod Items
 pub mod Fronts
 pub mod TypeShapes
+pub mod Subtypes
+pub mod ExternalShapes
 pub mod ImmsSoFar
 pub mod InstructionShapes
 pub mod HoldingBodies

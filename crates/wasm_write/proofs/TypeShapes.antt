@@ -2,7 +2,7 @@
 use Rattle.std.proofs.Common.{◌≡◌, ℕ, ◌-◌, ◌^◌, Bool, true, false, List, [], ◌∷◌, ◌++◌, length, map, Option, Some, None, refl, ap₂, arith}
 use Rattle.wasm_shapes.specs.declared.Space.TheVariants as space
 use Rattle.wasm_shapes.specs.Tree.{Tree, normal, frames}
-use Rattle.wasm_shapes.specs.Shape.{Shape, Named, choice, abstract_heap, heap, reference, storage, field, full_values, inner_rows, rows_and, described_rows, describing_rows, composite_rows, sub_rows, group_rows}
+use Rattle.wasm_shapes.specs.Shape.{Shape, Named, choice, abstract_heap, heap, reference, storage, field, values, inner_rows, rows_and, described_rows, describing_rows, composite_rows, sub_rows, group_rows}
 use Rattle.wasm_shapes.specs.Spells.{Is, Spells}
 use Rattle.wasm_shapes.specs.Fits.{InRange, Fits}
 use Rattle.wasm_shapes.proofs.ReadBack.{read_back}
@@ -91,15 +91,15 @@ nullable_frameless (variant.Abstract true ty) = abstract_frameless ty
 nullable_frameless (variant.Exact i) = refl
 nullable_frameless (variant.Concrete i) = refl
 
-reference_is : (nullable : Bool) (ty : HeapType) → Is reference (reference_parts nullable ty)
+pub reference_is : (nullable : Bool) (ty : HeapType) → Is reference (reference_parts nullable ty)
 reference_is false ty = Is.first (Is.seq Is.fixed (heap_is ty))
 reference_is true ty = nullable_is ty
 
-reference_frameless : (nullable : Bool) (ty : HeapType) → frames (reference_parts nullable ty) ≡ []
+pub reference_frameless : (nullable : Bool) (ty : HeapType) → frames (reference_parts nullable ty) ≡ []
 reference_frameless false ty = heap_frameless ty
 reference_frameless true ty = nullable_frameless ty
 
-pub value_is : (ty : ValType) → Is (Shape.ref Named.full_value) (val_type_tree ty)
+pub value_is : (ty : ValType) → Is (Shape.ref Named.value) (val_type_tree ty)
 value_is value.I32 = Is.ref (Is.first Is.fixed)
 value_is value.I64 = Is.ref (Is.later {k = 0} (Is.first Is.fixed))
 value_is value.F32 = Is.ref (Is.later {k = 1} (Is.later {k = 0} (Is.first Is.fixed)))
@@ -138,8 +138,8 @@ field_frameless ty = ap₂ (λ (y z : List ℕ). y ++ z) (storage_frameless ty.e
 
 -- ---- composite types
 
-values_are : (types : List ValType) → Is full_values (val_types_tree types)
-values_are types = Is.vec (items_are (Shape.ref Named.full_value) val_type_tree value_is types)
+pub values_are : (types : List ValType) → Is values (val_types_tree types)
+values_are types = Is.vec (items_are (Shape.ref Named.value) val_type_tree value_is types)
 
 values_frameless : (types : List ValType) → frames (val_types_tree types) ≡ []
 values_frameless types = items_frameless val_type_tree value_frameless types
@@ -196,15 +196,11 @@ supertypes_frameless : (supertypes : List ℕ) → frames (supertypes_tree super
 supertypes_frameless supertypes = items_frameless type_index (λ i. refl) supertypes
 
 sub_parts_are : (is_final : Bool) (supertypes : List ℕ) {t : Tree} → Is (choice composite_rows) t → Is (choice sub_rows) (sub_parts is_final supertypes t)
-sub_parts_are true [] d = among composite_rows (
-    Shape.seq (Shape.fixed 0x4f) (Shape.seq (Shape.vec (Shape.ix space.Type_)) (Shape.ref Named.full_composite)) ∷
-    Shape.seq (Shape.fixed 0x50) (Shape.seq (Shape.vec (Shape.ix space.Type_)) (Shape.ref Named.full_composite)) ∷ []) d
-sub_parts_are true (i ∷ is) d = Is.later {k = 6} (Is.later {k = 5} (Is.later {k = 4} (Is.later {k = 3} (Is.later {k = 2} (Is.later {k = 1} (Is.later {k = 0} (Is.first (Is.seq Is.fixed (Is.seq (supertypes_are (i ∷ is)) (Is.ref d))))))))))
-sub_parts_are false is d = Is.later {k = 7} (Is.later {k = 6} (Is.later {k = 5} (Is.later {k = 4} (Is.later {k = 3} (Is.later {k = 2} (Is.later {k = 1} (Is.later {k = 0} (Is.first (Is.seq Is.fixed (Is.seq (supertypes_are is) (Is.ref d)))))))))))
+sub_parts_are true is d = Is.first (Is.final (items_are (Shape.ix space.Type_) type_index (λ i. Is.ix) is) (Is.ref d))
+sub_parts_are false is d = Is.later {k = 0} (Is.first (Is.seq Is.fixed (Is.seq (supertypes_are is) (Is.ref d))))
 
 sub_parts_frameless : (is_final : Bool) (supertypes : List ℕ) (t : Tree) → frames t ≡ [] → frames (sub_parts is_final supertypes t) ≡ []
-sub_parts_frameless true [] t e = e
-sub_parts_frameless true (i ∷ is) t e = ap₂ (λ (y z : List ℕ). y ++ z) (supertypes_frameless (i ∷ is)) e
+sub_parts_frameless true is t e = ap₂ (λ (y z : List ℕ). y ++ z) (items_frameless type_index (λ i. refl) is) e
 sub_parts_frameless false is t e = ap₂ (λ (y z : List ℕ). y ++ z) (supertypes_frameless is) e
 
 sub_is : (ty : SubType) → Is (choice sub_rows) (sub_type_tree ty)
@@ -214,8 +210,9 @@ sub_frameless : (ty : SubType) → frames (sub_type_tree ty) ≡ []
 sub_frameless ty = sub_parts_frameless ty.is_final ty.supertype_idxs _ (composite_frameless ty.composite_type)
 
 group_parts_are : (explicit : Bool) (types : List SubType) → (explicit ≡ false → length types ≡ 1) → Is (choice group_rows) (group_parts explicit types)
-group_parts_are true types h = Is.later {k = 8} (Is.later {k = 7} (Is.later {k = 6} (Is.later {k = 5} (Is.later {k = 4} (Is.later {k = 3} (Is.later {k = 2} (Is.later {k = 1} (Is.later {k = 0} (Is.first (Is.seq Is.fixed (Is.vec (items_are (Shape.ref Named.full_sub) sub_type_tree (λ ty. Is.ref (sub_is ty)) types))))))))))))
-group_parts_are false (ty ∷ types) h = among sub_rows (Shape.seq (Shape.fixed 0x4e) (Shape.vec (Shape.ref Named.full_sub)) ∷ []) (sub_is ty)
+group_parts_are true types h =
+    Is.later {k = 1} (Is.later {k = 0} (Is.first (Is.seq Is.fixed (Is.vec (items_are (Shape.ref Named.sub) sub_type_tree (λ ty. Is.ref (sub_is ty)) types)))))
+group_parts_are false (ty ∷ types) h = among sub_rows (Shape.seq (Shape.fixed 0x4e) (Shape.vec (Shape.ref Named.sub)) ∷ []) (sub_is ty)
 group_parts_are false [] h = absurd (omega (arith, h refl))
 
 group_parts_frameless : (explicit : Bool) (types : List SubType) → frames (group_parts explicit types) ≡ []
@@ -225,7 +222,7 @@ group_parts_frameless false [] = refl
 
 -- what is in range spells a group
 pub group_spelled : (group : RecGroup) → InRange (group_tree group) →
-    Spells (Shape.ref Named.full_group) (normal (group_tree group)) (group_tree group)
+    Spells (Shape.ref Named.group) (normal (group_tree group)) (group_tree group)
 group_spelled group r = record {
   shaped = Is.ref (group_parts_are group.explicit group.types group.bare_holds_one);
   spelled = read_back (group_tree group) r (frameless_fits (group_tree group) (group_parts_frameless group.explicit group.types));

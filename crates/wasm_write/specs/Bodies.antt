@@ -6,7 +6,8 @@ use mathlib.Core.HLevel.{Σ_prop_path}
 use mathlib.Core.Logic.{∥∥₁_elim, ∥∥₁_prop}
 use Rattle.wasm_shapes.specs.Tree.{Tree, normal}
 use Rattle.wasm_shapes.specs.TreeCode.{trees_code}
-use Rattle.wasm_shapes.specs.Shape.{Shape, Named}
+use Rattle.wasm_shapes.specs.Shape.{Shape}
+use Rattle.wasm_shapes.specs.Module.{body as body_shape, code_row}
 use Rattle.wasm_shapes.specs.Sound.{sound}
 use Rattle.wasm_shapes.specs.Spells.{Is, Spelled}
 use Rattle.wasm_shapes.proofs.Laws.{one_tree}
@@ -40,25 +41,15 @@ function_body f = Tree.pair (body_tree f.locals) (rows_tree f.operators)
 abbrev pub code_tree : Body → Tree
 code_tree f = Tree.sized (function_body f)
 
--- what is written: locals of all types, and the operators in force
-abbrev pub full_local_row : Shape
-full_local_row = Shape.seq Shape.u32 (Shape.ref Named.full_value)
+pub body_sound : sound body_shape ≡ true
+body_sound = refl
 
-abbrev pub full_body : Shape
-full_body = Shape.seq (Shape.vec full_local_row) (Shape.many (Shape.op true))
-
-abbrev pub full_code_row : Shape
-full_code_row = Shape.sized full_body
-
-pub full_body_sound : sound full_body ≡ true
-full_body_sound = refl
-
-pub code_sound : sound (Shape.many full_code_row) ≡ true
+pub code_sound : sound (Shape.many code_row) ≡ true
 code_sound = refl
 
 -- a function whose normal spelling these bytes are
 pub record IsBody (bytes : List ℕ) (f : Body) : Type 0 where
-  pub shaped : Is full_body (function_body f)
+  pub shaped : Is body_shape (function_body f)
   pub spelled : Spelled (function_body f) bytes
   pub normally : normal (function_body f) ≡ bytes
 
@@ -82,7 +73,7 @@ parts_back f = ap₂ (λ (y z : List Tree). record { locals = y; operators = z }
 
 bodies_are_one : {bytes : List ℕ} {f g : Body} → IsBody bytes f → IsBody bytes g → f ≡ g
 bodies_are_one {bytes = bytes} {f = f} {g = g} p q =
-    sym (parts_back f) ∙ ap parts_of (one_tree full_body full_body_sound bytes (function_body f) (function_body g)
+    sym (parts_back f) ∙ ap parts_of (one_tree body_shape body_sound bytes (function_body f) (function_body g)
     (record { shaped = p.shaped; spelled = p.spelled }) (record { shaped = q.shaped; spelled = q.spelled })) ∙ parts_back g
 
 module _ (bytes : List ℕ) where

@@ -1,9 +1,10 @@
 -- The trees that the types of a core module stand for, as they are written (WebAssembly Core Specification 3.0,
 -- section 5.3). Each is of the table with all its rows.
-use Rattle.std.specs.Prelude.{ℕ, Bool, true, false, List, [], ◌∷◌, map, Option, Some, None}
+use Rattle.std.specs.Prelude.{ℕ, ◌+◌, Bool, true, false, List, [], ◌∷◌, map, Option, Some, None}
+use Rattle.std.specs.Option.{is_some}
 use Rattle.wasm_shapes.specs.declared.Space.TheVariants as space
 use Rattle.wasm_shapes.specs.Tree.{Tree}
-use Rattle.wasm_write.specs.Held.{body_tree}
+use Rattle.wasm_write.specs.Held.{rows_tree, body_tree}
 use Rattle.wasm_write.specs.declared.types.AbstractHeapType.{AbstractHeapType}
 use Rattle.wasm_write.specs.declared.types.AbstractHeapType.TheVariants as abstract
 use Rattle.wasm_write.specs.declared.types.HeapType.{HeapType}
@@ -20,6 +21,12 @@ use Rattle.wasm_write.specs.declared.types.CompositeInnerType.TheVariants as inn
 use Rattle.wasm_write.specs.declared.types.CompositeType.{CompositeType}
 use Rattle.wasm_write.specs.declared.types.SubType.{SubType}
 use Rattle.wasm_write.specs.declared.types.RecGroup.{RecGroup}
+use Rattle.wasm_write.specs.declared.types.TableType.{TableType}
+use Rattle.wasm_write.specs.declared.types.MemoryType.{MemoryType}
+use Rattle.wasm_write.specs.declared.types.GlobalType.{GlobalType}
+use Rattle.wasm_write.specs.declared.types.TagType.{TagType}
+use Rattle.wasm_write.specs.declared.types.EntityType.{EntityType}
+use Rattle.wasm_write.specs.declared.types.EntityType.TheVariants as entity
 
 -- an index of a type, spelled without sign and with one
 abbrev pub type_index : ℕ → Tree
@@ -134,20 +141,75 @@ composite_tree ty =
 abbrev pub supertypes_tree : List ℕ → Tree
 supertypes_tree supertypes = body_tree (map type_index supertypes)
 
--- a final type without supertypes is spelled as its composite type alone
+-- A final type, which is spelled as its composite type alone where it has no supertypes, or an open one.
 abbrev pub sub_parts : Bool → List ℕ → Tree → Tree
-sub_parts true [] t = t
-sub_parts true (i ∷ is) t = Tree.row 7 (led 0x4f (Tree.pair (supertypes_tree (i ∷ is)) t))
-sub_parts false is t = Tree.row 8 (led 0x50 (Tree.pair (supertypes_tree is) t))
+sub_parts true is t = Tree.row 0 (Tree.final (rows_tree (map type_index is)) t)
+sub_parts false is t = Tree.row 1 (led 0x50 (Tree.pair (supertypes_tree is) t))
 
 abbrev pub sub_type_tree : SubType → Tree
 sub_type_tree ty = sub_parts ty.is_final ty.supertype_idxs (composite_tree ty.composite_type)
 
 -- a group that is not explicit holds one type, and is spelled as that type alone
 abbrev pub group_parts : Bool → List SubType → Tree
-group_parts true types = Tree.row 9 (led 0x4e (body_tree (map sub_type_tree types)))
+group_parts true types = Tree.row 2 (led 0x4e (body_tree (map sub_type_tree types)))
 group_parts false (ty ∷ types) = sub_type_tree ty
 group_parts false [] = Tree.nil
 
 abbrev pub group_tree : RecGroup → Tree
 group_tree group = group_parts group.explicit group.types
+
+-- ---- limits
+
+-- so much where it is set
+abbrev pub flag : ℕ → Bool → ℕ
+flag n false = 0
+flag n true = n
+
+-- The flags of limits: whether there is a maximum, whether they are shared, whether they count in 64 bits, and whether the
+-- logarithm of the page size is written.
+abbrev pub limits_flags : Bool → Bool → Bool → Bool → ℕ
+limits_flags maximum shared wide page = flag 1 maximum + flag 2 shared + flag 4 wide + flag 8 page
+
+-- the minimum, and the maximum behind it
+abbrev pub bounds_tree : ℕ → Option ℕ → Tree
+bounds_tree minimum None = Tree.u64 minimum
+bounds_tree minimum (Some maximum) = Tree.pair (Tree.u64 minimum) (Tree.u64 maximum)
+
+-- the logarithm of the page size behind them
+abbrev pub paged_tree : Option ℕ → Tree → Tree
+paged_tree None t = t
+paged_tree (Some page) t = Tree.pair t (Tree.u32 page)
+
+-- limits behind their flags, which are the row's number
+abbrev pub limits_tree : ℕ → Tree → Tree
+limits_tree flags t = Tree.row flags (led flags t)
+
+-- ---- what is imported
+
+abbrev pub table_type_tree : TableType → Tree
+table_type_tree ty = Tree.pair (ref_type_tree ty.element_type)
+    (limits_tree (limits_flags (is_some ty.maximum) ty.shared ty.table64 false) (bounds_tree ty.minimum ty.maximum))
+
+abbrev pub memory_type_tree : MemoryType → Tree
+memory_type_tree ty =
+    limits_tree (limits_flags (is_some ty.maximum) ty.shared ty.memory64 (is_some ty.page_size_log2))
+    (paged_tree ty.page_size_log2 (bounds_tree ty.minimum ty.maximum))
+
+-- whether a global may change, and whether it is shared
+abbrev pub global_flags : Bool → Bool → ℕ
+global_flags mutable shared = flag 1 mutable + flag 2 shared
+
+abbrev pub global_type_tree : GlobalType → Tree
+global_type_tree ty = Tree.pair (val_type_tree ty.val_type)
+    (Tree.row (global_flags ty.mutable ty.shared) (Tree.fixed (global_flags ty.mutable ty.shared)))
+
+abbrev pub tag_type_tree : TagType → Tree
+tag_type_tree ty = led 0x00 (type_index ty.func_type_idx)
+
+abbrev pub entity_tree : EntityType → Tree
+entity_tree (entity.Function i) = Tree.row 0 (led 0x00 (type_index i))
+entity_tree (entity.Table ty) = Tree.row 1 (led 0x01 (table_type_tree ty))
+entity_tree (entity.Memory ty) = Tree.row 2 (led 0x02 (memory_type_tree ty))
+entity_tree (entity.Global ty) = Tree.row 3 (led 0x03 (global_type_tree ty))
+entity_tree (entity.Tag ty) = Tree.row 4 (led 0x04 (tag_type_tree ty))
+entity_tree (entity.FunctionExact i) = Tree.row 5 (led 0x20 (type_index i))

@@ -6,7 +6,8 @@ ghost use Rattle.wasm_shapes.specs.Fits.{InRange};
 ghost use Rattle.wasm_write.specs.Faults.{IfTooLarge};
 ghost use Rattle.wasm_write.specs.Held.{body_tree};
 ghost use Rattle.wasm_write.specs.Instructions.{instruction_tree};
-ghost use Rattle.wasm_write.specs.Bodies.{HeldBody, HeldBody-prop, full_body, function_body, local_tree, with_operator};
+ghost use Rattle.wasm_shapes.specs.Module.{body as body_shape};
+ghost use Rattle.wasm_write.specs.Bodies.{HeldBody, HeldBody-prop, function_body, local_tree, with_operator};
 
 use crate::fault::WriteFault;
 use crate::instructions::Instruction;
@@ -112,7 +113,7 @@ impl Function {
     /// The normal spelling of the locals and the operators, which reads back as this function.
     pub(crate) fn as_bytes(&self) -> &[u8]
         ensures value { result.now ≡ normal (function_body self.now) }
-        ensures spells { ∥ Spells full_body (normal (function_body self.now)) (function_body self.now) ∥₁ }
+        ensures spells { ∥ Spells body_shape (normal (function_body self.now)) (function_body self.now) ∥₁ }
     {
         &self.bytes
     }

@@ -3,9 +3,10 @@ ghost use Rattle.std.specs.Prelude.{◌≡◌, ◌++◌, ◌+◌, ◌-◌, ◌^�
 ghost use Rattle.std.proofs.Common.{lit≤};
 ghost use Rattle.wasm_leb.specs.Leb.{leb};
 ghost use Rattle.wasm_shapes.specs.Tree.{normal};
+ghost use Rattle.wasm_shapes.specs.Module.{code_row};
 ghost use Rattle.wasm_write.specs.Faults.{IfTooLarge};
 ghost use Rattle.wasm_write.specs.Held.{BodySpells, Held, Held-prop, body_tree};
-ghost use Rattle.wasm_write.specs.Bodies.{full_code_row, code_sound, code_tree, function_body, with_row};
+ghost use Rattle.wasm_write.specs.Bodies.{code_sound, code_tree, function_body, with_row};
 
 use crate::bodies::Function;
 use crate::fault::WriteFault;
@@ -23,18 +24,19 @@ pub struct CodeSection {
     ceiling: u32,
     count: u32,
     bytes: Vec<u8>,
-    ghost held: { Held full_code_row count bytes.items } by { Held-prop full_code_row code_sound count bytes.items },
+    ghost held: { Held code_row count bytes.items } by { Held-prop code_row code_sound count bytes.items },
 }
 
 impl Model for CodeSection {
     ghost use Rattle.wasm_write.specs.Held.{held_rows};
-    ghost use Rattle.wasm_write.specs.Bodies.{CodeRows, code_rows_code, full_code_row};
+    ghost use Rattle.wasm_shapes.specs.Module.{code_row};
+    ghost use Rattle.wasm_write.specs.Bodies.{CodeRows, code_rows_code};
 
     ghost Value = { CodeRows };
 
     ghost coded = { code_rows_code };
 
-    ghost view = { λ s. record { ceiling = s.ceiling; rows = held_rows full_code_row s.count s.bytes.items s.held } };
+    ghost view = { λ s. record { ceiling = s.ceiling; rows = held_rows code_row s.count s.bytes.items s.held } };
 }
 
 impl CodeSection {
@@ -115,7 +117,7 @@ impl Section for CodeSection {
     fn encode_body(&self, out: &mut Vec<u8>) -> Result<(), NoMemory>
         ensures ok { OnOk result (out.new.items ≡ out.old.items ++ normal (body_tree self.now.rows)) }
         ensures err { OnErr result (take (vec_len out.old) out.new.items ≡ out.old.items) }
-        ensures spells { OnOk result (BodySpells full_code_row self.now.rows) }
+        ensures spells { OnOk result (BodySpells code_row self.now.rows) }
     {
         write_rows(out, self.count, &self.bytes)
     }

@@ -2,9 +2,10 @@
 ghost use Rattle.std.specs.Prelude.{◌≡◌, ◌++◌, ◌∷◌, ◌+◌, ◌-◌, ◌^◌, ◌<◌, ◌⊎◌, [], length, take, vec_len, OnOk, OnErr, IfErr};
 ghost use Rattle.std.proofs.Common.{lit≤};
 ghost use Rattle.wasm_shapes.specs.Tree.{normal};
+ghost use Rattle.wasm_shapes.specs.Module.{export_row};
 ghost use Rattle.wasm_write.specs.Faults.{IfTooLarge};
 ghost use Rattle.wasm_write.specs.Held.{BodySpells, Held, Held-prop, body_tree};
-ghost use Rattle.wasm_write.specs.Rows.{export_tree, full_export_row, exports_sound};
+ghost use Rattle.wasm_write.specs.Rows.{export_tree, exports_sound};
 
 use crate::fault::WriteFault;
 use crate::fields::{write_item, write_name};
@@ -21,21 +22,21 @@ use wasm_leb::NoMemory;
 pub struct ExportSection {
     count: u32,
     bytes: Vec<u8>,
-    ghost held: { Held full_export_row count bytes.items } by { Held-prop full_export_row exports_sound count bytes.items },
+    ghost held: { Held export_row count bytes.items } by { Held-prop export_row exports_sound count bytes.items },
 }
 
 impl Model for ExportSection {
     ghost use Rattle.std.specs.Prelude.{List};
     ghost use Rattle.wasm_shapes.specs.Tree.{Tree};
     ghost use Rattle.wasm_shapes.specs.TreeCode.{trees_code};
-    ghost use Rattle.wasm_write.specs.Rows.{full_export_row};
+    ghost use Rattle.wasm_shapes.specs.Module.{export_row};
     ghost use Rattle.wasm_write.specs.Held.{held_rows};
 
     ghost Value = { List Tree };
 
     ghost coded = { trees_code };
 
-    ghost view = { λ s. held_rows full_export_row s.count s.bytes.items s.held };
+    ghost view = { λ s. held_rows export_row s.count s.bytes.items s.held };
 }
 
 impl ExportSection {
@@ -115,7 +116,7 @@ impl Section for ExportSection {
     fn encode_body(&self, out: &mut Vec<u8>) -> Result<(), NoMemory>
         ensures ok { OnOk result (out.new.items ≡ out.old.items ++ normal (body_tree self.now)) }
         ensures err { OnErr result (take (vec_len out.old) out.new.items ≡ out.old.items) }
-        ensures spells { OnOk result (BodySpells full_export_row self.now) }
+        ensures spells { OnOk result (BodySpells export_row self.now) }
     {
         write_rows(out, self.count, &self.bytes)
     }

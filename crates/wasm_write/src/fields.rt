@@ -1,6 +1,7 @@
 //! Fields in their normal spelling.
 ghost use Rattle.std.specs.Prelude.{◌≡◌, ◌++◌, ◌<◌, ◌-◌, ◌^◌, length, take, vec_len, OnOk, OnErr, IfErr};
 ghost use Rattle.wasm_shapes.specs.Tree.{Tree, normal};
+ghost use Rattle.wasm_shapes.specs.Fits.{InRange};
 ghost use Rattle.wasm_write.specs.Faults.{IfTooLarge};
 ghost use Rattle.wasm_write.specs.Rows.{item_tree};
 
@@ -15,6 +16,7 @@ use wasm_leb::{NoMemory, write_u32};
 pub fn write_name(out: &mut Vec<u8>, name: &str) -> Result<(), WriteFault>
     ensures ok { OnOk result (out.new.items ≡ out.old.items ++ normal (Tree.name name.now)) }
     ensures fits { OnOk result (length name.now < 2 ^ 32) }
+    ensures in_range { OnOk result (InRange (Tree.name name.now)) }
     ensures err { OnErr result (take (vec_len out.old) out.new.items ≡ out.old.items) }
     ensures large { IfErr result (λ e. IfTooLarge e (λ size. (size ≡ length name.now) × (2 ^ 32 - 1 < size))) }
 {

@@ -5,24 +5,13 @@ ghost use Rattle.wasm_shapes.specs.Fits.{InRange};
 ghost use Rattle.wasm_write.specs.Counts.{counts, IsTooLarge};
 ghost use Rattle.wasm_write.specs.Faults.{IfTooLarge};
 ghost use Rattle.wasm_write.specs.Held.{body_tree};
-ghost use Rattle.wasm_write.specs.Types.{led, type_index, supertypes_tree, func_type_tree, inner_tree, described_tree, describing_tree, composite_tree, sub_type_tree, group_tree};
+ghost use Rattle.wasm_write.specs.Types.{led, supertypes_tree, func_type_tree, inner_tree, described_tree, describing_tree, composite_tree, sub_type_tree, group_tree};
 
 use crate::fault::WriteFault;
 use crate::types::{CompositeInnerType, CompositeType, FuncType, RecGroup, SubType};
-use crate::types_write::{write_byte, write_field_type};
+use crate::types_write::{write_byte, write_field_type, write_marked};
 use crate::vectors::{write_count, write_fields, write_supertypes, write_val_types};
-use wasm_leb::{NoMemory, write_index, write_u32};
-
-/// Appends a byte and the index of a type, or a part of them where memory is wanting.
-fn write_marked(out: &mut Vec<u8>, byte: u8, index: u32) -> Result<(), NoMemory>
-    ensures ok { OnOk result (out.new.items ≡ out.old.items ++ normal (led byte (type_index index))) }
-    ensures err { OnErr result (take (vec_len out.old) out.new.items ≡ out.old.items) }
-{
-    match out.push(byte) {
-        Ok(()) => write_u32(out, index),
-        Err(_) => Err(NoMemory),
-    }
-}
+use wasm_leb::{NoMemory, write_index};
 
 /// Appends the parameters and results of a function, or a part of them where that is refused.
 fn write_func_type(out: &mut Vec<u8>, ty: &FuncType) -> Result<(), WriteFault>

@@ -6,7 +6,7 @@ use wasm_leb::List;
 use wasm_shapes::{CALL, END, I32_ADD, I32_CONST, LOCAL_GET, NOP, Opcode, Space};
 
 /// A final type without supertypes, that is not shared and has no descriptor.
-fn alone(alloc: Global, inner: CompositeInnerType) -> SubType {
+pub(crate) fn alone(alloc: Global, inner: CompositeInnerType) -> SubType {
     SubType {
         is_final: true,
         supertype_idxs: List::new(alloc),
@@ -20,7 +20,7 @@ fn alone(alloc: Global, inner: CompositeInnerType) -> SubType {
 }
 
 /// The group that is one type alone.
-fn bare(alloc: Global, ty: SubType) -> Result<RecGroup, Fail> {
+pub(crate) fn bare(alloc: Global, ty: SubType) -> Result<RecGroup, Fail> {
     let mut types = List::new(alloc);
     types.push(ty)?;
     Ok(RecGroup {

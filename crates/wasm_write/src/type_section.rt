@@ -6,7 +6,7 @@ ghost use Rattle.wasm_shapes.specs.Fits.{InRange};
 ghost use Rattle.wasm_write.specs.Counts.{counts, IsTooLarge};
 ghost use Rattle.wasm_write.specs.Faults.{IfTooLarge};
 ghost use Rattle.wasm_write.specs.Held.{BodySpells, Held, Held-prop, body_tree};
-ghost use Rattle.wasm_write.specs.Rows.{full_group_row, groups_sound};
+ghost use Rattle.wasm_write.specs.Rows.{group_row, groups_sound};
 ghost use Rattle.wasm_write.specs.Types.{group_tree};
 
 use crate::fault::WriteFault;
@@ -24,21 +24,21 @@ use wasm_leb::NoMemory;
 pub struct TypeSection {
     count: u32,
     bytes: Vec<u8>,
-    ghost held: { Held full_group_row count bytes.items } by { Held-prop full_group_row groups_sound count bytes.items },
+    ghost held: { Held group_row count bytes.items } by { Held-prop group_row groups_sound count bytes.items },
 }
 
 impl Model for TypeSection {
     ghost use Rattle.std.specs.Prelude.{List};
     ghost use Rattle.wasm_shapes.specs.Tree.{Tree};
     ghost use Rattle.wasm_shapes.specs.TreeCode.{trees_code};
-    ghost use Rattle.wasm_write.specs.Rows.{full_group_row};
+    ghost use Rattle.wasm_write.specs.Rows.{group_row};
     ghost use Rattle.wasm_write.specs.Held.{held_rows};
 
     ghost Value = { List Tree };
 
     ghost coded = { trees_code };
 
-    ghost view = { λ s. held_rows full_group_row s.count s.bytes.items s.held };
+    ghost view = { λ s. held_rows group_row s.count s.bytes.items s.held };
 }
 
 impl TypeSection {
@@ -97,7 +97,7 @@ impl Section for TypeSection {
     fn encode_body(&self, out: &mut Vec<u8>) -> Result<(), NoMemory>
         ensures ok { OnOk result (out.new.items ≡ out.old.items ++ normal (body_tree self.now)) }
         ensures err { OnErr result (take (vec_len out.old) out.new.items ≡ out.old.items) }
-        ensures spells { OnOk result (BodySpells full_group_row self.now) }
+        ensures spells { OnOk result (BodySpells group_row self.now) }
     {
         write_rows(out, self.count, &self.bytes)
     }

@@ -2,7 +2,7 @@
 ghost use Rattle.std.specs.Prelude.{◌≡◌, ◌++◌, ◌∷◌, [], take, vec_len, OnOk, OnErr};
 ghost use Rattle.wasm_shapes.specs.Tree.{normal};
 ghost use Rattle.wasm_shapes.specs.Fits.{InRange};
-ghost use Rattle.wasm_write.specs.Types.{abstract_tree, shared_tree, heap_type_tree, nullable_tree, ref_type_tree, val_type_tree, storage_type_tree, field_type_tree};
+ghost use Rattle.wasm_write.specs.Types.{led, type_index, abstract_tree, shared_tree, heap_type_tree, nullable_tree, ref_type_tree, val_type_tree, storage_type_tree, field_type_tree};
 
 use crate::types::{AbstractHeapType, FieldType, HeapType, RefType, StorageType, ValType};
 use wasm_leb::{NoMemory, write_index, write_u32};
@@ -106,6 +106,17 @@ pub(crate) fn write_byte(out: &mut Vec<u8>, byte: u8) -> Result<(), NoMemory>
 {
     match out.push(byte) {
         Ok(()) => Ok(()),
+        Err(_) => Err(NoMemory),
+    }
+}
+
+/// Appends a byte and the index of a type, or a part of them where memory is wanting.
+pub(crate) fn write_marked(out: &mut Vec<u8>, byte: u8, index: u32) -> Result<(), NoMemory>
+    ensures ok { OnOk result (out.new.items ≡ out.old.items ++ normal (led byte (type_index index))) }
+    ensures err { OnErr result (take (vec_len out.old) out.new.items ≡ out.old.items) }
+{
+    match out.push(byte) {
+        Ok(()) => write_u32(out, index),
         Err(_) => Err(NoMemory),
     }
 }

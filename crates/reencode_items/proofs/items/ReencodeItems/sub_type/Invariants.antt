@@ -1,4 +1,4 @@
-use Rattle.std.proofs.Common.{◌≡◌, IsTrue, length}
+use Rattle.std.proofs.Common.{IsTrue}
 use Rattle.wasm_read.specs.Types as read
 use Rattle.wasm_write.specs.Types as write
 use Rattle.reencode_hooks.specs.Run.{ask}
@@ -8,9 +8,6 @@ use Rattle.reencode_items.proofs.items.ReencodeItems.sub_type.Given as goal
 -- the supertypes below the index are mapped
 abbrev pub invariant-loop-index : goal.invariant-loop-index
 invariant-loop-index g l =
-    record {
-      counted : length l.supertype_idxs ≡ l.index-index;
-      default : IsTrue g.Self.ReencodeIndices.keeps_defaults
-          → ItemsDone (ask g.Self.ReencodeIndices.reply g.Self.ReencodeIndices.next) read.type_index write.type_index
-          l.initial.self l.fn.sub_ty.supertype_idxs l.index-index l.self l.supertype_idxs;
-    }
+    IsTrue g.Self.ReencodeIndices.keeps_defaults
+    → ItemsDone (ask g.Self.ReencodeIndices.reply g.Self.ReencodeIndices.next) read.type_index write.type_index
+    l.initial.self l.fn.sub_ty.supertype_idxs l.index-index l.self l.supertype_idxs

@@ -1,6 +1,6 @@
 use Rattle.std.proofs.Common.{refl}
 use Rattle.wasm_read.proofs.Placed.{placed, forward}
-use Rattle.wasm_read.proofs.fields.read_val_type.Goals as goal
+use Rattle.wasm_read.proofs.values.read_val_type.Goals as goal
 
 pub returns-in-Some-clause-ok : goal.returns-in-Some-clause-ok
 returns-in-Some-clause-ok c = placed c.args.bytes.now c.args.at c.from_place.ensures c.in-Some.ensures.some

@@ -1,0 +1,163 @@
+//! The types of tables, memories, globals, tags and of what is imported, in their normal spelling.
+ghost use Rattle.std.specs.Prelude.{◌≡◌, ◌++◌, ◌≤◌, take, vec_len, OnOk, OnErr};
+ghost use Rattle.wasm_shapes.specs.Tree.{normal};
+ghost use Rattle.wasm_shapes.specs.Fits.{InRange};
+ghost use Rattle.wasm_write.specs.Types.{flag, limits_flags, bounds_tree, paged_tree, limits_tree, table_type_tree, memory_type_tree, global_flags, global_type_tree, tag_type_tree, entity_tree};
+
+use crate::types::{EntityType, GlobalType, MemoryType, TableType, TagKind, TagType};
+use crate::types_write::{write_byte, write_marked, write_ref_type, write_val_type};
+use wasm_leb::{NoMemory, write_u32, write_u64};
+
+/// So much where it is set, and otherwise 0.
+#[inline(always)]
+fn value_if(value: u8, set: bool) -> u8
+    ensures value { result ≡ flag value set }
+    ensures range { result ≤ value }
+{
+    if set { value } else { 0 }
+}
+
+/// The flags of limits: that there is a maximum, that they are shared, that they count in 64 bits, and that the logarithm of
+/// the page size is written.
+fn flags_of(maximum: bool, shared: bool, wide: bool, page: bool) -> u8
+    ensures { result ≡ limits_flags maximum shared wide page }
+{
+    value_if(1, maximum) + value_if(2, shared) + value_if(4, wide) + value_if(8, page)
+}
+
+/// Appends the minimum and the maximum, or a part of them where memory is wanting.
+fn write_bounds(out: &mut Vec<u8>, minimum: u64, maximum: Option<u64>) -> Result<(), NoMemory>
+    ensures ok { OnOk result (out.new.items ≡ out.old.items ++ normal (bounds_tree minimum maximum)) }
+    ensures in_range { OnOk result (InRange (bounds_tree minimum maximum)) }
+    ensures err { OnErr result (take (vec_len out.old) out.new.items ≡ out.old.items) }
+{
+    match maximum {
+        None => write_u64(out, minimum),
+        Some(maximum) => match write_u64(out, minimum) {
+            Ok(()) => write_u64(out, maximum),
+            Err(NoMemory) => Err(NoMemory),
+        },
+    }
+}
+
+/// Appends the minimum, the maximum and the logarithm of the page size, or a part of them where memory is wanting.
+fn write_paged(
+    out: &mut Vec<u8>,
+    minimum: u64,
+    maximum: Option<u64>,
+    page: Option<u32>,
+) -> Result<(), NoMemory>
+    ensures ok { OnOk result (out.new.items ≡ out.old.items ++ normal (paged_tree page (bounds_tree minimum maximum))) }
+    ensures in_range { OnOk result (InRange (paged_tree page (bounds_tree minimum maximum))) }
+    ensures err { OnErr result (take (vec_len out.old) out.new.items ≡ out.old.items) }
+{
+    match page {
+        None => write_bounds(out, minimum, maximum),
+        Some(page) => match write_bounds(out, minimum, maximum) {
+            Ok(()) => write_u32(out, page),
+            Err(NoMemory) => Err(NoMemory),
+        },
+    }
+}
+
+/// Appends limits behind their flags, or a part of them where memory is wanting.
+fn write_limits(
+    out: &mut Vec<u8>,
+    flags: u8,
+    minimum: u64,
+    maximum: Option<u64>,
+    page: Option<u32>,
+) -> Result<(), NoMemory>
+    ensures ok { OnOk result (out.new.items ≡ out.old.items ++ normal (limits_tree flags (paged_tree page (bounds_tree minimum maximum)))) }
+    ensures in_range { OnOk result (InRange (limits_tree flags (paged_tree page (bounds_tree minimum maximum)))) }
+    ensures err { OnErr result (take (vec_len out.old) out.new.items ≡ out.old.items) }
+{
+    match write_byte(out, flags) {
+        Ok(()) => write_paged(out, minimum, maximum, page),
+        Err(NoMemory) => Err(NoMemory),
+    }
+}
+
+/// Appends a table type, or a part of it where memory is wanting.
+pub(crate) fn write_table_type(out: &mut Vec<u8>, ty: TableType) -> Result<(), NoMemory>
+    ensures ok { OnOk result (out.new.items ≡ out.old.items ++ normal (table_type_tree ty)) }
+    ensures in_range { OnOk result (InRange (table_type_tree ty)) }
+    ensures err { OnErr result (take (vec_len out.old) out.new.items ≡ out.old.items) }
+{
+    let flags = flags_of(ty.maximum.is_some(), ty.shared, ty.table64, false);
+    match write_ref_type(out, ty.element_type) {
+        Ok(()) => write_limits(out, flags, ty.minimum, ty.maximum, None),
+        Err(NoMemory) => Err(NoMemory),
+    }
+}
+
+/// Appends a memory type, or a part of it where memory is wanting.
+pub(crate) fn write_memory_type(out: &mut Vec<u8>, ty: MemoryType) -> Result<(), NoMemory>
+    ensures ok { OnOk result (out.new.items ≡ out.old.items ++ normal (memory_type_tree ty)) }
+    ensures in_range { OnOk result (InRange (memory_type_tree ty)) }
+    ensures err { OnErr result (take (vec_len out.old) out.new.items ≡ out.old.items) }
+{
+    let page = ty.page_size_log2;
+    let flags = flags_of(ty.maximum.is_some(), ty.shared, ty.memory64, page.is_some());
+    write_limits(out, flags, ty.minimum, ty.maximum, page)
+}
+
+/// Appends a global type, or a part of it where memory is wanting.
+pub(crate) fn write_global_type(out: &mut Vec<u8>, ty: GlobalType) -> Result<(), NoMemory>
+    ensures ok { OnOk result (out.new.items ≡ out.old.items ++ normal (global_type_tree ty)) }
+    ensures in_range { OnOk result (InRange (global_type_tree ty)) }
+    ensures err { OnErr result (take (vec_len out.old) out.new.items ≡ out.old.items) }
+{
+    let flags = global_flags_of(ty.mutable, ty.shared);
+    match write_val_type(out, ty.val_type) {
+        Ok(()) => write_byte(out, flags),
+        Err(NoMemory) => Err(NoMemory),
+    }
+}
+
+/// The flags of a global: that it may change, and that it is shared.
+fn global_flags_of(mutable: bool, shared: bool) -> u8
+    ensures { result ≡ global_flags mutable shared }
+{
+    value_if(1, mutable) + value_if(2, shared)
+}
+
+/// Appends a tag type, or a part of it where memory is wanting.
+pub(crate) fn write_tag_type(out: &mut Vec<u8>, ty: TagType) -> Result<(), NoMemory>
+    ensures ok { OnOk result (out.new.items ≡ out.old.items ++ normal (tag_type_tree ty)) }
+    ensures in_range { OnOk result (InRange (tag_type_tree ty)) }
+    ensures err { OnErr result (take (vec_len out.old) out.new.items ≡ out.old.items) }
+{
+    match ty.kind {
+        TagKind::Exception => write_marked(out, 0x00, ty.func_type_idx),
+    }
+}
+
+/// Appends the type of what is imported (WebAssembly Core Specification 3.0, section 5.3.15). Where memory is wanting, what
+/// stood in `out` before stands there still.
+pub fn write_entity_type(out: &mut Vec<u8>, ty: EntityType) -> Result<(), NoMemory>
+    ensures ok { OnOk result (out.new.items ≡ out.old.items ++ normal (entity_tree ty)) }
+    ensures in_range { OnOk result (InRange (entity_tree ty)) }
+    ensures err { OnErr result (take (vec_len out.old) out.new.items ≡ out.old.items) }
+{
+    match ty {
+        EntityType::Function(index) => write_marked(out, 0x00, index),
+        EntityType::FunctionExact(index) => write_marked(out, 0x20, index),
+        EntityType::Table(ty) => match write_byte(out, 0x01) {
+            Ok(()) => write_table_type(out, ty),
+            Err(NoMemory) => Err(NoMemory),
+        },
+        EntityType::Memory(ty) => match write_byte(out, 0x02) {
+            Ok(()) => write_memory_type(out, ty),
+            Err(NoMemory) => Err(NoMemory),
+        },
+        EntityType::Global(ty) => match write_byte(out, 0x03) {
+            Ok(()) => write_global_type(out, ty),
+            Err(NoMemory) => Err(NoMemory),
+        },
+        EntityType::Tag(ty) => match write_byte(out, 0x04) {
+            Ok(()) => write_tag_type(out, ty),
+            Err(NoMemory) => Err(NoMemory),
+        },
+    }
+}

@@ -1,0 +1,101 @@
+//! Table sections.
+ghost use Rattle.std.specs.Prelude.{◌≡◌, ◌++◌, ◌∷◌, ◌+◌, ◌-◌, ◌^◌, ◌<◌, [], length, take, vec_len, OnOk, OnErr, IfErr};
+ghost use Rattle.std.proofs.Common.{lit≤};
+ghost use Rattle.wasm_shapes.specs.Tree.{normal};
+ghost use Rattle.wasm_shapes.specs.Shape.{table_type};
+ghost use Rattle.wasm_write.specs.Faults.{IfTooLarge};
+ghost use Rattle.wasm_write.specs.Held.{BodySpells, Held, Held-prop, body_tree};
+ghost use Rattle.wasm_write.specs.Rows.{tables_sound};
+ghost use Rattle.wasm_write.specs.Types.{table_type_tree};
+
+use crate::externals::write_table_type;
+use crate::fault::WriteFault;
+use crate::section::{Section, write_rows};
+use crate::types::TableType;
+use std::alloc::Global;
+use std::marker::Model;
+use wasm_leb::NoMemory;
+
+/// A table section (WebAssembly Core Specification 3.0, section 5.5.7): tables that start with null references.
+///
+/// Contracts see it as the list of its rows. It holds their number and their normal spelling.
+#[derive(Drop)]
+pub struct TableSection {
+    count: u32,
+    bytes: Vec<u8>,
+    ghost held: { Held table_type count bytes.items } by { Held-prop table_type tables_sound count bytes.items },
+}
+
+impl Model for TableSection {
+    ghost use Rattle.std.specs.Prelude.{List};
+    ghost use Rattle.wasm_shapes.specs.Tree.{Tree};
+    ghost use Rattle.wasm_shapes.specs.TreeCode.{trees_code};
+    ghost use Rattle.wasm_shapes.specs.Shape.{table_type};
+    ghost use Rattle.wasm_write.specs.Held.{held_rows};
+
+    ghost Value = { List Tree };
+
+    ghost coded = { trees_code };
+
+    ghost view = { λ s. held_rows table_type s.count s.bytes.items s.held };
+}
+
+impl TableSection {
+    /// A section without rows. It takes no memory.
+    pub fn new(alloc: Global) -> Self
+        ensures { result ≡ [] }
+    {
+        TableSection {
+            count: 0,
+            bytes: Vec::new(alloc),
+        }
+    }
+
+    /// Adds a table that starts with null references. A refusal changes nothing.
+    ///
+    /// `TooLarge` comes exactly where the number of rows would pass 2^32 - 1, with that number.
+    pub fn table(&mut self, ty: TableType) -> Result<(), WriteFault>
+        ensures ok { OnOk result (self.new ≡ self.old ++ table_type_tree ty ∷ []) }
+        ensures fits { OnOk result (length self.old + 1 < 2 ^ 32) }
+        ensures err { OnErr result (self.new ≡ self.old) }
+        ensures large { IfErr result (λ e. IfTooLarge e (λ size. (size ≡ length self.old + 1) × (2 ^ 32 - 1 < size))) }
+    {
+        if self.count == u32::MAX {
+            return Err(WriteFault::TooLarge {
+                size: u64::from(self.count) + 1,
+            });
+        }
+        let len = self.bytes.len();
+        match write_table_type(&mut self.bytes, ty) {
+            Ok(()) => {
+                self.count += 1;
+                Ok(())
+            }
+            Err(NoMemory) => {
+                self.bytes.truncate(len);
+                Err(WriteFault::NoMemory)
+            }
+        }
+    }
+}
+
+impl Section for TableSection {
+    ghost number = { λ _. 4 };
+
+    ghost contents = { λ rows. normal (body_tree rows) };
+
+    ghost small = { λ _. lit≤ tt };
+
+    fn id(&self) -> u8 {
+        4
+    }
+
+    /// Appends the number of the rows and the rows, which read back as they were added.
+    fn encode_body(&self, out: &mut Vec<u8>) -> Result<(), NoMemory>
+        ensures ok { OnOk result (out.new.items ≡ out.old.items ++ normal (body_tree self.now)) }
+        ensures err { OnErr result (take (vec_len out.old) out.new.items ≡ out.old.items) }
+        ensures spells { OnOk result (BodySpells table_type self.now) }
+    {
+        write_rows(out, self.count, &self.bytes)
+    }
+}
