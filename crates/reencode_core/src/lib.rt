@@ -7,6 +7,8 @@ mod plain;
 mod reencode;
 #[cfg(test)]
 mod tests;
+#[cfg(test)]
+mod type_tests;
 pub mod utils;
 
 pub use reencode::{Reencode, reencode_core};
