@@ -10,5 +10,7 @@ mod tests;
 #[cfg(test)]
 mod type_tests;
 pub mod utils;
+#[cfg(test)]
+mod utils_tests;
 
 pub use reencode::{Reencode, reencode_core};

@@ -1,0 +1,98 @@
+//! Each free function once, through its bound.
+use super::*;
+use reencode_hooks::{Error, Renamer};
+use std::alloc::Global;
+use std::test::Fail;
+use wasm_read as r;
+use wasm_shapes::Space;
+use wasm_write as w;
+
+/// The section `01 60 00 00` of types and the section `01 00` of functions.
+fn types_and_functions<R: Reencode>(
+    reencoder: &mut R,
+    alloc: Global,
+    module: &mut w::Module,
+) -> Result<(), Error<R::Error>> {
+    let mut types = w::TypeSection::new(alloc);
+    let rows = r::TypeSectionReader::new(&[0x01, 0x60, 0x00, 0x00])?;
+    utils::parse_type_section(reencoder, alloc, &mut types, rows)?;
+    module.section(&types)?;
+    let mut functions = w::FunctionSection::new(alloc);
+    let rows = r::FunctionSectionReader::new(&[0x01, 0x00])?;
+    utils::parse_function_section(reencoder, alloc, &mut functions, rows)?;
+    module.section(&functions)?;
+    Ok(())
+}
+
+/// The section `01 01 66 00 00` of exports, and another row of it.
+fn exports<R: Reencode>(
+    reencoder: &mut R,
+    alloc: Global,
+    module: &mut w::Module,
+) -> Result<(), Error<R::Error>> {
+    let mut exports = w::ExportSection::new(alloc);
+    let rows = r::ExportSectionReader::new(&[0x01, 0x01, 0x66, 0x00, 0x00])?;
+    utils::parse_export_section(reencoder, alloc, &mut exports, rows)?;
+    let export = r::Export {
+        name: "g",
+        kind: r::ExternalKind::Func,
+        index: 0,
+    };
+    utils::parse_export(reencoder, &mut exports, export)?;
+    module.section(&exports)?;
+    Ok(())
+}
+
+/// The section `01 04 00 10 00 0b` of code, and another row of it.
+fn code<R: Reencode>(
+    reencoder: &mut R,
+    alloc: Global,
+    module: &mut w::Module,
+) -> Result<(), Error<R::Error>> {
+    let mut code = w::CodeSection::new(alloc, module.ceiling());
+    let rows = r::CodeSectionReader::new(&[0x01, 0x04, 0x00, 0x10, 0x00, 0x0b])?;
+    utils::parse_code_section(reencoder, alloc, &mut code, rows)?;
+    let body = r::FunctionBody {
+        bytes: &[0x01, 0x01, 0x7f, 0x0b],
+    };
+    utils::parse_function_body(reencoder, alloc, &mut code, body)?;
+    let function = utils::new_function_with_parsed_locals(reencoder, alloc, &body)?;
+    code.function(&function)?;
+    module.section(&code)?;
+    Ok(())
+}
+
+#[test]
+fn functions_map_rows(rt: HostRuntime) -> Result<(), Fail> {
+    let mut renamer = Renamer::new(rt.alloc());
+    renamer.set(Space::Type_, 0, 5)?;
+    renamer.set(Space::Function, 0, 7)?;
+    let mut module = w::Module::new(rt.alloc(), u32::MAX)?;
+    types_and_functions(&mut renamer, rt.alloc(), &mut module)?;
+    exports(&mut renamer, rt.alloc(), &mut module)?;
+    code(&mut renamer, rt.alloc(), &mut module)?;
+    let expected = [
+        0x00, 0x61, 0x73, 0x6d, 0x01, 0x00, 0x00, 0x00, 0x01, 0x04, 0x01, 0x60, 0x00, 0x00, 0x03,
+        0x02, 0x01, 0x05, 0x07, 0x09, 0x02, 0x01, 0x66, 0x00, 0x07, 0x01, 0x67, 0x00, 0x07, 0x0a,
+        0x0f, 0x03, 0x04, 0x00, 0x10, 0x07, 0x0b, 0x04, 0x01, 0x01, 0x7f, 0x0b, 0x03, 0x01, 0x01,
+        0x7f,
+    ];
+    assert_eq!(rt; module.as_slice(), expected.as_slice());
+    Ok(())
+}
+
+#[test]
+fn functions_map_modules(rt: HostRuntime) -> Result<(), Fail> {
+    let mut renamer = Renamer::new(rt.alloc());
+    renamer.set(Space::Type_, 0, 5)?;
+    let mut module = w::Module::new(rt.alloc(), u32::MAX)?;
+    let bytes = [
+        0x00, 0x61, 0x73, 0x6d, 0x01, 0x00, 0x00, 0x00, 0x03, 0x02, 0x01, 0x00,
+    ];
+    utils::parse_core_module(&mut renamer, rt.alloc(), &mut module, &bytes)?;
+    assert_eq!(rt; module.as_slice()[11], 0x05);
+    let (group, _) = r::read_group(rt.alloc(), &[0x60, 0x00, 0x00], 0)?;
+    let group = utils::parse_recursive_type_group(&mut renamer, rt.alloc(), group)?;
+    assert_eq!(rt; group.types.len(), 1);
+    Ok(())
+}
