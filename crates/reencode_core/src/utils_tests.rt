@@ -90,7 +90,10 @@ fn functions_map_modules(rt: HostRuntime) -> Result<(), Fail> {
         0x00, 0x61, 0x73, 0x6d, 0x01, 0x00, 0x00, 0x00, 0x03, 0x02, 0x01, 0x00,
     ];
     utils::parse_core_module(&mut renamer, rt.alloc(), &mut module, &bytes)?;
-    assert_eq!(rt; module.as_slice()[11], 0x05);
+    let expected = [
+        0x00, 0x61, 0x73, 0x6d, 0x01, 0x00, 0x00, 0x00, 0x03, 0x02, 0x01, 0x05,
+    ];
+    assert_eq!(rt; module.as_slice(), expected.as_slice());
     let (group, _) = r::read_group(rt.alloc(), &[0x60, 0x00, 0x00], 0)?;
     let group = utils::parse_recursive_type_group(&mut renamer, rt.alloc(), group)?;
     assert_eq!(rt; group.types.len(), 1);
