@@ -18,7 +18,7 @@ use Rattle.wasm_shapes.specs.Module.{section, frame}
 use Rattle.wasm_shapes.proofs.Unique.{unique}
 use Rattle.wasm_shapes.proofs.Begins.{none_here, none_by_front, none_at_end}
 use Rattle.wasm_shapes.proofs.Fronts.{outside}
-use Rattle.wasm_shapes.proofs.Framing.{FrameIs, frame_is, begins_types, begins_functions, begins_exports, begins_code, none_types, none_functions, none_exports, none_code, none_other}
+use Rattle.wasm_shapes.proofs.Framing.{FrameIs, frame_is, begins_types, begins_imports, begins_functions, begins_tables, begins_memories, begins_exports, begins_code, begins_tags, none_types, none_imports, none_functions, none_tables, none_memories, none_exports, none_code, none_tags, none_other}
 use Rattle.wasm_read.specs.Frames.{section_number, numbered_frame, custom_frame}
 use Rattle.wasm_write.specs.Sections.{Sections, SectionRow, section_row, section_bytes}
 use Rattle.reencode_hooks.specs.Hooks.{RepliesSection}
@@ -95,6 +95,46 @@ code_in_force = record {
   large = λ S E asked c s m t u h l. rw (h, closed_large {E = E} c u m l) refl;
 }
 
+pub imports_in_force : InForce id.Import
+imports_in_force = record {
+  rows = refl;
+  visited = λ u. refl;
+  spelled = λ u. refl;
+  refuses = λ S E asked c s m t e h. rw h refl;
+  fits = λ S E asked c s m t u h l. rw (h, closed_fits {E = E} c u m l) refl;
+  large = λ S E asked c s m t u h l. rw (h, closed_large {E = E} c u m l) refl;
+}
+
+pub tables_in_force : InForce id.Table
+tables_in_force = record {
+  rows = refl;
+  visited = λ u. refl;
+  spelled = λ u. refl;
+  refuses = λ S E asked c s m t e h. rw h refl;
+  fits = λ S E asked c s m t u h l. rw (h, closed_fits {E = E} c u m l) refl;
+  large = λ S E asked c s m t u h l. rw (h, closed_large {E = E} c u m l) refl;
+}
+
+pub memories_in_force : InForce id.Memory
+memories_in_force = record {
+  rows = refl;
+  visited = λ u. refl;
+  spelled = λ u. refl;
+  refuses = λ S E asked c s m t e h. rw h refl;
+  fits = λ S E asked c s m t u h l. rw (h, closed_fits {E = E} c u m l) refl;
+  large = λ S E asked c s m t u h l. rw (h, closed_large {E = E} c u m l) refl;
+}
+
+pub tags_in_force : InForce id.Tag
+tags_in_force = record {
+  rows = refl;
+  visited = λ u. refl;
+  spelled = λ u. refl;
+  refuses = λ S E asked c s m t e h. rw h refl;
+  fits = λ S E asked c s m t u h l. rw (h, closed_fits {E = E} c u m l) refl;
+  large = λ S E asked c s m t u h l. rw (h, closed_large {E = E} c u m l) refl;
+}
+
 -- ---- frames
 
 -- the frame of a section other than a custom one
@@ -113,6 +153,10 @@ section_begins id.Type_ u f p = begins_types f p
 section_begins id.Function u f p = begins_functions f p
 section_begins id.Export u f p = begins_exports f p
 section_begins id.Code u f p = begins_code f p
+section_begins id.Import u f p = begins_imports f p
+section_begins id.Table u f p = begins_tables f p
+section_begins id.Memory u f p = begins_memories f p
+section_begins id.Tag u f p = begins_tags f p
 section_begins _ u f p = elim p.shaped [ ]
 
 pub section_none : (k : SectionId) {bytes body left : List ℕ} → FrameIs (section_number k) bytes body left → ((t : Tree) → ReadsAs k body t → ⊥) → BeginsNone section bytes
@@ -120,6 +164,10 @@ section_none id.Type_ f none = none_types f (λ u q. none (section_tree id.Type_
 section_none id.Function f none = none_functions f (λ u q. none (section_tree id.Function u) (u, refl, q))
 section_none id.Export f none = none_exports f (λ u q. none (section_tree id.Export u) (u, refl, q))
 section_none id.Code f none = none_code f (λ u q. none (section_tree id.Code u) (u, refl, q))
+section_none id.Import f none = none_imports f (λ u q. none (section_tree id.Import u) (u, refl, q))
+section_none id.Table f none = none_tables f (λ u q. none (section_tree id.Table u) (u, refl, q))
+section_none id.Memory f none = none_memories f (λ u q. none (section_tree id.Memory u) (u, refl, q))
+section_none id.Tag f none = none_tags f (λ u q. none (section_tree id.Tag u) (u, refl, q))
 section_none id.Custom f none = none_other refl f
 section_none _ f none = none_other refl f
 
@@ -130,6 +178,10 @@ section_announced asked s last id.Type_ u p = (refl, refl)
 section_announced asked s last id.Function u p = (refl, refl)
 section_announced asked s last id.Export u p = (refl, refl)
 section_announced asked s last id.Code u p = (refl, refl)
+section_announced asked s last id.Import u p = (refl, refl)
+section_announced asked s last id.Table u p = (refl, refl)
+section_announced asked s last id.Memory u p = (refl, refl)
+section_announced asked s last id.Tag u p = (refl, refl)
 section_announced asked s last _ u p = elim p.shaped [ ]
 
 pub section_before : (last : Option SectionId) (k : SectionId) {body : List ℕ} (u : Tree) → Spells (body_shape k) body u →
@@ -138,6 +190,10 @@ section_before last id.Type_ u p = (refl, refl)
 section_before last id.Function u p = (refl, refl)
 section_before last id.Export u p = (refl, refl)
 section_before last id.Code u p = (refl, refl)
+section_before last id.Import u p = (refl, refl)
+section_before last id.Table u p = (refl, refl)
+section_before last id.Memory u p = (refl, refl)
+section_before last id.Tag u p = (refl, refl)
 section_before last _ u p = elim p.shaped [ ]
 
 module _ {S E : Type 0} (asked : Asks S E) (k : SectionId) where
@@ -197,6 +253,22 @@ known_code : (j : SectionId) → section_number j ≡ 10 → j ≡ id.Code
 known_code id.Code e = refl
 known_code _ e = absurd (omega arith)
 
+known_imports : (j : SectionId) → section_number j ≡ 2 → j ≡ id.Import
+known_imports id.Import e = refl
+known_imports _ e = absurd (omega arith)
+
+known_tables : (j : SectionId) → section_number j ≡ 4 → j ≡ id.Table
+known_tables id.Table e = refl
+known_tables _ e = absurd (omega arith)
+
+known_memories : (j : SectionId) → section_number j ≡ 5 → j ≡ id.Memory
+known_memories id.Memory e = refl
+known_memories _ e = absurd (omega arith)
+
+known_tags : (j : SectionId) → section_number j ≡ 13 → j ≡ id.Tag
+known_tags id.Tag e = refl
+known_tags _ e = absurd (omega arith)
+
 framed : (t : Tree) (x : List ℕ) → Is section t → Spelled t x → Framed x t
 framed t x (Is.first (Is.told (Is.seq Is.fixed (Is.sized {t = u} d)))) p = record {
   k = id.Type_;
@@ -246,7 +318,55 @@ framed t x (Is.later (Is.later (Is.later (Is.first (Is.told (Is.seq Is.fixed (Is
   };
   known = known_code;
 }
-framed t x (Is.later (Is.later (Is.later (Is.later d)))) p = elim d [ ]
+framed t x (Is.later (Is.later (Is.later (Is.later (Is.first (Is.told (Is.seq Is.fixed (Is.sized {t = u} d)))))))) p = record {
+  k = id.Import;
+  u = u;
+  is = refl;
+  body = p.4.1;
+  reads = record { shaped = d; spelled = p.4.4 };
+  frames = record {
+    shaped = Is.later (Is.first (Is.seq (Is.within (omega arith) (omega arith)) (Is.sized Is.rest)));
+    spelled = (p.0, p.1, p.2, (p.3, omega arith), (p.4.0, p.4.1, p.4.2, p.4.3, refl));
+  };
+  known = known_imports;
+}
+framed t x (Is.later (Is.later (Is.later (Is.later (Is.later (Is.first (Is.told (Is.seq Is.fixed (Is.sized {t = u} d))))))))) p = record {
+  k = id.Table;
+  u = u;
+  is = refl;
+  body = p.4.1;
+  reads = record { shaped = d; spelled = p.4.4 };
+  frames = record {
+    shaped = Is.later (Is.first (Is.seq (Is.within (omega arith) (omega arith)) (Is.sized Is.rest)));
+    spelled = (p.0, p.1, p.2, (p.3, omega arith), (p.4.0, p.4.1, p.4.2, p.4.3, refl));
+  };
+  known = known_tables;
+}
+framed t x (Is.later (Is.later (Is.later (Is.later (Is.later (Is.later (Is.first (Is.told (Is.seq Is.fixed (Is.sized {t = u} d)))))))))) p = record {
+  k = id.Memory;
+  u = u;
+  is = refl;
+  body = p.4.1;
+  reads = record { shaped = d; spelled = p.4.4 };
+  frames = record {
+    shaped = Is.later (Is.first (Is.seq (Is.within (omega arith) (omega arith)) (Is.sized Is.rest)));
+    spelled = (p.0, p.1, p.2, (p.3, omega arith), (p.4.0, p.4.1, p.4.2, p.4.3, refl));
+  };
+  known = known_memories;
+}
+framed t x (Is.later (Is.later (Is.later (Is.later (Is.later (Is.later (Is.later (Is.first (Is.told (Is.seq Is.fixed (Is.sized {t = u} d))))))))))) p = record {
+  k = id.Tag;
+  u = u;
+  is = refl;
+  body = p.4.1;
+  reads = record { shaped = d; spelled = p.4.4 };
+  frames = record {
+    shaped = Is.later (Is.first (Is.seq (Is.within (omega arith) (omega arith)) (Is.sized Is.rest)));
+    spelled = (p.0, p.1, p.2, (p.3, omega arith), (p.4.0, p.4.1, p.4.2, p.4.3, refl));
+  };
+  known = known_tags;
+}
+framed t x (Is.later (Is.later (Is.later (Is.later (Is.later (Is.later (Is.later (Is.later d)))))))) p = elim d [ ]
 
 same_frame : {n m : ℕ} {a b : List ℕ} → numbered_frame n a ≡ numbered_frame m b → (n ≡ m) × (a ≡ b)
 same_frame e = (cc, cc)
@@ -274,7 +394,7 @@ none_custom name contents f = let first = custom_first name contents f in none_h
 pub none_unknown : {bytes left : List ℕ} (n : ℕ) (contents : List ℕ) → 14 ≤ n → Begins frame bytes (numbered_frame n contents) left → BeginsNone section bytes
 none_unknown n contents h f =
     let g = numbered_is f in
-    none_here g.reads (none_by_front refl (outside 1 10 n (first_bytes section) refl (inr (omega arith))))
+    none_here g.reads (none_by_front refl (outside 1 13 n (first_bytes section) refl (inr (omega arith))))
 
 pub some_begun : {t : Tree} {bytes left : List ℕ} → Begins frame bytes t left → bytes ≢ []
 some_begun {t = t} {left = left} there empty =
@@ -297,12 +417,16 @@ vec_is {s = s} {n = n} {body = body} {start = start} there tree p = go tree p.sh
 
 -- ---- kinds that are not in force
 
-pub other_shape : (k : SectionId) → (k ≡ id.Type_ → ⊥) → (k ≡ id.Function → ⊥) → (k ≡ id.Export → ⊥) → (k ≡ id.Code → ⊥) → body_shape k ≡ Shape.none
-other_shape id.Type_ a b c d = absurd (a refl)
-other_shape id.Function a b c d = absurd (b refl)
-other_shape id.Export a b c d = absurd (c refl)
-other_shape id.Code a b c d = absurd (d refl)
-other_shape _ a b c d = refl
+pub other_shape : (k : SectionId) → (k ≡ id.Type_ → ⊥) → (k ≡ id.Import → ⊥) → (k ≡ id.Function → ⊥) → (k ≡ id.Table → ⊥) → (k ≡ id.Memory → ⊥) → (k ≡ id.Export → ⊥) → (k ≡ id.Code → ⊥) → (k ≡ id.Tag → ⊥) → body_shape k ≡ Shape.none
+other_shape id.Type_ a b c d e f g h = absurd (a refl)
+other_shape id.Import a b c d e f g h = absurd (b refl)
+other_shape id.Function a b c d e f g h = absurd (c refl)
+other_shape id.Table a b c d e f g h = absurd (d refl)
+other_shape id.Memory a b c d e f g h = absurd (e refl)
+other_shape id.Export a b c d e f g h = absurd (f refl)
+other_shape id.Code a b c d e f g h = absurd (g refl)
+other_shape id.Tag a b c d e f g h = absurd (h refl)
+other_shape _ a b c d e f g h = refl
 
 -- ---- modules
 

@@ -6,6 +6,7 @@ pub mod OneSection
 pub mod CoreLoop
 pub mod WholeBytes
 pub mod ExportRow
+pub mod OneRow
 pub mod Group
 pub mod BodyLoop
 pub mod Locals

@@ -2,17 +2,21 @@
 use Rattle.std.specs.Prelude.{◌≡◌, ◌≢◌, ◌+◌, ◌-◌, ◌^◌, ◌<◌, ◌⊎◌, ℕ, List, [], ◌∷◌, ◌++◌, length, take, true, Result, Ok, Err, IfOk, IfErr}
 use Rattle.wasm_shapes.specs.declared.Visit.{Visit}
 use Rattle.wasm_shapes.specs.Shape.{Shape}
-use Rattle.wasm_shapes.specs.Tree.{Tree}
+use Rattle.wasm_shapes.specs.Tree.{Tree, visits}
 use Rattle.wasm_shapes.specs.Spells.{Is, Spelled}
 use Rattle.wasm_shapes.specs.Place.{Begins, BeginsNone}
 use Rattle.wasm_shapes.specs.Rows.{RowsLeft, NoRows, rows_then}
 use Rattle.wasm_shapes.specs.Module.{local_row, code_row}
+use Rattle.wasm_read.specs.declared.types.TableType.{TableType}
+use Rattle.wasm_read.specs.declared.types.TableInit.{TableInit}
+use Rattle.wasm_read.specs.declared.types.TableInit.TheVariants as init
 use Rattle.wasm_read.specs.Operations.{frame_row}
 use Rattle.wasm_read.specs.Reading.{Standing}
+use Rattle.wasm_read.specs.Types.{table_type_tree}
 use Rattle.wasm_write.specs.Counts.{counts, IsTooLarge}
 use Rattle.reencode_hooks.specs.declared.error.Error.{Error}
-use Rattle.reencode_hooks.specs.declared.error.Error.TheVariants.{TooLarge, NoMemory}
-use Rattle.reencode_hooks.specs.Run.{Step, accepted, refused, and_then, run}
+use Rattle.reencode_hooks.specs.declared.error.Error.TheVariants.{ParseError, TooLarge, NoMemory}
+use Rattle.reencode_hooks.specs.Run.{Step, accepted, refused, and_then, run, LeavesVisited}
 use Rattle.reencode_hooks.specs.Walk.{walk}
 use Rattle.reencode_core.specs.Errors.{IfParse, IfRefused}
 
@@ -85,6 +89,18 @@ abbrev pub GivesRow : {S E : Type 0} → Asks S E → ℕ → S → Tree → Lis
 GivesRow asked c s t old m new (Ok _) = (u : Tree) × (walk asked c s t ≡ accepted u m) × (new ≡ old ++ u ∷ [])
 GivesRow asked c s t old m new (Err e) =
     (new ≡ old) × (e ≢ NoMemory → (walk asked c s t ≡ refused e m) ⊎ TooLargeMade asked s t (length old) e m)
+
+-- A table that starts with null references is mapped as a row. One that starts with the value of an expression has no format
+-- yet: it is refused at its front, nothing is asked, and nothing is added.
+abbrev pub GivesTable : {S E : Type 0} → Asks S E → ℕ → S → TableType → TableInit → List Tree → S → List Tree → Result (Unit {0}) (Error E) → Type 0
+GivesTable asked c s ty init.RefNull old m new result = GivesRow asked c s (table_type_tree ty) old m new result
+GivesTable {E = E} asked c s ty (init.Expr _) old m new result =
+    (new ≡ old) × (m ≡ s) × (result ≡ Err (ParseError (record { at = 0 })))
+
+-- what an error of it leaves
+abbrev pub LeavesTable : {S E : Type 0} → Asks S E → S → TableType → TableInit → S → Result (Unit {0}) (Error E) → Type 0
+LeavesTable asked s ty init.RefNull m result = LeavesVisited asked s (visits (table_type_tree ty)) m result
+LeavesTable asked s ty (init.Expr _) m result = m ≡ s
 
 -- ---- bytes that are no rows
 

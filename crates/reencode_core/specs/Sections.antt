@@ -3,10 +3,10 @@ use Rattle.std.specs.Prelude.{◌≡◌, ◌≢◌, ◌⊎◌, ℕ, List, [], Re
 use Rattle.wasm_leb.specs.Place.{BeginsNoNumber}
 use Rattle.wasm_shapes.specs.declared.SectionId.{SectionId}
 use Rattle.wasm_shapes.specs.declared.SectionId.TheVariants as id
-use Rattle.wasm_shapes.specs.Shape.{Shape, Named}
+use Rattle.wasm_shapes.specs.Shape.{Shape, Named, table_type, memory_type, tag_type}
 use Rattle.wasm_shapes.specs.Tree.{Tree, normal}
 use Rattle.wasm_shapes.specs.Spells.{Spells}
-use Rattle.wasm_shapes.specs.Module.{types, functions, exports, code, function_row, export_row, code_row, type_section, function_section, export_section, code_section}
+use Rattle.wasm_shapes.specs.Module.{types, imports, functions, tables, memories, exports, code, tags, import_row, function_row, export_row, code_row, type_section, import_section, function_section, table_section, memory_section, export_section, code_section, tag_section}
 use Rattle.wasm_read.specs.Reading.{Standing, CountRead}
 use Rattle.wasm_read.specs.Frames.{section_number}
 use Rattle.wasm_write.specs.Sections.{Sections, SectionRow, section_row, section_bytes, with_section}
@@ -25,25 +25,37 @@ KeepsModule old new = (rows : List SectionRow) × Gains old new rows
 -- the rows of the sections of a kind; those of a kind that is not in force have no shape
 abbrev pub row_shape : SectionId → Shape
 row_shape id.Type_ = Shape.ref Named.group
+row_shape id.Import = import_row
 row_shape id.Function = function_row
+row_shape id.Table = table_type
+row_shape id.Memory = memory_type
 row_shape id.Export = export_row
 row_shape id.Code = code_row
+row_shape id.Tag = tag_type
 row_shape _ = Shape.none
 
 -- the bodies of the sections of a kind
 abbrev pub body_shape : SectionId → Shape
 body_shape id.Type_ = types
+body_shape id.Import = imports
 body_shape id.Function = functions
+body_shape id.Table = tables
+body_shape id.Memory = memories
 body_shape id.Export = exports
 body_shape id.Code = code
+body_shape id.Tag = tags
 body_shape _ = Shape.none
 
 -- a section by its kind and its body
 abbrev pub section_tree : SectionId → Tree → Tree
 section_tree id.Type_ body = type_section body
+section_tree id.Import body = import_section body
 section_tree id.Function body = function_section body
+section_tree id.Table body = table_section body
+section_tree id.Memory body = memory_section body
 section_tree id.Export body = export_section body
 section_tree id.Code body = code_section body
+section_tree id.Tag body = tag_section body
 section_tree _ body = Tree.canonical 0
 
 -- the tree is what the body of a section of a kind is read as

@@ -51,6 +51,107 @@ macro_rules! parse_recursive_type_group {
 
 pub(crate) use parse_recursive_type_group;
 
+macro_rules! parse_import_section {
+    ($reencoder:ident, $alloc:ident, $imports:ident, $section:ident) => {{
+        let mut rows = $section;
+        'rows: loop {
+            match rows.next_row($alloc)? {
+                Some(row) => $reencoder.parse_imports($alloc, $imports, row)?,
+                None => return Ok(()),
+            }
+        }
+    }};
+}
+
+pub(crate) use parse_import_section;
+
+macro_rules! parse_imports {
+    ($reencoder:ident, $import_section:ident, $imports:ident) => {{
+        let import = single($imports);
+        let ty = $reencoder.entity_type(import.ty)?;
+        let entry = w::Imports::Single(w::Import {
+            module: import.module,
+            name: import.name,
+            ty,
+        });
+        $import_section.imports(&entry)?;
+        Ok(())
+    }};
+}
+
+pub(crate) use parse_imports;
+
+macro_rules! parse_import {
+    ($reencoder:ident, $alloc:ident, $imports:ident, $import:ident) => {
+        $reencoder.parse_imports($alloc, $imports, r::Imports::Single($import))
+    };
+}
+
+pub(crate) use parse_import;
+
+macro_rules! parse_table_section {
+    ($reencoder:ident, $alloc:ident, $tables:ident, $section:ident) => {{
+        let mut rows = $section;
+        'rows: loop {
+            match rows.next_row($alloc)? {
+                Some(table) => $reencoder.parse_table($alloc, $tables, table)?,
+                None => return Ok(()),
+            }
+        }
+    }};
+}
+
+pub(crate) use parse_table_section;
+
+macro_rules! parse_table {
+    ($reencoder:ident, $tables:ident, $table:ident) => {
+        match $table.init {
+            r::TableInit::RefNull => {
+                let ty = $reencoder.table_type($table.ty)?;
+                $tables.table(ty)?;
+                Ok(())
+            }
+            r::TableInit::Expr(_) => Err(Error::ParseError(ReadError { at: 0 })),
+        }
+    };
+}
+
+pub(crate) use parse_table;
+
+macro_rules! parse_memory_section {
+    ($reencoder:ident, $alloc:ident, $memories:ident, $section:ident) => {{
+        let mut rows = $section;
+        'rows: loop {
+            match rows.next_row($alloc)? {
+                Some(row) => {
+                    let ty = $reencoder.memory_type(row)?;
+                    $memories.memory(ty)?;
+                }
+                None => return Ok(()),
+            }
+        }
+    }};
+}
+
+pub(crate) use parse_memory_section;
+
+macro_rules! parse_tag_section {
+    ($reencoder:ident, $alloc:ident, $tags:ident, $section:ident) => {{
+        let mut rows = $section;
+        'rows: loop {
+            match rows.next_row($alloc)? {
+                Some(row) => {
+                    let ty = $reencoder.tag_type(row)?;
+                    $tags.tag(ty)?;
+                }
+                None => return Ok(()),
+            }
+        }
+    }};
+}
+
+pub(crate) use parse_tag_section;
+
 macro_rules! parse_export_section {
     ($reencoder:ident, $alloc:ident, $exports:ident, $section:ident) => {{
         let mut rows = $section;
@@ -152,6 +253,34 @@ macro_rules! parse_section {
                 let mut code = w::CodeSection::new($alloc, $module.ceiling());
                 $reencoder.parse_code_section($alloc, &mut code, rows)?;
                 $module.section(&code)?;
+                Ok(())
+            }
+            SectionId::Import => {
+                let rows = r::ImportSectionReader::new($body)?;
+                let mut imports = w::ImportSection::new($alloc);
+                $reencoder.parse_import_section($alloc, &mut imports, rows)?;
+                $module.section(&imports)?;
+                Ok(())
+            }
+            SectionId::Table => {
+                let rows = r::TableSectionReader::new($body)?;
+                let mut tables = w::TableSection::new($alloc);
+                $reencoder.parse_table_section($alloc, &mut tables, rows)?;
+                $module.section(&tables)?;
+                Ok(())
+            }
+            SectionId::Memory => {
+                let rows = r::MemorySectionReader::new($body)?;
+                let mut memories = w::MemorySection::new($alloc);
+                $reencoder.parse_memory_section($alloc, &mut memories, rows)?;
+                $module.section(&memories)?;
+                Ok(())
+            }
+            SectionId::Tag => {
+                let rows = r::TagSectionReader::new($body)?;
+                let mut tags = w::TagSection::new($alloc);
+                $reencoder.parse_tag_section($alloc, &mut tags, rows)?;
+                $module.section(&tags)?;
                 Ok(())
             }
             _ => Err(Error::ParseError(ReadError { at: 0 })),

@@ -3,6 +3,7 @@
 
 mod bodies;
 mod errors;
+mod imports;
 mod plain;
 mod reencode;
 #[cfg(test)]

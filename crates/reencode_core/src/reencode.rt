@@ -4,11 +4,12 @@ ghost use Rattle.wasm_shapes.specs.declared.SectionId.TheVariants as kinds;
 ghost use Rattle.wasm_shapes.specs.Module.{CoreReading, core_module};
 ghost use Rattle.wasm_shapes.specs.Spells.{Spells};
 ghost use Rattle.wasm_shapes.specs.Tree.{visits};
+ghost use Rattle.wasm_read.specs.declared.types.Imports.TheVariants as imported;
 ghost use Rattle.wasm_read.specs.Types as read;
 ghost use Rattle.wasm_write.specs.Types as write;
 ghost use Rattle.reencode_hooks.specs.Run.{LeavesVisited, ask};
 ghost use Rattle.reencode_items.specs.Maps.{Maps};
-ghost use Rattle.reencode_core.specs.Rows.{KeepsFront, GivesRow, GivesRows};
+ghost use Rattle.reencode_core.specs.Rows.{KeepsFront, GivesRow, GivesRows, GivesTable, LeavesTable};
 ghost use Rattle.reencode_core.specs.Bodies.{KeepsCode, GivesLocals, GivesBody};
 ghost use Rattle.reencode_core.specs.Sections.{KeepsModule, ReadsAs, row_shape, GivesSection};
 ghost use Rattle.reencode_core.specs.Core.{GivesCore, GivesBytes};
@@ -16,6 +17,7 @@ ghost use Rattle.reencode_core.specs.Leaves.{BodyOf, LeavesReading, LocalsOf, Ro
 
 use crate::bodies;
 use crate::errors::placed;
+use crate::imports::single;
 use reencode_hooks::Error;
 use reencode_items::ReencodeItems;
 use std::alloc::Global;
@@ -73,6 +75,119 @@ pub trait Reencode: ReencodeItems {
             → LeavesReading (RowsOf (row_shape kinds.Function) section.entry) (ask Self.reply Self.next) self.old self.new result }
     {
         bodies::parse_function_section!(self, alloc, functions, section)
+    }
+
+    /// Maps the rows that the reader still has, each by `parse_imports`.
+    fn parse_import_section(
+        &mut self,
+        alloc: Global,
+        imports: &mut w::ImportSection,
+        section: r::ImportSectionReader<'_>,
+    ) -> Result<(), Error<Self::Error>>
+        ensures kept { KeepsFront imports.old imports.new }
+        ensures default { IsTrue Self.keeps_defaults → (c : ℕ)
+            → GivesRows (ask Self.reply Self.next) c (row_shape kinds.Import) section.entry self.old imports.old self.new imports.new result }
+        ensures left { IsTrue Self.keeps_defaults → IsTrue Self.sure
+            → LeavesReading (RowsOf (row_shape kinds.Import) section.entry) (ask Self.reply Self.next) self.old self.new result }
+    {
+        bodies::parse_import_section!(self, alloc, imports, section)
+    }
+
+    /// Maps an entry of an import section, its type by `entity_type`, and adds it.
+    fn parse_imports(
+        &mut self,
+        alloc: Global,
+        import_section: &mut w::ImportSection,
+        imports: r::Imports<'_>,
+    ) -> Result<(), Error<Self::Error>>
+        ensures kept { KeepsFront import_section.old import_section.new }
+        ensures default { IsTrue Self.keeps_defaults → (c : ℕ)
+            → GivesRow (ask Self.reply Self.next) c self.old (read.import_tree imports.entry) import_section.old self.new import_section.new result }
+        ensures left { IsTrue Self.keeps_defaults → IsTrue Self.sure
+            → LeavesVisited (ask Self.reply Self.next) self.old (visits (read.import_tree imports.entry)) self.new result }
+    {
+        bodies::parse_imports!(self, import_section, imports)
+    }
+
+    /// Maps what is imported by `parse_imports`, as an entry of its own.
+    fn parse_import(
+        &mut self,
+        alloc: Global,
+        imports: &mut w::ImportSection,
+        import: r::Import<'_>,
+    ) -> Result<(), Error<Self::Error>>
+        ensures kept { KeepsFront imports.old imports.new }
+        ensures default { IsTrue Self.keeps_defaults → (c : ℕ)
+            → GivesRow (ask Self.reply Self.next) c self.old (read.import_tree (imported.Single import.entry)) imports.old self.new imports.new result }
+        ensures left { IsTrue Self.keeps_defaults → IsTrue Self.sure
+            → LeavesVisited (ask Self.reply Self.next) self.old (visits (read.import_tree (imported.Single import.entry))) self.new result }
+    {
+        bodies::parse_import!(self, alloc, imports, import)
+    }
+
+    /// Maps the rows that the reader still has, each by `parse_table`.
+    fn parse_table_section(
+        &mut self,
+        alloc: Global,
+        tables: &mut w::TableSection,
+        section: r::TableSectionReader<'_>,
+    ) -> Result<(), Error<Self::Error>>
+        ensures kept { KeepsFront tables.old tables.new }
+        ensures default { IsTrue Self.keeps_defaults → (c : ℕ)
+            → GivesRows (ask Self.reply Self.next) c (row_shape kinds.Table) section.entry self.old tables.old self.new tables.new result }
+        ensures left { IsTrue Self.keeps_defaults → IsTrue Self.sure
+            → LeavesReading (RowsOf (row_shape kinds.Table) section.entry) (ask Self.reply Self.next) self.old self.new result }
+    {
+        bodies::parse_table_section!(self, alloc, tables, section)
+    }
+
+    /// Maps a table that starts with null references by `table_type`, and adds it. One that starts with the value of an
+    /// expression has no reading yet, and is refused as bytes without one are.
+    fn parse_table(
+        &mut self,
+        alloc: Global,
+        tables: &mut w::TableSection,
+        table: r::Table<'_>,
+    ) -> Result<(), Error<Self::Error>>
+        ensures kept { KeepsFront tables.old tables.new }
+        ensures default { IsTrue Self.keeps_defaults → (c : ℕ)
+            → GivesTable (ask Self.reply Self.next) c self.old table.entry.ty table.entry.init tables.old self.new tables.new result }
+        ensures left { IsTrue Self.keeps_defaults → IsTrue Self.sure
+            → LeavesTable (ask Self.reply Self.next) self.old table.entry.ty table.entry.init self.new result }
+    {
+        bodies::parse_table!(self, tables, table)
+    }
+
+    /// Maps the rows that the reader still has, each by `memory_type`, and adds each row once it is mapped.
+    fn parse_memory_section(
+        &mut self,
+        alloc: Global,
+        memories: &mut w::MemorySection,
+        section: r::MemorySectionReader<'_>,
+    ) -> Result<(), Error<Self::Error>>
+        ensures kept { KeepsFront memories.old memories.new }
+        ensures default { IsTrue Self.keeps_defaults → (c : ℕ)
+            → GivesRows (ask Self.reply Self.next) c (row_shape kinds.Memory) section.entry self.old memories.old self.new memories.new result }
+        ensures left { IsTrue Self.keeps_defaults → IsTrue Self.sure
+            → LeavesReading (RowsOf (row_shape kinds.Memory) section.entry) (ask Self.reply Self.next) self.old self.new result }
+    {
+        bodies::parse_memory_section!(self, alloc, memories, section)
+    }
+
+    /// Maps the rows that the reader still has, each by `tag_type`, and adds each row once it is mapped.
+    fn parse_tag_section(
+        &mut self,
+        alloc: Global,
+        tags: &mut w::TagSection,
+        section: r::TagSectionReader<'_>,
+    ) -> Result<(), Error<Self::Error>>
+        ensures kept { KeepsFront tags.old tags.new }
+        ensures default { IsTrue Self.keeps_defaults → (c : ℕ)
+            → GivesRows (ask Self.reply Self.next) c (row_shape kinds.Tag) section.entry self.old tags.old self.new tags.new result }
+        ensures left { IsTrue Self.keeps_defaults → IsTrue Self.sure
+            → LeavesReading (RowsOf (row_shape kinds.Tag) section.entry) (ask Self.reply Self.next) self.old self.new result }
+    {
+        bodies::parse_tag_section!(self, alloc, tags, section)
     }
 
     /// Maps the rows that the reader still has, each by `parse_export`.

@@ -3,11 +3,12 @@ ghost use Rattle.std.specs.Prelude.{◌≡◌, IsTrue, ℕ};
 ghost use Rattle.wasm_shapes.specs.declared.SectionId.TheVariants as kinds;
 ghost use Rattle.wasm_shapes.specs.Module.{CoreReading};
 ghost use Rattle.wasm_shapes.specs.Tree.{visits};
+ghost use Rattle.wasm_read.specs.declared.types.Imports.TheVariants as imported;
 ghost use Rattle.wasm_read.specs.Types as read;
 ghost use Rattle.wasm_write.specs.Types as write;
 ghost use Rattle.reencode_hooks.specs.Run.{LeavesVisited, ask};
 ghost use Rattle.reencode_items.specs.Maps.{Maps};
-ghost use Rattle.reencode_core.specs.Rows.{KeepsFront, GivesRow, GivesRows};
+ghost use Rattle.reencode_core.specs.Rows.{KeepsFront, GivesRow, GivesRows, GivesTable, LeavesTable};
 ghost use Rattle.reencode_core.specs.Bodies.{KeepsCode, GivesLocals, GivesBody};
 ghost use Rattle.reencode_core.specs.Sections.{KeepsModule, ReadsAs, row_shape, GivesSection};
 ghost use Rattle.reencode_core.specs.Core.{GivesCore};
@@ -15,6 +16,7 @@ ghost use Rattle.reencode_core.specs.Leaves.{BodyOf, LeavesReading, LocalsOf, Ro
 
 use crate::bodies;
 use crate::errors::placed;
+use crate::imports::single;
 use crate::reencode::Reencode;
 use reencode_hooks::Error;
 use std::alloc::Global;
@@ -67,6 +69,119 @@ pub fn parse_function_section<T: Reencode>(
         → LeavesReading (RowsOf (row_shape kinds.Function) section.entry) (ask T.reply T.next) reencoder.old reencoder.new result }
 {
     bodies::parse_function_section!(reencoder, alloc, functions, section)
+}
+
+/// Maps the rows that the reader still has, each by `parse_imports`.
+pub fn parse_import_section<T: Reencode>(
+    reencoder: &mut T,
+    alloc: Global,
+    imports: &mut w::ImportSection,
+    section: r::ImportSectionReader<'_>,
+) -> Result<(), Error<T::Error>>
+    ensures kept { KeepsFront imports.old imports.new }
+    ensures default { IsTrue T.keeps_defaults → (c : ℕ)
+        → GivesRows (ask T.reply T.next) c (row_shape kinds.Import) section.entry reencoder.old imports.old reencoder.new imports.new result }
+    ensures left { IsTrue T.keeps_defaults → IsTrue T.sure
+        → LeavesReading (RowsOf (row_shape kinds.Import) section.entry) (ask T.reply T.next) reencoder.old reencoder.new result }
+{
+    bodies::parse_import_section!(reencoder, alloc, imports, section)
+}
+
+/// Maps an entry of an import section, its type by `entity_type`, and adds it.
+pub fn parse_imports<T: Reencode>(
+    reencoder: &mut T,
+    alloc: Global,
+    import_section: &mut w::ImportSection,
+    imports: r::Imports<'_>,
+) -> Result<(), Error<T::Error>>
+    ensures kept { KeepsFront import_section.old import_section.new }
+    ensures default { IsTrue T.keeps_defaults → (c : ℕ)
+        → GivesRow (ask T.reply T.next) c reencoder.old (read.import_tree imports.entry) import_section.old reencoder.new import_section.new result }
+    ensures left { IsTrue T.keeps_defaults → IsTrue T.sure
+        → LeavesVisited (ask T.reply T.next) reencoder.old (visits (read.import_tree imports.entry)) reencoder.new result }
+{
+    bodies::parse_imports!(reencoder, import_section, imports)
+}
+
+/// Maps what is imported by `parse_imports`, as an entry of its own.
+pub fn parse_import<T: Reencode>(
+    reencoder: &mut T,
+    alloc: Global,
+    imports: &mut w::ImportSection,
+    import: r::Import<'_>,
+) -> Result<(), Error<T::Error>>
+    ensures kept { KeepsFront imports.old imports.new }
+    ensures default { IsTrue T.keeps_defaults → (c : ℕ)
+        → GivesRow (ask T.reply T.next) c reencoder.old (read.import_tree (imported.Single import.entry)) imports.old reencoder.new imports.new result }
+    ensures left { IsTrue T.keeps_defaults → IsTrue T.sure
+        → LeavesVisited (ask T.reply T.next) reencoder.old (visits (read.import_tree (imported.Single import.entry))) reencoder.new result }
+{
+    bodies::parse_import!(reencoder, alloc, imports, import)
+}
+
+/// Maps the rows that the reader still has, each by `parse_table`.
+pub fn parse_table_section<T: Reencode>(
+    reencoder: &mut T,
+    alloc: Global,
+    tables: &mut w::TableSection,
+    section: r::TableSectionReader<'_>,
+) -> Result<(), Error<T::Error>>
+    ensures kept { KeepsFront tables.old tables.new }
+    ensures default { IsTrue T.keeps_defaults → (c : ℕ)
+        → GivesRows (ask T.reply T.next) c (row_shape kinds.Table) section.entry reencoder.old tables.old reencoder.new tables.new result }
+    ensures left { IsTrue T.keeps_defaults → IsTrue T.sure
+        → LeavesReading (RowsOf (row_shape kinds.Table) section.entry) (ask T.reply T.next) reencoder.old reencoder.new result }
+{
+    bodies::parse_table_section!(reencoder, alloc, tables, section)
+}
+
+/// Maps a table that starts with null references by `table_type`, and adds it. One that starts with the value of an
+/// expression has no reading yet, and is refused as bytes without one are.
+pub fn parse_table<T: Reencode>(
+    reencoder: &mut T,
+    alloc: Global,
+    tables: &mut w::TableSection,
+    table: r::Table<'_>,
+) -> Result<(), Error<T::Error>>
+    ensures kept { KeepsFront tables.old tables.new }
+    ensures default { IsTrue T.keeps_defaults → (c : ℕ)
+        → GivesTable (ask T.reply T.next) c reencoder.old table.entry.ty table.entry.init tables.old reencoder.new tables.new result }
+    ensures left { IsTrue T.keeps_defaults → IsTrue T.sure
+        → LeavesTable (ask T.reply T.next) reencoder.old table.entry.ty table.entry.init reencoder.new result }
+{
+    bodies::parse_table!(reencoder, tables, table)
+}
+
+/// Maps the rows that the reader still has, each by `memory_type`, and adds each row once it is mapped.
+pub fn parse_memory_section<T: Reencode>(
+    reencoder: &mut T,
+    alloc: Global,
+    memories: &mut w::MemorySection,
+    section: r::MemorySectionReader<'_>,
+) -> Result<(), Error<T::Error>>
+    ensures kept { KeepsFront memories.old memories.new }
+    ensures default { IsTrue T.keeps_defaults → (c : ℕ)
+        → GivesRows (ask T.reply T.next) c (row_shape kinds.Memory) section.entry reencoder.old memories.old reencoder.new memories.new result }
+    ensures left { IsTrue T.keeps_defaults → IsTrue T.sure
+        → LeavesReading (RowsOf (row_shape kinds.Memory) section.entry) (ask T.reply T.next) reencoder.old reencoder.new result }
+{
+    bodies::parse_memory_section!(reencoder, alloc, memories, section)
+}
+
+/// Maps the rows that the reader still has, each by `tag_type`, and adds each row once it is mapped.
+pub fn parse_tag_section<T: Reencode>(
+    reencoder: &mut T,
+    alloc: Global,
+    tags: &mut w::TagSection,
+    section: r::TagSectionReader<'_>,
+) -> Result<(), Error<T::Error>>
+    ensures kept { KeepsFront tags.old tags.new }
+    ensures default { IsTrue T.keeps_defaults → (c : ℕ)
+        → GivesRows (ask T.reply T.next) c (row_shape kinds.Tag) section.entry reencoder.old tags.old reencoder.new tags.new result }
+    ensures left { IsTrue T.keeps_defaults → IsTrue T.sure
+        → LeavesReading (RowsOf (row_shape kinds.Tag) section.entry) (ask T.reply T.next) reencoder.old reencoder.new result }
+{
+    bodies::parse_tag_section!(reencoder, alloc, tags, section)
 }
 
 /// Maps the rows that the reader still has, each by `parse_export`.

@@ -4,10 +4,6 @@ use Rattle.wasm_shapes.specs.declared.Visit.{Visit}
 use Rattle.wasm_shapes.specs.Tree.{Tree, visits}
 use Rattle.wasm_shapes.specs.Shape.{Shape}
 use Rattle.wasm_shapes.specs.Place.{Begins, BeginsNone}
-use Rattle.wasm_shapes.specs.declared.Space.TheVariants as space
-use Rattle.wasm_read.specs.declared.types.BlockType.{BlockType}
-use Rattle.wasm_read.specs.declared.types.BlockType.TheVariants as block
-use Rattle.wasm_read.specs.Types.{val_type_tree}
 use Rattle.wasm_read.specs.Operations.{Reading, rest_of}
 use Rattle.reencode_hooks.specs.declared.error.Error.{Error}
 use Rattle.reencode_hooks.specs.declared.error.Error.TheVariants.{ParseError, NoMemory}
@@ -22,12 +18,6 @@ abbrev pub Maps : {S E B : Type 0} → (S → Visit → Result ℕ E) → (S →
 Maps reply next old t view new result = (ceiling : ℕ) → Gives (walk (ask reply next) ceiling old t) view new result
 
 -- ---- operators
-
--- the type of a block: an index of a function type is spelled with its sign
-abbrev pub block_type_tree : BlockType → Tree
-block_type_tree block.Empty = Tree.row 0 (Tree.fixed 0x40)
-block_type_tree (block.Type_ ty) = Tree.row 1 (val_type_tree ty)
-block_type_tree (block.FuncType i) = Tree.row 2 (Tree.sx space.Type_ i)
 
 -- a reader stands further on in the same bytes
 pub record MovesOn (old new : Reading) : Type 0 where

@@ -9,7 +9,7 @@ ghost use Rattle.wasm_write.specs.Instructions as instructions;
 ghost use Rattle.wasm_write.specs.Rows as rows;
 ghost use Rattle.wasm_write.specs.Types as write;
 ghost use Rattle.reencode_items.specs.Immediates.{is_mapped};
-ghost use Rattle.reencode_items.specs.Maps.{LeavesOperator, Maps, MovesOn, ParsesOperator, block_type_tree};
+ghost use Rattle.reencode_items.specs.Maps.{LeavesOperator, Maps, MovesOn, ParsesOperator};
 
 use crate::{bodies, instructions, kinds};
 use reencode_hooks::{Error, ReencodeIndices};
@@ -273,7 +273,7 @@ pub trait ReencodeItems: ReencodeIndices {
     /// The type of a block (section 5.4.1).
     fn block_type(&mut self, arg: r::BlockType) -> Result<w::BlockType, Error<Self::Error>>
         ensures default { IsTrue Self.keeps_defaults
-            → Maps Self.reply Self.next self.old (block_type_tree arg) instructions.block_type_tree self.new result }
+            → Maps Self.reply Self.next self.old (immediates.block_type_tree arg) instructions.block_type_tree self.new result }
         ensures sure { IsTrue Self.keeps_defaults → NeverWants Self.sure result }
     {
         bodies::block_type!(self, arg)

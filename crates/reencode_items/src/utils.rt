@@ -9,7 +9,7 @@ ghost use Rattle.wasm_write.specs.Instructions as instructions;
 ghost use Rattle.wasm_write.specs.Rows as rows;
 ghost use Rattle.wasm_write.specs.Types as write;
 ghost use Rattle.reencode_items.specs.Immediates.{is_mapped};
-ghost use Rattle.reencode_items.specs.Maps.{LeavesOperator, Maps, MovesOn, ParsesOperator, block_type_tree};
+ghost use Rattle.reencode_items.specs.Maps.{LeavesOperator, Maps, MovesOn, ParsesOperator};
 
 use crate::items::ReencodeItems;
 use crate::{bodies, instructions, kinds};
@@ -301,7 +301,7 @@ pub fn block_type<T: ReencodeItems>(
     arg: r::BlockType,
 ) -> Result<w::BlockType, Error<T::Error>>
     ensures default { IsTrue T.keeps_defaults
-        → Maps T.reply T.next reencoder.old (block_type_tree arg) instructions.block_type_tree reencoder.new result }
+        → Maps T.reply T.next reencoder.old (immediates.block_type_tree arg) instructions.block_type_tree reencoder.new result }
     ensures sure { IsTrue T.keeps_defaults → NeverWants T.sure result }
 {
     bodies::block_type!(reencoder, arg)

@@ -9,7 +9,8 @@ use Rattle.wasm_shapes.specs.declared.Opcode.{Opcode}
 use Rattle.wasm_shapes.specs.Operators.{kinds_of, code_of}
 use Rattle.wasm_shapes.specs.Tree.{Tree}
 use Rattle.wasm_shapes.specs.Shape.{Shape, choice, lead}
-use Rattle.wasm_shapes.specs.Rows.{rows_then}
+use Rattle.wasm_read.specs.declared.types.BlockType.{BlockType}
+use Rattle.wasm_read.specs.declared.types.BlockType.TheVariants as block
 use Rattle.wasm_read.specs.declared.types.Imm.{Imm}
 use Rattle.wasm_read.specs.declared.types.Imm.TheVariants as imm
 use Rattle.wasm_read.specs.declared.types.Catch.{Catch}
@@ -17,7 +18,7 @@ use Rattle.wasm_read.specs.declared.types.Catch.TheVariants as catch
 use Rattle.wasm_read.specs.declared.types.Handle.{Handle}
 use Rattle.wasm_read.specs.declared.types.Handle.TheVariants as handle
 use Rattle.wasm_read.specs.declared.types.ValType.{ValType}
-use Rattle.wasm_read.specs.Types.{val_type_tree, val_types_tree, no_reading}
+use Rattle.wasm_read.specs.Types.{val_type_tree, val_types_tree, vector_tree, no_reading}
 
 -- ---- kinds
 
@@ -78,8 +79,11 @@ FitOpcode op ms = AreOfRow (kinds_of op) ms
 
 -- ---- trees
 
-abbrev pub vector_tree : List Tree → Tree
-vector_tree ts = Tree.vec (rows_then ts Tree.nil)
+-- the type of a block: an index of a function type is spelled with its sign
+abbrev pub block_type_tree : BlockType → Tree
+block_type_tree block.Empty = Tree.row 0 (Tree.fixed 0x40)
+block_type_tree (block.Type_ ty) = Tree.row 1 (val_type_tree ty)
+block_type_tree (block.FuncType i) = Tree.row 2 (Tree.sx space.Type_ i)
 
 -- a tag and a label
 abbrev pub tagged_label : Shape

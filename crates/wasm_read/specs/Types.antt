@@ -1,6 +1,5 @@
 -- The trees that the types and rows of a core module stand for, as they are read (WebAssembly Core Specification 3.0,
--- section 5.3). An index inside a recursion group stands for a leaf that no
--- shape has.
+-- section 5.3). An index inside a recursion group stands for a leaf that no shape has.
 use Rattle.std.specs.Prelude.{ℕ, ◌+◌, Bool, true, false, List, [], ◌∷◌, map, Option, Some, None}
 use Rattle.std.specs.Option.{is_some}
 use Rattle.wasm_shapes.specs.declared.Space.TheVariants as space

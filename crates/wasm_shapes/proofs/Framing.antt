@@ -9,7 +9,7 @@ use Rattle.wasm_shapes.specs.Tree.{Tree}
 use Rattle.wasm_shapes.specs.Shape.{Shape, lead}
 use Rattle.wasm_shapes.specs.Spells.{Is, Spelled, Spells}
 use Rattle.wasm_shapes.specs.Place.{Begins, BeginsNone}
-use Rattle.wasm_shapes.specs.Module.{types, functions, exports, code, section, frame, type_section, function_section, export_section, code_section}
+use Rattle.wasm_shapes.specs.Module.{types, imports, functions, tables, memories, exports, code, tags, section, frame, type_section, import_section, function_section, table_section, memory_section, export_section, code_section, tag_section}
 use Rattle.wasm_shapes.proofs.Lists.{same_length}
 use Rattle.wasm_shapes.proofs.Begins.{begins_byte, begins_seq, begins_row, begins_told, none_here, none_choice, none_lead, none_told, rows_at, NoneOf}
 
@@ -115,6 +115,30 @@ begins_code f p = begins_row {k = 3} (told_begins f p)
 pub none_code : {bytes body left : List ℕ} → FrameIs 10 bytes body left → ((t : Tree) → Spells code body t → ⊥) → BeginsNone section bytes
 none_code {body = body} {left = left} f none = none_here f.reads (none_choice section 10 (f.size ++ (body ++ left)) refl (told_none f none, tt))
 
+pub begins_imports : {bytes body left : List ℕ} {t : Tree} → FrameIs 2 bytes body left → Spells imports body t → Begins section bytes (import_section t) left
+begins_imports f p = begins_row {k = 4} (told_begins f p)
+
+pub none_imports : {bytes body left : List ℕ} → FrameIs 2 bytes body left → ((t : Tree) → Spells imports body t → ⊥) → BeginsNone section bytes
+none_imports {body = body} {left = left} f none = none_here f.reads (none_choice section 2 (f.size ++ (body ++ left)) refl (told_none f none, tt))
+
+pub begins_tables : {bytes body left : List ℕ} {t : Tree} → FrameIs 4 bytes body left → Spells tables body t → Begins section bytes (table_section t) left
+begins_tables f p = begins_row {k = 5} (told_begins f p)
+
+pub none_tables : {bytes body left : List ℕ} → FrameIs 4 bytes body left → ((t : Tree) → Spells tables body t → ⊥) → BeginsNone section bytes
+none_tables {body = body} {left = left} f none = none_here f.reads (none_choice section 4 (f.size ++ (body ++ left)) refl (told_none f none, tt))
+
+pub begins_memories : {bytes body left : List ℕ} {t : Tree} → FrameIs 5 bytes body left → Spells memories body t → Begins section bytes (memory_section t) left
+begins_memories f p = begins_row {k = 6} (told_begins f p)
+
+pub none_memories : {bytes body left : List ℕ} → FrameIs 5 bytes body left → ((t : Tree) → Spells memories body t → ⊥) → BeginsNone section bytes
+none_memories {body = body} {left = left} f none = none_here f.reads (none_choice section 5 (f.size ++ (body ++ left)) refl (told_none f none, tt))
+
+pub begins_tags : {bytes body left : List ℕ} {t : Tree} → FrameIs 13 bytes body left → Spells tags body t → Begins section bytes (tag_section t) left
+begins_tags f p = begins_row {k = 7} (told_begins f p)
+
+pub none_tags : {bytes body left : List ℕ} → FrameIs 13 bytes body left → ((t : Tree) → Spells tags body t → ⊥) → BeginsNone section bytes
+none_tags {body = body} {left = left} f none = none_here f.reads (none_choice section 13 (f.size ++ (body ++ left)) refl (told_none f none, tt))
+
 -- no section of another id begins
 pub none_other : {id : ℕ} {bytes body left : List ℕ} → (rows_at section id ≡ []) → FrameIs id bytes body left → BeginsNone section bytes
 none_other {id = id} {body = body} {left = left} e f =
@@ -150,4 +174,8 @@ none_section {bytes = bytes} none = record { none = λ text left tree p e. go te
     go text left tree (Is.later (Is.first d)) p e = at text left (omega arith) (omega arith) d p e
     go text left tree (Is.later (Is.later (Is.first d))) p e = at text left (omega arith) (omega arith) d p e
     go text left tree (Is.later (Is.later (Is.later (Is.first d)))) p e = at text left (omega arith) (omega arith) d p e
-    go text left tree (Is.later (Is.later (Is.later (Is.later d)))) p e = elim d [ ]
+    go text left tree (Is.later (Is.later (Is.later (Is.later (Is.first d))))) p e = at text left (omega arith) (omega arith) d p e
+    go text left tree (Is.later (Is.later (Is.later (Is.later (Is.later (Is.first d)))))) p e = at text left (omega arith) (omega arith) d p e
+    go text left tree (Is.later (Is.later (Is.later (Is.later (Is.later (Is.later (Is.first d))))))) p e = at text left (omega arith) (omega arith) d p e
+    go text left tree (Is.later (Is.later (Is.later (Is.later (Is.later (Is.later (Is.later (Is.first d)))))))) p e = at text left (omega arith) (omega arith) d p e
+    go text left tree (Is.later (Is.later (Is.later (Is.later (Is.later (Is.later (Is.later (Is.later d)))))))) p e = elim d [ ]

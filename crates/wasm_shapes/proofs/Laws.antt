@@ -29,8 +29,6 @@ tables_sound = record {
   ends = named_closed;
   section_sound = refl;
   section_ends = refl;
-  full_section_sound = refl;
-  full_section_ends = refl;
   frame_sound = refl;
   core_sound = refl;
 }

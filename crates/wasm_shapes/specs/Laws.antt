@@ -5,7 +5,7 @@ use Rattle.wasm_shapes.specs.Shape.{Shape, Named, shape_of, closed}
 use Rattle.wasm_shapes.specs.Sound.{sound}
 use Rattle.wasm_shapes.specs.Spells.{Spells}
 use Rattle.wasm_shapes.specs.Fits.{Fits}
-use Rattle.wasm_shapes.specs.Module.{core_module, core_tree, CoreReading, section, full_section, frame}
+use Rattle.wasm_shapes.specs.Module.{core_module, core_tree, CoreReading, section, frame}
 
 -- no spelling of a closed shape begins another, and one text has one tree
 abbrev pub IsUnique : Type 0
@@ -25,14 +25,12 @@ IsReadBack = (s : Shape) (x : List ℕ) (t : Tree) (answers : List ℕ) → ((k 
 abbrev pub IsReadBackAsIs : Type 0
 IsReadBackAsIs = (s : Shape) (x : List ℕ) (t : Tree) → Spells s x t → Fits t (2 ^ 32 - 1) → Spells s (normal t) t
 
--- the tables pass the test: each named shape, the sections in force and to come, and the whole module
+-- the tables pass the test: each named shape, the sections, their frames, and the whole module
 pub record AreSound : Type 0 where
   pub named : (n : Named) → sound (shape_of n) ≡ true
   pub ends : (n : Named) → closed (shape_of n) ≡ true
   pub section_sound : sound section ≡ true
   pub section_ends : closed section ≡ true
-  pub full_section_sound : sound full_section ≡ true
-  pub full_section_ends : closed full_section ≡ true
   pub frame_sound : sound frame ≡ true
   pub core_sound : sound core_module ≡ true
 

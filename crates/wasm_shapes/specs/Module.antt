@@ -4,7 +4,7 @@ use Rattle.wasm_shapes.specs.declared.SectionId.{SectionId}
 use Rattle.wasm_shapes.specs.declared.SectionId.TheVariants as id
 use Rattle.wasm_shapes.specs.declared.Space.TheVariants as space
 use Rattle.wasm_shapes.specs.Tree.{Tree}
-use Rattle.wasm_shapes.specs.Shape.{Shape, Named, choice, lead, rows_and, table_type, memory_type, tag_type, entity}
+use Rattle.wasm_shapes.specs.Shape.{Shape, Named, choice, lead, table_type, memory_type, tag_type, entity}
 use Rattle.wasm_shapes.specs.Spells.{Spells}
 use Rattle.wasm_shapes.specs.Place.{BeginsNone}
 
@@ -73,21 +73,10 @@ abbrev pub framed : SectionId → ℕ → Shape → Shape
 framed k n body = Shape.told k (lead n (Shape.sized body))
 
 -- the sections that a module has
-abbrev pub section_rows : List Shape
-section_rows =
-    framed id.Type_ 1 types ∷ framed id.Function 3 functions ∷ framed id.Export 7 exports ∷ framed id.Code 10 code ∷ []
-
--- the sections whose bodies have tables, but which no module has yet
-abbrev pub coming_rows : List Shape
-coming_rows =
-    framed id.Import 2 imports ∷ framed id.Table 4 tables ∷ framed id.Memory 5 memories ∷ framed id.Tag 13 tags ∷ []
-
--- the sections in force, and these with those to come
 abbrev pub section : Shape
-section = choice section_rows
-
-abbrev pub full_section : Shape
-full_section = choice (rows_and section_rows coming_rows)
+section = choice (
+    framed id.Type_ 1 types ∷ framed id.Function 3 functions ∷ framed id.Export 7 exports ∷ framed id.Code 10 code ∷
+    framed id.Import 2 imports ∷ framed id.Table 4 tables ∷ framed id.Memory 5 memories ∷ framed id.Tag 13 tags ∷ [])
 
 abbrev pub sections : Shape
 sections = Shape.sections section

@@ -1,0 +1,20 @@
+use Rattle.std.proofs.Common.{ℕ, IsTrue}
+use Rattle.wasm_shapes.specs.declared.SectionId.TheVariants as kinds
+use Rattle.reencode_hooks.specs.Run.{ask}
+use Rattle.reencode_core.specs.Rows.{KeepsFront}
+use Rattle.reencode_core.specs.Sections.{row_shape}
+use Rattle.reencode_core.proofs.RowLoop.{RowsDone}
+use Rattle.reencode_core.proofs.reencode.Reencode.parse_tag_section.Given as goal
+
+-- the rows so far are walked and added
+abbrev pub invariant-rows : goal.invariant-rows
+invariant-rows g l =
+    record {
+      kept : KeepsFront l.initial.tags l.tags;
+      default : IsTrue g.Self.ReencodeIndices.keeps_defaults → (c : ℕ)
+          → RowsDone (ask g.Self.ReencodeIndices.reply g.Self.ReencodeIndices.next) c (row_shape kinds.Tag)
+          l.initial.rows l.initial.self l.initial.tags l.rows l.self l.tags;
+    }
+
+abbrev pub decreases-rows : goal.decreases-rows
+decreases-rows g l = l.rows.left
