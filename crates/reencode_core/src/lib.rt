@@ -6,6 +6,7 @@ mod errors;
 mod imports;
 mod plain;
 mod reencode;
+mod rule;
 #[cfg(test)]
 mod tests;
 #[cfg(test)]
@@ -15,3 +16,4 @@ pub mod utils;
 mod utils_tests;
 
 pub use reencode::{Reencode, reencode_core};
+pub use rule::reencode_by_rule;
