@@ -8,7 +8,7 @@ ghost use Rattle.wasm_read.specs.Immediates.{locals_tree};
 ghost use Rattle.wasm_read.specs.Operations.{rest_of, frame_row, body_tree};
 ghost use Rattle.wasm_read.specs.Reading.{ReadsNone, ReadsNoneOrWants};
 
-use crate::entries::{behind_vec, front_vec};
+use crate::entries::{behind_locals, front_vec};
 use crate::operators::OperatorsReader;
 use crate::payloads::front_sized;
 use crate::types::{FunctionBody, ValType};
@@ -32,8 +32,10 @@ impl<'a> FunctionBody<'a> {
     /// `Read` comes exactly where the body does not begin with a vector of locals, with the place 0. Memory is taken
     /// for no more locals than the body can hold.
     pub fn locals(&self, alloc: Global) -> Result<List<(u32, ValType)>, Fault>
-        ensures ok { IfOk result (λ locals. (rest : List ℕ) × Begins (Shape.vec local_row) self.now.bytes.now (locals_tree locals) rest) }
-        ensures err { IfErr result (λ e. ReadsNoneOrWants e 0 (BeginsNone (Shape.vec local_row) self.now.bytes.now)) }
+        ensures ok { IfOk result (λ locals. (rest : List ℕ)
+            × Begins (Shape.vec local_row) self.now.bytes.now (locals_tree locals) rest) }
+        ensures err { IfErr result (λ e.
+            ReadsNoneOrWants e 0 (BeginsNone (Shape.vec local_row) self.now.bytes.now)) }
     {
         match front_vec(alloc, self.bytes) {
             Ok(Some((locals, _))) => Ok(locals),
@@ -48,12 +50,14 @@ impl<'a> FunctionBody<'a> {
     /// `Read` comes exactly where the body does not begin with a vector of locals, with the place 0. It is the only
     /// error, and no memory is taken.
     pub fn operators(&self) -> Result<OperatorsReader<'a>, Fault>
-        ensures ok { IfOk result (λ reader. (locals : Tree) × Begins (Shape.vec local_row) self.now.bytes.now locals (rest_of reader)) }
+        ensures ok { IfOk result (λ reader. (locals : Tree)
+            × Begins (Shape.vec local_row) self.now.bytes.now locals (rest_of reader)) }
         ensures bytes { IfOk result (λ reader. reader.bytes ≡ self.now.bytes.now) }
-        ensures err { IfErr result (λ e. ReadsNone e 0 (BeginsNone (Shape.vec local_row) self.now.bytes.now)) }
+        ensures err { IfErr result (λ e.
+            ReadsNone e 0 (BeginsNone (Shape.vec local_row) self.now.bytes.now)) }
     {
         let bytes = self.bytes;
-        match behind_vec::<(u32, ValType)>(bytes) {
+        match behind_locals(bytes) {
             Some(rest) => Ok(OperatorsReader::from_place(bytes, bytes.len() - rest.len())),
             None => Err(Fault::Read(ReadError { at: 0 })),
         }

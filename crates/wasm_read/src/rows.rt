@@ -55,9 +55,11 @@ impl<'a> Rows<'a> {
 
     /// The bytes where a row is due, or none at the end.
     pub fn due(&self) -> Result<Option<&'a [u8]>, Fault>
-        ensures due { IfOk result (λ o. IfSome o (λ bytes. (bytes.now ≡ self.now.rest) × (0 < self.now.left))) }
+        ensures due { IfOk result (λ o. IfSome o (λ bytes.
+            (bytes.now ≡ self.now.rest) × (0 < self.now.left))) }
         ensures ended { IfOk result (λ o. IfNone o ((self.now.left ≡ 0) × (self.now.rest ≡ []))) }
-        ensures err { IfErr result (λ e. ReadsNone e (place_of self.now) ((self.now.left ≡ 0) × (self.now.rest ≢ []))) }
+        ensures err { IfErr result (λ e.
+            ReadsNone e (place_of self.now) ((self.now.left ≡ 0) × (self.now.rest ≢ []))) }
     {
         if self.left > 0 {
             Ok(Some(self.rest))
@@ -71,7 +73,11 @@ impl<'a> Rows<'a> {
     /// A row was read, and these bytes are left behind it.
     pub fn advance(&mut self, rest: &'a [u8])
         requires { 0 < self.old.left }
-        ensures { self.new ≡ record { rest = rest.now; left = self.old.left - 1; len = self.old.len } }
+        ensures { self.new ≡ record {
+          rest = rest.now;
+          left = self.old.left - 1;
+          len = self.old.len;
+        } }
     {
         self.rest = rest;
         self.left -= 1;

@@ -27,7 +27,8 @@ pub trait ReadRow<'a>: SectionKind {
 
     /// The row at the front of some bytes, and the bytes behind it.
     fn front(alloc: Global, bytes: &'a [u8]) -> Result<Option<(Self::Row, &'a [u8])>, NoMemory>
-        ensures some { IfOk result (λ o. IfSome o (λ r. Begins Self.shape bytes.now (tree r.0) r.1.now)) }
+        ensures some { IfOk result (λ o. IfSome o (λ r.
+            Begins Self.shape bytes.now (tree r.0) r.1.now)) }
         ensures beside { IfOk result (λ o. IfSome o (λ r. beside bytes.now r.0)) }
         ensures none { IfOk result (λ o. IfNone o (BeginsNone Self.shape bytes.now)) }
         ensures wants { IfErr result (λ _. IsTrue takes_memory) };

@@ -1,7 +1,7 @@
 //! The readers of the sections of rows (WebAssembly Core Specification 3.0, section 5.5).
 ghost use Rattle.std.specs.Prelude.{true};
 ghost use Rattle.wasm_read.specs.Operations.{body_tree};
-ghost use Rattle.wasm_read.specs.Types.{group_tree, import_tree, function_tree, table_tree, memory_type_tree, tag_type_tree, export_tree};
+ghost use Rattle.wasm_read.specs.Types.{group_tree, import_tree, function_tree, table_tree, memory_type_tree, tag_type_tree, export_tree, ExportKind};
 
 use crate::code::front_body;
 use crate::externals::{front_import, front_memory_type, front_table, front_tag_type};
@@ -107,6 +107,8 @@ impl<'a> ReadRow<'a> for kinds::Exports {
     type Row = Export<'a>;
 
     ghost tree = { export_tree };
+
+    ghost beside = { ExportKind };
 
     #[inline]
     fn front(_alloc: Global, bytes: &'a [u8]) -> Result<Option<(Export<'a>, &'a [u8])>, NoMemory> {
