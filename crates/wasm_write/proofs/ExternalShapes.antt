@@ -15,7 +15,8 @@ use Rattle.wasm_write.specs.declared.types.EntityType.{EntityType}
 use Rattle.wasm_write.specs.declared.types.EntityType.TheVariants as variant
 use Rattle.wasm_write.specs.declared.types.Imports.{Imports}
 use Rattle.wasm_write.specs.declared.types.Imports.TheVariants as imported
-use Rattle.wasm_write.specs.Types.{led, limits_flags, bounds_tree, paged_tree, limits_tree, table_type_tree, memory_type_tree, global_flags, global_type_tree, tag_type_tree, entity_tree}
+use Rattle.wasm_shapes.specs.Types.{led, limits_flags, bounds_tree, paged_tree, limits_tree, global_flags}
+use Rattle.wasm_write.specs.Types.{table_type_tree, memory_type_tree, global_type_tree, tag_type_tree, entity_tree}
 use Rattle.wasm_write.specs.Rows.{import_tree}
 use Rattle.wasm_write.proofs.TypeShapes.{frameless_fits, reference_is, reference_frameless, value_is, value_frameless}
 

@@ -8,7 +8,8 @@ use Rattle.wasm_shapes.specs.Spells.{Is, Spelled, Spells}
 use Rattle.wasm_shapes.specs.Module.{function_row, export_row}
 use Rattle.wasm_write.specs.declared.types.ExportKind.{ExportKind}
 use Rattle.wasm_write.specs.declared.types.ExportKind.TheVariants as export
-use Rattle.wasm_write.specs.Rows.{function_tree, item_tree, export_tree}
+use Rattle.wasm_shapes.specs.Types.{function_tree}
+use Rattle.wasm_write.specs.Rows.{item_tree, export_tree}
 
 pub function_spelled : (i : ℕ) → i < 2 ^ 32 → Spells function_row (normal (function_tree i)) (function_tree i)
 function_spelled i small = record { shaped = Is.ix; spelled = leb_spells i small }
