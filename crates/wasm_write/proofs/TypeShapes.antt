@@ -222,8 +222,8 @@ group_of_frameless false [] = refl
 
 -- what is in range spells a group
 pub group_spelled : (group : RecGroup) → InRange (group_tree group) →
-    Spells (Shape.ref Named.group) (normal (group_tree group)) (group_tree group)
-group_spelled group r = record {
+    ∥ Spells (Shape.ref Named.group) (normal (group_tree group)) (group_tree group) ∥₁
+group_spelled group r = ∣ record {
   shaped = Is.ref (group_of_is group.explicit group.types group.bare_holds_one);
   spelled = read_back (group_tree group) r (frameless_fits (group_tree group) (group_of_frameless group.explicit group.types));
-}
+} ∣₁

@@ -166,7 +166,11 @@ fn write_parts(out: &mut Vec<u8>, ty: &SubType) -> Result<(), WriteFault>
     ensures large { IfErr result (λ e. IfTooLarge e (IsTooLarge (counts (Tree.pair (supertypes_tree ty.now.supertype_idxs) (composite_tree ty.now.composite_type))))) }
 {
     match write_vec::<InTypes, _>(out, ty.supertype_idxs.as_slice()) {
-        Ok(()) => write_composite(out, &ty.composite_type),
+        Ok(()) => {}
+        Err(fault) => return Err(fault),
+    }
+    match write_composite(out, &ty.composite_type) {
+        Ok(()) => Ok(()),
         Err(fault) => Err(fault),
     }
 }

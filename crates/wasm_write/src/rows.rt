@@ -16,6 +16,7 @@ impl RowOf<kinds::Types> for RecGroup {
 
     ghost tree = { group_tree };
 
+    #[tactic(auto, using(crate::proofs::TypeShapes::group_spelled))]
     fn write(&self, out: &mut Vec<u8>) -> Result<(), WriteFault> {
         write_group(out, self)
     }
@@ -26,6 +27,7 @@ impl<'a> RowOf<kinds::Imports> for Imports<'a> {
 
     ghost tree = { import_tree };
 
+    #[tactic(auto, using(crate::proofs::ExternalShapes::import_spelled))]
     fn write(&self, out: &mut Vec<u8>) -> Result<(), WriteFault> {
         match self {
             Imports::Single(import) => write_import(out, import),
@@ -38,6 +40,7 @@ impl RowOf<kinds::Functions> for u32 {
 
     ghost tree = { function_tree };
 
+    #[tactic(auto, using(crate::proofs::RowSpelling::function_spelled))]
     fn write(&self, out: &mut Vec<u8>) -> Result<(), WriteFault> {
         match write_u32(out, *self) {
             Ok(()) => Ok(()),
@@ -51,6 +54,7 @@ impl RowOf<kinds::Tables> for TableType {
 
     ghost tree = { table_type_tree };
 
+    #[tactic(auto, using(crate::proofs::ExternalShapes::table_type_spelled))]
     fn write(&self, out: &mut Vec<u8>) -> Result<(), WriteFault> {
         match write_table_type(out, *self) {
             Ok(()) => Ok(()),
@@ -64,6 +68,7 @@ impl RowOf<kinds::Memories> for MemoryType {
 
     ghost tree = { memory_type_tree };
 
+    #[tactic(auto, using(crate::proofs::ExternalShapes::memory_type_spelled))]
     fn write(&self, out: &mut Vec<u8>) -> Result<(), WriteFault> {
         match write_memory_type(out, *self) {
             Ok(()) => Ok(()),
@@ -77,6 +82,7 @@ impl RowOf<kinds::Tags> for TagType {
 
     ghost tree = { tag_type_tree };
 
+    #[tactic(auto, using(crate::proofs::ExternalShapes::tag_type_spelled))]
     fn write(&self, out: &mut Vec<u8>) -> Result<(), WriteFault> {
         match write_tag_type(out, *self) {
             Ok(()) => Ok(()),
@@ -90,6 +96,7 @@ impl<'a> RowOf<kinds::Exports> for Export<'a> {
 
     ghost tree = { λ row. export_tree row.name.now row.kind row.index };
 
+    #[tactic(auto, using(crate::proofs::RowSpelling::export_spelled))]
     fn write(&self, out: &mut Vec<u8>) -> Result<(), WriteFault> {
         match write_name(out, self.name) {
             Ok(()) => {}
