@@ -1,5 +1,6 @@
 -- Functions, code sections and constant expressions that are held, and one operator or row more.
-use Rattle.std.proofs.Common.{◌≡◌, ℕ, ◌+◌, ◌<◌, ◌^◌, List, [], ◌∷◌, ◌++◌, length, map, refl, sym, ap, ◌∙◌, append-nil, append_assoc, subst, true, false, arith, ◌≢◌, ◌&&◌, Bool, nat_le, if◌then◌else◌, Option, Some}
+use Rattle.std.specs.Prelude.{IfErr}
+use Rattle.std.proofs.Common.{◌≡◌, ℕ, ◌+◌, ◌-◌, ◌<◌, ◌≤◌, ◌^◌, ◌⊎◌, inr, Result, Ok, Err, List, [], ◌∷◌, ◌++◌, length, map, refl, sym, ap, ◌∙◌, append-nil, append_assoc, subst, true, false, arith, ◌≢◌, ◌&&◌, Bool, nat_le, if◌then◌else◌, Option, Some}
 use Rattle.std.proofs.lemmas.Bool.{leb-true}
 use Rattle.std.specs.Coded.{Coded-set, coded_ℕ, coded_list}
 use mathlib.Core.Logic.{∥∥₁_elim, ∥∥₁_map, ∥∥₁_prop}
@@ -13,13 +14,18 @@ use Rattle.wasm_shapes.specs.Module.{local_row, body as body_shape, code_row}
 use Rattle.wasm_shapes.specs.Spells.{Is, Spelled, Spells}
 use Rattle.wasm_shapes.specs.Fits.{InRange}
 use Rattle.wasm_shapes.proofs.Lists.{both}
-use Rattle.wasm_shapes.proofs.ReadBack.{read_back}
+use Rattle.wasm_shapes.proofs.ReadBack.{read_back, spelled_in_range, in_range_had}
 use Rattle.wasm_write.specs.declared.types.ValType.{ValType}
 use Rattle.wasm_shapes.specs.Types.{rows_tree, vector_tree}
+use Rattle.wasm_write.specs.declared.fault.WriteFault.{WriteFault}
+use Rattle.wasm_write.specs.declared.fault.WriteFault.TheVariants.{TooLarge, NoMemory}
+use Rattle.wasm_write.specs.Counts.{counts, IsTooLarge}
+use Rattle.wasm_write.specs.Faults.{IfTooLarge}
 use Rattle.wasm_write.specs.Held.{AreHeld}
 use Rattle.wasm_write.specs.Instructions.{Parts, imms_tree, instruction_tree}
 use Rattle.wasm_write.specs.Bodies.{Body, local_tree, with_operator, function_body, code_tree, IsBody, HeldBody, HeldBody-one, held_body, HeldOperators, HeldOperators-one, held_operators}
 use Rattle.wasm_write.proofs.Holding.{snoc_is, snoc_spelled, snoc_normal, snoc_length, are_none, are_more}
+use Rattle.wasm_write.proofs.SmallCounts.{counts_small, last_is_large}
 use Rattle.wasm_write.proofs.TypeShapes.{items_are, items_frameless, frameless_fits, value_is, value_frameless}
 
 abbrev with_locals : List (ℕ × ValType) → Body
@@ -110,6 +116,20 @@ framed_spells f small p =
       shaped = Is.sized q.shaped;
       spelled = (leb (length body), body, refl, leb_spells (length body) small, q.spelled);
     })
+
+-- a function that fits is refused for the number of the rows alone
+pub code_large : {A : Type 0} (r : Result A WriteFault) (f : Body) (ceiling n : ℕ) →
+    ∥ Spells body_shape (normal (function_body f)) (function_body f) ∥₁ → length (normal (function_body f)) ≤ ceiling →
+    IfErr r (λ e. IfTooLarge e (IsTooLarge (counts (code_tree f) ++ n ∷ []))) →
+    IfErr r (λ e. IfTooLarge e (λ size. ((size ≡ length (normal (function_body f))) × (ceiling < size))
+        ⊎ ((size ≡ n) × (2 ^ 32 - 1 < size) × (length (normal (function_body f)) ≤ ceiling))))
+code_large (Ok a) f ceiling n p fits q = tt
+code_large (Err NoMemory) f ceiling n p fits q = tt
+code_large (Err (TooLarge size)) f ceiling n p fits q =
+    let body = function_body f in
+    let ranged = in_range_had body (∥∥₁_map p (λ s. spelled_in_range body (normal body) s.spelled)) in
+    let last = last_is_large (counts body) n size (counts_small body ranged) q in
+    inr (last.0, last.1, fits)
 
 -- ---- a constant expression
 

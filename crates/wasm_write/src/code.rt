@@ -48,6 +48,7 @@ struct Framed<'a> {
 impl<'a> RowOf<kinds::Code> for Framed<'a> {
     ghost tree = { λ row. code_tree row.function.now };
 
+    #[tactic(auto, using(crate::proofs::HoldingBodies::framed_spells))]
     fn write(&self, out: &mut Vec<u8>) -> Result<(), WriteFault> {
         let body = self.function.as_bytes();
         match write_behind(out, body.len() as u32, body) {
