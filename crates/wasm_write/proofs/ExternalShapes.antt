@@ -2,7 +2,7 @@
 use Rattle.std.specs.Option.{is_some}
 use Rattle.std.proofs.Common.{◌≡◌, ℕ, zero, suc, Bool, true, false, List, [], ◌∷◌, ◌++◌, get_or, Option, Some, None, refl, sym, ap₂, subst}
 use Rattle.wasm_shapes.specs.Tree.{Tree, normal, frames}
-use Rattle.wasm_shapes.specs.Shape.{Shape, Named, choice, lead, bounds, paged, four_limits, table_limits, memory_type, table_type, global_type, tag_type, entity}
+use Rattle.wasm_shapes.specs.Shape.{Shape, choice, lead, bounds, paged, four_limits, memory_type, table_type, global_type, tag_type, entity}
 use Rattle.wasm_shapes.specs.Module.{import_row}
 use Rattle.wasm_shapes.specs.Spells.{Is, Spells}
 use Rattle.wasm_shapes.specs.Fits.{InRange}

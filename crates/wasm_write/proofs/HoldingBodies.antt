@@ -1,6 +1,6 @@
 -- Functions, code sections and constant expressions that are held, and one operator or row more.
 use Rattle.std.specs.Prelude.{IfErr}
-use Rattle.std.proofs.Common.{◌≡◌, ℕ, ◌+◌, ◌-◌, ◌<◌, ◌≤◌, ◌^◌, ◌⊎◌, inr, Result, Ok, Err, List, [], ◌∷◌, ◌++◌, length, map, refl, sym, ap, ◌∙◌, append-nil, append_assoc, subst, true, false, arith, ◌≢◌, ◌&&◌, Bool, nat_le, if◌then◌else◌, Option, Some}
+use Rattle.std.proofs.Common.{◌≡◌, ℕ, ◌-◌, ◌<◌, ◌≤◌, ◌^◌, ◌⊎◌, inr, Result, Ok, Err, List, [], ◌∷◌, ◌++◌, length, map, refl, sym, ap, ◌∙◌, append-nil, append_assoc, subst, true, false, arith, ◌≢◌, ◌&&◌, Bool, nat_le, if◌then◌else◌, Option, Some}
 use Rattle.std.proofs.lemmas.Bool.{leb-true}
 use Rattle.std.specs.Coded.{Coded-set, coded_ℕ, coded_list}
 use mathlib.Core.Logic.{∥∥₁_elim, ∥∥₁_map, ∥∥₁_prop}
@@ -122,7 +122,7 @@ pub code_large : {A : Type 0} (r : Result A WriteFault) (f : Body) (ceiling n : 
     ∥ Spells body_shape (normal (function_body f)) (function_body f) ∥₁ → length (normal (function_body f)) ≤ ceiling →
     IfErr r (λ e. IfTooLarge e (IsTooLarge (counts (code_tree f) ++ n ∷ []))) →
     IfErr r (λ e. IfTooLarge e (λ size. ((size ≡ length (normal (function_body f))) × (ceiling < size))
-        ⊎ ((size ≡ n) × (2 ^ 32 - 1 < size) × (length (normal (function_body f)) ≤ ceiling))))
+    ⊎ ((size ≡ n) × (2 ^ 32 - 1 < size) × (length (normal (function_body f)) ≤ ceiling))))
 code_large (Ok a) f ceiling n p fits q = tt
 code_large (Err NoMemory) f ceiling n p fits q = tt
 code_large (Err (TooLarge size)) f ceiling n p fits q =

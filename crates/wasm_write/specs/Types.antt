@@ -113,14 +113,21 @@ described_tree descriptor t = behind_descriptor (option_map type_index descripto
 abbrev pub describing_tree : Option ℕ → Tree → Tree
 describing_tree describes t = behind_described (option_map type_index describes) t
 
+-- one that is not shared
+abbrev pub unshared_tree : CompositeType → Tree
+unshared_tree ty = describing_tree ty.describes (described_tree ty.descriptor (inner_tree ty.inner))
+
 abbrev pub composite_tree : CompositeType → Tree
-composite_tree ty =
-    shared_composite_tree ty.shared (describing_tree ty.describes (described_tree ty.descriptor (inner_tree ty.inner)))
+composite_tree ty = shared_composite_tree ty.shared (unshared_tree ty)
 
 -- ---- subtypes and groups
 
 abbrev pub supertypes_tree : List ℕ → Tree
 supertypes_tree supertypes = vector_tree (map type_index supertypes)
+
+-- the supertypes and the composite type of a subtype
+abbrev pub parts_tree : SubType → Tree
+parts_tree ty = Tree.pair (supertypes_tree ty.supertype_idxs) (composite_tree ty.composite_type)
 
 abbrev pub sub_type_tree : SubType → Tree
 sub_type_tree ty = sub_type_of ty.is_final (map type_index ty.supertype_idxs) (composite_tree ty.composite_type)

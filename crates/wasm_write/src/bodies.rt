@@ -69,7 +69,8 @@ impl Function {
     ///
     /// `TooLarge` comes exactly where there are more than 2^32 - 1 pairs, with their number.
     pub fn new(alloc: Global, locals: &List<(u32, ValType)>) -> Result<Function, WriteFault>
-        ensures ok { IfOk result (λ f. f ≡ record { locals = map local_tree locals.now; operators = [] }) }
+        ensures ok { IfOk result
+            (λ f. f ≡ record { locals = map local_tree locals.now; operators = [] }) }
         ensures fits { OnOk result (length locals.now < 2 ^ 32) }
         ensures large { IfErr result (λ e. IfTooLarge e
             (λ size. (size ≡ length locals.now) × (2 ^ 32 - 1 < size))) }
@@ -90,7 +91,8 @@ impl Function {
 
     /// Adds an operator. The one refusal is want of memory, and changes nothing.
     pub fn instruction(&mut self, instruction: &Instruction<'_>) -> Result<(), WriteFault>
-        ensures ok { OnOk result (self.new ≡ with_operator self.old (instruction_tree instruction.now)) }
+        ensures ok { OnOk result
+            (self.new ≡ with_operator self.old (instruction_tree instruction.now)) }
         ensures err { OnErr result (self.new ≡ self.old) }
         ensures wants { IfErr result (λ e. e ≡ WriteFault.NoMemory) }
     {

@@ -104,7 +104,8 @@ impl Section for CodeSection {
 
     /// Appends the number of the rows and the rows, which read back as they were added.
     fn encode_body(&self, out: &mut Vec<u8>) -> Result<(), NoMemory>
-        ensures ok { OnOk result (out.new.items ≡ out.old.items ++ normal (vector_tree self.now.rows)) }
+        ensures ok { OnOk result
+            (out.new.items ≡ out.old.items ++ normal (vector_tree self.now.rows)) }
         ensures err { OnErr result (take (vec_len out.old) out.new.items ≡ out.old.items) }
         ensures spells { OnOk result (BodySpells code_row self.now.rows) }
     {

@@ -33,7 +33,8 @@ fn flags_of(maximum: bool, shared: bool, wide: bool, page: bool) -> u8
 
 /// Appends the minimum and the maximum, or a part of them where memory is wanting.
 fn write_bounds(out: &mut Vec<u8>, minimum: u64, maximum: Option<u64>) -> Result<(), NoMemory>
-    ensures ok { OnOk result (out.new.items ≡ out.old.items ++ normal (bounds_tree minimum maximum)) }
+    ensures ok { OnOk result
+        (out.new.items ≡ out.old.items ++ normal (bounds_tree minimum maximum)) }
     ensures in_range { OnOk result (InRange (bounds_tree minimum maximum)) }
     ensures err { OnErr result (take (vec_len out.old) out.new.items ≡ out.old.items) }
 {
@@ -53,7 +54,8 @@ fn write_paged(
     maximum: Option<u64>,
     page: Option<u32>,
 ) -> Result<(), NoMemory>
-    ensures ok { OnOk result (out.new.items ≡ out.old.items ++ normal (paged_tree page (bounds_tree minimum maximum))) }
+    ensures ok { OnOk result
+        (out.new.items ≡ out.old.items ++ normal (paged_tree page (bounds_tree minimum maximum))) }
     ensures in_range { OnOk result (InRange (paged_tree page (bounds_tree minimum maximum))) }
     ensures err { OnErr result (take (vec_len out.old) out.new.items ≡ out.old.items) }
 {
@@ -74,8 +76,11 @@ fn write_limits(
     maximum: Option<u64>,
     page: Option<u32>,
 ) -> Result<(), NoMemory>
-    ensures ok { OnOk result (out.new.items ≡ out.old.items ++ normal (limits_tree flags (paged_tree page (bounds_tree minimum maximum)))) }
-    ensures in_range { OnOk result (InRange (limits_tree flags (paged_tree page (bounds_tree minimum maximum)))) }
+    ensures ok { OnOk result
+        (out.new.items ≡ out.old.items
+        ++ normal (limits_tree flags (paged_tree page (bounds_tree minimum maximum)))) }
+    ensures in_range { OnOk result
+        (InRange (limits_tree flags (paged_tree page (bounds_tree minimum maximum)))) }
     ensures err { OnErr result (take (vec_len out.old) out.new.items ≡ out.old.items) }
 {
     match write_byte(out, flags) {
@@ -173,7 +178,8 @@ pub(crate) fn write_import(out: &mut Vec<u8>, import: &Import<'_>) -> Result<(),
     ensures ok { OnOk result (out.new.items ≡ out.old.items ++ normal (single_tree import.now)) }
     ensures in_range { OnOk result (InRange (single_tree import.now)) }
     ensures err { OnErr result (take (vec_len out.old) out.new.items ≡ out.old.items) }
-    ensures large { IfErr result (λ e. IfTooLarge e (IsTooLarge (counts (single_tree import.now)))) }
+    ensures large { IfErr result (λ e. IfTooLarge e
+        (IsTooLarge (counts (single_tree import.now)))) }
 {
     match write_name(out, import.module) {
         Ok(()) => {}

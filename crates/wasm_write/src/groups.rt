@@ -1,11 +1,11 @@
 //! Composite types, subtypes and groups in their normal spelling.
 ghost use Rattle.std.specs.Prelude.{◌≡◌, ◌++◌, take, vec_len, OnOk, OnErr, IfErr};
-ghost use Rattle.wasm_shapes.specs.Tree.{Tree, normal};
+ghost use Rattle.wasm_shapes.specs.Tree.{normal};
 ghost use Rattle.wasm_shapes.specs.Fits.{InRange};
 ghost use Rattle.wasm_write.specs.Counts.{counts, IsTooLarge};
 ghost use Rattle.wasm_write.specs.Faults.{IfTooLarge};
 ghost use Rattle.wasm_shapes.specs.Types.{led};
-ghost use Rattle.wasm_write.specs.Types.{supertypes_tree, func_type_tree, inner_tree, described_tree, describing_tree, composite_tree, sub_type_tree, group_tree};
+ghost use Rattle.wasm_write.specs.Types.{func_type_tree, inner_tree, described_tree, unshared_tree, composite_tree, parts_tree, sub_type_tree, group_tree};
 
 use crate::fault::WriteFault;
 use crate::types::{
@@ -111,10 +111,12 @@ fn write_described(
     descriptor: Option<u32>,
     ty: &CompositeInnerType,
 ) -> Result<(), WriteFault>
-    ensures ok { OnOk result (out.new.items ≡ out.old.items ++ normal (described_tree descriptor (inner_tree ty.now))) }
+    ensures ok { OnOk result
+        (out.new.items ≡ out.old.items ++ normal (described_tree descriptor (inner_tree ty.now))) }
     ensures in_range { OnOk result (InRange (described_tree descriptor (inner_tree ty.now))) }
     ensures err { OnErr result (take (vec_len out.old) out.new.items ≡ out.old.items) }
-    ensures large { IfErr result (λ e. IfTooLarge e (IsTooLarge (counts (described_tree descriptor (inner_tree ty.now))))) }
+    ensures large { IfErr result (λ e. IfTooLarge e
+        (IsTooLarge (counts (described_tree descriptor (inner_tree ty.now))))) }
 {
     match descriptor {
         None => write_inner(out, ty),
@@ -127,10 +129,10 @@ fn write_described(
 
 /// Appends a composite type that is not shared, or a part of it where that is refused.
 fn write_describing(out: &mut Vec<u8>, ty: &CompositeType) -> Result<(), WriteFault>
-    ensures ok { OnOk result (out.new.items ≡ out.old.items ++ normal (describing_tree ty.now.describes (described_tree ty.now.descriptor (inner_tree ty.now.inner)))) }
-    ensures in_range { OnOk result (InRange (describing_tree ty.now.describes (described_tree ty.now.descriptor (inner_tree ty.now.inner)))) }
+    ensures ok { OnOk result (out.new.items ≡ out.old.items ++ normal (unshared_tree ty.now)) }
+    ensures in_range { OnOk result (InRange (unshared_tree ty.now)) }
     ensures err { OnErr result (take (vec_len out.old) out.new.items ≡ out.old.items) }
-    ensures large { IfErr result (λ e. IfTooLarge e (IsTooLarge (counts (describing_tree ty.now.describes (described_tree ty.now.descriptor (inner_tree ty.now.inner)))))) }
+    ensures large { IfErr result (λ e. IfTooLarge e (IsTooLarge (counts (unshared_tree ty.now)))) }
 {
     match ty.describes {
         None => write_described(out, ty.descriptor, &ty.inner),
@@ -160,10 +162,10 @@ fn write_composite(out: &mut Vec<u8>, ty: &CompositeType) -> Result<(), WriteFau
 
 /// Appends the supertypes and the composite type of a subtype, or a part of them where that is refused.
 fn write_parts(out: &mut Vec<u8>, ty: &SubType) -> Result<(), WriteFault>
-    ensures ok { OnOk result (out.new.items ≡ out.old.items ++ normal (Tree.pair (supertypes_tree ty.now.supertype_idxs) (composite_tree ty.now.composite_type))) }
-    ensures in_range { OnOk result (InRange (Tree.pair (supertypes_tree ty.now.supertype_idxs) (composite_tree ty.now.composite_type))) }
+    ensures ok { OnOk result (out.new.items ≡ out.old.items ++ normal (parts_tree ty.now)) }
+    ensures in_range { OnOk result (InRange (parts_tree ty.now)) }
     ensures err { OnErr result (take (vec_len out.old) out.new.items ≡ out.old.items) }
-    ensures large { IfErr result (λ e. IfTooLarge e (IsTooLarge (counts (Tree.pair (supertypes_tree ty.now.supertype_idxs) (composite_tree ty.now.composite_type))))) }
+    ensures large { IfErr result (λ e. IfTooLarge e (IsTooLarge (counts (parts_tree ty.now)))) }
 {
     match write_vec::<InTypes, _>(out, ty.supertype_idxs.as_slice()) {
         Ok(()) => {}
@@ -177,10 +179,12 @@ fn write_parts(out: &mut Vec<u8>, ty: &SubType) -> Result<(), WriteFault>
 
 /// Appends supertypes and a composite type behind a byte, or a part of them where that is refused.
 fn write_subtype(out: &mut Vec<u8>, byte: u8, ty: &SubType) -> Result<(), WriteFault>
-    ensures ok { OnOk result (out.new.items ≡ out.old.items ++ normal (led byte (Tree.pair (supertypes_tree ty.now.supertype_idxs) (composite_tree ty.now.composite_type)))) }
-    ensures in_range { OnOk result (InRange (led byte (Tree.pair (supertypes_tree ty.now.supertype_idxs) (composite_tree ty.now.composite_type)))) }
+    ensures ok { OnOk result
+        (out.new.items ≡ out.old.items ++ normal (led byte (parts_tree ty.now))) }
+    ensures in_range { OnOk result (InRange (led byte (parts_tree ty.now))) }
     ensures err { OnErr result (take (vec_len out.old) out.new.items ≡ out.old.items) }
-    ensures large { IfErr result (λ e. IfTooLarge e (IsTooLarge (counts (led byte (Tree.pair (supertypes_tree ty.now.supertype_idxs) (composite_tree ty.now.composite_type)))))) }
+    ensures large { IfErr result (λ e. IfTooLarge e
+        (IsTooLarge (counts (led byte (parts_tree ty.now))))) }
 {
     match write_byte(out, byte) {
         Ok(()) => write_parts(out, ty),

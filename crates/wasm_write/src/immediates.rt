@@ -104,7 +104,8 @@ fn write_block_type(out: &mut Vec<u8>, ty: BlockType) -> Result<(), NoMemory>
 
 /// Appends labels and the default one, or a part of them where memory is wanting.
 fn write_targets(out: &mut Vec<u8>, targets: &[u32], default: u32) -> Result<(), NoMemory>
-    ensures ok { OnOk result (out.new.items ≡ out.old.items ++ normal (targets_tree targets.now default)) }
+    ensures ok { OnOk result
+        (out.new.items ≡ out.old.items ++ normal (targets_tree targets.now default)) }
     ensures in_range { OnOk result (InRange (targets_tree targets.now default)) }
     ensures err { OnErr result (take (vec_len out.old) out.new.items ≡ out.old.items) }
 {
@@ -117,7 +118,8 @@ fn write_targets(out: &mut Vec<u8>, targets: &[u32], default: u32) -> Result<(),
 /// Appends the flags, the memory and the offset of a memory access, or a part of them where memory is wanting.
 /// The memory is left out where it is 0.
 fn write_mem_arg(out: &mut Vec<u8>, arg: MemArg) -> Result<(), NoMemory>
-    ensures ok { OnOk result (out.new.items ≡ out.old.items ++ normal (Tree.mem arg.align arg.memory arg.offset)) }
+    ensures ok { OnOk result
+        (out.new.items ≡ out.old.items ++ normal (Tree.mem arg.align arg.memory arg.offset)) }
     ensures in_range { OnOk result (InRange (Tree.mem arg.align arg.memory arg.offset)) }
     ensures err { OnErr result (take (vec_len out.old) out.new.items ≡ out.old.items) }
 {
@@ -133,7 +135,9 @@ fn write_mem_arg(out: &mut Vec<u8>, arg: MemArg) -> Result<(), NoMemory>
 
 /// Appends the flags, the memory and the offset of a memory access, or a part of them where memory is wanting.
 fn write_far_mem_arg(out: &mut Vec<u8>, arg: MemArg) -> Result<(), NoMemory>
-    ensures ok { OnOk result (out.new.items ≡ out.old.items ++ (leb (arg.align + 64) ++ (leb arg.memory ++ leb arg.offset))) }
+    ensures ok { OnOk result
+        (out.new.items ≡ out.old.items
+        ++ (leb (arg.align + 64) ++ (leb arg.memory ++ leb arg.offset))) }
     ensures err { OnErr result (take (vec_len out.old) out.new.items ≡ out.old.items) }
 {
     match write_u32(out, u32::from(arg.align) + 64) {
@@ -161,7 +165,9 @@ fn flags_of(from: bool, to: bool) -> u8
 
 /// Appends two heap types, or a part of them where memory is wanting.
 fn write_heap_types(out: &mut Vec<u8>, from: HeapType, to: HeapType) -> Result<(), NoMemory>
-    ensures ok { OnOk result (out.new.items ≡ out.old.items ++ normal (Tree.pair (heap_type_tree from) (heap_type_tree to))) }
+    ensures ok { OnOk result
+        (out.new.items ≡ out.old.items
+        ++ normal (Tree.pair (heap_type_tree from) (heap_type_tree to))) }
     ensures in_range { OnOk result (InRange (Tree.pair (heap_type_tree from) (heap_type_tree to))) }
     ensures err { OnErr result (take (vec_len out.old) out.new.items ≡ out.old.items) }
 {

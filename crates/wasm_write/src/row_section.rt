@@ -26,7 +26,8 @@ pub trait RowOf<K: SectionKind> {
     /// `TooLarge` comes exactly where a count or a length in it is above 2^32 - 1, with that number.
     fn write(&self, out: &mut Vec<u8>) -> Result<(), WriteFault>
         ensures ok { OnOk result (out.new.items ≡ out.old.items ++ normal (tree self.now)) }
-        ensures spells { OnOk result (∥ Spells K.shape (normal (tree self.now)) (tree self.now) ∥₁) }
+        ensures spells { OnOk result
+            (∥ Spells K.shape (normal (tree self.now)) (tree self.now) ∥₁) }
         ensures err { OnErr result (take (vec_len out.old) out.new.items ≡ out.old.items) }
         ensures large { IfErr result (λ e. IfTooLarge e (IsTooLarge (counts (tree self.now)))) };
 }

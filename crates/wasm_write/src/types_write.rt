@@ -32,7 +32,8 @@ fn abstract_byte(ty: AbstractHeapType) -> u8
 
 /// Appends a heap type that names no type of the module, or a part of it where memory is wanting.
 fn write_abstract(out: &mut Vec<u8>, shared: bool, ty: AbstractHeapType) -> Result<(), NoMemory>
-    ensures ok { OnOk result (out.new.items ≡ out.old.items ++ normal (shared_tree shared (abstract_tree ty))) }
+    ensures ok { OnOk result
+        (out.new.items ≡ out.old.items ++ normal (shared_tree shared (abstract_tree ty))) }
     ensures err { OnErr result (take (vec_len out.old) out.new.items ≡ out.old.items) }
 {
     if shared {
@@ -113,7 +114,8 @@ pub(crate) fn write_byte(out: &mut Vec<u8>, byte: u8) -> Result<(), NoMemory>
 
 /// Appends a byte and the index of a type, or a part of them where memory is wanting.
 pub(crate) fn write_marked(out: &mut Vec<u8>, byte: u8, index: u32) -> Result<(), NoMemory>
-    ensures ok { OnOk result (out.new.items ≡ out.old.items ++ normal (led byte (type_index index))) }
+    ensures ok { OnOk result
+        (out.new.items ≡ out.old.items ++ normal (led byte (type_index index))) }
     ensures err { OnErr result (take (vec_len out.old) out.new.items ≡ out.old.items) }
 {
     match out.push(byte) {

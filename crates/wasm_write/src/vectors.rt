@@ -33,7 +33,8 @@ fn write_count(out: &mut Vec<u8>, count: usize) -> Result<(), WriteFault>
     ensures ok { OnOk result (out.new.items ≡ out.old.items ++ leb count) }
     ensures fits { OnOk result (count < 2 ^ 32) }
     ensures err { OnErr result (out.new.items ≡ out.old.items) }
-    ensures large { IfErr result (λ e. IfTooLarge e (λ size. (size ≡ count) × (2 ^ 32 - 1 < size))) }
+    ensures large { IfErr result (λ e. IfTooLarge e
+        (λ size. (size ≡ count) × (2 ^ 32 - 1 < size))) }
 {
     if count > u32::MAX as usize {
         return Err(WriteFault::TooLarge { size: count as u64 });
@@ -46,10 +47,12 @@ fn write_count(out: &mut Vec<u8>, count: usize) -> Result<(), WriteFault>
 
 /// Appends items behind their number, or a part of that where it is refused.
 pub(crate) fn write_vec<P, T: ItemOf<P>>(out: &mut Vec<u8>, items: &[T]) -> Result<(), WriteFault>
-    ensures ok { OnOk result (out.new.items ≡ out.old.items ++ normal (vector_tree (map T.tree items.now))) }
+    ensures ok { OnOk result
+        (out.new.items ≡ out.old.items ++ normal (vector_tree (map T.tree items.now))) }
     ensures in_range { OnOk result (InRange (vector_tree (map T.tree items.now))) }
     ensures err { OnErr result (take (vec_len out.old) out.new.items ≡ out.old.items) }
-    ensures large { IfErr result (λ e. IfTooLarge e (IsTooLarge (counts (vector_tree (map T.tree items.now))))) }
+    ensures large { IfErr result (λ e. IfTooLarge e
+        (IsTooLarge (counts (vector_tree (map T.tree items.now))))) }
 {
     match write_count(out, items.len()) {
         Ok(()) => {}
@@ -67,7 +70,8 @@ pub(crate) fn write_vec<P, T: ItemOf<P>>(out: &mut Vec<u8>, items: &[T]) -> Resu
 /// Appends few items behind their number, or a part of that where memory is wanting: items that have no counts of their own,
 /// and no more than can be counted, are refused for nothing else.
 pub(crate) fn write_list<T: ItemOf<InCode>>(out: &mut Vec<u8>, items: &[T]) -> Result<(), NoMemory>
-    ensures ok { OnOk result (out.new.items ≡ out.old.items ++ normal (vector_tree (map T.tree items.now))) }
+    ensures ok { OnOk result
+        (out.new.items ≡ out.old.items ++ normal (vector_tree (map T.tree items.now))) }
     ensures in_range { OnOk result (InRange (vector_tree (map T.tree items.now))) }
     ensures err { OnErr result (take (vec_len out.old) out.new.items ≡ out.old.items) }
 {
