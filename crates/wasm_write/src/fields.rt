@@ -51,6 +51,7 @@ pub fn write_name(out: &mut Vec<u8>, name: &str) -> Result<(), WriteFault>
 /// leaves what stood in `out` before.
 pub fn write_item(out: &mut Vec<u8>, kind: ExportKind, index: u32) -> Result<(), NoMemory>
     ensures ok { OnOk result (out.new.items ≡ out.old.items ++ normal (item_tree kind index)) }
+    ensures in_range { OnOk result (InRange (item_tree kind index)) }
     ensures err { OnErr result (take (vec_len out.old) out.new.items ≡ out.old.items) }
 {
     let byte = match kind {
