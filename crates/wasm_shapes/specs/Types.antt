@@ -111,8 +111,8 @@ global_flags mutable shared = flag 1 mutable + flag 2 shared
 
 -- a global: the type of its value, and these flags
 abbrev pub global_of : Tree → Bool → Bool → Tree
-global_of content mutable shared =
-    Tree.pair content (Tree.row (global_flags mutable shared) (Tree.fixed (global_flags mutable shared)))
+global_of value mutable shared =
+    Tree.pair value (Tree.row (global_flags mutable shared) (Tree.fixed (global_flags mutable shared)))
 
 -- a tag, by the index of its type
 abbrev pub tag_of : ℕ → Tree
