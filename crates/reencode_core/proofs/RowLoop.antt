@@ -202,24 +202,21 @@ module _ {S E : Type 0} (asked : Asks S E) where
       parse fault.CodeSize h = absurd h
       parse (fault.Header k) h = absurd h
 
-  -- as many rows more as were read
-  rows_gained : {c : ℕ} {row : Shape} {start reader : Standing} {s0 s : S} {old new : List Tree} → (d : RowsDone asked c row start s0 old reader s new) → length new ≡ length old + length d.read
-  rows_gained {old = old} d = ap length d.gains ∙ length-append old d.made ∙ ap (λ (n : ℕ). length old + n) d.counted
-
   -- the next row, which is due, is refused
   pub stops_at : {c : ℕ} {row : Shape} {start reader : Standing} {s0 s s' : S} {old new : List Tree} (e : Error E) → RowsDone asked c row start s0 old reader s new → 0 < reader.left →
-      RefusesWhole asked c row reader.rest s (length new) e s' ⊎ RefusesInside asked c row reader.rest s e s' → StopsAtRow asked c row start s0 (length old) e s'
-  stops_at {c = c} {row = row} {reader = reader} {s = s} {s' = s'} e d due refuses =
-      let P : ℕ → Type 0 = λ n. RefusesWhole asked c row reader.rest s n e s' ⊎ RefusesInside asked c row reader.rest s e s' in record {
-        read = d.read;
-        rest = reader.rest;
-        made = d.made;
-        state = s;
-        before = d.before;
-        due = let all = d.numbered in omega arith;
-        accepts = d.accepts;
-        refuses = subst P (rows_gained d) refuses;
-      }
+      RefusesWhole asked c row reader.rest s (length new) e s' ⊎ RefusesInside asked c row reader.rest s e s' → StopsAtRow asked c row start s0 old e s' new
+  stops_at {c = c} {row = row} {reader = reader} {s = s} {s' = s'} e d due refuses = record {
+    read = d.read;
+    rest = reader.rest;
+    made = d.made;
+    state = s;
+    before = d.before;
+    due = let all = d.numbered in omega arith;
+    accepts = d.accepts;
+    counted = d.counted;
+    gains = d.gains;
+    refuses = refuses;
+  }
 
   -- the next row is refused
   pub rows_refused : {c : ℕ} {row : Shape} {start reader reader' : Standing} {s0 s s' : S} {old new : List Tree} {t : Tree} (e : Error E) → sound row ≡ true → closed row ≡ true →
@@ -365,7 +362,10 @@ module _ {S E : Type 0} (reply : S → Visit → Result ℕ E) (next : S → Vis
         };
     readable = tt;
     unreadable = IfParse-map e (λ at never. absurd never) usual;
-    refusal = let some : 0 < reader.left = omega arith in IfRefused-map e (stops_at (ask reply next) e d some) refuses;
+    refusal =
+        let some : 0 < reader.left = omega arith in
+        let P : List Tree → Type 0 = λ z. StopsAtRow (ask reply next) c row start s0 old e s' z in
+        IfRefused-map e (λ h. subst P (sym unchanged) (stops_at (ask reply next) e d some h)) refuses;
   }
     where
       either : (t : Tree) (x : List ℕ) → Spelled t x → (walk (ask reply next) c s t ≡ refused e s') ⊎ TooLargeMade (ask reply next) s t (length new) e s' →

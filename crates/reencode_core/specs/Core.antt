@@ -6,7 +6,8 @@ use Rattle.wasm_shapes.specs.Tree.{Tree, normal}
 use Rattle.wasm_shapes.specs.Spells.{Spells}
 use Rattle.wasm_shapes.specs.Module.{core_header, component_header, core_module, alsos, frame, FaultAt, CoreReading}
 use Rattle.wasm_shapes.specs.Place.{Begins}
-use Rattle.wasm_read.specs.Frames.{section_number, numbered_frame}
+use Rattle.wasm_shapes.specs.SectionTable.{number}
+use Rattle.wasm_read.specs.Frames.{numbered_frame}
 use Rattle.wasm_write.specs.Sections.{Sections, SectionRow, sections_bytes}
 use Rattle.reencode_hooks.specs.declared.error.Error.{Error}
 use Rattle.reencode_hooks.specs.declared.error.Error.TheVariants.{UnexpectedNonCoreModuleSection, ParseError, UserError, TooLarge, NoMemory}
@@ -86,7 +87,7 @@ pub record StopsInside {S E : Type 0} (asked : Asks S E) (c : ℕ) (bytes : List
   pub id : SectionId
   pub body : List ℕ
   pub left : List ℕ
-  pub framed : Begins frame bytes (numbered_frame (section_number id) body) left
+  pub framed : Begins frame bytes (numbered_frame (number id) body) left
   pub stops : (asked s (Section last (Some id)) ≡ refused e m)
       ⊎ ((n : S) × (asked s (Section last (Some id)) ≡ accepted 0 n) × StopsSection asked c id body n e m)
 

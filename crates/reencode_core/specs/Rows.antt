@@ -172,8 +172,9 @@ pub record RefusesInside {S E : Type 0} (asked : Asks S E) (c : ℕ) (row : Shap
   pub begins : Begins frame_row bytes (Tree.sized (Tree.raw body)) left
   pub stops : StopsBody asked c body s e m
 
--- Rows stand there and were accepted, and the next one, which is due, is refused.
-pub record StopsAtRow {S E : Type 0} (asked : Asks S E) (c : ℕ) (row : Shape) (reader : Standing) (s : S) (old : ℕ) (e : Error E) (m : S) : Type 0 where
+-- Rows stand there and were accepted, and what they became was added; the next one, which is due, is refused.
+pub record StopsAtRow {S E : Type 0} (asked : Asks S E) (c : ℕ) (row : Shape) (reader : Standing) (s : S) (old : List Tree) (e : Error E) (m : S)
+    (new : List Tree) : Type 0 where
   pub read : List Tree
   pub rest : List ℕ
   pub made : List Tree
@@ -181,7 +182,9 @@ pub record StopsAtRow {S E : Type 0} (asked : Asks S E) (c : ℕ) (row : Shape) 
   pub before : RowsBefore row reader.rest read rest
   pub due : length read < reader.left
   pub accepts : AcceptsRows asked c s read made state
-  pub refuses : RefusesWhole asked c row rest state (old + length read) e m ⊎ RefusesInside asked c row rest state e m
+  pub counted : length made ≡ length read
+  pub gains : new ≡ old ++ made
+  pub refuses : RefusesWhole asked c row rest state (length new) e m ⊎ RefusesInside asked c row rest state e m
 
 -- ---- a section of rows
 
@@ -190,4 +193,4 @@ pub record GivesRows {S E : Type 0} (asked : Asks S E) (c : ℕ) (row : Shape) (
   pub reading : (rows : Tree) → RowsLeft row reader.left reader.rest rows → GivesAll asked c s rows old m new result
   pub readable : IfOk result (λ _. (rows : Tree) × RowsLeft row reader.left reader.rest rows)
   pub unreadable : IfErr result (λ e. IfParse e (RowsFault asked c row reader s old m new))
-  pub refusal : IfErr result (λ e. IfRefused e (StopsAtRow asked c row reader s (length old) e m))
+  pub refusal : IfErr result (λ e. IfRefused e (StopsAtRow asked c row reader s old e m new))

@@ -1,7 +1,7 @@
 //! What a re-encoder does with each section.
 ghost use Rattle.std.specs.Prelude.{◌≡◌, IsTrue, ℕ};
 ghost use Rattle.wasm_shapes.specs.declared.SectionId.TheVariants as kinds;
-ghost use Rattle.wasm_shapes.specs.Module.{CoreReading, core_module};
+ghost use Rattle.wasm_shapes.specs.Module.{CoreReading, core_module, row_of};
 ghost use Rattle.wasm_shapes.specs.Spells.{Spells};
 ghost use Rattle.wasm_shapes.specs.Tree.{visits};
 ghost use Rattle.wasm_read.specs.declared.types.Imports.TheVariants as imported;
@@ -11,7 +11,7 @@ ghost use Rattle.reencode_hooks.specs.Run.{LeavesVisited, ask};
 ghost use Rattle.reencode_items.specs.Maps.{Maps};
 ghost use Rattle.reencode_core.specs.Rows.{KeepsFront, GivesRow, GivesRows, GivesTable, LeavesTable};
 ghost use Rattle.reencode_core.specs.Bodies.{KeepsCode, GivesLocals, GivesBody};
-ghost use Rattle.reencode_core.specs.Sections.{KeepsModule, ReadsAs, row_shape, GivesSection};
+ghost use Rattle.reencode_core.specs.Sections.{KeepsModule, ReadsAs, GivesSection};
 ghost use Rattle.reencode_core.specs.Core.{GivesCore, GivesBytes};
 ghost use Rattle.reencode_core.specs.Leaves.{BodyOf, LeavesReading, LocalsOf, RowsOf};
 
@@ -40,9 +40,9 @@ pub trait Reencode: ReencodeItems {
     ) -> Result<(), Error<Self::Error>>
         ensures kept { KeepsFront types.old types.new }
         ensures default { IsTrue Self.keeps_defaults → (c : ℕ)
-            → GivesRows (ask Self.reply Self.next) c (row_shape kinds.Type_) section.entry self.old types.old self.new types.new result }
+            → GivesRows (ask Self.reply Self.next) c (row_of kinds.Type_) section.entry self.old types.old self.new types.new result }
         ensures left { IsTrue Self.keeps_defaults → IsTrue Self.sure
-            → LeavesReading (RowsOf (row_shape kinds.Type_) section.entry) (ask Self.reply Self.next) self.old self.new result }
+            → LeavesReading (RowsOf (row_of kinds.Type_) section.entry) (ask Self.reply Self.next) self.old self.new result }
     {
         bodies::parse_type_section!(self, alloc, types, section)
     }
@@ -70,9 +70,9 @@ pub trait Reencode: ReencodeItems {
     ) -> Result<(), Error<Self::Error>>
         ensures kept { KeepsFront functions.old functions.new }
         ensures default { IsTrue Self.keeps_defaults → (c : ℕ)
-            → GivesRows (ask Self.reply Self.next) c (row_shape kinds.Function) section.entry self.old functions.old self.new functions.new result }
+            → GivesRows (ask Self.reply Self.next) c (row_of kinds.Function) section.entry self.old functions.old self.new functions.new result }
         ensures left { IsTrue Self.keeps_defaults → IsTrue Self.sure
-            → LeavesReading (RowsOf (row_shape kinds.Function) section.entry) (ask Self.reply Self.next) self.old self.new result }
+            → LeavesReading (RowsOf (row_of kinds.Function) section.entry) (ask Self.reply Self.next) self.old self.new result }
     {
         bodies::parse_function_section!(self, alloc, functions, section)
     }
@@ -86,9 +86,9 @@ pub trait Reencode: ReencodeItems {
     ) -> Result<(), Error<Self::Error>>
         ensures kept { KeepsFront imports.old imports.new }
         ensures default { IsTrue Self.keeps_defaults → (c : ℕ)
-            → GivesRows (ask Self.reply Self.next) c (row_shape kinds.Import) section.entry self.old imports.old self.new imports.new result }
+            → GivesRows (ask Self.reply Self.next) c (row_of kinds.Import) section.entry self.old imports.old self.new imports.new result }
         ensures left { IsTrue Self.keeps_defaults → IsTrue Self.sure
-            → LeavesReading (RowsOf (row_shape kinds.Import) section.entry) (ask Self.reply Self.next) self.old self.new result }
+            → LeavesReading (RowsOf (row_of kinds.Import) section.entry) (ask Self.reply Self.next) self.old self.new result }
     {
         bodies::parse_import_section!(self, alloc, imports, section)
     }
@@ -134,9 +134,9 @@ pub trait Reencode: ReencodeItems {
     ) -> Result<(), Error<Self::Error>>
         ensures kept { KeepsFront tables.old tables.new }
         ensures default { IsTrue Self.keeps_defaults → (c : ℕ)
-            → GivesRows (ask Self.reply Self.next) c (row_shape kinds.Table) section.entry self.old tables.old self.new tables.new result }
+            → GivesRows (ask Self.reply Self.next) c (row_of kinds.Table) section.entry self.old tables.old self.new tables.new result }
         ensures left { IsTrue Self.keeps_defaults → IsTrue Self.sure
-            → LeavesReading (RowsOf (row_shape kinds.Table) section.entry) (ask Self.reply Self.next) self.old self.new result }
+            → LeavesReading (RowsOf (row_of kinds.Table) section.entry) (ask Self.reply Self.next) self.old self.new result }
     {
         bodies::parse_table_section!(self, alloc, tables, section)
     }
@@ -167,9 +167,9 @@ pub trait Reencode: ReencodeItems {
     ) -> Result<(), Error<Self::Error>>
         ensures kept { KeepsFront memories.old memories.new }
         ensures default { IsTrue Self.keeps_defaults → (c : ℕ)
-            → GivesRows (ask Self.reply Self.next) c (row_shape kinds.Memory) section.entry self.old memories.old self.new memories.new result }
+            → GivesRows (ask Self.reply Self.next) c (row_of kinds.Memory) section.entry self.old memories.old self.new memories.new result }
         ensures left { IsTrue Self.keeps_defaults → IsTrue Self.sure
-            → LeavesReading (RowsOf (row_shape kinds.Memory) section.entry) (ask Self.reply Self.next) self.old self.new result }
+            → LeavesReading (RowsOf (row_of kinds.Memory) section.entry) (ask Self.reply Self.next) self.old self.new result }
     {
         bodies::parse_memory_section!(self, alloc, memories, section)
     }
@@ -183,9 +183,9 @@ pub trait Reencode: ReencodeItems {
     ) -> Result<(), Error<Self::Error>>
         ensures kept { KeepsFront tags.old tags.new }
         ensures default { IsTrue Self.keeps_defaults → (c : ℕ)
-            → GivesRows (ask Self.reply Self.next) c (row_shape kinds.Tag) section.entry self.old tags.old self.new tags.new result }
+            → GivesRows (ask Self.reply Self.next) c (row_of kinds.Tag) section.entry self.old tags.old self.new tags.new result }
         ensures left { IsTrue Self.keeps_defaults → IsTrue Self.sure
-            → LeavesReading (RowsOf (row_shape kinds.Tag) section.entry) (ask Self.reply Self.next) self.old self.new result }
+            → LeavesReading (RowsOf (row_of kinds.Tag) section.entry) (ask Self.reply Self.next) self.old self.new result }
     {
         bodies::parse_tag_section!(self, alloc, tags, section)
     }
@@ -199,9 +199,9 @@ pub trait Reencode: ReencodeItems {
     ) -> Result<(), Error<Self::Error>>
         ensures kept { KeepsFront exports.old exports.new }
         ensures default { IsTrue Self.keeps_defaults → (c : ℕ)
-            → GivesRows (ask Self.reply Self.next) c (row_shape kinds.Export) section.entry self.old exports.old self.new exports.new result }
+            → GivesRows (ask Self.reply Self.next) c (row_of kinds.Export) section.entry self.old exports.old self.new exports.new result }
         ensures left { IsTrue Self.keeps_defaults → IsTrue Self.sure
-            → LeavesReading (RowsOf (row_shape kinds.Export) section.entry) (ask Self.reply Self.next) self.old self.new result }
+            → LeavesReading (RowsOf (row_of kinds.Export) section.entry) (ask Self.reply Self.next) self.old self.new result }
     {
         bodies::parse_export_section!(self, alloc, exports, section)
     }
@@ -231,9 +231,9 @@ pub trait Reencode: ReencodeItems {
     ) -> Result<(), Error<Self::Error>>
         ensures kept { KeepsCode code.old code.new }
         ensures default { IsTrue Self.keeps_defaults
-            → GivesRows (ask Self.reply Self.next) code.old.ceiling (row_shape kinds.Code) section.entry self.old code.old.rows self.new code.new.rows result }
+            → GivesRows (ask Self.reply Self.next) code.old.ceiling (row_of kinds.Code) section.entry self.old code.old.rows self.new code.new.rows result }
         ensures left { IsTrue Self.keeps_defaults → IsTrue Self.sure
-            → LeavesReading (RowsOf (row_shape kinds.Code) section.entry) (ask Self.reply Self.next) self.old self.new result }
+            → LeavesReading (RowsOf (row_of kinds.Code) section.entry) (ask Self.reply Self.next) self.old self.new result }
     {
         bodies::parse_code_section!(self, alloc, code, section)
     }

@@ -1,7 +1,7 @@
 //! The default bodies of `Reencode`, as functions of any reencoder.
 ghost use Rattle.std.specs.Prelude.{◌≡◌, IsTrue, ℕ};
 ghost use Rattle.wasm_shapes.specs.declared.SectionId.TheVariants as kinds;
-ghost use Rattle.wasm_shapes.specs.Module.{CoreReading};
+ghost use Rattle.wasm_shapes.specs.Module.{CoreReading, row_of};
 ghost use Rattle.wasm_shapes.specs.Tree.{visits};
 ghost use Rattle.wasm_read.specs.declared.types.Imports.TheVariants as imported;
 ghost use Rattle.wasm_read.specs.Types as read;
@@ -10,7 +10,7 @@ ghost use Rattle.reencode_hooks.specs.Run.{LeavesVisited, ask};
 ghost use Rattle.reencode_items.specs.Maps.{Maps};
 ghost use Rattle.reencode_core.specs.Rows.{KeepsFront, GivesRow, GivesRows, GivesTable, LeavesTable};
 ghost use Rattle.reencode_core.specs.Bodies.{KeepsCode, GivesLocals, GivesBody};
-ghost use Rattle.reencode_core.specs.Sections.{KeepsModule, ReadsAs, row_shape, GivesSection};
+ghost use Rattle.reencode_core.specs.Sections.{KeepsModule, ReadsAs, GivesSection};
 ghost use Rattle.reencode_core.specs.Core.{GivesCore};
 ghost use Rattle.reencode_core.specs.Leaves.{BodyOf, LeavesReading, LocalsOf, RowsOf};
 
@@ -34,9 +34,9 @@ pub fn parse_type_section<T: Reencode>(
 ) -> Result<(), Error<T::Error>>
     ensures kept { KeepsFront types.old types.new }
     ensures default { IsTrue T.keeps_defaults → (c : ℕ)
-        → GivesRows (ask T.reply T.next) c (row_shape kinds.Type_) section.entry reencoder.old types.old reencoder.new types.new result }
+        → GivesRows (ask T.reply T.next) c (row_of kinds.Type_) section.entry reencoder.old types.old reencoder.new types.new result }
     ensures left { IsTrue T.keeps_defaults → IsTrue T.sure
-        → LeavesReading (RowsOf (row_shape kinds.Type_) section.entry) (ask T.reply T.next) reencoder.old reencoder.new result }
+        → LeavesReading (RowsOf (row_of kinds.Type_) section.entry) (ask T.reply T.next) reencoder.old reencoder.new result }
 {
     bodies::parse_type_section!(reencoder, alloc, types, section)
 }
@@ -64,9 +64,9 @@ pub fn parse_function_section<T: Reencode>(
 ) -> Result<(), Error<T::Error>>
     ensures kept { KeepsFront functions.old functions.new }
     ensures default { IsTrue T.keeps_defaults → (c : ℕ)
-        → GivesRows (ask T.reply T.next) c (row_shape kinds.Function) section.entry reencoder.old functions.old reencoder.new functions.new result }
+        → GivesRows (ask T.reply T.next) c (row_of kinds.Function) section.entry reencoder.old functions.old reencoder.new functions.new result }
     ensures left { IsTrue T.keeps_defaults → IsTrue T.sure
-        → LeavesReading (RowsOf (row_shape kinds.Function) section.entry) (ask T.reply T.next) reencoder.old reencoder.new result }
+        → LeavesReading (RowsOf (row_of kinds.Function) section.entry) (ask T.reply T.next) reencoder.old reencoder.new result }
 {
     bodies::parse_function_section!(reencoder, alloc, functions, section)
 }
@@ -80,9 +80,9 @@ pub fn parse_import_section<T: Reencode>(
 ) -> Result<(), Error<T::Error>>
     ensures kept { KeepsFront imports.old imports.new }
     ensures default { IsTrue T.keeps_defaults → (c : ℕ)
-        → GivesRows (ask T.reply T.next) c (row_shape kinds.Import) section.entry reencoder.old imports.old reencoder.new imports.new result }
+        → GivesRows (ask T.reply T.next) c (row_of kinds.Import) section.entry reencoder.old imports.old reencoder.new imports.new result }
     ensures left { IsTrue T.keeps_defaults → IsTrue T.sure
-        → LeavesReading (RowsOf (row_shape kinds.Import) section.entry) (ask T.reply T.next) reencoder.old reencoder.new result }
+        → LeavesReading (RowsOf (row_of kinds.Import) section.entry) (ask T.reply T.next) reencoder.old reencoder.new result }
 {
     bodies::parse_import_section!(reencoder, alloc, imports, section)
 }
@@ -128,9 +128,9 @@ pub fn parse_table_section<T: Reencode>(
 ) -> Result<(), Error<T::Error>>
     ensures kept { KeepsFront tables.old tables.new }
     ensures default { IsTrue T.keeps_defaults → (c : ℕ)
-        → GivesRows (ask T.reply T.next) c (row_shape kinds.Table) section.entry reencoder.old tables.old reencoder.new tables.new result }
+        → GivesRows (ask T.reply T.next) c (row_of kinds.Table) section.entry reencoder.old tables.old reencoder.new tables.new result }
     ensures left { IsTrue T.keeps_defaults → IsTrue T.sure
-        → LeavesReading (RowsOf (row_shape kinds.Table) section.entry) (ask T.reply T.next) reencoder.old reencoder.new result }
+        → LeavesReading (RowsOf (row_of kinds.Table) section.entry) (ask T.reply T.next) reencoder.old reencoder.new result }
 {
     bodies::parse_table_section!(reencoder, alloc, tables, section)
 }
@@ -161,9 +161,9 @@ pub fn parse_memory_section<T: Reencode>(
 ) -> Result<(), Error<T::Error>>
     ensures kept { KeepsFront memories.old memories.new }
     ensures default { IsTrue T.keeps_defaults → (c : ℕ)
-        → GivesRows (ask T.reply T.next) c (row_shape kinds.Memory) section.entry reencoder.old memories.old reencoder.new memories.new result }
+        → GivesRows (ask T.reply T.next) c (row_of kinds.Memory) section.entry reencoder.old memories.old reencoder.new memories.new result }
     ensures left { IsTrue T.keeps_defaults → IsTrue T.sure
-        → LeavesReading (RowsOf (row_shape kinds.Memory) section.entry) (ask T.reply T.next) reencoder.old reencoder.new result }
+        → LeavesReading (RowsOf (row_of kinds.Memory) section.entry) (ask T.reply T.next) reencoder.old reencoder.new result }
 {
     bodies::parse_memory_section!(reencoder, alloc, memories, section)
 }
@@ -177,9 +177,9 @@ pub fn parse_tag_section<T: Reencode>(
 ) -> Result<(), Error<T::Error>>
     ensures kept { KeepsFront tags.old tags.new }
     ensures default { IsTrue T.keeps_defaults → (c : ℕ)
-        → GivesRows (ask T.reply T.next) c (row_shape kinds.Tag) section.entry reencoder.old tags.old reencoder.new tags.new result }
+        → GivesRows (ask T.reply T.next) c (row_of kinds.Tag) section.entry reencoder.old tags.old reencoder.new tags.new result }
     ensures left { IsTrue T.keeps_defaults → IsTrue T.sure
-        → LeavesReading (RowsOf (row_shape kinds.Tag) section.entry) (ask T.reply T.next) reencoder.old reencoder.new result }
+        → LeavesReading (RowsOf (row_of kinds.Tag) section.entry) (ask T.reply T.next) reencoder.old reencoder.new result }
 {
     bodies::parse_tag_section!(reencoder, alloc, tags, section)
 }
@@ -193,9 +193,9 @@ pub fn parse_export_section<T: Reencode>(
 ) -> Result<(), Error<T::Error>>
     ensures kept { KeepsFront exports.old exports.new }
     ensures default { IsTrue T.keeps_defaults → (c : ℕ)
-        → GivesRows (ask T.reply T.next) c (row_shape kinds.Export) section.entry reencoder.old exports.old reencoder.new exports.new result }
+        → GivesRows (ask T.reply T.next) c (row_of kinds.Export) section.entry reencoder.old exports.old reencoder.new exports.new result }
     ensures left { IsTrue T.keeps_defaults → IsTrue T.sure
-        → LeavesReading (RowsOf (row_shape kinds.Export) section.entry) (ask T.reply T.next) reencoder.old reencoder.new result }
+        → LeavesReading (RowsOf (row_of kinds.Export) section.entry) (ask T.reply T.next) reencoder.old reencoder.new result }
 {
     bodies::parse_export_section!(reencoder, alloc, exports, section)
 }
@@ -225,9 +225,9 @@ pub fn parse_code_section<T: Reencode>(
 ) -> Result<(), Error<T::Error>>
     ensures kept { KeepsCode code.old code.new }
     ensures default { IsTrue T.keeps_defaults
-        → GivesRows (ask T.reply T.next) code.old.ceiling (row_shape kinds.Code) section.entry reencoder.old code.old.rows reencoder.new code.new.rows result }
+        → GivesRows (ask T.reply T.next) code.old.ceiling (row_of kinds.Code) section.entry reencoder.old code.old.rows reencoder.new code.new.rows result }
     ensures left { IsTrue T.keeps_defaults → IsTrue T.sure
-        → LeavesReading (RowsOf (row_shape kinds.Code) section.entry) (ask T.reply T.next) reencoder.old reencoder.new result }
+        → LeavesReading (RowsOf (row_of kinds.Code) section.entry) (ask T.reply T.next) reencoder.old reencoder.new result }
 {
     bodies::parse_code_section!(reencoder, alloc, code, section)
 }

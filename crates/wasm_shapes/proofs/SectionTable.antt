@@ -196,3 +196,20 @@ in_frame t x d p =
 -- no section begins where no frame does
 pub none_section : {bytes : List ℕ} → BeginsNone frame bytes → BeginsNone section bytes
 none_section none = record { none = λ text left t p e. let f = in_frame t text p.shaped p.spelled in none.none text left _ f.frames e }
+
+-- ---- a kind that is not in the table
+
+abbrev pub NotIn : List Kind → SectionId → Type 0
+NotIn [] k = Unit {0}
+NotIn (x ∷ xs) k = (k ≢ x.name) × NotIn xs k
+
+none_in : (xs : List Kind) (k : SectionId) → NotIn xs k → body_in xs k ≡ Shape.none
+none_in [] k others = refl
+none_in (x ∷ xs) k others = go (nat_eq (number x.name) (number k)) (Decides-eqb (number x.name) (number k)).0 (none_in xs k others.1)
+  where
+    go : (b : Bool) → (b ≡ true → number x.name ≡ number k) → body_in xs k ≡ Shape.none → (if b then x.body else body_in xs k) ≡ Shape.none
+    go true same e = absurd (others.0 (sym (same_kind x.name k (same refl))))
+    go false same e = e
+
+pub not_in_force : (k : SectionId) → NotIn in_force k → body_of k ≡ Shape.none
+not_in_force k others = none_in in_force k others

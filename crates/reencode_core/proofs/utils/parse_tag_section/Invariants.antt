@@ -2,7 +2,7 @@ use Rattle.std.proofs.Common.{ℕ, IsTrue}
 use Rattle.wasm_shapes.specs.declared.SectionId.TheVariants as kinds
 use Rattle.reencode_hooks.specs.Run.{ask}
 use Rattle.reencode_core.specs.Rows.{KeepsFront}
-use Rattle.reencode_core.specs.Sections.{row_shape}
+use Rattle.wasm_shapes.specs.Module.{row_of}
 use Rattle.reencode_core.proofs.RowLoop.{RowsDone}
 use Rattle.reencode_core.proofs.utils.parse_tag_section.Given as goal
 
@@ -12,7 +12,7 @@ invariant-rows g l =
     record {
       kept : KeepsFront l.initial.tags l.tags;
       default : IsTrue g.T.ReencodeIndices.keeps_defaults → (c : ℕ)
-          → RowsDone (ask g.T.ReencodeIndices.reply g.T.ReencodeIndices.next) c (row_shape kinds.Tag)
+          → RowsDone (ask g.T.ReencodeIndices.reply g.T.ReencodeIndices.next) c (row_of kinds.Tag)
           l.initial.rows l.initial.reencoder l.initial.tags l.rows l.reencoder l.tags;
     }
 

@@ -2,7 +2,7 @@ use Rattle.std.proofs.Common.{ℕ, IsTrue}
 use Rattle.wasm_shapes.specs.declared.SectionId.TheVariants as kinds
 use Rattle.reencode_hooks.specs.Run.{ask}
 use Rattle.reencode_core.specs.Rows.{KeepsFront}
-use Rattle.reencode_core.specs.Sections.{row_shape}
+use Rattle.wasm_shapes.specs.Module.{row_of}
 use Rattle.reencode_core.proofs.RowLoop.{RowsDone}
 use Rattle.reencode_core.proofs.reencode.Reencode.parse_table_section.Given as goal
 
@@ -12,7 +12,7 @@ invariant-rows g l =
     record {
       kept : KeepsFront l.initial.tables l.tables;
       default : IsTrue g.Self.ReencodeIndices.keeps_defaults → (c : ℕ)
-          → RowsDone (ask g.Self.ReencodeIndices.reply g.Self.ReencodeIndices.next) c (row_shape kinds.Table)
+          → RowsDone (ask g.Self.ReencodeIndices.reply g.Self.ReencodeIndices.next) c (row_of kinds.Table)
           l.initial.rows l.initial.self l.initial.tables l.rows l.self l.tables;
     }
 
