@@ -2,10 +2,10 @@ pub mod Usual
 pub mod Known
 pub mod Counts
 pub mod RowLoop
+pub mod EachRow
 pub mod OneSection
 pub mod CoreLoop
 pub mod WholeBytes
-pub mod ExportRow
 pub mod OneRow
 pub mod Group
 pub mod BodyLoop

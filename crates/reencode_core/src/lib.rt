@@ -6,6 +6,7 @@ mod errors;
 mod imports;
 mod plain;
 mod reencode;
+mod shared;
 #[cfg(test)]
 mod tests;
 #[cfg(test)]

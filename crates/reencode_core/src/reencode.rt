@@ -17,11 +17,11 @@ ghost use Rattle.reencode_core.specs.Leaves.{BodyOf, LeavesReading, LocalsOf, Ro
 
 use crate::bodies;
 use crate::errors::placed;
-use crate::imports::single;
+use crate::shared;
 use reencode_hooks::Error;
 use reencode_items::ReencodeItems;
 use std::alloc::Global;
-use wasm_leb::{List, ReadError};
+use wasm_leb::ReadError;
 use wasm_read as r;
 use wasm_shapes::SectionId;
 use wasm_write as w;
@@ -44,7 +44,7 @@ pub trait Reencode: ReencodeItems {
         ensures left { IsTrue Self.keeps_defaults → IsTrue Self.sure
             → LeavesReading (RowsOf (row_of kinds.Type_) section.entry) (ask Self.reply Self.next) self.old self.new result }
     {
-        bodies::parse_type_section!(self, alloc, types, section)
+        bodies::each_row!(section, alloc, row => types.group(&self.parse_recursive_type_group(alloc, row)?))
     }
 
     /// Maps each type of a group by `sub_type`.
@@ -58,7 +58,7 @@ pub trait Reencode: ReencodeItems {
         ensures left { IsTrue Self.keeps_defaults → IsTrue Self.sure
             → LeavesVisited (ask Self.reply Self.next) self.old (visits (read.group_tree rec_group)) self.new result }
     {
-        bodies::parse_recursive_type_group!(self, alloc, rec_group)
+        shared::parse_recursive_type_group(self, alloc, rec_group)
     }
 
     /// Maps the rows that the reader still has, each index by `type_index`, and adds each row once its index was answered.
@@ -74,7 +74,7 @@ pub trait Reencode: ReencodeItems {
         ensures left { IsTrue Self.keeps_defaults → IsTrue Self.sure
             → LeavesReading (RowsOf (row_of kinds.Function) section.entry) (ask Self.reply Self.next) self.old self.new result }
     {
-        bodies::parse_function_section!(self, alloc, functions, section)
+        shared::parse_function_section(self, alloc, functions, section)
     }
 
     /// Maps the rows that the reader still has, each by `parse_imports`.
@@ -90,7 +90,7 @@ pub trait Reencode: ReencodeItems {
         ensures left { IsTrue Self.keeps_defaults → IsTrue Self.sure
             → LeavesReading (RowsOf (row_of kinds.Import) section.entry) (ask Self.reply Self.next) self.old self.new result }
     {
-        bodies::parse_import_section!(self, alloc, imports, section)
+        bodies::each_row!(section, alloc, row => self.parse_imports(alloc, imports, row))
     }
 
     /// Maps an entry of an import section, its type by `entity_type`, and adds it.
@@ -106,7 +106,7 @@ pub trait Reencode: ReencodeItems {
         ensures left { IsTrue Self.keeps_defaults → IsTrue Self.sure
             → LeavesVisited (ask Self.reply Self.next) self.old (visits (read.import_tree imports.entry)) self.new result }
     {
-        bodies::parse_imports!(self, import_section, imports)
+        shared::parse_imports(self, import_section, imports)
     }
 
     /// Maps what is imported by `parse_imports`, as an entry of its own.
@@ -122,7 +122,7 @@ pub trait Reencode: ReencodeItems {
         ensures left { IsTrue Self.keeps_defaults → IsTrue Self.sure
             → LeavesVisited (ask Self.reply Self.next) self.old (visits (read.import_tree (imported.Single import.entry))) self.new result }
     {
-        bodies::parse_import!(self, alloc, imports, import)
+        self.parse_imports(alloc, imports, r::Imports::Single(import))
     }
 
     /// Maps the rows that the reader still has, each by `parse_table`.
@@ -138,7 +138,7 @@ pub trait Reencode: ReencodeItems {
         ensures left { IsTrue Self.keeps_defaults → IsTrue Self.sure
             → LeavesReading (RowsOf (row_of kinds.Table) section.entry) (ask Self.reply Self.next) self.old self.new result }
     {
-        bodies::parse_table_section!(self, alloc, tables, section)
+        bodies::each_row!(section, alloc, row => self.parse_table(alloc, tables, row))
     }
 
     /// Maps a table that starts with null references by `table_type`, and adds it. One that starts with the value of an
@@ -155,7 +155,7 @@ pub trait Reencode: ReencodeItems {
         ensures left { IsTrue Self.keeps_defaults → IsTrue Self.sure
             → LeavesTable (ask Self.reply Self.next) self.old table.entry.ty table.entry.init self.new result }
     {
-        bodies::parse_table!(self, tables, table)
+        shared::parse_table(self, tables, table)
     }
 
     /// Maps the rows that the reader still has, each by `memory_type`, and adds each row once it is mapped.
@@ -171,7 +171,7 @@ pub trait Reencode: ReencodeItems {
         ensures left { IsTrue Self.keeps_defaults → IsTrue Self.sure
             → LeavesReading (RowsOf (row_of kinds.Memory) section.entry) (ask Self.reply Self.next) self.old self.new result }
     {
-        bodies::parse_memory_section!(self, alloc, memories, section)
+        shared::parse_memory_section(self, alloc, memories, section)
     }
 
     /// Maps the rows that the reader still has, each by `tag_type`, and adds each row once it is mapped.
@@ -187,7 +187,7 @@ pub trait Reencode: ReencodeItems {
         ensures left { IsTrue Self.keeps_defaults → IsTrue Self.sure
             → LeavesReading (RowsOf (row_of kinds.Tag) section.entry) (ask Self.reply Self.next) self.old self.new result }
     {
-        bodies::parse_tag_section!(self, alloc, tags, section)
+        shared::parse_tag_section(self, alloc, tags, section)
     }
 
     /// Maps the rows that the reader still has, each by `parse_export`.
@@ -203,7 +203,7 @@ pub trait Reencode: ReencodeItems {
         ensures left { IsTrue Self.keeps_defaults → IsTrue Self.sure
             → LeavesReading (RowsOf (row_of kinds.Export) section.entry) (ask Self.reply Self.next) self.old self.new result }
     {
-        bodies::parse_export_section!(self, alloc, exports, section)
+        bodies::each_row!(section, alloc, row => self.parse_export(exports, row))
     }
 
     /// Maps an export by `export_kind` and `external_index`, and adds it.
@@ -218,7 +218,7 @@ pub trait Reencode: ReencodeItems {
         ensures left { IsTrue Self.keeps_defaults → IsTrue Self.sure
             → LeavesVisited (ask Self.reply Self.next) self.old (visits (read.export_tree export.entry)) self.new result }
     {
-        bodies::parse_export!(self, exports, export)
+        shared::parse_export(self, exports, export)
     }
 
     /// Maps the rows that the reader still has, each by `parse_function_body`. A `ParseError` holds the place of the row in
@@ -266,7 +266,7 @@ pub trait Reencode: ReencodeItems {
         ensures left { IsTrue Self.keeps_defaults → IsTrue Self.sure
             → LeavesReading (LocalsOf func.now.bytes.now) (ask Self.reply Self.next) self.old self.new result }
     {
-        bodies::new_function_with_parsed_locals!(self, alloc, func)
+        shared::new_function_with_parsed_locals(self, alloc, func)
     }
 
     /// Maps the body of a section of a kind by the methods of that kind, and adds the section. It calls no section hook.

@@ -16,11 +16,11 @@ ghost use Rattle.reencode_core.specs.Leaves.{BodyOf, LeavesReading, LocalsOf, Ro
 
 use crate::bodies;
 use crate::errors::placed;
-use crate::imports::single;
 use crate::reencode::Reencode;
+use crate::shared;
 use reencode_hooks::Error;
 use std::alloc::Global;
-use wasm_leb::{List, ReadError};
+use wasm_leb::ReadError;
 use wasm_read as r;
 use wasm_shapes::SectionId;
 use wasm_write as w;
@@ -38,7 +38,7 @@ pub fn parse_type_section<T: Reencode>(
     ensures left { IsTrue T.keeps_defaults → IsTrue T.sure
         → LeavesReading (RowsOf (row_of kinds.Type_) section.entry) (ask T.reply T.next) reencoder.old reencoder.new result }
 {
-    bodies::parse_type_section!(reencoder, alloc, types, section)
+    bodies::each_row!(section, alloc, row => types.group(&reencoder.parse_recursive_type_group(alloc, row)?))
 }
 
 /// Maps each type of a group by `sub_type`.
@@ -52,7 +52,7 @@ pub fn parse_recursive_type_group<T: Reencode>(
     ensures left { IsTrue T.keeps_defaults → IsTrue T.sure
         → LeavesVisited (ask T.reply T.next) reencoder.old (visits (read.group_tree rec_group)) reencoder.new result }
 {
-    bodies::parse_recursive_type_group!(reencoder, alloc, rec_group)
+    shared::parse_recursive_type_group(reencoder, alloc, rec_group)
 }
 
 /// Maps the rows that the reader still has, each index by `type_index`, and adds each row once its index was answered.
@@ -68,7 +68,7 @@ pub fn parse_function_section<T: Reencode>(
     ensures left { IsTrue T.keeps_defaults → IsTrue T.sure
         → LeavesReading (RowsOf (row_of kinds.Function) section.entry) (ask T.reply T.next) reencoder.old reencoder.new result }
 {
-    bodies::parse_function_section!(reencoder, alloc, functions, section)
+    shared::parse_function_section(reencoder, alloc, functions, section)
 }
 
 /// Maps the rows that the reader still has, each by `parse_imports`.
@@ -84,7 +84,7 @@ pub fn parse_import_section<T: Reencode>(
     ensures left { IsTrue T.keeps_defaults → IsTrue T.sure
         → LeavesReading (RowsOf (row_of kinds.Import) section.entry) (ask T.reply T.next) reencoder.old reencoder.new result }
 {
-    bodies::parse_import_section!(reencoder, alloc, imports, section)
+    bodies::each_row!(section, alloc, row => reencoder.parse_imports(alloc, imports, row))
 }
 
 /// Maps an entry of an import section, its type by `entity_type`, and adds it.
@@ -100,7 +100,7 @@ pub fn parse_imports<T: Reencode>(
     ensures left { IsTrue T.keeps_defaults → IsTrue T.sure
         → LeavesVisited (ask T.reply T.next) reencoder.old (visits (read.import_tree imports.entry)) reencoder.new result }
 {
-    bodies::parse_imports!(reencoder, import_section, imports)
+    shared::parse_imports(reencoder, import_section, imports)
 }
 
 /// Maps what is imported by `parse_imports`, as an entry of its own.
@@ -116,7 +116,7 @@ pub fn parse_import<T: Reencode>(
     ensures left { IsTrue T.keeps_defaults → IsTrue T.sure
         → LeavesVisited (ask T.reply T.next) reencoder.old (visits (read.import_tree (imported.Single import.entry))) reencoder.new result }
 {
-    bodies::parse_import!(reencoder, alloc, imports, import)
+    reencoder.parse_imports(alloc, imports, r::Imports::Single(import))
 }
 
 /// Maps the rows that the reader still has, each by `parse_table`.
@@ -132,7 +132,7 @@ pub fn parse_table_section<T: Reencode>(
     ensures left { IsTrue T.keeps_defaults → IsTrue T.sure
         → LeavesReading (RowsOf (row_of kinds.Table) section.entry) (ask T.reply T.next) reencoder.old reencoder.new result }
 {
-    bodies::parse_table_section!(reencoder, alloc, tables, section)
+    bodies::each_row!(section, alloc, row => reencoder.parse_table(alloc, tables, row))
 }
 
 /// Maps a table that starts with null references by `table_type`, and adds it. One that starts with the value of an
@@ -149,7 +149,7 @@ pub fn parse_table<T: Reencode>(
     ensures left { IsTrue T.keeps_defaults → IsTrue T.sure
         → LeavesTable (ask T.reply T.next) reencoder.old table.entry.ty table.entry.init reencoder.new result }
 {
-    bodies::parse_table!(reencoder, tables, table)
+    shared::parse_table(reencoder, tables, table)
 }
 
 /// Maps the rows that the reader still has, each by `memory_type`, and adds each row once it is mapped.
@@ -165,7 +165,7 @@ pub fn parse_memory_section<T: Reencode>(
     ensures left { IsTrue T.keeps_defaults → IsTrue T.sure
         → LeavesReading (RowsOf (row_of kinds.Memory) section.entry) (ask T.reply T.next) reencoder.old reencoder.new result }
 {
-    bodies::parse_memory_section!(reencoder, alloc, memories, section)
+    shared::parse_memory_section(reencoder, alloc, memories, section)
 }
 
 /// Maps the rows that the reader still has, each by `tag_type`, and adds each row once it is mapped.
@@ -181,7 +181,7 @@ pub fn parse_tag_section<T: Reencode>(
     ensures left { IsTrue T.keeps_defaults → IsTrue T.sure
         → LeavesReading (RowsOf (row_of kinds.Tag) section.entry) (ask T.reply T.next) reencoder.old reencoder.new result }
 {
-    bodies::parse_tag_section!(reencoder, alloc, tags, section)
+    shared::parse_tag_section(reencoder, alloc, tags, section)
 }
 
 /// Maps the rows that the reader still has, each by `parse_export`.
@@ -197,7 +197,7 @@ pub fn parse_export_section<T: Reencode>(
     ensures left { IsTrue T.keeps_defaults → IsTrue T.sure
         → LeavesReading (RowsOf (row_of kinds.Export) section.entry) (ask T.reply T.next) reencoder.old reencoder.new result }
 {
-    bodies::parse_export_section!(reencoder, alloc, exports, section)
+    bodies::each_row!(section, alloc, row => reencoder.parse_export(exports, row))
 }
 
 /// Maps an export by `export_kind` and `external_index`, and adds it.
@@ -212,7 +212,7 @@ pub fn parse_export<T: Reencode>(
     ensures left { IsTrue T.keeps_defaults → IsTrue T.sure
         → LeavesVisited (ask T.reply T.next) reencoder.old (visits (read.export_tree export.entry)) reencoder.new result }
 {
-    bodies::parse_export!(reencoder, exports, export)
+    shared::parse_export(reencoder, exports, export)
 }
 
 /// Maps the rows that the reader still has, each by `parse_function_body`. A `ParseError` holds the place of the row in
@@ -260,7 +260,7 @@ pub fn new_function_with_parsed_locals<T: Reencode>(
     ensures left { IsTrue T.keeps_defaults → IsTrue T.sure
         → LeavesReading (LocalsOf func.now.bytes.now) (ask T.reply T.next) reencoder.old reencoder.new result }
 {
-    bodies::new_function_with_parsed_locals!(reencoder, alloc, func)
+    shared::new_function_with_parsed_locals(reencoder, alloc, func)
 }
 
 /// Maps the body of a section of a kind by the methods of that kind, and adds the section. It calls no section hook.
