@@ -1,5 +1,5 @@
 -- What the call that maps one section gives.
-use Rattle.std.specs.Prelude.{◌≡◌, ◌≢◌, ◌⊎◌, ℕ, List, [], Result, Ok, Err, IfOk, IfErr}
+use Rattle.std.specs.Prelude.{◌≡◌, ◌≢◌, ◌≤◌, ◌<◌, ◌⊎◌, ℕ, List, [], length, Result, Ok, Err, IfOk, IfErr}
 use Rattle.wasm_leb.specs.Place.{BeginsNoNumber}
 use Rattle.wasm_shapes.specs.declared.SectionId.{SectionId}
 use Rattle.wasm_shapes.specs.Shape.{Shape}
@@ -8,9 +8,12 @@ use Rattle.wasm_shapes.specs.Spells.{Spells}
 use Rattle.wasm_shapes.specs.Module.{body_of, row_of, tree_of}
 use Rattle.wasm_shapes.specs.SectionTable.{number}
 use Rattle.wasm_read.specs.Reading.{Standing, CountRead}
+use Rattle.wasm_write.specs.declared.fault.WriteFault.{WriteFault}
+use Rattle.wasm_write.specs.Faults.{IfTooLarge}
 use Rattle.wasm_write.specs.Sections.{Sections, SectionRow, section_row, section_bytes, with_section}
 use Rattle.reencode_hooks.specs.declared.error.Error.{Error}
 use Rattle.reencode_hooks.specs.declared.error.Error.TheVariants.{NoMemory}
+use Rattle.reencode_hooks.specs.Errors.{error_of_write}
 use Rattle.reencode_hooks.specs.Run.{accepted, refused}
 use Rattle.reencode_hooks.specs.Walk.{walk}
 use Rattle.reencode_hooks.specs.Hooks.{Gains}
@@ -28,6 +31,14 @@ ReadsAs kind body t = (u : Tree) × (t ≡ tree_of kind u) × Spells (body_of ki
 -- the bodies of the sections of a kind are vectors of its rows
 abbrev pub HasRows : SectionId → Type 0
 HasRows kind = body_of kind ≡ Shape.vec (row_of kind)
+
+-- A section whose rows were mapped was added, or it is too large, or memory is wanting; where its rows were refused, that is
+-- the answer.
+abbrev pub AddsMapped : {E : Type 0} → SectionRow → Sections → Result (Unit {0}) (Error E) → Sections → Result (Unit {0}) (Error E) → Type 0
+AddsMapped row old (Err e) new result = (result ≡ Err e) × (new ≡ old)
+AddsMapped row old (Ok _) new (Ok _) = (new ≡ with_section old row) × (length row.body ≤ old.ceiling)
+AddsMapped row old (Ok _) new (Err e) =
+    (new ≡ old) × (w : WriteFault) × (e ≡ error_of_write w) × IfTooLarge w (λ size. (size ≡ length row.body) × (old.ceiling < size))
 
 -- The section became another, which was added, or it was refused, and nothing was added.
 abbrev pub GivesOne : {S E : Type 0} → Asks S E → SectionId → S → Tree → Sections → S → Sections → Result (Unit {0}) (Error E) → Type 0

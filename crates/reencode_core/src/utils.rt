@@ -17,6 +17,7 @@ ghost use Rattle.reencode_core.specs.Leaves.{BodyOf, LeavesReading, LocalsOf, Ro
 use crate::bodies;
 use crate::errors::placed;
 use crate::reencode::Reencode;
+use crate::sections::add_section;
 use crate::shared;
 use reencode_hooks::Error;
 use std::alloc::Global;
