@@ -43,8 +43,8 @@ abbrev pub CodeClauses : {S E : Type 0} → Ghosts S E → Standing → S → Co
 CodeClauses i start s old m new result =
     record {
       kept : KeepsCode old new;
-      default : IsTrue i.keeps_defaults → GivesRows (asks i) old.ceiling code_row start s old.rows m new.rows result;
-      left : IsTrue i.keeps_defaults → IsTrue i.sure → LeavesReading (RowsOf code_row start) (asks i) s m result;
+      default : IsTrue i.keeps_defaults → GivesRows (asks i) old.ceiling code_row start (s, old.rows) (m, new.rows) result;
+      after_error : IsTrue i.keeps_defaults → IsTrue i.sure → LeavesReading (RowsOf code_row start) (asks i) s m result;
     }
 
 -- the clauses of the call that maps a body
@@ -52,8 +52,8 @@ abbrev pub BodyClauses : {S E : Type 0} → Ghosts S E → List ℕ → S → Co
 BodyClauses i bytes s old m new result =
     record {
       kept : KeepsCode old new;
-      default : IsTrue i.keeps_defaults → GivesBody (asks i) bytes s old m new result;
-      left : IsTrue i.keeps_defaults → IsTrue i.sure → LeavesReading (BodyOf bytes) (asks i) s m result;
+      default : IsTrue i.keeps_defaults → GivesBody (asks i) bytes (s, old) (m, new) result;
+      after_error : IsTrue i.keeps_defaults → IsTrue i.sure → LeavesReading (BodyOf bytes) (asks i) s m result;
     }
 
 -- the clauses of the call that maps its locals
@@ -61,7 +61,7 @@ abbrev pub LocalsClauses : {S E : Type 0} → Ghosts S E → List ℕ → S → 
 LocalsClauses i bytes s m result =
     record {
       default : IsTrue i.keeps_defaults → GivesLocals (asks i) bytes s m result (λ f. f);
-      left : IsTrue i.keeps_defaults → IsTrue i.sure → LeavesReading (LocalsOf bytes) (asks i) s m result;
+      after_error : IsTrue i.keeps_defaults → IsTrue i.sure → LeavesReading (LocalsOf bytes) (asks i) s m result;
     }
 
 module _ {S E : Type 0} (i : Ghosts S E) {start : Standing} {s0 : S} {old : CodeRows} where
@@ -70,7 +70,7 @@ module _ {S E : Type 0} (i : Ghosts S E) {start : Standing} {s0 : S} {old : Code
 
   module _ {reader : Standing} {s : S} {new : CodeRows} (inv : CodeKept i start s0 old reader s new) where
     pub code_ended : {reader' : Standing} → RowsEnded reader reader' → CodeClauses i start s0 old s new (Ok tt)
-    code_ended ended = record { kept = inv.kept; default = λ k. rows_all (asks i) (inv.default k) ended; left = λ k sure t reads. tt }
+    code_ended ended = record { kept = inv.kept; default = λ k. rows_all (asks i) (inv.default k) ended; after_error = λ k sure t reads. tt }
 
     -- no frame is there
     pub code_stuck : (f : Fault) → ReadsNone f (place_of reader) (RowMissing frame_row reader) → (r : Result (Unit {0}) (Error E)) → IsErrAnd r (λ y. y ≡ error_of_fault f) →
@@ -80,7 +80,7 @@ module _ {S E : Type 0} (i : Ghosts S E) {start : Standing} {s0 : S} {old : Code
         subst P (answers r q) (record {
           kept = inv.kept;
           default = λ k. frames_unread (asks i) f (inv.default k) missing;
-          left = λ k sure. rows_leave_none (inv.default k);
+          after_error = λ k sure. rows_leave_none (inv.default k);
         })
 
     module _ {reader' : Standing} {bytes : List ℕ} (read : RowRead frame_row reader (Tree.sized (Tree.raw bytes)) reader') where
@@ -97,7 +97,7 @@ module _ {S E : Type 0} (i : Ghosts S E) {start : Standing} {s0 : S} {old : Code
           subst P (sym q) (record {
             kept = grown given.kept;
             default = λ k. body_err i.reply i.next inv.kept.ceiling (inv.default k) read e at (given.default k) place;
-            left = λ k sure. code_leaves_next (inv.default k) read (given.left k sure);
+            after_error = λ k sure. code_leaves_next (inv.default k) read (given.after_error k sure);
           })
 
 -- ---- a body
@@ -116,7 +116,7 @@ module _ {S E : Type 0} (i : Ghosts S E) {bytes : List ℕ} {s0 : S} (old : Code
       subst P (answers r q) (record {
         kept = keeps_code old;
         default = λ k. body_locals_refused (asks i) bytes s0 m old e (given.default k);
-        left = λ k sure. body_leaves_locals (given.left k sure);
+        after_error = λ k sure. body_leaves_locals (given.after_error k sure);
       })
 
   module _ {m : S} {f0 : Body} (made : LocalsClauses i bytes s0 m (Ok f0)) where
@@ -125,7 +125,7 @@ module _ {S E : Type 0} (i : Ghosts S E) {bytes : List ℕ} {s0 : S} (old : Code
     body_found f none r = record {
       kept = keeps_code old;
       default = λ k. operators_found (asks i) bytes s0 m old old f0 f r (made.default k) none;
-      left = λ k sure. reading_left r (body_leaves_locals (λ t p. accepted_visited 0 t ((made.default k).reading 0 t p.0 p.1)));
+      after_error = λ k sure. reading_left r (body_leaves_locals (λ t p. accepted_visited 0 t ((made.default k).reading 0 t p.0 p.1)));
     }
 
     pub operators_begun : (start : Reading) → OperatorsKept i start m f0 start m f0
@@ -147,7 +147,7 @@ module _ {S E : Type 0} (i : Ghosts S E) {bytes : List ℕ} {s0 : S} (old : Code
           subst P (answers r q) (record {
             kept = keeps_code old;
             default = λ k. operator_err i.reply i.next s0 m s f0 f.operators old begins (made.default k) (inv.default k) B view reader behind n e refl (inv.bytes ∙ is_bytes) some (parses k);
-            left = λ k sure. body_leaves_operator begins (walked k) (inv.default k 0) reader refl (leaves k sure);
+            after_error = λ k sure. body_leaves_operator begins (walked k) (inv.default k 0) reader refl (leaves k sure);
           })
 
       module _ {B : Type 0} (view : B → Tree) (b : B) {behind : Reading} {n : S} (parses : IsTrue i.keeps_defaults → ParsesOperator i.reply i.next s reader view n behind (Ok b)) where
@@ -167,7 +167,7 @@ module _ {S E : Type 0} (i : Ghosts S E) {bytes : List ℕ} {s0 : S} (old : Code
             subst P (answers r q) (subst Q (sym wants) (record {
               kept = keeps_code old;
               default = λ k. body_wants (asks i) bytes s0 n old;
-              left = λ k sure. let p = parses k in body_leaves_next begins (walked k) (inv.default k 0) p.begins (accepted_visited 0 p.operator (p.maps 0));
+              after_error = λ k sure. let p = parses k in body_leaves_next begins (walked k) (inv.default k 0) p.begins (accepted_visited 0 p.operator (p.maps 0));
             }))
 
       module _ (ended : rest_of reader ≡ []) where
@@ -176,7 +176,7 @@ module _ {S E : Type 0} (i : Ghosts S E) {bytes : List ℕ} {s0 : S} (old : Code
         body_added {new = new} added fits = record {
           kept = let P : CodeRows → Type 0 = λ z. KeepsCode old z in subst P (sym added) (record { ceiling = refl; rows = take-append_seam old.rows (code_tree f ∷ []) });
           default = λ k. body_given i.reply i.next s0 m s f0 f.operators old begins (made.default k) (inv.default k) new f ended inv.same_locals refl added fits;
-          left = λ k sure t reads. tt;
+          after_error = λ k sure t reads. tt;
         }
 
         -- it was not added
@@ -189,5 +189,5 @@ module _ {S E : Type 0} (i : Ghosts S E) {bytes : List ℕ} {s0 : S} (old : Code
             subst P (answers r q) (subst Q (sym unchanged) (record {
               kept = keeps_code old;
               default = λ k. body_not_added i.reply i.next s0 m s f0 f.operators old begins (made.default k) (inv.default k) f w ended inv.same_locals refl large;
-              left = λ k sure. body_leaves_none begins (walked k) (inv.default k 0);
+              after_error = λ k sure. body_leaves_none begins (walked k) (inv.default k 0);
             }))

@@ -37,8 +37,8 @@ abbrev pub CoreClauses : {S E : Type 0} → Ghosts S E → List ℕ → S → Se
 CoreClauses i bytes s old m new result =
     record {
       kept : KeepsModule old new;
-      default : IsTrue i.keeps_defaults → IsTrue i.adds_nothing → GivesCore (asks i) bytes s old m new result;
-      left : IsTrue i.keeps_defaults → IsTrue i.adds_nothing → IsTrue i.sure → LeavesReading (CoreReading bytes) (asks i) s m result;
+      default : IsTrue i.keeps_defaults → IsTrue i.adds_nothing → GivesCore (asks i) bytes (s, old) (m, new) result;
+      after_error : IsTrue i.keeps_defaults → IsTrue i.adds_nothing → IsTrue i.sure → LeavesReading (CoreReading bytes) (asks i) s m result;
     }
 
 -- the clauses of the section hook
@@ -54,7 +54,7 @@ module _ {S E : Type 0} (i : Ghosts S E) where
       subst P (answers r q) (record {
         kept = keeps_same old;
         default = λ k n. header_wrong (asks i) s old f wrong;
-        left = λ k n sure t reads. none_visited s (visits t);
+        after_error = λ k n sure t reads. none_visited s (visits t);
       })
 
   pub sections_begun : (start : read.Sections) (s : S) (old : Sections) → SectionsKept i start s old start None s old
@@ -74,7 +74,7 @@ module _ {S E : Type 0} (i : Ghosts S E) where
         subst P (answers r q) (record {
           kept = inv.kept;
           default = λ k n. no_frame (asks i) header.stands (inv.default k n) f _ none (counted refl);
-          left = λ k n sure. core_leaves_none (asks i) header.stands (inv.default k n);
+          after_error = λ k n sure. core_leaves_none (asks i) header.stands (inv.default k n);
         })
 
     -- a frame begins, and no section
@@ -83,7 +83,7 @@ module _ {S E : Type 0} (i : Ghosts S E) where
     core_unknown at none some place = record {
       kept = inv.kept;
       default = λ k n. no_section (asks i) header.stands (inv.default k n) at none some (counted place);
-      left = λ k n sure. core_leaves_none (asks i) header.stands (inv.default k n);
+      after_error = λ k n sure. core_leaves_none (asks i) header.stands (inv.default k n);
     }
 
     module _ (k : SectionId) {body left : List ℕ} (framed : Begins frame reader.rest (numbered_frame (number k) body) left) {n : S} {mid : Sections} where
@@ -97,7 +97,7 @@ module _ {S E : Type 0} (i : Ghosts S E) where
                 (hook_kept i.reply i.next i.adds i.adds_nothing keeps none s n new mid last (Some k) e hook.answer)
                 (hook_err i.reply i.next i.adds i.adds_nothing keeps none s n new mid last (Some k) e hook.answer)
                 (hook_usual i.reply i.next i.adds i.adds_nothing keeps none s n new mid last (Some k) e hook.answer);
-            left = λ d none sure. core_leaves_hook (asks i) header.stands (inv.default d none) k framed
+            after_error = λ d none sure. core_leaves_hook (asks i) header.stands (inv.default d none) k framed
                 (hook_err i.reply i.next i.adds i.adds_nothing keeps none s n new mid last (Some k) e hook.answer (never_wants e hook.sure sure));
           })
 
@@ -113,7 +113,7 @@ module _ {S E : Type 0} (i : Ghosts S E) where
               kept = grown given.kept;
               len = len ∙ inv.len;
               default = λ d none. subst P (sym behind) (sections_more (asks i) k (inv.default d none) framed
-              (hook_ok i.reply i.next i.adds i.adds_nothing keeps none s n new mid last (Some k) u hook.answer) (given.default d));
+                  (hook_ok i.reply i.next i.adds i.adds_nothing keeps none s n new mid last (Some k) u hook.answer) (given.default d));
             }
 
         -- a section is refused, or none of its kind
@@ -125,8 +125,8 @@ module _ {S E : Type 0} (i : Ghosts S E) where
               kept = grown given.kept;
               default = λ d none. section_err (asks i) header.stands (inv.default d none) k e at framed
                   (hook_ok i.reply i.next i.adds i.adds_nothing keeps none s n new mid last (Some k) u hook.answer) (given.default d) (counted place);
-              left = λ d none sure. core_leaves_inside (asks i) header.stands (inv.default d none) k framed
-                  (hook_ok i.reply i.next i.adds i.adds_nothing keeps none s n new mid last (Some k) u hook.answer).0 (given.left d sure);
+              after_error = λ d none sure. core_leaves_inside (asks i) header.stands (inv.default d none) k framed
+                  (hook_ok i.reply i.next i.adds i.adds_nothing keeps none s n new mid last (Some k) u hook.answer).0 (given.after_error d sure);
             })
 
     -- the hook at the end
@@ -134,5 +134,5 @@ module _ {S E : Type 0} (i : Ghosts S E) where
     core_ended {n = n} {mid = mid} empty r hook = record {
       kept = keeps_more old new mid inv.kept (hook_keeps i.reply i.next i.adds s n new mid last None r hook.answer);
       default = λ d none. end_given i.reply i.next i.adds i.adds_nothing keeps none header.stands (inv.default d none) empty n mid r hook.answer;
-      left = λ d none sure. end_left i.reply i.next i.adds i.adds_nothing keeps none header.stands (inv.default d none) empty n mid r hook.answer hook.sure sure;
+      after_error = λ d none sure. end_left i.reply i.next i.adds i.adds_nothing keeps none header.stands (inv.default d none) empty n mid r hook.answer hook.sure sure;
     }

@@ -11,7 +11,8 @@ pub(crate) fn add_section<S: Section, E>(
     mapped: Result<(), Error<E>>,
     section: &S,
 ) -> Result<(), Error<E>>
-    ensures { AddsMapped (section_row (S.number section.now) (S.contents section.now)) «module».old mapped «module».new result }
+    ensures { AddsMapped (section_row (S.number section.now) (S.contents section.now)) «module».old
+        mapped «module».new result }
 {
     mapped?;
     module.section(section)?;

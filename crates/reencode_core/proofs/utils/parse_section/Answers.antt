@@ -1,75 +1,55 @@
-use Rattle.std.proofs.Common.{◌∙◌, ap, refl}
+use Rattle.std.proofs.Common.{refl}
 use Rattle.wasm_shapes.proofs.SectionTable.{not_in_force}
-use Rattle.wasm_write.specs.Bodies.{CodeRows}
-use Rattle.reencode_core.proofs.MappedSection.{section_done, section_unknown, section_unread}
-use Rattle.reencode_core.proofs.RowLoop.{at_ceiling}
+use Rattle.reencode_core.proofs.MappedSection.{code_done, section_done, section_unknown, section_unread}
 use Rattle.reencode_core.proofs.utils.parse_section.Goals as goal
 
 pub returns-in_err-rows-in-Type_ : goal.returns-in_err-rows-in-Type_
 returns-in_err-rows-in-Type_ g c = section_unread g.T.ReencodeIndices c.in-Type_.is refl _ c.in_err-rows-in-Type_.ensures.err _ c.from_residual.ensures.1
 
 pub returns-in_ok-rows-in-Type_ : goal.returns-in_ok-rows-in-Type_
-returns-in_ok-rows-in-Type_ g c =
-    let rows = c.parse_type_section-mapped.ensures in
-    section_done g.T.ReencodeIndices c.in-Type_.is refl _ _ c.new-types.ensures c.in_ok-rows-in-Type_.ensures.ok (λ keeps. rows.default keeps _) rows.left c.add_section.ensures
+returns-in_ok-rows-in-Type_ g c = section_done g.T.ReencodeIndices c.in-Type_.is refl _ _ c.new-types.ensures c.in_ok-rows-in-Type_.ensures.ok c.parse_type_section-mapped.ensures c.add_section.ensures
 
 pub returns-in_err-rows-in-Import : goal.returns-in_err-rows-in-Import
 returns-in_err-rows-in-Import g c = section_unread g.T.ReencodeIndices c.in-Import.is refl _ c.in_err-rows-in-Import.ensures.err _ c.from_residual-in_err-rows-in-Import.ensures.1
 
 pub returns-in_ok-rows-in-Import : goal.returns-in_ok-rows-in-Import
-returns-in_ok-rows-in-Import g c =
-    let rows = c.parse_import_section-mapped.ensures in
-    section_done g.T.ReencodeIndices c.in-Import.is refl _ _ c.new-imports.ensures c.in_ok-rows-in-Import.ensures.ok (λ keeps. rows.default keeps _) rows.left c.add_section-in-Import.ensures
+returns-in_ok-rows-in-Import g c = section_done g.T.ReencodeIndices c.in-Import.is refl _ _ c.new-imports.ensures c.in_ok-rows-in-Import.ensures.ok c.parse_import_section-mapped.ensures c.add_section-in-Import.ensures
 
 pub returns-in_err-rows-in-Function : goal.returns-in_err-rows-in-Function
 returns-in_err-rows-in-Function g c = section_unread g.T.ReencodeIndices c.in-Function.is refl _ c.in_err-rows-in-Function.ensures.err _ c.from_residual-in_err-rows-in-Function.ensures.1
 
 pub returns-in_ok-rows-in-Function : goal.returns-in_ok-rows-in-Function
-returns-in_ok-rows-in-Function g c =
-    let rows = c.parse_function_section-mapped.ensures in
-    section_done g.T.ReencodeIndices c.in-Function.is refl _ _ c.new-functions.ensures c.in_ok-rows-in-Function.ensures.ok (λ keeps. rows.default keeps _) rows.left c.add_section-in-Function.ensures
+returns-in_ok-rows-in-Function g c = section_done g.T.ReencodeIndices c.in-Function.is refl _ _ c.new-functions.ensures c.in_ok-rows-in-Function.ensures.ok c.parse_function_section-mapped.ensures c.add_section-in-Function.ensures
 
 pub returns-in_err-rows-in-Table : goal.returns-in_err-rows-in-Table
 returns-in_err-rows-in-Table g c = section_unread g.T.ReencodeIndices c.in-Table.is refl _ c.in_err-rows-in-Table.ensures.err _ c.from_residual-in_err-rows-in-Table.ensures.1
 
 pub returns-in_ok-rows-in-Table : goal.returns-in_ok-rows-in-Table
-returns-in_ok-rows-in-Table g c =
-    let rows = c.parse_table_section-mapped.ensures in
-    section_done g.T.ReencodeIndices c.in-Table.is refl _ _ c.new-tables.ensures c.in_ok-rows-in-Table.ensures.ok (λ keeps. rows.default keeps _) rows.left c.add_section-in-Table.ensures
+returns-in_ok-rows-in-Table g c = section_done g.T.ReencodeIndices c.in-Table.is refl _ _ c.new-tables.ensures c.in_ok-rows-in-Table.ensures.ok c.parse_table_section-mapped.ensures c.add_section-in-Table.ensures
 
 pub returns-in_err-rows-in-Memory : goal.returns-in_err-rows-in-Memory
 returns-in_err-rows-in-Memory g c = section_unread g.T.ReencodeIndices c.in-Memory.is refl _ c.in_err-rows-in-Memory.ensures.err _ c.from_residual-in_err-rows-in-Memory.ensures.1
 
 pub returns-in_ok-rows-in-Memory : goal.returns-in_ok-rows-in-Memory
-returns-in_ok-rows-in-Memory g c =
-    let rows = c.parse_memory_section-mapped.ensures in
-    section_done g.T.ReencodeIndices c.in-Memory.is refl _ _ c.new-memories.ensures c.in_ok-rows-in-Memory.ensures.ok (λ keeps. rows.default keeps _) rows.left c.add_section-in-Memory.ensures
+returns-in_ok-rows-in-Memory g c = section_done g.T.ReencodeIndices c.in-Memory.is refl _ _ c.new-memories.ensures c.in_ok-rows-in-Memory.ensures.ok c.parse_memory_section-mapped.ensures c.add_section-in-Memory.ensures
 
 pub returns-in_err-rows-in-Export : goal.returns-in_err-rows-in-Export
 returns-in_err-rows-in-Export g c = section_unread g.T.ReencodeIndices c.in-Export.is refl _ c.in_err-rows-in-Export.ensures.err _ c.from_residual-in_err-rows-in-Export.ensures.1
 
 pub returns-in_ok-rows-in-Export : goal.returns-in_ok-rows-in-Export
-returns-in_ok-rows-in-Export g c =
-    let rows = c.parse_export_section-mapped.ensures in
-    section_done g.T.ReencodeIndices c.in-Export.is refl _ _ c.new-exports.ensures c.in_ok-rows-in-Export.ensures.ok (λ keeps. rows.default keeps _) rows.left c.add_section-in-Export.ensures
+returns-in_ok-rows-in-Export g c = section_done g.T.ReencodeIndices c.in-Export.is refl _ _ c.new-exports.ensures c.in_ok-rows-in-Export.ensures.ok c.parse_export_section-mapped.ensures c.add_section-in-Export.ensures
 
 pub returns-in_err-rows-in-Code : goal.returns-in_err-rows-in-Code
 returns-in_err-rows-in-Code g c = section_unread g.T.ReencodeIndices c.in-Code.is refl _ c.in_err-rows-in-Code.ensures.err _ c.from_residual-in_err-rows-in-Code.ensures.1
 
 pub returns-in_ok-rows-in-Code : goal.returns-in_ok-rows-in-Code
-returns-in_ok-rows-in-Code g c =
-    let rows = c.parse_code_section-mapped.ensures in
-    let fresh = c.new-code.ensures in
-    section_done g.T.ReencodeIndices c.in-Code.is refl _ _ (ap CodeRows.rows fresh) c.in_ok-rows-in-Code.ensures.ok
-    (λ keeps. at_ceiling _ _ (ap CodeRows.ceiling fresh ∙ c.ceiling.ensures) (rows.default keeps)) rows.left c.add_section-in-Code.ensures
+returns-in_ok-rows-in-Code g c = code_done g.T.ReencodeIndices _ _ c.in-Code.is c.new-code.ensures c.ceiling.ensures c.in_ok-rows-in-Code.ensures.ok c.parse_code_section-mapped.ensures c.add_section-in-Code.ensures
 
 pub returns-in_err-rows-in-Tag : goal.returns-in_err-rows-in-Tag
 returns-in_err-rows-in-Tag g c = section_unread g.T.ReencodeIndices c.in-Tag.is refl _ c.in_err-rows-in-Tag.ensures.err _ c.from_residual-in_err-rows-in-Tag.ensures.1
 
 pub returns-in_ok-rows-in-Tag : goal.returns-in_ok-rows-in-Tag
-returns-in_ok-rows-in-Tag g c =
-    let rows = c.parse_tag_section-mapped.ensures in
-    section_done g.T.ReencodeIndices c.in-Tag.is refl _ _ c.new-tags.ensures c.in_ok-rows-in-Tag.ensures.ok (λ keeps. rows.default keeps _) rows.left c.add_section-in-Tag.ensures
+returns-in_ok-rows-in-Tag g c = section_done g.T.ReencodeIndices c.in-Tag.is refl _ _ c.new-tags.ensures c.in_ok-rows-in-Tag.ensures.ok c.parse_tag_section-mapped.ensures c.add_section-in-Tag.ensures
 
 pub returns-in_default : goal.returns-in_default
 returns-in_default g c =
