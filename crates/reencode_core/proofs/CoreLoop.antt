@@ -256,10 +256,10 @@ module _ {S E : Type 0} (asked : Asks S E) where
 
   pub sections_more : (k : SectionId) {start rest rest' body : List ℕ} {s0 s n s' : S} {old new mid new' : Sections} {last : Option SectionId} →
       SectionsDone asked start s0 old rest last s new → Begins frame rest (numbered_frame (number k) body) rest' →
-      (asked s (Section last (Some k)) ≡ accepted 0 n) × (mid ≡ new) → GivesSection asked k body n mid s' new' (Ok tt) →
+      (asked s (Section last (Some k)) ≡ accepted 0 n) × (mid ≡ new) → GivesSection asked k body (n, mid) (s', new') (Ok tt) →
       SectionsDone asked start s0 old rest' (Some k) s' new'
   sections_more k {rest = rest} {rest' = rest'} {body = body} {s0 = s0} {s = s} {n = n} {s' = s'} {old = old} {new = new} {mid = mid} {new' = new'} {last = last} d there hook given =
-      let P : Sections → Type 0 = λ z. GivesSection asked k body n z s' new' (Ok tt) in
+      let P : Sections → Type 0 = λ z. GivesSection asked k body (n, z) (s', new') (Ok tt) in
       let g = subst P hook.1 given in
       let t : Tree = g.readable.0 in
       let reads : ReadsAs k body t = g.readable.1 in
@@ -329,7 +329,7 @@ module _ {S E : Type 0} (asked : Asks S E) where
 
     -- what was added when a refusal comes, and why it comes
     stopped : (e : Error E) (s' : S) (new' : Sections) (t u : Tree) → t ≡ alsos d.read u → new' ≡ new →
-        (e ≢ NoMemory → RefusesNext asked old.ceiling last s u e s') → StopsSections asked old.ceiling s0 t old s' new' e
+        (e ≢ NoMemory → RefusesNext asked old.ceiling last s u e s') → StopsSections asked old.ceiling (s0, old) t (s', new') e
     stopped e s' new' t u f unchanged stops = record {
       read = d.read;
       others = u;
@@ -347,14 +347,14 @@ module _ {S E : Type 0} (asked : Asks S E) where
     -- a section, or the hook before it, is refused
     pub section_refused : (k : SectionId) {left body : List ℕ} {s' : S} {new' : Sections} (e : Error E) → Begins frame rest (numbered_frame (number k) body) left →
         ((t : Tree) → ReadsAs k body t → (new' ≡ new) × (e ≢ NoMemory → hooked asked old.ceiling last s t ≡ refused e s')) → IfParse e (λ at. ⊥) →
-        IfRefused e (((t : Tree) × ReadsAs k body t) ⊎ StopsInside asked old.ceiling rest last s e s') → GivesCore asked bytes s0 old s' new' (Err e)
+        IfRefused e (((t : Tree) × ReadsAs k body t) ⊎ StopsInside asked old.ceiling rest last s e s') → GivesCore asked bytes (s0, old) (s', new') (Err e)
     section_refused k {left = left_behind} {body = body} {s' = s'} {new' = new'} e there stops usual inside = record {
       reading = λ t r. go t (read_ahead t r);
       readable = tt;
       cause = cause e (λ t r. (stops t r).1) usual inside;
     }
       where
-        go : (t : Tree) → Ahead d.read rest t [] → StopsSections asked old.ceiling s0 t old s' new' e
+        go : (t : Tree) → Ahead d.read rest t [] → StopsSections asked old.ceiling (s0, old) t (s', new') e
         go t (same f empty) = absurd (some_begun there empty)
         go t (more u v left f b) = let h = stops u (reads_begun k there b) in stopped e s' new' t (Tree.also u v) f h.0 h.1
 
@@ -384,7 +384,7 @@ module _ {S E : Type 0} (asked : Asks S E) where
 
     -- no section begins, though bytes are left, as further visits showed
     fault_behind : {s' : S} {new' : Sections} (at : ℕ) → BeginsNone section rest → rest ≢ [] → at ≡ length bytes - length rest → Further asked s s' →
-        GivesCore asked bytes s0 old s' new' (Err (ParseError (record { at = at })))
+        GivesCore asked bytes (s0, old) (s', new') (Err (ParseError (record { at = at })))
     fault_behind {s' = s'} {new' = new'} at none some place further = record {
       reading = λ t r. absurd (go t (read_ahead t r));
       readable = tt;
@@ -397,12 +397,12 @@ module _ {S E : Type 0} (asked : Asks S E) where
 
     -- no section begins
     pub no_section : {new' : Sections} (at : ℕ) → BeginsNone section rest → rest ≢ [] → at ≡ length bytes - length rest →
-        GivesCore asked bytes s0 old s new' (Err (ParseError (record { at = at })))
+        GivesCore asked bytes (s0, old) (s, new') (Err (ParseError (record { at = at })))
     no_section at none some place = fault_behind at none some place (further_none asked s)
 
     -- no frame begins
     pub no_frame : {new' : Sections} (f : Fault) (at : ℕ) → ReadsNone f at (BeginsNone frame rest × (rest ≢ [])) → at ≡ length bytes - length rest →
-        GivesCore asked bytes s0 old s new' (Err (error_of_fault f))
+        GivesCore asked bytes (s0, old) (s, new') (Err (error_of_fault f))
     no_frame (fault.Read x) at h place = no_section x.at (none_section h.1.0) h.1.1 (h.0 ∙ place)
     no_frame (fault.Header k) at h place = absurd h
     no_frame fault.CodeSize at h place = absurd h
@@ -410,21 +410,21 @@ module _ {S E : Type 0} (asked : Asks S E) where
 
     -- the error of the hook before a section
     pub hook_refused : (k : SectionId) {left body : List ℕ} {s' : S} {new' : Sections} (e : Error E) → Begins frame rest (numbered_frame (number k) body) left → new' ≡ new →
-        (e ≢ NoMemory → asked s (Section last (Some k)) ≡ refused e s') → IfParse e (λ at. ⊥) → GivesCore asked bytes s0 old s' new' (Err e)
+        (e ≢ NoMemory → asked s (Section last (Some k)) ≡ refused e s') → IfParse e (λ at. ⊥) → GivesCore asked bytes (s0, old) (s', new') (Err e)
     hook_refused k {left = left} {body = body} {s' = s'} e there unchanged stops usual =
         section_refused k e there (λ t r. (unchanged, λ other. hooked_refused old.ceiling k last s s' t e r (stops other))) usual
         (unless_wanting e (λ other. inr (record { id = k; body = body; left = left; framed = there; stops = inl (stops other) })))
 
     -- a section's error, at the section's place
     pub section_err : (k : SectionId) {left body : List ℕ} {n s' : S} {mid new' : Sections} (e : Error E) (at : ℕ) → Begins frame rest (numbered_frame (number k) body) left →
-        (asked s (Section last (Some k)) ≡ accepted 0 n) × (mid ≡ new) → GivesSection asked k body n mid s' new' (Err e) → at ≡ length bytes - length rest →
-        GivesCore asked bytes s0 old s' new' (Err (placed_at e at))
+        (asked s (Section last (Some k)) ≡ accepted 0 n) × (mid ≡ new) → GivesSection asked k body (n, mid) (s', new') (Err e) → at ≡ length bytes - length rest →
+        GivesCore asked bytes (s0, old) (s', new') (Err (placed_at e at))
     section_err k {left = left} {body = body} {n = n} {s' = s'} {mid = mid} {new' = new'} e at there hook given place = go e given
       where
-        unchanged : (w : Error E) → GivesSection asked k body n mid s' new' (Err w) → GivesSection asked k body n new s' new' (Err w)
-        unchanged w g = let P : Sections → Type 0 = λ z. GivesSection asked k body n z s' new' (Err w) in subst P hook.1 g
+        unchanged : (w : Error E) → GivesSection asked k body (n, mid) (s', new') (Err w) → GivesSection asked k body (n, new) (s', new') (Err w)
+        unchanged w g = let P : Sections → Type 0 = λ z. GivesSection asked k body (n, z) (s', new') (Err w) in subst P hook.1 g
 
-        stops : (w : Error E) → GivesSection asked k body n mid s' new' (Err w) → (t : Tree) → ReadsAs k body t → (new' ≡ new) × (w ≢ NoMemory → hooked asked old.ceiling last s t ≡ refused w s')
+        stops : (w : Error E) → GivesSection asked k body (n, mid) (s', new') (Err w) → (t : Tree) → ReadsAs k body t → (new' ≡ new) × (w ≢ NoMemory → hooked asked old.ceiling last s t ≡ refused w s')
         stops w given t r =
             let g = (unchanged w given).reading t r in
             let ceiling : new.ceiling ≡ old.ceiling = ap Sections.ceiling d.gains in
@@ -432,7 +432,7 @@ module _ {S E : Type 0} (asked : Asks S E) where
             (g.0, λ h. hooked_err old.ceiling k last s n s' t w r hook.0 (subst W ceiling (g.1 h)))
 
         -- what was refused inside it
-        inside : (w : Error E) → GivesSection asked k body n mid s' new' (Err w) → IfRefused w (((t : Tree) × ReadsAs k body t) ⊎ StopsInside asked old.ceiling rest last s w s')
+        inside : (w : Error E) → GivesSection asked k body (n, mid) (s', new') (Err w) → IfRefused w (((t : Tree) × ReadsAs k body t) ⊎ StopsInside asked old.ceiling rest last s w s')
         inside w given = IfRefused-map w behind (unchanged w given).refusal
           where
             behind : ((t : Tree) × ReadsAs k body t) ⊎ StopsSection asked new.ceiling k body n w s' → ((t : Tree) × ReadsAs k body t) ⊎ StopsInside asked old.ceiling rest last s w s'
@@ -450,7 +450,7 @@ module _ {S E : Type 0} (asked : Asks S E) where
             let walked : walk asked mid.ceiling n (rows_then f.read Tree.nil) ≡ accepted (rows_then f.made Tree.nil) f.state = f.accepts Tree.nil in
             further_then asked n f.state s' (walk_further asked mid.ceiling n f.state (rows_then f.read Tree.nil) (rows_then f.made Tree.nil) walked) f.further
 
-        go : (w : Error E) → GivesSection asked k body n mid s' new' (Err w) → GivesCore asked bytes s0 old s' new' (Err (placed_at w at))
+        go : (w : Error E) → GivesSection asked k body (n, mid) (s', new') (Err w) → GivesCore asked bytes (s0, old) (s', new') (Err (placed_at w at))
         go (ParseError x) g =
             fault_behind at (section_none k there g.unreadable.0) (some_begun there) place
             (further_then asked s n s' (further_one asked s n (Section last (Some k)) 0 hook.0) (within x.at g.unreadable))
@@ -460,7 +460,7 @@ module _ {S E : Type 0} (asked : Asks S E) where
         go _ g = absurd g.unreadable
 
     -- the end
-    pub sections_end : {s' : S} {new' : Sections} → rest ≡ [] → (asked s (Section last None) ≡ accepted 0 s') × (new' ≡ new) → GivesCore asked bytes s0 old s' new' (Ok tt)
+    pub sections_end : {s' : S} {new' : Sections} → rest ≡ [] → (asked s (Section last None) ≡ accepted 0 s') × (new' ≡ new) → GivesCore asked bytes (s0, old) (s', new') (Ok tt)
     sections_end {s' = s'} {new' = new'} empty h = record {
       reading = λ t r. go t (read_ahead t r);
       readable = (alsos d.read Tree.finish, record { rest = start; stands = reads; spells = all });
@@ -473,7 +473,7 @@ module _ {S E : Type 0} (asked : Asks S E) where
             let P : List ℕ → Type 0 = λ z. Spells sections z (alsos d.read Tree.finish) in
             subst P whole d.spells
 
-        go : (t : Tree) → Ahead d.read rest t [] → GivesModule asked s0 t old s' new' (Ok tt)
+        go : (t : Tree) → Ahead d.read rest t [] → GivesModule asked (s0, old) t (s', new') (Ok tt)
         go t (same f _) =
             let last_step : walk_from asked old.ceiling last s Tree.finish ≡ accepted Tree.finish s' = rw h.0 refl in
             let walked : walk asked old.ceiling s0 t ≡ accepted (alsos d.made Tree.finish) s' = rw f (d.accepts Tree.finish ∙ ap (λ (r : Step S (Error E) Tree). onto d.made r) last_step) in
@@ -481,14 +481,14 @@ module _ {S E : Type 0} (asked : Asks S E) where
         go t (more u v left f b) = absurd (none_behind.none b.text left u b.spells (sym empty ∙ b.reads))
 
     pub end_refused : {s' : S} {new' : Sections} (e : Error E) → rest ≡ [] → new' ≡ new → (e ≢ NoMemory → asked s (Section last None) ≡ refused e s') → IfParse e (λ at. ⊥) →
-        GivesCore asked bytes s0 old s' new' (Err e)
+        GivesCore asked bytes (s0, old) (s', new') (Err e)
     end_refused {s' = s'} {new' = new'} e empty same_module stops usual = record {
       reading = λ t r. go t (read_ahead t r);
       readable = tt;
       cause = cause e usual;
     }
       where
-        go : (t : Tree) → Ahead d.read rest t [] → StopsSections asked old.ceiling s0 t old s' new' e
+        go : (t : Tree) → Ahead d.read rest t [] → StopsSections asked old.ceiling (s0, old) t (s', new') e
         go t (same f _) = stopped e s' new' t Tree.finish f same_module stops
         go t (more u v left f b) = absurd (none_behind.none b.text left u b.spells (sym empty ∙ b.reads))
 
@@ -545,7 +545,7 @@ module _ {S E : Type 0} (asked : Asks S E) where
 
   -- ---- no module
 
-  pub header_wrong : {bytes : List ℕ} (s : S) (old : Sections) (f : Fault) → NoCoreHeader f bytes → GivesCore asked bytes s old s old (Err (error_of_fault f))
+  pub header_wrong : {bytes : List ℕ} (s : S) (old : Sections) (f : Fault) → NoCoreHeader f bytes → GivesCore asked bytes (s, old) (s, old) (Err (error_of_fault f))
   header_wrong {bytes = bytes} s old (fault.Header kinds.Component) there = record {
     reading = λ t r. absurd (let e : core_header ++ r.rest ≡ component_header ++ there.0 = sym r.stands ∙ there.1 in cc);
     readable = tt;
@@ -564,7 +564,7 @@ module _ {S E : Type 0} (asked : Asks S E) where
 pub end_given : {S E : Type 0} (reply : S → Visit → Result ℕ E) (next : S → Visit → S) (adds : S → Option SectionId → Option SectionId → List SectionRow) (nothing : Bool) →
     KeepsAdds adds nothing → IsTrue nothing → {start bytes rest : List ℕ} {s0 s : S} {old new : Sections} {last : Option SectionId} → bytes ≡ core_header ++ start →
     SectionsDone (ask reply next) start s0 old rest last s new → rest ≡ [] → (s' : S) (new' : Sections) (r : Result (Unit {0}) (Error E)) →
-    RepliesSection reply next adds s s' new new' last None r → GivesCore (ask reply next) bytes s0 old s' new' r
+    RepliesSection reply next adds s s' new new' last None r → GivesCore (ask reply next) bytes (s0, old) (s', new') r
 end_given reply next adds nothing keeps sure {s = s} {new = new} {last = last} reads d empty s' new' (Ok u) h =
     sections_end (ask reply next) reads d empty (hook_ok reply next adds nothing keeps sure s s' new new' last None u h)
 end_given reply next adds nothing keeps sure {s = s} {new = new} {last = last} reads d empty s' new' (Err e) h =

@@ -25,8 +25,8 @@ abbrev pub RowsClauses : {S E : Type 0} → Ghosts S E → Shape → Standing �
 RowsClauses i row start s old m new result =
     record {
       kept : KeepsFront old new;
-      default : IsTrue i.keeps_defaults → (c : ℕ) → GivesRows (asks i) c row start s old m new result;
-      left : IsTrue i.keeps_defaults → IsTrue i.sure → LeavesReading (RowsOf row start) (asks i) s m result;
+      default : IsTrue i.keeps_defaults → (c : ℕ) → GivesRows (asks i) c row start (s, old) (m, new) result;
+      after_error : IsTrue i.keeps_defaults → IsTrue i.sure → LeavesReading (RowsOf row start) (asks i) s m result;
     }
 
 module _ {S E : Type 0} (i : Ghosts S E) {row : Shape} {start : Standing} {s0 : S} {old : List Tree} where
@@ -35,7 +35,7 @@ module _ {S E : Type 0} (i : Ghosts S E) {row : Shape} {start : Standing} {s0 : 
 
   module _ {reader : Standing} {s : S} {new : List Tree} (inv : RowsKept i row start s0 old reader s new) where
     pub rows_ended : {reader' : Standing} → RowsEnded reader reader' → RowsClauses i row start s0 old s new (Ok tt)
-    rows_ended ended = record { kept = inv.kept; default = λ k c. rows_all (asks i) (inv.default k c) ended; left = λ k sure t reads. tt }
+    rows_ended ended = record { kept = inv.kept; default = λ k c. rows_all (asks i) (inv.default k c) ended; after_error = λ k sure t reads. tt }
 
     -- no row is there
     pub rows_stuck : (f : Fault) → ReadsNoneOrWants f (place_of reader) (RowMissing row reader) → (r : Result (Unit {0}) (Error E)) → IsErrAnd r (λ y. y ≡ error_of_fault f) →
@@ -45,7 +45,7 @@ module _ {S E : Type 0} (i : Ghosts S E) {row : Shape} {start : Standing} {s0 : 
         subst P (answers r q) (record {
           kept = inv.kept;
           default = λ k c. rows_unread (asks i) f (inv.default k c) missing;
-          left = λ k sure. rows_leave_none (inv.default k 0);
+          after_error = λ k sure. rows_leave_none (inv.default k 0);
         })
 
     module _ {reader' : Standing} {t : Tree} (is_sound : sound row ≡ true) (is_closed : closed row ≡ true) (read : RowRead row reader t reader') {m : S} {new' : List Tree} where
@@ -63,5 +63,5 @@ module _ {S E : Type 0} (i : Ghosts S E) {row : Shape} {start : Standing} {s0 : 
           subst P (answers r q) (record {
             kept = kept_on old new new' inv.kept given.kept;
             default = λ k c. row_refused i.reply i.next is_sound is_closed (inv.default k c) read (given.default k c);
-            left = λ k sure. rows_leave_next (inv.default k 0) is_sound is_closed read (given.left k sure);
+            after_error = λ k sure. rows_leave_next (inv.default k 0) is_sound is_closed read (given.after_error k sure);
           })

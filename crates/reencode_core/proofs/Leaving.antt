@@ -199,7 +199,7 @@ module _ {S E : Type 0} {asked : Asks S E} where
 
   -- all rows were accepted
   pub section_leaves_all : {c : ℕ} {s m : S} {old new : List Tree} (k : SectionId) (known : HasRows k) {bytes : List ℕ} {reader : Standing} → CountRead bytes reader →
-      GivesRows asked c (row_of k) reader s old m new (Ok tt) → Leaves (ReadsAs k bytes) asked s m
+      GivesRows asked c (row_of k) reader (s, old) (m, new) (Ok tt) → Leaves (ReadsAs k bytes) asked s m
   section_leaves_all {c = c} k known there g = section_leaves k known there (λ rows r. accepted_visited c rows (g.reading rows r).1)
 
   -- ---- the bytes

@@ -12,3 +12,6 @@ pub mod BodyLoop
 pub mod Locals
 pub mod WholeBody
 pub mod Leaving
+pub mod MappedSection
+pub mod EachSection
+pub mod EachBody

@@ -50,8 +50,8 @@ abbrev pub RowClauses : {S E : Type 0} → Ghosts S E → Tree → S → List Tr
 RowClauses i t s old m new result =
     record {
       kept : KeepsFront old new;
-      default : IsTrue i.keeps_defaults → (c : ℕ) → GivesRow (asks i) c s t old m new result;
-      left : IsTrue i.keeps_defaults → IsTrue i.sure → LeavesVisited (asks i) s (visits t) m result;
+      default : IsTrue i.keeps_defaults → (c : ℕ) → GivesRow (asks i) c (s, old) t (m, new) result;
+      after_error : IsTrue i.keeps_defaults → IsTrue i.sure → LeavesVisited (asks i) s (visits t) m result;
     }
 
 -- a call that maps an item, in a reencoder that keeps the defaults
@@ -60,7 +60,7 @@ MapsIf i s t view m result = IsTrue i.keeps_defaults → Maps i.reply i.next s t
 
 -- the row was mapped, and one of its numbers is too large
 large_row : {S E : Type 0} (asked : Asks S E) (c : ℕ) (s m : S) (t u : Tree) (rows : List Tree) (w : WriteFault) → walk asked c s t ≡ accepted u m →
-    IfTooLarge w (IsTooLarge (counts u ++ (length rows + 1) ∷ [])) → GivesRow asked c s t rows m rows (Err (error_of_write w))
+    IfTooLarge w (IsTooLarge (counts u ++ (length rows + 1) ∷ [])) → GivesRow asked c (s, rows) t (m, rows) (Err (error_of_write w))
 large_row {E = E} asked c s m t u rows w walked large = (refl, λ other. go w large other)
   where
     go : (w : WriteFault) → IfTooLarge w (IsTooLarge (counts u ++ (length rows + 1) ∷ [])) → error_of_write {E = E} w ≢ NoMemory →
@@ -78,14 +78,14 @@ one_too_many u n fault.NoMemory q = tt
 module _ {S E B : Type 0} (i : Ghosts S E) (t : Tree) (view : B → Tree) (s m : S) where
   -- the row was mapped, and added
   pub row_mapped : {old new : List Tree} (b : B) → MapsIf i s t view m (Ok b) → new ≡ old ++ view b ∷ [] → RowClauses i t s old m new (Ok tt)
-  row_mapped {old = old} b maps added = record { kept = rw added (take-append_seam old (view b ∷ [])); default = λ k c. (view b, maps k c, added); left = λ k sure. tt }
+  row_mapped {old = old} b maps added = record { kept = rw added (take-append_seam old (view b ∷ [])); default = λ k c. (view b, maps k c, added); after_error = λ k sure. tt }
 
   -- it was refused
   pub row_unmapped : {old new : List Tree} (e : Error E) → MapsIf i s t view m (Err e) → (IsTrue i.keeps_defaults → IsTrue i.sure → LeavesVisited {A = B} (asks i) s (visits t) m (Err e)) →
       new ≡ old → (r : Result (Unit {0}) (Error E)) → IsErrAnd r (λ y. y ≡ e) → RowClauses i t s old m new r
   row_unmapped {old = old} {new = new} e maps visited unchanged r q =
       let P : Result (Unit {0}) (Error E) → Type 0 = λ z. RowClauses i t s old m new z in
-      subst P (answers r q) (record { kept = rw unchanged (take-length old); default = λ k c. (unchanged, λ other. inl (maps k c other)); left = visited })
+      subst P (answers r q) (record { kept = rw unchanged (take-length old); default = λ k c. (unchanged, λ other. inl (maps k c other)); after_error = visited })
 
   -- it was mapped, and not added
   pub row_not_added : {old new : List Tree} (b : B) (w : WriteFault) → MapsIf i s t view m (Ok b) → new ≡ old → IfTooLarge w (IsTooLarge (counts (view b) ++ (length old + 1) ∷ [])) →
@@ -96,7 +96,7 @@ module _ {S E B : Type 0} (i : Ghosts S E) (t : Tree) (view : B → Tree) (s m :
       subst P (answers r q) (subst Q (sym unchanged) (record {
         kept = take-length old;
         default = λ k c. large_row (asks i) c s m t (view b) old w (maps k c) large;
-        left = λ k sure. accepted_visited 0 t (maps k 0);
+        after_error = λ k sure. accepted_visited 0 t (maps k 0);
       }))
 
   -- a call that never wants memory where the reencoder is sure

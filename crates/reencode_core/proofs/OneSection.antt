@@ -50,7 +50,7 @@ module _ {S E : Type 0} (asked : Asks S E) (k : SectionId) (known : HasRows k) w
   -- ---- no count
 
   pub section_uncounted : (s : S) (body : List ℕ) (old : Sections) (f : Fault) → ReadsNone f 0 (BeginsNoNumber 128 32 32 body) →
-      GivesSection asked k body s old s old (Err (error_of_fault f))
+      GivesSection asked k body (s, old) (s, old) (Err (error_of_fault f))
   section_uncounted s body old f none = record {
     reading = λ t r. absurd (never f none t r);
     readable = tt;
@@ -73,7 +73,7 @@ module _ {S E : Type 0} (asked : Asks S E) (k : SectionId) (known : HasRows k) w
   -- ---- the rows were refused
 
   -- the walk stops where its rows do: a section that was empty never holds too many
-  rows_stopped : (c n : ℕ) (s m : S) (rows : Tree) (new : List Tree) (e : Error E) → count rows ≡ n → n < 2 ^ 32 → StopsRows asked c s rows [] m new e → e ≢ NoMemory →
+  rows_stopped : (c n : ℕ) (s m : S) (rows : Tree) (new : List Tree) (e : Error E) → count rows ≡ n → n < 2 ^ 32 → StopsRows asked c (s, []) rows (m, new) e → e ≢ NoMemory →
       walk asked c s rows ≡ refused e m
   rows_stopped c n s m rows new e counted small g other = go (g.refuses other).refusal
     where
@@ -99,9 +99,9 @@ module _ {S E : Type 0} (asked : Asks S E) (k : SectionId) (known : HasRows k) w
           not_many _ q = q
 
   pub rows_stop : (s m : S) (body : List ℕ) (reader : Standing) (start rows : List Tree) (old : Sections) (e : Error E) → start ≡ [] → CountRead body reader →
-      GivesRows asked old.ceiling (row_of k) reader s start m rows (Err e) → GivesSection asked k body s old m old (Err e)
+      GivesRows asked old.ceiling (row_of k) reader (s, start) (m, rows) (Err e) → GivesSection asked k body (s, old) (m, old) (Err e)
   rows_stop s m body reader start rows old e empty there given =
-      let P : List Tree → Type 0 = λ z. GivesRows asked old.ceiling (row_of k) reader s z m rows (Err e) in
+      let P : List Tree → Type 0 = λ z. GivesRows asked old.ceiling (row_of k) reader (s, z) (m, rows) (Err e) in
       let g = subst P empty given in record {
         reading = λ t r.
             let v = rows_read there t r in
@@ -120,7 +120,7 @@ module _ {S E : Type 0} (asked : Asks S E) (k : SectionId) (known : HasRows k) w
   vec_accepted c s m u v h = rw h refl
 
   -- the body that was made
-  body_made : (c : ℕ) (s m : S) (reader : Standing) (start made : List Tree) → start ≡ [] → GivesRows asked c (row_of k) reader s start m made (Ok tt) →
+  body_made : (c : ℕ) (s m : S) (reader : Standing) (start made : List Tree) → start ≡ [] → GivesRows asked c (row_of k) reader (s, start) (m, made) (Ok tt) →
       (rows : Tree) → RowsLeft (row_of k) reader.left reader.rest rows → walk asked c s (Tree.vec rows) ≡ accepted (body_tree made) m
   body_made c s m reader start made empty g rows r =
       let q = g.reading rows r in
@@ -128,9 +128,9 @@ module _ {S E : Type 0} (asked : Asks S E) (k : SectionId) (known : HasRows k) w
       vec_accepted c s m rows (rows_then made Tree.nil) (q.1 ∙ ap (λ (z : List Tree). accepted (rows_then z Tree.nil) m) (sym same))
 
   pub section_given : (s m : S) (body : List ℕ) (reader : Standing) (start made : List Tree) (old new : Sections) → start ≡ [] → CountRead body reader →
-      GivesRows asked old.ceiling (row_of k) reader s start m made (Ok tt) →
+      GivesRows asked old.ceiling (row_of k) reader (s, start) (m, made) (Ok tt) →
       new ≡ with_section old (section_row (number k) (normal (body_tree made))) → length (normal (body_tree made)) ≤ old.ceiling →
-      GivesSection asked k body s old m new (Ok tt)
+      GivesSection asked k body (s, old) (m, new) (Ok tt)
   section_given s m body reader start made old new empty there g gains fits = record {
     reading = λ t r.
         let v = rows_read there t r in
@@ -142,9 +142,9 @@ module _ {S E : Type 0} (asked : Asks S E) (k : SectionId) (known : HasRows k) w
   }
 
   pub section_not_given : (s m : S) (body : List ℕ) (reader : Standing) (start made : List Tree) (old : Sections) (w : WriteFault) → start ≡ [] → CountRead body reader →
-      GivesRows asked old.ceiling (row_of k) reader s start m made (Ok tt) →
+      GivesRows asked old.ceiling (row_of k) reader (s, start) (m, made) (Ok tt) →
       IfTooLarge w (λ size. (size ≡ length (normal (body_tree made))) × (old.ceiling < size)) →
-      GivesSection asked k body s old m old (Err (error_of_write w))
+      GivesSection asked k body (s, old) (m, old) (Err (error_of_write w))
   section_not_given s m body reader start made old w empty there g large = record {
     reading = λ t r.
         let v = rows_read there t r in
@@ -166,7 +166,7 @@ module _ {S E : Type 0} (asked : Asks S E) (k : SectionId) (known : HasRows k) w
 -- ---- a kind that is not in force
 
 pub gives_none : {S E : Type 0} (asked : Asks S E) (k : SectionId) (s : S) (body : List ℕ) (old : Sections) → body_of k ≡ Shape.none →
-    GivesSection asked k body s old s old (Err (ParseError (record { at = 0 })))
+    GivesSection asked k body (s, old) (s, old) (Err (ParseError (record { at = 0 })))
 gives_none asked k s body old e = record {
   reading = λ t r. absurd (none r.2);
   readable = tt;

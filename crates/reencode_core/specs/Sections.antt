@@ -1,5 +1,5 @@
 -- What the call that maps one section gives.
-use Rattle.std.specs.Prelude.{◌≡◌, ◌≢◌, ◌⊎◌, ℕ, List, [], Result, Ok, Err, IfOk, IfErr}
+use Rattle.std.specs.Prelude.{◌≡◌, ◌≢◌, ◌≤◌, ◌<◌, ◌⊎◌, ℕ, List, [], length, Result, Ok, Err, IfOk, IfErr}
 use Rattle.wasm_leb.specs.Place.{BeginsNoNumber}
 use Rattle.wasm_shapes.specs.declared.SectionId.{SectionId}
 use Rattle.wasm_shapes.specs.Shape.{Shape}
@@ -8,9 +8,12 @@ use Rattle.wasm_shapes.specs.Spells.{Spells}
 use Rattle.wasm_shapes.specs.Module.{body_of, row_of, tree_of}
 use Rattle.wasm_shapes.specs.SectionTable.{number}
 use Rattle.wasm_read.specs.Reading.{Standing, CountRead}
+use Rattle.wasm_write.specs.declared.fault.WriteFault.{WriteFault}
+use Rattle.wasm_write.specs.Faults.{IfTooLarge}
 use Rattle.wasm_write.specs.Sections.{Sections, SectionRow, section_row, section_bytes, with_section}
 use Rattle.reencode_hooks.specs.declared.error.Error.{Error}
 use Rattle.reencode_hooks.specs.declared.error.Error.TheVariants.{NoMemory}
+use Rattle.reencode_hooks.specs.Errors.{error_of_write}
 use Rattle.reencode_hooks.specs.Run.{accepted, refused}
 use Rattle.reencode_hooks.specs.Walk.{walk}
 use Rattle.reencode_hooks.specs.Hooks.{Gains}
@@ -29,12 +32,21 @@ ReadsAs kind body t = (u : Tree) × (t ≡ tree_of kind u) × Spells (body_of ki
 abbrev pub HasRows : SectionId → Type 0
 HasRows kind = body_of kind ≡ Shape.vec (row_of kind)
 
+-- A section whose rows were mapped was added, or it is too large, or memory is wanting; where its rows were refused, that is
+-- the answer.
+abbrev pub AddsMapped : {E : Type 0} → SectionRow → Sections → Result (Unit {0}) (Error E) → Sections → Result (Unit {0}) (Error E) → Type 0
+AddsMapped row old (Err e) new result = (result ≡ Err e) × (new ≡ old)
+AddsMapped row old (Ok _) new (Ok _) = (new ≡ with_section old row) × (length row.body ≤ old.ceiling)
+AddsMapped row old (Ok _) new (Err e) =
+    (new ≡ old) × (w : WriteFault) × (e ≡ error_of_write w) × IfTooLarge w (λ size. (size ≡ length row.body) × (old.ceiling < size))
+
 -- The section became another, which was added, or it was refused, and nothing was added.
-abbrev pub GivesOne : {S E : Type 0} → Asks S E → SectionId → S → Tree → Sections → S → Sections → Result (Unit {0}) (Error E) → Type 0
-GivesOne asked kind s t old m new (Ok _) =
-    (u : Tree) × (body : List ℕ) × (walk asked old.ceiling s t ≡ accepted u m) × (new ≡ with_section old (section_row (number kind) body))
-    × (section_bytes (section_row (number kind) body) ≡ normal u)
-GivesOne asked kind s t old m new (Err e) = (new ≡ old) × (e ≢ NoMemory → walk asked old.ceiling s t ≡ refused e m)
+abbrev pub GivesOne : {S E : Type 0} → Asks S E → SectionId → S × Sections → Tree → S × Sections → Result (Unit {0}) (Error E) → Type 0
+GivesOne asked kind before t after (Ok _) =
+    (u : Tree) × (body : List ℕ) × (walk asked before.1.ceiling before.0 t ≡ accepted u after.0)
+    × (after.1 ≡ with_section before.1 (section_row (number kind) body)) × (section_bytes (section_row (number kind) body) ≡ normal u)
+GivesOne asked kind before t after (Err e) =
+    (after.1 ≡ before.1) × (e ≢ NoMemory → walk asked before.1.ceiling before.0 t ≡ refused e after.0)
 
 -- The count of the rows stands there. At this place a row is due and none begins, or bytes are left behind the last row, and
 -- all rows before it were accepted.
@@ -43,7 +55,7 @@ pub record RowsFaultIn {S E : Type 0} (asked : Asks S E) (c : ℕ) (kind : Secti
   pub reader : Standing
   pub made : List Tree
   pub counted : CountRead body reader
-  pub fault : RowsFault asked c (row_of kind) reader s [] m made at
+  pub fault : RowsFault asked c (row_of kind) reader (s, []) (m, made) at
 
 -- The body is none of its kind: at its front the count of the rows is due and none begins, or no body of the kind is in force;
 -- or the fault stands in its rows.
@@ -57,11 +69,12 @@ pub record StopsSection {S E : Type 0} (asked : Asks S E) (c : ℕ) (kind : Sect
   pub reader : Standing
   pub made : List Tree
   pub counted : CountRead body reader
-  pub stops : StopsAtRow asked c (row_of kind) reader s [] e m made
+  pub stops : StopsAtRow asked c (row_of kind) reader (s, []) e (m, made)
 
-pub record GivesSection {S E : Type 0} (asked : Asks S E) (kind : SectionId) (body : List ℕ) (s : S) (old : Sections) (m : S) (new : Sections)
+pub record GivesSection {S E : Type 0} (asked : Asks S E) (kind : SectionId) (body : List ℕ) (before after : S × Sections)
     (result : Result (Unit {0}) (Error E)) : Type 0 where
-  pub reading : (t : Tree) → ReadsAs kind body t → GivesOne asked kind s t old m new result
+  pub reading : (t : Tree) → ReadsAs kind body t → GivesOne asked kind before t after result
   pub readable : IfOk result (λ _. (t : Tree) × ReadsAs kind body t)
-  pub unreadable : IfErr result (λ e. IfParse e (BodyFault asked old.ceiling kind body s m))
-  pub refusal : IfErr result (λ e. IfRefused e (((t : Tree) × ReadsAs kind body t) ⊎ StopsSection asked old.ceiling kind body s e m))
+  pub unreadable : IfErr result (λ e. IfParse e (BodyFault asked before.1.ceiling kind body before.0 after.0))
+  pub refusal : IfErr result (λ e.
+      IfRefused e (((t : Tree) × ReadsAs kind body t) ⊎ StopsSection asked before.1.ceiling kind body before.0 e after.0))

@@ -50,61 +50,53 @@ pub(crate) use parse_function_body;
 macro_rules! parse_section {
     ($reencoder:ident, $alloc:ident, $module:ident, $id:ident, $body:ident) => {
         match $id {
-            SectionId::Function => {
-                let rows = r::FunctionSectionReader::new($body)?;
-                let mut functions = w::FunctionSection::new($alloc);
-                $reencoder.parse_function_section($alloc, &mut functions, rows)?;
-                $module.section(&functions)?;
-                Ok(())
-            }
             SectionId::Type_ => {
                 let rows = r::TypeSectionReader::new($body)?;
                 let mut types = w::TypeSection::new($alloc);
-                $reencoder.parse_type_section($alloc, &mut types, rows)?;
-                $module.section(&types)?;
-                Ok(())
-            }
-            SectionId::Export => {
-                let rows = r::ExportSectionReader::new($body)?;
-                let mut exports = w::ExportSection::new($alloc);
-                $reencoder.parse_export_section($alloc, &mut exports, rows)?;
-                $module.section(&exports)?;
-                Ok(())
-            }
-            SectionId::Code => {
-                let rows = r::CodeSectionReader::new($body)?;
-                let mut code = w::CodeSection::new($alloc, $module.ceiling());
-                $reencoder.parse_code_section($alloc, &mut code, rows)?;
-                $module.section(&code)?;
-                Ok(())
+                let mapped = $reencoder.parse_type_section($alloc, &mut types, rows);
+                add_section($module, mapped, &types)
             }
             SectionId::Import => {
                 let rows = r::ImportSectionReader::new($body)?;
                 let mut imports = w::ImportSection::new($alloc);
-                $reencoder.parse_import_section($alloc, &mut imports, rows)?;
-                $module.section(&imports)?;
-                Ok(())
+                let mapped = $reencoder.parse_import_section($alloc, &mut imports, rows);
+                add_section($module, mapped, &imports)
+            }
+            SectionId::Function => {
+                let rows = r::FunctionSectionReader::new($body)?;
+                let mut functions = w::FunctionSection::new($alloc);
+                let mapped = $reencoder.parse_function_section($alloc, &mut functions, rows);
+                add_section($module, mapped, &functions)
             }
             SectionId::Table => {
                 let rows = r::TableSectionReader::new($body)?;
                 let mut tables = w::TableSection::new($alloc);
-                $reencoder.parse_table_section($alloc, &mut tables, rows)?;
-                $module.section(&tables)?;
-                Ok(())
+                let mapped = $reencoder.parse_table_section($alloc, &mut tables, rows);
+                add_section($module, mapped, &tables)
             }
             SectionId::Memory => {
                 let rows = r::MemorySectionReader::new($body)?;
                 let mut memories = w::MemorySection::new($alloc);
-                $reencoder.parse_memory_section($alloc, &mut memories, rows)?;
-                $module.section(&memories)?;
-                Ok(())
+                let mapped = $reencoder.parse_memory_section($alloc, &mut memories, rows);
+                add_section($module, mapped, &memories)
+            }
+            SectionId::Export => {
+                let rows = r::ExportSectionReader::new($body)?;
+                let mut exports = w::ExportSection::new($alloc);
+                let mapped = $reencoder.parse_export_section($alloc, &mut exports, rows);
+                add_section($module, mapped, &exports)
+            }
+            SectionId::Code => {
+                let rows = r::CodeSectionReader::new($body)?;
+                let mut code = w::CodeSection::new($alloc, $module.ceiling());
+                let mapped = $reencoder.parse_code_section($alloc, &mut code, rows);
+                add_section($module, mapped, &code)
             }
             SectionId::Tag => {
                 let rows = r::TagSectionReader::new($body)?;
                 let mut tags = w::TagSection::new($alloc);
-                $reencoder.parse_tag_section($alloc, &mut tags, rows)?;
-                $module.section(&tags)?;
-                Ok(())
+                let mapped = $reencoder.parse_tag_section($alloc, &mut tags, rows);
+                add_section($module, mapped, &tags)
             }
             _ => Err(Error::ParseError(ReadError { at: 0 })),
         }

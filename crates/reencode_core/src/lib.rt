@@ -6,6 +6,7 @@ mod errors;
 mod imports;
 mod plain;
 mod reencode;
+mod sections;
 mod shared;
 #[cfg(test)]
 mod tests;

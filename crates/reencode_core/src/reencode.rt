@@ -15,9 +15,9 @@ ghost use Rattle.reencode_core.specs.Sections.{KeepsModule, ReadsAs, GivesSectio
 ghost use Rattle.reencode_core.specs.Core.{GivesCore, GivesBytes};
 ghost use Rattle.reencode_core.specs.Leaves.{BodyOf, LeavesReading, LocalsOf, RowsOf};
 
-use crate::bodies;
 use crate::errors::placed;
-use crate::shared;
+use crate::sections::add_section;
+use crate::{bodies, shared};
 use reencode_hooks::Error;
 use reencode_items::ReencodeItems;
 use std::alloc::Global;
@@ -28,8 +28,9 @@ use wasm_write as w;
 
 /// What a re-encoder does with each section of a core module.
 ///
-/// The clauses `default` and `left` of each method hold where the reencoder keeps the defaults. `left` says that, where it is
-/// sure too, every error leaves the state after a front part of the visits of what was to be read, want of memory too.
+/// The clauses `default` and `after_error` of each method hold where the reencoder keeps the defaults. `after_error` says
+/// that, where it is sure too, every error leaves the state after a front part of the visits of what was to be read, want
+/// of memory too.
 pub trait Reencode: ReencodeItems {
     /// Maps the rows that the reader still has, each by `parse_recursive_type_group`, and adds each row once it is mapped.
     fn parse_type_section(
@@ -40,9 +41,11 @@ pub trait Reencode: ReencodeItems {
     ) -> Result<(), Error<Self::Error>>
         ensures kept { KeepsFront types.old types.new }
         ensures default { IsTrue Self.keeps_defaults → (c : ℕ)
-            → GivesRows (ask Self.reply Self.next) c (row_of kinds.Type_) section.entry self.old types.old self.new types.new result }
-        ensures left { IsTrue Self.keeps_defaults → IsTrue Self.sure
-            → LeavesReading (RowsOf (row_of kinds.Type_) section.entry) (ask Self.reply Self.next) self.old self.new result }
+            → GivesRows (ask Self.reply Self.next) c (row_of kinds.Type_) section.entry
+            (self.old, types.old) (self.new, types.new) result }
+        ensures after_error { IsTrue Self.keeps_defaults → IsTrue Self.sure
+            → LeavesReading (RowsOf (row_of kinds.Type_) section.entry) (ask Self.reply Self.next)
+            self.old self.new result }
     {
         bodies::each_row!(section, alloc, row => types.group(&self.parse_recursive_type_group(alloc, row)?))
     }
@@ -54,9 +57,11 @@ pub trait Reencode: ReencodeItems {
         rec_group: r::RecGroup,
     ) -> Result<w::RecGroup, Error<Self::Error>>
         ensures default { IsTrue Self.keeps_defaults
-            → Maps Self.reply Self.next self.old (read.group_tree rec_group) write.group_tree self.new result }
-        ensures left { IsTrue Self.keeps_defaults → IsTrue Self.sure
-            → LeavesVisited (ask Self.reply Self.next) self.old (visits (read.group_tree rec_group)) self.new result }
+            → Maps Self.reply Self.next self.old (read.group_tree rec_group) write.group_tree
+            self.new result }
+        ensures after_error { IsTrue Self.keeps_defaults → IsTrue Self.sure
+            → LeavesVisited (ask Self.reply Self.next) self.old (visits (read.group_tree rec_group))
+            self.new result }
     {
         shared::parse_recursive_type_group(self, alloc, rec_group)
     }
@@ -70,9 +75,11 @@ pub trait Reencode: ReencodeItems {
     ) -> Result<(), Error<Self::Error>>
         ensures kept { KeepsFront functions.old functions.new }
         ensures default { IsTrue Self.keeps_defaults → (c : ℕ)
-            → GivesRows (ask Self.reply Self.next) c (row_of kinds.Function) section.entry self.old functions.old self.new functions.new result }
-        ensures left { IsTrue Self.keeps_defaults → IsTrue Self.sure
-            → LeavesReading (RowsOf (row_of kinds.Function) section.entry) (ask Self.reply Self.next) self.old self.new result }
+            → GivesRows (ask Self.reply Self.next) c (row_of kinds.Function) section.entry
+            (self.old, functions.old) (self.new, functions.new) result }
+        ensures after_error { IsTrue Self.keeps_defaults → IsTrue Self.sure
+            → LeavesReading (RowsOf (row_of kinds.Function) section.entry)
+            (ask Self.reply Self.next) self.old self.new result }
     {
         shared::parse_function_section(self, alloc, functions, section)
     }
@@ -86,9 +93,11 @@ pub trait Reencode: ReencodeItems {
     ) -> Result<(), Error<Self::Error>>
         ensures kept { KeepsFront imports.old imports.new }
         ensures default { IsTrue Self.keeps_defaults → (c : ℕ)
-            → GivesRows (ask Self.reply Self.next) c (row_of kinds.Import) section.entry self.old imports.old self.new imports.new result }
-        ensures left { IsTrue Self.keeps_defaults → IsTrue Self.sure
-            → LeavesReading (RowsOf (row_of kinds.Import) section.entry) (ask Self.reply Self.next) self.old self.new result }
+            → GivesRows (ask Self.reply Self.next) c (row_of kinds.Import) section.entry
+            (self.old, imports.old) (self.new, imports.new) result }
+        ensures after_error { IsTrue Self.keeps_defaults → IsTrue Self.sure
+            → LeavesReading (RowsOf (row_of kinds.Import) section.entry) (ask Self.reply Self.next)
+            self.old self.new result }
     {
         bodies::each_row!(section, alloc, row => self.parse_imports(alloc, imports, row))
     }
@@ -102,9 +111,11 @@ pub trait Reencode: ReencodeItems {
     ) -> Result<(), Error<Self::Error>>
         ensures kept { KeepsFront import_section.old import_section.new }
         ensures default { IsTrue Self.keeps_defaults → (c : ℕ)
-            → GivesRow (ask Self.reply Self.next) c self.old (read.import_tree imports.entry) import_section.old self.new import_section.new result }
-        ensures left { IsTrue Self.keeps_defaults → IsTrue Self.sure
-            → LeavesVisited (ask Self.reply Self.next) self.old (visits (read.import_tree imports.entry)) self.new result }
+            → GivesRow (ask Self.reply Self.next) c (self.old, import_section.old)
+            (read.import_tree imports.entry) (self.new, import_section.new) result }
+        ensures after_error { IsTrue Self.keeps_defaults → IsTrue Self.sure
+            → LeavesVisited (ask Self.reply Self.next) self.old
+            (visits (read.import_tree imports.entry)) self.new result }
     {
         shared::parse_imports(self, import_section, imports)
     }
@@ -118,9 +129,11 @@ pub trait Reencode: ReencodeItems {
     ) -> Result<(), Error<Self::Error>>
         ensures kept { KeepsFront imports.old imports.new }
         ensures default { IsTrue Self.keeps_defaults → (c : ℕ)
-            → GivesRow (ask Self.reply Self.next) c self.old (read.import_tree (imported.Single import.entry)) imports.old self.new imports.new result }
-        ensures left { IsTrue Self.keeps_defaults → IsTrue Self.sure
-            → LeavesVisited (ask Self.reply Self.next) self.old (visits (read.import_tree (imported.Single import.entry))) self.new result }
+            → GivesRow (ask Self.reply Self.next) c (self.old, imports.old)
+            (read.import_tree (imported.Single import.entry)) (self.new, imports.new) result }
+        ensures after_error { IsTrue Self.keeps_defaults → IsTrue Self.sure
+            → LeavesVisited (ask Self.reply Self.next) self.old
+            (visits (read.import_tree (imported.Single import.entry))) self.new result }
     {
         self.parse_imports(alloc, imports, r::Imports::Single(import))
     }
@@ -134,9 +147,11 @@ pub trait Reencode: ReencodeItems {
     ) -> Result<(), Error<Self::Error>>
         ensures kept { KeepsFront tables.old tables.new }
         ensures default { IsTrue Self.keeps_defaults → (c : ℕ)
-            → GivesRows (ask Self.reply Self.next) c (row_of kinds.Table) section.entry self.old tables.old self.new tables.new result }
-        ensures left { IsTrue Self.keeps_defaults → IsTrue Self.sure
-            → LeavesReading (RowsOf (row_of kinds.Table) section.entry) (ask Self.reply Self.next) self.old self.new result }
+            → GivesRows (ask Self.reply Self.next) c (row_of kinds.Table) section.entry
+            (self.old, tables.old) (self.new, tables.new) result }
+        ensures after_error { IsTrue Self.keeps_defaults → IsTrue Self.sure
+            → LeavesReading (RowsOf (row_of kinds.Table) section.entry) (ask Self.reply Self.next)
+            self.old self.new result }
     {
         bodies::each_row!(section, alloc, row => self.parse_table(alloc, tables, row))
     }
@@ -151,9 +166,11 @@ pub trait Reencode: ReencodeItems {
     ) -> Result<(), Error<Self::Error>>
         ensures kept { KeepsFront tables.old tables.new }
         ensures default { IsTrue Self.keeps_defaults → (c : ℕ)
-            → GivesTable (ask Self.reply Self.next) c self.old table.entry.ty table.entry.init tables.old self.new tables.new result }
-        ensures left { IsTrue Self.keeps_defaults → IsTrue Self.sure
-            → LeavesTable (ask Self.reply Self.next) self.old table.entry.ty table.entry.init self.new result }
+            → GivesTable (ask Self.reply Self.next) c (self.old, tables.old) table.entry.ty
+            table.entry.init (self.new, tables.new) result }
+        ensures after_error { IsTrue Self.keeps_defaults → IsTrue Self.sure
+            → LeavesTable (ask Self.reply Self.next) self.old table.entry.ty table.entry.init
+            self.new result }
     {
         shared::parse_table(self, tables, table)
     }
@@ -167,9 +184,11 @@ pub trait Reencode: ReencodeItems {
     ) -> Result<(), Error<Self::Error>>
         ensures kept { KeepsFront memories.old memories.new }
         ensures default { IsTrue Self.keeps_defaults → (c : ℕ)
-            → GivesRows (ask Self.reply Self.next) c (row_of kinds.Memory) section.entry self.old memories.old self.new memories.new result }
-        ensures left { IsTrue Self.keeps_defaults → IsTrue Self.sure
-            → LeavesReading (RowsOf (row_of kinds.Memory) section.entry) (ask Self.reply Self.next) self.old self.new result }
+            → GivesRows (ask Self.reply Self.next) c (row_of kinds.Memory) section.entry
+            (self.old, memories.old) (self.new, memories.new) result }
+        ensures after_error { IsTrue Self.keeps_defaults → IsTrue Self.sure
+            → LeavesReading (RowsOf (row_of kinds.Memory) section.entry) (ask Self.reply Self.next)
+            self.old self.new result }
     {
         shared::parse_memory_section(self, alloc, memories, section)
     }
@@ -183,9 +202,11 @@ pub trait Reencode: ReencodeItems {
     ) -> Result<(), Error<Self::Error>>
         ensures kept { KeepsFront tags.old tags.new }
         ensures default { IsTrue Self.keeps_defaults → (c : ℕ)
-            → GivesRows (ask Self.reply Self.next) c (row_of kinds.Tag) section.entry self.old tags.old self.new tags.new result }
-        ensures left { IsTrue Self.keeps_defaults → IsTrue Self.sure
-            → LeavesReading (RowsOf (row_of kinds.Tag) section.entry) (ask Self.reply Self.next) self.old self.new result }
+            → GivesRows (ask Self.reply Self.next) c (row_of kinds.Tag) section.entry
+            (self.old, tags.old) (self.new, tags.new) result }
+        ensures after_error { IsTrue Self.keeps_defaults → IsTrue Self.sure
+            → LeavesReading (RowsOf (row_of kinds.Tag) section.entry) (ask Self.reply Self.next)
+            self.old self.new result }
     {
         shared::parse_tag_section(self, alloc, tags, section)
     }
@@ -199,9 +220,11 @@ pub trait Reencode: ReencodeItems {
     ) -> Result<(), Error<Self::Error>>
         ensures kept { KeepsFront exports.old exports.new }
         ensures default { IsTrue Self.keeps_defaults → (c : ℕ)
-            → GivesRows (ask Self.reply Self.next) c (row_of kinds.Export) section.entry self.old exports.old self.new exports.new result }
-        ensures left { IsTrue Self.keeps_defaults → IsTrue Self.sure
-            → LeavesReading (RowsOf (row_of kinds.Export) section.entry) (ask Self.reply Self.next) self.old self.new result }
+            → GivesRows (ask Self.reply Self.next) c (row_of kinds.Export) section.entry
+            (self.old, exports.old) (self.new, exports.new) result }
+        ensures after_error { IsTrue Self.keeps_defaults → IsTrue Self.sure
+            → LeavesReading (RowsOf (row_of kinds.Export) section.entry) (ask Self.reply Self.next)
+            self.old self.new result }
     {
         bodies::each_row!(section, alloc, row => self.parse_export(exports, row))
     }
@@ -214,9 +237,11 @@ pub trait Reencode: ReencodeItems {
     ) -> Result<(), Error<Self::Error>>
         ensures kept { KeepsFront exports.old exports.new }
         ensures default { IsTrue Self.keeps_defaults → (c : ℕ)
-            → GivesRow (ask Self.reply Self.next) c self.old (read.export_tree export.entry) exports.old self.new exports.new result }
-        ensures left { IsTrue Self.keeps_defaults → IsTrue Self.sure
-            → LeavesVisited (ask Self.reply Self.next) self.old (visits (read.export_tree export.entry)) self.new result }
+            → GivesRow (ask Self.reply Self.next) c (self.old, exports.old)
+            (read.export_tree export.entry) (self.new, exports.new) result }
+        ensures after_error { IsTrue Self.keeps_defaults → IsTrue Self.sure
+            → LeavesVisited (ask Self.reply Self.next) self.old
+            (visits (read.export_tree export.entry)) self.new result }
     {
         shared::parse_export(self, exports, export)
     }
@@ -231,9 +256,11 @@ pub trait Reencode: ReencodeItems {
     ) -> Result<(), Error<Self::Error>>
         ensures kept { KeepsCode code.old code.new }
         ensures default { IsTrue Self.keeps_defaults
-            → GivesRows (ask Self.reply Self.next) code.old.ceiling (row_of kinds.Code) section.entry self.old code.old.rows self.new code.new.rows result }
-        ensures left { IsTrue Self.keeps_defaults → IsTrue Self.sure
-            → LeavesReading (RowsOf (row_of kinds.Code) section.entry) (ask Self.reply Self.next) self.old self.new result }
+            → GivesRows (ask Self.reply Self.next) code.old.ceiling (row_of kinds.Code)
+            section.entry (self.old, code.old.rows) (self.new, code.new.rows) result }
+        ensures after_error { IsTrue Self.keeps_defaults → IsTrue Self.sure
+            → LeavesReading (RowsOf (row_of kinds.Code) section.entry) (ask Self.reply Self.next)
+            self.old self.new result }
     {
         bodies::parse_code_section!(self, alloc, code, section)
     }
@@ -248,9 +275,11 @@ pub trait Reencode: ReencodeItems {
     ) -> Result<(), Error<Self::Error>>
         ensures kept { KeepsCode code.old code.new }
         ensures default { IsTrue Self.keeps_defaults
-            → GivesBody (ask Self.reply Self.next) func.entry.bytes.now self.old code.old self.new code.new result }
-        ensures left { IsTrue Self.keeps_defaults → IsTrue Self.sure
-            → LeavesReading (BodyOf func.entry.bytes.now) (ask Self.reply Self.next) self.old self.new result }
+            → GivesBody (ask Self.reply Self.next) func.entry.bytes.now (self.old, code.old)
+            (self.new, code.new) result }
+        ensures after_error { IsTrue Self.keeps_defaults → IsTrue Self.sure
+            → LeavesReading (BodyOf func.entry.bytes.now) (ask Self.reply Self.next) self.old
+            self.new result }
     {
         bodies::parse_function_body!(self, alloc, code, func)
     }
@@ -262,9 +291,11 @@ pub trait Reencode: ReencodeItems {
         func: &r::FunctionBody<'_>,
     ) -> Result<w::Function, Error<Self::Error>>
         ensures default { IsTrue Self.keeps_defaults
-            → GivesLocals (ask Self.reply Self.next) func.now.bytes.now self.old self.new result (λ f. f) }
-        ensures left { IsTrue Self.keeps_defaults → IsTrue Self.sure
-            → LeavesReading (LocalsOf func.now.bytes.now) (ask Self.reply Self.next) self.old self.new result }
+            → GivesLocals (ask Self.reply Self.next) func.now.bytes.now self.old self.new result
+            (λ f. f) }
+        ensures after_error { IsTrue Self.keeps_defaults → IsTrue Self.sure
+            → LeavesReading (LocalsOf func.now.bytes.now) (ask Self.reply Self.next) self.old
+            self.new result }
     {
         shared::new_function_with_parsed_locals(self, alloc, func)
     }
@@ -279,9 +310,11 @@ pub trait Reencode: ReencodeItems {
     ) -> Result<(), Error<Self::Error>>
         ensures kept { KeepsModule «module».old «module».new }
         ensures default { IsTrue Self.keeps_defaults
-            → GivesSection (ask Self.reply Self.next) id body.now self.old «module».old self.new «module».new result }
-        ensures left { IsTrue Self.keeps_defaults → IsTrue Self.sure
-            → LeavesReading (ReadsAs id body.now) (ask Self.reply Self.next) self.old self.new result }
+            → GivesSection (ask Self.reply Self.next) id body.now (self.old, «module».old)
+            (self.new, «module».new) result }
+        ensures after_error { IsTrue Self.keeps_defaults → IsTrue Self.sure
+            → LeavesReading (ReadsAs id body.now) (ask Self.reply Self.next)
+            self.old self.new result }
     {
         bodies::parse_section!(self, alloc, module, id, body)
     }
@@ -295,9 +328,12 @@ pub trait Reencode: ReencodeItems {
     ) -> Result<(), Error<Self::Error>>
         ensures kept { KeepsModule «module».old «module».new }
         ensures default { IsTrue Self.keeps_defaults → IsTrue Self.adds_nothing
-            → GivesCore (ask Self.reply Self.next) bytes.now self.old «module».old self.new «module».new result }
-        ensures left { IsTrue Self.keeps_defaults → IsTrue Self.adds_nothing → IsTrue Self.sure
-            → LeavesReading (CoreReading bytes.now) (ask Self.reply Self.next) self.old self.new result }
+            → GivesCore (ask Self.reply Self.next) bytes.now (self.old, «module».old)
+            (self.new, «module».new) result }
+        ensures after_error { IsTrue Self.keeps_defaults → IsTrue Self.adds_nothing
+            → IsTrue Self.sure
+            → LeavesReading (CoreReading bytes.now) (ask Self.reply Self.next)
+            self.old self.new result }
     {
         bodies::parse_core_module!(self, alloc, module, bytes)
     }
@@ -312,7 +348,7 @@ pub fn reencode_core<R: Reencode>(
 ) -> Result<Vec<u8>, Error<R::Error>>
     ensures default { IsTrue R.keeps_defaults → IsTrue R.adds_nothing
         → GivesBytes (ask R.reply R.next) ceiling bytes.now r.old r.new result (λ v. v.items) }
-    ensures left { IsTrue R.keeps_defaults → IsTrue R.adds_nothing → IsTrue R.sure
+    ensures after_error { IsTrue R.keeps_defaults → IsTrue R.adds_nothing → IsTrue R.sure
         → LeavesReading (Spells core_module bytes.now) (ask R.reply R.next) r.old r.new result }
 {
     let mut module = w::Module::new(alloc, ceiling)?;

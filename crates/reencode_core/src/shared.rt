@@ -29,9 +29,11 @@ pub(crate) fn parse_recursive_type_group<T: ReencodeItems>(
     rec_group: r::RecGroup,
 ) -> Result<w::RecGroup, Error<T::Error>>
     ensures default { IsTrue T.keeps_defaults
-        → Maps T.reply T.next reencoder.old (read.group_tree rec_group) write.group_tree reencoder.new result }
-    ensures left { IsTrue T.keeps_defaults → IsTrue T.sure
-        → LeavesVisited (ask T.reply T.next) reencoder.old (visits (read.group_tree rec_group)) reencoder.new result }
+        → Maps T.reply T.next reencoder.old (read.group_tree rec_group) write.group_tree
+        reencoder.new result }
+    ensures after_error { IsTrue T.keeps_defaults → IsTrue T.sure
+        → LeavesVisited (ask T.reply T.next) reencoder.old (visits (read.group_tree rec_group))
+        reencoder.new result }
 {
     let mut types = List::with_capacity(alloc, rec_group.types.len())?;
     for ty in rec_group.types.into_vec() {
@@ -53,9 +55,11 @@ pub(crate) fn parse_function_section<T: ReencodeItems>(
 ) -> Result<(), Error<T::Error>>
     ensures kept { KeepsFront functions.old functions.new }
     ensures default { IsTrue T.keeps_defaults → (c : ℕ)
-        → GivesRows (ask T.reply T.next) c (row_of kinds.Function) section.entry reencoder.old functions.old reencoder.new functions.new result }
-    ensures left { IsTrue T.keeps_defaults → IsTrue T.sure
-        → LeavesReading (RowsOf (row_of kinds.Function) section.entry) (ask T.reply T.next) reencoder.old reencoder.new result }
+        → GivesRows (ask T.reply T.next) c (row_of kinds.Function) section.entry
+        (reencoder.old, functions.old) (reencoder.new, functions.new) result }
+    ensures after_error { IsTrue T.keeps_defaults → IsTrue T.sure
+        → LeavesReading (RowsOf (row_of kinds.Function) section.entry) (ask T.reply T.next)
+        reencoder.old reencoder.new result }
 {
     let mut rows = section;
     'rows: while let Some(row) = rows.next_row(alloc)? {
@@ -73,9 +77,11 @@ pub(crate) fn parse_imports<T: ReencodeItems>(
 ) -> Result<(), Error<T::Error>>
     ensures kept { KeepsFront import_section.old import_section.new }
     ensures default { IsTrue T.keeps_defaults → (c : ℕ)
-        → GivesRow (ask T.reply T.next) c reencoder.old (read.import_tree imports.entry) import_section.old reencoder.new import_section.new result }
-    ensures left { IsTrue T.keeps_defaults → IsTrue T.sure
-        → LeavesVisited (ask T.reply T.next) reencoder.old (visits (read.import_tree imports.entry)) reencoder.new result }
+        → GivesRow (ask T.reply T.next) c (reencoder.old, import_section.old)
+        (read.import_tree imports.entry) (reencoder.new, import_section.new) result }
+    ensures after_error { IsTrue T.keeps_defaults → IsTrue T.sure
+        → LeavesVisited (ask T.reply T.next) reencoder.old (visits (read.import_tree imports.entry))
+        reencoder.new result }
 {
     let import = single(imports);
     let ty = reencoder.entity_type(import.ty)?;
@@ -97,9 +103,11 @@ pub(crate) fn parse_table<T: ReencodeItems>(
 ) -> Result<(), Error<T::Error>>
     ensures kept { KeepsFront tables.old tables.new }
     ensures default { IsTrue T.keeps_defaults → (c : ℕ)
-        → GivesTable (ask T.reply T.next) c reencoder.old table.entry.ty table.entry.init tables.old reencoder.new tables.new result }
-    ensures left { IsTrue T.keeps_defaults → IsTrue T.sure
-        → LeavesTable (ask T.reply T.next) reencoder.old table.entry.ty table.entry.init reencoder.new result }
+        → GivesTable (ask T.reply T.next) c (reencoder.old, tables.old) table.entry.ty
+        table.entry.init (reencoder.new, tables.new) result }
+    ensures after_error { IsTrue T.keeps_defaults → IsTrue T.sure
+        → LeavesTable (ask T.reply T.next) reencoder.old table.entry.ty table.entry.init
+        reencoder.new result }
 {
     match table.init {
         r::TableInit::RefNull => {
@@ -120,9 +128,11 @@ pub(crate) fn parse_memory_section<T: ReencodeItems>(
 ) -> Result<(), Error<T::Error>>
     ensures kept { KeepsFront memories.old memories.new }
     ensures default { IsTrue T.keeps_defaults → (c : ℕ)
-        → GivesRows (ask T.reply T.next) c (row_of kinds.Memory) section.entry reencoder.old memories.old reencoder.new memories.new result }
-    ensures left { IsTrue T.keeps_defaults → IsTrue T.sure
-        → LeavesReading (RowsOf (row_of kinds.Memory) section.entry) (ask T.reply T.next) reencoder.old reencoder.new result }
+        → GivesRows (ask T.reply T.next) c (row_of kinds.Memory) section.entry
+        (reencoder.old, memories.old) (reencoder.new, memories.new) result }
+    ensures after_error { IsTrue T.keeps_defaults → IsTrue T.sure
+        → LeavesReading (RowsOf (row_of kinds.Memory) section.entry) (ask T.reply T.next)
+        reencoder.old reencoder.new result }
 {
     let mut rows = section;
     'rows: while let Some(row) = rows.next_row(alloc)? {
@@ -141,9 +151,11 @@ pub(crate) fn parse_tag_section<T: ReencodeItems>(
 ) -> Result<(), Error<T::Error>>
     ensures kept { KeepsFront tags.old tags.new }
     ensures default { IsTrue T.keeps_defaults → (c : ℕ)
-        → GivesRows (ask T.reply T.next) c (row_of kinds.Tag) section.entry reencoder.old tags.old reencoder.new tags.new result }
-    ensures left { IsTrue T.keeps_defaults → IsTrue T.sure
-        → LeavesReading (RowsOf (row_of kinds.Tag) section.entry) (ask T.reply T.next) reencoder.old reencoder.new result }
+        → GivesRows (ask T.reply T.next) c (row_of kinds.Tag) section.entry
+        (reencoder.old, tags.old) (reencoder.new, tags.new) result }
+    ensures after_error { IsTrue T.keeps_defaults → IsTrue T.sure
+        → LeavesReading (RowsOf (row_of kinds.Tag) section.entry) (ask T.reply T.next) reencoder.old
+        reencoder.new result }
 {
     let mut rows = section;
     'rows: while let Some(row) = rows.next_row(alloc)? {
@@ -161,9 +173,11 @@ pub(crate) fn parse_export<T: ReencodeItems>(
 ) -> Result<(), Error<T::Error>>
     ensures kept { KeepsFront exports.old exports.new }
     ensures default { IsTrue T.keeps_defaults → (c : ℕ)
-        → GivesRow (ask T.reply T.next) c reencoder.old (read.export_tree export.entry) exports.old reencoder.new exports.new result }
-    ensures left { IsTrue T.keeps_defaults → IsTrue T.sure
-        → LeavesVisited (ask T.reply T.next) reencoder.old (visits (read.export_tree export.entry)) reencoder.new result }
+        → GivesRow (ask T.reply T.next) c (reencoder.old, exports.old)
+        (read.export_tree export.entry) (reencoder.new, exports.new) result }
+    ensures after_error { IsTrue T.keeps_defaults → IsTrue T.sure
+        → LeavesVisited (ask T.reply T.next) reencoder.old (visits (read.export_tree export.entry))
+        reencoder.new result }
 {
     let kind = reencoder.export_kind(export.kind)?;
     let index = reencoder.external_index(export.kind, export.index)?;
@@ -178,9 +192,11 @@ pub(crate) fn new_function_with_parsed_locals<T: ReencodeItems>(
     func: &r::FunctionBody<'_>,
 ) -> Result<w::Function, Error<T::Error>>
     ensures default { IsTrue T.keeps_defaults
-        → GivesLocals (ask T.reply T.next) func.now.bytes.now reencoder.old reencoder.new result (λ f. f) }
-    ensures left { IsTrue T.keeps_defaults → IsTrue T.sure
-        → LeavesReading (LocalsOf func.now.bytes.now) (ask T.reply T.next) reencoder.old reencoder.new result }
+        → GivesLocals (ask T.reply T.next) func.now.bytes.now reencoder.old reencoder.new result
+        (λ f. f) }
+    ensures after_error { IsTrue T.keeps_defaults → IsTrue T.sure
+        → LeavesReading (LocalsOf func.now.bytes.now) (ask T.reply T.next) reencoder.old
+        reencoder.new result }
 {
     let locals = func.locals(alloc)?;
     let mut mapped = List::with_capacity(alloc, locals.len())?;

@@ -14,10 +14,10 @@ ghost use Rattle.reencode_core.specs.Sections.{KeepsModule, ReadsAs, GivesSectio
 ghost use Rattle.reencode_core.specs.Core.{GivesCore};
 ghost use Rattle.reencode_core.specs.Leaves.{BodyOf, LeavesReading, LocalsOf, RowsOf};
 
-use crate::bodies;
 use crate::errors::placed;
 use crate::reencode::Reencode;
-use crate::shared;
+use crate::sections::add_section;
+use crate::{bodies, shared};
 use reencode_hooks::Error;
 use std::alloc::Global;
 use wasm_leb::ReadError;
@@ -34,9 +34,11 @@ pub fn parse_type_section<T: Reencode>(
 ) -> Result<(), Error<T::Error>>
     ensures kept { KeepsFront types.old types.new }
     ensures default { IsTrue T.keeps_defaults → (c : ℕ)
-        → GivesRows (ask T.reply T.next) c (row_of kinds.Type_) section.entry reencoder.old types.old reencoder.new types.new result }
-    ensures left { IsTrue T.keeps_defaults → IsTrue T.sure
-        → LeavesReading (RowsOf (row_of kinds.Type_) section.entry) (ask T.reply T.next) reencoder.old reencoder.new result }
+        → GivesRows (ask T.reply T.next) c (row_of kinds.Type_) section.entry
+        (reencoder.old, types.old) (reencoder.new, types.new) result }
+    ensures after_error { IsTrue T.keeps_defaults → IsTrue T.sure
+        → LeavesReading (RowsOf (row_of kinds.Type_) section.entry) (ask T.reply T.next)
+        reencoder.old reencoder.new result }
 {
     bodies::each_row!(section, alloc, row => types.group(&reencoder.parse_recursive_type_group(alloc, row)?))
 }
@@ -48,9 +50,11 @@ pub fn parse_recursive_type_group<T: Reencode>(
     rec_group: r::RecGroup,
 ) -> Result<w::RecGroup, Error<T::Error>>
     ensures default { IsTrue T.keeps_defaults
-        → Maps T.reply T.next reencoder.old (read.group_tree rec_group) write.group_tree reencoder.new result }
-    ensures left { IsTrue T.keeps_defaults → IsTrue T.sure
-        → LeavesVisited (ask T.reply T.next) reencoder.old (visits (read.group_tree rec_group)) reencoder.new result }
+        → Maps T.reply T.next reencoder.old (read.group_tree rec_group) write.group_tree
+        reencoder.new result }
+    ensures after_error { IsTrue T.keeps_defaults → IsTrue T.sure
+        → LeavesVisited (ask T.reply T.next) reencoder.old (visits (read.group_tree rec_group))
+        reencoder.new result }
 {
     shared::parse_recursive_type_group(reencoder, alloc, rec_group)
 }
@@ -64,9 +68,11 @@ pub fn parse_function_section<T: Reencode>(
 ) -> Result<(), Error<T::Error>>
     ensures kept { KeepsFront functions.old functions.new }
     ensures default { IsTrue T.keeps_defaults → (c : ℕ)
-        → GivesRows (ask T.reply T.next) c (row_of kinds.Function) section.entry reencoder.old functions.old reencoder.new functions.new result }
-    ensures left { IsTrue T.keeps_defaults → IsTrue T.sure
-        → LeavesReading (RowsOf (row_of kinds.Function) section.entry) (ask T.reply T.next) reencoder.old reencoder.new result }
+        → GivesRows (ask T.reply T.next) c (row_of kinds.Function) section.entry
+        (reencoder.old, functions.old) (reencoder.new, functions.new) result }
+    ensures after_error { IsTrue T.keeps_defaults → IsTrue T.sure
+        → LeavesReading (RowsOf (row_of kinds.Function) section.entry) (ask T.reply T.next)
+        reencoder.old reencoder.new result }
 {
     shared::parse_function_section(reencoder, alloc, functions, section)
 }
@@ -80,9 +86,11 @@ pub fn parse_import_section<T: Reencode>(
 ) -> Result<(), Error<T::Error>>
     ensures kept { KeepsFront imports.old imports.new }
     ensures default { IsTrue T.keeps_defaults → (c : ℕ)
-        → GivesRows (ask T.reply T.next) c (row_of kinds.Import) section.entry reencoder.old imports.old reencoder.new imports.new result }
-    ensures left { IsTrue T.keeps_defaults → IsTrue T.sure
-        → LeavesReading (RowsOf (row_of kinds.Import) section.entry) (ask T.reply T.next) reencoder.old reencoder.new result }
+        → GivesRows (ask T.reply T.next) c (row_of kinds.Import) section.entry
+        (reencoder.old, imports.old) (reencoder.new, imports.new) result }
+    ensures after_error { IsTrue T.keeps_defaults → IsTrue T.sure
+        → LeavesReading (RowsOf (row_of kinds.Import) section.entry) (ask T.reply T.next)
+        reencoder.old reencoder.new result }
 {
     bodies::each_row!(section, alloc, row => reencoder.parse_imports(alloc, imports, row))
 }
@@ -96,9 +104,11 @@ pub fn parse_imports<T: Reencode>(
 ) -> Result<(), Error<T::Error>>
     ensures kept { KeepsFront import_section.old import_section.new }
     ensures default { IsTrue T.keeps_defaults → (c : ℕ)
-        → GivesRow (ask T.reply T.next) c reencoder.old (read.import_tree imports.entry) import_section.old reencoder.new import_section.new result }
-    ensures left { IsTrue T.keeps_defaults → IsTrue T.sure
-        → LeavesVisited (ask T.reply T.next) reencoder.old (visits (read.import_tree imports.entry)) reencoder.new result }
+        → GivesRow (ask T.reply T.next) c (reencoder.old, import_section.old)
+        (read.import_tree imports.entry) (reencoder.new, import_section.new) result }
+    ensures after_error { IsTrue T.keeps_defaults → IsTrue T.sure
+        → LeavesVisited (ask T.reply T.next) reencoder.old (visits (read.import_tree imports.entry))
+        reencoder.new result }
 {
     shared::parse_imports(reencoder, import_section, imports)
 }
@@ -112,9 +122,11 @@ pub fn parse_import<T: Reencode>(
 ) -> Result<(), Error<T::Error>>
     ensures kept { KeepsFront imports.old imports.new }
     ensures default { IsTrue T.keeps_defaults → (c : ℕ)
-        → GivesRow (ask T.reply T.next) c reencoder.old (read.import_tree (imported.Single import.entry)) imports.old reencoder.new imports.new result }
-    ensures left { IsTrue T.keeps_defaults → IsTrue T.sure
-        → LeavesVisited (ask T.reply T.next) reencoder.old (visits (read.import_tree (imported.Single import.entry))) reencoder.new result }
+        → GivesRow (ask T.reply T.next) c (reencoder.old, imports.old)
+        (read.import_tree (imported.Single import.entry)) (reencoder.new, imports.new) result }
+    ensures after_error { IsTrue T.keeps_defaults → IsTrue T.sure
+        → LeavesVisited (ask T.reply T.next) reencoder.old
+        (visits (read.import_tree (imported.Single import.entry))) reencoder.new result }
 {
     reencoder.parse_imports(alloc, imports, r::Imports::Single(import))
 }
@@ -128,9 +140,11 @@ pub fn parse_table_section<T: Reencode>(
 ) -> Result<(), Error<T::Error>>
     ensures kept { KeepsFront tables.old tables.new }
     ensures default { IsTrue T.keeps_defaults → (c : ℕ)
-        → GivesRows (ask T.reply T.next) c (row_of kinds.Table) section.entry reencoder.old tables.old reencoder.new tables.new result }
-    ensures left { IsTrue T.keeps_defaults → IsTrue T.sure
-        → LeavesReading (RowsOf (row_of kinds.Table) section.entry) (ask T.reply T.next) reencoder.old reencoder.new result }
+        → GivesRows (ask T.reply T.next) c (row_of kinds.Table) section.entry
+        (reencoder.old, tables.old) (reencoder.new, tables.new) result }
+    ensures after_error { IsTrue T.keeps_defaults → IsTrue T.sure
+        → LeavesReading (RowsOf (row_of kinds.Table) section.entry) (ask T.reply T.next)
+        reencoder.old reencoder.new result }
 {
     bodies::each_row!(section, alloc, row => reencoder.parse_table(alloc, tables, row))
 }
@@ -145,9 +159,11 @@ pub fn parse_table<T: Reencode>(
 ) -> Result<(), Error<T::Error>>
     ensures kept { KeepsFront tables.old tables.new }
     ensures default { IsTrue T.keeps_defaults → (c : ℕ)
-        → GivesTable (ask T.reply T.next) c reencoder.old table.entry.ty table.entry.init tables.old reencoder.new tables.new result }
-    ensures left { IsTrue T.keeps_defaults → IsTrue T.sure
-        → LeavesTable (ask T.reply T.next) reencoder.old table.entry.ty table.entry.init reencoder.new result }
+        → GivesTable (ask T.reply T.next) c (reencoder.old, tables.old) table.entry.ty
+        table.entry.init (reencoder.new, tables.new) result }
+    ensures after_error { IsTrue T.keeps_defaults → IsTrue T.sure
+        → LeavesTable (ask T.reply T.next) reencoder.old table.entry.ty table.entry.init
+        reencoder.new result }
 {
     shared::parse_table(reencoder, tables, table)
 }
@@ -161,9 +177,11 @@ pub fn parse_memory_section<T: Reencode>(
 ) -> Result<(), Error<T::Error>>
     ensures kept { KeepsFront memories.old memories.new }
     ensures default { IsTrue T.keeps_defaults → (c : ℕ)
-        → GivesRows (ask T.reply T.next) c (row_of kinds.Memory) section.entry reencoder.old memories.old reencoder.new memories.new result }
-    ensures left { IsTrue T.keeps_defaults → IsTrue T.sure
-        → LeavesReading (RowsOf (row_of kinds.Memory) section.entry) (ask T.reply T.next) reencoder.old reencoder.new result }
+        → GivesRows (ask T.reply T.next) c (row_of kinds.Memory) section.entry
+        (reencoder.old, memories.old) (reencoder.new, memories.new) result }
+    ensures after_error { IsTrue T.keeps_defaults → IsTrue T.sure
+        → LeavesReading (RowsOf (row_of kinds.Memory) section.entry) (ask T.reply T.next)
+        reencoder.old reencoder.new result }
 {
     shared::parse_memory_section(reencoder, alloc, memories, section)
 }
@@ -177,9 +195,11 @@ pub fn parse_tag_section<T: Reencode>(
 ) -> Result<(), Error<T::Error>>
     ensures kept { KeepsFront tags.old tags.new }
     ensures default { IsTrue T.keeps_defaults → (c : ℕ)
-        → GivesRows (ask T.reply T.next) c (row_of kinds.Tag) section.entry reencoder.old tags.old reencoder.new tags.new result }
-    ensures left { IsTrue T.keeps_defaults → IsTrue T.sure
-        → LeavesReading (RowsOf (row_of kinds.Tag) section.entry) (ask T.reply T.next) reencoder.old reencoder.new result }
+        → GivesRows (ask T.reply T.next) c (row_of kinds.Tag) section.entry
+        (reencoder.old, tags.old) (reencoder.new, tags.new) result }
+    ensures after_error { IsTrue T.keeps_defaults → IsTrue T.sure
+        → LeavesReading (RowsOf (row_of kinds.Tag) section.entry) (ask T.reply T.next) reencoder.old
+        reencoder.new result }
 {
     shared::parse_tag_section(reencoder, alloc, tags, section)
 }
@@ -193,9 +213,11 @@ pub fn parse_export_section<T: Reencode>(
 ) -> Result<(), Error<T::Error>>
     ensures kept { KeepsFront exports.old exports.new }
     ensures default { IsTrue T.keeps_defaults → (c : ℕ)
-        → GivesRows (ask T.reply T.next) c (row_of kinds.Export) section.entry reencoder.old exports.old reencoder.new exports.new result }
-    ensures left { IsTrue T.keeps_defaults → IsTrue T.sure
-        → LeavesReading (RowsOf (row_of kinds.Export) section.entry) (ask T.reply T.next) reencoder.old reencoder.new result }
+        → GivesRows (ask T.reply T.next) c (row_of kinds.Export) section.entry
+        (reencoder.old, exports.old) (reencoder.new, exports.new) result }
+    ensures after_error { IsTrue T.keeps_defaults → IsTrue T.sure
+        → LeavesReading (RowsOf (row_of kinds.Export) section.entry) (ask T.reply T.next)
+        reencoder.old reencoder.new result }
 {
     bodies::each_row!(section, alloc, row => reencoder.parse_export(exports, row))
 }
@@ -208,9 +230,11 @@ pub fn parse_export<T: Reencode>(
 ) -> Result<(), Error<T::Error>>
     ensures kept { KeepsFront exports.old exports.new }
     ensures default { IsTrue T.keeps_defaults → (c : ℕ)
-        → GivesRow (ask T.reply T.next) c reencoder.old (read.export_tree export.entry) exports.old reencoder.new exports.new result }
-    ensures left { IsTrue T.keeps_defaults → IsTrue T.sure
-        → LeavesVisited (ask T.reply T.next) reencoder.old (visits (read.export_tree export.entry)) reencoder.new result }
+        → GivesRow (ask T.reply T.next) c (reencoder.old, exports.old)
+        (read.export_tree export.entry) (reencoder.new, exports.new) result }
+    ensures after_error { IsTrue T.keeps_defaults → IsTrue T.sure
+        → LeavesVisited (ask T.reply T.next) reencoder.old (visits (read.export_tree export.entry))
+        reencoder.new result }
 {
     shared::parse_export(reencoder, exports, export)
 }
@@ -225,9 +249,11 @@ pub fn parse_code_section<T: Reencode>(
 ) -> Result<(), Error<T::Error>>
     ensures kept { KeepsCode code.old code.new }
     ensures default { IsTrue T.keeps_defaults
-        → GivesRows (ask T.reply T.next) code.old.ceiling (row_of kinds.Code) section.entry reencoder.old code.old.rows reencoder.new code.new.rows result }
-    ensures left { IsTrue T.keeps_defaults → IsTrue T.sure
-        → LeavesReading (RowsOf (row_of kinds.Code) section.entry) (ask T.reply T.next) reencoder.old reencoder.new result }
+        → GivesRows (ask T.reply T.next) code.old.ceiling (row_of kinds.Code) section.entry
+        (reencoder.old, code.old.rows) (reencoder.new, code.new.rows) result }
+    ensures after_error { IsTrue T.keeps_defaults → IsTrue T.sure
+        → LeavesReading (RowsOf (row_of kinds.Code) section.entry) (ask T.reply T.next)
+        reencoder.old reencoder.new result }
 {
     bodies::parse_code_section!(reencoder, alloc, code, section)
 }
@@ -242,9 +268,11 @@ pub fn parse_function_body<T: Reencode>(
 ) -> Result<(), Error<T::Error>>
     ensures kept { KeepsCode code.old code.new }
     ensures default { IsTrue T.keeps_defaults
-        → GivesBody (ask T.reply T.next) func.entry.bytes.now reencoder.old code.old reencoder.new code.new result }
-    ensures left { IsTrue T.keeps_defaults → IsTrue T.sure
-        → LeavesReading (BodyOf func.entry.bytes.now) (ask T.reply T.next) reencoder.old reencoder.new result }
+        → GivesBody (ask T.reply T.next) func.entry.bytes.now (reencoder.old, code.old)
+        (reencoder.new, code.new) result }
+    ensures after_error { IsTrue T.keeps_defaults → IsTrue T.sure
+        → LeavesReading (BodyOf func.entry.bytes.now) (ask T.reply T.next) reencoder.old
+        reencoder.new result }
 {
     bodies::parse_function_body!(reencoder, alloc, code, func)
 }
@@ -256,9 +284,11 @@ pub fn new_function_with_parsed_locals<T: Reencode>(
     func: &r::FunctionBody<'_>,
 ) -> Result<w::Function, Error<T::Error>>
     ensures default { IsTrue T.keeps_defaults
-        → GivesLocals (ask T.reply T.next) func.now.bytes.now reencoder.old reencoder.new result (λ f. f) }
-    ensures left { IsTrue T.keeps_defaults → IsTrue T.sure
-        → LeavesReading (LocalsOf func.now.bytes.now) (ask T.reply T.next) reencoder.old reencoder.new result }
+        → GivesLocals (ask T.reply T.next) func.now.bytes.now reencoder.old reencoder.new result
+        (λ f. f) }
+    ensures after_error { IsTrue T.keeps_defaults → IsTrue T.sure
+        → LeavesReading (LocalsOf func.now.bytes.now) (ask T.reply T.next) reencoder.old
+        reencoder.new result }
 {
     shared::new_function_with_parsed_locals(reencoder, alloc, func)
 }
@@ -273,9 +303,11 @@ pub fn parse_section<T: Reencode>(
 ) -> Result<(), Error<T::Error>>
     ensures kept { KeepsModule «module».old «module».new }
     ensures default { IsTrue T.keeps_defaults
-        → GivesSection (ask T.reply T.next) id body.now reencoder.old «module».old reencoder.new «module».new result }
-    ensures left { IsTrue T.keeps_defaults → IsTrue T.sure
-        → LeavesReading (ReadsAs id body.now) (ask T.reply T.next) reencoder.old reencoder.new result }
+        → GivesSection (ask T.reply T.next) id body.now (reencoder.old, «module».old)
+        (reencoder.new, «module».new) result }
+    ensures after_error { IsTrue T.keeps_defaults → IsTrue T.sure
+        → LeavesReading (ReadsAs id body.now) (ask T.reply T.next)
+        reencoder.old reencoder.new result }
 {
     bodies::parse_section!(reencoder, alloc, module, id, body)
 }
@@ -289,9 +321,11 @@ pub fn parse_core_module<T: Reencode>(
 ) -> Result<(), Error<T::Error>>
     ensures kept { KeepsModule «module».old «module».new }
     ensures default { IsTrue T.keeps_defaults → IsTrue T.adds_nothing
-        → GivesCore (ask T.reply T.next) bytes.now reencoder.old «module».old reencoder.new «module».new result }
-    ensures left { IsTrue T.keeps_defaults → IsTrue T.adds_nothing → IsTrue T.sure
-        → LeavesReading (CoreReading bytes.now) (ask T.reply T.next) reencoder.old reencoder.new result }
+        → GivesCore (ask T.reply T.next) bytes.now (reencoder.old, «module».old)
+        (reencoder.new, «module».new) result }
+    ensures after_error { IsTrue T.keeps_defaults → IsTrue T.adds_nothing → IsTrue T.sure
+        → LeavesReading (CoreReading bytes.now) (ask T.reply T.next)
+        reencoder.old reencoder.new result }
 {
     bodies::parse_core_module!(reencoder, alloc, module, bytes)
 }

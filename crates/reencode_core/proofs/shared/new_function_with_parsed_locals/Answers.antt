@@ -46,30 +46,30 @@ returns-clause-default g c =
     let whole = all_yielded _ _ _ _ inv.left c.loop-local.local-iterator.rest.ok.0 c.in-None.ensures.steps.0 ∙ c.into_iter-local-iterator.ensures.into_iter_gives.0 ∙ c.into_vec-local-items.ensures in
     λ k. locals_given (ask i.reply i.next) c.in_ok-locals.locals _ _ _ _ _ c.in_ok-locals.ensures.ok.1 (inv.default k) whole c.in_ok-new.ensures.ok
 
-pub returns-in_err-locals-clause-left : goal.returns-in_err-locals-clause-left
-returns-in_err-locals-clause-left g c = λ k sure. reading_left _ (λ t p. none_visited _ _)
+pub returns-in_err-locals-clause-after_error : goal.returns-in_err-locals-clause-after_error
+returns-in_err-locals-clause-after_error g c = λ k sure. reading_left _ (λ t p. none_visited _ _)
 
-pub returns-in_err-mapped-clause-left : goal.returns-in_err-mapped-clause-left
-returns-in_err-mapped-clause-left g c = λ k sure. reading_left _ (λ t p. none_visited _ _)
+pub returns-in_err-mapped-clause-after_error : goal.returns-in_err-mapped-clause-after_error
+returns-in_err-mapped-clause-after_error g c = λ k sure. reading_left _ (λ t p. none_visited _ _)
 
-pub returns-in_err-ty-clause-left : goal.returns-in_err-ty-clause-left
-returns-in_err-ty-clause-left g c =
+pub returns-in_err-ty-clause-after_error : goal.returns-in_err-ty-clause-after_error
+returns-in_err-ty-clause-after_error g c =
     let inv = c.loop-local.invariant in
     let x = c.in-Some.local in
     let parts = ap (λ (z : List _). c.loop-local.yielded ++ z) (sym c.in-Some.ensures.steps.0) ∙ inv.left ∙ c.into_iter-local-iterator.ensures.into_iter_gives.0 ∙ c.into_vec-local-items.ensures in
     λ k sure. reading_left _ (locals_leave c.in_ok-locals.locals c.in_ok-locals.ensures.ok.1 (items_leave _ _ _ x (inv.default k) parts
     (sure_visited g.T.ReencodeIndices.reply g.T.ReencodeIndices.next (read_types.val_type_tree x.1) write_types.val_type_tree _ (c.in_err-ty.ensures.default k) (c.in_err-ty.ensures.sure k) sure)))
 
-pub returns-in_err-push-clause-left : goal.returns-in_err-push-clause-left
-returns-in_err-push-clause-left g c =
+pub returns-in_err-push-clause-after_error : goal.returns-in_err-push-clause-after_error
+returns-in_err-push-clause-after_error g c =
     let inv = c.loop-local.invariant in
     let x = c.in-Some.local in
     let parts = ap (λ (z : List _). c.loop-local.yielded ++ z) (sym c.in-Some.ensures.steps.0) ∙ inv.left ∙ c.into_iter-local-iterator.ensures.into_iter_gives.0 ∙ c.into_vec-local-items.ensures in
     λ k sure. reading_left _ (locals_leave c.in_ok-locals.locals c.in_ok-locals.ensures.ok.1 (items_leave _ _ _ x (inv.default k) parts
     (accepted_visited 0 (read_types.val_type_tree x.1) (c.in_ok-ty.ensures.default k 0))))
 
-pub returns-in_err-new-clause-left : goal.returns-in_err-new-clause-left
-returns-in_err-new-clause-left g c =
+pub returns-in_err-new-clause-after_error : goal.returns-in_err-new-clause-after_error
+returns-in_err-new-clause-after_error g c =
     let inv = c.loop-local.invariant in
     let whole = all_yielded _ _ _ _ inv.left c.loop-local.local-iterator.rest.ok.0 c.in-None.ensures.steps.0 ∙ c.into_iter-local-iterator.ensures.into_iter_gives.0 ∙ c.into_vec-local-items.ensures in
     λ k sure. reading_left _ (locals_leave c.in_ok-locals.locals c.in_ok-locals.ensures.ok.1 (items_leave_all _ _ (inv.default k) whole))

@@ -7,11 +7,11 @@ use Rattle.reencode_core.proofs.Leaving.{item_leaves, never_refused}
 use Rattle.reencode_core.proofs.OneRow.{asks, export_accepted, export_large, row_mapped, row_not_added}
 use Rattle.reencode_core.proofs.shared.parse_export.Goals as goal
 
-pub returns-in_err-kind-clause-left : goal.returns-in_err-kind-clause-left
-returns-in_err-kind-clause-left g c = λ k sure. absurd (never_refused (c.in_err-kind.ensures.default k 0 (never_wants _ (c.in_err-kind.ensures.sure k) sure)))
+pub returns-in_err-kind-clause-after_error : goal.returns-in_err-kind-clause-after_error
+returns-in_err-kind-clause-after_error g c = λ k sure. absurd (never_refused (c.in_err-kind.ensures.default k 0 (never_wants _ (c.in_err-kind.ensures.sure k) sure)))
 
-pub returns-in_err-index-clause-left : goal.returns-in_err-index-clause-left
-returns-in_err-index-clause-left g c =
+pub returns-in_err-index-clause-after_error : goal.returns-in_err-index-clause-after_error
+returns-in_err-index-clause-after_error g c =
     let i = g.T.ReencodeIndices in
     let row = c.args.export in
     let gone = c.in_err-index.ensures in

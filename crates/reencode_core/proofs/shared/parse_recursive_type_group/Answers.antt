@@ -51,15 +51,15 @@ returns-clause-default g c =
     let whole = all_yielded _ _ _ _ inv.left c.loop-ty.ty-iterator.rest.ok.0 c.in-None.ensures.steps.0 in
     λ k ceiling. group_accepted (ask i.reply i.next) ceiling _ _ group.explicit group.types _ _ (inv.default k) whole inv.counted group.bare_holds_one
 
-pub returns-in_err-ty-clause-left : goal.returns-in_err-ty-clause-left
-returns-in_err-ty-clause-left g c =
+pub returns-in_err-ty-clause-after_error : goal.returns-in_err-ty-clause-after_error
+returns-in_err-ty-clause-after_error g c =
     let inv = c.loop-ty.invariant in
     let group = c.args.rec_group in
     let parts = ap (λ (z : List _). c.loop-ty.yielded ++ z) (sym c.in-Some.ensures.steps.0) ∙ inv.left in
     λ k sure. visited_left _ (group_leaves group.explicit group.types group.bare_holds_one (items_leave _ _ _ _ (inv.default k) parts (c.in_err-ty.ensures.left k sure)))
 
-pub returns-in_err-push-clause-left : goal.returns-in_err-push-clause-left
-returns-in_err-push-clause-left g c =
+pub returns-in_err-push-clause-after_error : goal.returns-in_err-push-clause-after_error
+returns-in_err-push-clause-after_error g c =
     let inv = c.loop-ty.invariant in
     let group = c.args.rec_group in
     let parts = ap (λ (z : List _). c.loop-ty.yielded ++ z) (sym c.in-Some.ensures.steps.0) ∙ inv.left in

@@ -22,4 +22,4 @@ returns-in_ok-table-in-RefNull g c =
     rw c.in-RefNull.is (row_mapped g.T.ReencodeIndices (read.table_type_tree c.args.table.ty) write.table_type_tree _ _ c.in_ok-ty-in-RefNull.ty c.in_ok-ty-in-RefNull.ensures.default c.in_ok-table-in-RefNull.ensures.ok)
 
 pub returns-in-Expr : goal.returns-in-Expr
-returns-in-Expr g c = rw c.in-Expr.is (record { kept = take-length _; default = λ k n. (refl, refl, refl); left = λ k sure. refl })
+returns-in-Expr g c = rw c.in-Expr.is (record { kept = take-length _; default = λ k n. (refl, refl, refl); after_error = λ k sure. refl })

@@ -22,7 +22,7 @@ returns-in_err-parse_recursive_type_group g c =
     let i = g.Self.ReencodeIndices in
     let row = rw c.in-Some.is at c.in_ok-row.ensures.row in
     let maps = c.in_err-parse_recursive_type_group.ensures.default in
-    rows_refused_at i c.rows.invariant refl refl row _ (row_unmapped i (read.group_tree c.in-Some.row) write.group_tree _ _ _ maps c.in_err-parse_recursive_type_group.ensures.left refl (Err _) refl) _ c.from_residual-in_err-parse_recursive_type_group.ensures.1
+    rows_refused_at i c.rows.invariant refl refl row _ (row_unmapped i (read.group_tree c.in-Some.row) write.group_tree _ _ _ maps c.in_err-parse_recursive_type_group.ensures.after_error refl (Err _) refl) _ c.from_residual-in_err-parse_recursive_type_group.ensures.1
 
 pub returns-in_err-group : goal.returns-in_err-group
 returns-in_err-group g c =
