@@ -2,10 +2,10 @@ pub mod Usual
 pub mod Known
 pub mod Counts
 pub mod RowLoop
+pub mod EachRow
 pub mod OneSection
 pub mod CoreLoop
 pub mod WholeBytes
-pub mod ExportRow
 pub mod OneRow
 pub mod Group
 pub mod BodyLoop
@@ -13,3 +13,6 @@ pub mod Locals
 pub mod WholeBody
 pub mod Leaving
 pub mod RuleRuns
+pub mod MappedSection
+pub mod EachSection
+pub mod EachBody

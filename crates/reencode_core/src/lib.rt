@@ -7,6 +7,8 @@ mod imports;
 mod plain;
 mod reencode;
 mod rule;
+mod sections;
+mod shared;
 #[cfg(test)]
 mod tests;
 #[cfg(test)]
