@@ -11,12 +11,11 @@ ghost use Rattle.wasm_write.specs.Types as write;
 ghost use Rattle.reencode_items.specs.Immediates.{is_mapped};
 ghost use Rattle.reencode_items.specs.Maps.{LeavesOperator, Maps, MovesOn, ParsesOperator};
 
-use crate::{bodies, instructions, kinds};
+use crate::{bodies, indices, kinds};
 use reencode_hooks::{Error, ReencodeIndices};
 use std::alloc::Global;
 use wasm_leb::List;
 use wasm_read as r;
-use wasm_shapes::Space;
 use wasm_write as w;
 
 /// What a re-encoder does with each item. A default body asks the hook of each index of the item in the order of the
@@ -33,7 +32,7 @@ pub trait ReencodeItems: ReencodeIndices {
             → Maps Self.reply Self.next self.old (read.type_index ty) write.type_index self.new result }
         ensures sure { IsTrue Self.keeps_defaults → NeverWants Self.sure result }
     {
-        bodies::type_index_unpacked!(self, ty)
+        indices::type_index_unpacked(self, ty)
     }
 
     /// The index of what is exported, by the hook of its kind.
@@ -46,7 +45,7 @@ pub trait ReencodeItems: ReencodeIndices {
             → Maps Self.reply Self.next self.old (read.item_tree kind index) (read.item_tree kind) self.new result }
         ensures sure { IsTrue Self.keeps_defaults → NeverWants Self.sure result }
     {
-        bodies::external_index!(self, kind, index)
+        indices::external_index(self, kind, index)
     }
 
     /// A heap type that names no type of the module (WebAssembly Core Specification 3.0, section 5.3.3).
@@ -293,7 +292,7 @@ pub trait ReencodeItems: ReencodeIndices {
         ensures left { IsTrue Self.keeps_defaults → IsTrue Self.sure
             → LeavesVisited (ask Self.reply Self.next) self.old (visits (immediates.imm_tree imm.entry)) self.new result }
     {
-        bodies::immediate!(self, imm)
+        indices::immediate(self, imm)
     }
 
     /// An operator (section 5.4), each immediate by the method `immediate`.

@@ -12,12 +12,11 @@ ghost use Rattle.reencode_items.specs.Immediates.{is_mapped};
 ghost use Rattle.reencode_items.specs.Maps.{LeavesOperator, Maps, MovesOn, ParsesOperator};
 
 use crate::items::ReencodeItems;
-use crate::{bodies, instructions, kinds};
+use crate::{bodies, indices, kinds};
 use reencode_hooks::Error;
 use std::alloc::Global;
 use wasm_leb::List;
 use wasm_read as r;
-use wasm_shapes::Space;
 use wasm_write as w;
 
 /// A heap type that names no type of the module (WebAssembly Core Specification 3.0, section 5.3.3).
@@ -54,7 +53,7 @@ pub fn type_index_unpacked<T: ReencodeItems>(
         → Maps T.reply T.next reencoder.old (read.type_index ty) write.type_index reencoder.new result }
     ensures sure { IsTrue T.keeps_defaults → NeverWants T.sure result }
 {
-    bodies::type_index_unpacked!(reencoder, ty)
+    indices::type_index_unpacked(reencoder, ty)
 }
 
 /// The index of what is exported, by the hook of its kind.
@@ -67,7 +66,7 @@ pub fn external_index<T: ReencodeItems>(
         → Maps T.reply T.next reencoder.old (read.item_tree kind index) (read.item_tree kind) reencoder.new result }
     ensures sure { IsTrue T.keeps_defaults → NeverWants T.sure result }
 {
-    bodies::external_index!(reencoder, kind, index)
+    indices::external_index(reencoder, kind, index)
 }
 
 /// An array by the type of its elements (section 5.3.8).
@@ -321,7 +320,7 @@ pub fn immediate<'a, T: ReencodeItems>(
     ensures left { IsTrue T.keeps_defaults → IsTrue T.sure
         → LeavesVisited (ask T.reply T.next) reencoder.old (visits (immediates.imm_tree imm.entry)) reencoder.new result }
 {
-    bodies::immediate!(reencoder, imm)
+    indices::immediate(reencoder, imm)
 }
 
 /// An operator (section 5.4), each immediate by the method `immediate`.

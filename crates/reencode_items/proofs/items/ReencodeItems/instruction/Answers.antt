@@ -64,8 +64,8 @@ nothing_left : {A : Type 0} (l : List A) → length l ≡ 0 → l ≡ []
 nothing_left [] h = refl
 nothing_left (x ∷ xs) h = absurd (omega arith)
 
-pub instruction_of-requires : goal.instruction_of-requires
-instruction_of-requires g c =
+pub of_kinds-requires : goal.of_kinds-requires
+of_kinds-requires g c =
     let at = c.loop-imm in
     let none : into_iter_items at.imm-iterator ≡ [] = nothing_left _ (sym at.invariant.counted ∙ c.in-None.ensures.steps.0) in
     let all : at.yielded ≡ c.args.arg.imms = sym (append-nil at.yielded) ∙ rw none at at.invariant.parts in
@@ -76,5 +76,5 @@ pub returns-clause-default : goal.returns-clause-default
 returns-clause-default g c =
     let at = c.loop-imm in
     let none : into_iter_items at.imm-iterator ≡ [] = nothing_left _ (sym at.invariant.counted ∙ c.in-None.ensures.steps.0) in
-    λ k ceiling. rw (c.instruction_of.ensures.opcode, c.instruction_of.ensures.imms, c.opcode-opcode.ensures)
+    λ k ceiling. rw (c.of_kinds.ensures, c.opcode-opcode.ensures)
     (operator_accepted (code_of c.args.arg.opcode) ceiling (at.invariant.default k) none)
