@@ -1,14 +1,15 @@
 -- A walk over a tree by the walks over its parts.
-use Rattle.std.proofs.Common.{◌≡◌, ◌<◌, ◌≤◌, ℕ, ◌+◌, List, [], ◌∷◌, ◌++◌, length, drop, get_or, refl, sym, subst, ap, ◌∙◌, drop-cons, add-one}
-use Rattle.std.specs.Prelude.{map}
+use Rattle.std.proofs.Common.{◌≡◌, ◌≢◌, ◌<◌, ◌≤◌, ℕ, ◌+◌, Bool, List, [], ◌∷◌, ◌++◌, length, drop, get_or, Result, Ok, Err, refl, sym, subst, ap, ◌∙◌, drop-cons, add-one}
+use Rattle.std.specs.Prelude.{map, IsTrue, IsErrAnd}
 use Rattle.std.proofs.lemmas.List.{map-append, drop_all}
 use Rattle.wasm_shapes.specs.declared.Visit.{Visit}
 use Rattle.wasm_shapes.specs.Tree.{Tree, visits}
 use Rattle.wasm_shapes.specs.Rows.{rows_then}
 use Rattle.reencode_hooks.specs.declared.error.Error.{Error}
-use Rattle.reencode_hooks.specs.Run.{Step, accepted, refused, and_then, Visited}
+use Rattle.reencode_hooks.specs.declared.error.Error.TheVariants.{NoMemory}
+use Rattle.reencode_hooks.specs.Run.{Step, accepted, refused, and_then, Gives, LeavesVisited, NeverWants, Visited}
 use Rattle.reencode_hooks.specs.Walk.{walk}
-use Rattle.reencode_items.proofs.Leaving.{accepted_visited, first_visited, refused_visited, second_visited}
+use Rattle.reencode_items.proofs.Leaving.{accepted_visited, first_visited, never_wants, refused_visited, second_visited, visited_left}
 
 -- The walk over a tree is accepted: it gives this tree and this state.
 pub record Accepts {S E : Type 0} (asked : S → Visit → Step S (Error E) ℕ) (c : ℕ) (s : S) (t u : Tree) (m : S) : Type 0 where
@@ -17,6 +18,12 @@ pub record Accepts {S E : Type 0} (asked : S → Visit → Step S (Error E) ℕ)
 -- It is refused with this error, in this state.
 pub record Refuses {S E : Type 0} (asked : S → Visit → Step S (Error E) ℕ) (c : ℕ) (s : S) (t : Tree) (e : Error E) (m : S) : Type 0 where
   pub is : walk asked c s t ≡ refused e m
+
+-- a call that hands an error on
+pub gives_on : {S E A : Type 0} {asked : S → Visit → Step S (Error E) ℕ} {c : ℕ} {s m : S} {t : Tree} {e : Error E}
+    (view : A → Tree) (r : Result A (Error E)) → IsErrAnd r (λ x. x ≡ e) → (e ≢ NoMemory → Refuses asked c s t e m) → Gives (walk asked c s t) view m r
+gives_on view (Ok a) h step = absurd h
+gives_on view (Err x) h step = λ other. rw h ((step (λ same. other (h ∙ same))).is)
 
 module _ {S E : Type 0} {asked : S → Visit → Step S (Error E) ℕ} {c : ℕ} where
   -- ---- one part
@@ -156,22 +163,24 @@ module _ {S E A B : Type 0} {asked : S → Visit → Step S (Error E) ℕ} {read
       let first : walk asked c s (Tree.cons (read x) rest) ≡ refused err m = rw step refl in
       record { is = done.walks c ∙ rw here (ap (λ (r : Step S (Error E) Tree). onto_rows (map write made) r) first) }
 
-  pub items_refuse : {s0 s m : S} {items slice : List A} {i : ℕ} {made : List B} {e : Error E} (d : A) (c : ℕ) →
+  pub items_refuse : {X : Type 0} {s0 s m : S} {items slice : List A} {i : ℕ} {made : List B} {e : Error E} (view : X → Tree) (r : Result X (Error E)) (d : A) (c : ℕ) →
       ItemsDone asked read write s0 items i s made → slice ≡ items → i < length slice →
-      walk asked c s (read (get_or slice i d)) ≡ refused e m →
-      Refuses asked c s0 (Tree.vec (rows_then (map read items) Tree.nil)) e m
-  items_refuse d c done e h step = vec_refuses (rows_refuse d c done e h step)
+      (e ≢ NoMemory → walk asked c s (read (get_or slice i d)) ≡ refused e m) → IsErrAnd r (λ x. x ≡ e) →
+      Gives (walk asked c s0 (Tree.vec (rows_then (map read items) Tree.nil))) view m r
+  items_refuse view r d c done e h step is = gives_on view r is (λ other. vec_refuses (rows_refuse d c done e h (step other)))
 
   -- What is left where the item at the place was refused, and where it was accepted.
-  pub items_leave_refused : {s0 s m : S} {items slice : List A} {i : ℕ} {made : List B} {e : Error E} (d : A) →
+  pub items_refused : {s0 s m : S} {items slice : List A} {i : ℕ} {made : List B} {e : Error E} {sure : Bool} (d : A) →
       ItemsDone asked read write s0 items i s made → slice ≡ items → i < length slice →
-      walk asked 0 s (read (get_or slice i d)) ≡ refused e m → Visited asked s0 (visits (rows_then (map read items) Tree.nil)) m
-  items_leave_refused {slice = slice} {i = i} d done e h step = items_leave d done e h (refused_visited 0 (read (get_or slice i d)) step)
+      (e ≢ NoMemory → walk asked 0 s (read (get_or slice i d)) ≡ refused e m) → NeverWants {A = B} sure (Err e) → IsTrue sure →
+      Visited asked s0 (visits (rows_then (map read items) Tree.nil)) m
+  items_refused {slice = slice} {i = i} d done e h step never sure =
+      items_leave d done e h (refused_visited 0 (read (get_or slice i d)) (step (never_wants _ never sure)))
 
-  pub items_leave_accepted : {s0 s m : S} {items slice : List A} {i : ℕ} {made : List B} {u : Tree} (d : A) →
+  pub items_accepted : {s0 s m : S} {items slice : List A} {i : ℕ} {made : List B} {u : Tree} (d : A) →
       ItemsDone asked read write s0 items i s made → slice ≡ items → i < length slice →
       walk asked 0 s (read (get_or slice i d)) ≡ accepted u m → Visited asked s0 (visits (rows_then (map read items) Tree.nil)) m
-  items_leave_accepted {slice = slice} {i = i} d done e h step = items_leave d done e h (accepted_visited 0 (read (get_or slice i d)) step)
+  items_accepted {slice = slice} {i = i} d done e h step = items_leave d done e h (accepted_visited 0 (read (get_or slice i d)) step)
 
   -- All were accepted, and with them the items behind their number.
   pub rows_accept : {s0 s : S} {items slice : List A} {i : ℕ} {made : List B} (c : ℕ) →

@@ -22,8 +22,8 @@ use wasm_write as w;
 /// visits, and answers the item with each index replaced by its hook's answer; the first refusal ends it and is the
 /// answer. A part of an item that has a method of its own is mapped by that method.
 ///
-/// The clause `default` of each method, and `sure` or `left`, hold where the reencoder keeps the defaults. `sure` says that
-/// memory is never wanting where no hook wants any, and `left` that every error then leaves the state after a front part of
+/// The clause `default` of each method, and `sure` or `after_error`, hold where the reencoder keeps the defaults. `sure` says that
+/// memory is never wanting where no hook wants any, and `after_error` that every error then leaves the state after a front part of
 /// the item's visits, want of memory too.
 pub trait ReencodeItems: ReencodeIndices {
     /// The index of a type. `CanonicalizedHeapTypeReference` comes for one inside a recursion group.
@@ -151,7 +151,7 @@ pub trait ReencodeItems: ReencodeIndices {
     ) -> Result<w::CompositeType, Error<Self::Error>>
         ensures default { IsTrue Self.keeps_defaults
             → Maps Self.reply Self.next self.old (read.composite_tree composite_ty) write.composite_tree self.new result }
-        ensures left { IsTrue Self.keeps_defaults → IsTrue Self.sure
+        ensures after_error { IsTrue Self.keeps_defaults → IsTrue Self.sure
             → LeavesVisited (ask Self.reply Self.next) self.old (visits (read.composite_tree composite_ty)) self.new result }
     {
         bodies::composite_type!(self, alloc, composite_ty)
@@ -165,7 +165,7 @@ pub trait ReencodeItems: ReencodeIndices {
     ) -> Result<w::FuncType, Error<Self::Error>>
         ensures default { IsTrue Self.keeps_defaults
             → Maps Self.reply Self.next self.old (read.func_type_tree func_ty) write.func_type_tree self.new result }
-        ensures left { IsTrue Self.keeps_defaults → IsTrue Self.sure
+        ensures after_error { IsTrue Self.keeps_defaults → IsTrue Self.sure
             → LeavesVisited (ask Self.reply Self.next) self.old (visits (read.func_type_tree func_ty)) self.new result }
     {
         bodies::func_type!(self, alloc, func_ty)
@@ -179,7 +179,7 @@ pub trait ReencodeItems: ReencodeIndices {
     ) -> Result<w::StructType, Error<Self::Error>>
         ensures default { IsTrue Self.keeps_defaults
             → Maps Self.reply Self.next self.old (read.fields_tree struct_ty.fields) (λ ty. body_tree (map write.field_type_tree ty.fields)) self.new result }
-        ensures left { IsTrue Self.keeps_defaults → IsTrue Self.sure
+        ensures after_error { IsTrue Self.keeps_defaults → IsTrue Self.sure
             → LeavesVisited (ask Self.reply Self.next) self.old (visits (read.fields_tree struct_ty.fields)) self.new result }
     {
         bodies::struct_type!(self, alloc, struct_ty)
@@ -193,7 +193,7 @@ pub trait ReencodeItems: ReencodeIndices {
     ) -> Result<w::SubType, Error<Self::Error>>
         ensures default { IsTrue Self.keeps_defaults
             → Maps Self.reply Self.next self.old (read.sub_type_tree sub_ty) write.sub_type_tree self.new result }
-        ensures left { IsTrue Self.keeps_defaults → IsTrue Self.sure
+        ensures after_error { IsTrue Self.keeps_defaults → IsTrue Self.sure
             → LeavesVisited (ask Self.reply Self.next) self.old (visits (read.sub_type_tree sub_ty)) self.new result }
     {
         bodies::sub_type!(self, alloc, sub_ty)
@@ -208,7 +208,7 @@ pub trait ReencodeItems: ReencodeIndices {
         ensures counted { IfOk result (λ types. length types ≡ length val_tys) }
         ensures default { IsTrue Self.keeps_defaults
             → Maps Self.reply Self.next self.old (read.val_types_tree val_tys) write.val_types_tree self.new result }
-        ensures left { IsTrue Self.keeps_defaults → IsTrue Self.sure
+        ensures after_error { IsTrue Self.keeps_defaults → IsTrue Self.sure
             → LeavesVisited (ask Self.reply Self.next) self.old (visits (read.val_types_tree val_tys)) self.new result }
     {
         bodies::val_types!(self, alloc, val_tys)
@@ -289,7 +289,7 @@ pub trait ReencodeItems: ReencodeIndices {
         ensures kind { IfOk result (λ made. instructions.imm_kind made ≡ immediates.kind_of_imm imm.entry) }
         ensures default { IsTrue Self.keeps_defaults
             → Maps Self.reply Self.next self.old (immediates.imm_tree imm.entry) instructions.imm_tree self.new result }
-        ensures left { IsTrue Self.keeps_defaults → IsTrue Self.sure
+        ensures after_error { IsTrue Self.keeps_defaults → IsTrue Self.sure
             → LeavesVisited (ask Self.reply Self.next) self.old (visits (immediates.imm_tree imm.entry)) self.new result }
     {
         indices::immediate(self, imm)
@@ -303,7 +303,7 @@ pub trait ReencodeItems: ReencodeIndices {
     ) -> Result<w::Instruction<'a>, Error<Self::Error>>
         ensures default { IsTrue Self.keeps_defaults
             → Maps Self.reply Self.next self.old (immediates.operator_tree arg.entry) instructions.instruction_tree self.new result }
-        ensures left { IsTrue Self.keeps_defaults → IsTrue Self.sure
+        ensures after_error { IsTrue Self.keeps_defaults → IsTrue Self.sure
             → LeavesVisited (ask Self.reply Self.next) self.old (visits (immediates.operator_tree arg.entry)) self.new result }
     {
         bodies::instruction!(self, alloc, arg)
@@ -322,7 +322,7 @@ pub trait ReencodeItems: ReencodeIndices {
         ensures taken { IfOk result (λ _. MovesOn reader.old reader.new) }
         ensures default { IsTrue Self.keeps_defaults
             → ParsesOperator Self.reply Self.next self.old reader.old instructions.instruction_tree self.new reader.new result }
-        ensures left { IsTrue Self.keeps_defaults → IsTrue Self.sure
+        ensures after_error { IsTrue Self.keeps_defaults → IsTrue Self.sure
             → LeavesOperator (ask Self.reply Self.next) self.old reader.old self.new result }
     {
         bodies::parse_instruction!(self, alloc, reader)

@@ -165,7 +165,7 @@ pub fn composite_type<T: ReencodeItems>(
 ) -> Result<w::CompositeType, Error<T::Error>>
     ensures default { IsTrue T.keeps_defaults
         → Maps T.reply T.next reencoder.old (read.composite_tree composite_ty) write.composite_tree reencoder.new result }
-    ensures left { IsTrue T.keeps_defaults → IsTrue T.sure
+    ensures after_error { IsTrue T.keeps_defaults → IsTrue T.sure
         → LeavesVisited (ask T.reply T.next) reencoder.old (visits (read.composite_tree composite_ty)) reencoder.new result }
 {
     bodies::composite_type!(reencoder, alloc, composite_ty)
@@ -179,7 +179,7 @@ pub fn func_type<T: ReencodeItems>(
 ) -> Result<w::FuncType, Error<T::Error>>
     ensures default { IsTrue T.keeps_defaults
         → Maps T.reply T.next reencoder.old (read.func_type_tree func_ty) write.func_type_tree reencoder.new result }
-    ensures left { IsTrue T.keeps_defaults → IsTrue T.sure
+    ensures after_error { IsTrue T.keeps_defaults → IsTrue T.sure
         → LeavesVisited (ask T.reply T.next) reencoder.old (visits (read.func_type_tree func_ty)) reencoder.new result }
 {
     bodies::func_type!(reencoder, alloc, func_ty)
@@ -193,7 +193,7 @@ pub fn struct_type<T: ReencodeItems>(
 ) -> Result<w::StructType, Error<T::Error>>
     ensures default { IsTrue T.keeps_defaults
         → Maps T.reply T.next reencoder.old (read.fields_tree struct_ty.fields) (λ ty. body_tree (map write.field_type_tree ty.fields)) reencoder.new result }
-    ensures left { IsTrue T.keeps_defaults → IsTrue T.sure
+    ensures after_error { IsTrue T.keeps_defaults → IsTrue T.sure
         → LeavesVisited (ask T.reply T.next) reencoder.old (visits (read.fields_tree struct_ty.fields)) reencoder.new result }
 {
     bodies::struct_type!(reencoder, alloc, struct_ty)
@@ -207,7 +207,7 @@ pub fn sub_type<T: ReencodeItems>(
 ) -> Result<w::SubType, Error<T::Error>>
     ensures default { IsTrue T.keeps_defaults
         → Maps T.reply T.next reencoder.old (read.sub_type_tree sub_ty) write.sub_type_tree reencoder.new result }
-    ensures left { IsTrue T.keeps_defaults → IsTrue T.sure
+    ensures after_error { IsTrue T.keeps_defaults → IsTrue T.sure
         → LeavesVisited (ask T.reply T.next) reencoder.old (visits (read.sub_type_tree sub_ty)) reencoder.new result }
 {
     bodies::sub_type!(reencoder, alloc, sub_ty)
@@ -222,7 +222,7 @@ pub fn val_types<T: ReencodeItems>(
     ensures counted { IfOk result (λ types. length types ≡ length val_tys) }
     ensures default { IsTrue T.keeps_defaults
         → Maps T.reply T.next reencoder.old (read.val_types_tree val_tys) write.val_types_tree reencoder.new result }
-    ensures left { IsTrue T.keeps_defaults → IsTrue T.sure
+    ensures after_error { IsTrue T.keeps_defaults → IsTrue T.sure
         → LeavesVisited (ask T.reply T.next) reencoder.old (visits (read.val_types_tree val_tys)) reencoder.new result }
 {
     bodies::val_types!(reencoder, alloc, val_tys)
@@ -317,7 +317,7 @@ pub fn immediate<'a, T: ReencodeItems>(
     ensures kind { IfOk result (λ made. instructions.imm_kind made ≡ immediates.kind_of_imm imm.entry) }
     ensures default { IsTrue T.keeps_defaults
         → Maps T.reply T.next reencoder.old (immediates.imm_tree imm.entry) instructions.imm_tree reencoder.new result }
-    ensures left { IsTrue T.keeps_defaults → IsTrue T.sure
+    ensures after_error { IsTrue T.keeps_defaults → IsTrue T.sure
         → LeavesVisited (ask T.reply T.next) reencoder.old (visits (immediates.imm_tree imm.entry)) reencoder.new result }
 {
     indices::immediate(reencoder, imm)
@@ -331,7 +331,7 @@ pub fn instruction<'a, T: ReencodeItems>(
 ) -> Result<w::Instruction<'a>, Error<T::Error>>
     ensures default { IsTrue T.keeps_defaults
         → Maps T.reply T.next reencoder.old (immediates.operator_tree arg.entry) instructions.instruction_tree reencoder.new result }
-    ensures left { IsTrue T.keeps_defaults → IsTrue T.sure
+    ensures after_error { IsTrue T.keeps_defaults → IsTrue T.sure
         → LeavesVisited (ask T.reply T.next) reencoder.old (visits (immediates.operator_tree arg.entry)) reencoder.new result }
 {
     bodies::instruction!(reencoder, alloc, arg)
@@ -350,7 +350,7 @@ pub fn parse_instruction<'a, T: ReencodeItems>(
     ensures taken { IfOk result (λ _. MovesOn reader.old reader.new) }
     ensures default { IsTrue T.keeps_defaults
         → ParsesOperator T.reply T.next reencoder.old reader.old instructions.instruction_tree reencoder.new reader.new result }
-    ensures left { IsTrue T.keeps_defaults → IsTrue T.sure
+    ensures after_error { IsTrue T.keeps_defaults → IsTrue T.sure
         → LeavesOperator (ask T.reply T.next) reencoder.old reader.old reencoder.new result }
 {
     bodies::parse_instruction!(reencoder, alloc, reader)

@@ -9,12 +9,12 @@ returns-in_err-field-clause-default g c =
     rw (p.1, p.2) (λ k ceiling other. (items_refuse _ ceiling (c.loop-field.invariant k) c.as_slice-field-items.ensures c.loop-field-test.true
     (c.in_err-field.ensures.default k ceiling other)).is)
 
-pub returns-in_err-field-clause-left : goal.returns-in_err-field-clause-left
-returns-in_err-field-clause-left g c = λ k sure. visited_left _ (items_leave_refused _ (c.loop-field.invariant k) c.as_slice-field-items.ensures c.loop-field-test.true
+pub returns-in_err-field-clause-after_error : goal.returns-in_err-field-clause-after_error
+returns-in_err-field-clause-after_error g c = λ k sure. visited_left _ (items_leave_refused _ (c.loop-field.invariant k) c.as_slice-field-items.ensures c.loop-field-test.true
     (c.in_err-field.ensures.default k 0 (never_wants _ (c.in_err-field.ensures.sure k) sure)))
 
-pub returns-in_err-push-clause-left : goal.returns-in_err-push-clause-left
-returns-in_err-push-clause-left g c = λ k sure. visited_left _ (items_leave_accepted _ (c.loop-field.invariant k) c.as_slice-field-items.ensures c.loop-field-test.true
+pub returns-in_err-push-clause-after_error : goal.returns-in_err-push-clause-after_error
+returns-in_err-push-clause-after_error g c = λ k sure. visited_left _ (items_leave_accepted _ (c.loop-field.invariant k) c.as_slice-field-items.ensures c.loop-field-test.true
     (c.in_ok-field.ensures.default k 0))
 
 pub loop-field-preserved : goal.loop-field-preserved

@@ -12,14 +12,14 @@ returns-in_err-index-clause-default g c =
     (supertypes_refuse ty.is_final ty.supertype_idxs _ (rows_refuse _ ceiling (c.loop-index.invariant k) c.as_slice-index-items.ensures c.loop-index-test.true
     (c.in_err-index.ensures.default k ceiling other))).is)
 
-pub returns-in_err-index-clause-left : goal.returns-in_err-index-clause-left
-returns-in_err-index-clause-left g c = λ k sure.
+pub returns-in_err-index-clause-after_error : goal.returns-in_err-index-clause-after_error
+returns-in_err-index-clause-after_error g c = λ k sure.
     let ty = c.args.sub_ty in
     visited_left _ (supertypes_leave ty.is_final ty.supertype_idxs _ (items_leave_refused _ (c.loop-index.invariant k) c.as_slice-index-items.ensures c.loop-index-test.true
     (c.in_err-index.ensures.default k 0 (never_wants _ (c.in_err-index.ensures.sure k) sure))))
 
-pub returns-in_err-push-clause-left : goal.returns-in_err-push-clause-left
-returns-in_err-push-clause-left g c = λ k sure.
+pub returns-in_err-push-clause-after_error : goal.returns-in_err-push-clause-after_error
+returns-in_err-push-clause-after_error g c = λ k sure.
     let ty = c.args.sub_ty in
     visited_left _ (supertypes_leave ty.is_final ty.supertype_idxs _ (items_leave_accepted _ (c.loop-index.invariant k) c.as_slice-index-items.ensures c.loop-index-test.true
     (c.in_ok-index.ensures.default k 0)))
@@ -36,11 +36,11 @@ returns-in_err-composite_type-clause-default g c =
     (composite_refuses ty.is_final ty.supertype_idxs (rows_accept ceiling (c.loop-index.invariant k) c.as_slice-index-items.ensures c.loop-index-test.false)
     (record { is = c.in_err-composite_type.ensures.default k ceiling other })).is)
 
-pub returns-in_err-composite_type-clause-left : goal.returns-in_err-composite_type-clause-left
-returns-in_err-composite_type-clause-left g c = λ k sure.
+pub returns-in_err-composite_type-clause-after_error : goal.returns-in_err-composite_type-clause-after_error
+returns-in_err-composite_type-clause-after_error g c = λ k sure.
     let ty = c.args.sub_ty in
     visited_left _ (composite_leaves ty.is_final ty.supertype_idxs _ (rows_accept 0 (c.loop-index.invariant k) c.as_slice-index-items.ensures c.loop-index-test.false)
-    (c.in_err-composite_type.ensures.left k sure))
+    (c.in_err-composite_type.ensures.after_error k sure))
 
 pub returns-clause-default : goal.returns-clause-default
 returns-clause-default g c = λ k ceiling.

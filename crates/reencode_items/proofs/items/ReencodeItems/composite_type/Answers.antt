@@ -19,20 +19,20 @@ returns-in_err-func_type-in-Func g c =
           let inner : Refuses asked ceiling c.args.self.now (read.inner_tree ty.inner) c.in_err-func_type-in-Func.field-0.0 c.func_type.new.self =
           rw c.in-Func.is (row_refuses (led_refuses (record { is = c.in_err-func_type-in-Func.ensures.default k ceiling other }))) in
           (shared_refuses ty.shared (describing_refuses ty.describes_idx (described_refuses ty.descriptor_idx inner))).is;
-      left = λ k sure. inner_leaves c.args.composite_ty (rw c.in-Func.is (c.in_err-func_type-in-Func.ensures.left k sure));
+      after_error = λ k sure. inner_leaves c.args.composite_ty (rw c.in-Func.is (c.in_err-func_type-in-Func.ensures.after_error k sure));
     })
 
-pub returns-in_err-array_type-in-Array-clause-left : goal.returns-in_err-array_type-in-Array-clause-left
-returns-in_err-array_type-in-Array-clause-left g c = λ k sure.
+pub returns-in_err-array_type-in-Array-clause-after_error : goal.returns-in_err-array_type-in-Array-clause-after_error
+returns-in_err-array_type-in-Array-clause-after_error g c = λ k sure.
     visited_left _ (inner_leaves c.args.composite_ty (rw c.in-Array.is (sure_visited g.Self.ReencodeIndices.reply g.Self.ReencodeIndices.next (read.field_type_tree c.in-Array.ty.0) (λ ty. write.field_type_tree ty.0) _
     (c.in_err-array_type-in-Array.ensures.default k) (c.in_err-array_type-in-Array.ensures.sure k) sure)))
 
-pub returns-in_err-struct_type-in-Struct-clause-left : goal.returns-in_err-struct_type-in-Struct-clause-left
-returns-in_err-struct_type-in-Struct-clause-left g c = λ k sure.
-    visited_left _ (inner_leaves c.args.composite_ty (rw c.in-Struct.is (c.in_err-struct_type-in-Struct.ensures.left k sure)))
+pub returns-in_err-struct_type-in-Struct-clause-after_error : goal.returns-in_err-struct_type-in-Struct-clause-after_error
+returns-in_err-struct_type-in-Struct-clause-after_error g c = λ k sure.
+    visited_left _ (inner_leaves c.args.composite_ty (rw c.in-Struct.is (c.in_err-struct_type-in-Struct.ensures.after_error k sure)))
 
-pub returns-in_err-cont_type-in-Cont-clause-left : goal.returns-in_err-cont_type-in-Cont-clause-left
-returns-in_err-cont_type-in-Cont-clause-left g c = λ k sure.
+pub returns-in_err-cont_type-in-Cont-clause-after_error : goal.returns-in_err-cont_type-in-Cont-clause-after_error
+returns-in_err-cont_type-in-Cont-clause-after_error g c = λ k sure.
     visited_left _ (inner_leaves c.args.composite_ty (rw c.in-Cont.is (sure_visited g.Self.ReencodeIndices.reply g.Self.ReencodeIndices.next (read.signed_index c.in-Cont.ty.0) (λ ty. write.signed_index ty.0) _
     (c.in_err-cont_type-in-Cont.ensures.default k) (c.in_err-cont_type-in-Cont.ensures.sure k) sure)))
 
@@ -53,8 +53,8 @@ returns-in_err-type_index_unpacked-in-Some-clause-default g c =
     record { is = c.in_err-type_index_unpacked-in-Some.ensures.default k ceiling other } in
     rw c.in-Some.is (shared_refuses ty.shared (describing_refuses ty.describes_idx (descriptor_refuses c.in-Some.index inner index))).is)
 
-pub returns-in_err-type_index_unpacked-in-Some-clause-left : goal.returns-in_err-type_index_unpacked-in-Some-clause-left
-returns-in_err-type_index_unpacked-in-Some-clause-left g c = λ k sure.
+pub returns-in_err-type_index_unpacked-in-Some-clause-after_error : goal.returns-in_err-type_index_unpacked-in-Some-clause-after_error
+returns-in_err-type_index_unpacked-in-Some-clause-after_error g c = λ k sure.
     let p = err_from_is_err_and c.from_residual-in_err-type_index_unpacked-in-Some.result c.from_residual-in_err-type_index_unpacked-in-Some.ensures.1 in
     maps_left g.Self.ReencodeIndices.reply g.Self.ReencodeIndices.next _ _ (read.composite_tree c.args.composite_ty) write.composite_tree _ p.0 _ p.1 p.2
     (returns-in_err-type_index_unpacked-in-Some-clause-default g c k) (never_wants _ (c.in_err-type_index_unpacked-in-Some.ensures.sure k) sure)
@@ -81,8 +81,8 @@ returns-in_err-type_index_unpacked-in-Some-describes_idx-clause-default g c =
     record { is = (c.in_err-type_index_unpacked-in-Some-describes_idx).ensures.default k ceiling other } in
     rw c.in-Some-describes_idx.is (shared_refuses ty.shared (describes_refuses c.in-Some-describes_idx.index (described_accepts inner descriptor) index)).is)
 
-pub returns-in_err-type_index_unpacked-in-Some-describes_idx-clause-left : goal.returns-in_err-type_index_unpacked-in-Some-describes_idx-clause-left
-returns-in_err-type_index_unpacked-in-Some-describes_idx-clause-left g c = λ k sure.
+pub returns-in_err-type_index_unpacked-in-Some-describes_idx-clause-after_error : goal.returns-in_err-type_index_unpacked-in-Some-describes_idx-clause-after_error
+returns-in_err-type_index_unpacked-in-Some-describes_idx-clause-after_error g c = λ k sure.
     let p = err_from_is_err_and (c.from_residual-in_err-type_index_unpacked-in-Some-describes_idx).result (c.from_residual-in_err-type_index_unpacked-in-Some-describes_idx).ensures.1 in
     maps_left g.Self.ReencodeIndices.reply g.Self.ReencodeIndices.next _ _ (read.composite_tree c.args.composite_ty) write.composite_tree _ p.0 _ p.1 p.2
     (returns-in_err-type_index_unpacked-in-Some-describes_idx-clause-default g c k) (never_wants _ ((c.in_err-type_index_unpacked-in-Some-describes_idx).ensures.sure k) sure)

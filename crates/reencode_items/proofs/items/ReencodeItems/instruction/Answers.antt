@@ -33,13 +33,13 @@ returns-in_err-imm-clause-default g c =
     rw (p.1, p.2) (λ k ceiling other. operator_refused (code_of c.args.arg.opcode) c.in-Some.imm ceiling (c.loop-imm.invariant.default k) steps
     (c.in_err-imm.ensures.default k ceiling other))
 
-pub returns-in_err-imm-clause-left : goal.returns-in_err-imm-clause-left
-returns-in_err-imm-clause-left g c = λ k sure.
+pub returns-in_err-imm-clause-after_error : goal.returns-in_err-imm-clause-after_error
+returns-in_err-imm-clause-after_error g c = λ k sure.
     let steps : into_iter_items c.loop-imm.imm-iterator ≡ c.in-Some.imm ∷ into_iter_items c.next.new.self = c.in-Some.ensures.steps.0 in
-    visited_left _ (imms_leave c.in-Some.imm (c.loop-imm.invariant.default k) steps (c.in_err-imm.ensures.left k sure))
+    visited_left _ (imms_leave c.in-Some.imm (c.loop-imm.invariant.default k) steps (c.in_err-imm.ensures.after_error k sure))
 
-pub returns-in_err-push-clause-left : goal.returns-in_err-push-clause-left
-returns-in_err-push-clause-left g c = λ k sure.
+pub returns-in_err-push-clause-after_error : goal.returns-in_err-push-clause-after_error
+returns-in_err-push-clause-after_error g c = λ k sure.
     let steps : into_iter_items c.loop-imm.imm-iterator ≡ c.in-Some.imm ∷ into_iter_items c.next.new.self = c.in-Some.ensures.steps.0 in
     visited_left _ (imms_leave c.in-Some.imm (c.loop-imm.invariant.default k) steps (accepted_visited 0 (read.imm_tree c.in-Some.imm) (c.in_ok-imm.ensures.default k 0)))
 
