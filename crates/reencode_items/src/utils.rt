@@ -172,6 +172,7 @@ pub fn composite_type<T: ReencodeItems>(
 }
 
 /// The parameters and results of a function (section 5.3.8).
+#[tactic(auto, using(crate::proofs::Leaving::first_visited, crate::proofs::Leaving::second_part))]
 pub fn func_type<T: ReencodeItems>(
     reencoder: &mut T,
     alloc: Global,
