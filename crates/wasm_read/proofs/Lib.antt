@@ -1,5 +1,4 @@
 pub mod Accesses
-pub mod Bodies
 pub mod Codes
 pub mod Framed
 pub mod OfKinds

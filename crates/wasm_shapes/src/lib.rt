@@ -1,6 +1,7 @@
 //! The shapes of WebAssembly binaries, and what bytes spell: the tables of the formats and the definitions over them.
 #![tactic(auto)]
 
+pub mod kinds;
 mod operators;
 mod spelling;
 
