@@ -2,7 +2,7 @@
 use Rattle.std.specs.Option.{is_some}
 use Rattle.std.proofs.Common.{◌≡◌, ℕ, zero, suc, Bool, true, false, List, [], ◌∷◌, ◌++◌, get_or, Option, Some, None, refl, sym, ap₂, subst}
 use Rattle.wasm_shapes.specs.Tree.{Tree, normal, frames}
-use Rattle.wasm_shapes.specs.Shape.{Shape, Named, choice, lead, bounds, paged, four_limits, table_limits, memory_type, table_type, global_type, tag_type, entity}
+use Rattle.wasm_shapes.specs.Shape.{Shape, choice, lead, bounds, paged, four_limits, memory_type, table_type, global_type, tag_type, entity}
 use Rattle.wasm_shapes.specs.Module.{import_row}
 use Rattle.wasm_shapes.specs.Spells.{Is, Spells}
 use Rattle.wasm_shapes.specs.Fits.{InRange}
@@ -15,7 +15,8 @@ use Rattle.wasm_write.specs.declared.types.EntityType.{EntityType}
 use Rattle.wasm_write.specs.declared.types.EntityType.TheVariants as variant
 use Rattle.wasm_write.specs.declared.types.Imports.{Imports}
 use Rattle.wasm_write.specs.declared.types.Imports.TheVariants as imported
-use Rattle.wasm_write.specs.Types.{led, limits_flags, bounds_tree, paged_tree, limits_tree, table_type_tree, memory_type_tree, global_flags, global_type_tree, tag_type_tree, entity_tree}
+use Rattle.wasm_shapes.specs.Types.{led, limits_flags, bounds_tree, paged_tree, limits_tree, global_flags}
+use Rattle.wasm_write.specs.Types.{table_type_tree, memory_type_tree, global_type_tree, tag_type_tree, entity_tree}
 use Rattle.wasm_write.specs.Rows.{import_tree}
 use Rattle.wasm_write.proofs.TypeShapes.{frameless_fits, reference_is, reference_frameless, value_is, value_frameless}
 
@@ -148,17 +149,17 @@ import_frameless (imported.Single row) = entity_frameless row.ty
 -- ---- what is in range is spelled
 
 module _ (s : Shape) (t : Tree) (d : Is s t) (e : frames t ≡ []) (r : InRange t) where
-  frameless_spelled : Spells s (normal t) t
-  frameless_spelled = record { shaped = d; spelled = read_back t r (frameless_fits t e) }
+  frameless_spelled : ∥ Spells s (normal t) t ∥₁
+  frameless_spelled = ∣ record { shaped = d; spelled = read_back t r (frameless_fits t e) } ∣₁
 
-pub table_type_spelled : (ty : TableType) → InRange (table_type_tree ty) → Spells table_type (normal (table_type_tree ty)) (table_type_tree ty)
+pub table_type_spelled : (ty : TableType) → InRange (table_type_tree ty) → ∥ Spells table_type (normal (table_type_tree ty)) (table_type_tree ty) ∥₁
 table_type_spelled ty r = frameless_spelled table_type (table_type_tree ty) (table_type_is ty) (table_type_frameless ty) r
 
-pub memory_type_spelled : (ty : MemoryType) → InRange (memory_type_tree ty) → Spells memory_type (normal (memory_type_tree ty)) (memory_type_tree ty)
+pub memory_type_spelled : (ty : MemoryType) → InRange (memory_type_tree ty) → ∥ Spells memory_type (normal (memory_type_tree ty)) (memory_type_tree ty) ∥₁
 memory_type_spelled ty r = frameless_spelled memory_type (memory_type_tree ty) (memory_type_is ty) (memory_type_frameless ty) r
 
-pub tag_type_spelled : (ty : TagType) → InRange (tag_type_tree ty) → Spells tag_type (normal (tag_type_tree ty)) (tag_type_tree ty)
+pub tag_type_spelled : (ty : TagType) → InRange (tag_type_tree ty) → ∥ Spells tag_type (normal (tag_type_tree ty)) (tag_type_tree ty) ∥₁
 tag_type_spelled ty r = frameless_spelled tag_type (tag_type_tree ty) (tag_type_is ty) refl r
 
-pub import_spelled : (row : Imports) → InRange (import_tree row) → Spells import_row (normal (import_tree row)) (import_tree row)
+pub import_spelled : (row : Imports) → InRange (import_tree row) → ∥ Spells import_row (normal (import_tree row)) (import_tree row) ∥₁
 import_spelled row r = frameless_spelled import_row (import_tree row) (import_is row) (import_frameless row) r

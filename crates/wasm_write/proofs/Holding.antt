@@ -9,7 +9,8 @@ use Rattle.wasm_shapes.specs.Tree.{Tree, count, normal}
 use Rattle.wasm_shapes.specs.Shape.{Shape}
 use Rattle.wasm_shapes.specs.Sound.{sound}
 use Rattle.wasm_shapes.specs.Spells.{Is, Spelled, Spells}
-use Rattle.wasm_write.specs.Held.{BodySpells, AreHeld, Held, Held-one, held_rows, rows_tree, body_tree}
+use Rattle.wasm_shapes.specs.Types.{rows_tree, vector_tree}
+use Rattle.wasm_write.specs.Held.{BodySpells, AreHeld, Held, Held-one, held_rows}
 
 -- ---- rows as a tree
 
@@ -63,7 +64,7 @@ module _ {s : Shape} {n : ℕ} {bytes : List ℕ} (h : Held s n bytes) where
   held_length = ∥∥₁_elim h.1 (Coded-set coded_ℕ (length h.0) n) (λ r. r.counted)
 
   -- the body is the number of the rows, and their spelling
-  pub held_normal : normal (body_tree (held_rows s n bytes h)) ≡ leb n ++ bytes
+  pub held_normal : normal (vector_tree (held_rows s n bytes h)) ≡ leb n ++ bytes
   unfolding held_rows
   held_normal =
       ap₂ (λ (k : ℕ) (z : List ℕ). leb k ++ z) (count_rows h.0 ∙ held_length)
@@ -77,7 +78,7 @@ module _ {s : Shape} {n : ℕ} {bytes : List ℕ} (h : Held s n bytes) where
     reads_back = λ shape d. ∥∥₁_map h.1 (λ r. record { shaped = d; spelled = go h.0 r });
   }
     where
-      go : (rows : List Tree) → AreHeld s n bytes rows → Spelled (body_tree rows) (normal (body_tree rows))
+      go : (rows : List Tree) → AreHeld s n bytes rows → Spelled (vector_tree rows) (normal (vector_tree rows))
       go rows r =
           let few : count (rows_tree rows) < 2 ^ 32 = rw (count_rows rows ∙ r.counted) small in
           let P : List ℕ → Type 0 = λ z. Spelled (rows_tree rows) z in

@@ -1,5 +1,6 @@
 -- Functions, code sections and constant expressions that are held, and one operator or row more.
-use Rattle.std.proofs.Common.{◌≡◌, ℕ, ◌+◌, ◌<◌, ◌^◌, List, [], ◌∷◌, ◌++◌, length, map, refl, sym, ap, ◌∙◌, append-nil, append_assoc, subst, true, false, arith, ◌≢◌, ◌&&◌, Bool, nat_le, if◌then◌else◌, Option, Some}
+use Rattle.std.specs.Prelude.{IfErr}
+use Rattle.std.proofs.Common.{◌≡◌, ℕ, ◌-◌, ◌<◌, ◌≤◌, ◌^◌, ◌⊎◌, inr, Result, Ok, Err, List, [], ◌∷◌, ◌++◌, length, map, refl, sym, ap, ◌∙◌, append-nil, append_assoc, subst, true, false, arith, ◌≢◌, ◌&&◌, Bool, nat_le, if◌then◌else◌, Option, Some}
 use Rattle.std.proofs.lemmas.Bool.{leb-true}
 use Rattle.std.specs.Coded.{Coded-set, coded_ℕ, coded_list}
 use mathlib.Core.Logic.{∥∥₁_elim, ∥∥₁_map, ∥∥₁_prop}
@@ -13,20 +14,26 @@ use Rattle.wasm_shapes.specs.Module.{local_row, body as body_shape, code_row}
 use Rattle.wasm_shapes.specs.Spells.{Is, Spelled, Spells}
 use Rattle.wasm_shapes.specs.Fits.{InRange}
 use Rattle.wasm_shapes.proofs.Lists.{both}
-use Rattle.wasm_shapes.proofs.ReadBack.{read_back}
+use Rattle.wasm_shapes.proofs.ReadBack.{read_back, spelled_in_range, in_range_had}
 use Rattle.wasm_write.specs.declared.types.ValType.{ValType}
-use Rattle.wasm_write.specs.Held.{rows_tree, body_tree, AreHeld, Held, held_rows}
+use Rattle.wasm_shapes.specs.Types.{rows_tree, vector_tree}
+use Rattle.wasm_write.specs.declared.fault.WriteFault.{WriteFault}
+use Rattle.wasm_write.specs.declared.fault.WriteFault.TheVariants.{TooLarge, NoMemory}
+use Rattle.wasm_write.specs.Counts.{counts, IsTooLarge}
+use Rattle.wasm_write.specs.Faults.{IfTooLarge}
+use Rattle.wasm_write.specs.Held.{AreHeld}
 use Rattle.wasm_write.specs.Instructions.{Parts, imms_tree, instruction_tree}
-use Rattle.wasm_write.specs.Bodies.{Body, local_tree, with_operator, function_body, code_tree, code_sound, IsBody, HeldBody, HeldBody-one, held_body, CodeRows, with_row, HeldOperators, HeldOperators-one, held_operators}
-use Rattle.wasm_write.proofs.Holding.{snoc_is, snoc_spelled, snoc_normal, snoc_length, are_none, are_more, held_length, held_grown_is, held_same_is}
+use Rattle.wasm_write.specs.Bodies.{Body, local_tree, with_operator, function_body, code_tree, IsBody, HeldBody, HeldBody-one, held_body, HeldOperators, HeldOperators-one, held_operators}
+use Rattle.wasm_write.proofs.Holding.{snoc_is, snoc_spelled, snoc_normal, snoc_length, are_none, are_more}
+use Rattle.wasm_write.proofs.SmallCounts.{counts_small, last_is_large}
 use Rattle.wasm_write.proofs.TypeShapes.{items_are, items_frameless, frameless_fits, value_is, value_frameless}
 
 abbrev with_locals : List (ℕ × ValType) → Body
 with_locals locals = record { locals = map local_tree locals; operators = [] }
 
-is_new : (locals : List (ℕ × ValType)) → InRange (body_tree (map local_tree locals)) → IsBody (normal (body_tree (map local_tree locals))) (with_locals locals)
+is_new : (locals : List (ℕ × ValType)) → InRange (vector_tree (map local_tree locals)) → IsBody (normal (vector_tree (map local_tree locals))) (with_locals locals)
 is_new locals r =
-    let rows = body_tree (map local_tree locals) in record {
+    let rows = vector_tree (map local_tree locals) in record {
       shaped = Is.seq (Is.vec (items_are local_row local_tree (λ l. Is.seq Is.u32 (value_is l.1)) locals)) Is.nil;
       spelled = (
         normal rows,
@@ -49,14 +56,14 @@ is_more {bytes = bytes} {f = f} {t = t} b p = record {
     snoc_spelled f.operators t b.spelled.1 (normal t) b.spelled.4 p.spelled,
   );
   normally =
-      ap (λ (z : List ℕ). normal (body_tree f.locals) ++ z) (snoc_normal f.operators t)
-      ∙ sym (append_assoc (normal (body_tree f.locals)) (normal (rows_tree f.operators)) (normal t)) ∙ ap (λ (z : List ℕ). z ++ normal t) b.normally;
+      ap (λ (z : List ℕ). normal (vector_tree f.locals) ++ z) (snoc_normal f.operators t)
+      ∙ sym (append_assoc (normal (vector_tree f.locals)) (normal (rows_tree f.operators)) (normal t)) ∙ ap (λ (z : List ℕ). z ++ normal t) b.normally;
 }
   where
     go : Is body_shape (function_body f) → Is body_shape (function_body (with_operator f t))
     go (Is.seq d e) = Is.seq d (snoc_is f.operators e p.shaped)
 
-module _ {bytes : List ℕ} (locals : List (ℕ × ValType)) (e : bytes ≡ normal (body_tree (map local_tree locals))) (r : InRange (body_tree (map local_tree locals))) where
+module _ {bytes : List ℕ} (locals : List (ℕ × ValType)) (e : bytes ≡ normal (vector_tree (map local_tree locals))) (r : InRange (vector_tree (map local_tree locals))) where
   pub body_new : HeldBody bytes
   body_new = let P : List ℕ → Type 0 = λ z. HeldBody z in subst P (sym e) (with_locals locals, ∣ is_new locals r ∣₁)
 
@@ -100,20 +107,6 @@ module _ {bytes : List ℕ} (h : HeldBody bytes) where
 
 -- ---- a code section
 
-abbrev view : ℕ → List Tree → CodeRows
-view ceiling rows = record { ceiling = ceiling; rows = rows }
-
-module _ {n : ℕ} {bytes : List ℕ} (h : Held code_row n bytes) (ceiling : ℕ) {s : CodeRows} (is : view ceiling (held_rows code_row n bytes h) ≡ s) where
-  pub code_length : length s.rows ≡ n
-  code_length = rw (← is) (held_length h)
-
-  pub code_same : {new : List ℕ} (k : Held code_row n new) → new ≡ bytes → view ceiling (held_rows code_row n new k) ≡ s
-  code_same k e = ap (view ceiling) (held_same_is h code_sound k e) ∙ is
-
-  pub code_grown : {new : List ℕ} (t : Tree) (k : Held code_row (n + 1) new) → new ≡ bytes ++ normal t → ∥ Spells code_row (normal t) t ∥₁ →
-      view ceiling (held_rows code_row (n + 1) new k) ≡ with_row s t
-  code_grown t k e p = ap (view ceiling) (held_grown_is h t code_sound k e p) ∙ ap (λ (z : CodeRows). with_row z t) is
-
 -- a function in its frame
 pub framed_spells : (f : Body) → length (normal (function_body f)) < 2 ^ 32 → ∥ Spells body_shape (normal (function_body f)) (function_body f) ∥₁ →
     ∥ Spells code_row (normal (code_tree f)) (code_tree f) ∥₁
@@ -123,6 +116,20 @@ framed_spells f small p =
       shaped = Is.sized q.shaped;
       spelled = (leb (length body), body, refl, leb_spells (length body) small, q.spelled);
     })
+
+-- a function that fits is refused for the number of the rows alone
+pub code_large : {A : Type 0} (r : Result A WriteFault) (f : Body) (ceiling n : ℕ) →
+    ∥ Spells body_shape (normal (function_body f)) (function_body f) ∥₁ → length (normal (function_body f)) ≤ ceiling →
+    IfErr r (λ e. IfTooLarge e (IsTooLarge (counts (code_tree f) ++ n ∷ []))) →
+    IfErr r (λ e. IfTooLarge e (λ size. ((size ≡ length (normal (function_body f))) × (ceiling < size))
+    ⊎ ((size ≡ n) × (2 ^ 32 - 1 < size) × (length (normal (function_body f)) ≤ ceiling))))
+code_large (Ok a) f ceiling n p fits q = tt
+code_large (Err NoMemory) f ceiling n p fits q = tt
+code_large (Err (TooLarge size)) f ceiling n p fits q =
+    let body = function_body f in
+    let ranged = in_range_had body (∥∥₁_map p (λ s. spelled_in_range body (normal body) s.spelled)) in
+    let last = last_is_large (counts body) n size (counts_small body ranged) q in
+    inr (last.0, last.1, fits)
 
 -- ---- a constant expression
 

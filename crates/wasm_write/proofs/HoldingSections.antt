@@ -7,7 +7,7 @@ use Rattle.wasm_leb.proofs.Shortest.{leb_spells}
 use Rattle.wasm_shapes.specs.Tree.{Tree, normal}
 use Rattle.wasm_shapes.specs.Spells.{Is, Spells}
 use Rattle.wasm_shapes.specs.Module.{core_header}
-use Rattle.wasm_write.specs.Held.{rows_tree}
+use Rattle.wasm_shapes.specs.Types.{rows_tree}
 use Rattle.wasm_write.specs.Sections.{SectionRow, Sections, with_section, section_bytes, sections_bytes, module_bytes, framed, framed_tree, AreSections, HeldSections, HeldSections-one, held_sections}
 use Rattle.wasm_write.proofs.Holding.{are_none, are_more}
 

@@ -1,17 +1,19 @@
 -- The normal spelling of a row spells it.
-use Rattle.std.proofs.Common.{ℕ, ◌<◌, ◌^◌, List, [], ◌∷◌, ◌++◌, length, refl, inl, IsUtf8}
+use Rattle.std.proofs.Common.{ℕ, ◌<◌, ◌^◌, List, [], ◌∷◌, ◌++◌, length, refl, inl}
 use Rattle.wasm_leb.specs.Leb.{leb}
 use Rattle.wasm_leb.proofs.Shortest.{leb_spells}
-use Rattle.wasm_shapes.specs.Tree.{normal}
+use Rattle.wasm_shapes.specs.Tree.{Tree, normal}
 use Rattle.wasm_shapes.specs.Shape.{Shape, Named}
+use Rattle.wasm_shapes.specs.Fits.{InRange}
 use Rattle.wasm_shapes.specs.Spells.{Is, Spelled, Spells}
 use Rattle.wasm_shapes.specs.Module.{function_row, export_row}
 use Rattle.wasm_write.specs.declared.types.ExportKind.{ExportKind}
 use Rattle.wasm_write.specs.declared.types.ExportKind.TheVariants as export
-use Rattle.wasm_write.specs.Rows.{function_tree, item_tree, export_tree}
+use Rattle.wasm_shapes.specs.Types.{function_tree}
+use Rattle.wasm_write.specs.Rows.{item_tree, export_tree}
 
-pub function_spelled : (i : ℕ) → i < 2 ^ 32 → Spells function_row (normal (function_tree i)) (function_tree i)
-function_spelled i small = record { shaped = Is.ix; spelled = leb_spells i small }
+pub function_spelled : (i : ℕ) → i < 2 ^ 32 → ∥ Spells function_row (normal (function_tree i)) (function_tree i) ∥₁
+function_spelled i small = ∣ record { shaped = Is.ix; spelled = leb_spells i small } ∣₁
 
 item_is : (kind : ExportKind) (i : ℕ) → Is (Shape.ref Named.item) (item_tree kind i)
 item_is export.Func i = Is.ref (Is.first (Is.seq Is.alike Is.ix))
@@ -27,9 +29,9 @@ item_spelled export.Memory i small = (2 ∷ [], leb i, refl, refl, leb_spells i 
 item_spelled export.Global i small = (3 ∷ [], leb i, refl, refl, leb_spells i small)
 item_spelled export.Tag i small = (4 ∷ [], leb i, refl, refl, leb_spells i small)
 
-pub export_spelled : (name : List ℕ) (kind : ExportKind) (i : ℕ) → length name < 2 ^ 32 → IsUtf8 name → i < 2 ^ 32 →
-    Spells export_row (normal (export_tree name kind i)) (export_tree name kind i)
-export_spelled name kind i short text small = record {
+pub export_spelled : (name : List ℕ) (kind : ExportKind) (i : ℕ) → InRange (Tree.name name) → i < 2 ^ 32 →
+    ∥ Spells export_row (normal (export_tree name kind i)) (export_tree name kind i) ∥₁
+export_spelled name kind i text small = ∣ record {
   shaped = Is.seq Is.name (item_is kind i);
-  spelled = (leb (length name) ++ name, normal (item_tree kind i), refl, (leb (length name), refl, leb_spells (length name) short, text), item_spelled kind i small);
-}
+  spelled = (leb (length name) ++ name, normal (item_tree kind i), refl, (leb (length name), refl, leb_spells (length name) text.0, text.1), item_spelled kind i small);
+} ∣₁

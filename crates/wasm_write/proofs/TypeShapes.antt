@@ -5,6 +5,7 @@ use Rattle.wasm_shapes.specs.Tree.{Tree, normal, frames}
 use Rattle.wasm_shapes.specs.Shape.{Shape, Named, choice, abstract_heap, heap, reference, storage, field, values, inner_rows, rows_and, described_rows, describing_rows, composite_rows, sub_rows, group_rows}
 use Rattle.wasm_shapes.specs.Spells.{Is, Spells}
 use Rattle.wasm_shapes.specs.Fits.{InRange, Fits}
+use Rattle.wasm_shapes.specs.Types.{rows_tree, mutable_of, shared_composite_tree, sub_type_of, group_of}
 use Rattle.wasm_shapes.proofs.ReadBack.{read_back}
 use Rattle.wasm_write.specs.declared.types.AbstractHeapType.{AbstractHeapType}
 use Rattle.wasm_write.specs.declared.types.AbstractHeapType.TheVariants as abstract
@@ -20,8 +21,7 @@ use Rattle.wasm_write.specs.declared.types.CompositeInnerType.TheVariants as inn
 use Rattle.wasm_write.specs.declared.types.CompositeType.{CompositeType}
 use Rattle.wasm_write.specs.declared.types.SubType.{SubType}
 use Rattle.wasm_write.specs.declared.types.RecGroup.{RecGroup}
-use Rattle.wasm_write.specs.Held.{rows_tree}
-use Rattle.wasm_write.specs.Types.{type_index, abstract_tree, heap_type_tree, nullable_tree, reference_parts, val_type_tree, val_types_tree, storage_type_tree, mutable_tree, field_type_tree, inner_tree, described_tree, describing_tree, shared_composite_tree, composite_tree, supertypes_tree, sub_parts, sub_type_tree, group_parts, group_tree}
+use Rattle.wasm_write.specs.Types.{type_index, abstract_tree, heap_type_tree, nullable_tree, reference_parts, val_type_tree, val_types_tree, storage_type_tree, field_type_tree, inner_tree, described_tree, describing_tree, composite_tree, supertypes_tree, sub_type_tree, group_tree}
 
 -- ---- items
 
@@ -122,11 +122,11 @@ storage_frameless : (ty : StorageType) → frames (storage_type_tree ty) ≡ []
 storage_frameless (stored.Val ty) = value_frameless ty
 storage_frameless _ = refl
 
-mutable_is : (m : Bool) → Is (Shape.or (Shape.fixed 0) (Shape.or (Shape.fixed 1) Shape.none)) (mutable_tree m)
+mutable_is : (m : Bool) → Is (Shape.or (Shape.fixed 0) (Shape.or (Shape.fixed 1) Shape.none)) (mutable_of m)
 mutable_is false = Is.first Is.fixed
 mutable_is true = Is.later {k = 0} (Is.first Is.fixed)
 
-mutable_frameless : (m : Bool) → frames (mutable_tree m) ≡ []
+mutable_frameless : (m : Bool) → frames (mutable_of m) ≡ []
 mutable_frameless false = refl
 mutable_frameless true = refl
 
@@ -195,35 +195,35 @@ supertypes_are supertypes = Is.vec (items_are (Shape.ix space.Type_) type_index 
 supertypes_frameless : (supertypes : List ℕ) → frames (supertypes_tree supertypes) ≡ []
 supertypes_frameless supertypes = items_frameless type_index (λ i. refl) supertypes
 
-sub_parts_are : (is_final : Bool) (supertypes : List ℕ) {t : Tree} → Is (choice composite_rows) t → Is (choice sub_rows) (sub_parts is_final supertypes t)
-sub_parts_are true is d = Is.first (Is.final (items_are (Shape.ix space.Type_) type_index (λ i. Is.ix) is) (Is.ref d))
-sub_parts_are false is d = Is.later {k = 0} (Is.first (Is.seq Is.fixed (Is.seq (supertypes_are is) (Is.ref d))))
+sub_of_is : (is_final : Bool) (supertypes : List ℕ) {t : Tree} → Is (choice composite_rows) t → Is (choice sub_rows) (sub_type_of is_final (map type_index supertypes) t)
+sub_of_is true is d = Is.first (Is.final (items_are (Shape.ix space.Type_) type_index (λ i. Is.ix) is) (Is.ref d))
+sub_of_is false is d = Is.later {k = 0} (Is.first (Is.seq Is.fixed (Is.seq (supertypes_are is) (Is.ref d))))
 
-sub_parts_frameless : (is_final : Bool) (supertypes : List ℕ) (t : Tree) → frames t ≡ [] → frames (sub_parts is_final supertypes t) ≡ []
-sub_parts_frameless true is t e = ap₂ (λ (y z : List ℕ). y ++ z) (items_frameless type_index (λ i. refl) is) e
-sub_parts_frameless false is t e = ap₂ (λ (y z : List ℕ). y ++ z) (supertypes_frameless is) e
+sub_of_frameless : (is_final : Bool) (supertypes : List ℕ) (t : Tree) → frames t ≡ [] → frames (sub_type_of is_final (map type_index supertypes) t) ≡ []
+sub_of_frameless true is t e = ap₂ (λ (y z : List ℕ). y ++ z) (items_frameless type_index (λ i. refl) is) e
+sub_of_frameless false is t e = ap₂ (λ (y z : List ℕ). y ++ z) (supertypes_frameless is) e
 
 sub_is : (ty : SubType) → Is (choice sub_rows) (sub_type_tree ty)
-sub_is ty = sub_parts_are ty.is_final ty.supertype_idxs (composite_is ty.composite_type)
+sub_is ty = sub_of_is ty.is_final ty.supertype_idxs (composite_is ty.composite_type)
 
 sub_frameless : (ty : SubType) → frames (sub_type_tree ty) ≡ []
-sub_frameless ty = sub_parts_frameless ty.is_final ty.supertype_idxs _ (composite_frameless ty.composite_type)
+sub_frameless ty = sub_of_frameless ty.is_final ty.supertype_idxs _ (composite_frameless ty.composite_type)
 
-group_parts_are : (explicit : Bool) (types : List SubType) → (explicit ≡ false → length types ≡ 1) → Is (choice group_rows) (group_parts explicit types)
-group_parts_are true types h =
+group_of_is : (explicit : Bool) (types : List SubType) → (explicit ≡ false → length types ≡ 1) → Is (choice group_rows) (group_of explicit (map sub_type_tree types))
+group_of_is true types h =
     Is.later {k = 1} (Is.later {k = 0} (Is.first (Is.seq Is.fixed (Is.vec (items_are (Shape.ref Named.sub) sub_type_tree (λ ty. Is.ref (sub_is ty)) types)))))
-group_parts_are false (ty ∷ types) h = among sub_rows (Shape.seq (Shape.fixed 0x4e) (Shape.vec (Shape.ref Named.sub)) ∷ []) (sub_is ty)
-group_parts_are false [] h = absurd (omega (arith, h refl))
+group_of_is false (ty ∷ types) h = among sub_rows (Shape.seq (Shape.fixed 0x4e) (Shape.vec (Shape.ref Named.sub)) ∷ []) (sub_is ty)
+group_of_is false [] h = absurd (omega (arith, h refl))
 
-group_parts_frameless : (explicit : Bool) (types : List SubType) → frames (group_parts explicit types) ≡ []
-group_parts_frameless true types = items_frameless sub_type_tree sub_frameless types
-group_parts_frameless false (ty ∷ types) = sub_frameless ty
-group_parts_frameless false [] = refl
+group_of_frameless : (explicit : Bool) (types : List SubType) → frames (group_of explicit (map sub_type_tree types)) ≡ []
+group_of_frameless true types = items_frameless sub_type_tree sub_frameless types
+group_of_frameless false (ty ∷ types) = sub_frameless ty
+group_of_frameless false [] = refl
 
 -- what is in range spells a group
 pub group_spelled : (group : RecGroup) → InRange (group_tree group) →
-    Spells (Shape.ref Named.group) (normal (group_tree group)) (group_tree group)
-group_spelled group r = record {
-  shaped = Is.ref (group_parts_are group.explicit group.types group.bare_holds_one);
-  spelled = read_back (group_tree group) r (frameless_fits (group_tree group) (group_parts_frameless group.explicit group.types));
-}
+    ∥ Spells (Shape.ref Named.group) (normal (group_tree group)) (group_tree group) ∥₁
+group_spelled group r = ∣ record {
+  shaped = Is.ref (group_of_is group.explicit group.types group.bare_holds_one);
+  spelled = read_back (group_tree group) r (frameless_fits (group_tree group) (group_of_frameless group.explicit group.types));
+} ∣₁

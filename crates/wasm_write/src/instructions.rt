@@ -160,8 +160,11 @@ impl<'a> Instruction<'a> {
     /// `out` before stands there still.
     #[inline(always)]
     pub fn encode(&self, out: &mut Vec<u8>) -> Result<(), NoMemory>
-        ensures ok { OnOk result (out.new.items ≡ out.old.items ++ normal (instruction_tree self.now)) }
-        ensures spells { OnOk result (∥ Spells (Shape.op true) (normal (instruction_tree self.now)) (instruction_tree self.now) ∥₁) }
+        ensures ok { OnOk result
+            (out.new.items ≡ out.old.items ++ normal (instruction_tree self.now)) }
+        ensures spells { OnOk result
+            (∥ Spells (Shape.op true) (normal (instruction_tree self.now))
+            (instruction_tree self.now) ∥₁) }
         ensures err { OnErr result (take (vec_len out.old) out.new.items ≡ out.old.items) }
     {
         match write_opcode(out, self.opcode) {
