@@ -79,3 +79,7 @@ module _ {S E : Type 0} {asked : S → Visit → Step S (Error E) ℕ} where
       go : (r : Step S (Error E) Tree) → walk asked 0 s t ≡ r → is_accepted r ≡ true → Visited asked (state_after r) ys m → Visited asked s (visits t ++ ys) m
       go (accepted u k) h a v = second_visited 0 t h v
       go (refused e k) h a v = absurd cc
+
+module _ {S E : Type 0} {asked : S → Visit → Step S (Error E) ℕ} where
+  pub walk_left : {s m : S} (t : Tree) → state_after (walk asked 0 s t) ≡ m → Visited asked s (visits t) m
+  walk_left {s = s} t h = let P : S → Type 0 = λ z. Visited asked s (visits t) z in subst P h (walk_visits asked 0 s t)

@@ -4,7 +4,7 @@ ghost use Rattle.reencode_hooks.specs.Run.{Gives, LeavesVisited, NeverWants, acc
 ghost use Rattle.wasm_read.specs.Immediates as immediates;
 ghost use Rattle.wasm_read.specs.Types as read;
 ghost use Rattle.wasm_shapes.specs.Tree.{visits};
-ghost use Rattle.wasm_write.specs.Held.{body_tree};
+ghost use Rattle.wasm_shapes.specs.Types.{vector_tree};
 ghost use Rattle.wasm_write.specs.Instructions as instructions;
 ghost use Rattle.wasm_write.specs.Rows as rows;
 ghost use Rattle.wasm_write.specs.Types as write;
@@ -144,6 +144,7 @@ pub trait ReencodeItems: ReencodeIndices {
 
     /// A composite type (section 5.3.8). What it holds is asked before the type that describes it, and that before the
     /// type that it describes.
+    #[tactic(auto, using(crate::proofs::Composites::composites, crate::proofs::Composites::inner_leaves, crate::proofs::Leaving::walk_left))]
     fn composite_type(
         &mut self,
         alloc: Global,
@@ -158,6 +159,7 @@ pub trait ReencodeItems: ReencodeIndices {
     }
 
     /// The parameters and results of a function (section 5.3.8).
+    #[tactic(auto, using(crate::proofs::Leaving::first_visited, crate::proofs::Leaving::second_part))]
     fn func_type(
         &mut self,
         alloc: Global,
@@ -178,7 +180,7 @@ pub trait ReencodeItems: ReencodeIndices {
         struct_ty: r::StructType,
     ) -> Result<w::StructType, Error<Self::Error>>
         ensures default { IsTrue Self.keeps_defaults
-            → Maps Self.reply Self.next self.old (read.fields_tree struct_ty.fields) (λ ty. body_tree (map write.field_type_tree ty.fields)) self.new result }
+            → Maps Self.reply Self.next self.old (read.fields_tree struct_ty.fields) (λ ty. vector_tree (map write.field_type_tree ty.fields)) self.new result }
         ensures after_error { IsTrue Self.keeps_defaults → IsTrue Self.sure
             → LeavesVisited (ask Self.reply Self.next) self.old (visits (read.fields_tree struct_ty.fields)) self.new result }
     {

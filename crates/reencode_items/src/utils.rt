@@ -4,7 +4,7 @@ ghost use Rattle.reencode_hooks.specs.Run.{LeavesVisited, NeverWants, ask};
 ghost use Rattle.wasm_read.specs.Immediates as immediates;
 ghost use Rattle.wasm_read.specs.Types as read;
 ghost use Rattle.wasm_shapes.specs.Tree.{visits};
-ghost use Rattle.wasm_write.specs.Held.{body_tree};
+ghost use Rattle.wasm_shapes.specs.Types.{vector_tree};
 ghost use Rattle.wasm_write.specs.Instructions as instructions;
 ghost use Rattle.wasm_write.specs.Rows as rows;
 ghost use Rattle.wasm_write.specs.Types as write;
@@ -158,6 +158,7 @@ pub fn val_type<T: ReencodeItems>(
 
 /// A composite type (section 5.3.8). What it holds is asked before the type that describes it, and that before the
 /// type that it describes.
+#[tactic(auto, using(crate::proofs::Composites::composites, crate::proofs::Composites::inner_leaves, crate::proofs::Leaving::walk_left))]
 pub fn composite_type<T: ReencodeItems>(
     reencoder: &mut T,
     alloc: Global,
@@ -193,7 +194,7 @@ pub fn struct_type<T: ReencodeItems>(
     struct_ty: r::StructType,
 ) -> Result<w::StructType, Error<T::Error>>
     ensures default { IsTrue T.keeps_defaults
-        → Maps T.reply T.next reencoder.old (read.fields_tree struct_ty.fields) (λ ty. body_tree (map write.field_type_tree ty.fields)) reencoder.new result }
+        → Maps T.reply T.next reencoder.old (read.fields_tree struct_ty.fields) (λ ty. vector_tree (map write.field_type_tree ty.fields)) reencoder.new result }
     ensures after_error { IsTrue T.keeps_defaults → IsTrue T.sure
         → LeavesVisited (ask T.reply T.next) reencoder.old (visits (read.fields_tree struct_ty.fields)) reencoder.new result }
 {

@@ -1,12 +1,12 @@
 use Rattle.std.proofs.Common.{arith}
 use Rattle.std.proofs.lemmas.Grind.{common_steps}
 use Rattle.reencode_items.proofs.Leaving.{visited_left}
-use Rattle.reencode_items.proofs.Steps.{items_accepted, items_more, items_refuse, items_refused}
+use Rattle.reencode_items.proofs.Steps.{handed, items_accepted, items_more, items_refuse, items_refused}
 use Rattle.reencode_items.proofs.utils.val_types.Goals as goal
 
 pub returns-in_err-ty-clause-default : goal.returns-in_err-ty-clause-default
-returns-in_err-ty-clause-default g c = λ k ceiling.
-    items_refuse _ _ _ ceiling (c.loop-ty.invariant.default k) c.as_slice-ty-items.ensures c.loop-ty-test.true (c.in_err-ty.ensures.default k ceiling) c.from_residual-in_err-ty.ensures.1
+returns-in_err-ty-clause-default g c = rw (handed _ c.from_residual-in_err-ty.ensures.1) (λ k ceiling other.
+    items_refuse _ ceiling (c.loop-ty.invariant.default k) c.as_slice-ty-items.ensures c.loop-ty-test.true (c.in_err-ty.ensures.default k ceiling other))
 
 pub returns-in_err-ty-clause-after_error : goal.returns-in_err-ty-clause-after_error
 returns-in_err-ty-clause-after_error g c = λ k sure.
