@@ -1,5 +1,5 @@
 -- The state that a call leaves, after a front part of the visits of a tree.
-use Rattle.std.proofs.Common.{◌≡◌, ◌≢◌, ℕ, Bool, List, [], ◌∷◌, ◌++◌, Result, Ok, Err, refl, sym, ap, ◌∙◌, subst}
+use Rattle.std.proofs.Common.{◌≡◌, ◌≢◌, ℕ, Bool, true, false, List, [], ◌∷◌, ◌++◌, Result, Ok, Err, refl, sym, ap, ◌∙◌, subst}
 use Rattle.std.specs.Prelude.{IsTrue}
 use Rattle.wasm_shapes.specs.declared.Visit.{Visit}
 use Rattle.wasm_shapes.specs.Tree.{Tree, visits}
@@ -67,3 +67,19 @@ pub maps_left : {S E A : Type 0} (reply : S → Visit → Result ℕ E) (next : 
 maps_left reply next s m t view (Ok a) d e same part maps other = tt
 maps_left reply next s m t view (Err x) d e same part maps other =
     let here : x ≡ d = cc in refused_visited 0 t (maps 0 (λ h. other (sym part ∙ sym here ∙ h)))
+
+abbrev pub is_accepted : {S E A : Type 0} → Step S E A → Bool
+is_accepted (accepted a s) = true
+is_accepted (refused e s) = false
+
+module _ {S E : Type 0} {asked : S → Visit → Step S (Error E) ℕ} where
+  pub second_part : {s m : S} (t : Tree) (ys : List Visit) → is_accepted (walk asked 0 s t) ≡ true → Visited asked (state_after (walk asked 0 s t)) ys m → Visited asked s (visits t ++ ys) m
+  second_part {s = s} {m = m} t ys = go (walk asked 0 s t) refl
+    where
+      go : (r : Step S (Error E) Tree) → walk asked 0 s t ≡ r → is_accepted r ≡ true → Visited asked (state_after r) ys m → Visited asked s (visits t ++ ys) m
+      go (accepted u k) h a v = second_visited 0 t h v
+      go (refused e k) h a v = absurd cc
+
+module _ {S E : Type 0} {asked : S → Visit → Step S (Error E) ℕ} where
+  pub walk_left : {s m : S} (t : Tree) → state_after (walk asked 0 s t) ≡ m → Visited asked s (visits t) m
+  walk_left {s = s} t h = let P : S → Type 0 = λ z. Visited asked s (visits t) z in subst P h (walk_visits asked 0 s t)

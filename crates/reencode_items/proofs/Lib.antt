@@ -2,5 +2,3 @@ pub mod Leaving
 pub mod Steps
 pub mod Parts
 pub mod Composites
-pub mod Externals
-pub mod Operators

@@ -1,81 +1,20 @@
 -- A walk over a tree by the walks over its parts.
-use Rattle.std.proofs.Common.{◌≡◌, ◌<◌, ◌≤◌, ℕ, ◌+◌, List, [], ◌∷◌, ◌++◌, length, drop, get_or, refl, sym, subst, ap, ◌∙◌, drop-cons, add-one}
-use Rattle.std.specs.Prelude.{map}
+use Rattle.std.proofs.Common.{◌≡◌, ◌≢◌, ◌<◌, ◌≤◌, ℕ, ◌+◌, Bool, List, [], ◌∷◌, ◌++◌, length, drop, get_or, Result, Ok, Err, refl, sym, subst, ap, ◌∙◌, drop-cons, add-one}
+use Rattle.std.specs.Prelude.{map, IsTrue, IsErrAnd}
 use Rattle.std.proofs.lemmas.List.{map-append, drop_all}
 use Rattle.wasm_shapes.specs.declared.Visit.{Visit}
 use Rattle.wasm_shapes.specs.Tree.{Tree, visits}
 use Rattle.wasm_shapes.specs.Rows.{rows_then}
 use Rattle.reencode_hooks.specs.declared.error.Error.{Error}
-use Rattle.reencode_hooks.specs.Run.{Step, accepted, refused, and_then, Visited}
+use Rattle.reencode_hooks.specs.declared.error.Error.TheVariants.{NoMemory}
+use Rattle.reencode_hooks.specs.Run.{Step, accepted, refused, and_then, NeverWants, Visited}
 use Rattle.reencode_hooks.specs.Walk.{walk}
-use Rattle.reencode_items.proofs.Leaving.{accepted_visited, first_visited, refused_visited, second_visited}
+use Rattle.reencode_items.proofs.Leaving.{accepted_visited, first_visited, never_wants, refused_visited, second_visited, visited_left}
 
--- The walk over a tree is accepted: it gives this tree and this state.
-pub record Accepts {S E : Type 0} (asked : S → Visit → Step S (Error E) ℕ) (c : ℕ) (s : S) (t u : Tree) (m : S) : Type 0 where
-  pub is : walk asked c s t ≡ accepted u m
-
--- It is refused with this error, in this state.
-pub record Refuses {S E : Type 0} (asked : S → Visit → Step S (Error E) ℕ) (c : ℕ) (s : S) (t : Tree) (e : Error E) (m : S) : Type 0 where
-  pub is : walk asked c s t ≡ refused e m
-
-module _ {S E : Type 0} {asked : S → Visit → Step S (Error E) ℕ} {c : ℕ} where
-  -- ---- one part
-
-  pub row_accepts : {s m : S} {k : ℕ} {t u : Tree} → Accepts asked c s t u m → Accepts asked c s (Tree.row k t) (Tree.row k u) m
-  row_accepts h = record { is = rw h.is refl }
-
-  pub row_refuses : {s m : S} {k : ℕ} {t : Tree} {e : Error E} → Refuses asked c s t e m → Refuses asked c s (Tree.row k t) e m
-  row_refuses h = record { is = rw h.is refl }
-
-  pub vec_accepts : {s m : S} {t u : Tree} → Accepts asked c s t u m → Accepts asked c s (Tree.vec t) (Tree.vec u) m
-  vec_accepts h = record { is = rw h.is refl }
-
-  pub vec_refuses : {s m : S} {t : Tree} {e : Error E} → Refuses asked c s t e m → Refuses asked c s (Tree.vec t) e m
-  vec_refuses h = record { is = rw h.is refl }
-
-  -- behind a fixed byte
-  pub led_accepts : {s m : S} {b : ℕ} {t u : Tree} → Accepts asked c s t u m → Accepts asked c s (Tree.pair (Tree.fixed b) t) (Tree.pair (Tree.fixed b) u) m
-  led_accepts h = record { is = rw h.is refl }
-
-  pub led_refuses : {s m : S} {b : ℕ} {t : Tree} {e : Error E} → Refuses asked c s t e m → Refuses asked c s (Tree.pair (Tree.fixed b) t) e m
-  led_refuses h = record { is = rw h.is refl }
-
-  -- ---- two parts
-
-  pub pair_accepts : {s m n : S} {t u t' u' : Tree} → Accepts asked c s t t' m → Accepts asked c m u u' n →
-      Accepts asked c s (Tree.pair t u) (Tree.pair t' u') n
-  pair_accepts h k = record { is = rw (h.is, k.is) refl }
-
-  pub pair_refuses : {s m : S} {t u : Tree} {e : Error E} → Refuses asked c s t e m → Refuses asked c s (Tree.pair t u) e m
-  pair_refuses h = record { is = rw h.is refl }
-
-  pub pair_refuses_second : {s m n : S} {t u t' : Tree} {e : Error E} → Accepts asked c s t t' m → Refuses asked c m u e n →
-      Refuses asked c s (Tree.pair t u) e n
-  pair_refuses_second h k = record { is = rw (h.is, k.is) refl }
-
-  -- of which the second is visited first
-  pub swap_accepts : {s m n : S} {t u t' u' : Tree} → Accepts asked c s u u' m → Accepts asked c m t t' n →
-      Accepts asked c s (Tree.swap t u) (Tree.swap t' u') n
-  swap_accepts h k = record { is = rw (h.is, k.is) refl }
-
-  pub swap_refuses : {s m : S} {t u : Tree} {e : Error E} → Refuses asked c s u e m → Refuses asked c s (Tree.swap t u) e m
-  swap_refuses h = record { is = rw h.is refl }
-
-  pub swap_refuses_first : {s m n : S} {t u u' : Tree} {e : Error E} → Accepts asked c s u u' m → Refuses asked c m t e n →
-      Refuses asked c s (Tree.swap t u) e n
-  swap_refuses_first h k = record { is = rw (h.is, k.is) refl }
-
-  -- items that may be left out, and what stands behind them
-  pub final_accepts : {s m n : S} {t u t' u' : Tree} → Accepts asked c s t t' m → Accepts asked c m u u' n →
-      Accepts asked c s (Tree.final t u) (Tree.final t' u') n
-  final_accepts h k = record { is = rw (h.is, k.is) refl }
-
-  pub final_refuses : {s m : S} {t u : Tree} {e : Error E} → Refuses asked c s t e m → Refuses asked c s (Tree.final t u) e m
-  final_refuses h = record { is = rw h.is refl }
-
-  pub final_refuses_second : {s m n : S} {t u t' : Tree} {e : Error E} → Accepts asked c s t t' m → Refuses asked c m u e n →
-      Refuses asked c s (Tree.final t u) e n
-  final_refuses_second h k = record { is = rw (h.is, k.is) refl }
+-- an error that is handed on
+pub handed : {A E : Type 0} {e : E} (r : Result A E) → IsErrAnd r (λ x. x ≡ e) → r ≡ Err e
+handed (Ok a) h = absurd h
+handed (Err x) h = ap (λ y. Err y) h
 
 -- ---- items one behind another
 
@@ -147,40 +86,34 @@ module _ {S E A B : Type 0} {asked : S → Visit → Step S (Error E) ℕ} {read
   -- The item at the place was refused, and with it the items, and the items behind their number.
   pub rows_refuse : {s0 s m : S} {items slice : List A} {i : ℕ} {made : List B} {e : Error E} (d : A) (c : ℕ) →
       ItemsDone asked read write s0 items i s made → slice ≡ items → i < length slice →
-      walk asked c s (read (get_or slice i d)) ≡ refused e m →
-      Refuses asked c s0 (rows_then (map read items) Tree.nil) e m
+      walk asked c s (read (get_or slice i d)) ≡ refused e m → walk asked c s0 (rows_then (map read items) Tree.nil) ≡ refused e m
   rows_refuse {s = s} {m = m} {items = items} {slice = slice} {i = i} {made = made} {e = err} d c done e h step =
       let x : A = get_or slice i d in
       let rest : Tree = rows_then (map read (drop (i + 1) slice)) Tree.nil in
       let here : drop i items ≡ x ∷ drop (i + 1) slice = rw (← e) (drop_at slice i d h) in
       let first : walk asked c s (Tree.cons (read x) rest) ≡ refused err m = rw step refl in
-      record { is = done.walks c ∙ rw here (ap (λ (r : Step S (Error E) Tree). onto_rows (map write made) r) first) }
+      done.walks c ∙ rw here (ap (λ (r : Step S (Error E) Tree). onto_rows (map write made) r) first)
 
   pub items_refuse : {s0 s m : S} {items slice : List A} {i : ℕ} {made : List B} {e : Error E} (d : A) (c : ℕ) →
       ItemsDone asked read write s0 items i s made → slice ≡ items → i < length slice →
-      walk asked c s (read (get_or slice i d)) ≡ refused e m →
-      Refuses asked c s0 (Tree.vec (rows_then (map read items) Tree.nil)) e m
-  items_refuse d c done e h step = vec_refuses (rows_refuse d c done e h step)
+      walk asked c s (read (get_or slice i d)) ≡ refused e m → walk asked c s0 (Tree.vec (rows_then (map read items) Tree.nil)) ≡ refused e m
+  items_refuse d c done e h step = rw (rows_refuse d c done e h step) refl
 
   -- What is left where the item at the place was refused, and where it was accepted.
-  pub items_leave_refused : {s0 s m : S} {items slice : List A} {i : ℕ} {made : List B} {e : Error E} (d : A) →
+  pub items_refused : {s0 s m : S} {items slice : List A} {i : ℕ} {made : List B} {e : Error E} {sure : Bool} (d : A) →
       ItemsDone asked read write s0 items i s made → slice ≡ items → i < length slice →
-      walk asked 0 s (read (get_or slice i d)) ≡ refused e m → Visited asked s0 (visits (rows_then (map read items) Tree.nil)) m
-  items_leave_refused {slice = slice} {i = i} d done e h step = items_leave d done e h (refused_visited 0 (read (get_or slice i d)) step)
+      (e ≢ NoMemory → walk asked 0 s (read (get_or slice i d)) ≡ refused e m) → NeverWants {A = B} sure (Err e) → IsTrue sure →
+      Visited asked s0 (visits (rows_then (map read items) Tree.nil)) m
+  items_refused {slice = slice} {i = i} d done e h step never sure =
+      items_leave d done e h (refused_visited 0 (read (get_or slice i d)) (step (never_wants _ never sure)))
 
-  pub items_leave_accepted : {s0 s m : S} {items slice : List A} {i : ℕ} {made : List B} {u : Tree} (d : A) →
+  pub items_accepted : {s0 s m : S} {items slice : List A} {i : ℕ} {made : List B} {u : Tree} (d : A) →
       ItemsDone asked read write s0 items i s made → slice ≡ items → i < length slice →
       walk asked 0 s (read (get_or slice i d)) ≡ accepted u m → Visited asked s0 (visits (rows_then (map read items) Tree.nil)) m
-  items_leave_accepted {slice = slice} {i = i} d done e h step = items_leave d done e h (accepted_visited 0 (read (get_or slice i d)) step)
+  items_accepted {slice = slice} {i = i} d done e h step = items_leave d done e h (accepted_visited 0 (read (get_or slice i d)) step)
 
   -- All were accepted, and with them the items behind their number.
   pub rows_accept : {s0 s : S} {items slice : List A} {i : ℕ} {made : List B} (c : ℕ) →
       ItemsDone asked read write s0 items i s made → slice ≡ items → length slice ≤ i →
-      Accepts asked c s0 (rows_then (map read items) Tree.nil) (rows_then (map write made) Tree.nil) s
-  rows_accept {items = items} {i = i} c done e all =
-      let none : drop i items ≡ [] = rw (← e) (drop_all i _ all) in record { is = done.walks c ∙ rw none refl }
-
-  pub items_accept : {s0 s : S} {items slice : List A} {i : ℕ} {made : List B} (c : ℕ) →
-      ItemsDone asked read write s0 items i s made → slice ≡ items → length slice ≤ i →
-      Accepts asked c s0 (Tree.vec (rows_then (map read items) Tree.nil)) (Tree.vec (rows_then (map write made) Tree.nil)) s
-  items_accept c done e all = vec_accepts (rows_accept c done e all)
+      walk asked c s0 (rows_then (map read items) Tree.nil) ≡ accepted (rows_then (map write made) Tree.nil) s
+  rows_accept {items = items} {i = i} c done e all = let none : drop i items ≡ [] = rw (← e) (drop_all i _ all) in done.walks c ∙ rw none refl

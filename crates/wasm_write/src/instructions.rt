@@ -134,6 +134,14 @@ impl<'a> Instruction<'a> {
         }
     }
 
+    /// An operator with its immediates, which are known to be of the kinds of its row.
+    pub fn of_kinds(opcode: Opcode, imms: List<Imm<'a>>) -> Instruction<'a>
+        requires { HasKinds opcode imms }
+        ensures { result ≡ record { opcode = opcode; imms = imms.entry } }
+    {
+        Instruction { opcode, imms }
+    }
+
     /// The operator's number.
     pub fn opcode(&self) -> Opcode
         ensures { result ≡ self.now.opcode }
