@@ -1,5 +1,6 @@
 -- Runs of a reencoder whose state stays, as that of a rule for indices.
-use Rattle.std.proofs.Common.{◌≡◌, ◌≢◌, ℕ, List, [], ◌∷◌, ◌++◌, map, Result, Ok, Err, refl, sym, ap, ap₂, ◌∙◌}
+use Rattle.std.proofs.Common.{◌≡◌, ◌≢◌, ℕ, List, [], ◌∷◌, ◌++◌, map, Result, Ok, Err, IfOk, IfErr, refl, sym, ap, ap₂, ◌∙◌}
+use Rattle.wasm_shapes.specs.declared.Space.{Space}
 use Rattle.wasm_shapes.specs.declared.Visit.{Visit}
 use Rattle.wasm_shapes.specs.Tree.{Tree, fill, normal, visits}
 use Rattle.wasm_shapes.specs.Spells.{Spells}
@@ -11,7 +12,8 @@ use Rattle.reencode_hooks.specs.Run.{Step, accepted, refused, and_then, answered
 use Rattle.reencode_hooks.specs.Walk.{walk}
 use Rattle.reencode_hooks.proofs.Walks.{walk_is_run, walk_refuses}
 use Rattle.reencode_core.specs.Core.{GivesBytes}
-use Rattle.reencode_core.specs.Rules.{Refuses}
+use Rattle.reencode_hooks.specs.Rules.{by_rule}
+use Rattle.reencode_core.specs.Rules.{IfUser, IsMade, IsRefusal, IsRenamed, Refuses}
 
 module _ {S E : Type 0} (reply : S → Visit → Result ℕ E) where
   abbrev pub stays : S → Visit → Step S (Error E) ℕ
@@ -96,3 +98,24 @@ module _ {S E : Type 0} (reply : S → Visit → Result ℕ E) where
         Fits (fill t given) ceiling → e ≡ NoMemory
     only_memory NoMemory g t given p all fits = refl
     only_memory e g t given p all fits = absurd (not_refused g t given p all fits (λ same. absurd cc))
+
+-- ---- a rule for indices
+
+module _ {S E A : Type 0} (renamed : S → Space → ℕ → Result ℕ E) {ceiling : ℕ} {bytes : List ℕ} {s m : S} {view : A → List ℕ} where
+  abbrev rule_asks : S → Visit → Step S (Error E) ℕ
+  rule_asks = stays (λ k v. by_rule (renamed k) v)
+
+  pub rule_ok : (r : Result A (Error E)) → GivesBytes rule_asks ceiling bytes s m r view → IfOk r (λ out. IsRenamed (renamed s) bytes (view out))
+  rule_ok (Ok out) g =
+      let a = all_answered (λ (k : S) (v : Visit). by_rule (renamed k) v) g in
+      record { tree = a.0; reading = a.2; answers = a.1; answered = a.3; spelled = a.4 }
+  rule_ok (Err e) g = tt
+
+  pub rule_refused : (r : Result A (Error E)) → GivesBytes rule_asks ceiling bytes s m r view → IfErr r (λ e. IfUser e (IsRefusal (renamed s) bytes))
+  rule_refused (Ok out) g = tt
+  rule_refused (Err (UserError x)) g = first_refused (λ (k : S) (v : Visit). by_rule (renamed k) v) g
+  rule_refused (Err e) g = tt
+
+  pub rule_made : (r : Result A (Error E)) → GivesBytes rule_asks ceiling bytes s m r view → IfErr r (IsMade (renamed s) ceiling bytes)
+  rule_made (Ok out) g = tt
+  rule_made (Err e) g = only_memory (λ (k : S) (v : Visit). by_rule (renamed k) v) e g

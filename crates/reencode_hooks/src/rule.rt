@@ -28,7 +28,7 @@ pub trait IndexRule {
 }
 
 /// The reencoder of a rule. It adds no section, never wants memory, and keeps every default.
-#[derive(Clone, Copy, Debug)]
+#[derive(Debug, Drop)]
 pub struct ByRule<R> {
     pub rule: R,
 }

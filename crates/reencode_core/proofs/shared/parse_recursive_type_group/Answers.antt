@@ -56,7 +56,7 @@ returns-in_err-ty-clause-after_error g c =
     let inv = c.loop-ty.invariant in
     let group = c.args.rec_group in
     let parts = ap (λ (z : List _). c.loop-ty.yielded ++ z) (sym c.in-Some.ensures.steps.0) ∙ inv.left in
-    λ k sure. visited_left _ (group_leaves group.explicit group.types group.bare_holds_one (items_leave _ _ _ _ (inv.default k) parts (c.in_err-ty.ensures.left k sure)))
+    λ k sure. visited_left _ (group_leaves group.explicit group.types group.bare_holds_one (items_leave _ _ _ _ (inv.default k) parts (c.in_err-ty.ensures.after_error k sure)))
 
 pub returns-in_err-push-clause-after_error : goal.returns-in_err-push-clause-after_error
 returns-in_err-push-clause-after_error g c =
