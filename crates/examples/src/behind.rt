@@ -36,7 +36,7 @@ impl IndexRule for Behind {
 }
 
 /// The module with each function moved behind `count` others.
-pub fn behind(alloc: Global, bytes: &[u8], count: u32) -> Result<Vec<u8>, Error<TooMany>>
+pub fn move_behind(alloc: Global, bytes: &[u8], count: u32) -> Result<Vec<u8>, Error<TooMany>>
     ensures { IfOk result (λ out. IsRenamed (moved count) bytes.now out.items) }
 {
     reencode_by_rule(alloc, Behind { count }, bytes, u32::MAX)

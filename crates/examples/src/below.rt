@@ -36,7 +36,7 @@ impl IndexRule for Below {
 }
 
 /// The module as it is, where each function that it names is below the bound.
-pub fn below(alloc: Global, bytes: &[u8], bound: u32) -> Result<Vec<u8>, Error<NotBelow>>
+pub fn check_below(alloc: Global, bytes: &[u8], bound: u32) -> Result<Vec<u8>, Error<NotBelow>>
     ensures { IfOk result (λ out. IsRenamed (known bound) bytes.now out.items) }
 {
     reencode_by_rule(alloc, Below { bound }, bytes, u32::MAX)

@@ -5,6 +5,6 @@ mod behind;
 mod below;
 mod widened;
 
-pub use behind::{Behind, TooMany, behind};
-pub use below::{Below, NotBelow, below};
+pub use behind::{Behind, TooMany, move_behind};
+pub use below::{Below, NotBelow, check_below};
 pub use widened::Widened;
