@@ -1,4 +1,4 @@
 pub mod Leaving
-pub mod Steps
+pub mod Loops
 pub mod Parts
 pub mod Composites
