@@ -2,3 +2,4 @@ pub mod Leaving
 pub mod Loops
 pub mod Parts
 pub mod Composites
+pub mod Operators
