@@ -9,7 +9,7 @@ use Rattle.reencode_hooks.specs.declared.error.Error.{Error}
 use Rattle.reencode_hooks.specs.Run.{Step, accepted, refused, and_then, Visited}
 use Rattle.reencode_hooks.specs.Walk.{walk}
 use Rattle.reencode_hooks.proofs.Agrees.{and_then-and_then}
-use Rattle.reencode_items.proofs.Leaving.{first_visited}
+use Rattle.reencode_hooks.proofs.Leaving.{first_visited}
 
 -- a tree that may be left out, walked where it is there
 abbrev option_walked : {S E : Type 0} → (S → Visit → Step S (Error E) ℕ) → ℕ → S → Option Tree → Step S (Error E) (Option Tree)

@@ -144,7 +144,7 @@ pub trait ReencodeItems: ReencodeIndices {
 
     /// A composite type (section 5.3.8). What it holds is asked before the type that describes it, and that before the
     /// type that it describes.
-    #[tactic(auto, using(crate::proofs::Composites::composites, crate::proofs::Composites::inner_leaves, crate::proofs::Leaving::walk_left))]
+    #[tactic(auto, using(crate::proofs::Composites::composites, crate::proofs::Composites::inner_leaves, reencode_hooks::proofs::Leaving::walk_left))]
     fn composite_type(
         &mut self,
         alloc: Global,
@@ -159,7 +159,7 @@ pub trait ReencodeItems: ReencodeIndices {
     }
 
     /// The parameters and results of a function (section 5.3.8).
-    #[tactic(auto, using(crate::proofs::Leaving::first_visited, crate::proofs::Leaving::second_part))]
+    #[tactic(auto, using(reencode_hooks::proofs::Leaving::first_visited, reencode_hooks::proofs::Leaving::second_part))]
     fn func_type(
         &mut self,
         alloc: Global,

@@ -158,7 +158,7 @@ pub fn val_type<T: ReencodeItems>(
 
 /// A composite type (section 5.3.8). What it holds is asked before the type that describes it, and that before the
 /// type that it describes.
-#[tactic(auto, using(crate::proofs::Composites::composites, crate::proofs::Composites::inner_leaves, crate::proofs::Leaving::walk_left))]
+#[tactic(auto, using(crate::proofs::Composites::composites, crate::proofs::Composites::inner_leaves, reencode_hooks::proofs::Leaving::walk_left))]
 pub fn composite_type<T: ReencodeItems>(
     reencoder: &mut T,
     alloc: Global,
@@ -173,7 +173,7 @@ pub fn composite_type<T: ReencodeItems>(
 }
 
 /// The parameters and results of a function (section 5.3.8).
-#[tactic(auto, using(crate::proofs::Leaving::first_visited, crate::proofs::Leaving::second_part))]
+#[tactic(auto, using(reencode_hooks::proofs::Leaving::first_visited, reencode_hooks::proofs::Leaving::second_part))]
 pub fn func_type<T: ReencodeItems>(
     reencoder: &mut T,
     alloc: Global,

@@ -1,6 +1,6 @@
 use Rattle.wasm_read.specs.declared.types.Imm.TheVariants.{Index}
 use Rattle.wasm_read.specs.Immediates.{imm_tree}
-use Rattle.reencode_items.proofs.Leaving.{never_wants, refused_visited, visited_left}
+use Rattle.reencode_hooks.proofs.Leaving.{never_wants, refused_visited, visited_left}
 use Rattle.reencode_items.proofs.indices.immediate.Goals as goal
 
 pub returns-in_err-core_index-in-Index-clause-after_error : goal.returns-in_err-core_index-in-Index-clause-after_error

@@ -1,5 +1,5 @@
 use Rattle.std.proofs.Common.{arith}
-use Rattle.reencode_items.proofs.Leaving.{walk_left}
+use Rattle.reencode_hooks.proofs.Leaving.{walk_left}
 use Rattle.reencode_items.proofs.Composites.{composites}
 use Rattle.reencode_items.proofs.utils.composite_type.Goals as goal
 

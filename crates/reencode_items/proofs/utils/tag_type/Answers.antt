@@ -1,5 +1,5 @@
 use Rattle.std.proofs.Common.{arith}
-use Rattle.reencode_items.proofs.Steps.{handed}
+use Rattle.reencode_hooks.proofs.Leaving.{handed}
 use Rattle.reencode_items.proofs.utils.tag_type.Goals as goal
 
 pub returns-in_err-tag_kind-clause-default : goal.returns-in_err-tag_kind-clause-default
