@@ -3,7 +3,6 @@ use Rattle.std.proofs.Common.{◌≡◌, ◌≢◌, ◌<◌, ◌≤◌, ◌^◌,
 use Rattle.std.proofs.Math.Seq.{take-append_seam}
 use Rattle.wasm_leb.specs.declared.fault.Fault.{Fault}
 use Rattle.wasm_shapes.specs.Tree.{Tree, normal}
-use Rattle.wasm_shapes.specs.Shape.{Shape}
 use Rattle.wasm_shapes.specs.Place.{Begins, BeginsNone}
 use Rattle.wasm_shapes.specs.Module.{code_row}
 use Rattle.wasm_read.specs.Operations.{Reading, rest_of, frame_row}
@@ -14,12 +13,11 @@ use Rattle.wasm_write.specs.Bodies.{Body, CodeRows, code_tree, function_body, wi
 use Rattle.wasm_write.specs.Faults.{IfTooLarge}
 use Rattle.wasm_write.specs.Held.{body_tree}
 use Rattle.reencode_hooks.specs.declared.error.Error.{Error}
-use Rattle.reencode_hooks.specs.declared.error.Error.TheVariants.{NoMemory}
 use Rattle.reencode_hooks.specs.declared.indices.ReencodeIndices.{Ghosts}
 use Rattle.reencode_hooks.specs.Errors.{error_of_fault, error_of_write}
 use Rattle.reencode_hooks.specs.Run.{accepted}
 use Rattle.reencode_hooks.specs.Walk.{walk}
-use Rattle.reencode_items.specs.Maps.{LeavesOperator, MapsOperator, MovesOn, ParsesOperator}
+use Rattle.reencode_items.specs.Maps.{LeavesOperator, MovesOn, ParsesOperator}
 use Rattle.reencode_items.proofs.Leaving.{accepted_visited}
 use Rattle.reencode_core.specs.Errors.{placed_at}
 use Rattle.reencode_core.specs.Rows.{GivesRows, locals}

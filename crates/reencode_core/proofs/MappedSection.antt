@@ -1,5 +1,5 @@
 -- A section whose rows were mapped, as it is added to a module.
-use Rattle.std.proofs.Common.{◌≡◌, ℕ, List, [], ◌∷◌, length, Result, Ok, Err, IsErrAnd, IsTrue, refl, sym, ap, ◌∙◌, subst}
+use Rattle.std.proofs.Common.{◌≡◌, ℕ, List, [], ◌∷◌, Result, Ok, Err, IsErrAnd, IsTrue, refl, sym, ap, ◌∙◌, subst}
 use Rattle.wasm_leb.specs.declared.fault.Fault.{Fault}
 use Rattle.wasm_leb.specs.Place.{BeginsNoNumber}
 use Rattle.wasm_shapes.specs.declared.SectionId.{SectionId}
@@ -11,7 +11,7 @@ use Rattle.wasm_shapes.specs.SectionTable.{number}
 use Rattle.wasm_read.specs.Reading.{Standing, CountRead, ReadsNone}
 use Rattle.wasm_write.specs.Bodies.{CodeRows}
 use Rattle.wasm_write.specs.Held.{body_tree}
-use Rattle.wasm_write.specs.Sections.{Sections, SectionRow, section_row}
+use Rattle.wasm_write.specs.Sections.{Sections, section_row}
 use Rattle.reencode_hooks.specs.declared.error.Error.{Error}
 use Rattle.reencode_hooks.specs.declared.error.Error.TheVariants.{ParseError}
 use Rattle.reencode_hooks.specs.declared.indices.ReencodeIndices.{Ghosts}
