@@ -4,6 +4,7 @@
 mod bodies;
 mod errors;
 mod imports;
+mod mapped;
 mod plain;
 mod reencode;
 mod rule;
