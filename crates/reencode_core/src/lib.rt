@@ -10,13 +10,7 @@ mod reencode;
 mod rule;
 mod sections;
 mod shared;
-#[cfg(test)]
-mod tests;
-#[cfg(test)]
-mod type_tests;
 pub mod utils;
-#[cfg(test)]
-mod utils_tests;
 
 pub use reencode::{Reencode, reencode_core};
 pub use rule::reencode_by_rule;

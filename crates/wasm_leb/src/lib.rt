@@ -6,8 +6,6 @@ mod front;
 mod laws;
 mod list;
 mod read;
-#[cfg(test)]
-mod tests;
 mod write;
 
 pub use fault::{Fault, Kind, NoMemory, ReadError};

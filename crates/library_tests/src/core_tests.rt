@@ -1,10 +1,11 @@
-//! Each free function once, through its bound.
-use super::*;
-use reencode_hooks::{Error, Renamer};
+//! Each free function of sections and rows through its bound, and sections by their kind.
+use reencode_core::{Reencode, utils};
+use reencode_hooks::{Error, Renamer, RoundtripReencoder};
 use std::alloc::Global;
 use std::test::Fail;
+use wasm_leb::ReadError;
 use wasm_read as r;
-use wasm_shapes::Space;
+use wasm_shapes::{SectionId, Space};
 use wasm_write as w;
 
 /// The section `01 60 00 00` of types and the section `01 00` of functions.
@@ -182,5 +183,36 @@ fn functions_map_modules(rt: HostRuntime) -> Result<(), Fail> {
     let (group, _) = r::read_group(rt.alloc(), &[0x60, 0x00, 0x00], 0)?;
     let group = utils::parse_recursive_type_group(&mut renamer, rt.alloc(), group)?;
     assert_eq!(rt; group.types.len(), 1);
+    Ok(())
+}
+
+/// A section is mapped through its bound, by the free function and by the method.
+fn sections_of_a_kind<R: Reencode>(
+    reencoder: &mut R,
+    alloc: Global,
+    module: &mut w::Module,
+    id: SectionId,
+    body: &[u8],
+) -> Result<(), Error<R::Error>> {
+    utils::parse_section(reencoder, alloc, module, id, body)?;
+    reencoder.parse_section(alloc, module, id, body)
+}
+
+#[test]
+fn sections_by_kind(rt: HostRuntime) -> Result<(), Fail> {
+    let mut same = RoundtripReencoder;
+    let mut module = w::Module::new(rt.alloc(), u32::MAX)?;
+    let body = [0x01, 0x07, 0x00, 0x20, 0x00, 0x20, 0x01, 0x6a, 0x0b];
+    sections_of_a_kind(&mut same, rt.alloc(), &mut module, SectionId::Code, &body)?;
+    assert_eq!(rt; module.len(), 2);
+    let none = sections_of_a_kind(
+        &mut same,
+        rt.alloc(),
+        &mut module,
+        SectionId::Start,
+        &[0x00],
+    );
+    assert!(rt; matches!(none, Err(Error::ParseError(ReadError { at: 0 }))));
+    assert_eq!(rt; module.len(), 2);
     Ok(())
 }

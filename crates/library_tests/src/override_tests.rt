@@ -1,6 +1,6 @@
 //! A reencoder that overrides a method, and does not keep the defaults.
-use super::*;
 use reencode_hooks::{Error, ReencodeIndices};
+use reencode_items::ReencodeItems;
 use std::convert::Infallible;
 use std::test::Fail;
 use wasm_leb::List;
