@@ -3,7 +3,7 @@ use reencode_core::{Reencode, utils};
 use reencode_hooks::{Error, Renamer, RoundtripReencoder};
 use std::alloc::Global;
 use std::test::Fail;
-use wasm_leb::ReadError;
+use wasm_leb::{NoMemory, ReadError};
 use wasm_read as r;
 use wasm_shapes::{SectionId, Space};
 use wasm_write as w;
@@ -112,77 +112,117 @@ fn memories_and_tags<R: Reencode>(
 }
 
 /// The section `01 04 00 10 00 0b` of code, and another row of it.
+fn code_rows<R: Reencode>(
+    reencoder: &mut R,
+    alloc: Global,
+    code: &mut w::CodeSection,
+) -> Result<(), Error<R::Error>> {
+    let rows = r::CodeSectionReader::new(&[0x01, 0x04, 0x00, 0x10, 0x00, 0x0b])?;
+    utils::parse_code_section(reencoder, alloc, code, rows)?;
+    let body = r::FunctionBody {
+        bytes: &[0x01, 0x01, 0x7f, 0x0b],
+    };
+    utils::parse_function_body(reencoder, alloc, code, body)
+}
+
+/// These, and the locals of a third.
 fn code<R: Reencode>(
     reencoder: &mut R,
     alloc: Global,
     module: &mut w::Module,
 ) -> Result<(), Error<R::Error>> {
     let mut code = w::CodeSection::new(alloc, module.ceiling());
-    let rows = r::CodeSectionReader::new(&[0x01, 0x04, 0x00, 0x10, 0x00, 0x0b])?;
-    utils::parse_code_section(reencoder, alloc, &mut code, rows)?;
+    code_rows(reencoder, alloc, &mut code)?;
     let body = r::FunctionBody {
         bytes: &[0x01, 0x01, 0x7f, 0x0b],
     };
-    utils::parse_function_body(reencoder, alloc, &mut code, body)?;
     let function = utils::new_function_with_parsed_locals(reencoder, alloc, &body)?;
     code.function(&function)?;
-    module.section(&code)?;
-    Ok(())
+    Ok(module.section(&code)?)
+}
+
+fn module_of_functions<R: Reencode>(
+    reencoder: &mut R,
+    alloc: Global,
+) -> Result<w::Module, Error<R::Error>> {
+    let mut module = w::Module::new(alloc, u32::MAX)?;
+    types_and_functions(reencoder, alloc, &mut module)?;
+    exports(reencoder, alloc, &mut module)?;
+    code(reencoder, alloc, &mut module)?;
+    Ok(module)
+}
+
+fn module_of_imports<R: Reencode>(
+    reencoder: &mut R,
+    alloc: Global,
+) -> Result<w::Module, Error<R::Error>> {
+    let mut module = w::Module::new(alloc, u32::MAX)?;
+    imports(reencoder, alloc, &mut module)?;
+    tables(reencoder, alloc, &mut module)?;
+    memories_and_tags(reencoder, alloc, &mut module)?;
+    Ok(module)
+}
+
+/// A module of one row, and how many types a group of one has.
+fn module_and_group<R: Reencode>(
+    reencoder: &mut R,
+    alloc: Global,
+) -> Result<(w::Module, usize), Error<R::Error>> {
+    let mut module = w::Module::new(alloc, u32::MAX)?;
+    let bytes = [
+        0x00, 0x61, 0x73, 0x6d, 0x01, 0x00, 0x00, 0x00, 0x03, 0x02, 0x01, 0x00,
+    ];
+    utils::parse_core_module(reencoder, alloc, &mut module, &bytes)?;
+    let (group, _) = r::read_group(alloc, &[0x60, 0x00, 0x00], 0)?;
+    let group = utils::parse_recursive_type_group(reencoder, alloc, group)?;
+    Ok((module, group.types.len()))
+}
+
+/// A renamer that makes type 0 type 5, and function 0 function 7.
+fn renamer(alloc: Global) -> Result<Renamer, NoMemory> {
+    let mut renamer = Renamer::new(alloc);
+    renamer.set(Space::Type_, 0, 5)?;
+    renamer.set(Space::Function, 0, 7)?;
+    Ok(renamer)
 }
 
 #[test]
 fn functions_map_rows(rt: HostRuntime) -> Result<(), Fail> {
-    let mut renamer = Renamer::new(rt.alloc());
-    renamer.set(Space::Type_, 0, 5)?;
-    renamer.set(Space::Function, 0, 7)?;
-    let mut module = w::Module::new(rt.alloc(), u32::MAX)?;
-    types_and_functions(&mut renamer, rt.alloc(), &mut module)?;
-    exports(&mut renamer, rt.alloc(), &mut module)?;
-    code(&mut renamer, rt.alloc(), &mut module)?;
+    let mut renamer = renamer(rt.alloc())?;
     let expected = [
         0x00, 0x61, 0x73, 0x6d, 0x01, 0x00, 0x00, 0x00, 0x01, 0x04, 0x01, 0x60, 0x00, 0x00, 0x03,
         0x02, 0x01, 0x05, 0x07, 0x09, 0x02, 0x01, 0x66, 0x00, 0x07, 0x01, 0x67, 0x00, 0x07, 0x0a,
         0x0f, 0x03, 0x04, 0x00, 0x10, 0x07, 0x0b, 0x04, 0x01, 0x01, 0x7f, 0x0b, 0x03, 0x01, 0x01,
         0x7f,
     ];
+    let module = module_of_functions(&mut renamer, rt.alloc())?;
     assert_eq!(rt; module.as_slice(), expected.as_slice());
     Ok(())
 }
 
 #[test]
 fn functions_map_imports(rt: HostRuntime) -> Result<(), Fail> {
-    let mut renamer = Renamer::new(rt.alloc());
-    renamer.set(Space::Type_, 0, 5)?;
-    let mut module = w::Module::new(rt.alloc(), u32::MAX)?;
-    imports(&mut renamer, rt.alloc(), &mut module)?;
-    tables(&mut renamer, rt.alloc(), &mut module)?;
-    memories_and_tags(&mut renamer, rt.alloc(), &mut module)?;
+    let mut renamer = renamer(rt.alloc())?;
     let expected = [
         0x00, 0x61, 0x73, 0x6d, 0x01, 0x00, 0x00, 0x00, 0x02, 0x11, 0x03, 0x01, 0x61, 0x01, 0x62,
         0x20, 0x05, 0x00, 0x01, 0x63, 0x00, 0x05, 0x00, 0x01, 0x63, 0x00, 0x05, 0x04, 0x08, 0x02,
         0x64, 0x05, 0x00, 0x01, 0x70, 0x00, 0x02, 0x05, 0x04, 0x01, 0x01, 0x01, 0x02, 0x0d, 0x03,
         0x01, 0x00, 0x05,
     ];
+    let module = module_of_imports(&mut renamer, rt.alloc())?;
     assert_eq!(rt; module.as_slice(), expected.as_slice());
     Ok(())
 }
 
 #[test]
 fn functions_map_modules(rt: HostRuntime) -> Result<(), Fail> {
-    let mut renamer = Renamer::new(rt.alloc());
-    renamer.set(Space::Type_, 0, 5)?;
-    let mut module = w::Module::new(rt.alloc(), u32::MAX)?;
-    let bytes = [
-        0x00, 0x61, 0x73, 0x6d, 0x01, 0x00, 0x00, 0x00, 0x03, 0x02, 0x01, 0x00,
-    ];
-    utils::parse_core_module(&mut renamer, rt.alloc(), &mut module, &bytes)?;
+    let mut renamer = renamer(rt.alloc())?;
     let expected = [
         0x00, 0x61, 0x73, 0x6d, 0x01, 0x00, 0x00, 0x00, 0x03, 0x02, 0x01, 0x05,
     ];
+    let (module, types) = module_and_group(&mut renamer, rt.alloc())?;
     assert_eq!(rt; module.as_slice(), expected.as_slice());
-    let (group, _) = r::read_group(rt.alloc(), &[0x60, 0x00, 0x00], 0)?;
-    let group = utils::parse_recursive_type_group(&mut renamer, rt.alloc(), group)?;
-    assert_eq!(rt; group.types.len(), 1);
+    assert_eq!(rt; types, 1);
     Ok(())
 }
 
@@ -198,21 +238,27 @@ fn sections_of_a_kind<R: Reencode>(
     reencoder.parse_section(alloc, module, id, body)
 }
 
-#[test]
-fn sections_by_kind(rt: HostRuntime) -> Result<(), Fail> {
-    let mut same = RoundtripReencoder;
-    let mut module = w::Module::new(rt.alloc(), u32::MAX)?;
+/// How many sections a module has once a body was added twice, and whether it has as many after a refusal at place 0.
+fn sections_after<R: Reencode>(
+    reencoder: &mut R,
+    alloc: Global,
+) -> Result<(usize, bool), Error<R::Error>>
+where
+    R::Error: Drop,
+{
+    let mut module = w::Module::new(alloc, u32::MAX)?;
     let body = [0x01, 0x07, 0x00, 0x20, 0x00, 0x20, 0x01, 0x6a, 0x0b];
-    sections_of_a_kind(&mut same, rt.alloc(), &mut module, SectionId::Code, &body)?;
-    assert_eq!(rt; module.len(), 2);
-    let none = sections_of_a_kind(
-        &mut same,
-        rt.alloc(),
-        &mut module,
-        SectionId::Start,
-        &[0x00],
+    sections_of_a_kind(reencoder, alloc, &mut module, SectionId::Code, &body)?;
+    let count = module.len();
+    let none = sections_of_a_kind(reencoder, alloc, &mut module, SectionId::Start, &[0x00]);
+    let is_refused = matches!(none, Err(Error::ParseError(ReadError { at: 0 })));
+    Ok((count, is_refused && module.len() == count))
+}
+
+#[test]
+fn sections_by_kind(rt: HostRuntime) {
+    assert_eq!(rt;
+        sections_after(&mut RoundtripReencoder, rt.alloc()).ok(),
+        Some((2, true))
     );
-    assert!(rt; matches!(none, Err(Error::ParseError(ReadError { at: 0 }))));
-    assert_eq!(rt; module.len(), 2);
-    Ok(())
 }
