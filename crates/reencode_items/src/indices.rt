@@ -88,7 +88,10 @@ pub(crate) fn immediate<'a, T: ReencodeIndices>(
         (visits (immediates.imm_tree imm.entry)) reencoder.new result }
 {
     match imm {
-        r::Imm::Index(space, index) => Ok(w::Imm::Index(space, core_index(reencoder, space, index)?)),
+        r::Imm::Index(space, index) => Ok(w::Imm::Index(
+            space,
+            core_index(reencoder, space, index)?,
+        )),
         r::Imm::Local(index) => Ok(w::Imm::Local(index)),
         r::Imm::S32(number) => Ok(w::Imm::S32(number)),
         _ => unreachable!(),

@@ -111,7 +111,7 @@ fn tell<D: Sink>(answer: Answer, err: &mut D)
     ensures quiet { answer ≡ Answer.Printed → err.new ≡ err.old }
     ensures says { answer ≢ Answer.Printed
         → Says (D.faults err.old) (D.faults err.new) (D.held err.old) (D.held err.new)
-            (text_of answer ++ codes "\n") }
+        (text_of answer ++ codes "\n") }
 {
     match answer {
         Answer::Printed => {}
@@ -176,7 +176,7 @@ pub fn run<F: Shelf, S: Source, K: Sink, D: Sink>(
     // Where the words are accepted and neither source nor sink failed, the input decides.
     ensures decided { map string_bytes words.now ≡ plain_words
         → ¬ Rose (S.faults input.old) (S.faults input.new)
-            → ¬ Rose (K.faults out.old) (K.faults out.new)
+        → ¬ Rose (K.faults out.old) (K.faults out.new)
         → IsDecided (S.left input.old) result }
 
     // No other status comes, and with each but 0 and 4 the sink is as it was.
@@ -187,7 +187,7 @@ pub fn run<F: Shelf, S: Source, K: Sink, D: Sink>(
     ensures quiet { result ≡ 0 → err.new ≡ err.old }
     ensures says { result ≢ 0 → result ≢ 5
         → Says (D.faults err.old) (D.faults err.new) (D.held err.old) (D.held err.new)
-            (message result) }
+        (message result) }
 
     // No count of failures falls, and nothing is fetched.
     ensures input_rises { S.faults input.old ≤ S.faults input.new }
