@@ -20,7 +20,8 @@ pub(crate) fn type_index_unpacked<T: ReencodeIndices>(
     reencoder: &mut T,
     ty: r::UnpackedIndex,
 ) -> Result<u32, Error<T::Error>>
-    ensures default { Maps T.reply T.next reencoder.old (read.type_index ty) write.type_index reencoder.new result }
+    ensures default { Maps T.reply T.next reencoder.old (read.type_index ty)
+        write.type_index reencoder.new result }
     ensures sure { NeverWants T.sure result }
 {
     match ty {
@@ -88,7 +89,10 @@ pub(crate) fn immediate<'a, T: ReencodeIndices>(
         (visits (immediates.imm_tree imm.entry)) reencoder.new result }
 {
     match imm {
-        r::Imm::Index(space, index) => Ok(w::Imm::Index(space, core_index(reencoder, space, index)?)),
+        r::Imm::Index(space, index) => Ok(w::Imm::Index(
+            space,
+            core_index(reencoder, space, index)?,
+        )),
         r::Imm::Local(index) => Ok(w::Imm::Local(index)),
         r::Imm::S32(number) => Ok(w::Imm::S32(number)),
         _ => unreachable!(),
