@@ -1,6 +1,7 @@
 pub mod Accesses
 pub mod Codes
 pub mod Framed
+pub mod Items
 pub mod OfKinds
 pub mod Placed
 pub mod Vectors

@@ -1,10 +1,10 @@
 //! Fields at the front of some bytes, and at a place of some bytes.
-ghost use Rattle.std.specs.Prelude.{◌≡◌, ◌<◌, ◌≤◌, length, drop, IfOk, IfErr, IfSome, IfNone};
+ghost use Rattle.std.specs.Prelude.{◌≡◌, ◌≢◌, ◌<◌, ◌≤◌, length, drop, IfOk, IfErr, IfSome, IfNone};
 ghost use Rattle.wasm_shapes.specs.Module.{function_row, export_row};
 ghost use Rattle.wasm_shapes.specs.Place.{Begins, BeginsNone};
 ghost use Rattle.wasm_shapes.specs.Shape.{Shape, Named};
 ghost use Rattle.wasm_shapes.specs.Tree.{Tree};
-ghost use Rattle.wasm_read.specs.Types.{function_tree, item_tree, SaysKind, export_tree, ExportKind};
+ghost use Rattle.wasm_read.specs.Types.{function_tree, item_tree, kind_byte, SaysKind, export_tree, ExportKind};
 
 use crate::types::{Export, ExternalKind};
 use wasm_leb::{ReadError, front_byte, front_u32};
@@ -60,6 +60,23 @@ pub fn front_function(bytes: &[u8]) -> Option<(u32, &[u8])>
     front_u32(bytes)
 }
 
+/// The kind of what is exported that a byte spells.
+#[inline]
+fn kind_of(byte: u8) -> Option<ExternalKind>
+    ensures some { IfSome result (λ kind. byte ≡ kind_byte kind) }
+    ensures none { IfNone result ((0x04 < byte) × (byte ≢ 0x20)) }
+{
+    match byte {
+        0x00 => Some(ExternalKind::Func),
+        0x01 => Some(ExternalKind::Table),
+        0x02 => Some(ExternalKind::Memory),
+        0x03 => Some(ExternalKind::Global),
+        0x04 => Some(ExternalKind::Tag),
+        0x20 => Some(ExternalKind::FuncExact),
+        _ => None,
+    }
+}
+
 /// The kind and the index of what is exported, at the front of some bytes, and the bytes behind them.
 pub fn front_item(bytes: &[u8]) -> Option<(ExternalKind, u32, &[u8])>
     ensures some { IfSome result (λ r.
@@ -70,32 +87,12 @@ pub fn front_item(bytes: &[u8]) -> Option<(ExternalKind, u32, &[u8])>
     let Some((first, rest)) = front_byte(bytes) else {
         return None;
     };
-    match first {
-        0x00 => match front_u32(rest) {
-            Some((index, rest)) => Some((ExternalKind::Func, index, rest)),
-            None => None,
-        },
-        0x01 => match front_u32(rest) {
-            Some((index, rest)) => Some((ExternalKind::Table, index, rest)),
-            None => None,
-        },
-        0x02 => match front_u32(rest) {
-            Some((index, rest)) => Some((ExternalKind::Memory, index, rest)),
-            None => None,
-        },
-        0x03 => match front_u32(rest) {
-            Some((index, rest)) => Some((ExternalKind::Global, index, rest)),
-            None => None,
-        },
-        0x04 => match front_u32(rest) {
-            Some((index, rest)) => Some((ExternalKind::Tag, index, rest)),
-            None => None,
-        },
-        0x20 => match front_u32(rest) {
-            Some((index, rest)) => Some((ExternalKind::FuncExact, index, rest)),
-            None => None,
-        },
-        _ => None,
+    let Some(kind) = kind_of(first) else {
+        return None;
+    };
+    match front_u32(rest) {
+        Some((index, rest)) => Some((kind, index, rest)),
+        None => None,
     }
 }
 

@@ -1,4 +1,4 @@
-//! The sections of a module, frame by frame (WebAssembly Core Specification 3.0, sections 5.5.2 and 5.5.16).
+//! The sections of a module, frame by frame (WebAssembly Core Specification 3.0, sections 5.5.2 and 5.5.17).
 ghost use Rattle.std.specs.Prelude.{◌≡◌, ◌≢◌, ◌≤◌, ◌<◌, ◌⊎◌, [], IfOk, IfErr, IfSome, IfNone};
 ghost use Rattle.wasm_shapes.specs.Module.{frame};
 ghost use Rattle.wasm_shapes.specs.Place.{Begins, BeginsNone};

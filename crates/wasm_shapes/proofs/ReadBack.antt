@@ -5,8 +5,8 @@ use Rattle.std.specs.Coded.{le_prop}
 use Rattle.std.proofs.lemmas.List.Elements.{All-cons, All-head, All-tail}
 use Rattle.std.proofs.lemmas.Str.{IsUtf8-had}
 use mathlib.Core.Logic.{∥∥₁_elim, ∥∥₁_map}
-use Rattle.wasm_leb.specs.Leb.{leb, IsSigned}
-use Rattle.wasm_leb.proofs.Shortest.{leb_spells, leb_spells_64, signed_leb_spells, s32_spells, s64_spells, FitsBits}
+use Rattle.wasm_leb.specs.Leb.{FitsBits, leb, IsSigned}
+use Rattle.wasm_leb.proofs.Shortest.{leb_spells, leb_spells_64, signed_leb_spells, s32_spells, s64_spells}
 use Rattle.wasm_shapes.specs.Operators.{Code, plain, prefixed}
 use Rattle.wasm_shapes.specs.Tree.{code_bytes, mem_bytes, final_bytes, placed_bytes, Tree, count, normal, frames, after, before, fill, aimed_at, Listed, typed, left_flag, aimed_flag}
 use Rattle.wasm_shapes.specs.Shape.{Shape, listing}

@@ -14,7 +14,8 @@ use Rattle.wasm_shapes.specs.Module.{local_row, body as body_shape, code_row}
 use Rattle.wasm_shapes.specs.Spells.{Is, Spelled, Spells}
 use Rattle.wasm_shapes.specs.Fits.{InRange}
 use Rattle.wasm_shapes.proofs.Lists.{both}
-use Rattle.wasm_shapes.proofs.ReadBack.{read_back, spelled_in_range, in_range_had}
+use Rattle.wasm_shapes.proofs.Frameless.{frameless_spells}
+use Rattle.wasm_shapes.proofs.ReadBack.{spelled_in_range, in_range_had}
 use Rattle.wasm_write.specs.declared.types.ValType.{ValType}
 use Rattle.wasm_shapes.specs.Types.{rows_tree, vector_tree}
 use Rattle.wasm_write.specs.declared.fault.WriteFault.{WriteFault}
@@ -26,22 +27,17 @@ use Rattle.wasm_write.specs.Instructions.{Parts, imms_tree, instruction_tree}
 use Rattle.wasm_write.specs.Bodies.{Body, local_tree, with_operator, function_body, code_tree, IsBody, HeldBody, HeldBody-one, held_body, HeldOperators, HeldOperators-one, held_operators}
 use Rattle.wasm_write.proofs.Holding.{snoc_is, snoc_spelled, snoc_normal, snoc_length, are_none, are_more}
 use Rattle.wasm_write.proofs.SmallCounts.{counts_small, last_is_large}
-use Rattle.wasm_write.proofs.TypeShapes.{items_are, items_frameless, frameless_fits, value_is, value_frameless}
+use Rattle.wasm_write.proofs.TypeShapes.{items_are, value_is}
 
 abbrev with_locals : List (ℕ × ValType) → Body
 with_locals locals = record { locals = map local_tree locals; operators = [] }
 
 is_new : (locals : List (ℕ × ValType)) → InRange (vector_tree (map local_tree locals)) → IsBody (normal (vector_tree (map local_tree locals))) (with_locals locals)
 is_new locals r =
-    let rows = vector_tree (map local_tree locals) in record {
-      shaped = Is.seq (Is.vec (items_are local_row local_tree (λ l. Is.seq Is.u32 (value_is l.1)) locals)) Is.nil;
-      spelled = (
-        normal rows,
-        [],
-        sym (append-nil (normal rows)),
-        read_back rows r (frameless_fits rows (items_frameless local_tree (λ l. value_frameless l.1) locals)),
-        refl,
-      );
+    let rows = vector_tree (map local_tree locals) in
+    let all = frameless_spells (Shape.vec local_row) refl (Is.vec (items_are local_row local_tree (λ l. Is.seq Is.u32 (value_is l.1)) locals)) r in record {
+      shaped = Is.seq all.shaped Is.nil;
+      spelled = (normal rows, [], sym (append-nil (normal rows)), all.spelled, refl);
       normally = append-nil (normal rows);
     }
 
@@ -65,13 +61,11 @@ is_more {bytes = bytes} {f = f} {t = t} b p = record {
 
 module _ {bytes : List ℕ} (locals : List (ℕ × ValType)) (e : bytes ≡ normal (vector_tree (map local_tree locals))) (r : InRange (vector_tree (map local_tree locals))) where
   pub body_new : HeldBody bytes
-  body_new = let P : List ℕ → Type 0 = λ z. HeldBody z in subst P (sym e) (with_locals locals, ∣ is_new locals r ∣₁)
+  body_new = (with_locals locals, ∣ rw e (is_new locals r) ∣₁)
 
   pub body_new_is : (h : HeldBody bytes) → held_body bytes h ≡ with_locals locals
-  unfolding held_body
-  body_new_is h =
-      let P : List ℕ → Type 0 = λ z. (k : HeldBody z) → k.0 ≡ with_locals locals in
-      subst P (sym e) (λ k. HeldBody-one _ k (with_locals locals, ∣ is_new locals r ∣₁)) h
+  unfolding held_body body_new
+  body_new_is h = HeldBody-one bytes h body_new
 
 module _ {bytes : List ℕ} (h : HeldBody bytes) where
   pub body_normal : normal (function_body (held_body bytes h)) ≡ bytes
@@ -84,26 +78,19 @@ module _ {bytes : List ℕ} (h : HeldBody bytes) where
       let P : List ℕ → Type 0 = λ z. Spelled (function_body h.0) z in
       ∥∥₁_map h.1 (λ b. record { shaped = b.shaped; spelled = subst P (sym b.normally) b.spelled })
 
-  abbrev body_more : (t : Tree) → ∥ Spells (Shape.op true) (normal t) t ∥₁ → HeldBody (bytes ++ normal t)
-  body_more t p = (with_operator h.0 t, ∥∥₁_elim h.1 ∥∥₁_prop (λ b. ∥∥₁_map p (λ q. is_more b q)))
-
   -- the bytes have grown by an operator
   pub body_grown : {new : List ℕ} (t : Tree) → new ≡ bytes ++ normal t → ∥ Spells (Shape.op true) (normal t) t ∥₁ → HeldBody new
-  body_grown t e p = let P : List ℕ → Type 0 = λ z. HeldBody z in subst P (sym e) (body_more t p)
+  body_grown t e p = (with_operator h.0 t, ∥∥₁_elim h.1 ∥∥₁_prop (λ b. ∥∥₁_map p (λ q. rw e (is_more b q))))
 
   pub body_grown_is : {new : List ℕ} (t : Tree) (k : HeldBody new) → new ≡ bytes ++ normal t → ∥ Spells (Shape.op true) (normal t) t ∥₁ →
       held_body new k ≡ with_operator (held_body bytes h) t
-  unfolding held_body
-  body_grown_is t k e p =
-      let P : List ℕ → Type 0 = λ z. (k : HeldBody z) → k.0 ≡ with_operator h.0 t in
-      subst P (sym e) (λ k. HeldBody-one (bytes ++ normal t) k (body_more t p)) k
+  unfolding held_body body_grown
+  body_grown_is {new} t k e p = HeldBody-one new k (body_grown t e p)
 
   -- the bytes are the same
   pub body_same_is : {new : List ℕ} (k : HeldBody new) → new ≡ bytes → held_body new k ≡ held_body bytes h
   unfolding held_body
-  body_same_is k e =
-      let P : List ℕ → Type 0 = λ z. (k : HeldBody z) → k.0 ≡ h.0 in
-      subst P (sym e) (λ k. HeldBody-one bytes k h) k
+  body_same_is {new} k e = HeldBody-one new k (h.0, ∥∥₁_map h.1 (λ b. rw e b))
 
 -- ---- a code section
 
@@ -157,36 +144,25 @@ expression_more : {bytes : List ℕ} {rows : List Tree} {t : Tree} → AreHeld (
 expression_more {rows = rows} {t = t} r p = rw (snoc_length rows t) (are_more r p)
 
 pub expression_none : {bytes : List ℕ} → bytes ≡ [] → HeldOperators bytes
-expression_none e = let P : List ℕ → Type 0 = λ z. HeldOperators z in subst P (sym e) ([], ∣ are_none (Shape.op false) ∣₁)
+expression_none e = ([], ∣ rw e (are_none (Shape.op false)) ∣₁)
 
 pub expression_none_is : {bytes : List ℕ} (h : HeldOperators bytes) → bytes ≡ [] → held_operators bytes h ≡ []
-unfolding held_operators
-expression_none_is h e =
-    let P : List ℕ → Type 0 = λ z. (k : HeldOperators z) → k.0 ≡ [] in
-    subst P (sym e) (λ k. HeldOperators-one [] k ([], ∣ are_none (Shape.op false) ∣₁)) h
+unfolding held_operators expression_none
+expression_none_is {bytes} h e = HeldOperators-one bytes h (expression_none e)
 
 module _ {bytes : List ℕ} (h : HeldOperators bytes) where
-  abbrev operators_more : (i : Parts) → code_of i.opcode ≢ plain 0x0b → ∥ Spells (Shape.op true) (normal (instruction_tree i)) (instruction_tree i) ∥₁ →
-      HeldOperators (bytes ++ normal (instruction_tree i))
-  operators_more i other p =
-      let t = instruction_tree i in
-      (h.0 ++ t ∷ [], ∥∥₁_elim h.1 ∥∥₁_prop (λ r. ∥∥₁_map p (λ q. expression_more r (inner_operator i other q))))
-
   -- the bytes have grown by an operator
   pub operators_grown : {new : List ℕ} (i : Parts) → code_of i.opcode ≢ plain 0x0b → new ≡ bytes ++ normal (instruction_tree i) →
       ∥ Spells (Shape.op true) (normal (instruction_tree i)) (instruction_tree i) ∥₁ → HeldOperators new
-  operators_grown i other e p = let P : List ℕ → Type 0 = λ z. HeldOperators z in subst P (sym e) (operators_more i other p)
+  operators_grown i other e p =
+      (h.0 ++ instruction_tree i ∷ [], ∥∥₁_elim h.1 ∥∥₁_prop (λ r. ∥∥₁_map p (λ q. rw e (expression_more r (inner_operator i other q)))))
 
   pub operators_grown_is : {new : List ℕ} (i : Parts) (k : HeldOperators new) → code_of i.opcode ≢ plain 0x0b → new ≡ bytes ++ normal (instruction_tree i) →
       ∥ Spells (Shape.op true) (normal (instruction_tree i)) (instruction_tree i) ∥₁ → held_operators new k ≡ held_operators bytes h ++ instruction_tree i ∷ []
-  unfolding held_operators
-  operators_grown_is i k other e p =
-      let P : List ℕ → Type 0 = λ z. (k : HeldOperators z) → k.0 ≡ h.0 ++ instruction_tree i ∷ [] in
-      subst P (sym e) (λ k. HeldOperators-one (bytes ++ normal (instruction_tree i)) k (operators_more i other p)) k
+  unfolding held_operators operators_grown
+  operators_grown_is {new} i k other e p = HeldOperators-one new k (operators_grown i other e p)
 
   -- the bytes are the same
   pub operators_same_is : {new : List ℕ} (k : HeldOperators new) → new ≡ bytes → held_operators new k ≡ held_operators bytes h
   unfolding held_operators
-  operators_same_is k e =
-      let P : List ℕ → Type 0 = λ z. (k : HeldOperators z) → k.0 ≡ h.0 in
-      subst P (sym e) (λ k. HeldOperators-one bytes k h) k
+  operators_same_is {new} k e = HeldOperators-one new k (h.0, ∥∥₁_map h.1 (λ r. rw e r))

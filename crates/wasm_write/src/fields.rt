@@ -11,6 +11,7 @@ use crate::types::ExportKind;
 use wasm_leb::{NoMemory, write_u32};
 
 /// Appends bytes behind a number, or a part of that where memory is wanting.
+#[inline(always)]
 pub(crate) fn write_behind(out: &mut Vec<u8>, number: u32, bytes: &[u8]) -> Result<(), NoMemory>
     ensures ok { OnOk result (out.new.items ≡ out.old.items ++ (leb number ++ bytes.now)) }
     ensures err { OnErr result (take (vec_len out.old) out.new.items ≡ out.old.items) }
@@ -51,6 +52,7 @@ pub fn write_name(out: &mut Vec<u8>, name: &str) -> Result<(), WriteFault>
 /// leaves what stood in `out` before.
 pub fn write_item(out: &mut Vec<u8>, kind: ExportKind, index: u32) -> Result<(), NoMemory>
     ensures ok { OnOk result (out.new.items ≡ out.old.items ++ normal (item_tree kind index)) }
+    ensures in_range { OnOk result (InRange (item_tree kind index)) }
     ensures err { OnErr result (take (vec_len out.old) out.new.items ≡ out.old.items) }
 {
     let byte = match kind {

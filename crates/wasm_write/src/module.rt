@@ -10,7 +10,7 @@ use std::alloc::Global;
 use std::marker::Model;
 use wasm_leb::{NoMemory, write_u32};
 
-/// A core module under construction (WebAssembly Core Specification 3.0, section 5.5.16).
+/// A core module under construction (WebAssembly Core Specification 3.0, section 5.5.17).
 ///
 /// Contracts see it as the list of its sections, each an id and a body, and its ceiling, the greatest length that a body
 /// may have.

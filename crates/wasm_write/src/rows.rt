@@ -16,7 +16,7 @@ impl RowOf<kinds::Types> for RecGroup {
 
     ghost tree = { group_tree };
 
-    #[tactic(auto, using(crate::proofs::TypeShapes::group_spelled))]
+    #[tactic(auto, using(crate::proofs::RowSpelling::group_spelled))]
     fn write(&self, out: &mut Vec<u8>) -> Result<(), WriteFault> {
         write_group(out, self)
     }
@@ -27,7 +27,7 @@ impl<'a> RowOf<kinds::Imports> for Imports<'a> {
 
     ghost tree = { import_tree };
 
-    #[tactic(auto, using(crate::proofs::ExternalShapes::import_spelled))]
+    #[tactic(auto, using(crate::proofs::RowSpelling::import_spelled))]
     fn write(&self, out: &mut Vec<u8>) -> Result<(), WriteFault> {
         match self {
             Imports::Single(import) => write_import(out, import),
@@ -54,7 +54,7 @@ impl RowOf<kinds::Tables> for TableType {
 
     ghost tree = { table_type_tree };
 
-    #[tactic(auto, using(crate::proofs::ExternalShapes::table_type_spelled))]
+    #[tactic(auto, using(crate::proofs::RowSpelling::table_type_spelled))]
     fn write(&self, out: &mut Vec<u8>) -> Result<(), WriteFault> {
         match write_table_type(out, *self) {
             Ok(()) => Ok(()),
@@ -68,7 +68,7 @@ impl RowOf<kinds::Memories> for MemoryType {
 
     ghost tree = { memory_type_tree };
 
-    #[tactic(auto, using(crate::proofs::ExternalShapes::memory_type_spelled))]
+    #[tactic(auto, using(crate::proofs::RowSpelling::memory_type_spelled))]
     fn write(&self, out: &mut Vec<u8>) -> Result<(), WriteFault> {
         match write_memory_type(out, *self) {
             Ok(()) => Ok(()),
@@ -82,7 +82,7 @@ impl RowOf<kinds::Tags> for TagType {
 
     ghost tree = { tag_type_tree };
 
-    #[tactic(auto, using(crate::proofs::ExternalShapes::tag_type_spelled))]
+    #[tactic(auto, using(crate::proofs::RowSpelling::tag_type_spelled))]
     fn write(&self, out: &mut Vec<u8>) -> Result<(), WriteFault> {
         match write_tag_type(out, *self) {
             Ok(()) => Ok(()),
