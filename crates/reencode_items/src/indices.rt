@@ -81,7 +81,7 @@ pub(crate) fn immediate<'a, T: ReencodeIndices>(
 ) -> Result<w::Imm<'a>, Error<T::Error>>
     requires { is_mapped imm ≡ true }
     ensures kind { IfOk result
-        (λ made. instructions.imm_kind made ≡ immediates.kind_of_imm imm.entry) }
+        (λ made. instructions.imm_kind made ≡ immediates.imm_kind imm.entry) }
     ensures default { Maps T.reply T.next reencoder.old
         (immediates.imm_tree imm.entry) instructions.imm_tree reencoder.new result }
     ensures after_error { IsTrue T.sure

@@ -318,7 +318,7 @@ pub trait ReencodeItems: ReencodeIndices {
     ) -> Result<w::Imm<'a>, Error<Self::Error>>
         requires { is_mapped imm ≡ true }
         ensures kind { IfOk result
-            (λ made. instructions.imm_kind made ≡ immediates.kind_of_imm imm.entry) }
+            (λ made. instructions.imm_kind made ≡ immediates.imm_kind imm.entry) }
         ensures default { IsTrue Self.keeps_defaults
             → Maps Self.reply Self.next self.old (immediates.imm_tree imm.entry)
             instructions.imm_tree self.new result }

@@ -343,7 +343,7 @@ pub fn immediate<'a, T: ReencodeItems>(
 ) -> Result<w::Imm<'a>, Error<T::Error>>
     requires { is_mapped imm ≡ true }
     ensures kind { IfOk result
-        (λ made. instructions.imm_kind made ≡ immediates.kind_of_imm imm.entry) }
+        (λ made. instructions.imm_kind made ≡ immediates.imm_kind imm.entry) }
     ensures default { IsTrue T.keeps_defaults
         → Maps T.reply T.next reencoder.old (immediates.imm_tree imm.entry)
         instructions.imm_tree reencoder.new result }
