@@ -76,3 +76,6 @@ hook_visited reply next v e answer never k = one_visited v (answer (never_wants 
 pub handed : {A E : Type 0} {e : E} (r : Result A E) → IsErrAnd r (λ x. x ≡ e) → r ≡ Err e
 handed (Ok a) h = absurd h
 handed (Err x) h = ap (λ y. Err y) h
+
+-- what two parts leave, one behind the other
+pub ruleset two_parts = (first_visited, second_part)

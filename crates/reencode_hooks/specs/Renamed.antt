@@ -6,8 +6,9 @@ use Rattle.std.proofs.lemmas.Bool.{ltb-true}
 use Rattle.wasm_shapes.specs.declared.Space.{Space}
 use Rattle.wasm_shapes.specs.declared.Space.TheVariants as space
 use Rattle.wasm_shapes.specs.declared.Visit.TheVariants.{Index, Outer, Section, Push, Pop}
+use Rattle.wasm_shapes.specs.Types.{is_core}
 use Rattle.reencode_hooks.specs.Hooks.{IsAnswer, KeepsAnswers, is_of_components}
-use Rattle.reencode_hooks.specs.Renamings.{is_core_space, if_index, entry_of, entries_in, or_itself, renamer_reply}
+use Rattle.reencode_hooks.specs.Renamings.{if_index, entry_of, entries_in, or_itself, renamer_reply}
 use Rattle.std.specs.FinMap as map
 
 within : (b : Bool) (n : ℕ) → nat_lt n (2 ^ 32) ≡ b → IfSome (if b then Some n else None) (λ m. m < 2 ^ 32)
@@ -18,7 +19,7 @@ small : (o : Option ℕ) → IfSome (if_index o) (λ m. m < 2 ^ 32)
 small (Some n) = within (nat_lt n (2 ^ 32)) n refl
 small None = tt
 
-core_alone : (p : Space) → is_core_space p ≡ true → is_of_components p ≡ false
+core_alone : (p : Space) → is_core p ≡ true → is_of_components p ≡ false
 core_alone space.Data e = refl
 core_alone space.Element e = refl
 core_alone space.Function e = refl
@@ -40,8 +41,8 @@ answers None true p k i s h c = (c refl, c refl)
 answers None false p k i s h c = (h, h)
 
 pub renamer_answers : KeepsAnswers renamer_reply
-renamer_answers r (Index p i) h = (answers (entry_of r p i) (r.strict && is_core_space p) p 0 i (small (map.get (entries_in r p) i)) h (λ e. core_alone p (second r.strict (is_core_space p) e))).0
-renamer_answers r (Outer p k i) h = (answers (entry_of r p i) (r.strict && is_core_space p) p k i (small (map.get (entries_in r p) i)) h.1 (λ e. core_alone p (second r.strict (is_core_space p) e))).1
+renamer_answers r (Index p i) h = (answers (entry_of r p i) (r.strict && is_core p) p 0 i (small (map.get (entries_in r p) i)) h (λ e. core_alone p (second r.strict (is_core p) e))).0
+renamer_answers r (Outer p k i) h = (answers (entry_of r p i) (r.strict && is_core p) p k i (small (map.get (entries_in r p) i)) h.1 (λ e. core_alone p (second r.strict (is_core p) e))).1
 renamer_answers r (Section a b) h = refl
 renamer_answers r Push h = refl
 renamer_answers r Pop h = refl

@@ -9,6 +9,7 @@ use Rattle.wasm_shapes.specs.declared.Space.TheVariants as space
 use Rattle.wasm_shapes.specs.declared.Visit.{Visit}
 use Rattle.wasm_shapes.specs.declared.Visit.TheVariants.{Index, Outer, Section, Push, Pop}
 use Rattle.wasm_shapes.specs.Names.{space_name}
+use Rattle.wasm_shapes.specs.Types.{is_core}
 use Rattle.reencode_hooks.specs.declared.asked.Asked.{Asked}
 use Rattle.reencode_hooks.specs.declared.asked.Asked.TheVariants as what
 use Rattle.reencode_hooks.specs.declared.asked.Unmapped.{Unmapped}
@@ -61,18 +62,6 @@ count_place what.SectionHook = 16
 count_place what.Push = 17
 count_place what.Pop = 18
 
--- the index spaces of core modules, of which a strict renamer refuses what it has no entry for
-abbrev pub is_core_space : Space → Bool
-is_core_space space.Data = true
-is_core_space space.Element = true
-is_core_space space.Function = true
-is_core_space space.Global = true
-is_core_space space.Memory = true
-is_core_space space.Table = true
-is_core_space space.Tag = true
-is_core_space space.Type_ = true
-is_core_space _ = false
-
 -- no entries, not strict, and all counts 0
 abbrev pub no_renaming : Renaming
 no_renaming = record { entries = replicate 16 map.empty; strict = false; counts = replicate 19 0 }
@@ -98,9 +87,9 @@ abbrev pub or_itself : Option ℕ → Bool → Space → ℕ → Result ℕ Unma
 or_itself (Some n) refuses p i = Ok n
 or_itself None refuses p i = if refuses then Err (record { space = p; index = i }) else Ok i
 
--- the answer to an index: its entry, else itself, unless a strict renamer refuses it
+-- the answer to an index: its entry, else itself, unless it is one of a core module and a strict renamer refuses it
 abbrev pub renamed : Renaming → Space → ℕ → Result ℕ Unmapped
-renamed r p i = or_itself (entry_of r p i) (r.strict && is_core_space p) p i
+renamed r p i = or_itself (entry_of r p i) (r.strict && is_core p) p i
 
 -- how often it was asked
 abbrev pub count_of : Renaming → Asked → ℕ

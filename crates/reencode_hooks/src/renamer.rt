@@ -1,7 +1,7 @@
 //! A reencoder that renames indices, and counts what it is asked.
 ghost use Rattle.std.specs.Prelude.{◌≡◌, ◌<◌, OnOk, OnErr};
 ghost use Rattle.reencode_hooks.specs.declared.asked.Asked.TheVariants.{Of};
-ghost use Rattle.reencode_hooks.specs.Renamings.{no_renaming, with_entry, count_of, noted, renamed, space_number, count_place, is_core_space};
+ghost use Rattle.reencode_hooks.specs.Renamings.{no_renaming, with_entry, count_of, noted, renamed, space_number, count_place};
 
 use crate::asked::{Asked, Unmapped};
 use crate::error::Error;
@@ -74,31 +74,6 @@ fn place(what: Asked) -> usize
         Asked::SectionHook => 16,
         Asked::Push => 17,
         Asked::Pop => 18,
-    }
-}
-
-// Whether a space is one of core modules.
-#[inline(always)]
-fn is_core(space: Space) -> bool
-    ensures { result ≡ is_core_space space }
-{
-    match space {
-        Space::Data
-        | Space::Element
-        | Space::Function
-        | Space::Global
-        | Space::Memory
-        | Space::Table
-        | Space::Tag
-        | Space::Type_ => true,
-        Space::DataCount
-        | Space::ComponentType
-        | Space::ComponentInstance
-        | Space::ComponentFunc
-        | Space::Component
-        | Space::Module
-        | Space::Instance
-        | Space::ComponentValue => false,
     }
 }
 
@@ -178,7 +153,7 @@ impl Renamer {
         match table.get(index) {
             Some(to) => Ok(to),
             None => {
-                if self.strict && is_core(space) {
+                if self.strict && space.is_core() {
                     Err(Unmapped { space, index })
                 } else {
                     Ok(index)

@@ -9,7 +9,7 @@ use Rattle.reencode_hooks.specs.declared.error.Error.{Error}
 use Rattle.reencode_hooks.specs.Run.{Step, accepted, refused, and_then, Visited}
 use Rattle.reencode_hooks.specs.Walk.{walk}
 use Rattle.reencode_hooks.proofs.Agrees.{and_then-and_then}
-use Rattle.reencode_hooks.proofs.Leaving.{first_visited}
+use Rattle.reencode_hooks.proofs.Leaving.{first_visited, walk_left}
 
 -- a tree that may be left out, walked where it is there
 abbrev option_walked : {S E : Type 0} → (S → Visit → Step S (Error E) ℕ) → ℕ → S → Option Tree → Step S (Error E) (Option Tree)
@@ -56,5 +56,7 @@ module _ {S E : Type 0} {asked : S → Visit → Step S (Error E) ℕ} {s m : S}
       Visited asked s (visits (shared_composite_tree b (behind_described j (behind_descriptor i t)))) m
   inner_leaves b i j t v = shared_leaves (behind_described j (behind_descriptor i t)) b (describing_leaves (behind_descriptor i t) j (described_leaves t i v))
 
--- what proves the walk over a composite type
+-- what proves the walk over a composite type, and what an error of it leaves
 pub ruleset composites = (walk_shared, walk_descriptor, walk_described)
+
+pub ruleset composite_goals = (composites, inner_leaves, walk_left)

@@ -1,11 +1,12 @@
 -- The walks over operators and their immediates.
-use Rattle.std.proofs.Common.{◌≡◌, ℕ, ◌+◌, ◌&&◌, nat_le, Bool, true, false, if◌then◌else◌, List, [], ◌∷◌, ◌++◌, length, Option, Some, None, Result, Ok, Err, refl, sym, ap, ap₂, ◌∙◌, subst, append_assoc, append-nil, arith}
+use Rattle.std.proofs.Common.{◌≡◌, ℕ, ◌+◌, ◌&&◌, nat_le, Bool, true, false, if◌then◌else◌, List, [], ◌∷◌, ◌++◌, length, Option, Some, None, Result, Ok, Err, refl, sym, ap, ◌∙◌, subst, append_assoc, append-nil, arith}
 use Rattle.std.specs.Prelude.{map, IsTrue}
 use Rattle.std.proofs.lemmas.List.{map-append}
 use Rattle.wasm_shapes.specs.declared.Visit.{Visit}
 use Rattle.wasm_shapes.specs.declared.ImmKind.{ImmKind}
 use Rattle.wasm_shapes.specs.declared.Opcode.{Opcode}
 use Rattle.wasm_shapes.specs.Operators.{Code, plain, prefixed, Operators, look_up, kinds_among, kinds_of, code_of, one_byte_operators, prefixed_operators}
+use Rattle.wasm_shapes.specs.Immediates.{AreOfRow, HasKinds}
 use Rattle.wasm_shapes.specs.Tree.{Tree, visits}
 use Rattle.wasm_shapes.proofs.Lists.{both}
 use Rattle.wasm_leb.specs.declared.fault.ReadError.{ReadError}
@@ -53,43 +54,26 @@ kinds_mapped : (c : Code) (ks : List ImmKind) → kinds_among true c ≡ Some ks
 kinds_mapped (plain b) ks e = row_mapped (one_byte_operators true) b ks refl e
 kinds_mapped (prefixed p n) ks e = row_mapped (prefixed_operators p) n ks (prefixed_mapped p) e
 
--- an immediate of such a kind is mapped
-imm_mapped : (m : ReadImm) (k : ImmKind) → read.kind_of_imm m ≡ Some k → is_mapped_kind k ≡ true → is_mapped m ≡ true
-imm_mapped m k e h = ap has_mapped e ∙ h
-
 -- each of these immediates is mapped
 abbrev pub AllMapped : List ReadImm → Type 0
 AllMapped [] = Unit {0}
 AllMapped (m ∷ ms) = (is_mapped m ≡ true) × AllMapped ms
 
-all_mapped : (ks : List ImmKind) (ms : List ReadImm) → are_mapped ks ≡ true → read.AreOf ks ms → AllMapped ms
-all_mapped [] [] h f = tt
-all_mapped [] (m ∷ ms) h f = absurd f
-all_mapped (k ∷ ks) [] h f = absurd f
+all_mapped : (ks : List ImmKind) (ms : List ReadImm) → are_mapped ks ≡ true → map read.imm_kind ms ≡ map Some ks → AllMapped ms
+all_mapped ks [] h f = tt
+all_mapped [] (m ∷ ms) h f = absurd cc
 all_mapped (k ∷ ks) (m ∷ ms) h f =
-    let parts : (is_mapped_kind k ≡ true) × (are_mapped ks ≡ true) = both _ _ h in (imm_mapped m k f.0 parts.0, all_mapped ks ms parts.1 f.1)
+    let parts : (is_mapped_kind k ≡ true) × (are_mapped ks ≡ true) = both _ _ h in
+    let first : read.imm_kind m ≡ Some k = cc in
+    let others : map read.imm_kind ms ≡ map Some ks = cc in
+    (ap has_mapped first ∙ parts.0, all_mapped ks ms parts.1 others)
 
 -- the immediates of an operator are mapped
-pub operator_mapped : (op : Opcode) (ms : List ReadImm) → read.FitOpcode op ms → AllMapped ms
+pub operator_mapped : (op : Opcode) (ms : List ReadImm) → HasKinds op (map read.imm_kind ms) → AllMapped ms
 operator_mapped op ms f = go (kinds_of op) refl f
   where
-    go : (o : Option (List ImmKind)) → kinds_of op ≡ o → read.AreOfRow o ms → AllMapped ms
+    go : (o : Option (List ImmKind)) → kinds_of op ≡ o → AreOfRow o (map read.imm_kind ms) → AllMapped ms
     go (Some ks) e f = all_mapped ks ms (kinds_mapped (code_of op) ks e) f
-    go None e f = absurd f
-
--- what is made of them, kind by kind, is of the operator's kinds
-pub operator_kinds : (op : Opcode) (ms : List ReadImm) (made : List WrittenImm) → read.FitOpcode op ms →
-    map write.imm_kind made ≡ map read.kind_of_imm ms → write.HasKinds op made
-operator_kinds op ms made f same = go (kinds_of op) refl f
-  where
-    are : (ks : List ImmKind) (ms : List ReadImm) → read.AreOf ks ms → map read.kind_of_imm ms ≡ map Some ks
-    are [] [] f = refl
-    are [] (m ∷ ms) f = absurd f
-    are (k ∷ ks) [] f = absurd f
-    are (k ∷ ks) (m ∷ ms) f = ap₂ (λ (x : Option ImmKind) (xs : List (Option ImmKind)). x ∷ xs) f.0 (are ks ms f.1)
-
-    go : (o : Option (List ImmKind)) → kinds_of op ≡ o → read.AreOfRow o ms → write.HasKinds op made
-    go (Some ks) e f = record { kinds = ks; row = e; same = same ∙ are ks ms f }
     go None e f = absurd f
 
 -- ---- immediates one behind another
@@ -110,7 +94,7 @@ pub record ImmsDone {S E : Type 0} (asked : S → Visit → Step S (Error E) ℕ
   pub parts : gone ++ rest ≡ imms
   pub counted : count ≡ length rest
   pub all_mapped : AllMapped rest
-  pub kinds : map write.imm_kind made ≡ map read.kind_of_imm gone
+  pub kinds : map write.imm_kind made ≡ map read.imm_kind gone
   pub walks : IsTrue keeps → (c : ℕ) → walk asked c s0 (read.imms_tree imms) ≡ onto_pairs (map write.imm_tree made) (walk asked c s (read.imms_tree rest))
   -- what was asked of the rest was asked behind the first
   pub onward : IsTrue keeps → (m : S) → Visited asked s (visits (read.imms_tree rest)) m → Visited asked s0 (visits (read.imms_tree imms)) m
@@ -155,14 +139,14 @@ module _ {S E : Type 0} {asked : S → Visit → Step S (Error E) ℕ} {keeps : 
     pub next_mapped : is_mapped x ≡ true
     next_mapped = (subst AllMapped next done.all_mapped).0
 
-    pub imms_more : {m : S} {more : List WrittenImm} {n : ℕ} (b : WrittenImm) → count ≡ n + 1 → write.imm_kind b ≡ read.kind_of_imm x →
+    pub imms_more : {m : S} {more : List WrittenImm} {n : ℕ} (b : WrittenImm) → count ≡ n + 1 → write.imm_kind b ≡ read.imm_kind x →
         (IsTrue keeps → (c : ℕ) → walk asked c s (read.imm_tree x) ≡ accepted (write.imm_tree b) m) → more ≡ made ++ b ∷ [] →
         ImmsDone asked keeps s0 imms (gone ++ x ∷ []) others n m more
     imms_more {m = m} b fewer kind step pushed = record {
       parts = append_assoc gone (x ∷ []) others ∙ rw (← next) done.parts;
       counted = let many = done.counted in let short = ap length next in omega arith;
       all_mapped = (subst AllMapped next done.all_mapped).1;
-      kinds = rw (pushed, map-append write.imm_kind made (b ∷ []), map-append read.kind_of_imm gone (x ∷ [])) (rw (done.kinds, kind) refl);
+      kinds = rw (pushed, map-append write.imm_kind made (b ∷ []), map-append read.imm_kind gone (x ∷ [])) (rw (done.kinds, kind) refl);
       walks = λ k c.
           let tail : Step S (Error E) Tree = walk asked c m (read.imms_tree others) in
           let first : walk asked c s (Tree.pair (read.imm_tree x) (read.imms_tree others)) ≡ and_then tail (λ u n. accepted (Tree.pair (write.imm_tree b) u) n) = rw (step k c) refl in
@@ -188,11 +172,12 @@ module _ {S E : Type 0} {asked : S → Visit → Step S (Error E) ℕ} {keeps : 
 
   -- none is left
   module _ {s0 s : S} {imms gone rest : List ReadImm} {count : ℕ} {made : List WrittenImm} (done : ImmsDone asked keeps s0 imms gone rest count s made) (end : count ≡ 0) where
-    pub all_kinds : (op : Opcode) → read.FitOpcode op imms → write.HasKinds op made
+    pub all_kinds : (op : Opcode) → HasKinds op (map read.imm_kind imms) → HasKinds op (map write.imm_kind made)
     all_kinds op fit =
         let none : rest ≡ [] = none_left rest (sym end ∙ done.counted) in
         let all : gone ≡ imms = sym (append-nil gone) ∙ rw none at done.parts in
-        operator_kinds op imms made fit (done.kinds ∙ ap (map read.kind_of_imm) all)
+        let same : map write.imm_kind made ≡ map read.imm_kind imms = done.kinds ∙ ap (map read.imm_kind) all in
+        rw same fit
 
     pub operator_accepted : (code : Code) (c : ℕ) → IsTrue keeps →
         walk asked c s0 (Tree.op code (read.imms_tree imms)) ≡ accepted (Tree.op code (write.imms_tree made)) s

@@ -81,3 +81,6 @@ module _ {S E : Type 0} (asked : S → Visit → Step S (Error E) ℕ) (c : ℕ)
       (λ u. Tree.pair (Tree.fixed 0x62) u) (λ u. Tree.row 2 u) as_nullable (λ _. refl)
   walk_reference true (heap.Concrete i) =
       in_three (walk asked c s (read.signed_index i)) (λ u. Tree.row 1 u) (λ u. Tree.kept 0x63 u) (λ u. Tree.row 1 u) (λ u. Tree.row 3 u) as_nullable (λ _. refl)
+
+-- what proves the walk over a reference type
+pub ruleset references = (walk_reference, reference_written)

@@ -3,7 +3,7 @@ use Rattle.std.specs.Prelude.{Bool, true, false, Option, Some, None}
 use Rattle.wasm_shapes.specs.declared.ImmKind.{ImmKind}
 use Rattle.wasm_shapes.specs.declared.ImmKind.TheVariants as kind
 use Rattle.wasm_read.specs.declared.types.Imm.{Imm}
-use Rattle.wasm_read.specs.Immediates.{is_core, kind_of_imm}
+use Rattle.wasm_read.specs.Immediates.{is_core, imm_kind}
 
 -- the kinds of the operators in force: indices of the spaces of core modules, locals, and numbers of 32 bits
 abbrev pub is_mapped_kind : ImmKind → Bool
@@ -18,4 +18,4 @@ has_mapped None = false
 
 -- the immediate has a kind, and is of one of these
 abbrev pub is_mapped : Imm → Bool
-is_mapped imm = has_mapped (kind_of_imm imm)
+is_mapped imm = has_mapped (imm_kind imm)

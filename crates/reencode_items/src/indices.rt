@@ -20,7 +20,8 @@ pub(crate) fn type_index_unpacked<T: ReencodeIndices>(
     reencoder: &mut T,
     ty: r::UnpackedIndex,
 ) -> Result<u32, Error<T::Error>>
-    ensures default { Maps T.reply T.next reencoder.old (read.type_index ty) write.type_index reencoder.new result }
+    ensures default { Maps T.reply T.next reencoder.old (read.type_index ty)
+        write.type_index reencoder.new result }
     ensures sure { NeverWants T.sure result }
 {
     match ty {
@@ -80,7 +81,7 @@ pub(crate) fn immediate<'a, T: ReencodeIndices>(
 ) -> Result<w::Imm<'a>, Error<T::Error>>
     requires { is_mapped imm ≡ true }
     ensures kind { IfOk result
-        (λ made. instructions.imm_kind made ≡ immediates.kind_of_imm imm.entry) }
+        (λ made. instructions.imm_kind made ≡ immediates.imm_kind imm.entry) }
     ensures default { Maps T.reply T.next reencoder.old
         (immediates.imm_tree imm.entry) instructions.imm_tree reencoder.new result }
     ensures after_error { IsTrue T.sure

@@ -22,14 +22,15 @@ use wasm_write as w;
 /// visits, and answers the item with each index replaced by its hook's answer; the first refusal ends it and is the
 /// answer. A part of an item that has a method of its own is mapped by that method.
 ///
-/// The clause `default` of each method, and `sure` or `after_error`, hold where the reencoder keeps the defaults. `sure` says that
-/// memory is never wanting where no hook wants any, and `after_error` that every error then leaves the state after a front part of
-/// the item's visits, want of memory too.
+/// The clause `default` of each method, and `sure` or `after_error`, hold where the reencoder keeps the defaults. `sure`
+/// says that memory is never wanting where no hook wants any, and `after_error` that every error then leaves the state
+/// after a front part of the item's visits, want of memory too.
 pub trait ReencodeItems: ReencodeIndices {
     /// The index of a type. `CanonicalizedHeapTypeReference` comes for one inside a recursion group.
     fn type_index_unpacked(&mut self, ty: r::UnpackedIndex) -> Result<u32, Error<Self::Error>>
         ensures default { IsTrue Self.keeps_defaults
-            → Maps Self.reply Self.next self.old (read.type_index ty) write.type_index self.new result }
+            → Maps Self.reply Self.next self.old (read.type_index ty)
+            write.type_index self.new result }
         ensures sure { IsTrue Self.keeps_defaults → NeverWants Self.sure result }
     {
         indices::type_index_unpacked(self, ty)
@@ -42,7 +43,8 @@ pub trait ReencodeItems: ReencodeIndices {
         index: u32,
     ) -> Result<u32, Error<Self::Error>>
         ensures default { IsTrue Self.keeps_defaults
-            → Maps Self.reply Self.next self.old (read.item_tree kind index) (read.item_tree kind) self.new result }
+            → Maps Self.reply Self.next self.old (read.item_tree kind index)
+            (read.item_tree kind) self.new result }
         ensures sure { IsTrue Self.keeps_defaults → NeverWants Self.sure result }
     {
         indices::external_index(self, kind, index)
@@ -54,7 +56,8 @@ pub trait ReencodeItems: ReencodeIndices {
         value: r::AbstractHeapType,
     ) -> Result<w::AbstractHeapType, Error<Self::Error>>
         ensures default { IsTrue Self.keeps_defaults
-            → Maps Self.reply Self.next self.old (read.abstract_tree value) write.abstract_tree self.new result }
+            → Maps Self.reply Self.next self.old (read.abstract_tree value)
+            write.abstract_tree self.new result }
         ensures sure { IsTrue Self.keeps_defaults → NeverWants Self.sure result }
     {
         Ok(kinds::abstract_heap_type(value))
@@ -63,7 +66,8 @@ pub trait ReencodeItems: ReencodeIndices {
     /// An array by the type of its elements (section 5.3.8).
     fn array_type(&mut self, array_ty: r::ArrayType) -> Result<w::ArrayType, Error<Self::Error>>
         ensures default { IsTrue Self.keeps_defaults
-            → Maps Self.reply Self.next self.old (read.field_type_tree array_ty.0) (λ ty. write.field_type_tree ty.0) self.new result }
+            → Maps Self.reply Self.next self.old (read.field_type_tree array_ty.0)
+            (λ ty. write.field_type_tree ty.0) self.new result }
         ensures sure { IsTrue Self.keeps_defaults → NeverWants Self.sure result }
     {
         bodies::array_type!(self, array_ty)
@@ -73,7 +77,8 @@ pub trait ReencodeItems: ReencodeIndices {
     #[tactic(auto, using(crate::proofs::Parts::walk_signed))]
     fn cont_type(&mut self, cont_ty: r::ContType) -> Result<w::ContType, Error<Self::Error>>
         ensures default { IsTrue Self.keeps_defaults
-            → Maps Self.reply Self.next self.old (read.signed_index cont_ty.0) (λ ty. write.signed_index ty.0) self.new result }
+            → Maps Self.reply Self.next self.old (read.signed_index cont_ty.0)
+            (λ ty. write.signed_index ty.0) self.new result }
         ensures sure { IsTrue Self.keeps_defaults → NeverWants Self.sure result }
     {
         bodies::cont_type!(self, cont_ty)
@@ -86,7 +91,8 @@ pub trait ReencodeItems: ReencodeIndices {
         external_kind: r::ExternalKind,
     ) -> Result<w::ExportKind, Error<Self::Error>>
         ensures default { IsTrue Self.keeps_defaults
-            → (index : ℕ) → Gives (accepted (read.item_tree external_kind index) self.old) (λ kind. rows.item_tree kind index) self.new result }
+            → (index : ℕ) → Gives (accepted (read.item_tree external_kind index) self.old)
+            (λ kind. rows.item_tree kind index) self.new result }
         ensures sure { IsTrue Self.keeps_defaults → NeverWants Self.sure result }
     {
         Ok(kinds::export_kind(external_kind))
@@ -95,7 +101,8 @@ pub trait ReencodeItems: ReencodeIndices {
     /// A field of a structure or of an array (section 5.3.8).
     fn field_type(&mut self, field_ty: r::FieldType) -> Result<w::FieldType, Error<Self::Error>>
         ensures default { IsTrue Self.keeps_defaults
-            → Maps Self.reply Self.next self.old (read.field_type_tree field_ty) write.field_type_tree self.new result }
+            → Maps Self.reply Self.next self.old (read.field_type_tree field_ty)
+            write.field_type_tree self.new result }
         ensures sure { IsTrue Self.keeps_defaults → NeverWants Self.sure result }
     {
         bodies::field_type!(self, field_ty)
@@ -105,17 +112,19 @@ pub trait ReencodeItems: ReencodeIndices {
     #[tactic(auto, using(crate::proofs::Parts::walk_signed))]
     fn heap_type(&mut self, heap_type: r::HeapType) -> Result<w::HeapType, Error<Self::Error>>
         ensures default { IsTrue Self.keeps_defaults
-            → Maps Self.reply Self.next self.old (read.heap_type_tree heap_type) write.heap_type_tree self.new result }
+            → Maps Self.reply Self.next self.old (read.heap_type_tree heap_type)
+            write.heap_type_tree self.new result }
         ensures sure { IsTrue Self.keeps_defaults → NeverWants Self.sure result }
     {
         bodies::heap_type!(self, heap_type)
     }
 
     /// A reference type (section 5.3.4).
-    #[tactic(auto, using(crate::proofs::Parts::walk_reference, crate::proofs::Parts::reference_written))]
+    #[tactic(auto, using(crate::proofs::Parts::references))]
     fn ref_type(&mut self, ref_type: r::RefType) -> Result<w::RefType, Error<Self::Error>>
         ensures default { IsTrue Self.keeps_defaults
-            → Maps Self.reply Self.next self.old (read.ref_type_tree ref_type) write.ref_type_tree self.new result }
+            → Maps Self.reply Self.next self.old (read.ref_type_tree ref_type)
+            write.ref_type_tree self.new result }
         ensures sure { IsTrue Self.keeps_defaults → NeverWants Self.sure result }
     {
         bodies::ref_type!(self, ref_type)
@@ -127,7 +136,8 @@ pub trait ReencodeItems: ReencodeIndices {
         storage_ty: r::StorageType,
     ) -> Result<w::StorageType, Error<Self::Error>>
         ensures default { IsTrue Self.keeps_defaults
-            → Maps Self.reply Self.next self.old (read.storage_type_tree storage_ty) write.storage_type_tree self.new result }
+            → Maps Self.reply Self.next self.old (read.storage_type_tree storage_ty)
+            write.storage_type_tree self.new result }
         ensures sure { IsTrue Self.keeps_defaults → NeverWants Self.sure result }
     {
         bodies::storage_type!(self, storage_ty)
@@ -136,7 +146,8 @@ pub trait ReencodeItems: ReencodeIndices {
     /// A value type (section 5.3.5).
     fn val_type(&mut self, val_ty: r::ValType) -> Result<w::ValType, Error<Self::Error>>
         ensures default { IsTrue Self.keeps_defaults
-            → Maps Self.reply Self.next self.old (read.val_type_tree val_ty) write.val_type_tree self.new result }
+            → Maps Self.reply Self.next self.old (read.val_type_tree val_ty)
+            write.val_type_tree self.new result }
         ensures sure { IsTrue Self.keeps_defaults → NeverWants Self.sure result }
     {
         bodies::val_type!(self, val_ty)
@@ -144,31 +155,35 @@ pub trait ReencodeItems: ReencodeIndices {
 
     /// A composite type (section 5.3.8). What it holds is asked before the type that describes it, and that before the
     /// type that it describes.
-    #[tactic(auto, using(crate::proofs::Composites::composites, crate::proofs::Composites::inner_leaves, reencode_hooks::proofs::Leaving::walk_left))]
+    #[tactic(auto, using(crate::proofs::Composites::composite_goals))]
     fn composite_type(
         &mut self,
         alloc: Global,
         composite_ty: r::CompositeType,
     ) -> Result<w::CompositeType, Error<Self::Error>>
         ensures default { IsTrue Self.keeps_defaults
-            → Maps Self.reply Self.next self.old (read.composite_tree composite_ty) write.composite_tree self.new result }
+            → Maps Self.reply Self.next self.old (read.composite_tree composite_ty)
+            write.composite_tree self.new result }
         ensures after_error { IsTrue Self.keeps_defaults → IsTrue Self.sure
-            → LeavesVisited (ask Self.reply Self.next) self.old (visits (read.composite_tree composite_ty)) self.new result }
+            → LeavesVisited (ask Self.reply Self.next) self.old
+            (visits (read.composite_tree composite_ty)) self.new result }
     {
         bodies::composite_type!(self, alloc, composite_ty)
     }
 
     /// The parameters and results of a function (section 5.3.8).
-    #[tactic(auto, using(reencode_hooks::proofs::Leaving::first_visited, reencode_hooks::proofs::Leaving::second_part))]
+    #[tactic(auto, using(reencode_hooks::proofs::Leaving::two_parts))]
     fn func_type(
         &mut self,
         alloc: Global,
         func_ty: r::FuncType,
     ) -> Result<w::FuncType, Error<Self::Error>>
         ensures default { IsTrue Self.keeps_defaults
-            → Maps Self.reply Self.next self.old (read.func_type_tree func_ty) write.func_type_tree self.new result }
+            → Maps Self.reply Self.next self.old (read.func_type_tree func_ty)
+            write.func_type_tree self.new result }
         ensures after_error { IsTrue Self.keeps_defaults → IsTrue Self.sure
-            → LeavesVisited (ask Self.reply Self.next) self.old (visits (read.func_type_tree func_ty)) self.new result }
+            → LeavesVisited (ask Self.reply Self.next) self.old
+            (visits (read.func_type_tree func_ty)) self.new result }
     {
         bodies::func_type!(self, alloc, func_ty)
     }
@@ -180,9 +195,11 @@ pub trait ReencodeItems: ReencodeIndices {
         struct_ty: r::StructType,
     ) -> Result<w::StructType, Error<Self::Error>>
         ensures default { IsTrue Self.keeps_defaults
-            → Maps Self.reply Self.next self.old (read.fields_tree struct_ty.fields) (λ ty. vector_tree (map write.field_type_tree ty.fields)) self.new result }
+            → Maps Self.reply Self.next self.old (read.fields_tree struct_ty.fields)
+            (λ ty. vector_tree (map write.field_type_tree ty.fields)) self.new result }
         ensures after_error { IsTrue Self.keeps_defaults → IsTrue Self.sure
-            → LeavesVisited (ask Self.reply Self.next) self.old (visits (read.fields_tree struct_ty.fields)) self.new result }
+            → LeavesVisited (ask Self.reply Self.next) self.old
+            (visits (read.fields_tree struct_ty.fields)) self.new result }
     {
         bodies::struct_type!(self, alloc, struct_ty)
     }
@@ -194,9 +211,11 @@ pub trait ReencodeItems: ReencodeIndices {
         sub_ty: r::SubType,
     ) -> Result<w::SubType, Error<Self::Error>>
         ensures default { IsTrue Self.keeps_defaults
-            → Maps Self.reply Self.next self.old (read.sub_type_tree sub_ty) write.sub_type_tree self.new result }
+            → Maps Self.reply Self.next self.old (read.sub_type_tree sub_ty)
+            write.sub_type_tree self.new result }
         ensures after_error { IsTrue Self.keeps_defaults → IsTrue Self.sure
-            → LeavesVisited (ask Self.reply Self.next) self.old (visits (read.sub_type_tree sub_ty)) self.new result }
+            → LeavesVisited (ask Self.reply Self.next) self.old
+            (visits (read.sub_type_tree sub_ty)) self.new result }
     {
         bodies::sub_type!(self, alloc, sub_ty)
     }
@@ -209,9 +228,11 @@ pub trait ReencodeItems: ReencodeIndices {
     ) -> Result<List<w::ValType>, Error<Self::Error>>
         ensures counted { IfOk result (λ types. length types ≡ length val_tys) }
         ensures default { IsTrue Self.keeps_defaults
-            → Maps Self.reply Self.next self.old (read.val_types_tree val_tys) write.val_types_tree self.new result }
+            → Maps Self.reply Self.next self.old (read.val_types_tree val_tys)
+            write.val_types_tree self.new result }
         ensures after_error { IsTrue Self.keeps_defaults → IsTrue Self.sure
-            → LeavesVisited (ask Self.reply Self.next) self.old (visits (read.val_types_tree val_tys)) self.new result }
+            → LeavesVisited (ask Self.reply Self.next) self.old
+            (visits (read.val_types_tree val_tys)) self.new result }
     {
         bodies::val_types!(self, alloc, val_tys)
     }
@@ -219,7 +240,8 @@ pub trait ReencodeItems: ReencodeIndices {
     /// A table: its elements, by the method `ref_type`, and its limits (section 5.3.11).
     fn table_type(&mut self, table_ty: r::TableType) -> Result<w::TableType, Error<Self::Error>>
         ensures default { IsTrue Self.keeps_defaults
-            → Maps Self.reply Self.next self.old (read.table_type_tree table_ty) write.table_type_tree self.new result }
+            → Maps Self.reply Self.next self.old (read.table_type_tree table_ty)
+            write.table_type_tree self.new result }
         ensures sure { IsTrue Self.keeps_defaults → NeverWants Self.sure result }
     {
         bodies::table_type!(self, table_ty)
@@ -228,7 +250,8 @@ pub trait ReencodeItems: ReencodeIndices {
     /// A memory by its limits (section 5.3.12).
     fn memory_type(&mut self, memory_ty: r::MemoryType) -> Result<w::MemoryType, Error<Self::Error>>
         ensures default { IsTrue Self.keeps_defaults
-            → Maps Self.reply Self.next self.old (read.memory_type_tree memory_ty) write.memory_type_tree self.new result }
+            → Maps Self.reply Self.next self.old (read.memory_type_tree memory_ty)
+            write.memory_type_tree self.new result }
         ensures sure { IsTrue Self.keeps_defaults → NeverWants Self.sure result }
     {
         Ok(kinds::memory_type(memory_ty))
@@ -237,7 +260,8 @@ pub trait ReencodeItems: ReencodeIndices {
     /// A global: its type, by the method `val_type`, and whether it may change (section 5.3.13).
     fn global_type(&mut self, global_ty: r::GlobalType) -> Result<w::GlobalType, Error<Self::Error>>
         ensures default { IsTrue Self.keeps_defaults
-            → Maps Self.reply Self.next self.old (read.global_type_tree global_ty) write.global_type_tree self.new result }
+            → Maps Self.reply Self.next self.old (read.global_type_tree global_ty)
+            write.global_type_tree self.new result }
         ensures sure { IsTrue Self.keeps_defaults → NeverWants Self.sure result }
     {
         bodies::global_type!(self, global_ty)
@@ -246,8 +270,10 @@ pub trait ReencodeItems: ReencodeIndices {
     /// What a tag is for (section 5.3.14): with each index it is the same tag.
     fn tag_kind(&mut self, kind: r::TagKind) -> Result<w::TagKind, Error<Self::Error>>
         ensures default { IsTrue Self.keeps_defaults
-            → (index : ℕ) → Gives (accepted (read.tag_type_tree (record { kind = kind; func_type_idx = index })) self.old)
-            (λ made. write.tag_type_tree (record { kind = made; func_type_idx = index })) self.new result }
+            → (i : ℕ) → Gives
+            (accepted (read.tag_type_tree (record { kind = kind; func_type_idx = i })) self.old)
+            (λ made. write.tag_type_tree (record { kind = made; func_type_idx = i }))
+            self.new result }
         ensures sure { IsTrue Self.keeps_defaults → NeverWants Self.sure result }
     {
         Ok(kinds::tag_kind(kind))
@@ -256,7 +282,8 @@ pub trait ReencodeItems: ReencodeIndices {
     /// A tag, by the index of its function type (section 5.3.14).
     fn tag_type(&mut self, tag_ty: r::TagType) -> Result<w::TagType, Error<Self::Error>>
         ensures default { IsTrue Self.keeps_defaults
-            → Maps Self.reply Self.next self.old (read.tag_type_tree tag_ty) write.tag_type_tree self.new result }
+            → Maps Self.reply Self.next self.old (read.tag_type_tree tag_ty)
+            write.tag_type_tree self.new result }
         ensures sure { IsTrue Self.keeps_defaults → NeverWants Self.sure result }
     {
         bodies::tag_type!(self, tag_ty)
@@ -265,7 +292,8 @@ pub trait ReencodeItems: ReencodeIndices {
     /// The type of what is imported (section 5.3.15).
     fn entity_type(&mut self, type_ref: r::TypeRef) -> Result<w::EntityType, Error<Self::Error>>
         ensures default { IsTrue Self.keeps_defaults
-            → Maps Self.reply Self.next self.old (read.entity_tree type_ref) write.entity_tree self.new result }
+            → Maps Self.reply Self.next self.old (read.entity_tree type_ref)
+            write.entity_tree self.new result }
         ensures sure { IsTrue Self.keeps_defaults → NeverWants Self.sure result }
     {
         bodies::entity_type!(self, type_ref)
@@ -274,7 +302,8 @@ pub trait ReencodeItems: ReencodeIndices {
     /// The type of a block (section 5.4.1).
     fn block_type(&mut self, arg: r::BlockType) -> Result<w::BlockType, Error<Self::Error>>
         ensures default { IsTrue Self.keeps_defaults
-            → Maps Self.reply Self.next self.old (immediates.block_type_tree arg) instructions.block_type_tree self.new result }
+            → Maps Self.reply Self.next self.old (immediates.block_type_tree arg)
+            instructions.block_type_tree self.new result }
         ensures sure { IsTrue Self.keeps_defaults → NeverWants Self.sure result }
     {
         bodies::block_type!(self, arg)
@@ -288,11 +317,14 @@ pub trait ReencodeItems: ReencodeIndices {
         imm: r::Imm<'a>,
     ) -> Result<w::Imm<'a>, Error<Self::Error>>
         requires { is_mapped imm ≡ true }
-        ensures kind { IfOk result (λ made. instructions.imm_kind made ≡ immediates.kind_of_imm imm.entry) }
+        ensures kind { IfOk result
+            (λ made. instructions.imm_kind made ≡ immediates.imm_kind imm.entry) }
         ensures default { IsTrue Self.keeps_defaults
-            → Maps Self.reply Self.next self.old (immediates.imm_tree imm.entry) instructions.imm_tree self.new result }
+            → Maps Self.reply Self.next self.old (immediates.imm_tree imm.entry)
+            instructions.imm_tree self.new result }
         ensures after_error { IsTrue Self.keeps_defaults → IsTrue Self.sure
-            → LeavesVisited (ask Self.reply Self.next) self.old (visits (immediates.imm_tree imm.entry)) self.new result }
+            → LeavesVisited (ask Self.reply Self.next) self.old
+            (visits (immediates.imm_tree imm.entry)) self.new result }
     {
         indices::immediate(self, imm)
     }
@@ -304,9 +336,11 @@ pub trait ReencodeItems: ReencodeIndices {
         arg: r::Operator<'a>,
     ) -> Result<w::Instruction<'a>, Error<Self::Error>>
         ensures default { IsTrue Self.keeps_defaults
-            → Maps Self.reply Self.next self.old (immediates.operator_tree arg.entry) instructions.instruction_tree self.new result }
+            → Maps Self.reply Self.next self.old (immediates.operator_tree arg.entry)
+            instructions.instruction_tree self.new result }
         ensures after_error { IsTrue Self.keeps_defaults → IsTrue Self.sure
-            → LeavesVisited (ask Self.reply Self.next) self.old (visits (immediates.operator_tree arg.entry)) self.new result }
+            → LeavesVisited (ask Self.reply Self.next) self.old
+            (visits (immediates.operator_tree arg.entry)) self.new result }
     {
         bodies::instruction!(self, alloc, arg)
     }
@@ -323,7 +357,8 @@ pub trait ReencodeItems: ReencodeIndices {
     ) -> Result<w::Instruction<'a>, Error<Self::Error>>
         ensures taken { IfOk result (λ _. MovesOn reader.old reader.new) }
         ensures default { IsTrue Self.keeps_defaults
-            → ParsesOperator Self.reply Self.next self.old reader.old instructions.instruction_tree self.new reader.new result }
+            → ParsesOperator Self.reply Self.next self.old reader.old
+            instructions.instruction_tree self.new reader.new result }
         ensures after_error { IsTrue Self.keeps_defaults → IsTrue Self.sure
             → LeavesOperator (ask Self.reply Self.next) self.old reader.old self.new result }
     {

@@ -44,7 +44,9 @@ pub(crate) fn export_kind(external_kind: r::ExternalKind) -> w::ExportKind
 
 /// The kind of the same name.
 pub(crate) fn tag_kind(kind: r::TagKind) -> w::TagKind
-    ensures { (index : ℕ) → write.tag_type_tree (record { kind = result; func_type_idx = index }) ≡ read.tag_type_tree (record { kind = kind; func_type_idx = index }) }
+    ensures { (index : ℕ) →
+        write.tag_type_tree (record { kind = result; func_type_idx = index })
+        ≡ read.tag_type_tree (record { kind = kind; func_type_idx = index }) }
 {
     match kind {
         r::TagKind::Exception => w::TagKind::Exception,

@@ -50,7 +50,8 @@ pub fn type_index_unpacked<T: ReencodeItems>(
     ty: r::UnpackedIndex,
 ) -> Result<u32, Error<T::Error>>
     ensures default { IsTrue T.keeps_defaults
-        → Maps T.reply T.next reencoder.old (read.type_index ty) write.type_index reencoder.new result }
+        → Maps T.reply T.next reencoder.old (read.type_index ty)
+        write.type_index reencoder.new result }
     ensures sure { IsTrue T.keeps_defaults → NeverWants T.sure result }
 {
     indices::type_index_unpacked(reencoder, ty)
@@ -63,7 +64,8 @@ pub fn external_index<T: ReencodeItems>(
     index: u32,
 ) -> Result<u32, Error<T::Error>>
     ensures default { IsTrue T.keeps_defaults
-        → Maps T.reply T.next reencoder.old (read.item_tree kind index) (read.item_tree kind) reencoder.new result }
+        → Maps T.reply T.next reencoder.old (read.item_tree kind index)
+        (read.item_tree kind) reencoder.new result }
     ensures sure { IsTrue T.keeps_defaults → NeverWants T.sure result }
 {
     indices::external_index(reencoder, kind, index)
@@ -75,7 +77,8 @@ pub fn array_type<T: ReencodeItems>(
     array_ty: r::ArrayType,
 ) -> Result<w::ArrayType, Error<T::Error>>
     ensures default { IsTrue T.keeps_defaults
-        → Maps T.reply T.next reencoder.old (read.field_type_tree array_ty.0) (λ ty. write.field_type_tree ty.0) reencoder.new result }
+        → Maps T.reply T.next reencoder.old (read.field_type_tree array_ty.0)
+        (λ ty. write.field_type_tree ty.0) reencoder.new result }
     ensures sure { IsTrue T.keeps_defaults → NeverWants T.sure result }
 {
     bodies::array_type!(reencoder, array_ty)
@@ -88,7 +91,8 @@ pub fn cont_type<T: ReencodeItems>(
     cont_ty: r::ContType,
 ) -> Result<w::ContType, Error<T::Error>>
     ensures default { IsTrue T.keeps_defaults
-        → Maps T.reply T.next reencoder.old (read.signed_index cont_ty.0) (λ ty. write.signed_index ty.0) reencoder.new result }
+        → Maps T.reply T.next reencoder.old (read.signed_index cont_ty.0)
+        (λ ty. write.signed_index ty.0) reencoder.new result }
     ensures sure { IsTrue T.keeps_defaults → NeverWants T.sure result }
 {
     bodies::cont_type!(reencoder, cont_ty)
@@ -100,7 +104,8 @@ pub fn field_type<T: ReencodeItems>(
     field_ty: r::FieldType,
 ) -> Result<w::FieldType, Error<T::Error>>
     ensures default { IsTrue T.keeps_defaults
-        → Maps T.reply T.next reencoder.old (read.field_type_tree field_ty) write.field_type_tree reencoder.new result }
+        → Maps T.reply T.next reencoder.old (read.field_type_tree field_ty)
+        write.field_type_tree reencoder.new result }
     ensures sure { IsTrue T.keeps_defaults → NeverWants T.sure result }
 {
     bodies::field_type!(reencoder, field_ty)
@@ -113,20 +118,22 @@ pub fn heap_type<T: ReencodeItems>(
     heap_type: r::HeapType,
 ) -> Result<w::HeapType, Error<T::Error>>
     ensures default { IsTrue T.keeps_defaults
-        → Maps T.reply T.next reencoder.old (read.heap_type_tree heap_type) write.heap_type_tree reencoder.new result }
+        → Maps T.reply T.next reencoder.old (read.heap_type_tree heap_type)
+        write.heap_type_tree reencoder.new result }
     ensures sure { IsTrue T.keeps_defaults → NeverWants T.sure result }
 {
     bodies::heap_type!(reencoder, heap_type)
 }
 
 /// A reference type (section 5.3.4).
-#[tactic(auto, using(crate::proofs::Parts::walk_reference, crate::proofs::Parts::reference_written))]
+#[tactic(auto, using(crate::proofs::Parts::references))]
 pub fn ref_type<T: ReencodeItems>(
     reencoder: &mut T,
     ref_type: r::RefType,
 ) -> Result<w::RefType, Error<T::Error>>
     ensures default { IsTrue T.keeps_defaults
-        → Maps T.reply T.next reencoder.old (read.ref_type_tree ref_type) write.ref_type_tree reencoder.new result }
+        → Maps T.reply T.next reencoder.old (read.ref_type_tree ref_type)
+        write.ref_type_tree reencoder.new result }
     ensures sure { IsTrue T.keeps_defaults → NeverWants T.sure result }
 {
     bodies::ref_type!(reencoder, ref_type)
@@ -138,7 +145,8 @@ pub fn storage_type<T: ReencodeItems>(
     storage_ty: r::StorageType,
 ) -> Result<w::StorageType, Error<T::Error>>
     ensures default { IsTrue T.keeps_defaults
-        → Maps T.reply T.next reencoder.old (read.storage_type_tree storage_ty) write.storage_type_tree reencoder.new result }
+        → Maps T.reply T.next reencoder.old (read.storage_type_tree storage_ty)
+        write.storage_type_tree reencoder.new result }
     ensures sure { IsTrue T.keeps_defaults → NeverWants T.sure result }
 {
     bodies::storage_type!(reencoder, storage_ty)
@@ -150,7 +158,8 @@ pub fn val_type<T: ReencodeItems>(
     val_ty: r::ValType,
 ) -> Result<w::ValType, Error<T::Error>>
     ensures default { IsTrue T.keeps_defaults
-        → Maps T.reply T.next reencoder.old (read.val_type_tree val_ty) write.val_type_tree reencoder.new result }
+        → Maps T.reply T.next reencoder.old (read.val_type_tree val_ty)
+        write.val_type_tree reencoder.new result }
     ensures sure { IsTrue T.keeps_defaults → NeverWants T.sure result }
 {
     bodies::val_type!(reencoder, val_ty)
@@ -158,31 +167,35 @@ pub fn val_type<T: ReencodeItems>(
 
 /// A composite type (section 5.3.8). What it holds is asked before the type that describes it, and that before the
 /// type that it describes.
-#[tactic(auto, using(crate::proofs::Composites::composites, crate::proofs::Composites::inner_leaves, reencode_hooks::proofs::Leaving::walk_left))]
+#[tactic(auto, using(crate::proofs::Composites::composite_goals))]
 pub fn composite_type<T: ReencodeItems>(
     reencoder: &mut T,
     alloc: Global,
     composite_ty: r::CompositeType,
 ) -> Result<w::CompositeType, Error<T::Error>>
     ensures default { IsTrue T.keeps_defaults
-        → Maps T.reply T.next reencoder.old (read.composite_tree composite_ty) write.composite_tree reencoder.new result }
+        → Maps T.reply T.next reencoder.old (read.composite_tree composite_ty)
+        write.composite_tree reencoder.new result }
     ensures after_error { IsTrue T.keeps_defaults → IsTrue T.sure
-        → LeavesVisited (ask T.reply T.next) reencoder.old (visits (read.composite_tree composite_ty)) reencoder.new result }
+        → LeavesVisited (ask T.reply T.next) reencoder.old
+        (visits (read.composite_tree composite_ty)) reencoder.new result }
 {
     bodies::composite_type!(reencoder, alloc, composite_ty)
 }
 
 /// The parameters and results of a function (section 5.3.8).
-#[tactic(auto, using(reencode_hooks::proofs::Leaving::first_visited, reencode_hooks::proofs::Leaving::second_part))]
+#[tactic(auto, using(reencode_hooks::proofs::Leaving::two_parts))]
 pub fn func_type<T: ReencodeItems>(
     reencoder: &mut T,
     alloc: Global,
     func_ty: r::FuncType,
 ) -> Result<w::FuncType, Error<T::Error>>
     ensures default { IsTrue T.keeps_defaults
-        → Maps T.reply T.next reencoder.old (read.func_type_tree func_ty) write.func_type_tree reencoder.new result }
+        → Maps T.reply T.next reencoder.old (read.func_type_tree func_ty)
+        write.func_type_tree reencoder.new result }
     ensures after_error { IsTrue T.keeps_defaults → IsTrue T.sure
-        → LeavesVisited (ask T.reply T.next) reencoder.old (visits (read.func_type_tree func_ty)) reencoder.new result }
+        → LeavesVisited (ask T.reply T.next) reencoder.old
+        (visits (read.func_type_tree func_ty)) reencoder.new result }
 {
     bodies::func_type!(reencoder, alloc, func_ty)
 }
@@ -194,9 +207,11 @@ pub fn struct_type<T: ReencodeItems>(
     struct_ty: r::StructType,
 ) -> Result<w::StructType, Error<T::Error>>
     ensures default { IsTrue T.keeps_defaults
-        → Maps T.reply T.next reencoder.old (read.fields_tree struct_ty.fields) (λ ty. vector_tree (map write.field_type_tree ty.fields)) reencoder.new result }
+        → Maps T.reply T.next reencoder.old (read.fields_tree struct_ty.fields)
+        (λ ty. vector_tree (map write.field_type_tree ty.fields)) reencoder.new result }
     ensures after_error { IsTrue T.keeps_defaults → IsTrue T.sure
-        → LeavesVisited (ask T.reply T.next) reencoder.old (visits (read.fields_tree struct_ty.fields)) reencoder.new result }
+        → LeavesVisited (ask T.reply T.next) reencoder.old
+        (visits (read.fields_tree struct_ty.fields)) reencoder.new result }
 {
     bodies::struct_type!(reencoder, alloc, struct_ty)
 }
@@ -208,9 +223,11 @@ pub fn sub_type<T: ReencodeItems>(
     sub_ty: r::SubType,
 ) -> Result<w::SubType, Error<T::Error>>
     ensures default { IsTrue T.keeps_defaults
-        → Maps T.reply T.next reencoder.old (read.sub_type_tree sub_ty) write.sub_type_tree reencoder.new result }
+        → Maps T.reply T.next reencoder.old (read.sub_type_tree sub_ty)
+        write.sub_type_tree reencoder.new result }
     ensures after_error { IsTrue T.keeps_defaults → IsTrue T.sure
-        → LeavesVisited (ask T.reply T.next) reencoder.old (visits (read.sub_type_tree sub_ty)) reencoder.new result }
+        → LeavesVisited (ask T.reply T.next) reencoder.old
+        (visits (read.sub_type_tree sub_ty)) reencoder.new result }
 {
     bodies::sub_type!(reencoder, alloc, sub_ty)
 }
@@ -223,9 +240,11 @@ pub fn val_types<T: ReencodeItems>(
 ) -> Result<List<w::ValType>, Error<T::Error>>
     ensures counted { IfOk result (λ types. length types ≡ length val_tys) }
     ensures default { IsTrue T.keeps_defaults
-        → Maps T.reply T.next reencoder.old (read.val_types_tree val_tys) write.val_types_tree reencoder.new result }
+        → Maps T.reply T.next reencoder.old (read.val_types_tree val_tys)
+        write.val_types_tree reencoder.new result }
     ensures after_error { IsTrue T.keeps_defaults → IsTrue T.sure
-        → LeavesVisited (ask T.reply T.next) reencoder.old (visits (read.val_types_tree val_tys)) reencoder.new result }
+        → LeavesVisited (ask T.reply T.next) reencoder.old
+        (visits (read.val_types_tree val_tys)) reencoder.new result }
 {
     bodies::val_types!(reencoder, alloc, val_tys)
 }
@@ -236,7 +255,8 @@ pub fn table_type<T: ReencodeItems>(
     table_ty: r::TableType,
 ) -> Result<w::TableType, Error<T::Error>>
     ensures default { IsTrue T.keeps_defaults
-        → Maps T.reply T.next reencoder.old (read.table_type_tree table_ty) write.table_type_tree reencoder.new result }
+        → Maps T.reply T.next reencoder.old (read.table_type_tree table_ty)
+        write.table_type_tree reencoder.new result }
     ensures sure { IsTrue T.keeps_defaults → NeverWants T.sure result }
 {
     bodies::table_type!(reencoder, table_ty)
@@ -257,7 +277,8 @@ pub fn global_type<T: ReencodeItems>(
     global_ty: r::GlobalType,
 ) -> Result<w::GlobalType, Error<T::Error>>
     ensures default { IsTrue T.keeps_defaults
-        → Maps T.reply T.next reencoder.old (read.global_type_tree global_ty) write.global_type_tree reencoder.new result }
+        → Maps T.reply T.next reencoder.old (read.global_type_tree global_ty)
+        write.global_type_tree reencoder.new result }
     ensures sure { IsTrue T.keeps_defaults → NeverWants T.sure result }
 {
     bodies::global_type!(reencoder, global_ty)
@@ -265,7 +286,9 @@ pub fn global_type<T: ReencodeItems>(
 
 /// What a tag is for (section 5.3.14): with each index it is the same tag.
 pub fn tag_kind<T: ReencodeItems>(reencoder: &mut T, kind: r::TagKind) -> w::TagKind
-    ensures value { (index : ℕ) → write.tag_type_tree (record { kind = result; func_type_idx = index }) ≡ read.tag_type_tree (record { kind = kind; func_type_idx = index }) }
+    ensures value { (index : ℕ) →
+        write.tag_type_tree (record { kind = result; func_type_idx = index })
+        ≡ read.tag_type_tree (record { kind = kind; func_type_idx = index }) }
     ensures state { reencoder.new ≡ reencoder.old }
 {
     let _ = reencoder;
@@ -278,7 +301,8 @@ pub fn tag_type<T: ReencodeItems>(
     tag_ty: r::TagType,
 ) -> Result<w::TagType, Error<T::Error>>
     ensures default { IsTrue T.keeps_defaults
-        → Maps T.reply T.next reencoder.old (read.tag_type_tree tag_ty) write.tag_type_tree reencoder.new result }
+        → Maps T.reply T.next reencoder.old (read.tag_type_tree tag_ty)
+        write.tag_type_tree reencoder.new result }
     ensures sure { IsTrue T.keeps_defaults → NeverWants T.sure result }
 {
     bodies::tag_type!(reencoder, tag_ty)
@@ -290,7 +314,8 @@ pub fn entity_type<T: ReencodeItems>(
     type_ref: r::TypeRef,
 ) -> Result<w::EntityType, Error<T::Error>>
     ensures default { IsTrue T.keeps_defaults
-        → Maps T.reply T.next reencoder.old (read.entity_tree type_ref) write.entity_tree reencoder.new result }
+        → Maps T.reply T.next reencoder.old (read.entity_tree type_ref)
+        write.entity_tree reencoder.new result }
     ensures sure { IsTrue T.keeps_defaults → NeverWants T.sure result }
 {
     bodies::entity_type!(reencoder, type_ref)
@@ -302,7 +327,8 @@ pub fn block_type<T: ReencodeItems>(
     arg: r::BlockType,
 ) -> Result<w::BlockType, Error<T::Error>>
     ensures default { IsTrue T.keeps_defaults
-        → Maps T.reply T.next reencoder.old (immediates.block_type_tree arg) instructions.block_type_tree reencoder.new result }
+        → Maps T.reply T.next reencoder.old (immediates.block_type_tree arg)
+        instructions.block_type_tree reencoder.new result }
     ensures sure { IsTrue T.keeps_defaults → NeverWants T.sure result }
 {
     bodies::block_type!(reencoder, arg)
@@ -316,11 +342,14 @@ pub fn immediate<'a, T: ReencodeItems>(
     imm: r::Imm<'a>,
 ) -> Result<w::Imm<'a>, Error<T::Error>>
     requires { is_mapped imm ≡ true }
-    ensures kind { IfOk result (λ made. instructions.imm_kind made ≡ immediates.kind_of_imm imm.entry) }
+    ensures kind { IfOk result
+        (λ made. instructions.imm_kind made ≡ immediates.imm_kind imm.entry) }
     ensures default { IsTrue T.keeps_defaults
-        → Maps T.reply T.next reencoder.old (immediates.imm_tree imm.entry) instructions.imm_tree reencoder.new result }
+        → Maps T.reply T.next reencoder.old (immediates.imm_tree imm.entry)
+        instructions.imm_tree reencoder.new result }
     ensures after_error { IsTrue T.keeps_defaults → IsTrue T.sure
-        → LeavesVisited (ask T.reply T.next) reencoder.old (visits (immediates.imm_tree imm.entry)) reencoder.new result }
+        → LeavesVisited (ask T.reply T.next) reencoder.old
+        (visits (immediates.imm_tree imm.entry)) reencoder.new result }
 {
     indices::immediate(reencoder, imm)
 }
@@ -332,9 +361,11 @@ pub fn instruction<'a, T: ReencodeItems>(
     arg: r::Operator<'a>,
 ) -> Result<w::Instruction<'a>, Error<T::Error>>
     ensures default { IsTrue T.keeps_defaults
-        → Maps T.reply T.next reencoder.old (immediates.operator_tree arg.entry) instructions.instruction_tree reencoder.new result }
+        → Maps T.reply T.next reencoder.old (immediates.operator_tree arg.entry)
+        instructions.instruction_tree reencoder.new result }
     ensures after_error { IsTrue T.keeps_defaults → IsTrue T.sure
-        → LeavesVisited (ask T.reply T.next) reencoder.old (visits (immediates.operator_tree arg.entry)) reencoder.new result }
+        → LeavesVisited (ask T.reply T.next) reencoder.old
+        (visits (immediates.operator_tree arg.entry)) reencoder.new result }
 {
     bodies::instruction!(reencoder, alloc, arg)
 }
@@ -351,7 +382,8 @@ pub fn parse_instruction<'a, T: ReencodeItems>(
 ) -> Result<w::Instruction<'a>, Error<T::Error>>
     ensures taken { IfOk result (λ _. MovesOn reader.old reader.new) }
     ensures default { IsTrue T.keeps_defaults
-        → ParsesOperator T.reply T.next reencoder.old reader.old instructions.instruction_tree reencoder.new reader.new result }
+        → ParsesOperator T.reply T.next reencoder.old reader.old
+        instructions.instruction_tree reencoder.new reader.new result }
     ensures after_error { IsTrue T.keeps_defaults → IsTrue T.sure
         → LeavesOperator (ask T.reply T.next) reencoder.old reader.old reencoder.new result }
 {

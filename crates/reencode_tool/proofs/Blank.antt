@@ -13,7 +13,8 @@ use Rattle.wasm_shapes.proofs.OwnAnswers.{fill_own}
 use Rattle.reencode_hooks.specs.declared.asked.Unmapped.{Unmapped}
 use Rattle.reencode_hooks.specs.declared.error.Error.{Error}
 use Rattle.reencode_hooks.specs.declared.error.Error.TheVariants.{TooLarge}
-use Rattle.reencode_hooks.specs.Renamings.{Renaming, Entries, no_renaming, entries_in, entry_of, if_index, or_itself, is_core_space, renamed, space_number, renamer_reply, renamer_next}
+use Rattle.wasm_shapes.specs.Types.{is_core}
+use Rattle.reencode_hooks.specs.Renamings.{Renaming, Entries, no_renaming, entries_in, entry_of, if_index, or_itself, renamed, space_number, renamer_reply, renamer_next}
 use Rattle.reencode_hooks.specs.Run.{Step, accepted, refused, ask, answered, run, answers}
 use Rattle.reencode_hooks.specs.Walk.{walk}
 use Rattle.reencode_hooks.specs.Moments as moment
@@ -40,7 +41,7 @@ itself : {r : Renaming} → Blank r → (p : Space) (i : ℕ) → renamed r p i 
 itself {r} b p i =
     let none : entries_in r p ≡ entries.empty = ap (λ (e : List Entries). slice_index_or e (space_number p) entries.empty) b.entries ∙ no_entries p in
     let entry : entry_of r p i ≡ None = ap (λ (e : Entries). if_index (entries.get e i)) none ∙ ap if_index (entries.get-empty _ i) in
-    ap₂ (λ (o : Option ℕ) (s : Bool). or_itself o (s && is_core_space p) p i) entry b.strict
+    ap₂ (λ (o : Option ℕ) (s : Bool). or_itself o (s && is_core p) p i) entry b.strict
 
 abbrev pub asks : Renaming → Visit → Step Renaming (Error Unmapped) ℕ
 asks s v = ask renamer_reply renamer_next s v

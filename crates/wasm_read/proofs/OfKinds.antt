@@ -1,5 +1,5 @@
 -- Immediates of some kinds, one by one.
-use Rattle.std.proofs.Common.{◌≡◌, ℕ, zero, suc, get_or, List, [], ◌∷◌, ◌++◌, ◌<◌, ◌+◌, length, length-append, true, refl, sym, ap, ◌∙◌, append_assoc, append-nil, arith, ◌^◌, Some, subst, Bool, false, ◌&&◌, nat_le, if◌then◌else◌}
+use Rattle.std.proofs.Common.{◌≡◌, ℕ, zero, suc, get_or, List, [], ◌∷◌, ◌++◌, ◌<◌, ◌+◌, length, length-append, true, refl, sym, ap, ◌∙◌, append_assoc, append-nil, arith, ◌^◌, map, Some, subst, Bool, false, ◌&&◌, nat_le, if◌then◌else◌}
 use Rattle.std.proofs.lemmas.Bool.{lt-ltb}
 use Rattle.wasm_shapes.specs.declared.ImmKind.{ImmKind}
 use Rattle.wasm_shapes.specs.declared.ImmKind.TheVariants as kind
@@ -12,7 +12,7 @@ use Rattle.wasm_shapes.specs.Place.{Begins, BeginsNone}
 use Rattle.wasm_shapes.proofs.Begins.{begins_empty, begins_byte, at_byte, begins_seq, none_seq_first, none_seq_second}
 use Rattle.wasm_shapes.proofs.Lists.{both}
 use Rattle.wasm_read.specs.declared.types.Imm.{Imm}
-use Rattle.wasm_read.specs.Immediates.{AreOf, imm_tree, imms_tree, kind_of_imm, is_counted}
+use Rattle.wasm_read.specs.Immediates.{imm_tree, imms_tree, imm_kind, is_counted}
 use Rattle.wasm_read.specs.Operations.{is_core_kind, AreCore}
 
 -- no spelling of an immediate begins another of its kind
@@ -25,7 +25,7 @@ kind_sound _ = (refl, refl)
 pub record ImmsSoFar (kinds : List ImmKind) (bytes : List ℕ) (imms : List Imm) (due : List ImmKind) (rest : List ℕ) : Type 0 where
   pub begins : (others : List Imm) (left : List ℕ) → Begins (shape_of_kinds due) rest (imms_tree others) left →
       Begins (shape_of_kinds kinds) bytes (imms_tree (imms ++ others)) left
-  pub kinded : (others : List Imm) → AreOf due others → AreOf kinds (imms ++ others)
+  pub kinded : (others : List Imm) → map imm_kind others ≡ map Some due → map imm_kind (imms ++ others) ≡ map Some kinds
   pub stuck : BeginsNone (shape_of_kinds due) rest → BeginsNone (shape_of_kinds kinds) bytes
 
 pub no_imms_yet : (kinds : List ImmKind) (bytes : List ℕ) → ImmsSoFar kinds bytes [] kinds bytes
@@ -38,13 +38,13 @@ so_far_of {kinds = kinds} {bytes = bytes} {rest = rest} {imms = imms} e so_far =
     let S : List ImmKind → Type 0 = λ ds. ImmsSoFar kinds bytes imms ds rest in subst S e so_far
 
 pub one_imm_more : {kinds due others : List ImmKind} {bytes rest left : List ℕ} (imms : List Imm) (k : ImmKind) (m : Imm) → due ≡ k ∷ others →
-    ImmsSoFar kinds bytes imms due rest → Begins (shape_of_kind k) rest (imm_tree m) left → kind_of_imm m ≡ Some k →
+    ImmsSoFar kinds bytes imms due rest → Begins (shape_of_kind k) rest (imm_tree m) left → imm_kind m ≡ Some k →
     ImmsSoFar kinds bytes (imms ++ m ∷ []) others left
 one_imm_more imms k m e before there same =
     let so_far = so_far_of e before in
     record {
       begins = λ others left p. rw (append_assoc imms (m ∷ []) others) (so_far.begins (m ∷ others) left (begins_seq there p));
-      kinded = λ others p. rw (append_assoc imms (m ∷ []) others) (so_far.kinded (m ∷ others) (same, p));
+      kinded = λ others p. rw (append_assoc imms (m ∷ []) others) (so_far.kinded (m ∷ others) (rw (same, p) refl));
       stuck = λ none. so_far.stuck (none_seq_second (kind_sound k).0 (kind_sound k).1 there none);
     }
 
@@ -54,12 +54,12 @@ no_imm e so_far none = (so_far_of e so_far).stuck (none_seq_first none)
 
 -- none is due
 pub imms_ended : {kinds due : List ImmKind} {bytes rest : List ℕ} (imms : List Imm) → due ≡ [] → ImmsSoFar kinds bytes imms due rest →
-    Begins (shape_of_kinds kinds) bytes (imms_tree imms) rest × AreOf kinds imms
+    Begins (shape_of_kinds kinds) bytes (imms_tree imms) rest × (map imm_kind imms ≡ map Some kinds)
 imms_ended {kinds = kinds} {bytes = bytes} {rest = rest} imms e before =
     let S : List ImmKind → Type 0 = λ ds. ImmsSoFar kinds bytes imms ds rest in
     let so_far : ImmsSoFar kinds bytes imms [] rest = subst S e before in
     let whole = so_far.begins [] rest begins_empty in
-    let fit = so_far.kinded [] tt in
+    let fit = so_far.kinded [] refl in
     (rw (append-nil imms) at whole, rw (append-nil imms) at fit)
 
 pub core_of : {due others : List ImmKind} {k : ImmKind} → due ≡ k ∷ others → AreCore due → (is_core_kind k ≡ true) × AreCore others

@@ -24,42 +24,28 @@ use Rattle.wasm_read.specs.Types.{val_type_tree, val_types_tree, vector_tree, no
 
 -- The kind of an immediate. An index of a space that no core module has, sixteen bytes that are not sixteen, and a list
 -- whose count has no spelling have none.
-abbrev pub kind_of_imm : Imm → Option ImmKind
-kind_of_imm (imm.Block b) = Some kind.Block
-kind_of_imm (imm.Label i) = Some kind.Label
-kind_of_imm (imm.Labels targets default) = if is_counted (length targets) then Some kind.Labels else None
-kind_of_imm (imm.Index s i) = if is_core s then Some (kind.Index s) else None
-kind_of_imm (imm.Local i) = Some kind.Local
-kind_of_imm (imm.Field i) = Some kind.Field
-kind_of_imm (imm.Size n) = Some kind.Size
-kind_of_imm (imm.Types ts) = if is_counted (length ts) then Some kind.Types else None
-kind_of_imm (imm.Mem m) = Some kind.Mem
-kind_of_imm (imm.S32 z) = Some kind.S32
-kind_of_imm (imm.S64 z) = Some kind.S64
-kind_of_imm (imm.Four b) = Some kind.Four
-kind_of_imm (imm.Eight b) = Some kind.Eight
-kind_of_imm (imm.Sixteen b) = if are_sixteen b.now then Some kind.Sixteen else None
-kind_of_imm (imm.Lanes b) = if are_sixteen b.now then Some kind.Lanes else None
-kind_of_imm (imm.Lane b) = Some kind.Lane
-kind_of_imm (imm.Heap h) = Some kind.Heap
-kind_of_imm (imm.Catches cs) = if is_counted (length cs) then Some kind.Catches else None
-kind_of_imm (imm.Cast label from to) = Some kind.Cast
-kind_of_imm (imm.Handlers hs) = if is_counted (length hs) then Some kind.Handlers else None
-kind_of_imm imm.Zero = Some kind.Zero
-
--- the immediates have these kinds, one by one
-abbrev pub AreOf : List ImmKind → List Imm → Type 0
-AreOf [] [] = Unit {0}
-AreOf (k ∷ ks) (m ∷ ms) = (kind_of_imm m ≡ Some k) × AreOf ks ms
-AreOf _ _ = ⊥
-
-abbrev pub AreOfRow : Option (List ImmKind) → List Imm → Type 0
-AreOfRow (Some ks) ms = AreOf ks ms
-AreOfRow None ms = ⊥
-
--- they are the immediates of the opcode
-abbrev pub FitOpcode : Opcode → List Imm → Type 0
-FitOpcode op ms = AreOfRow (kinds_of op) ms
+abbrev pub imm_kind : Imm → Option ImmKind
+imm_kind (imm.Block b) = Some kind.Block
+imm_kind (imm.Label i) = Some kind.Label
+imm_kind (imm.Labels targets default) = if is_counted (length targets) then Some kind.Labels else None
+imm_kind (imm.Index s i) = if is_core s then Some (kind.Index s) else None
+imm_kind (imm.Local i) = Some kind.Local
+imm_kind (imm.Field i) = Some kind.Field
+imm_kind (imm.Size n) = Some kind.Size
+imm_kind (imm.Types ts) = if is_counted (length ts) then Some kind.Types else None
+imm_kind (imm.Mem m) = Some kind.Mem
+imm_kind (imm.S32 z) = Some kind.S32
+imm_kind (imm.S64 z) = Some kind.S64
+imm_kind (imm.Four b) = Some kind.Four
+imm_kind (imm.Eight b) = Some kind.Eight
+imm_kind (imm.Sixteen b) = if are_sixteen b.now then Some kind.Sixteen else None
+imm_kind (imm.Lanes b) = if are_sixteen b.now then Some kind.Lanes else None
+imm_kind (imm.Lane b) = Some kind.Lane
+imm_kind (imm.Heap h) = Some kind.Heap
+imm_kind (imm.Catches cs) = if is_counted (length cs) then Some kind.Catches else None
+imm_kind (imm.Cast label from to) = Some kind.Cast
+imm_kind (imm.Handlers hs) = if is_counted (length hs) then Some kind.Handlers else None
+imm_kind imm.Zero = Some kind.Zero
 
 -- ---- trees
 

@@ -1,10 +1,10 @@
 //! The immediates of operators at the front of some bytes.
-ghost use Rattle.std.specs.Prelude.{◌≡◌, ◌<◌, ◌∷◌, [], length, IfOk, IfSome, IfNone, true};
+ghost use Rattle.std.specs.Prelude.{◌≡◌, ◌<◌, ◌∷◌, [], length, map, Some, IfOk, IfSome, IfNone, true};
 ghost use Rattle.wasm_shapes.specs.Place.{Begins, BeginsNone};
 ghost use Rattle.wasm_shapes.specs.Shape.{Shape, shape_of_kind, shape_of_kinds};
 ghost use Rattle.wasm_shapes.specs.Tree.{Tree};
 ghost use Rattle.wasm_shapes.specs.Operators.{code_of};
-ghost use Rattle.wasm_read.specs.Immediates.{imm_tree, imms_tree, kind_of_imm, AreOf, is_core};
+ghost use Rattle.wasm_read.specs.Immediates.{imm_tree, imms_tree, imm_kind, is_core};
 ghost use Rattle.wasm_read.specs.Operations.{BeginsCode, BeginsNoCode, is_core_kind, AreCore};
 
 use crate::entries::front_vec;
@@ -41,7 +41,7 @@ fn front_imm<'a>(
     requires { is_core_kind kind ≡ true }
     ensures some { IfOk result (λ o. IfSome o (λ r.
         Begins (shape_of_kind kind) bytes.now (imm_tree r.0) r.1.now)) }
-    ensures kind { IfOk result (λ o. IfSome o (λ r. kind_of_imm r.0 ≡ Some kind)) }
+    ensures kind { IfOk result (λ o. IfSome o (λ r. imm_kind r.0 ≡ Some kind)) }
     ensures none { IfOk result (λ o. IfNone o (BeginsNone (shape_of_kind kind) bytes.now)) }
 {
     match kind {
@@ -72,7 +72,7 @@ fn front_imm<'a>(
 fn front_label<'a>(bytes: &'a [u8]) -> Option<(Imm<'a>, &'a [u8])>
     ensures some { IfSome result (λ r.
         Begins (shape_of_kind ImmKind.Label) bytes.now (imm_tree r.0) r.1.now) }
-    ensures kind { IfSome result (λ r. kind_of_imm r.0 ≡ Some ImmKind.Label) }
+    ensures kind { IfSome result (λ r. imm_kind r.0 ≡ Some ImmKind.Label) }
     ensures none { IfNone result (BeginsNone (shape_of_kind ImmKind.Label) bytes.now) }
 {
     match front_u32(bytes) {
@@ -86,7 +86,7 @@ fn front_index<'a>(space: Space, bytes: &'a [u8]) -> Option<(Imm<'a>, &'a [u8])>
     requires { is_core space ≡ true }
     ensures some { IfSome result (λ r.
         Begins (shape_of_kind (ImmKind.Index space)) bytes.now (imm_tree r.0) r.1.now) }
-    ensures kind { IfSome result (λ r. kind_of_imm r.0 ≡ Some (ImmKind.Index space)) }
+    ensures kind { IfSome result (λ r. imm_kind r.0 ≡ Some (ImmKind.Index space)) }
     ensures none { IfNone result (BeginsNone (shape_of_kind (ImmKind.Index space)) bytes.now) }
 {
     match front_u32(bytes) {
@@ -100,7 +100,7 @@ fn front_index<'a>(space: Space, bytes: &'a [u8]) -> Option<(Imm<'a>, &'a [u8])>
 fn front_local<'a>(bytes: &'a [u8]) -> Option<(Imm<'a>, &'a [u8])>
     ensures some { IfSome result (λ r.
         Begins (shape_of_kind ImmKind.Local) bytes.now (imm_tree r.0) r.1.now) }
-    ensures kind { IfSome result (λ r. kind_of_imm r.0 ≡ Some ImmKind.Local) }
+    ensures kind { IfSome result (λ r. imm_kind r.0 ≡ Some ImmKind.Local) }
     ensures none { IfNone result (BeginsNone (shape_of_kind ImmKind.Local) bytes.now) }
 {
     match front_u32(bytes) {
@@ -114,7 +114,7 @@ fn front_local<'a>(bytes: &'a [u8]) -> Option<(Imm<'a>, &'a [u8])>
 fn front_field<'a>(bytes: &'a [u8]) -> Option<(Imm<'a>, &'a [u8])>
     ensures some { IfSome result (λ r.
         Begins (shape_of_kind ImmKind.Field) bytes.now (imm_tree r.0) r.1.now) }
-    ensures kind { IfSome result (λ r. kind_of_imm r.0 ≡ Some ImmKind.Field) }
+    ensures kind { IfSome result (λ r. imm_kind r.0 ≡ Some ImmKind.Field) }
     ensures none { IfNone result (BeginsNone (shape_of_kind ImmKind.Field) bytes.now) }
 {
     match front_u32(bytes) {
@@ -128,7 +128,7 @@ fn front_field<'a>(bytes: &'a [u8]) -> Option<(Imm<'a>, &'a [u8])>
 fn front_size<'a>(bytes: &'a [u8]) -> Option<(Imm<'a>, &'a [u8])>
     ensures some { IfSome result (λ r.
         Begins (shape_of_kind ImmKind.Size) bytes.now (imm_tree r.0) r.1.now) }
-    ensures kind { IfSome result (λ r. kind_of_imm r.0 ≡ Some ImmKind.Size) }
+    ensures kind { IfSome result (λ r. imm_kind r.0 ≡ Some ImmKind.Size) }
     ensures none { IfNone result (BeginsNone (shape_of_kind ImmKind.Size) bytes.now) }
 {
     match front_u32(bytes) {
@@ -142,7 +142,7 @@ fn front_size<'a>(bytes: &'a [u8]) -> Option<(Imm<'a>, &'a [u8])>
 fn front_s32_imm<'a>(bytes: &'a [u8]) -> Option<(Imm<'a>, &'a [u8])>
     ensures some { IfSome result (λ r.
         Begins (shape_of_kind ImmKind.S32) bytes.now (imm_tree r.0) r.1.now) }
-    ensures kind { IfSome result (λ r. kind_of_imm r.0 ≡ Some ImmKind.S32) }
+    ensures kind { IfSome result (λ r. imm_kind r.0 ≡ Some ImmKind.S32) }
     ensures none { IfNone result (BeginsNone (shape_of_kind ImmKind.S32) bytes.now) }
 {
     match front_s32(bytes) {
@@ -156,7 +156,7 @@ fn front_s32_imm<'a>(bytes: &'a [u8]) -> Option<(Imm<'a>, &'a [u8])>
 fn front_s64_imm<'a>(bytes: &'a [u8]) -> Option<(Imm<'a>, &'a [u8])>
     ensures some { IfSome result (λ r.
         Begins (shape_of_kind ImmKind.S64) bytes.now (imm_tree r.0) r.1.now) }
-    ensures kind { IfSome result (λ r. kind_of_imm r.0 ≡ Some ImmKind.S64) }
+    ensures kind { IfSome result (λ r. imm_kind r.0 ≡ Some ImmKind.S64) }
     ensures none { IfNone result (BeginsNone (shape_of_kind ImmKind.S64) bytes.now) }
 {
     match front_s64(bytes) {
@@ -169,7 +169,7 @@ fn front_s64_imm<'a>(bytes: &'a [u8]) -> Option<(Imm<'a>, &'a [u8])>
 fn front_lane<'a>(bytes: &'a [u8]) -> Option<(Imm<'a>, &'a [u8])>
     ensures some { IfSome result (λ r.
         Begins (shape_of_kind ImmKind.Lane) bytes.now (imm_tree r.0) r.1.now) }
-    ensures kind { IfSome result (λ r. kind_of_imm r.0 ≡ Some ImmKind.Lane) }
+    ensures kind { IfSome result (λ r. imm_kind r.0 ≡ Some ImmKind.Lane) }
     ensures none { IfNone result (BeginsNone (shape_of_kind ImmKind.Lane) bytes.now) }
 {
     match front_byte(bytes) {
@@ -183,7 +183,7 @@ fn front_lane<'a>(bytes: &'a [u8]) -> Option<(Imm<'a>, &'a [u8])>
 fn front_zero<'a>(bytes: &'a [u8]) -> Option<(Imm<'a>, &'a [u8])>
     ensures some { IfSome result (λ r.
         Begins (shape_of_kind ImmKind.Zero) bytes.now (imm_tree r.0) r.1.now) }
-    ensures kind { IfSome result (λ r. kind_of_imm r.0 ≡ Some ImmKind.Zero) }
+    ensures kind { IfSome result (λ r. imm_kind r.0 ≡ Some ImmKind.Zero) }
     ensures none { IfNone result (BeginsNone (shape_of_kind ImmKind.Zero) bytes.now) }
 {
     match front_byte(bytes) {
@@ -216,7 +216,7 @@ fn front_bytes(bytes: &[u8], count: usize) -> Option<(&[u8], &[u8])>
 fn front_four<'a>(bytes: &'a [u8]) -> Option<(Imm<'a>, &'a [u8])>
     ensures some { IfSome result (λ r.
         Begins (shape_of_kind ImmKind.Four) bytes.now (imm_tree r.0) r.1.now) }
-    ensures kind { IfSome result (λ r. kind_of_imm r.0 ≡ Some ImmKind.Four) }
+    ensures kind { IfSome result (λ r. imm_kind r.0 ≡ Some ImmKind.Four) }
     ensures none { IfNone result (BeginsNone (shape_of_kind ImmKind.Four) bytes.now) }
 {
     match front_bytes(bytes, 4) {
@@ -232,7 +232,7 @@ fn front_four<'a>(bytes: &'a [u8]) -> Option<(Imm<'a>, &'a [u8])>
 fn front_eight<'a>(bytes: &'a [u8]) -> Option<(Imm<'a>, &'a [u8])>
     ensures some { IfSome result (λ r.
         Begins (shape_of_kind ImmKind.Eight) bytes.now (imm_tree r.0) r.1.now) }
-    ensures kind { IfSome result (λ r. kind_of_imm r.0 ≡ Some ImmKind.Eight) }
+    ensures kind { IfSome result (λ r. imm_kind r.0 ≡ Some ImmKind.Eight) }
     ensures none { IfNone result (BeginsNone (shape_of_kind ImmKind.Eight) bytes.now) }
 {
     match front_bytes(bytes, 8) {
@@ -250,7 +250,7 @@ fn front_eight<'a>(bytes: &'a [u8]) -> Option<(Imm<'a>, &'a [u8])>
 fn front_sixteen<'a>(bytes: &'a [u8]) -> Option<(Imm<'a>, &'a [u8])>
     ensures some { IfSome result (λ r.
         Begins (shape_of_kind ImmKind.Sixteen) bytes.now (imm_tree r.0) r.1.now) }
-    ensures kind { IfSome result (λ r. kind_of_imm r.0 ≡ Some ImmKind.Sixteen) }
+    ensures kind { IfSome result (λ r. imm_kind r.0 ≡ Some ImmKind.Sixteen) }
     ensures none { IfNone result (BeginsNone (shape_of_kind ImmKind.Sixteen) bytes.now) }
 {
     match front_bytes(bytes, 16) {
@@ -263,7 +263,7 @@ fn front_sixteen<'a>(bytes: &'a [u8]) -> Option<(Imm<'a>, &'a [u8])>
 fn front_lanes<'a>(bytes: &'a [u8]) -> Option<(Imm<'a>, &'a [u8])>
     ensures some { IfSome result (λ r.
         Begins (shape_of_kind ImmKind.Lanes) bytes.now (imm_tree r.0) r.1.now) }
-    ensures kind { IfSome result (λ r. kind_of_imm r.0 ≡ Some ImmKind.Lanes) }
+    ensures kind { IfSome result (λ r. imm_kind r.0 ≡ Some ImmKind.Lanes) }
     ensures none { IfNone result (BeginsNone (shape_of_kind ImmKind.Lanes) bytes.now) }
 {
     match front_bytes(bytes, 16) {
@@ -276,7 +276,7 @@ fn front_lanes<'a>(bytes: &'a [u8]) -> Option<(Imm<'a>, &'a [u8])>
 fn front_mem<'a>(bytes: &'a [u8]) -> Option<(Imm<'a>, &'a [u8])>
     ensures some { IfSome result (λ r.
         Begins (shape_of_kind ImmKind.Mem) bytes.now (imm_tree r.0) r.1.now) }
-    ensures kind { IfSome result (λ r. kind_of_imm r.0 ≡ Some ImmKind.Mem) }
+    ensures kind { IfSome result (λ r. imm_kind r.0 ≡ Some ImmKind.Mem) }
     ensures none { IfNone result (BeginsNone (shape_of_kind ImmKind.Mem) bytes.now) }
 {
     let Some((flags, rest)) = front_u32(bytes) else {
@@ -303,7 +303,7 @@ fn front_mem<'a>(bytes: &'a [u8]) -> Option<(Imm<'a>, &'a [u8])>
 fn mem_arg<'a>(align: u8, memory: u32, offset: u64) -> Imm<'a>
     requires { align < 64 }
     ensures tree { imm_tree result ≡ Tree.mem align memory offset }
-    ensures kind { kind_of_imm result ≡ Some ImmKind.Mem }
+    ensures kind { imm_kind result ≡ Some ImmKind.Mem }
 {
     Imm::Mem(MemArg {
         align,
@@ -316,7 +316,7 @@ fn mem_arg<'a>(align: u8, memory: u32, offset: u64) -> Imm<'a>
 fn front_labels<'a>(alloc: Global, bytes: &'a [u8]) -> Result<Option<(Imm<'a>, &'a [u8])>, NoMemory>
     ensures some { IfOk result (λ o. IfSome o (λ r.
         Begins (shape_of_kind ImmKind.Labels) bytes.now (imm_tree r.0) r.1.now)) }
-    ensures kind { IfOk result (λ o. IfSome o (λ r. kind_of_imm r.0 ≡ Some ImmKind.Labels)) }
+    ensures kind { IfOk result (λ o. IfSome o (λ r. imm_kind r.0 ≡ Some ImmKind.Labels)) }
     ensures none { IfOk result (λ o.
         IfNone o (BeginsNone (shape_of_kind ImmKind.Labels) bytes.now)) }
 {
@@ -334,7 +334,7 @@ fn front_labels<'a>(alloc: Global, bytes: &'a [u8]) -> Result<Option<(Imm<'a>, &
 fn front_types<'a>(alloc: Global, bytes: &'a [u8]) -> Result<Option<(Imm<'a>, &'a [u8])>, NoMemory>
     ensures some { IfOk result (λ o. IfSome o (λ r.
         Begins (shape_of_kind ImmKind.Types) bytes.now (imm_tree r.0) r.1.now)) }
-    ensures kind { IfOk result (λ o. IfSome o (λ r. kind_of_imm r.0 ≡ Some ImmKind.Types)) }
+    ensures kind { IfOk result (λ o. IfSome o (λ r. imm_kind r.0 ≡ Some ImmKind.Types)) }
     ensures none { IfOk result (λ o.
         IfNone o (BeginsNone (shape_of_kind ImmKind.Types) bytes.now)) }
 {
@@ -352,7 +352,7 @@ fn front_catches<'a>(
 ) -> Result<Option<(Imm<'a>, &'a [u8])>, NoMemory>
     ensures some { IfOk result (λ o. IfSome o (λ r.
         Begins (shape_of_kind ImmKind.Catches) bytes.now (imm_tree r.0) r.1.now)) }
-    ensures kind { IfOk result (λ o. IfSome o (λ r. kind_of_imm r.0 ≡ Some ImmKind.Catches)) }
+    ensures kind { IfOk result (λ o. IfSome o (λ r. imm_kind r.0 ≡ Some ImmKind.Catches)) }
     ensures none { IfOk result (λ o.
         IfNone o (BeginsNone (shape_of_kind ImmKind.Catches) bytes.now)) }
 {
@@ -370,7 +370,7 @@ fn front_handlers<'a>(
 ) -> Result<Option<(Imm<'a>, &'a [u8])>, NoMemory>
     ensures some { IfOk result (λ o. IfSome o (λ r.
         Begins (shape_of_kind ImmKind.Handlers) bytes.now (imm_tree r.0) r.1.now)) }
-    ensures kind { IfOk result (λ o. IfSome o (λ r. kind_of_imm r.0 ≡ Some ImmKind.Handlers)) }
+    ensures kind { IfOk result (λ o. IfSome o (λ r. imm_kind r.0 ≡ Some ImmKind.Handlers)) }
     ensures none { IfOk result (λ o.
         IfNone o (BeginsNone (shape_of_kind ImmKind.Handlers) bytes.now)) }
 {
@@ -401,7 +401,7 @@ pub fn front_imms<'a>(
     requires { AreCore kinds.now }
     ensures some { IfOk result (λ o. IfSome o (λ r.
         Begins (shape_of_kinds kinds.now) bytes.now (imms_tree r.0) r.1.now)) }
-    ensures kinds { IfOk result (λ o. IfSome o (λ r. AreOf kinds.now r.0)) }
+    ensures kinds { IfOk result (λ o. IfSome o (λ r. map imm_kind r.0 ≡ map Some kinds.now)) }
     ensures none { IfOk result (λ o. IfNone o (BeginsNone (shape_of_kinds kinds.now) bytes.now)) }
 {
     let mut imms = match List::with_capacity(alloc, kinds.len()) {

@@ -1,10 +1,11 @@
 //! The operators of function bodies.
-ghost use Rattle.std.specs.Prelude.{◌≡◌, ◌<◌, ◌≤◌, ◌∷◌, [], IfSome, IfNone, IfOk, IfErr, if◌then◌else◌, nat_eq, length, IsTrue, ◌↔◌, true};
+ghost use Rattle.std.specs.Prelude.{◌≡◌, ◌<◌, ◌≤◌, ◌∷◌, [], IfSome, IfNone, IfOk, IfErr, if◌then◌else◌, nat_eq, length, map, Some, IsTrue, ◌↔◌, true};
+ghost use Rattle.wasm_shapes.specs.Immediates.{HasKinds};
 ghost use Rattle.wasm_shapes.specs.Place.{Begins, BeginsNone};
 ghost use Rattle.wasm_shapes.specs.Shape.{Shape};
 ghost use Rattle.wasm_read.specs.Operations.{rest_of};
 ghost use Rattle.wasm_read.specs.Reading.{ReadsNoneOrWants};
-ghost use Rattle.wasm_read.specs.Immediates.{FitOpcode, AreOf, kind_of_imm, is_core, is_counted, operation, operator_tree};
+ghost use Rattle.wasm_read.specs.Immediates.{imm_kind, is_counted, operation, operator_tree};
 
 use crate::immediates::{front_imms, front_opcode};
 use crate::types::Imm;
@@ -22,13 +23,15 @@ pub struct Operator<'a> {
 }
 
 impl<'a> Model for Operator<'a> {
-    ghost use Rattle.wasm_read.specs.Immediates.{Operation, operation, FitOpcode};
+    ghost use Rattle.std.specs.Prelude.{map};
+    ghost use Rattle.wasm_shapes.specs.Immediates.{HasKinds};
+    ghost use Rattle.wasm_read.specs.Immediates.{Operation, imm_kind, operation};
 
     ghost Value = { Operation };
 
     ghost view = { λ o. operation o.opcode o.imms };
 
-    ghost invariant = { λ o. FitOpcode o.opcode o.imms };
+    ghost invariant = { λ o. HasKinds o.opcode (map imm_kind o.imms) };
 }
 
 impl<'a> Operator<'a> {
@@ -37,8 +40,8 @@ impl<'a> Operator<'a> {
     /// module has, `Sixteen` or `Lanes` of other than 16 bytes, and a list of more than 2^32 - 1 entries.
     pub fn new(opcode: Opcode, imms: List<Imm<'a>>) -> Option<Operator<'a>>
         ensures some { IfSome result (λ o.
-            (o ≡ operation opcode imms.entry) × FitOpcode opcode imms.entry) }
-        ensures none { IfNone result (¬ FitOpcode opcode imms.entry) }
+            (o ≡ operation opcode imms.entry) × HasKinds opcode (map imm_kind imms.entry)) }
+        ensures none { IfNone result (¬ HasKinds opcode (map imm_kind imms.entry)) }
     {
         let Some(kinds) = row_of(opcode) else {
             return None;
@@ -60,7 +63,7 @@ impl<'a> Operator<'a> {
     /// Its immediates in the order of the bytes.
     pub fn imms(&self) -> &[Imm<'a>]
         ensures items { result.now ≡ self.now.imms }
-        ensures fit { FitOpcode self.now.opcode self.now.imms }
+        ensures fit { HasKinds self.now.opcode (map imm_kind self.now.imms) }
     {
         self.imms.as_slice()
     }
@@ -68,7 +71,7 @@ impl<'a> Operator<'a> {
     /// Its immediates in the order of the bytes. It takes no memory.
     pub fn into_imms(self) -> List<Imm<'a>>
         ensures items { result ≡ self.entry.imms }
-        ensures fit { FitOpcode self.entry.opcode self.entry.imms }
+        ensures fit { HasKinds self.entry.opcode (map imm_kind self.entry.imms) }
     {
         self.imms
     }
@@ -115,7 +118,7 @@ impl<'a> OperatorsReader<'a> {
     pub fn read(&mut self, alloc: Global) -> Result<Operator<'a>, Fault>
         ensures row { IfOk result (λ o.
             Begins (Shape.op true) (rest_of self.old) (operator_tree o) (rest_of self.new)) }
-        ensures fit { IfOk result (λ o. FitOpcode o.opcode o.imms) }
+        ensures fit { IfOk result (λ o. HasKinds o.opcode (map imm_kind o.imms)) }
         ensures forward { IfOk result (λ _.
             (self.old.at < self.new.at) × (self.new.at ≤ length self.old.bytes)) }
         ensures bytes { self.new.bytes ≡ self.old.bytes }
@@ -158,7 +161,7 @@ fn front_operator<'a>(
 ) -> Result<Option<(Operator<'a>, &'a [u8])>, NoMemory>
     ensures some { IfOk result (λ o. IfSome o (λ r.
         Begins (Shape.op true) bytes.now (operator_tree r.0) r.1.now)) }
-    ensures fit { IfOk result (λ o. IfSome o (λ r. FitOpcode r.0.opcode r.0.imms)) }
+    ensures fit { IfOk result (λ o. IfSome o (λ r. HasKinds r.0.opcode (map imm_kind r.0.imms))) }
     ensures shorter { IfOk result (λ o. IfSome o (λ r. length r.1.now < length bytes.now)) }
     ensures none { IfOk result (λ o. IfNone o (BeginsNone (Shape.op true) bytes.now)) }
 {
@@ -177,7 +180,7 @@ fn front_operator<'a>(
 
 /// Whether the immediates have these kinds, one by one.
 fn are_of(kinds: &[ImmKind], imms: &[Imm<'_>]) -> bool
-    ensures { IsTrue result ↔ AreOf kinds.now imms.now }
+    ensures { IsTrue result ↔ (map imm_kind imms.now ≡ map Some kinds.now) }
 {
     match kinds {
         [] => imms.is_empty(),
@@ -190,39 +193,22 @@ fn are_of(kinds: &[ImmKind], imms: &[Imm<'_>]) -> bool
 
 /// Whether the immediate has the kind.
 fn is_of(imm: &Imm<'_>, kind: ImmKind) -> bool
-    ensures { IsTrue result ↔ (kind_of_imm imm.now ≡ Some kind) }
+    ensures { IsTrue result ↔ (imm_kind imm.now ≡ Some kind) }
 {
     kind_of(imm) == Some(kind)
-}
-
-/// Whether core modules have the space.
-fn is_core_space(space: Space) -> bool
-    ensures { result ≡ is_core space }
-{
-    match space {
-        Space::Data
-        | Space::Element
-        | Space::Function
-        | Space::Global
-        | Space::Memory
-        | Space::Table
-        | Space::Tag
-        | Space::Type_ => true,
-        _ => false,
-    }
 }
 
 /// The kind of an immediate. Three sorts have none: an index of a space that no core module has, sixteen bytes that
 /// are not sixteen, and a list of more than 2^32 - 1 entries.
 fn kind_of(imm: &Imm<'_>) -> Option<ImmKind>
-    ensures { result ≡ kind_of_imm imm.now }
+    ensures { result ≡ imm_kind imm.now }
 {
     match imm {
         Imm::Block(_) => Some(ImmKind::Block),
         Imm::Label(_) => Some(ImmKind::Label),
         Imm::Labels { targets, .. } => counted(targets.len(), ImmKind::Labels),
         Imm::Index(space, _) => {
-            if is_core_space(*space) {
+            if space.is_core() {
                 Some(ImmKind::Index(*space))
             } else {
                 None

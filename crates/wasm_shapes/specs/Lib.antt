@@ -1,4 +1,5 @@
 pub mod Fits
+pub mod Immediates
 pub mod SectionTable
 pub mod Laws
 pub mod Module

@@ -39,6 +39,25 @@ pub enum Space {
 impl Space {
     ghost use Rattle.std.specs.Prelude.{◌≡◌, codes};
     ghost use Rattle.wasm_shapes.specs.Names.{space_name};
+    ghost use Rattle.wasm_shapes.specs.Types.{is_core};
+
+    /// Whether core modules have the space.
+    #[inline(always)]
+    pub fn is_core(self) -> bool
+        ensures { result ≡ is_core self }
+    {
+        match self {
+            Space::Data
+            | Space::Element
+            | Space::Function
+            | Space::Global
+            | Space::Memory
+            | Space::Table
+            | Space::Tag
+            | Space::Type_ => true,
+            _ => false,
+        }
+    }
 
     /// The name of the space in lower case, as reports print it.
     pub fn name(self) -> &'static str

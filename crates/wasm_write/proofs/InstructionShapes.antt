@@ -6,16 +6,17 @@ use Rattle.std.proofs.lemmas.Bool.{leb-true, ltb-true, eqb-true}
 use Rattle.std.proofs.lemmas.List.Elements.{All-cons}
 use mathlib.Core.HLevel.{Π_prop}
 use mathlib.Core.Logic.{∥∥₁_elim}
-use Rattle.wasm_shapes.specs.declared.Space.{Space}
 use Rattle.wasm_shapes.specs.declared.Space.TheVariants as space
 use Rattle.wasm_shapes.specs.declared.ImmKind.{ImmKind}
 use Rattle.wasm_shapes.specs.declared.ImmKind.TheVariants as kind
 use Rattle.wasm_shapes.specs.declared.Opcode.{Opcode}
-use Rattle.wasm_shapes.specs.Operators.{Code, plain, prefixed, code_from, code_of, is_code, Operators, look_up, one_byte_operators, prefixed_operators, kinds_among}
+use Rattle.wasm_shapes.specs.Operators.{Code, plain, prefixed, code_from, code_of, is_code, Operators, look_up, one_byte_operators, prefixed_operators, kinds_among, kinds_of}
+use Rattle.wasm_shapes.specs.Immediates.{AreOfRow, HasKinds}
 use Rattle.wasm_shapes.specs.Tree.{Tree, normal}
 use Rattle.wasm_shapes.specs.Shape.{Shape, shape_of_kind, shape_of_kinds, shape_of_row}
 use Rattle.wasm_shapes.specs.Spells.{Is, Spells}
 use Rattle.wasm_shapes.specs.Fits.{InRange, CodeInRange}
+use Rattle.wasm_shapes.specs.Types.{are_sixteen, is_core, is_counted}
 use Rattle.wasm_shapes.proofs.Lists.{both}
 use Rattle.wasm_shapes.proofs.Frameless.{frameless_spells}
 use Rattle.wasm_write.specs.declared.types.Catch.{Catch}
@@ -24,7 +25,7 @@ use Rattle.wasm_write.specs.declared.types.Handle.{Handle}
 use Rattle.wasm_write.specs.declared.types.Handle.TheVariants as handle
 use Rattle.wasm_write.specs.declared.types.Imm.{Imm}
 use Rattle.wasm_write.specs.declared.types.Imm.TheVariants as imm
-use Rattle.wasm_write.specs.Instructions.{if_few, if_sixteen, index_kind, imm_kind, HasKinds, Parts, label_tree, catch_tree, handle_tree, imm_tree, imms_tree, instruction_tree}
+use Rattle.wasm_write.specs.Instructions.{imm_kind, Parts, label_tree, catch_tree, handle_tree, imm_tree, imms_tree, instruction_tree}
 use Rattle.wasm_write.proofs.TypeShapes.{items_are, values_are}
 
 -- ---- the tables of operators
@@ -103,16 +104,24 @@ code_is : (c : Code) (kinds : List ImmKind) → kinds_among true c ≡ Some kind
 code_is (plain n) kinds e = rw (small_no_prefix n (plain_small n kinds e) (nat_le 0xfb n) refl) refl
 code_is (prefixed p n) kinds e = absurd cc
 
--- a one-byte operator is a byte
-pub opcode_byte : (op : Opcode) (imms : List Imm) → HasKinds op imms → op.prefix ≡ 0 → op.sub < 256
-opcode_byte op imms h none = go op.prefix none h.row
+-- the row of an opcode, and the kinds of its immediates
+row_had : (op : Opcode) (own : List (Option ImmKind)) → HasKinds op own → (kinds : List ImmKind) × (kinds_of op ≡ Some kinds) × (own ≡ map Some kinds)
+row_had op own h = go (kinds_of op) refl h
   where
-    go : (p : ℕ) → p ≡ 0 → kinds_among true (code_from p op.sub) ≡ Some h.kinds → op.sub < 256
-    go zero e row = let small : op.sub < 0xfb = plain_small op.sub h.kinds row in omega arith
-    go (suc p) e row = absurd (omega arith)
+    go : (o : Option (List ImmKind)) → kinds_of op ≡ o → AreOfRow o own → (kinds : List ImmKind) × (kinds_of op ≡ Some kinds) × (own ≡ map Some kinds)
+    go (Some kinds) e same = (kinds, e, same)
+    go None e same = absurd same
 
-pub opcode_byte_of : (op : Opcode) (imms : List Imm) → ∥ HasKinds op imms ∥₁ → op.prefix ≡ 0 → op.sub < 256
-opcode_byte_of op imms h none = ∥∥₁_elim h le_prop (λ k. opcode_byte op imms k none)
+-- a one-byte operator is a byte
+opcode_byte : (op : Opcode) (own : List (Option ImmKind)) → HasKinds op own → op.prefix ≡ 0 → op.sub < 256
+opcode_byte op own h none = let row = row_had op own h in go row.0 op.prefix none row.1
+  where
+    go : (kinds : List ImmKind) (p : ℕ) → p ≡ 0 → kinds_among true (code_from p op.sub) ≡ Some kinds → op.sub < 256
+    go kinds zero e row = let small : op.sub < 0xfb = plain_small op.sub kinds row in omega arith
+    go kinds (suc p) e row = absurd (omega arith)
+
+pub opcode_byte_of : (op : Opcode) (own : List (Option ImmKind)) → ∥ HasKinds op own ∥₁ → op.prefix ≡ 0 → op.sub < 256
+opcode_byte_of op own h none = ∥∥₁_elim h le_prop (λ k. opcode_byte op own k none)
 
 -- each immediate has a kind
 kinds_each : (imms : List Imm) (kinds : List ImmKind) → map imm_kind imms ≡ map Some kinds → All (λ i. IsSome (imm_kind i)) imms
@@ -123,9 +132,9 @@ kinds_each (i ∷ imms) (k ∷ kinds) e =
     let others : map imm_kind imms ≡ map Some kinds = cc in
     All-cons (λ j. IsSome (imm_kind j)) i imms (rw one refl) (kinds_each imms kinds others)
 
-pub kinds_each_of : (op : Opcode) (imms : List Imm) → ∥ HasKinds op imms ∥₁ → All (λ i. IsSome (imm_kind i)) imms
+pub kinds_each_of : (op : Opcode) (imms : List Imm) → ∥ HasKinds op (map imm_kind imms) ∥₁ → All (λ i. IsSome (imm_kind i)) imms
 kinds_each_of op imms h =
-    ∥∥₁_elim h (Π_prop (λ k. Π_prop (λ d. Π_prop (λ l. Coded-set coded_bool _ _)))) (λ p. kinds_each imms p.kinds p.same)
+    ∥∥₁_elim h (Π_prop (λ k. Π_prop (λ d. Π_prop (λ l. Coded-set coded_bool _ _)))) (λ p. let row = row_had op (map imm_kind imms) p in kinds_each imms row.0 row.2)
 
 -- ---- immediates
 
@@ -140,53 +149,33 @@ handle_is : (h : Handle) → Is (Shape.or (Shape.seq (Shape.fixed 0) (Shape.seq 
 handle_is (handle.OnLabel tag label) = Is.first (Is.seq Is.fixed (Is.seq Is.ix Is.u32))
 handle_is (handle.OnSwitch tag) = Is.later {k = 0} (Is.first (Is.seq Is.fixed Is.ix))
 
-few_is : (n : ℕ) (j k : ImmKind) → if_few n j ≡ Some k → j ≡ k
-few_is n j k e = go (nat_lt n (2 ^ 32)) e
-  where
-    go : (b : Bool) → (if b then Some j else None) ≡ Some k → j ≡ k
-    go true is = cc
-    go false is = absurd cc
-
-sixteen_is : (bs : List ℕ) (j k : ImmKind) → if_sixteen bs j ≡ Some k → (j ≡ k) × (length bs ≡ 16)
-sixteen_is bs j k e = go (nat_eq (length bs) 16) refl e
-  where
-    go : (b : Bool) → nat_eq (length bs) 16 ≡ b → (if b then Some j else None) ≡ Some k → (j ≡ k) × (length bs ≡ 16)
-    go true same is = (cc, eqb-true (length bs) 16 same)
-    go false same is = absurd cc
-
-index_is : (s : Space) (i : ℕ) (k : ImmKind) → index_kind s ≡ Some k → Is (shape_of_kind k) (Tree.ix s i)
-index_is space.Data i k e = let P : ImmKind → Type 0 = λ j. Is (shape_of_kind j) (Tree.ix space.Data i) in let same : kind.Index space.Data ≡ k = cc in subst P same Is.ix
-index_is space.Element i k e = let P : ImmKind → Type 0 = λ j. Is (shape_of_kind j) (Tree.ix space.Element i) in let same : kind.Index space.Element ≡ k = cc in subst P same Is.ix
-index_is space.Function i k e = let P : ImmKind → Type 0 = λ j. Is (shape_of_kind j) (Tree.ix space.Function i) in let same : kind.Index space.Function ≡ k = cc in subst P same Is.ix
-index_is space.Global i k e = let P : ImmKind → Type 0 = λ j. Is (shape_of_kind j) (Tree.ix space.Global i) in let same : kind.Index space.Global ≡ k = cc in subst P same Is.ix
-index_is space.Memory i k e = let P : ImmKind → Type 0 = λ j. Is (shape_of_kind j) (Tree.ix space.Memory i) in let same : kind.Index space.Memory ≡ k = cc in subst P same Is.ix
-index_is space.Table i k e = let P : ImmKind → Type 0 = λ j. Is (shape_of_kind j) (Tree.ix space.Table i) in let same : kind.Index space.Table ≡ k = cc in subst P same Is.ix
-index_is space.Tag i k e = let P : ImmKind → Type 0 = λ j. Is (shape_of_kind j) (Tree.ix space.Tag i) in let same : kind.Index space.Tag ≡ k = cc in subst P same Is.ix
-index_is space.Type_ i k e = let P : ImmKind → Type 0 = λ j. Is (shape_of_kind j) (Tree.ix space.Type_ i) in let same : kind.Index space.Type_ ≡ k = cc in subst P same Is.ix
-index_is _ i k e = absurd cc
+-- the kind that is chosen by a test
+chosen : (b : Bool) (j k : ImmKind) → (if b then Some j else None) ≡ Some k → (b ≡ true) × (j ≡ k)
+chosen true j k is = (refl, cc)
+chosen false j k is = absurd cc
 
 -- an immediate of a kind has its shape
 imm_is : (i : Imm) (k : ImmKind) → imm_kind i ≡ Some k → settled k ≡ true → Is (shape_of_kind k) (imm_tree i)
 imm_is (imm.Block ty) k e s = let same : kind.Block ≡ k = cc in let no : false ≡ true = rw (← same) at s in absurd cc
 imm_is (imm.Label n) k e s = let P : ImmKind → Type 0 = λ j. Is (shape_of_kind j) (imm_tree (imm.Label n)) in let same : kind.Label ≡ k = cc in subst P same (Is.u32)
-imm_is (imm.Labels targets default) k e s = let P : ImmKind → Type 0 = λ j. Is (shape_of_kind j) (imm_tree (imm.Labels targets default)) in subst P (few_is (length targets) kind.Labels k e) (Is.seq (Is.vec (items_are Shape.u32 label_tree (λ n. Is.u32) targets)) Is.u32)
-imm_is (imm.Index x i) k e s = index_is x i k e
+imm_is (imm.Labels targets default) k e s = let P : ImmKind → Type 0 = λ j. Is (shape_of_kind j) (imm_tree (imm.Labels targets default)) in subst P ((chosen (is_counted (length targets)) kind.Labels k e).1) (Is.seq (Is.vec (items_are Shape.u32 label_tree (λ n. Is.u32) targets)) Is.u32)
+imm_is (imm.Index x i) k e s = let P : ImmKind → Type 0 = λ j. Is (shape_of_kind j) (Tree.ix x i) in subst P (chosen (is_core x) (kind.Index x) k e).1 Is.ix
 imm_is (imm.Local n) k e s = let P : ImmKind → Type 0 = λ j. Is (shape_of_kind j) (imm_tree (imm.Local n)) in let same : kind.Local ≡ k = cc in subst P same (Is.u32)
 imm_is (imm.Field n) k e s = let P : ImmKind → Type 0 = λ j. Is (shape_of_kind j) (imm_tree (imm.Field n)) in let same : kind.Field ≡ k = cc in subst P same (Is.u32)
 imm_is (imm.Size n) k e s = let P : ImmKind → Type 0 = λ j. Is (shape_of_kind j) (imm_tree (imm.Size n)) in let same : kind.Size ≡ k = cc in subst P same (Is.u32)
-imm_is (imm.Types types) k e s = let P : ImmKind → Type 0 = λ j. Is (shape_of_kind j) (imm_tree (imm.Types types)) in subst P (few_is (length types) kind.Types k e) (values_are types)
+imm_is (imm.Types types) k e s = let P : ImmKind → Type 0 = λ j. Is (shape_of_kind j) (imm_tree (imm.Types types)) in subst P ((chosen (is_counted (length types)) kind.Types k e).1) (values_are types)
 imm_is (imm.Mem m) k e s = let P : ImmKind → Type 0 = λ j. Is (shape_of_kind j) (imm_tree (imm.Mem m)) in let same : kind.Mem ≡ k = cc in subst P same (Is.mem)
 imm_is (imm.S32 z) k e s = let P : ImmKind → Type 0 = λ j. Is (shape_of_kind j) (imm_tree (imm.S32 z)) in let same : kind.S32 ≡ k = cc in subst P same (Is.s32)
 imm_is (imm.S64 z) k e s = let P : ImmKind → Type 0 = λ j. Is (shape_of_kind j) (imm_tree (imm.S64 z)) in let same : kind.S64 ≡ k = cc in subst P same (Is.s64)
 imm_is (imm.Four bits) k e s = let P : ImmKind → Type 0 = λ j. Is (shape_of_kind j) (imm_tree (imm.Four bits)) in let same : kind.Four ≡ k = cc in subst P same (Is.bytes refl)
 imm_is (imm.Eight bits) k e s = let P : ImmKind → Type 0 = λ j. Is (shape_of_kind j) (imm_tree (imm.Eight bits)) in let same : kind.Eight ≡ k = cc in subst P same (Is.bytes refl)
-imm_is (imm.Sixteen bs) k e s = let P : ImmKind → Type 0 = λ j. Is (shape_of_kind j) (Tree.raw bs.now) in let same = sixteen_is bs.now kind.Sixteen k e in subst P same.0 (Is.bytes same.1)
-imm_is (imm.Lanes bs) k e s = let P : ImmKind → Type 0 = λ j. Is (shape_of_kind j) (Tree.raw bs.now) in let same = sixteen_is bs.now kind.Lanes k e in subst P same.0 (Is.bytes same.1)
+imm_is (imm.Sixteen bs) k e s = let P : ImmKind → Type 0 = λ j. Is (shape_of_kind j) (Tree.raw bs.now) in let same = chosen (are_sixteen bs.now) kind.Sixteen k e in subst P same.1 (Is.bytes (eqb-true (length bs.now) 16 same.0))
+imm_is (imm.Lanes bs) k e s = let P : ImmKind → Type 0 = λ j. Is (shape_of_kind j) (Tree.raw bs.now) in let same = chosen (are_sixteen bs.now) kind.Lanes k e in subst P same.1 (Is.bytes (eqb-true (length bs.now) 16 same.0))
 imm_is (imm.Lane b) k e s = let P : ImmKind → Type 0 = λ j. Is (shape_of_kind j) (imm_tree (imm.Lane b)) in let same : kind.Lane ≡ k = cc in subst P same (Is.byte)
 imm_is (imm.Heap ty) k e s = let same : kind.Heap ≡ k = cc in let no : false ≡ true = rw (← same) at s in absurd cc
-imm_is (imm.Catches catches) k e s = let P : ImmKind → Type 0 = λ j. Is (shape_of_kind j) (imm_tree (imm.Catches catches)) in subst P (few_is (length catches) kind.Catches k e) (Is.vec (items_are _ catch_tree catch_is catches))
+imm_is (imm.Catches catches) k e s = let P : ImmKind → Type 0 = λ j. Is (shape_of_kind j) (imm_tree (imm.Catches catches)) in subst P ((chosen (is_counted (length catches)) kind.Catches k e).1) (Is.vec (items_are _ catch_tree catch_is catches))
 imm_is (imm.Cast label from to) k e s = let same : kind.Cast ≡ k = cc in let no : false ≡ true = rw (← same) at s in absurd cc
-imm_is (imm.Handlers handlers) k e s = let P : ImmKind → Type 0 = λ j. Is (shape_of_kind j) (imm_tree (imm.Handlers handlers)) in subst P (few_is (length handlers) kind.Handlers k e) (Is.vec (items_are _ handle_tree handle_is handlers))
+imm_is (imm.Handlers handlers) k e s = let P : ImmKind → Type 0 = λ j. Is (shape_of_kind j) (imm_tree (imm.Handlers handlers)) in subst P ((chosen (is_counted (length handlers)) kind.Handlers k e).1) (Is.vec (items_are _ handle_tree handle_is handlers))
 imm_is imm.Zero k e s = let P : ImmKind → Type 0 = λ j. Is (shape_of_kind j) (imm_tree imm.Zero) in let same : kind.Zero ≡ k = cc in subst P same (Is.fixed)
 
 imms_are : (imms : List Imm) (kinds : List ImmKind) → map imm_kind imms ≡ map Some kinds → all_settled kinds ≡ true → Is (shape_of_kinds kinds) (imms_tree imms)
@@ -199,14 +188,14 @@ imms_are (i ∷ imms) (k ∷ kinds) e s =
     let parts = both (settled k) (all_settled kinds) s in
     Is.seq (imm_is i k one parts.0) (imms_are imms kinds others parts.1)
 
-instruction_is : (i : Parts) → HasKinds i.opcode i.imms → Is (Shape.op true) (instruction_tree i)
+instruction_is : (i : Parts) → HasKinds i.opcode (map imm_kind i.imms) → Is (Shape.op true) (instruction_tree i)
 instruction_is i h =
+    let row = row_had i.opcode (map imm_kind i.imms) h in
     let P : Option (List ImmKind) → Type 0 = λ o. Is (shape_of_row o) (imms_tree i.imms) in
-    Is.op (code_is (code_of i.opcode) h.kinds h.row)
-    (subst P (sym h.row) (imms_are i.imms h.kinds h.same (kinds_settled (code_of i.opcode) h.kinds h.row)))
+    Is.op (code_is (code_of i.opcode) row.0 row.1) (subst P (sym row.1) (imms_are i.imms row.0 row.2 (kinds_settled (code_of i.opcode) row.0 row.1)))
 
 -- ---- what is in range spells an instruction
 
-pub instruction_spelled : (i : Parts) → HasKinds i.opcode i.imms → CodeInRange (code_of i.opcode) → InRange (imms_tree i.imms) →
+pub instruction_spelled : (i : Parts) → HasKinds i.opcode (map imm_kind i.imms) → CodeInRange (code_of i.opcode) → InRange (imms_tree i.imms) →
     Spells (Shape.op true) (normal (instruction_tree i)) (instruction_tree i)
 instruction_spelled i h c r = frameless_spells (Shape.op true) refl (instruction_is i h) (c, r)

@@ -1,14 +1,13 @@
 -- The trees that instructions stand for (WebAssembly Core Specification 3.0, section 5.4).
-use Rattle.std.specs.Prelude.{◌≡◌, ℕ, ◌^◌, Bool, true, false, List, [], ◌∷◌, length, map, Option, Some, None, nat_lt, nat_eq, if◌then◌else◌}
+use Rattle.std.specs.Prelude.{ℕ, Bool, true, false, List, [], ◌∷◌, length, map, Option, Some, None, if◌then◌else◌}
 use Rattle.std.specs.Int.{to_le_bytes, w32, w64}
-use Rattle.wasm_shapes.specs.declared.Space.{Space}
 use Rattle.wasm_shapes.specs.declared.Space.TheVariants as space
 use Rattle.wasm_shapes.specs.declared.ImmKind.{ImmKind}
 use Rattle.wasm_shapes.specs.declared.ImmKind.TheVariants as kind
 use Rattle.wasm_shapes.specs.declared.Opcode.{Opcode}
-use Rattle.wasm_shapes.specs.Operators.{kinds_of, code_of}
+use Rattle.wasm_shapes.specs.Operators.{code_of}
 use Rattle.wasm_shapes.specs.Tree.{Tree}
-use Rattle.wasm_shapes.specs.Types.{led, vector_tree}
+use Rattle.wasm_shapes.specs.Types.{are_sixteen, is_core, is_counted, led, vector_tree}
 use Rattle.wasm_write.specs.declared.types.RefType.{RefType}
 use Rattle.wasm_write.specs.declared.types.BlockType.{BlockType}
 use Rattle.wasm_write.specs.declared.types.BlockType.TheVariants as block
@@ -22,55 +21,30 @@ use Rattle.wasm_write.specs.Types.{signed_index, heap_type_tree, val_type_tree, 
 
 -- ---- kinds
 
--- the kind, where so many items can be counted
-abbrev pub if_few : ℕ → ImmKind → Option ImmKind
-if_few n k = if nat_lt n (2 ^ 32) then Some k else None
-
--- the kind, where there are 16 bytes
-abbrev pub if_sixteen : List ℕ → ImmKind → Option ImmKind
-if_sixteen bs k = if nat_eq (length bs) 16 then Some k else None
-
--- the kind of an index, where its space is one of a core module
-abbrev pub index_kind : Space → Option ImmKind
-index_kind space.Data = Some (kind.Index space.Data)
-index_kind space.Element = Some (kind.Index space.Element)
-index_kind space.Function = Some (kind.Index space.Function)
-index_kind space.Global = Some (kind.Index space.Global)
-index_kind space.Memory = Some (kind.Index space.Memory)
-index_kind space.Table = Some (kind.Index space.Table)
-index_kind space.Tag = Some (kind.Index space.Tag)
-index_kind space.Type_ = Some (kind.Index space.Type_)
-index_kind _ = None
-
--- the kind of an immediate, where it has one
+-- The kind of an immediate. An index of a space that no core module has, sixteen bytes that are not sixteen, and a list
+-- whose count has no spelling have none.
 abbrev pub imm_kind : Imm → Option ImmKind
 imm_kind (imm.Block ty) = Some kind.Block
 imm_kind (imm.Label label) = Some kind.Label
-imm_kind (imm.Labels targets default) = if_few (length targets) kind.Labels
-imm_kind (imm.Index s i) = index_kind s
+imm_kind (imm.Labels targets default) = if is_counted (length targets) then Some kind.Labels else None
+imm_kind (imm.Index s i) = if is_core s then Some (kind.Index s) else None
 imm_kind (imm.Local i) = Some kind.Local
 imm_kind (imm.Field i) = Some kind.Field
 imm_kind (imm.Size n) = Some kind.Size
-imm_kind (imm.Types types) = if_few (length types) kind.Types
+imm_kind (imm.Types types) = if is_counted (length types) then Some kind.Types else None
 imm_kind (imm.Mem m) = Some kind.Mem
 imm_kind (imm.S32 z) = Some kind.S32
 imm_kind (imm.S64 z) = Some kind.S64
 imm_kind (imm.Four bits) = Some kind.Four
 imm_kind (imm.Eight bits) = Some kind.Eight
-imm_kind (imm.Sixteen bs) = if_sixteen bs.now kind.Sixteen
-imm_kind (imm.Lanes bs) = if_sixteen bs.now kind.Lanes
+imm_kind (imm.Sixteen bs) = if are_sixteen bs.now then Some kind.Sixteen else None
+imm_kind (imm.Lanes bs) = if are_sixteen bs.now then Some kind.Lanes else None
 imm_kind (imm.Lane b) = Some kind.Lane
 imm_kind (imm.Heap ty) = Some kind.Heap
-imm_kind (imm.Catches catches) = if_few (length catches) kind.Catches
+imm_kind (imm.Catches catches) = if is_counted (length catches) then Some kind.Catches else None
 imm_kind (imm.Cast label from to) = Some kind.Cast
-imm_kind (imm.Handlers handlers) = if_few (length handlers) kind.Handlers
+imm_kind (imm.Handlers handlers) = if is_counted (length handlers) then Some kind.Handlers else None
 imm_kind imm.Zero = Some kind.Zero
-
--- the opcode has a row, and the immediates have its kinds
-pub record HasKinds (opcode : Opcode) (imms : List Imm) : Type 0 where
-  pub kinds : List ImmKind
-  pub row : kinds_of opcode ≡ Some kinds
-  pub same : map imm_kind imms ≡ map Some kinds
 
 -- an opcode and its immediates
 pub record Parts : Type 0 where

@@ -1,12 +1,14 @@
 //! Instructions.
-ghost use Rattle.std.specs.Prelude.{◌≡◌, ◌++◌, ◌∷◌, ◌<◌, ◌↔◌, true, map, take, vec_len, All, IsSome, IfSome, IfNone, IsTrue, Some, OnOk, OnErr};
+ghost use Rattle.std.specs.Prelude.{◌≡◌, ◌++◌, ◌∷◌, ◌<◌, ◌↔◌, true, map, take, vec_len, All, IsSome, IfSome, IfNone, IsTrue, Some, None, if◌then◌else◌, OnOk, OnErr};
 ghost use Rattle.wasm_leb.specs.Leb.{leb};
+ghost use Rattle.wasm_shapes.specs.Immediates.{HasKinds};
 ghost use Rattle.wasm_shapes.specs.Operators.{code_of};
 ghost use Rattle.wasm_shapes.specs.Tree.{code_bytes, normal};
 ghost use Rattle.wasm_shapes.specs.Shape.{Shape};
 ghost use Rattle.wasm_shapes.specs.Spells.{Spells};
 ghost use Rattle.wasm_shapes.specs.Fits.{CodeInRange, InRange};
-ghost use Rattle.wasm_write.specs.Instructions.{HasKinds, if_few, if_sixteen, imm_kind, index_kind, imms_tree, instruction_tree};
+ghost use Rattle.wasm_shapes.specs.Types.{are_sixteen, is_core, is_counted};
+ghost use Rattle.wasm_write.specs.Instructions.{imm_kind, imms_tree, instruction_tree};
 
 use crate::immediates::write_imm;
 use crate::types::Imm;
@@ -22,7 +24,7 @@ use wasm_shapes::{ImmKind, Opcode, Space, row_of};
 pub struct Instruction<'a> {
     opcode: Opcode,
     imms: List<Imm<'a>>,
-    ghost fits: { ∥ HasKinds opcode imms ∥₁ },
+    ghost fits: { ∥ HasKinds opcode (map imm_kind imms) ∥₁ },
 }
 
 impl<'a> Model for Instruction<'a> {
@@ -35,24 +37,18 @@ impl<'a> Model for Instruction<'a> {
 
 /// The kind of an index, where its space is one of a core module.
 fn kind_of_index(space: Space) -> Option<ImmKind>
-    ensures { result ≡ index_kind space }
+    ensures { result ≡ (if is_core space then Some (ImmKind.Index space) else None) }
 {
-    match space {
-        Space::Data
-        | Space::Element
-        | Space::Function
-        | Space::Global
-        | Space::Memory
-        | Space::Table
-        | Space::Tag
-        | Space::Type_ => Some(ImmKind::Index(space)),
-        _ => None,
+    if space.is_core() {
+        Some(ImmKind::Index(space))
+    } else {
+        None
     }
 }
 
 /// The kind, where so many items can be counted.
 fn if_counted(count: usize, kind: ImmKind) -> Option<ImmKind>
-    ensures { result ≡ if_few count kind }
+    ensures { result ≡ (if is_counted count then Some kind else None) }
 {
     if count <= u32::MAX as usize {
         Some(kind)
@@ -63,7 +59,7 @@ fn if_counted(count: usize, kind: ImmKind) -> Option<ImmKind>
 
 /// The kind, where there are 16 bytes.
 fn if_sixteen_bytes(bytes: &[u8], kind: ImmKind) -> Option<ImmKind>
-    ensures { result ≡ if_sixteen bytes.now kind }
+    ensures { result ≡ (if are_sixteen bytes.now then Some kind else None) }
 {
     if bytes.len() == 16 { Some(kind) } else { None }
 }
@@ -119,8 +115,8 @@ impl<'a> Instruction<'a> {
     /// that is none of a core module.
     pub fn new(opcode: Opcode, imms: List<Imm<'a>>) -> Option<Instruction<'a>>
         ensures some { IfSome result (λ i. (i.opcode ≡ opcode) × (i.imms ≡ imms.entry)) }
-        ensures has_kinds { IfSome result (λ i. HasKinds opcode imms.entry) }
-        ensures none { IfNone result (HasKinds opcode imms.entry → ⊥) }
+        ensures has_kinds { IfSome result (λ i. HasKinds opcode (map imm_kind imms.entry)) }
+        ensures none { IfNone result (HasKinds opcode (map imm_kind imms.entry) → ⊥) }
     {
         match row_of(opcode) {
             Some(kinds) => {
@@ -136,7 +132,7 @@ impl<'a> Instruction<'a> {
 
     /// An operator with its immediates, which are known to be of the kinds of its row.
     pub fn of_kinds(opcode: Opcode, imms: List<Imm<'a>>) -> Instruction<'a>
-        requires { HasKinds opcode imms }
+        requires { HasKinds opcode (map imm_kind imms) }
         ensures { result ≡ record { opcode = opcode; imms = imms.entry } }
     {
         Instruction { opcode, imms }

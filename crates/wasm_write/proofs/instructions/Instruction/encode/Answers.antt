@@ -4,7 +4,7 @@ use Rattle.wasm_write.proofs.InstructionShapes.{opcode_byte_of, kinds_each_of, i
 use Rattle.wasm_write.proofs.instructions.Instruction.encode.Goals as goal
 
 pub write_opcode-requires : goal.write_opcode-requires
-write_opcode-requires c = opcode_byte_of c.self.inside.opcode c.self.inside.imms c.self.inside.fits
+write_opcode-requires c = opcode_byte_of c.self.inside.opcode _ c.self.inside.fits
 
 pub write_imms-requires : goal.write_imms-requires
 write_imms-requires c = rw c.as_slice.ensures (kinds_each_of c.self.inside.opcode c.self.inside.imms c.self.inside.fits)
