@@ -12,3 +12,4 @@ pub mod BodyLoop
 pub mod Locals
 pub mod WholeBody
 pub mod Leaving
+pub mod Passing

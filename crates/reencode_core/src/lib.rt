@@ -2,6 +2,7 @@
 #![tactic(auto)]
 
 mod bodies;
+mod direct;
 mod errors;
 mod imports;
 mod plain;

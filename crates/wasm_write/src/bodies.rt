@@ -5,17 +5,19 @@ ghost use Rattle.wasm_shapes.specs.Spells.{Spells};
 ghost use Rattle.wasm_shapes.specs.Fits.{InRange};
 ghost use Rattle.wasm_write.specs.Faults.{IfTooLarge};
 ghost use Rattle.wasm_write.specs.Held.{body_tree};
-ghost use Rattle.wasm_write.specs.Instructions.{instruction_tree};
+ghost use Rattle.wasm_write.specs.Instructions.{HasKinds, instruction_tree, operator_tree};
 ghost use Rattle.wasm_shapes.specs.Module.{body as body_shape};
-ghost use Rattle.wasm_write.specs.Bodies.{HeldBody, HeldBody-prop, function_body, local_tree, with_operator};
+ghost use Rattle.wasm_write.specs.Bodies.{HasOperators, HeldBody, HeldBody-prop, function_body, local_tree, with_operator, GainsOperators};
 
 use crate::fault::WriteFault;
-use crate::instructions::Instruction;
-use crate::types::ValType;
+use crate::immediates::append_bytes;
+use crate::instructions::{Instruction, write_operator};
+use crate::types::{Imm, ValType};
 use crate::types_write::write_val_type;
 use std::alloc::Global;
 use std::marker::Model;
 use wasm_leb::{List, NoMemory, write_u32};
+use wasm_shapes::Opcode;
 
 /// A function under construction (WebAssembly Core Specification 3.0, section 5.5.13).
 ///
@@ -102,6 +104,42 @@ impl Function {
     {
         let len = self.bytes.len();
         match instruction.encode(&mut self.bytes) {
+            Ok(()) => Ok(()),
+            Err(NoMemory) => {
+                self.bytes.truncate(len);
+                Err(WriteFault::NoMemory)
+            }
+        }
+    }
+
+    /// Adds the operator of an opcode with these immediates, as `instruction` does, with no list of them.
+    #[inline(always)]
+    pub fn operator(&mut self, opcode: Opcode, imms: &[Imm<'_>]) -> Result<(), WriteFault>
+        requires { HasKinds opcode imms.now }
+        ensures ok { OnOk result (self.new ≡ with_operator self.old (operator_tree opcode imms.now)) }
+        ensures err { OnErr result (self.new ≡ self.old) }
+        ensures wants { IfErr result (λ e. e ≡ WriteFault.NoMemory) }
+    {
+        let len = self.bytes.len();
+        match write_operator(&mut self.bytes, opcode, imms) {
+            Ok(()) => Ok(()),
+            Err(NoMemory) => {
+                self.bytes.truncate(len);
+                Err(WriteFault::NoMemory)
+            }
+        }
+    }
+
+    /// Adds the operators whose normal spelling these bytes are. The one refusal is want of memory, and changes nothing.
+    #[inline(always)]
+    pub fn spelled(&mut self, bytes: &[u8]) -> Result<(), WriteFault>
+        requires { HasOperators bytes.now }
+        ensures ok { OnOk result (GainsOperators self.old bytes.now self.new) }
+        ensures err { OnErr result (self.new ≡ self.old) }
+        ensures wants { IfErr result (λ e. e ≡ WriteFault.NoMemory) }
+    {
+        let len = self.bytes.len();
+        match append_bytes(&mut self.bytes, bytes) {
             Ok(()) => Ok(()),
             Err(NoMemory) => {
                 self.bytes.truncate(len);

@@ -121,6 +121,18 @@ fn write_bytes(out: &mut Vec<u8>, bytes: &[u8]) -> Result<(), NoMemory>
     }
 }
 
+/// Appends bytes, or nothing.
+#[inline(always)]
+pub(crate) fn append_bytes(out: &mut Vec<u8>, bytes: &[u8]) -> Result<(), NoMemory>
+    ensures ok { OnOk result (out.new.items ≡ out.old.items ++ bytes.now) }
+    ensures err { OnErr result (take (vec_len out.old) out.new.items ≡ out.old.items) }
+{
+    match out.extend_from_slice(bytes) {
+        Ok(()) => Ok(()),
+        Err(_) => Err(NoMemory),
+    }
+}
+
 /// Appends an immediate, or a part of it where memory is wanting. The commonest are written in line.
 #[inline(always)]
 pub(crate) fn write_imm(out: &mut Vec<u8>, imm: &Imm<'_>) -> Result<(), NoMemory>

@@ -6,7 +6,7 @@ ghost use Rattle.wasm_shapes.specs.Tree.{code_bytes, normal};
 ghost use Rattle.wasm_shapes.specs.Shape.{Shape};
 ghost use Rattle.wasm_shapes.specs.Spells.{Spells};
 ghost use Rattle.wasm_shapes.specs.Fits.{CodeInRange, InRange};
-ghost use Rattle.wasm_write.specs.Instructions.{HasKinds, if_few, if_sixteen, imm_kind, index_kind, imms_tree, instruction_tree};
+ghost use Rattle.wasm_write.specs.Instructions.{HasKinds, if_few, if_sixteen, imm_kind, index_kind, imms_tree, instruction_tree, operator_tree};
 
 use crate::immediates::write_imm;
 use crate::types::Imm;
@@ -160,6 +160,24 @@ impl<'a> Instruction<'a> {
             Ok(()) => write_imms(out, self.imms.as_slice()),
             Err(NoMemory) => Err(NoMemory),
         }
+    }
+}
+
+/// Appends an operator with immediates of the kinds of its row, or a part of it where memory is wanting.
+#[inline(always)]
+pub(crate) fn write_operator(
+    out: &mut Vec<u8>,
+    opcode: Opcode,
+    imms: &[Imm<'_>],
+) -> Result<(), NoMemory>
+    requires { HasKinds opcode imms.now }
+    ensures ok { OnOk result (out.new.items ≡ out.old.items ++ normal (operator_tree opcode imms.now)) }
+    ensures spells { OnOk result (Spells (Shape.op true) (normal (operator_tree opcode imms.now)) (operator_tree opcode imms.now)) }
+    ensures err { OnErr result (take (vec_len out.old) out.new.items ≡ out.old.items) }
+{
+    match write_opcode(out, opcode) {
+        Ok(()) => write_imms(out, imms),
+        Err(NoMemory) => Err(NoMemory),
     }
 }
 
