@@ -13,3 +13,4 @@ pub mod Locals
 pub mod WholeBody
 pub mod Leaving
 pub mod Passing
+pub mod Runs

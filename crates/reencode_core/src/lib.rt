@@ -2,7 +2,7 @@
 #![tactic(auto)]
 
 mod bodies;
-mod direct;
+pub mod direct;
 mod errors;
 mod imports;
 mod plain;

@@ -1,3 +1,4 @@
+pub mod Full
 pub mod Numbers
 pub mod Placed
 pub mod Shifts

@@ -1,5 +1,5 @@
 -- Functions, code sections and constant expressions that are held, and one operator or row more.
-use Rattle.std.proofs.Common.{◌≡◌, ℕ, ◌+◌, ◌<◌, ◌^◌, List, [], ◌∷◌, ◌++◌, length, map, refl, sym, ap, ap₂, ◌∙◌, append-nil, append_assoc, subst, true, false, arith, ◌≢◌, ◌&&◌, Bool, nat_le, if◌then◌else◌, Option, Some}
+use Rattle.std.proofs.Common.{◌≡◌, ℕ, ◌+◌, ◌<◌, ◌^◌, List, [], ◌∷◌, ◌++◌, length, map, refl, sym, ap, ap₂, ◌∙◌, append-nil, append_assoc, subst, true, false, arith, ◌≢◌, ◌&&◌, Bool, nat_le, if◌then◌else◌, Option, Some, Result, Ok, Err, OnOk, OnErr}
 use Rattle.std.proofs.lemmas.Bool.{leb-true}
 use Rattle.std.specs.Coded.{Coded-set, coded_ℕ, coded_list}
 use mathlib.Core.Logic.{∥∥₁_elim, ∥∥₁_map, ∥∥₁_prop}
@@ -131,6 +131,11 @@ module _ {bytes : List ℕ} (h : HeldBody bytes) where
   -- the bytes have grown by several operators
   pub body_joined : {new text : List ℕ} (rows : List Tree) → new ≡ bytes ++ text → AreOperators text rows → HeldBody new
   body_joined rows e p = let P : List ℕ → Type 0 = λ z. HeldBody z in subst P (sym e) (body_many rows p)
+
+  -- or they are as they were
+  pub body_perhaps_joined : {A E : Type 0} {new text : List ℕ} (r : Result A E) (rows : List Tree) → OnOk r (new ≡ bytes ++ text) → OnErr r (new ≡ bytes) → AreOperators text rows → HeldBody new
+  body_perhaps_joined (Ok a) rows grown same p = body_joined rows grown p
+  body_perhaps_joined (Err e) rows grown same p = let P : List ℕ → Type 0 = λ z. HeldBody z in subst P (sym same) h
 
   pub body_joined_is : {new text : List ℕ} (rows : List Tree) (k : HeldBody new) → new ≡ bytes ++ text → AreOperators text rows →
       held_body new k ≡ with_operators (held_body bytes h) rows

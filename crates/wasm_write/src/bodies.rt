@@ -10,7 +10,7 @@ ghost use Rattle.wasm_shapes.specs.Module.{body as body_shape};
 ghost use Rattle.wasm_write.specs.Bodies.{HasOperators, HeldBody, HeldBody-prop, function_body, local_tree, with_operator, GainsOperators};
 
 use crate::fault::WriteFault;
-use crate::immediates::append_bytes;
+use crate::immediates::write_bytes;
 use crate::instructions::{Instruction, write_operator};
 use crate::types::{Imm, ValType};
 use crate::types_write::write_val_type;
@@ -138,14 +138,10 @@ impl Function {
         ensures err { OnErr result (self.new ≡ self.old) }
         ensures wants { IfErr result (λ e. e ≡ WriteFault.NoMemory) }
     {
-        let len = self.bytes.len();
-        match append_bytes(&mut self.bytes, bytes) {
-            Ok(()) => Ok(()),
-            Err(NoMemory) => {
-                self.bytes.truncate(len);
-                Err(WriteFault::NoMemory)
-            }
-        }
+        let Ok(()) = write_bytes(&mut self.bytes, bytes) else {
+            return Err(WriteFault::NoMemory);
+        };
+        Ok(())
     }
 
     /// The normal spelling of the locals and the operators, which reads back as this function.

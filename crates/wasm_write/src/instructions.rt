@@ -156,10 +156,7 @@ impl<'a> Instruction<'a> {
         ensures spells { OnOk result (∥ Spells (Shape.op true) (normal (instruction_tree self.now)) (instruction_tree self.now) ∥₁) }
         ensures err { OnErr result (take (vec_len out.old) out.new.items ≡ out.old.items) }
     {
-        match write_opcode(out, self.opcode) {
-            Ok(()) => write_imms(out, self.imms.as_slice()),
-            Err(NoMemory) => Err(NoMemory),
-        }
+        write_operator(out, self.opcode, self.imms.as_slice())
     }
 }
 
@@ -170,9 +167,10 @@ pub(crate) fn write_operator(
     opcode: Opcode,
     imms: &[Imm<'_>],
 ) -> Result<(), NoMemory>
-    requires { HasKinds opcode imms.now }
+    requires { ∥ HasKinds opcode imms.now ∥₁ }
     ensures ok { OnOk result (out.new.items ≡ out.old.items ++ normal (operator_tree opcode imms.now)) }
-    ensures spells { OnOk result (Spells (Shape.op true) (normal (operator_tree opcode imms.now)) (operator_tree opcode imms.now)) }
+    ensures spells { OnOk result
+        (∥ Spells (Shape.op true) (normal (operator_tree opcode imms.now)) (operator_tree opcode imms.now) ∥₁) }
     ensures err { OnErr result (take (vec_len out.old) out.new.items ≡ out.old.items) }
 {
     match write_opcode(out, opcode) {

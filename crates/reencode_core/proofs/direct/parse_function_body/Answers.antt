@@ -4,11 +4,11 @@ use Rattle.wasm_read.specs.Operations.{rest_of}
 use Rattle.wasm_write.specs.Bodies.{Body}
 use Rattle.wasm_write.specs.Instructions.{instruction_tree}
 use Rattle.reencode_hooks.specs.Run.{ask}
-use Rattle.reencode_core.specs.declared.direct.Next.TheVariants as next
+use Rattle.reencode_core.specs.declared.direct.passing.Next.TheVariants as next
 use Rattle.reencode_core.proofs.WholeBody.{body_locals_refused, body_given, body_not_added, operator_err, operators_none, operators_on, some_left, none_left}
 use Rattle.reencode_items.proofs.Leaving.{accepted_visited, never_wants}
 use Rattle.reencode_core.proofs.Leaving.{body_leaves_locals, body_leaves_none, body_leaves_next, body_leaves_operator, reading_left}
-use Rattle.reencode_core.proofs.Passing.{body_made, body_passed, gains_locals, run_has, run_is, run_leaves, stop_given, stop_leaves}
+use Rattle.reencode_core.proofs.Runs.{body_made, body_passed, gains_locals, run_has, run_is, run_leaves, stop_given, stop_leaves}
 use Rattle.reencode_core.proofs.direct.parse_function_body.Goals as goal
 
 pub returns-in_err-function-clause-default : goal.returns-in_err-function-clause-default

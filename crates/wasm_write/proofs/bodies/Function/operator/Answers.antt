@@ -5,12 +5,12 @@ use Rattle.wasm_write.proofs.HoldingBodies.{body_grown, body_grown_is, body_same
 use Rattle.wasm_write.proofs.bodies.Function.operator.Goals as goal
 
 pub invariant_of-self-inside : goal.invariant_of-self-inside
-invariant_of-self-inside c = (body_grown c.self.inside.held (operator_tree c.args.opcode c.args.imms.now) c.in-Ok.ensures.ok ∣ c.in-Ok.ensures.spells ∣₁, tt)
+invariant_of-self-inside c = (body_grown c.self.inside.held (operator_tree c.args.opcode c.args.imms.now) c.in-Ok.ensures.ok c.in-Ok.ensures.spells, tt)
 
 pub returns-in-Ok-clause-ok : goal.returns-in-Ok-clause-ok
 returns-in-Ok-clause-ok c =
     let t = operator_tree c.args.opcode c.args.imms.now in
-    body_grown_is c.self.inside.held t _ c.in-Ok.ensures.ok ∣ c.in-Ok.ensures.spells ∣₁ ∙ ap (λ f. with_operator f t) c.self.view_is
+    body_grown_is c.self.inside.held t _ c.in-Ok.ensures.ok c.in-Ok.ensures.spells ∙ ap (λ f. with_operator f t) c.self.view_is
 
 pub returns-in-Err-clause-err : goal.returns-in-Err-clause-err
 returns-in-Err-clause-err c =

@@ -1,7 +1,7 @@
 use Rattle.std.proofs.Common.{◌≤◌, ◌-◌, length}
 use Rattle.reencode_hooks.specs.Run.{ask}
 use Rattle.reencode_core.specs.Direct.{KeepsOperators}
-use Rattle.reencode_core.proofs.direct.pass_run.Given as goal
+use Rattle.reencode_core.proofs.direct.runs.pass_run.Given as goal
 
 -- the operators so far stay as they stand
 abbrev pub invariant-run : goal.invariant-run
