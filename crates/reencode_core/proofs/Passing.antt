@@ -21,7 +21,7 @@ use Rattle.wasm_shapes.specs.Place.{Begins}
 use Rattle.wasm_shapes.proofs.Begins.{begins_empty, begins_s64, begins_seq, begins_u32}
 use Rattle.wasm_read.specs.Immediates.{is_core}
 use Rattle.wasm_write.specs.declared.types.Imm.{Imm}
-use Rattle.wasm_write.specs.Instructions.{HasKinds, index_kind, imm_kind, imm_tree, operator_tree}
+use Rattle.wasm_write.specs.Instructions.{index_kind, imm_kind, imm_tree}
 use Rattle.reencode_hooks.specs.declared.error.Error.{Error}
 use Rattle.reencode_hooks.specs.declared.error.Error.TheVariants.{NoMemory}
 use Rattle.reencode_hooks.specs.Hooks.{Replies}
@@ -34,7 +34,7 @@ use Rattle.reencode_core.specs.declared.direct.classes.Leaf.{Leaf}
 use Rattle.reencode_core.specs.declared.direct.passing.Pass.{Pass}
 use Rattle.reencode_core.specs.declared.direct.passing.Pass.TheVariants as pass
 use Rattle.reencode_core.specs.declared.direct.passing.Next.TheVariants as next
-use Rattle.reencode_core.specs.Direct.{BeginsNormal, HasClass, HasOne, IsHead, IsOfKind, IsUnasked, KeepsLeaf, KeepsOperator, MakesOperator, OperatorThere, Passes, PassesLeaf, PassesS32, RefusesOperator, SkipsLeaf, imm_of, leaf_shape}
+use Rattle.reencode_core.specs.Direct.{BeginsNormal, HasClass, HasOne, IsHead, IsUnasked, KeepsLeaf, KeepsOperator, MakesOperator, OperatorThere, Passes, PassesLeaf, PassesS32, RefusesOperator, SkipsLeaf, imm_of, leaf_shape}
 
 pub class_at : {c d : Class} (op : Opcode) → c ≡ d → HasClass op c → HasClass op d
 class_at op same h = let P : Class → Type 0 = λ z. HasClass op z in subst P same h

@@ -1,7 +1,7 @@
 -- Runs of operators that stay as they stand, and the body that they are a part of.
-use Rattle.std.proofs.Common.{◌≡◌, ◌≢◌, ◌<◌, ◌≤◌, ◌+◌, ◌-◌, ℕ, List, [], ◌∷◌, ◌++◌, length, length-append, true, Result, Ok, Err, refl, sym, ap, ap₂, ◌∙◌, drop, take, append_assoc, subst, arith}
-use Rattle.std.proofs.Math.Seq.{drop-append_seam, take-append_seam, take-length}
-use Rattle.std.proofs.lemmas.List.{drop-drop, length-drop}
+use Rattle.std.proofs.Common.{◌≡◌, ◌≢◌, ◌<◌, ◌≤◌, ◌+◌, ℕ, List, [], ◌∷◌, ◌++◌, length, length-append, true, Result, Ok, Err, refl, sym, ap, ap₂, ◌∙◌, drop, take, append_assoc, subst, arith}
+use Rattle.std.proofs.Math.Seq.{drop-append_seam, take-append_seam}
+use Rattle.std.proofs.lemmas.List.{drop-drop}
 use Rattle.wasm_shapes.specs.declared.Opcode.{Opcode}
 use Rattle.wasm_shapes.specs.declared.Visit.{Visit}
 use Rattle.wasm_shapes.specs.Rows.{rows_then}
@@ -23,12 +23,12 @@ use Rattle.reencode_hooks.specs.Walk.{walk}
 use Rattle.reencode_items.proofs.Leaving.{accepted_visited, refused_visited}
 use Rattle.reencode_core.specs.Bodies.{GivesBody, GivesLocals}
 use Rattle.reencode_core.specs.Leaves.{BodyOf}
-use Rattle.reencode_core.specs.Rows.{Asks, AcceptsRows, locals, onto_rows}
+use Rattle.reencode_core.specs.Rows.{Asks, locals, onto_rows}
 use Rattle.reencode_core.specs.declared.direct.passing.Fresh.{Fresh}
 use Rattle.reencode_core.specs.declared.direct.passing.Next.{Next}
 use Rattle.reencode_core.specs.declared.direct.passing.Next.TheVariants as next
 use Rattle.reencode_core.specs.declared.direct.runs.Run.{Run}
-use Rattle.reencode_core.specs.Direct.{IsWithin, KeepsOperator, KeepsOperators, MakesOperator, PassesNext, PassesRun, RefusesOperator, StopsRun, imm_of}
+use Rattle.reencode_core.specs.Direct.{IsWithin, KeepsOperator, KeepsOperators, PassesNext, PassesRun, RefusesOperator, StopsRun, imm_of}
 use Rattle.reencode_core.proofs.BodyLoop.{ManyLeft, OperatorsDone, many_first, operators_more}
 use Rattle.reencode_core.proofs.Group.{rows_then-both}
 use Rattle.reencode_core.proofs.Leaving.{Leaves, body_leaves_next, body_leaves_none}

@@ -1,5 +1,5 @@
 -- Operators that are passed by, and those that change.
-use Rattle.std.specs.Prelude.{◌≡◌, ◌≢◌, ◌<◌, ◌≤◌, ◌+◌, ◌-◌, ℕ, ℤ, List, [], ◌∷◌, ◌++◌, length, true, Option, Some, Result}
+use Rattle.std.specs.Prelude.{◌≡◌, ◌≢◌, ◌<◌, ◌≤◌, ◌+◌, ◌-◌, ℕ, ℤ, List, [], ◌∷◌, ◌++◌, length, true, Some}
 use Rattle.wasm_shapes.specs.declared.ImmKind.{ImmKind}
 use Rattle.wasm_shapes.specs.declared.ImmKind.TheVariants as kind
 use Rattle.wasm_shapes.specs.declared.Opcode.{Opcode}
