@@ -1,5 +1,5 @@
 //! Makes a module and re-encodes it: `bench WAY FUNCTIONS ROWS ROUNDS`. The module has so many functions, each of so many
-//! rows of seven operators, and is re-encoded so many times. It prints how many bytes came. The ways:
+//! rows of eight operators, and is re-encoded so many times. It prints how many bytes came. The ways:
 //!
 //! | | |
 //! |---|---|

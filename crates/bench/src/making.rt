@@ -2,7 +2,7 @@
 use std::alloc::Global;
 use wasm_leb::{NoMemory, write_u32};
 
-/// Seven operators in fourteen bytes: most numbers take one byte, one constant two. One is a call.
+/// Eight operators in fourteen bytes: most numbers take one byte, one constant two. One is a call.
 const ROW: [u8; 14] = [
     0x20, 0x00, 0x41, 0x05, 0x6a, 0x20, 0x01, 0x6a, 0x41, 0xe8, 0x07, 0x6a, 0x10, 0x03,
 ];

@@ -1,5 +1,5 @@
 -- One operator that is passed by, made anew or refused.
-use Rattle.std.proofs.Common.{◌≡◌, ◌≢◌, ◌≤◌, ◌+◌, ◌-◌, zero, suc, ℕ, ℤ, List, [], ◌∷◌, ◌++◌, length, length-append, Bool, true, false, not, Option, Some, Result, Ok, Err, refl, sym, ap, ◌∙◌, ◌<◌, drop, take, append-nil, append_assoc, subst, arith, inl}
+use Rattle.std.proofs.Common.{◌≡◌, ◌≢◌, ◌≤◌, ◌+◌, ◌-◌, zero, suc, ℕ, ℤ, List, [], ◌∷◌, ◌++◌, length, length-append, Bool, true, false, not, Option, Some, None, Result, Ok, Err, refl, sym, ap, ◌∙◌, ◌<◌, drop, take, append-nil, append_assoc, subst, arith, inl}
 use Rattle.std.proofs.lemmas.Bool.{lt-ltb}
 use Rattle.std.proofs.Math.Seq.{take-length}
 use Rattle.std.proofs.lemmas.List.{append_cancel_right, length-drop, length-take-le, take-append-drop}
@@ -31,10 +31,9 @@ use Rattle.reencode_core.specs.Rows.{Asks}
 use Rattle.reencode_core.specs.declared.direct.classes.Class.{Class}
 use Rattle.reencode_core.specs.declared.direct.classes.Class.TheVariants as class
 use Rattle.reencode_core.specs.declared.direct.classes.Leaf.{Leaf}
-use Rattle.reencode_core.specs.declared.direct.passing.Pass.{Pass}
-use Rattle.reencode_core.specs.declared.direct.passing.Pass.TheVariants as pass
+use Rattle.reencode_core.specs.declared.direct.passing.Next.{Next}
 use Rattle.reencode_core.specs.declared.direct.passing.Next.TheVariants as next
-use Rattle.reencode_core.specs.Direct.{BeginsNormal, HasClass, HasOne, IsHead, IsUnasked, KeepsLeaf, KeepsOperator, MakesOperator, OperatorThere, Passes, PassesLeaf, PassesS32, RefusesOperator, SkipsLeaf, imm_of, leaf_shape}
+use Rattle.reencode_core.specs.Direct.{BeginsNormal, HasClass, HasOne, IsHead, IsUnasked, KeepsLeaf, KeepsOperator, MakesOperator, OperatorThere, Passes, PassesLeaf, PassesNext, PassesS32, RefusesOperator, SkipsLeaf, imm_of, leaf_shape}
 
 pub class_at : {c d : Class} (op : Opcode) → c ≡ d → HasClass op c → HasClass op d
 class_at op same h = let P : Class → Type 0 = λ z. HasClass op z in subst P same h
@@ -194,24 +193,23 @@ keeps_leaf asked s {bytes = bytes} {rest = rest} h row same p =
     let K : ℕ → Type 0 = λ z. KeepsOperator asked s bytes z s in
     subst K (sym p.counted) (keeps_one asked s s h row (subst B (sym same) q.begins) (unasked_walk asked s q.tree q.unasked))
 
-pub leaf_passes : {S E : Type 0} (asked : Asks S E) (s : S) {bytes rest : List ℕ} {op : Opcode} {l : Leaf} (pass : Pass) → IsHead bytes op rest → HasOne op (class.Leaf l) →
-    PassesLeaf (leaf_shape l) bytes rest pass → Passes asked s bytes s pass
-leaf_passes asked s (pass.Kept n) h one p = keeps_leaf asked s h one.row one.is p
-leaf_passes asked s (pass.Stop (next.Made o f n)) h one p = absurd p
-leaf_passes asked s (pass.Stop next.Other) h one p = refl
+pub leaf_passes : {S E : Type 0} (asked : Asks S E) (s : S) {bytes rest : List ℕ} {op : Opcode} {l : Leaf} (next : Next) (kept : Option ℕ) → IsHead bytes op rest →
+    HasOne op (class.Leaf l) → PassesLeaf (leaf_shape l) bytes rest next kept → Passes asked s bytes s next kept
+leaf_passes asked s next (Some n) h one p = keeps_leaf asked s h one.row one.is p
+leaf_passes asked s {bytes = bytes} next None h one p = let P : Next → Type 0 = λ z. PassesNext asked s bytes s z in subst P (sym p) refl
 
 abbrev pub s32_row : {op : Opcode} → HasOne op class.S32 → kinds_of op ≡ Some (kind.S32 ∷ [])
 s32_row one = one.row ∙ ap (λ (z : ImmKind). Some (z ∷ [])) one.is
 
-pub s32_passes : {S E : Type 0} (asked : Asks S E) (s : S) {bytes rest : List ℕ} {op : Opcode} (pass : Pass) → IsHead bytes op rest → HasOne op class.S32 →
-    PassesS32 op bytes rest pass → Passes asked s bytes s pass
-s32_passes asked s (pass.Kept n) h one p = keeps_leaf asked s h (s32_row one) refl p
-s32_passes asked s {bytes = bytes} (pass.Stop (next.Made o f n)) h one p =
+pub s32_passes : {S E : Type 0} (asked : Asks S E) (s : S) {bytes rest : List ℕ} {op : Opcode} (next : Next) (kept : Option ℕ) → IsHead bytes op rest → HasOne op class.S32 →
+    PassesS32 op bytes rest next kept → Passes asked s bytes s next kept
+s32_passes asked s next (Some n) h one p = keeps_leaf asked s h (s32_row one) refl p
+s32_passes asked s {bytes = bytes} (next.Made o f n) None h one p =
     let q = p.1 in
     let M : ℕ → Type 0 = λ z. MakesOperator asked s bytes z o (imm_of f) s in
     let O : Opcode → Type 0 = λ z. MakesOperator asked s bytes (length bytes - length q.left) z (imm_of f) s in
     subst M (sym q.counted) (subst O (sym p.0) (makes_one asked s s h (s32_row one) q.begins (imm_of f) q.kind (λ c. ap (λ (t : Tree). accepted t s) (sym q.tree))))
-s32_passes asked s (pass.Stop next.Other) h one p = refl
+s32_passes asked s next.Other None h one p = refl
 
 -- ---- an index
 

@@ -1,5 +1,5 @@
 -- Operators that are passed by, and those that change.
-use Rattle.std.specs.Prelude.{◌≡◌, ◌≢◌, ◌<◌, ◌≤◌, ◌+◌, ◌-◌, ℕ, ℤ, List, [], ◌∷◌, ◌++◌, length, true, Some}
+use Rattle.std.specs.Prelude.{◌≡◌, ◌≢◌, ◌<◌, ◌≤◌, ◌+◌, ◌-◌, ℕ, ℤ, List, [], ◌∷◌, ◌++◌, length, true, Option, Some, None}
 use Rattle.wasm_shapes.specs.declared.ImmKind.{ImmKind}
 use Rattle.wasm_shapes.specs.declared.ImmKind.TheVariants as kind
 use Rattle.wasm_shapes.specs.declared.Opcode.{Opcode}
@@ -24,8 +24,6 @@ use Rattle.reencode_core.specs.declared.direct.classes.Leaf.{Leaf}
 use Rattle.reencode_core.specs.declared.direct.classes.Leaf.TheVariants as leaf
 use Rattle.reencode_core.specs.declared.direct.passing.Fresh.{Fresh}
 use Rattle.reencode_core.specs.declared.direct.passing.Fresh.TheVariants as fresh
-use Rattle.reencode_core.specs.declared.direct.passing.Pass.{Pass}
-use Rattle.reencode_core.specs.declared.direct.passing.Pass.TheVariants as pass
 use Rattle.reencode_core.specs.declared.direct.passing.Next.{Next}
 use Rattle.reencode_core.specs.declared.direct.passing.Next.TheVariants as next
 use Rattle.reencode_core.specs.declared.direct.runs.Run.{Run}
@@ -110,10 +108,10 @@ abbrev pub PassesNext : {S E : Type 0} → Asks S E → S → List ℕ → S →
 PassesNext asked s bytes m (next.Made op f n) = MakesOperator asked s bytes n op (imm_of f) m
 PassesNext asked s bytes m next.Other = m ≡ s
 
--- what is done with the operator at the front of some bytes
-abbrev pub Passes : {S E : Type 0} → Asks S E → S → List ℕ → S → Pass → Type 0
-Passes asked s bytes m (pass.Kept n) = KeepsOperator asked s bytes n m
-Passes asked s bytes m (pass.Stop next) = PassesNext asked s bytes m next
+-- what is done with the operator at the front of some bytes: so many stay as they stand, or none do
+abbrev pub Passes : {S E : Type 0} → Asks S E → S → List ℕ → S → Next → Option ℕ → Type 0
+Passes asked s bytes m _ (Some n) = KeepsOperator asked s bytes n m
+Passes asked s bytes m next None = PassesNext asked s bytes m next
 
 -- ---- immediates that ask nothing
 
@@ -147,16 +145,15 @@ pub record MakesS32 (bytes rest : List ℕ) (made : Fresh) (n : ℕ) : Type 0 wh
   pub kind : imm_kind (imm_of made) ≡ Some kind.S32
 
 -- the leaf is kept, or nothing was done
-abbrev pub PassesLeaf : Shape → List ℕ → List ℕ → Pass → Type 0
-PassesLeaf shape bytes rest (pass.Kept n) = KeepsLeaf shape bytes rest n
-PassesLeaf shape bytes rest (pass.Stop (next.Made op f n)) = ⊥
-PassesLeaf shape bytes rest (pass.Stop next.Other) = Unit {0}
+abbrev pub PassesLeaf : Shape → List ℕ → List ℕ → Next → Option ℕ → Type 0
+PassesLeaf shape bytes rest _ (Some n) = KeepsLeaf shape bytes rest n
+PassesLeaf shape bytes rest n None = n ≡ next.Other
 
 -- the number is kept or written anew, or nothing was done
-abbrev pub PassesS32 : Opcode → List ℕ → List ℕ → Pass → Type 0
-PassesS32 op bytes rest (pass.Kept n) = KeepsLeaf Shape.s32 bytes rest n
-PassesS32 op bytes rest (pass.Stop (next.Made o f n)) = (o ≡ op) × MakesS32 bytes rest f n
-PassesS32 op bytes rest (pass.Stop next.Other) = Unit {0}
+abbrev pub PassesS32 : Opcode → List ℕ → List ℕ → Next → Option ℕ → Type 0
+PassesS32 op bytes rest _ (Some n) = KeepsLeaf Shape.s32 bytes rest n
+PassesS32 op bytes rest (next.Made o f n) None = (o ≡ op) × MakesS32 bytes rest f n
+PassesS32 op bytes rest next.Other None = Unit {0}
 
 -- ---- runs
 

@@ -1,4 +1,5 @@
-//! What is to be done with one operator: it stays as it stands, or is made anew, or nothing was asked of it.
+//! What is to be done with one operator. It stays as it stands, and so many bytes of it are answered; or none are, and `next`
+//! says what is to be done: what stays needs no memory beside a register.
 ghost use Rattle.std.specs.Prelude.{◌≡◌, ◌<◌, ◌≤◌, ◌++◌, ◌∷◌, IfErr, IfOk, IfSome, IsTrue, Some, length, true};
 ghost use Rattle.wasm_leb.specs.Leb.{leb, shortest_signed};
 ghost use Rattle.wasm_leb.specs.Place.{BeginsNumber, BeginsSigned};
@@ -39,14 +40,6 @@ pub enum Next {
     Made(Opcode, Fresh, usize),
     /// Nothing was asked.
     Other,
-}
-
-/// What is to be done with an operator.
-#[derive(Clone, Copy, Debug)]
-pub enum Pass {
-    /// It stands in its normal spelling of so many bytes, and does not change.
-    Kept(usize),
-    Stop(Next),
 }
 
 // ---- immediates at the front of some bytes
@@ -180,33 +173,35 @@ fn skip_leaf(leaf: Leaf, bytes: &[u8]) -> Option<&[u8]>
 
 /// An immediate that asks nothing.
 #[inline(always)]
-fn pass_leaf(leaf: Leaf, bytes: &[u8], rest: &[u8]) -> Pass
+fn pass_leaf(leaf: Leaf, bytes: &[u8], rest: &[u8], next: &mut Next) -> Option<usize>
     requires { length rest.now ≤ length bytes.now }
-    ensures { PassesLeaf (leaf_shape leaf) bytes.now rest.now result }
+    ensures { PassesLeaf (leaf_shape leaf) bytes.now rest.now next.new result }
 {
     match skip_leaf(leaf, rest) {
-        Some(behind) => Pass::Kept(bytes.len() - behind.len()),
-        None => Pass::Stop(Next::Other),
+        Some(behind) => Some(bytes.len() - behind.len()),
+        None => {
+            *next = Next::Other;
+            None
+        }
     }
 }
 
 /// A number of 32 bits with sign.
 #[inline(always)]
-fn pass_s32(opcode: Opcode, bytes: &[u8], rest: &[u8]) -> Pass
+fn pass_s32(opcode: Opcode, bytes: &[u8], rest: &[u8], next: &mut Next) -> Option<usize>
     requires { length rest.now ≤ length bytes.now }
-    ensures { PassesS32 opcode bytes.now rest.now result }
+    ensures { PassesS32 opcode bytes.now rest.now next.new result }
 {
-    match front_signed(rest) {
-        Some((number, short, behind)) => {
-            let count = bytes.len() - behind.len();
-            if short {
-                Pass::Kept(count)
-            } else {
-                Pass::Stop(Next::Made(opcode, Fresh::S32(number), count))
-            }
-        }
-        None => Pass::Stop(Next::Other),
+    let Some((number, short, behind)) = front_signed(rest) else {
+        *next = Next::Other;
+        return None;
+    };
+    let count = bytes.len() - behind.len();
+    if short {
+        return Some(count);
     }
+    *next = Next::Made(opcode, Fresh::S32(number), count);
+    None
 }
 
 /// The new index of a space of core modules.
@@ -241,25 +236,28 @@ fn pass_index<R: ReencodeIndices>(
     space: Space,
     bytes: &[u8],
     rest: &[u8],
-) -> Result<Pass, Error<R::Error>>
+    next: &mut Next,
+) -> Result<Option<usize>, Error<R::Error>>
     requires head { IsHead bytes.now opcode rest.now }
     requires one { HasOne opcode (class.Index space) }
-    ensures ok { IfOk result (Passes (ask R.reply R.next) reencoder.old bytes.now reencoder.new) }
+    ensures ok { IfOk result
+        (Passes (ask R.reply R.next) reencoder.old bytes.now reencoder.new next.new) }
     ensures err { IfErr result
         (λ e. RefusesOperator (ask R.reply R.next) reencoder.old bytes.now e reencoder.new) }
     ensures sure { NeverWants R.sure result }
 {
     let Some((index, short, behind)) = front_number(rest) else {
-        return Ok(Pass::Stop(Next::Other));
+        *next = Next::Other;
+        return Ok(None);
     };
     match ask_index(reencoder, space, index) {
         Ok(answer) => {
             let count = bytes.len() - behind.len();
             if answer == index && short {
-                Ok(Pass::Kept(count))
-            } else {
-                Ok(Pass::Stop(Next::Made(opcode, Fresh::Index(space, answer), count)))
+                return Ok(Some(count));
             }
+            *next = Next::Made(opcode, Fresh::Index(space, answer), count);
+            Ok(None)
         }
         Err(e) => Err(e),
     }
@@ -286,32 +284,34 @@ fn pass_access<R: ReencodeIndices>(
     opcode: Opcode,
     bytes: &[u8],
     rest: &[u8],
-) -> Result<Pass, Error<R::Error>>
+    next: &mut Next,
+) -> Result<Option<usize>, Error<R::Error>>
     requires head { IsHead bytes.now opcode rest.now }
     requires one { HasOne opcode class.Mem }
-    ensures ok { IfOk result (Passes (ask R.reply R.next) reencoder.old bytes.now reencoder.new) }
+    ensures ok { IfOk result
+        (Passes (ask R.reply R.next) reencoder.old bytes.now reencoder.new next.new) }
     ensures err { IfErr result
         (λ e. RefusesOperator (ask R.reply R.next) reencoder.old bytes.now e reencoder.new) }
     ensures sure { NeverWants R.sure result }
 {
     let Some((align, offset, short, behind)) = front_access(rest) else {
-        return Ok(Pass::Stop(Next::Other));
+        *next = Next::Other;
+        return Ok(None);
     };
     match reencoder.memory_index(0) {
         Ok(memory) => {
             let count = bytes.len() - behind.len();
             if memory == 0 && short {
-                Ok(Pass::Kept(count))
-            } else {
-                let fresh = fresh_access(align, memory, offset);
-                Ok(Pass::Stop(Next::Made(opcode, fresh, count)))
+                return Ok(Some(count));
             }
+            *next = Next::Made(opcode, fresh_access(align, memory, offset), count);
+            Ok(None)
         }
         Err(e) => Err(e),
     }
 }
 
-/// What is to be done with an operator of a class, whose immediates stand behind its number.
+/// An operator of a class, whose immediates stand behind its number.
 #[inline(always)]
 fn pass_class<R: ReencodeIndices>(
     reencoder: &mut R,
@@ -319,85 +319,100 @@ fn pass_class<R: ReencodeIndices>(
     class: Class,
     bytes: &[u8],
     rest: &[u8],
-) -> Result<Pass, Error<R::Error>>
+    next: &mut Next,
+) -> Result<Option<usize>, Error<R::Error>>
     requires head { IsHead bytes.now opcode rest.now }
     requires class { HasClass opcode class }
-    ensures ok { IfOk result (Passes (ask R.reply R.next) reencoder.old bytes.now reencoder.new) }
+    ensures ok { IfOk result
+        (Passes (ask R.reply R.next) reencoder.old bytes.now reencoder.new next.new) }
     ensures err { IfErr result
         (λ e. RefusesOperator (ask R.reply R.next) reencoder.old bytes.now e reencoder.new) }
     ensures sure { NeverWants R.sure result }
 {
     match class {
-        Class::Bare => Ok(Pass::Kept(bytes.len() - rest.len())),
-        Class::Leaf(leaf) => Ok(pass_leaf(leaf, bytes, rest)),
-        Class::S32 => Ok(pass_s32(opcode, bytes, rest)),
-        Class::Index(space) => pass_index(reencoder, opcode, space, bytes, rest),
-        Class::Mem => pass_access(reencoder, opcode, bytes, rest),
+        Class::Bare => Ok(Some(bytes.len() - rest.len())),
+        Class::Leaf(leaf) => Ok(pass_leaf(leaf, bytes, rest, next)),
+        Class::S32 => Ok(pass_s32(opcode, bytes, rest, next)),
+        Class::Index(space) => pass_index(reencoder, opcode, space, bytes, rest, next),
+        Class::Mem => pass_access(reencoder, opcode, bytes, rest, next),
     }
 }
 
-/// What is to be done with an operator, by its row.
+/// An operator, by its row.
 #[inline(never)]
 fn pass_by_row<R: ReencodeIndices>(
     reencoder: &mut R,
     opcode: Opcode,
     bytes: &[u8],
     rest: &[u8],
-) -> Result<Pass, Error<R::Error>>
+    next: &mut Next,
+) -> Result<Option<usize>, Error<R::Error>>
     requires { IsHead bytes.now opcode rest.now }
-    ensures ok { IfOk result (Passes (ask R.reply R.next) reencoder.old bytes.now reencoder.new) }
+    ensures ok { IfOk result
+        (Passes (ask R.reply R.next) reencoder.old bytes.now reencoder.new next.new) }
     ensures err { IfErr result
         (λ e. RefusesOperator (ask R.reply R.next) reencoder.old bytes.now e reencoder.new) }
     ensures sure { NeverWants R.sure result }
 {
     match class_by_row(opcode) {
-        Some(class) => pass_class(reencoder, opcode, class, bytes, rest),
-        None => Ok(Pass::Stop(Next::Other)),
+        Some(class) => pass_class(reencoder, opcode, class, bytes, rest, next),
+        None => {
+            *next = Next::Other;
+            Ok(None)
+        }
     }
 }
 
-/// What is to be done with an operator that begins with this byte and is not among the frequent ones.
+/// An operator that begins with this byte and is not among the frequent ones.
 #[inline(never)]
 fn pass_rare<R: ReencodeIndices>(
     reencoder: &mut R,
     first: u8,
     bytes: &[u8],
     rest: &[u8],
-) -> Result<Pass, Error<R::Error>>
+    next: &mut Next,
+) -> Result<Option<usize>, Error<R::Error>>
     requires { bytes.now ≡ first ∷ rest.now }
-    ensures ok { IfOk result (Passes (ask R.reply R.next) reencoder.old bytes.now reencoder.new) }
+    ensures ok { IfOk result
+        (Passes (ask R.reply R.next) reencoder.old bytes.now reencoder.new next.new) }
     ensures err { IfErr result
         (λ e. RefusesOperator (ask R.reply R.next) reencoder.old bytes.now e reencoder.new) }
     ensures sure { NeverWants R.sure result }
 {
     if stands_alone(first) {
-        return pass_by_row(reencoder, one_byte(first), bytes, rest);
+        return pass_by_row(reencoder, one_byte(first), bytes, rest, next);
     }
     match front_number(rest) {
         Some((sub, true, behind)) => {
             let opcode = Opcode { prefix: first, sub };
-            pass_by_row(reencoder, opcode, bytes, behind)
+            pass_by_row(reencoder, opcode, bytes, behind, next)
         }
-        _ => Ok(Pass::Stop(Next::Other)),
+        _ => {
+            *next = Next::Other;
+            Ok(None)
+        }
     }
 }
 
-/// What is to be done with the operator at the front of some bytes.
+/// The operator at the front of some bytes.
 #[inline(always)]
 pub fn pass_operator<R: ReencodeIndices>(
     reencoder: &mut R,
     bytes: &[u8],
-) -> Result<Pass, Error<R::Error>>
-    ensures ok { IfOk result (Passes (ask R.reply R.next) reencoder.old bytes.now reencoder.new) }
+    next: &mut Next,
+) -> Result<Option<usize>, Error<R::Error>>
+    ensures ok { IfOk result
+        (Passes (ask R.reply R.next) reencoder.old bytes.now reencoder.new next.new) }
     ensures err { IfErr result
         (λ e. RefusesOperator (ask R.reply R.next) reencoder.old bytes.now e reencoder.new) }
     ensures sure { NeverWants R.sure result }
 {
     let Some((first, rest)) = front_byte(bytes) else {
-        return Ok(Pass::Stop(Next::Other));
+        *next = Next::Other;
+        return Ok(None);
     };
     match frequent_class(first) {
-        Some(class) => pass_class(reencoder, one_byte(first), class, bytes, rest),
-        None => pass_rare(reencoder, first, bytes, rest),
+        Some(class) => pass_class(reencoder, one_byte(first), class, bytes, rest, next),
+        None => pass_rare(reencoder, first, bytes, rest, next),
     }
 }

@@ -3,7 +3,7 @@ ghost use Rattle.std.specs.Prelude.{IfErr, IfOk, length};
 ghost use Rattle.reencode_hooks.specs.Run.{NeverWants, ask};
 ghost use Rattle.reencode_core.specs.Direct.{IsWithin, PassesRun, StopsRun};
 
-use crate::direct::passing::{Next, Pass, pass_operator};
+use crate::direct::passing::{Next, pass_operator};
 use reencode_hooks::{Error, ReencodeIndices};
 
 /// How many bytes stay as they stand, and what is to be done with the operator behind them.
@@ -26,10 +26,11 @@ pub fn pass_run<R: ReencodeIndices>(
     ensures sure { NeverWants R.sure result }
 {
     let mut kept = 0;
+    let mut next = Next::Other;
     'run: loop {
-        match pass_operator(reencoder, &bytes[kept..]) {
-            Ok(Pass::Kept(count)) => kept += count,
-            Ok(Pass::Stop(next)) => return Ok(Run { kept, next }),
+        match pass_operator(reencoder, &bytes[kept..], &mut next) {
+            Ok(Some(count)) => kept += count,
+            Ok(None) => return Ok(Run { kept, next }),
             Err(e) => return Err(e),
         }
     }

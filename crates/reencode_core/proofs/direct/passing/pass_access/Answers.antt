@@ -13,8 +13,8 @@ returns-then-short-clause-ok g c =
 pub returns-else-memory-eq0-clause-ok : goal.returns-else-memory-eq0-clause-ok
 returns-else-memory-eq0-clause-ok g c =
     let i = g.R.ReencodeIndices in
-    makes_one _ _ _ c.requires.head (mem_row c.requires.one) c.in-Some.ensures.begins _ c.fresh_access-fresh.ensures.kind
-    (λ n. mem_made i.reply i.next _ _ _ _ _ c.in-Ok.ensures.answer n ∙ ap (λ (t : Tree). accepted t c.memory_index.new.self) (sym c.fresh_access-fresh.ensures.tree))
+    makes_one _ _ _ c.requires.head (mem_row c.requires.one) c.in-Some.ensures.begins _ c.fresh_access.ensures.kind
+    (λ n. mem_made i.reply i.next _ _ _ _ _ c.in-Ok.ensures.answer n ∙ ap (λ (t : Tree). accepted t c.memory_index.new.self) (sym c.fresh_access.ensures.tree))
 
 pub returns-in-Err-clause-err : goal.returns-in-Err-clause-err
 returns-in-Err-clause-err g c =

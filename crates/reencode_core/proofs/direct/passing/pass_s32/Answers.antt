@@ -17,8 +17,8 @@ returns-then-short c = record {
   counted = refl;
 }
 
-pub returns-else-short : goal.returns-else-short
-returns-else-short c =
+pub returns : goal.returns
+returns c =
     let fits : SFits w32 c.in-Some.number = search rules in
     (refl, record {
       number = c.in-Some.number;

@@ -10,22 +10,22 @@ run-init g c = record { within = omega arith; kept = no_run _ _ _ }
 pub run-preserved : goal.run-preserved
 run-preserved g c =
     let i = g.R.ReencodeIndices in
-    let more = run_more (ask i.reply i.next) c.run.invariant.kept (rest_is c.run.kept c.args.bytes.now) (rw c.in-Ok-Kept.field-0-is at c.in-Ok-Kept.ensures.ok) in
+    let more = run_more (ask i.reply i.next) c.run.invariant.kept (rest_is c.run.kept c.args.bytes.now) (rw c.in-Ok-Some.field-0-is at c.in-Ok-Some.ensures.ok) in
     record { within = run_within more; kept = more }
 
-pub returns-in-Ok-Stop-clause-ok : goal.returns-in-Ok-Stop-clause-ok
-returns-in-Ok-Stop-clause-ok g c =
+pub returns-in-Ok-None-clause-ok : goal.returns-in-Ok-None-clause-ok
+returns-in-Ok-None-clause-ok g c =
     let i = g.R.ReencodeIndices in
-    run_ends (ask i.reply i.next) _ _ c.run.invariant.kept (rest_is c.run.kept c.args.bytes.now) (rw c.in-Ok-Stop.field-0-is at c.in-Ok-Stop.ensures.ok)
+    run_ends (ask i.reply i.next) _ _ c.run.invariant.kept (rest_is c.run.kept c.args.bytes.now) (rw c.in-Ok-None.field-0-is at c.in-Ok-None.ensures.ok)
 
 pub returns-in-Err-clause-err : goal.returns-in-Err-clause-err
 returns-in-Err-clause-err g c =
     let i = g.R.ReencodeIndices in
     run_stops (ask i.reply i.next) _ _ c.run.invariant.kept (rest_is c.run.kept c.args.bytes.now) c.in-Err.ensures.err
 
-pub returns-in-Ok-Stop-clause-within : goal.returns-in-Ok-Stop-clause-within
-returns-in-Ok-Stop-clause-within g c =
+pub returns-in-Ok-None-clause-within : goal.returns-in-Ok-None-clause-within
+returns-in-Ok-None-clause-within g c =
     let i = g.R.ReencodeIndices in
-    let s = c.in-Ok-Stop in
-    next_within _ s.next
-    (run_ends (ask i.reply i.next) _ s.next c.run.invariant.kept (rest_is c.run.kept c.args.bytes.now) (rw s.field-0-is at s.ensures.ok))
+    let s = c.in-Ok-None in
+    next_within _ c.pass_operator.new.next
+    (run_ends (ask i.reply i.next) _ c.pass_operator.new.next c.run.invariant.kept (rest_is c.run.kept c.args.bytes.now) (rw s.field-0-is at s.ensures.ok))
