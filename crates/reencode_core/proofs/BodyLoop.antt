@@ -228,45 +228,45 @@ in_frame {reader = reader} {reader' = reader'} {bytes = bytes} r t left there = 
 
 module _ {S E : Type 0} (reply : S → Visit → Result ℕ E) (next : S → Visit → S) {c : ℕ} {start reader reader' : Standing} {s0 s s' : S} {old : List Tree} {mid new : CodeRows} {bytes : List ℕ}
     (same : mid.ceiling ≡ c) (d : RowsDone (ask reply next) c code_row start s0 old reader s mid.rows) (r : RowRead frame_row reader (Tree.sized (Tree.raw bytes)) reader') where
-  pub body_more : GivesBody (ask reply next) bytes s mid s' new (Ok tt) → RowsDone (ask reply next) c code_row start s0 old reader' s' new.rows
+  pub body_more : GivesBody (ask reply next) bytes (s, mid) (s', new) (Ok tt) → RowsDone (ask reply next) c code_row start s0 old reader' s' new.rows
   body_more g =
       let t = g.readable.0 in
       let q = g.reading t g.readable.1 in
       let W : ℕ → Type 0 = λ n. walk (ask reply next) n s (Tree.sized t) ≡ accepted q.0 s' in
       rows_more (ask reply next) refl refl d (code_read r g.readable.1) (subst W same q.1) q.2
 
-  pub body_err : (e : Error E) (at : ℕ) → GivesBody (ask reply next) bytes s mid s' new (Err e) → at ≡ place_of reader → GivesRows (ask reply next) c code_row start s0 old s' new.rows (Err (placed_at e at))
+  pub body_err : (e : Error E) (at : ℕ) → GivesBody (ask reply next) bytes (s, mid) (s', new) (Err e) → at ≡ place_of reader → GivesRows (ask reply next) c code_row start (s0, old) (s', new.rows) (Err (placed_at e at))
   body_err e at g place = go e g
     where
       -- where the body has a reading, its row stands whole
-      inside : (e : Error E) → GivesBody (ask reply next) bytes s mid s' new (Err e) → e ≢ NoMemory → ((t : Tree) × Spells body bytes t) ⊎ StopsBody (ask reply next) mid.ceiling bytes s e s' →
+      inside : (e : Error E) → GivesBody (ask reply next) bytes (s, mid) (s', new) (Err e) → e ≢ NoMemory → ((t : Tree) × Spells body bytes t) ⊎ StopsBody (ask reply next) mid.ceiling bytes s e s' →
           RefusesWhole (ask reply next) c code_row reader.rest s (length mid.rows) e s' ⊎ RefusesInside (ask reply next) c code_row reader.rest s e s'
       inside e g other (inl q) =
           let here = code_begins r.begins q.1 in
-          let N : ℕ → Type 0 = λ n. GivesRow (ask reply next) n s (Tree.sized q.0) mid.rows s' new.rows (Err e) in
+          let N : ℕ → Type 0 = λ n. GivesRow (ask reply next) n (s, mid.rows) (Tree.sized q.0) (s', new.rows) (Err e) in
           let given = subst N same (g.reading q.0 q.1) in
           inl (record { tree = Tree.sized q.0; left = reader'.rest; begins = here; refusal = large_is_many (ask reply next) c s s' (Tree.sized q.0) here.text (length mid.rows) e here.spells.spelled (given.1 other) })
       inside e g other (inr q) =
           let N : ℕ → Type 0 = λ n. StopsBody (ask reply next) n bytes s e s' in
           inr (record { framed = refl; body = bytes; left = reader'.rest; begins = r.begins; stops = subst N same q })
 
-      refuses : (e : Error E) → GivesBody (ask reply next) bytes s mid s' new (Err e) →
+      refuses : (e : Error E) → GivesBody (ask reply next) bytes (s, mid) (s', new) (Err e) →
           IfRefused e (RefusesWhole (ask reply next) c code_row reader.rest s (length mid.rows) e s' ⊎ RefusesInside (ask reply next) c code_row reader.rest s e s')
       refuses (UserError x) g = inside (UserError x) g (λ q. cc) g.refusal
       refuses (TooLarge x) g = inside (TooLarge x) g (λ q. cc) g.refusal
       refuses _ g = tt
 
-      refusal : (e : Error E) → GivesBody (ask reply next) bytes s mid s' new (Err e) → IfParse e (λ at. ⊥) → GivesRows (ask reply next) c code_row start s0 old s' new.rows (Err e)
+      refusal : (e : Error E) → GivesBody (ask reply next) bytes (s, mid) (s', new) (Err e) → IfParse e (λ at. ⊥) → GivesRows (ask reply next) c code_row start (s0, old) (s', new.rows) (Err e)
       refusal e g usual =
           let less = r.counted in
           rows_refused_if reply next d e reader'.left (omega arith) (λ t left there.
           let f = in_frame r t left there in
           let q = g.reading f.0 f.2 in
-          let P : Tree → Type 0 = λ z. GivesRow (ask reply next) c s z mid.rows s' new.rows (Err e) in
-          let N : ℕ → Type 0 = λ n. GivesRow (ask reply next) n s (Tree.sized f.0) mid.rows s' new.rows (Err e) in
+          let P : Tree → Type 0 = λ z. GivesRow (ask reply next) c (s, mid.rows) z (s', new.rows) (Err e) in
+          let N : ℕ → Type 0 = λ n. GivesRow (ask reply next) n (s, mid.rows) (Tree.sized f.0) (s', new.rows) (Err e) in
           subst P (sym f.1) (subst N same q)) (ap CodeRows.rows g.unchanged) usual (refuses e g)
 
-      go : (e : Error E) → GivesBody (ask reply next) bytes s mid s' new (Err e) → GivesRows (ask reply next) c code_row start s0 old s' new.rows (Err (placed_at e at))
+      go : (e : Error E) → GivesBody (ask reply next) bytes (s, mid) (s', new) (Err e) → GivesRows (ask reply next) c code_row start (s0, old) (s', new.rows) (Err (placed_at e at))
       go (ParseError x) g = rows_faulty reply next d at (code_unread r g.unreadable.0) place g.unreadable.2 (ap CodeRows.rows g.unchanged)
       go (UserError x) g = refusal (UserError x) g tt
       go (TooLarge x) g = refusal (TooLarge x) g tt
@@ -278,7 +278,7 @@ keeps_code code = record { ceiling = refl; rows = take-length code.rows }
 
 -- no frame is there
 pub frames_unread : {S E : Type 0} (asked : Asks S E) {c : ℕ} {start reader : Standing} {s0 s : S} {old new : List Tree} (f : Fault) → RowsDone asked c code_row start s0 old reader s new →
-    ReadsNone f (place_of reader) (RowMissing frame_row reader) → GivesRows asked c code_row start s0 old s new (Err (error_of_fault f))
+    ReadsNone f (place_of reader) (RowMissing frame_row reader) → GivesRows asked c code_row start (s0, old) (s, new) (Err (error_of_fault f))
 frames_unread asked {reader = reader} f d none = rows_unread asked f d (go f none)
   where
     go : (f : Fault) → ReadsNone f (place_of reader) (RowMissing frame_row reader) → ReadsNoneOrWants f (place_of reader) (RowMissing code_row reader)

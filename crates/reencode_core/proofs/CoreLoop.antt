@@ -11,11 +11,12 @@ use Rattle.wasm_shapes.specs.Tree.{Tree, kind, normal, visits, visits_from}
 use Rattle.wasm_shapes.specs.Spells.{Is, Spelled, Spells}
 use Rattle.wasm_shapes.specs.Place.{Begins, BeginsNone}
 use Rattle.wasm_shapes.specs.Rows.{rows_then}
-use Rattle.wasm_shapes.specs.Module.{core_header, component_header, section, sections, frame, alsos, CoreReading, FaultAt}
+use Rattle.wasm_shapes.specs.Module.{core_header, component_header, section, sections, frame, alsos, tree_of, CoreReading, FaultAt}
 use Rattle.wasm_shapes.proofs.Unique.{unique}
 use Rattle.wasm_shapes.proofs.Begins.{none_at_end}
-use Rattle.wasm_shapes.proofs.Framing.{none_section}
-use Rattle.wasm_read.specs.Frames.{section_number, numbered_frame, NoCoreHeader}
+use Rattle.wasm_shapes.proofs.SectionTable.{none_section}
+use Rattle.wasm_shapes.specs.SectionTable.{number}
+use Rattle.wasm_read.specs.Frames.{numbered_frame, NoCoreHeader}
 use Rattle.wasm_read.specs.Reading.{ReadsNone}
 use Rattle.wasm_write.specs.Sections.{Sections, SectionRow, section_row, section_bytes, sections_bytes}
 use Rattle.reencode_hooks.specs.declared.error.Error.{Error}
@@ -28,11 +29,11 @@ use Rattle.reencode_items.proofs.Leaving.{never_wants, none_visited, one_visited
 use Rattle.reencode_core.specs.Leaves.{LeavesReading}
 use Rattle.reencode_core.specs.Errors.{IfParse, IfRefused, placed_at}
 use Rattle.reencode_core.specs.Rows.{Asks, Further}
-use Rattle.reencode_core.specs.Sections.{section_tree, ReadsAs, BodyFault, StopsSection, GivesSection}
+use Rattle.reencode_core.specs.Sections.{ReadsAs, BodyFault, StopsSection, GivesSection}
 use Rattle.reencode_core.specs.Core.{hooked, onto, AcceptsSections, RefusesNext, StopsSections, GivesModule, RefusedIn, StopsInside, BeforeFault, IsCause, GivesCore}
 use Rattle.reencode_core.proofs.Counts.{walk_further, further_none, further_one, further_then}
 use Rattle.reencode_core.proofs.Usual.{IfRefused-map, unless_wanting, usual_ask, stops_usual}
-use Rattle.reencode_core.proofs.Known.{numbered_is, section_begins, section_none, section_announced, section_onward, hook_visits, inside_visits, reads_begun, some_begun}
+use Rattle.reencode_core.proofs.Known.{section_begins, section_none, section_announced, section_onward, hook_visits, inside_visits, reads_begun, some_begun}
 
 -- ---- lists of sections
 
@@ -231,7 +232,7 @@ module _ {S E : Type 0} (asked : Asks S E) where
   hooked_ok : (c : ℕ) (k : SectionId) {body : List ℕ} (last : Option SectionId) (s n m : S) (t v : Tree) → ReadsAs k body t →
       asked s (Section last (Some k)) ≡ accepted 0 n → walk asked c n t ≡ accepted v m → (hooked asked c last s t ≡ accepted v m) × (kind last t ≡ Some k)
   hooked_ok c k last s n m t v r h w =
-      let a = section_announced asked s last k r.0 r.2 in
+      let a = section_announced k asked s last r.0 in
       let told : announced asked s last t ≡ accepted 0 n = rw r.1 (a.0 ∙ h) in
       let kinds : kind last t ≡ Some k = rw r.1 a.1 in
       (and_then_ok told w, kinds)
@@ -242,27 +243,27 @@ module _ {S E : Type 0} (asked : Asks S E) where
   hooked_err : (c : ℕ) (k : SectionId) {body : List ℕ} (last : Option SectionId) (s n m : S) (t : Tree) (e : Error E) → ReadsAs k body t →
       asked s (Section last (Some k)) ≡ accepted 0 n → walk asked c n t ≡ refused e m → hooked asked c last s t ≡ refused e m
   hooked_err c k last s n m t e r h w =
-      let a = section_announced asked s last k r.0 r.2 in
+      let a = section_announced k asked s last r.0 in
       let told : announced asked s last t ≡ accepted 0 n = rw r.1 (a.0 ∙ h) in
       ap (λ (a : Step S (Error E) ℕ). and_then a (λ _ m. walk asked c m t)) told ∙ w
 
   hooked_refused : (c : ℕ) (k : SectionId) {body : List ℕ} (last : Option SectionId) (s m : S) (t : Tree) (e : Error E) → ReadsAs k body t →
       asked s (Section last (Some k)) ≡ refused e m → hooked asked c last s t ≡ refused e m
   hooked_refused c k last s m t e r h =
-      let a = section_announced asked s last k r.0 r.2 in
+      let a = section_announced k asked s last r.0 in
       let told : announced asked s last t ≡ refused e m = rw r.1 (a.0 ∙ h) in
       ap (λ (a : Step S (Error E) ℕ). and_then a (λ _ m. walk asked c m t)) told
 
   pub sections_more : (k : SectionId) {start rest rest' body : List ℕ} {s0 s n s' : S} {old new mid new' : Sections} {last : Option SectionId} →
-      SectionsDone asked start s0 old rest last s new → Begins frame rest (numbered_frame (section_number k) body) rest' →
-      (asked s (Section last (Some k)) ≡ accepted 0 n) × (mid ≡ new) → GivesSection asked k body n mid s' new' (Ok tt) →
+      SectionsDone asked start s0 old rest last s new → Begins frame rest (numbered_frame (number k) body) rest' →
+      (asked s (Section last (Some k)) ≡ accepted 0 n) × (mid ≡ new) → GivesSection asked k body (n, mid) (s', new') (Ok tt) →
       SectionsDone asked start s0 old rest' (Some k) s' new'
   sections_more k {rest = rest} {rest' = rest'} {body = body} {s0 = s0} {s = s} {n = n} {s' = s'} {old = old} {new = new} {mid = mid} {new' = new'} {last = last} d there hook given =
-      let P : Sections → Type 0 = λ z. GivesSection asked k body n z s' new' (Ok tt) in
+      let P : Sections → Type 0 = λ z. GivesSection asked k body (n, z) (s', new') (Ok tt) in
       let g = subst P hook.1 given in
       let t : Tree = g.readable.0 in
       let reads : ReadsAs k body t = g.readable.1 in
-      let begun = section_begins k reads.0 (numbered_is there) reads.2 in
+      let begun = section_begins k reads.0 there reads.2 in
       let B : Tree → Type 0 = λ v. Begins section rest v rest' in
       let here = subst B (sym reads.1) begun in
       let q = g.reading t reads in
@@ -270,7 +271,7 @@ module _ {S E : Type 0} (asked : Asks S E) where
       let W : ℕ → Type 0 = λ c. walk asked c n t ≡ accepted q.0 s' in
       let walked : walk asked old.ceiling n t ≡ accepted q.0 s' = subst W ceiling q.2 in
       let step = hooked_ok old.ceiling k last s n s' t q.0 reads hook.0 walked in
-      let row : SectionRow = section_row (section_number k) q.1 in record {
+      let row : SectionRow = section_row (number k) q.1 in record {
         read = d.read ++ t ∷ [];
         made = d.made ++ q.0 ∷ [];
         text = d.text ++ here.text;
@@ -328,7 +329,7 @@ module _ {S E : Type 0} (asked : Asks S E) where
 
     -- what was added when a refusal comes, and why it comes
     stopped : (e : Error E) (s' : S) (new' : Sections) (t u : Tree) → t ≡ alsos d.read u → new' ≡ new →
-        (e ≢ NoMemory → RefusesNext asked old.ceiling last s u e s') → StopsSections asked old.ceiling s0 t old s' new' e
+        (e ≢ NoMemory → RefusesNext asked old.ceiling last s u e s') → StopsSections asked old.ceiling (s0, old) t (s', new') e
     stopped e s' new' t u f unchanged stops = record {
       read = d.read;
       others = u;
@@ -344,16 +345,16 @@ module _ {S E : Type 0} (asked : Asks S E) where
     }
 
     -- a section, or the hook before it, is refused
-    pub section_refused : (k : SectionId) {left body : List ℕ} {s' : S} {new' : Sections} (e : Error E) → Begins frame rest (numbered_frame (section_number k) body) left →
+    pub section_refused : (k : SectionId) {left body : List ℕ} {s' : S} {new' : Sections} (e : Error E) → Begins frame rest (numbered_frame (number k) body) left →
         ((t : Tree) → ReadsAs k body t → (new' ≡ new) × (e ≢ NoMemory → hooked asked old.ceiling last s t ≡ refused e s')) → IfParse e (λ at. ⊥) →
-        IfRefused e (((t : Tree) × ReadsAs k body t) ⊎ StopsInside asked old.ceiling rest last s e s') → GivesCore asked bytes s0 old s' new' (Err e)
+        IfRefused e (((t : Tree) × ReadsAs k body t) ⊎ StopsInside asked old.ceiling rest last s e s') → GivesCore asked bytes (s0, old) (s', new') (Err e)
     section_refused k {left = left_behind} {body = body} {s' = s'} {new' = new'} e there stops usual inside = record {
       reading = λ t r. go t (read_ahead t r);
       readable = tt;
       cause = cause e (λ t r. (stops t r).1) usual inside;
     }
       where
-        go : (t : Tree) → Ahead d.read rest t [] → StopsSections asked old.ceiling s0 t old s' new' e
+        go : (t : Tree) → Ahead d.read rest t [] → StopsSections asked old.ceiling (s0, old) t (s', new') e
         go t (same f empty) = absurd (some_begun there empty)
         go t (more u v left f b) = let h = stops u (reads_begun k there b) in stopped e s' new' t (Tree.also u v) f h.0 h.1
 
@@ -364,8 +365,8 @@ module _ {S E : Type 0} (asked : Asks S E) where
             ⊎ ((made : List Tree) × (last : Option SectionId) × (n : S) × AcceptsSections asked old.ceiling s0 before made last n × StopsInside asked old.ceiling left last n w s')
         either w h q before left fault (more t u behind f b) = inl (refused_in before t u (more_before before t u f) (h t (reads_begun k there b)))
         either w h (inl q) before left fault (same f r) =
-            let b = section_begins k q.1.0 (numbered_is there) q.1.2 in
-            absurd (fault.front.ends.none b.text left_behind (section_tree k q.1.0) b.spells (sym r ∙ b.reads))
+            let b = section_begins k q.1.0 there q.1.2 in
+            absurd (fault.front.ends.none b.text left_behind (tree_of k q.1.0) b.spells (sym r ∙ b.reads))
         either w h (inr q) before left fault (same f r) =
             let P : List ℕ → Type 0 = λ z. StopsInside asked old.ceiling z last s w s' in
             inr (d.made, last, s, accepted_before before (all_before before f), subst P r q)
@@ -383,7 +384,7 @@ module _ {S E : Type 0} (asked : Asks S E) where
 
     -- no section begins, though bytes are left, as further visits showed
     fault_behind : {s' : S} {new' : Sections} (at : ℕ) → BeginsNone section rest → rest ≢ [] → at ≡ length bytes - length rest → Further asked s s' →
-        GivesCore asked bytes s0 old s' new' (Err (ParseError (record { at = at })))
+        GivesCore asked bytes (s0, old) (s', new') (Err (ParseError (record { at = at })))
     fault_behind {s' = s'} {new' = new'} at none some place further = record {
       reading = λ t r. absurd (go t (read_ahead t r));
       readable = tt;
@@ -396,34 +397,34 @@ module _ {S E : Type 0} (asked : Asks S E) where
 
     -- no section begins
     pub no_section : {new' : Sections} (at : ℕ) → BeginsNone section rest → rest ≢ [] → at ≡ length bytes - length rest →
-        GivesCore asked bytes s0 old s new' (Err (ParseError (record { at = at })))
+        GivesCore asked bytes (s0, old) (s, new') (Err (ParseError (record { at = at })))
     no_section at none some place = fault_behind at none some place (further_none asked s)
 
     -- no frame begins
     pub no_frame : {new' : Sections} (f : Fault) (at : ℕ) → ReadsNone f at (BeginsNone frame rest × (rest ≢ [])) → at ≡ length bytes - length rest →
-        GivesCore asked bytes s0 old s new' (Err (error_of_fault f))
+        GivesCore asked bytes (s0, old) (s, new') (Err (error_of_fault f))
     no_frame (fault.Read x) at h place = no_section x.at (none_section h.1.0) h.1.1 (h.0 ∙ place)
     no_frame (fault.Header k) at h place = absurd h
     no_frame fault.CodeSize at h place = absurd h
     no_frame fault.NoMemory at h place = absurd h
 
     -- the error of the hook before a section
-    pub hook_refused : (k : SectionId) {left body : List ℕ} {s' : S} {new' : Sections} (e : Error E) → Begins frame rest (numbered_frame (section_number k) body) left → new' ≡ new →
-        (e ≢ NoMemory → asked s (Section last (Some k)) ≡ refused e s') → IfParse e (λ at. ⊥) → GivesCore asked bytes s0 old s' new' (Err e)
+    pub hook_refused : (k : SectionId) {left body : List ℕ} {s' : S} {new' : Sections} (e : Error E) → Begins frame rest (numbered_frame (number k) body) left → new' ≡ new →
+        (e ≢ NoMemory → asked s (Section last (Some k)) ≡ refused e s') → IfParse e (λ at. ⊥) → GivesCore asked bytes (s0, old) (s', new') (Err e)
     hook_refused k {left = left} {body = body} {s' = s'} e there unchanged stops usual =
         section_refused k e there (λ t r. (unchanged, λ other. hooked_refused old.ceiling k last s s' t e r (stops other))) usual
         (unless_wanting e (λ other. inr (record { id = k; body = body; left = left; framed = there; stops = inl (stops other) })))
 
     -- a section's error, at the section's place
-    pub section_err : (k : SectionId) {left body : List ℕ} {n s' : S} {mid new' : Sections} (e : Error E) (at : ℕ) → Begins frame rest (numbered_frame (section_number k) body) left →
-        (asked s (Section last (Some k)) ≡ accepted 0 n) × (mid ≡ new) → GivesSection asked k body n mid s' new' (Err e) → at ≡ length bytes - length rest →
-        GivesCore asked bytes s0 old s' new' (Err (placed_at e at))
+    pub section_err : (k : SectionId) {left body : List ℕ} {n s' : S} {mid new' : Sections} (e : Error E) (at : ℕ) → Begins frame rest (numbered_frame (number k) body) left →
+        (asked s (Section last (Some k)) ≡ accepted 0 n) × (mid ≡ new) → GivesSection asked k body (n, mid) (s', new') (Err e) → at ≡ length bytes - length rest →
+        GivesCore asked bytes (s0, old) (s', new') (Err (placed_at e at))
     section_err k {left = left} {body = body} {n = n} {s' = s'} {mid = mid} {new' = new'} e at there hook given place = go e given
       where
-        unchanged : (w : Error E) → GivesSection asked k body n mid s' new' (Err w) → GivesSection asked k body n new s' new' (Err w)
-        unchanged w g = let P : Sections → Type 0 = λ z. GivesSection asked k body n z s' new' (Err w) in subst P hook.1 g
+        unchanged : (w : Error E) → GivesSection asked k body (n, mid) (s', new') (Err w) → GivesSection asked k body (n, new) (s', new') (Err w)
+        unchanged w g = let P : Sections → Type 0 = λ z. GivesSection asked k body (n, z) (s', new') (Err w) in subst P hook.1 g
 
-        stops : (w : Error E) → GivesSection asked k body n mid s' new' (Err w) → (t : Tree) → ReadsAs k body t → (new' ≡ new) × (w ≢ NoMemory → hooked asked old.ceiling last s t ≡ refused w s')
+        stops : (w : Error E) → GivesSection asked k body (n, mid) (s', new') (Err w) → (t : Tree) → ReadsAs k body t → (new' ≡ new) × (w ≢ NoMemory → hooked asked old.ceiling last s t ≡ refused w s')
         stops w given t r =
             let g = (unchanged w given).reading t r in
             let ceiling : new.ceiling ≡ old.ceiling = ap Sections.ceiling d.gains in
@@ -431,7 +432,7 @@ module _ {S E : Type 0} (asked : Asks S E) where
             (g.0, λ h. hooked_err old.ceiling k last s n s' t w r hook.0 (subst W ceiling (g.1 h)))
 
         -- what was refused inside it
-        inside : (w : Error E) → GivesSection asked k body n mid s' new' (Err w) → IfRefused w (((t : Tree) × ReadsAs k body t) ⊎ StopsInside asked old.ceiling rest last s w s')
+        inside : (w : Error E) → GivesSection asked k body (n, mid) (s', new') (Err w) → IfRefused w (((t : Tree) × ReadsAs k body t) ⊎ StopsInside asked old.ceiling rest last s w s')
         inside w given = IfRefused-map w behind (unchanged w given).refusal
           where
             behind : ((t : Tree) × ReadsAs k body t) ⊎ StopsSection asked new.ceiling k body n w s' → ((t : Tree) × ReadsAs k body t) ⊎ StopsInside asked old.ceiling rest last s w s'
@@ -445,13 +446,13 @@ module _ {S E : Type 0} (asked : Asks S E) where
         within : (at : ℕ) → BodyFault asked mid.ceiling k body n s' at → Further asked n s'
         within at (_, inl q) = let P : S → Type 0 = λ z. Further asked n z in subst P (sym q.2) (further_none asked n)
         within at (_, inr q) =
-            let f = q.3 in
+            let f = q.fault in
             let walked : walk asked mid.ceiling n (rows_then f.read Tree.nil) ≡ accepted (rows_then f.made Tree.nil) f.state = f.accepts Tree.nil in
             further_then asked n f.state s' (walk_further asked mid.ceiling n f.state (rows_then f.read Tree.nil) (rows_then f.made Tree.nil) walked) f.further
 
-        go : (w : Error E) → GivesSection asked k body n mid s' new' (Err w) → GivesCore asked bytes s0 old s' new' (Err (placed_at w at))
+        go : (w : Error E) → GivesSection asked k body (n, mid) (s', new') (Err w) → GivesCore asked bytes (s0, old) (s', new') (Err (placed_at w at))
         go (ParseError x) g =
-            fault_behind at (section_none k (numbered_is there) g.unreadable.0) (some_begun there) place
+            fault_behind at (section_none k there g.unreadable.0) (some_begun there) place
             (further_then asked s n s' (further_one asked s n (Section last (Some k)) 0 hook.0) (within x.at g.unreadable))
         go (UserError x) g = section_refused k (UserError x) there (stops (UserError x) g) tt (inside (UserError x) g)
         go (TooLarge x) g = section_refused k (TooLarge x) there (stops (TooLarge x) g) tt (inside (TooLarge x) g)
@@ -459,7 +460,7 @@ module _ {S E : Type 0} (asked : Asks S E) where
         go _ g = absurd g.unreadable
 
     -- the end
-    pub sections_end : {s' : S} {new' : Sections} → rest ≡ [] → (asked s (Section last None) ≡ accepted 0 s') × (new' ≡ new) → GivesCore asked bytes s0 old s' new' (Ok tt)
+    pub sections_end : {s' : S} {new' : Sections} → rest ≡ [] → (asked s (Section last None) ≡ accepted 0 s') × (new' ≡ new) → GivesCore asked bytes (s0, old) (s', new') (Ok tt)
     sections_end {s' = s'} {new' = new'} empty h = record {
       reading = λ t r. go t (read_ahead t r);
       readable = (alsos d.read Tree.finish, record { rest = start; stands = reads; spells = all });
@@ -472,7 +473,7 @@ module _ {S E : Type 0} (asked : Asks S E) where
             let P : List ℕ → Type 0 = λ z. Spells sections z (alsos d.read Tree.finish) in
             subst P whole d.spells
 
-        go : (t : Tree) → Ahead d.read rest t [] → GivesModule asked s0 t old s' new' (Ok tt)
+        go : (t : Tree) → Ahead d.read rest t [] → GivesModule asked (s0, old) t (s', new') (Ok tt)
         go t (same f _) =
             let last_step : walk_from asked old.ceiling last s Tree.finish ≡ accepted Tree.finish s' = rw h.0 refl in
             let walked : walk asked old.ceiling s0 t ≡ accepted (alsos d.made Tree.finish) s' = rw f (d.accepts Tree.finish ∙ ap (λ (r : Step S (Error E) Tree). onto d.made r) last_step) in
@@ -480,14 +481,14 @@ module _ {S E : Type 0} (asked : Asks S E) where
         go t (more u v left f b) = absurd (none_behind.none b.text left u b.spells (sym empty ∙ b.reads))
 
     pub end_refused : {s' : S} {new' : Sections} (e : Error E) → rest ≡ [] → new' ≡ new → (e ≢ NoMemory → asked s (Section last None) ≡ refused e s') → IfParse e (λ at. ⊥) →
-        GivesCore asked bytes s0 old s' new' (Err e)
+        GivesCore asked bytes (s0, old) (s', new') (Err e)
     end_refused {s' = s'} {new' = new'} e empty same_module stops usual = record {
       reading = λ t r. go t (read_ahead t r);
       readable = tt;
       cause = cause e usual;
     }
       where
-        go : (t : Tree) → Ahead d.read rest t [] → StopsSections asked old.ceiling s0 t old s' new' e
+        go : (t : Tree) → Ahead d.read rest t [] → StopsSections asked old.ceiling (s0, old) t (s', new') e
         go t (same f _) = stopped e s' new' t Tree.finish f same_module stops
         go t (more u v left f b) = absurd (none_behind.none b.text left u b.spells (sym empty ∙ b.reads))
 
@@ -518,7 +519,7 @@ module _ {S E : Type 0} (asked : Asks S E) where
         go t (more u v left f b) = leaves_at t (Tree.also u v) f (none_visited s (visits_from last (Tree.also u v)))
 
     -- the next section, or the hook before it, was asked in part
-    leaves_section : {m : S} (k : SectionId) {left body : List ℕ} → Begins frame rest (numbered_frame (section_number k) body) left →
+    leaves_section : {m : S} (k : SectionId) {left body : List ℕ} → Begins frame rest (numbered_frame (number k) body) left →
         ((t others : Tree) → ReadsAs k body t → Visited asked s (visits_from last (Tree.also t others)) m) → (t : Tree) → CoreReading bytes t → Visited asked s0 (visits t) m
     leaves_section {m = m} k there leaves t r = go t (read_ahead t r)
       where
@@ -526,11 +527,11 @@ module _ {S E : Type 0} (asked : Asks S E) where
         go t (same f empty) = absurd (some_begun there empty)
         go t (more u v left f b) = leaves_at t (Tree.also u v) f (leaves u v (reads_begun k there b))
 
-    pub core_leaves_hook : {m : S} {e : Error E} (k : SectionId) {left body : List ℕ} → Begins frame rest (numbered_frame (section_number k) body) left →
+    pub core_leaves_hook : {m : S} {e : Error E} (k : SectionId) {left body : List ℕ} → Begins frame rest (numbered_frame (number k) body) left →
         asked s (Section last (Some k)) ≡ refused e m → (t : Tree) → CoreReading bytes t → Visited asked s0 (visits t) m
     core_leaves_hook {m = m} {e = e} k there h = leaves_section k there (λ t others r. hook_visits asked k last s m e t others r h)
 
-    pub core_leaves_inside : {m n : S} (k : SectionId) {left body : List ℕ} → Begins frame rest (numbered_frame (section_number k) body) left →
+    pub core_leaves_inside : {m n : S} (k : SectionId) {left body : List ℕ} → Begins frame rest (numbered_frame (number k) body) left →
         asked s (Section last (Some k)) ≡ accepted 0 n → ((t : Tree) → ReadsAs k body t → Visited asked n (visits t) m) → (t : Tree) → CoreReading bytes t → Visited asked s0 (visits t) m
     core_leaves_inside {m = m} {n = n} k there h leaves = leaves_section k there (λ t others r. inside_visits asked k last s n m t others r h (leaves t r))
 
@@ -544,7 +545,7 @@ module _ {S E : Type 0} (asked : Asks S E) where
 
   -- ---- no module
 
-  pub header_wrong : {bytes : List ℕ} (s : S) (old : Sections) (f : Fault) → NoCoreHeader f bytes → GivesCore asked bytes s old s old (Err (error_of_fault f))
+  pub header_wrong : {bytes : List ℕ} (s : S) (old : Sections) (f : Fault) → NoCoreHeader f bytes → GivesCore asked bytes (s, old) (s, old) (Err (error_of_fault f))
   header_wrong {bytes = bytes} s old (fault.Header kinds.Component) there = record {
     reading = λ t r. absurd (let e : core_header ++ r.rest ≡ component_header ++ there.0 = sym r.stands ∙ there.1 in cc);
     readable = tt;
@@ -563,7 +564,7 @@ module _ {S E : Type 0} (asked : Asks S E) where
 pub end_given : {S E : Type 0} (reply : S → Visit → Result ℕ E) (next : S → Visit → S) (adds : S → Option SectionId → Option SectionId → List SectionRow) (nothing : Bool) →
     KeepsAdds adds nothing → IsTrue nothing → {start bytes rest : List ℕ} {s0 s : S} {old new : Sections} {last : Option SectionId} → bytes ≡ core_header ++ start →
     SectionsDone (ask reply next) start s0 old rest last s new → rest ≡ [] → (s' : S) (new' : Sections) (r : Result (Unit {0}) (Error E)) →
-    RepliesSection reply next adds s s' new new' last None r → GivesCore (ask reply next) bytes s0 old s' new' r
+    RepliesSection reply next adds s s' new new' last None r → GivesCore (ask reply next) bytes (s0, old) (s', new') r
 end_given reply next adds nothing keeps sure {s = s} {new = new} {last = last} reads d empty s' new' (Ok u) h =
     sections_end (ask reply next) reads d empty (hook_ok reply next adds nothing keeps sure s s' new new' last None u h)
 end_given reply next adds nothing keeps sure {s = s} {new = new} {last = last} reads d empty s' new' (Err e) h =

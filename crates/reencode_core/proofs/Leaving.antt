@@ -9,7 +9,7 @@ use Rattle.wasm_shapes.specs.Sound.{sound}
 use Rattle.wasm_shapes.specs.Spells.{Is, Spelled, Spells}
 use Rattle.wasm_shapes.specs.Place.{Begins}
 use Rattle.wasm_shapes.specs.Rows.{RowsLeft, rows_then}
-use Rattle.wasm_shapes.specs.Module.{body, code_row, core_module, CoreReading}
+use Rattle.wasm_shapes.specs.Module.{body, code_row, row_of, core_module, CoreReading}
 use Rattle.wasm_shapes.proofs.Laws.{module_headed}
 use Rattle.wasm_shapes.proofs.Rows.{rows_first}
 use Rattle.wasm_read.specs.declared.types.SubType as r
@@ -27,9 +27,9 @@ use Rattle.reencode_hooks.specs.Walk.{walk}
 use Rattle.reencode_items.specs.Maps.{VisitedOperator}
 use Rattle.reencode_items.proofs.Leaving.{accepted_visited, first_visited, none_visited, second_visited, visited_left}
 use Rattle.reencode_core.specs.Rows.{Asks, GivesRows, locals}
-use Rattle.reencode_core.specs.Sections.{row_shape, ReadsAs}
+use Rattle.reencode_core.specs.Sections.{HasRows, ReadsAs}
 use Rattle.reencode_core.specs.Leaves.{BodyOf, LeavesReading, LocalsOf, RowsOf}
-use Rattle.reencode_core.proofs.Known.{InForce}
+use Rattle.reencode_core.proofs.Known.{section_visits}
 use Rattle.reencode_core.proofs.RowLoop.{RowsDone, first_of}
 use Rattle.reencode_core.proofs.Group.{ItemsDone, rows_then-both}
 use Rattle.reencode_core.proofs.BodyLoop.{ManyLeft, OperatorsDone, body_is, in_frame, many_first, same_locals}
@@ -189,17 +189,17 @@ module _ {S E : Type 0} {asked : Asks S E} where
 
   -- ---- a section
 
-  pub section_leaves : {s m : S} (k : SectionId) (known : InForce k) {bytes : List ℕ} {reader : Standing} → CountRead bytes reader → Leaves (RowsOf (row_shape k) reader) asked s m →
+  pub section_leaves : {s m : S} (k : SectionId) (known : HasRows k) {bytes : List ℕ} {reader : Standing} → CountRead bytes reader → Leaves (RowsOf (row_of k) reader) asked s m →
       Leaves (ReadsAs k bytes) asked s m
   section_leaves {s = s} {m = m} k known there leaves = λ t r.
       let v = rows_read asked k known there t r in
       let P : Tree → Type 0 = λ z. Visited asked s (visits z) m in
       let Q : List Visit → Type 0 = λ z. Visited asked s z m in
-      subst P (sym v.1) (subst Q (sym (known.visited (Tree.vec v.0))) (leaves v.0 v.2))
+      subst P (sym v.1) (subst Q (sym (section_visits k (Tree.vec v.0))) (leaves v.0 v.2))
 
   -- all rows were accepted
-  pub section_leaves_all : {c : ℕ} {s m : S} {old new : List Tree} (k : SectionId) (known : InForce k) {bytes : List ℕ} {reader : Standing} → CountRead bytes reader →
-      GivesRows asked c (row_shape k) reader s old m new (Ok tt) → Leaves (ReadsAs k bytes) asked s m
+  pub section_leaves_all : {c : ℕ} {s m : S} {old new : List Tree} (k : SectionId) (known : HasRows k) {bytes : List ℕ} {reader : Standing} → CountRead bytes reader →
+      GivesRows asked c (row_of k) reader (s, old) (m, new) (Ok tt) → Leaves (ReadsAs k bytes) asked s m
   section_leaves_all {c = c} k known there g = section_leaves k known there (λ rows r. accepted_visited c rows (g.reading rows r).1)
 
   -- ---- the bytes

@@ -19,7 +19,7 @@ use Rattle.wasm_shapes.specs.Tree.{Tree, code_bytes, normal}
 use Rattle.wasm_shapes.specs.Spells.{Is, Spelled}
 use Rattle.wasm_shapes.specs.Place.{Begins}
 use Rattle.wasm_shapes.proofs.Begins.{begins_empty, begins_s64, begins_seq, begins_u32}
-use Rattle.wasm_read.specs.Immediates.{is_core}
+use Rattle.wasm_shapes.specs.Types.{is_core}
 use Rattle.wasm_write.specs.declared.types.Imm.{Imm}
 use Rattle.wasm_write.specs.Instructions.{index_kind, imm_kind, imm_tree}
 use Rattle.reencode_hooks.specs.declared.error.Error.{Error}

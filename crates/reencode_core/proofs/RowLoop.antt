@@ -78,9 +78,9 @@ missing_after n total reader k (inr h) = let none : reader.left ≡ 0 = h.0 in i
 
 -- rows under one ceiling
 pub at_ceiling : {S E : Type 0} {asked : Asks S E} {row : Shape} {reader : Standing} {s m : S} {old new : List Tree} {result : Result (Unit {0}) (Error E)} (a b : ℕ) → a ≡ b →
-    GivesRows asked a row reader s old m new result → GivesRows asked b row reader s old m new result
+    GivesRows asked a row reader (s, old) (m, new) result → GivesRows asked b row reader (s, old) (m, new) result
 at_ceiling {asked = asked} {row = row} {reader = reader} {s = s} {m = m} {old = old} {new = new} {result = result} a b e g =
-    let P : ℕ → Type 0 = λ n. GivesRows asked n row reader s old m new result in subst P e g
+    let P : ℕ → Type 0 = λ n. GivesRows asked n row reader (s, old) (m, new) result in subst P e g
 
 -- a reader that takes no memory
 pub none_or_wants : (f : Fault) (at : ℕ) (P : Type 0) → ReadsNone f at P → ReadsNoneOrWants f at P
@@ -135,7 +135,7 @@ module _ {S E : Type 0} (asked : Asks S E) where
   -- ---- the ends of the loop
 
   pub rows_all : {c : ℕ} {row : Shape} {start reader reader' : Standing} {s0 s : S} {old new : List Tree} → RowsDone asked c row start s0 old reader s new →
-      RowsEnded reader reader' → GivesRows asked c row start s0 old s new (Ok tt)
+      RowsEnded reader reader' → GivesRows asked c row start (s0, old) (s, new) (Ok tt)
   rows_all {row = row} {s = s} d ended = record {
     reading = λ t r.
         let b = d.so_far.back t r in
@@ -155,14 +155,14 @@ module _ {S E : Type 0} (asked : Asks S E) where
 
   -- no row is there
   pub rows_fault : {c : ℕ} {row : Shape} {start reader : Standing} {s0 s m : S} {old new new' : List Tree} (at : ℕ) → RowsDone asked c row start s0 old reader s new →
-      RowMissing row reader → at ≡ place_of reader → Further asked s m → new' ≡ new → RowsFault asked c row start s0 old m new' at
+      RowMissing row reader → at ≡ place_of reader → Further asked s m → new' ≡ new → RowsFault asked c row start (s0, old) (m, new') at
   rows_fault {start = start} {reader = reader} {s = s} at d missing place further unchanged = record {
     none = so_far_stuck d.so_far missing.rows;
     read = d.read;
     rest = reader.rest;
     made = d.made;
     state = s;
-    before = d.before;
+    front = d.before;
     missing = missing_after (length d.read) start.left reader d.numbered missing.here;
     place = place ∙ ap (λ (n : ℕ). n - length reader.rest) d.len;
     accepts = d.accepts;
@@ -171,7 +171,7 @@ module _ {S E : Type 0} (asked : Asks S E) where
   }
 
   pub rows_unread : {c : ℕ} {row : Shape} {start reader : Standing} {s0 s : S} {old new : List Tree} (f : Fault) → RowsDone asked c row start s0 old reader s new →
-      ReadsNoneOrWants f (place_of reader) (RowMissing row reader) → GivesRows asked c row start s0 old s new (Err (error_of_fault f))
+      ReadsNoneOrWants f (place_of reader) (RowMissing row reader) → GivesRows asked c row start (s0, old) (s, new) (Err (error_of_fault f))
   rows_unread {c = c} {row = row} {start = start} {reader = reader} {s0 = s0} {s = s} {old = old} {new = new} f d missing = record {
     reading = λ t r.
         let b = d.so_far.back t r in record {
@@ -196,36 +196,33 @@ module _ {S E : Type 0} (asked : Asks S E) where
       never fault.CodeSize h other t r = h
       never (fault.Header k) h other t r = h
 
-      parse : (f : Fault) → ReadsNoneOrWants f (place_of reader) (RowMissing row reader) → IfParse (error_of_fault {E = E} f) (RowsFault asked c row start s0 old s new)
+      parse : (f : Fault) → ReadsNoneOrWants f (place_of reader) (RowMissing row reader) → IfParse (error_of_fault {E = E} f) (RowsFault asked c row start (s0, old) (s, new))
       parse (fault.Read x) h = rows_fault x.at d h.1 h.0 (record { visits = []; given = []; ran = refl }) refl
       parse fault.NoMemory h = tt
       parse fault.CodeSize h = absurd h
       parse (fault.Header k) h = absurd h
 
-  -- as many rows more as were read
-  rows_gained : {c : ℕ} {row : Shape} {start reader : Standing} {s0 s : S} {old new : List Tree} → (d : RowsDone asked c row start s0 old reader s new) → length new ≡ length old + length d.read
-  rows_gained {old = old} d = ap length d.gains ∙ length-append old d.made ∙ ap (λ (n : ℕ). length old + n) d.counted
-
   -- the next row, which is due, is refused
   pub stops_at : {c : ℕ} {row : Shape} {start reader : Standing} {s0 s s' : S} {old new : List Tree} (e : Error E) → RowsDone asked c row start s0 old reader s new → 0 < reader.left →
-      RefusesWhole asked c row reader.rest s (length new) e s' ⊎ RefusesInside asked c row reader.rest s e s' → StopsAtRow asked c row start s0 (length old) e s'
-  stops_at {c = c} {row = row} {reader = reader} {s = s} {s' = s'} e d due refuses =
-      let P : ℕ → Type 0 = λ n. RefusesWhole asked c row reader.rest s n e s' ⊎ RefusesInside asked c row reader.rest s e s' in record {
-        read = d.read;
-        rest = reader.rest;
-        made = d.made;
-        state = s;
-        before = d.before;
-        due = let all = d.numbered in omega arith;
-        accepts = d.accepts;
-        refuses = subst P (rows_gained d) refuses;
-      }
+      RefusesWhole asked c row reader.rest s (length new) e s' ⊎ RefusesInside asked c row reader.rest s e s' → StopsAtRow asked c row start (s0, old) e (s', new)
+  stops_at {c = c} {row = row} {reader = reader} {s = s} {s' = s'} e d due refuses = record {
+    read = d.read;
+    rest = reader.rest;
+    made = d.made;
+    state = s;
+    front = d.before;
+    due = let all = d.numbered in omega arith;
+    accepts = d.accepts;
+    counted = d.counted;
+    gains = d.gains;
+    refuses = refuses;
+  }
 
   -- the next row is refused
   pub rows_refused : {c : ℕ} {row : Shape} {start reader reader' : Standing} {s0 s s' : S} {old new : List Tree} {t : Tree} (e : Error E) → sound row ≡ true → closed row ≡ true →
       RowsDone asked c row start s0 old reader s new → RowRead row reader t reader' →
       (e ≢ NoMemory → (walk asked c s t ≡ refused e s') ⊎ (AcceptedHooks asked s t s' × TooMany e (length new))) → IfParse e (λ at. ⊥) →
-      GivesRows asked c row start s0 old s' new (Err e)
+      GivesRows asked c row start (s0, old) (s', new) (Err e)
   rows_refused {reader' = reader'} {s = s} {s' = s'} {t = t} e k h d r stops parse = record {
     reading = λ rows all.
         let b = d.so_far.back rows all in
@@ -247,29 +244,6 @@ module _ {S E : Type 0} (asked : Asks S E) where
         let less = r.counted in
         unless_wanting e (λ other. stops_at e d (omega arith) (inl (record { tree = t; left = reader'.rest; begins = r.begins; refusal = stops other })));
   }
-
--- one row too many
-pub too_many : {S E : Type 0} (asked : Asks S E) (c : ℕ) (s m : S) (t u : Tree) (n : ℕ) (w : WriteFault) → walk asked c s t ≡ accepted u m →
-    IfTooLarge w (λ size. (size ≡ n + 1) × (2 ^ 32 - 1 < size)) → error_of_write {E = E} w ≢ NoMemory →
-    (walk asked c s t ≡ refused (error_of_write w) m) ⊎ (AcceptedHooks asked s t m × TooMany (error_of_write {E = E} w) n)
-too_many asked c s m t u n (write.TooLarge size) e h other = inr (record { ceiling = c; made = u; walked = e }, h)
-too_many asked c s m t u n write.NoMemory e h other = absurd (other refl)
-
--- an index alone
-pub ix_accepted : {S E : Type 0} (asked : Asks S E) (c : ℕ) (s m : S) (p : Space) (i n : ℕ) → asked s (Index p i) ≡ accepted n m →
-    walk asked c s (Tree.ix p i) ≡ accepted (Tree.ix p n) m
-ix_accepted asked c s m p i n e = rw e refl
-
-pub ix_refused : {S E : Type 0} (asked : Asks S E) (c : ℕ) (s m : S) (p : Space) (i : ℕ) (e : Error E) → asked s (Index p i) ≡ refused e m →
-    walk asked c s (Tree.ix p i) ≡ refused e m
-ix_refused asked c s m p i e h = rw h refl
-
--- a row that was read is too large only for its section
-pub row_too_many : {S E : Type 0} (asked : Asks S E) (c : ℕ) (s m : S) (t u : Tree) (x : List ℕ) (n : ℕ) (w : WriteFault) → Spelled t x → walk asked c s t ≡ accepted u m →
-    IfTooLarge w (IsTooLarge (counts u ++ (n + 1) ∷ [])) → error_of_write {E = E} w ≢ NoMemory →
-    (walk asked c s t ≡ refused (error_of_write w) m) ⊎ (AcceptedHooks asked s t m × TooMany (error_of_write {E = E} w) n)
-row_too_many asked c s m t u x n (write.TooLarge size) p e h other = inr (record { ceiling = c; made = u; walked = e }, only_rows asked c s m t u x (n + 1) size p e h)
-row_too_many asked c s m t u x n write.NoMemory p e h other = absurd (other refl)
 
 -- a sink that gained rows twice
 pub kept_on : (old mid new : List Tree) → KeepsFront old mid → KeepsFront mid new → KeepsFront old new
@@ -297,9 +271,9 @@ large_is_many {E = E} asked c s m t x n e p (inr q) = inr (q.accepts, many e q.a
 -- the next row is refused, by the call that maps it
 pub row_refused : {S E : Type 0} (reply : S → Visit → Result ℕ E) (next : S → Visit → S) {c : ℕ} {row : Shape} {start reader reader' : Standing} {s0 s s' : S} {old new new' : List Tree} {t : Tree}
     {e : Error E} → sound row ≡ true → closed row ≡ true → RowsDone (ask reply next) c row start s0 old reader s new → RowRead row reader t reader' →
-    GivesRow (ask reply next) c s t new s' new' (Err e) → GivesRows (ask reply next) c row start s0 old s' new' (Err e)
+    GivesRow (ask reply next) c (s, new) t (s', new') (Err e) → GivesRows (ask reply next) c row start (s0, old) (s', new') (Err e)
 row_refused {E = E} reply next {c = c} {row = row} {start = start} {reader = reader} {s0 = s0} {s = s} {s' = s'} {old = old} {new = new} {new' = new'} {t = t} {e = e} k h d r given =
-    let P : List Tree → Type 0 = λ z. GivesRows (ask reply next) c row start s0 old s' z (Err e) in
+    let P : List Tree → Type 0 = λ z. GivesRows (ask reply next) c row start (s0, old) (s', z) (Err e) in
     subst P (sym given.0) (rows_refused (ask reply next) e k h d r (λ other. either (given.1 other)) (usual e given.1))
   where
     either : (walk (ask reply next) c s t ≡ refused e s') ⊎ TooLargeMade (ask reply next) s t (length new) e s' →
@@ -332,7 +306,7 @@ module _ {S E : Type 0} (reply : S → Visit → Result ℕ E) (next : S → Vis
     (d : RowsDone (ask reply next) c row start s0 old reader s new) where
   -- no row is there, as further visits showed
   pub rows_faulty : (at : ℕ) → RowMissing row reader → at ≡ place_of reader → Further (ask reply next) s s' → new' ≡ new →
-      GivesRows (ask reply next) c row start s0 old s' new' (Err (ParseError (record { at = at })))
+      GivesRows (ask reply next) c row start (s0, old) (s', new') (Err (ParseError (record { at = at })))
   rows_faulty at missing place further unchanged = record {
     reading = λ t r. absurd ((so_far_stuck d.so_far missing.rows).none t r);
     readable = tt;
@@ -341,9 +315,9 @@ module _ {S E : Type 0} (reply : S → Visit → Result ℕ E) (next : S → Vis
   }
 
   -- the next row is refused, if there is one
-  pub rows_refused_if : (e : Error E) (n : ℕ) → reader.left ≡ suc n → ((t : Tree) (left : List ℕ) → Begins row reader.rest t left → GivesRow (ask reply next) c s t new s' new' (Err e)) → new' ≡ new →
+  pub rows_refused_if : (e : Error E) (n : ℕ) → reader.left ≡ suc n → ((t : Tree) (left : List ℕ) → Begins row reader.rest t left → GivesRow (ask reply next) c (s, new) t (s', new') (Err e)) → new' ≡ new →
       IfParse e (λ at. ⊥) → IfRefused e (RefusesWhole (ask reply next) c row reader.rest s (length new) e s' ⊎ RefusesInside (ask reply next) c row reader.rest s e s') →
-      GivesRows (ask reply next) c row start s0 old s' new' (Err e)
+      GivesRows (ask reply next) c row start (s0, old) (s', new') (Err e)
   rows_refused_if e n left given unchanged usual refuses = record {
     reading = λ rows all.
         let b = d.so_far.back rows all in
@@ -365,7 +339,10 @@ module _ {S E : Type 0} (reply : S → Visit → Result ℕ E) (next : S → Vis
         };
     readable = tt;
     unreadable = IfParse-map e (λ at never. absurd never) usual;
-    refusal = let some : 0 < reader.left = omega arith in IfRefused-map e (stops_at (ask reply next) e d some) refuses;
+    refusal =
+        let some : 0 < reader.left = omega arith in
+        let P : List Tree → Type 0 = λ z. StopsAtRow (ask reply next) c row start (s0, old) e (s', z) in
+        IfRefused-map e (λ h. subst P (sym unchanged) (stops_at (ask reply next) e d some h)) refuses;
   }
     where
       either : (t : Tree) (x : List ℕ) → Spelled t x → (walk (ask reply next) c s t ≡ refused e s') ⊎ TooLargeMade (ask reply next) s t (length new) e s' →

@@ -1,39 +1,45 @@
 -- Runs of operators that stay as they stand, and the body that they are a part of.
-use Rattle.std.proofs.Common.{◌≡◌, ◌≢◌, ◌<◌, ◌≤◌, ◌+◌, ℕ, List, [], ◌∷◌, ◌++◌, length, length-append, true, Result, Ok, Err, refl, sym, ap, ap₂, ◌∙◌, drop, take, append_assoc, subst, arith}
+use Rattle.std.proofs.Common.{◌≡◌, ◌≢◌, ◌<◌, ◌≤◌, ◌+◌, ◌-◌, ℕ, List, [], ◌∷◌, ◌++◌, length, length-append, true, Result, Ok, Err, IsErrAnd, IsTrue, refl, sym, ap, ap₂, ◌∙◌, drop, take, append_assoc, subst, arith}
 use Rattle.std.proofs.Math.Seq.{drop-append_seam, take-append_seam}
 use Rattle.std.proofs.lemmas.List.{drop-drop}
 use Rattle.wasm_shapes.specs.declared.Opcode.{Opcode}
-use Rattle.wasm_shapes.specs.declared.Visit.{Visit}
 use Rattle.wasm_shapes.specs.Rows.{rows_then}
 use Rattle.wasm_shapes.specs.Shape.{Shape}
 use Rattle.wasm_shapes.specs.Tree.{Tree}
+use Rattle.wasm_shapes.specs.Types.{rows_tree}
 use Rattle.wasm_shapes.specs.Spells.{Is, Spelled}
 use Rattle.wasm_shapes.specs.Place.{Begins}
 use Rattle.wasm_shapes.proofs.Rows.{rows_then-append}
+use Rattle.wasm_read.specs.Operations.{Reading, rest_of}
 use Rattle.wasm_read.proofs.Codes.{fewer_left}
-use Rattle.wasm_write.specs.Held.{rows_tree}
+use Rattle.wasm_write.specs.declared.fault.WriteFault.{WriteFault}
+use Rattle.wasm_write.specs.declared.fault.WriteFault.TheVariants as faults
+use Rattle.wasm_write.specs.Held.{body_tree}
 use Rattle.wasm_write.specs.Bodies.{AreOperators, Body, CodeRows, GainsOperators, HasOperators, with_operator, with_operators}
 use Rattle.wasm_write.specs.Instructions.{operator_tree}
 use Rattle.wasm_write.proofs.Holding.{snoc_is, snoc_normal, snoc_spelled}
 use Rattle.wasm_write.proofs.HoldingBodies.{many_is, many_spelled}
 use Rattle.reencode_hooks.specs.declared.error.Error.{Error}
 use Rattle.reencode_hooks.specs.declared.error.Error.TheVariants.{NoMemory}
-use Rattle.reencode_hooks.specs.Run.{Step, accepted, refused, and_then, ask}
+use Rattle.reencode_hooks.specs.declared.indices.ReencodeIndices.{Ghosts}
+use Rattle.reencode_hooks.specs.Errors.{error_of_write}
+use Rattle.reencode_hooks.specs.Run.{NeverWants, Step, accepted, refused, and_then}
 use Rattle.reencode_hooks.specs.Walk.{walk}
-use Rattle.reencode_items.proofs.Leaving.{accepted_visited, refused_visited}
-use Rattle.reencode_core.specs.Bodies.{GivesBody, GivesLocals}
+use Rattle.reencode_items.proofs.Leaving.{accepted_visited, never_wants, refused_visited}
 use Rattle.reencode_core.specs.Leaves.{BodyOf}
-use Rattle.reencode_core.specs.Rows.{Asks, locals, onto_rows}
+use Rattle.reencode_core.specs.Rows.{Asks, AcceptsRows, locals, onto_rows}
 use Rattle.reencode_core.specs.declared.direct.passing.Fresh.{Fresh}
 use Rattle.reencode_core.specs.declared.direct.passing.Next.{Next}
 use Rattle.reencode_core.specs.declared.direct.passing.Next.TheVariants as next
 use Rattle.reencode_core.specs.declared.direct.runs.Run.{Run}
-use Rattle.reencode_core.specs.Direct.{IsWithin, KeepsOperator, KeepsOperators, PassesNext, PassesRun, RefusesOperator, StopsRun, imm_of}
-use Rattle.reencode_core.proofs.BodyLoop.{ManyLeft, OperatorsDone, many_first, operators_more}
+use Rattle.reencode_core.specs.Direct.{IsWithin, KeepsOperator, KeepsOperators, MakesOperator, PassesNext, PassesRun, RefusesOperator, StopsRun, imm_of}
+use Rattle.reencode_core.proofs.BodyLoop.{ManyLeft, OperatorsDone, keeps_code, many_first, operators_more}
+use Rattle.reencode_core.proofs.EachBody.{BodyClauses, LocalsClauses, OperatorsKept}
 use Rattle.reencode_core.proofs.Group.{rows_then-both}
-use Rattle.reencode_core.proofs.Leaving.{Leaves, body_leaves_next, body_leaves_none}
+use Rattle.reencode_core.proofs.Leaving.{Leaves, body_leaves_next, body_leaves_none, reading_left}
+use Rattle.reencode_core.proofs.OneRow.{answers, asks}
 use Rattle.reencode_core.proofs.RowLoop.{onto_nothing, one_onto}
-use Rattle.reencode_core.proofs.WholeBody.{operator_refused}
+use Rattle.reencode_core.proofs.WholeBody.{body_wants, operator_refused}
 
 -- ---- a run of operators
 
@@ -187,30 +193,73 @@ module _ {S E : Type 0} (asked : Asks S E) (c : ℕ) {start rest behind : List �
       subst P (sym here) (subst Q (sym (ap Body.operators first)) (subst R (sym p.onward) all))
 
 -- the locals are as they were
-pub gains_locals : {bytes : List ℕ} (f f' : Body) → HasOperators bytes → GainsOperators f bytes f' → f'.locals ≡ f.locals
+gains_locals : {bytes : List ℕ} (f f' : Body) → HasOperators bytes → GainsOperators f bytes f' → f'.locals ≡ f.locals
 gains_locals f f' h gains = ap Body.locals (gains h.0 h.1)
 
--- ---- what is left
+-- ---- the loop over the body
 
-module _ {S E : Type 0} {asked : Asks S E} {bytes start rest : List ℕ} {l l' : Tree} {s0 m s : S} {ops : List Tree} (begins : Begins locals bytes l start) (walked : walk asked 0 s0 l ≡ accepted l' m)
-    (d : OperatorsDone asked 0 start m rest s ops) where
-  pub run_leaves : {n : S} (k : ℕ) (next : Next) → PassesRun asked s rest n (record { kept = k; next = next }) → Leaves (BodyOf bytes) asked s0 n
-  run_leaves k (next.Made op f len) p =
-      let q = p.onward in body_leaves_next begins walked (operators_many asked 0 d p.kept) q.there.begins (accepted_visited 0 q.there.operator (q.walks 0))
-  run_leaves k next.Other p =
-      let P : S → Type 0 = λ z. Leaves (BodyOf bytes) asked s0 z in subst P (sym p.onward) (body_leaves_none begins walked (operators_many asked 0 d p.kept))
+module _ {S E : Type 0} (i : Ghosts S E) {m : S} {f0 : Body} {start reader behind : Reading} {s n : S} {f f1 : Body} (inv : OperatorsKept i start m f0 reader s f) where
+  -- a run was added, and the operator behind it was made
+  pub run_made : {f2 : Body} (op : Opcode) (fresh : Fresh) (count len : ℕ) → PassesRun (asks i) s (rest_of reader) n (record { kept = count; next = next.Made op fresh len }) →
+      GainsOperators f (take count (rest_of reader)) f1 → f2 ≡ with_operator f1 (operator_tree op (imm_of fresh ∷ [])) → behind.bytes ≡ reader.bytes →
+      rest_of behind ≡ drop (count + len) (rest_of reader) → OperatorsKept i start m f0 behind n f2
+  run_made {f2 = f2} op fresh count len p gains adds same e = record {
+    bytes = same ∙ inv.bytes;
+    same_locals = ap Body.locals adds ∙ gains_locals f f1 (run_has p.kept) gains ∙ inv.same_locals;
+    default = λ k c. body_made (asks i) c f f1 (inv.default k c) op fresh len f2 p gains adds e;
+  }
 
-  pub stop_leaves : {n : S} (e : Error E) → StopsRun asked s rest e n → e ≢ NoMemory → Leaves (BodyOf bytes) asked s0 n
-  stop_leaves e p other = body_leaves_next begins walked (operators_many asked 0 d p.kept) p.stops.begins (refused_visited 0 p.stops.operator (p.stops.refuses 0 other))
+  -- a run was added, and nothing was asked of the operator behind it
+  pub run_passed : (count : ℕ) → PassesRun (asks i) s (rest_of reader) n (record { kept = count; next = next.Other }) → GainsOperators f (take count (rest_of reader)) f1 →
+      behind.bytes ≡ reader.bytes → rest_of behind ≡ drop count (rest_of reader) → OperatorsKept i start m f0 behind n f1
+  run_passed count p gains same e = record {
+    bytes = same ∙ inv.bytes;
+    same_locals = gains_locals f f1 (run_has p.kept) gains ∙ inv.same_locals;
+    default = λ k c. body_passed (asks i) c f f1 (inv.default k c) p gains e;
+  }
 
--- ---- the run ends at a refusal
+-- ---- the clauses of the body
 
-pub stop_given : {S E : Type 0} (reply : S → Visit → Result ℕ E) (next : S → Visit → S) {bytes start rest : List ℕ} {l : Tree} (s0 m s : S) (f0 : Body) (ops : List Tree) (old : CodeRows)
-    (begins : Begins locals bytes l start) (g : GivesLocals {E = E} {A = Body} (ask reply next) bytes s0 m (Ok f0) (λ f. f))
-    (done : (c : ℕ) → OperatorsDone (ask reply next) c start m rest s ops) (n : S) (e : Error E) → StopsRun (ask reply next) s rest e n → GivesBody (ask reply next) bytes s0 old n old (Err e)
-stop_given reply next s0 m s f0 ops old begins g done n e p =
-    operator_refused reply next s0 m p.mid f0 (ops ++ p.kept.operators) old begins g (λ c. operators_many (ask reply next) c (done c) p.kept) n e
-    p.stops.operator p.stops.left p.stops.begins p.stops.refuses
+module _ {S E : Type 0} (i : Ghosts S E) {bytes : List ℕ} {s0 : S} (old : CodeRows) {m : S} {f0 : Body} (made : LocalsClauses i bytes s0 m (Ok f0)) {start : Reading} {l : Tree}
+    (begins : Begins locals bytes l (rest_of start)) {reader : Reading} {s : S} {f : Body} (inv : OperatorsKept i start m f0 reader s f) where
+  -- the walk of the locals
+  walked : IsTrue i.keeps_defaults → walk (asks i) 0 s0 l ≡ accepted (body_tree f0.locals) m
+  walked k = (made.default k).reading 0 l (rest_of start) begins
+
+  -- an operator is refused behind a run
+  pub run_refused : {n : S} (e : Error E) → StopsRun (asks i) s (rest_of reader) e n → NeverWants {A = Run} i.sure (Err e) →
+      (r : Result (Unit {0}) (Error E)) → IsErrAnd r (λ y. y ≡ e) → BodyClauses i bytes s0 old n old r
+  run_refused {n = n} e p sure r q =
+      let P : Result (Unit {0}) (Error E) → Type 0 = λ z. BodyClauses i bytes s0 old n old z in
+      let d = λ (k : IsTrue i.keeps_defaults) (c : ℕ). operators_many (asks i) c (inv.default k c) p.kept in
+      let t = p.stops in
+      subst P (answers r q) (record {
+        kept = keeps_code old;
+        default = λ k. operator_refused i.reply i.next s0 m p.mid f0 (f.operators ++ p.kept.operators) old begins (made.default k) (d k) n e t.operator t.left t.begins t.refuses;
+        after_error = λ k never. reading_left (Err e) (body_leaves_next begins (walked k) (d k 0) t.begins (refused_visited 0 t.operator (t.refuses 0 (never_wants e sure never))));
+      })
+
+  -- there is no memory for a run, or for the operator behind it
+  pub run_not_added : {n : S} (run : Run) → PassesRun (asks i) s (rest_of reader) n run → (w : WriteFault) → w ≡ faults.NoMemory →
+      (r : Result (Unit {0}) (Error E)) → IsErrAnd r (λ y. y ≡ error_of_write w) → BodyClauses i bytes s0 old n old r
+  run_not_added {n = n} run p w wants r q =
+      let P : Result (Unit {0}) (Error E) → Type 0 = λ z. BodyClauses i bytes s0 old n old z in
+      let Q : WriteFault → Type 0 = λ z. BodyClauses i bytes s0 old n old (Err (error_of_write z)) in
+      subst P (answers r q) (subst Q (sym wants) (record {
+        kept = keeps_code old;
+        default = λ k. body_wants (asks i) bytes s0 n old;
+        after_error = λ k never. reading_left (Err NoMemory) (leaves run p k);
+      }))
+    where
+      leaves : (run : Run) → PassesRun (asks i) s (rest_of reader) n run → IsTrue i.keeps_defaults → Leaves (BodyOf bytes) (asks i) s0 n
+      leaves run p k = go run.next p.onward
+        where
+          go : (z : Next) → PassesNext (asks i) p.mid p.kept.left n z → Leaves (BodyOf bytes) (asks i) s0 n
+          go (next.Made op fresh len) o =
+              body_leaves_next begins (walked k) (operators_many (asks i) 0 (inv.default k 0) p.kept) o.there.begins (accepted_visited 0 o.there.operator (o.walks 0))
+          go next.Other o =
+              let M : S → Type 0 = λ z. Leaves (BodyOf bytes) (asks i) s0 z in
+              subst M (sym o) (body_leaves_none begins (walked k) (operators_many (asks i) 0 (inv.default k 0) p.kept))
 
 -- a run of the bytes from a place on, by what is next
 pub run_is : {S E : Type 0} (asked : Asks S E) {s m : S} {bytes rest : List ℕ} (run : Run) (z : Next) → run.next ≡ z → bytes ≡ rest → PassesRun asked s bytes m run →

@@ -33,12 +33,12 @@ use Rattle.reencode_core.proofs.Counts.{walk_further}
 use Rattle.reencode_core.proofs.BodyLoop.{ManyLeft, OperatorsDone, operators_begin, operators_more, body_is, body_spelled, no_locals, many_first, many_none, no_many, pair_accepted, sized_refused, pair_refused, first_refused, sized_fits, sized_large}
 
 -- nothing is said of want of memory
-pub body_wants : {S E : Type 0} (asked : Asks S E) (bytes : List ℕ) (s m : S) (old : CodeRows) → GivesBody asked bytes s old m old (Err NoMemory)
+pub body_wants : {S E : Type 0} (asked : Asks S E) (bytes : List ℕ) (s m : S) (old : CodeRows) → GivesBody asked bytes (s, old) (m, old) (Err NoMemory)
 body_wants asked bytes s m old = record { reading = λ t p. (refl, λ other. absurd (other refl)); readable = tt; unchanged = refl; unreadable = tt; refusal = tt }
 
 -- the locals are refused
 pub body_locals_refused : {S E : Type 0} (asked : Asks S E) (bytes : List ℕ) (s m : S) (old : CodeRows) (e : Error E) → GivesLocals {A = Body} asked bytes s m (Err e) (λ f. f) →
-    GivesBody asked bytes s old m old (Err e)
+    GivesBody asked bytes (s, old) (m, old) (Err e)
 body_locals_refused {S = S} {E = E} asked bytes s m old e g = record {
   reading = λ t p. (refl, λ other. inl (stops t p other));
   readable = tt;
@@ -62,7 +62,7 @@ body_locals_refused {S = S} {E = E} asked bytes s m old e g = record {
 
 -- where locals were read, the operators are found
 pub operators_found : {S E : Type 0} (asked : Asks S E) (bytes : List ℕ) (s m : S) (old new : CodeRows) (f : Body) (x : Fault) (result : Result (Unit {0}) (Error E)) →
-    GivesLocals {E = E} {A = Body} asked bytes s m (Ok f) (λ f. f) → ReadsNone x 0 (BeginsNone locals bytes) → GivesBody asked bytes s old m new result
+    GivesLocals {E = E} {A = Body} asked bytes s m (Ok f) (λ f. f) → ReadsNone x 0 (BeginsNone locals bytes) → GivesBody asked bytes (s, old) (m, new) result
 operators_found asked bytes s m old new f x result g none = absurd (go x none)
   where
     go : (x : Fault) → ReadsNone x 0 (BeginsNone locals bytes) → ⊥
@@ -110,7 +110,7 @@ module _ {S E : Type 0} (reply : S → Visit → Result ℕ E) (next : S → Vis
       (Tree.pair l (rows_then d.read Tree.nil), body_spelled begins (record { shaped = d.before.shaped; spelled = subst P (sym all) d.before.spelled }))
 
   pub body_given : (new : CodeRows) (f : Body) → rest ≡ [] → f.locals ≡ f0.locals → f.operators ≡ ops → new ≡ with_row old (code_tree f) → length (normal (function_body f)) ≤ old.ceiling →
-      GivesBody (ask reply next) bytes s0 old s new (Ok tt)
+      GivesBody (ask reply next) bytes (s0, old) (s, new) (Ok tt)
   body_given new f empty same_locals same_operators gains fits = record {
     reading = λ t p.
         let w = body_walk old.ceiling t p empty in
@@ -124,7 +124,7 @@ module _ {S E : Type 0} (reply : S → Visit → Result ℕ E) (next : S → Vis
 
   pub body_not_added : (f : Body) (w : WriteFault) → rest ≡ [] → f.locals ≡ f0.locals → f.operators ≡ ops →
       IfTooLarge w (λ size. ((size ≡ length (normal (function_body f))) × (old.ceiling < size)) ⊎ ((size ≡ length old.rows + 1) × (2 ^ 32 - 1 < size) × (length (normal (function_body f)) ≤ old.ceiling))) →
-      GivesBody (ask reply next) bytes s0 old s old (Err (error_of_write w))
+      GivesBody (ask reply next) bytes (s0, old) (s, old) (Err (error_of_write w))
   body_not_added f w empty same_locals same_operators large = record {
     reading = λ t p. (refl, go t p w large);
     readable = tt;
@@ -159,7 +159,7 @@ module _ {S E : Type 0} (reply : S → Visit → Result ℕ E) (next : S → Vis
   -- ---- an operator is refused, or none is there
 
   pub operator_refused : (n : S) (e : Error E) (operator : Tree) (left : List ℕ) → Begins (Shape.op true) rest operator left → ((c : ℕ) → e ≢ NoMemory → walk (ask reply next) c s operator ≡ refused e n) →
-      GivesBody (ask reply next) bytes s0 old n old (Err e)
+      GivesBody (ask reply next) bytes (s0, old) (n, old) (Err e)
   operator_refused n e operator left there stops = record {
     reading = λ t p. (refl, λ other. inl (go t p other));
     readable = tt;
@@ -198,7 +198,7 @@ module _ {S E : Type 0} (reply : S → Visit → Result ℕ E) (next : S → Vis
           let operators : walk (ask reply next) old.ceiling m (rows_then o.0 o.1) ≡ refused e n = o.4 ∙ ap (λ (r : Step S (Error E) Tree). onto_rows ops r) here in
           sized_refused (ask reply next) old.ceiling s0 n t e (rw o.2 (pair_refused (ask reply next) old.ceiling s0 m n l (body_tree f0.locals) (rows_then o.0 o.1) e (walked old.ceiling) operators))
 
-  no_operator : (at : ℕ) → BeginsNone (Shape.op true) rest → rest ≢ [] → at ≡ length bytes - length rest → GivesBody (ask reply next) bytes s0 old s old (Err (ParseError (record { at = at })))
+  no_operator : (at : ℕ) → BeginsNone (Shape.op true) rest → rest ≢ [] → at ≡ length bytes - length rest → GivesBody (ask reply next) bytes (s0, old) (s, old) (Err (ParseError (record { at = at })))
   no_operator at none some place =
       let never = λ (t : Tree) (p : Spells body bytes t). let o = others_of 0 t p in no_many none some o.1 o.3 in
       let d = done 0 in
@@ -217,10 +217,10 @@ module _ {S E : Type 0} (reply : S → Visit → Result ℕ E) (next : S → Vis
 
   -- the error of the call that reads and maps an operator
   pub operator_err : (B : Type 0) (view : B → Tree) (reader behind : Reading) (n : S) (e : Error E) → rest ≡ rest_of reader → reader.bytes ≡ bytes → rest ≢ [] →
-      ParsesOperator reply next s reader view n behind (Err e) → GivesBody (ask reply next) bytes s0 old n old (Err e)
+      ParsesOperator reply next s reader view n behind (Err e) → GivesBody (ask reply next) bytes (s0, old) (n, old) (Err e)
   operator_err B view reader behind n e is_rest is_bytes some parses = go e parses
     where
-      mapped : (e : Error E) → MapsOperator {B = B} reply next s reader view n behind (Err e) → GivesBody (ask reply next) bytes s0 old n old (Err e)
+      mapped : (e : Error E) → MapsOperator {B = B} reply next s reader view n behind (Err e) → GivesBody (ask reply next) bytes (s0, old) (n, old) (Err e)
       mapped e q =
           let P : List ℕ → Type 0 = λ z. Begins (Shape.op true) z q.operator q.rest in
           operator_refused n e q.operator q.rest (subst P (sym is_rest) q.begins) q.maps
@@ -232,10 +232,10 @@ module _ {S E : Type 0} (reply : S → Visit → Result ℕ E) (next : S → Vis
           let more : 0 < length rest = some_length rest some in
           omega arith
 
-      go : (e : Error E) → ParsesOperator {B = B} reply next s reader view n behind (Err e) → GivesBody (ask reply next) bytes s0 old n old (Err e)
+      go : (e : Error E) → ParsesOperator {B = B} reply next s reader view n behind (Err e) → GivesBody (ask reply next) bytes (s0, old) (n, old) (Err e)
       go (ParseError x) q =
           let P : List ℕ → Type 0 = λ z. BeginsNone (Shape.op true) z in
-          let Q : S → Type 0 = λ z. GivesBody (ask reply next) bytes s0 old z old (Err (ParseError x)) in
+          let Q : S → Type 0 = λ z. GivesBody (ask reply next) bytes (s0, old) (z, old) (Err (ParseError x)) in
           subst Q (sym q.2) (no_operator x.at (subst P (sym is_rest) q.1) some (place x.at q.0))
       go NoMemory q = body_wants (ask reply next) bytes s0 n old
       go (UserError x) q = mapped (UserError x) q

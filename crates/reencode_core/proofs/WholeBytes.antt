@@ -20,7 +20,7 @@ module _ {S E : Type 0} (asked : Asks S E) where
   core_refused c s m e t u f h = rw (f, h) refl
 
   -- the walk stops where its sections do
-  sections_stopped : (c : ℕ) (s m : S) (t : Tree) (old new : Sections) (e : Error E) → StopsSections asked c s t old m new e → e ≢ NoMemory → walk asked c s t ≡ refused e m
+  sections_stopped : (c : ℕ) (s m : S) (t : Tree) (old new : Sections) (e : Error E) → StopsSections asked c (s, old) t (m, new) e → e ≢ NoMemory → walk asked c s t ≡ refused e m
   sections_stopped c s m t old new e g other =
       let step = stops g.others (g.refuses other) in
       rw g.parts (g.accepts g.others ∙ ap (λ (r : Step S (Error E) Tree). onto g.made r) step)
@@ -31,7 +31,7 @@ module _ {S E : Type 0} (asked : Asks S E) where
       stops _ h = absurd h
 
   pub bytes_given : {A : Type 0} (bytes : List ℕ) (c : ℕ) (s s' : S) (old new : Sections) (u : Unit {0}) → old ≡ record { ceiling = c; sections = [] } →
-      GivesCore asked bytes s old s' new (Ok u) → (out : A) (view : A → List ℕ) → view out ≡ module_bytes new.sections →
+      GivesCore asked bytes (s, old) (s', new) (Ok u) → (out : A) (view : A → List ℕ) → view out ≡ module_bytes new.sections →
       GivesBytes asked c bytes s s' (Ok out) view
   bytes_given bytes c s s' old new u fresh g out view spelled = record {
     reading = λ t p.
@@ -49,7 +49,7 @@ module _ {S E : Type 0} (asked : Asks S E) where
   }
 
   pub bytes_refused : {A : Type 0} (bytes : List ℕ) (c : ℕ) (s s' : S) (old new : Sections) (e : Error E) (view : A → List ℕ) → old ≡ record { ceiling = c; sections = [] } →
-      GivesCore asked bytes s old s' new (Err e) → GivesBytes asked c bytes s s' (Err e) view
+      GivesCore asked bytes (s, old) (s', new) (Err e) → GivesBytes asked c bytes s s' (Err e) view
   bytes_refused bytes c s s' old new e view fresh g =
       let ceiling : old.ceiling ≡ c = ap Sections.ceiling fresh in
       let P : ℕ → Type 0 = λ n. IsCause asked n bytes s s' e in record {
@@ -60,7 +60,3 @@ module _ {S E : Type 0} (asked : Asks S E) where
         readable = tt;
         cause = subst P ceiling g.cause;
       }
-
-  -- no memory for the module
-  pub bytes_wanting : {A : Type 0} (bytes : List ℕ) (c : ℕ) (s : S) (view : A → List ℕ) → GivesBytes asked c bytes s s (Err NoMemory) view
-  bytes_wanting bytes c s view = record { reading = λ t p other. absurd (other refl); readable = tt; cause = tt }

@@ -37,9 +37,11 @@ NoOperator bytes at =
     ⊎ ((t : Tree) × (operators : List Tree) × (start : List ℕ) × (rest : List ℕ) × Begins locals bytes t start × RowsBefore (Shape.op true) start operators rest
     × (at ≡ length bytes - length rest) × BeginsNone (Shape.op true) rest × (rest ≢ []))
 
-pub record GivesBody {S E : Type 0} (asked : Asks S E) (bytes : List ℕ) (s : S) (old : CodeRows) (m : S) (new : CodeRows) (result : Result (Unit {0}) (Error E)) : Type 0 where
-  pub reading : (t : Tree) → Spells body bytes t → GivesRow asked old.ceiling s (Tree.sized t) old.rows m new.rows result
+pub record GivesBody {S E : Type 0} (asked : Asks S E) (bytes : List ℕ) (before after : S × CodeRows) (result : Result (Unit {0}) (Error E)) : Type 0 where
+  pub reading : (t : Tree) → Spells body bytes t
+      → GivesRow asked before.1.ceiling (before.0, before.1.rows) (Tree.sized t) (after.0, after.1.rows) result
   pub readable : IfOk result (λ _. (t : Tree) × Spells body bytes t)
-  pub unchanged : IfErr result (λ _. new ≡ old)
-  pub unreadable : IfErr result (λ e. IfParse e (λ at. ((t : Tree) → Spells body bytes t → ⊥) × NoOperator bytes at × Further asked s m))
-  pub refusal : IfErr result (λ e. IfRefused e (((t : Tree) × Spells body bytes t) ⊎ StopsBody asked old.ceiling bytes s e m))
+  pub unchanged : IfErr result (λ _. after.1 ≡ before.1)
+  pub unreadable : IfErr result (λ e. IfParse e (λ at. ((t : Tree) → Spells body bytes t → ⊥) × NoOperator bytes at × Further asked before.0 after.0))
+  pub refusal : IfErr result (λ e.
+      IfRefused e (((t : Tree) × Spells body bytes t) ⊎ StopsBody asked before.1.ceiling bytes before.0 e after.0))

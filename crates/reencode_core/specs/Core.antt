@@ -6,7 +6,8 @@ use Rattle.wasm_shapes.specs.Tree.{Tree, normal}
 use Rattle.wasm_shapes.specs.Spells.{Spells}
 use Rattle.wasm_shapes.specs.Module.{core_header, component_header, core_module, alsos, frame, FaultAt, CoreReading}
 use Rattle.wasm_shapes.specs.Place.{Begins}
-use Rattle.wasm_read.specs.Frames.{section_number, numbered_frame}
+use Rattle.wasm_shapes.specs.SectionTable.{number}
+use Rattle.wasm_read.specs.Frames.{numbered_frame}
 use Rattle.wasm_write.specs.Sections.{Sections, SectionRow, sections_bytes}
 use Rattle.reencode_hooks.specs.declared.error.Error.{Error}
 use Rattle.reencode_hooks.specs.declared.error.Error.TheVariants.{UnexpectedNonCoreModuleSection, ParseError, UserError, TooLarge, NoMemory}
@@ -39,7 +40,7 @@ RefusesNext asked c last s Tree.finish e m = asked s (Section last None) ≡ ref
 RefusesNext asked c last s _ e m = ⊥
 
 -- The sections before the refused one were accepted, and what they became was added, and no more.
-pub record StopsSections {S E : Type 0} (asked : Asks S E) (c : ℕ) (s : S) (t : Tree) (old : Sections) (m : S) (new : Sections) (e : Error E) : Type 0 where
+pub record StopsSections {S E : Type 0} (asked : Asks S E) (c : ℕ) (before : S × Sections) (t : Tree) (after : S × Sections) (e : Error E) : Type 0 where
   pub read : List Tree
   pub others : Tree
   pub made : List Tree
@@ -47,16 +48,17 @@ pub record StopsSections {S E : Type 0} (asked : Asks S E) (c : ℕ) (s : S) (t 
   pub last : Option SectionId
   pub at : S
   pub parts : t ≡ alsos read others
-  pub accepts : AcceptsSections asked c s read made last at
-  pub gains : Gains old new rows
+  pub accepts : AcceptsSections asked c before.0 read made last at
+  pub gains : Gains before.1 after.1 rows
   pub spelled : sections_bytes rows ≡ normal (alsos made Tree.finish)
-  pub refuses : e ≢ NoMemory → RefusesNext asked c last at others e m
+  pub refuses : e ≢ NoMemory → RefusesNext asked c last at others e after.0
 
 -- The sections became others, which were added, or one of them was refused, or the section hook at the end.
-abbrev pub GivesModule : {S E : Type 0} → Asks S E → S → Tree → Sections → S → Sections → Result (Unit {0}) (Error E) → Type 0
-GivesModule asked s t old m new (Ok _) =
-    (u : Tree) × (rows : List SectionRow) × (walk asked old.ceiling s t ≡ accepted u m) × Gains old new rows × (sections_bytes rows ≡ normal u)
-GivesModule asked s t old m new (Err e) = StopsSections asked old.ceiling s t old m new e
+abbrev pub GivesModule : {S E : Type 0} → Asks S E → S × Sections → Tree → S × Sections → Result (Unit {0}) (Error E) → Type 0
+GivesModule asked before t after (Ok _) =
+    (u : Tree) × (rows : List SectionRow) × (walk asked before.1.ceiling before.0 t ≡ accepted u after.0) × Gains before.1 after.1 rows
+    × (sections_bytes rows ≡ normal u)
+GivesModule asked before t after (Err e) = StopsSections asked before.1.ceiling before t after e
 
 -- ---- errors
 
@@ -86,7 +88,7 @@ pub record StopsInside {S E : Type 0} (asked : Asks S E) (c : ℕ) (bytes : List
   pub id : SectionId
   pub body : List ℕ
   pub left : List ℕ
-  pub framed : Begins frame bytes (numbered_frame (section_number id) body) left
+  pub framed : Begins frame bytes (numbered_frame (number id) body) left
   pub stops : (asked s (Section last (Some id)) ≡ refused e m)
       ⊎ ((n : S) × (asked s (Section last (Some id)) ≡ accepted 0 n) × StopsSection asked c id body n e m)
 
@@ -109,11 +111,10 @@ IsCause asked c bytes s m _ = ⊥
 
 -- ---- the module, and its bytes
 
-pub record GivesCore {S E : Type 0} (asked : Asks S E) (bytes : List ℕ) (s : S) (old : Sections) (m : S) (new : Sections)
-    (result : Result (Unit {0}) (Error E)) : Type 0 where
-  pub reading : (t : Tree) → CoreReading bytes t → GivesModule asked s t old m new result
+pub record GivesCore {S E : Type 0} (asked : Asks S E) (bytes : List ℕ) (before after : S × Sections) (result : Result (Unit {0}) (Error E)) : Type 0 where
+  pub reading : (t : Tree) → CoreReading bytes t → GivesModule asked before t after result
   pub readable : IfOk result (λ _. (t : Tree) × CoreReading bytes t)
-  pub cause : IfErr result (IsCause asked old.ceiling bytes s m)
+  pub cause : IfErr result (IsCause asked before.1.ceiling bytes before.0 after.0)
 
 -- The bytes of the walk's tree are the answer, or the walk's refusal, or memory is wanting.
 abbrev pub GivesNormal : {S E A : Type 0} → Step S (Error E) Tree → S → Result A (Error E) → (A → List ℕ) → Type 0

@@ -8,7 +8,7 @@ use Rattle.wasm_shapes.specs.Shape.{Shape, shape_of_kind}
 use Rattle.wasm_shapes.specs.Tree.{Tree, code_bytes, normal}
 use Rattle.wasm_shapes.specs.Spells.{Is, Spelled, SpelledCode}
 use Rattle.wasm_shapes.specs.Place.{Begins}
-use Rattle.wasm_read.specs.Immediates.{is_core}
+use Rattle.wasm_shapes.specs.Types.{is_core}
 use Rattle.wasm_write.specs.declared.types.Imm.{Imm}
 use Rattle.wasm_write.specs.declared.types.Imm.TheVariants as imm
 use Rattle.wasm_write.specs.Bodies.{AreOperators}

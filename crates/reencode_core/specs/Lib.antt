@@ -5,3 +5,4 @@ pub mod Bodies
 pub mod Sections
 pub mod Core
 pub mod Leaves
+pub mod Rules

@@ -55,22 +55,22 @@ pub record RefusesFirst {S E : Type 0} (asked : Asks S E) (c : ℕ) (s : S) (row
   pub refusal : (walk asked c s row ≡ refused e m) ⊎ (AcceptedHooks asked s row m × TooMany e n)
 
 -- The rows before the refused one were accepted, and what they became was added, and no more.
-pub record StopsRows {S E : Type 0} (asked : Asks S E) (c : ℕ) (s : S) (rows : Tree) (old : List Tree) (m : S) (new : List Tree) (e : Error E) : Type 0 where
+pub record StopsRows {S E : Type 0} (asked : Asks S E) (c : ℕ) (before : S × List Tree) (rows : Tree) (after : S × List Tree) (e : Error E) : Type 0 where
   pub read : List Tree
   pub others : Tree
   pub made : List Tree
   pub at : S
   pub parts : rows ≡ rows_then read others
-  pub accepts : AcceptsRows asked c s read made at
+  pub accepts : AcceptsRows asked c before.0 read made at
   pub counted : length made ≡ length read
-  pub gains : new ≡ old ++ made
-  pub refuses : e ≢ NoMemory → RefusesFirst asked c at others (length new) e m
+  pub gains : after.1 ≡ before.1 ++ made
+  pub refuses : e ≢ NoMemory → RefusesFirst asked c at others (length after.1) e after.0
 
 -- The rows became others, which were added, or one of them was refused.
-abbrev pub GivesAll : {S E : Type 0} → Asks S E → ℕ → S → Tree → List Tree → S → List Tree → Result (Unit {0}) (Error E) → Type 0
-GivesAll asked c s rows old m new (Ok _) =
-    (made : List Tree) × (walk asked c s rows ≡ accepted (rows_then made Tree.nil) m) × (new ≡ old ++ made)
-GivesAll asked c s rows old m new (Err e) = StopsRows asked c s rows old m new e
+abbrev pub GivesAll : {S E : Type 0} → Asks S E → ℕ → S × List Tree → Tree → S × List Tree → Result (Unit {0}) (Error E) → Type 0
+GivesAll asked c before rows after (Ok _) =
+    (made : List Tree) × (walk asked c before.0 rows ≡ accepted (rows_then made Tree.nil) after.0) × (after.1 ≡ before.1 ++ made)
+GivesAll asked c before rows after (Err e) = StopsRows asked c before rows after e
 
 -- ---- one row
 
@@ -85,17 +85,18 @@ pub record TooLargeMade {S E : Type 0} (asked : Asks S E) (s : S) (row : Tree) (
   pub large : TooLargeRow e accepts.made n
 
 -- The row became another, which was added, or it was refused, and nothing was added.
-abbrev pub GivesRow : {S E : Type 0} → Asks S E → ℕ → S → Tree → List Tree → S → List Tree → Result (Unit {0}) (Error E) → Type 0
-GivesRow asked c s t old m new (Ok _) = (u : Tree) × (walk asked c s t ≡ accepted u m) × (new ≡ old ++ u ∷ [])
-GivesRow asked c s t old m new (Err e) =
-    (new ≡ old) × (e ≢ NoMemory → (walk asked c s t ≡ refused e m) ⊎ TooLargeMade asked s t (length old) e m)
+abbrev pub GivesRow : {S E : Type 0} → Asks S E → ℕ → S × List Tree → Tree → S × List Tree → Result (Unit {0}) (Error E) → Type 0
+GivesRow asked c before t after (Ok _) = (u : Tree) × (walk asked c before.0 t ≡ accepted u after.0) × (after.1 ≡ before.1 ++ u ∷ [])
+GivesRow asked c before t after (Err e) =
+    (after.1 ≡ before.1)
+    × (e ≢ NoMemory → (walk asked c before.0 t ≡ refused e after.0) ⊎ TooLargeMade asked before.0 t (length before.1) e after.0)
 
 -- A table that starts with null references is mapped as a row. One that starts with the value of an expression has no format
 -- yet: it is refused at its front, nothing is asked, and nothing is added.
-abbrev pub GivesTable : {S E : Type 0} → Asks S E → ℕ → S → TableType → TableInit → List Tree → S → List Tree → Result (Unit {0}) (Error E) → Type 0
-GivesTable asked c s ty init.RefNull old m new result = GivesRow asked c s (table_type_tree ty) old m new result
-GivesTable {E = E} asked c s ty (init.Expr _) old m new result =
-    (new ≡ old) × (m ≡ s) × (result ≡ Err (ParseError (record { at = 0 })))
+abbrev pub GivesTable : {S E : Type 0} → Asks S E → ℕ → S × List Tree → TableType → TableInit → S × List Tree → Result (Unit {0}) (Error E) → Type 0
+GivesTable asked c before ty init.RefNull after result = GivesRow asked c before (table_type_tree ty) after result
+GivesTable {E = E} asked c before ty (init.Expr _) after result =
+    (after.1 ≡ before.1) × (after.0 ≡ before.0) × (result ≡ Err (ParseError (record { at = 0 })))
 
 -- what an error of it leaves
 abbrev pub LeavesTable : {S E : Type 0} → Asks S E → S → TableType → TableInit → S → Result (Unit {0}) (Error E) → Type 0
@@ -119,19 +120,18 @@ pub record Further {S E : Type 0} (asked : Asks S E) (s m : S) : Type 0 where
 
 -- At this place a row is due and none begins, or bytes are left behind the last row. All rows before it were accepted, and
 -- what they became was added; further visits may follow, of a row that is read in part.
-pub record RowsFault {S E : Type 0} (asked : Asks S E) (c : ℕ) (row : Shape) (reader : Standing) (s : S) (old : List Tree) (m : S) (new : List Tree)
-    (at : ℕ) : Type 0 where
+pub record RowsFault {S E : Type 0} (asked : Asks S E) (c : ℕ) (row : Shape) (reader : Standing) (before after : S × List Tree) (at : ℕ) : Type 0 where
   pub none : NoRows row reader.left reader.rest
   pub read : List Tree
   pub rest : List ℕ
   pub made : List Tree
   pub state : S
-  pub before : RowsBefore row reader.rest read rest
+  pub front : RowsBefore row reader.rest read rest
   pub missing : ((length read < reader.left) × BeginsNone row rest) ⊎ ((length read ≡ reader.left) × (rest ≢ []))
   pub place : at ≡ reader.len - length rest
-  pub accepts : AcceptsRows asked c s read made state
-  pub further : Further asked state m
-  pub gains : new ≡ old ++ made
+  pub accepts : AcceptsRows asked c before.0 read made state
+  pub further : Further asked state after.0
+  pub gains : after.1 ≡ before.1 ++ made
 
 -- ---- what was refused
 
@@ -172,22 +172,25 @@ pub record RefusesInside {S E : Type 0} (asked : Asks S E) (c : ℕ) (row : Shap
   pub begins : Begins frame_row bytes (Tree.sized (Tree.raw body)) left
   pub stops : StopsBody asked c body s e m
 
--- Rows stand there and were accepted, and the next one, which is due, is refused.
-pub record StopsAtRow {S E : Type 0} (asked : Asks S E) (c : ℕ) (row : Shape) (reader : Standing) (s : S) (old : ℕ) (e : Error E) (m : S) : Type 0 where
+-- Rows stand there and were accepted, and what they became was added; the next one, which is due, is refused.
+pub record StopsAtRow {S E : Type 0} (asked : Asks S E) (c : ℕ) (row : Shape) (reader : Standing) (before : S × List Tree) (e : Error E)
+    (after : S × List Tree) : Type 0 where
   pub read : List Tree
   pub rest : List ℕ
   pub made : List Tree
   pub state : S
-  pub before : RowsBefore row reader.rest read rest
+  pub front : RowsBefore row reader.rest read rest
   pub due : length read < reader.left
-  pub accepts : AcceptsRows asked c s read made state
-  pub refuses : RefusesWhole asked c row rest state (old + length read) e m ⊎ RefusesInside asked c row rest state e m
+  pub accepts : AcceptsRows asked c before.0 read made state
+  pub counted : length made ≡ length read
+  pub gains : after.1 ≡ before.1 ++ made
+  pub refuses : RefusesWhole asked c row rest state (length after.1) e after.0 ⊎ RefusesInside asked c row rest state e after.0
 
 -- ---- a section of rows
 
-pub record GivesRows {S E : Type 0} (asked : Asks S E) (c : ℕ) (row : Shape) (reader : Standing) (s : S) (old : List Tree) (m : S) (new : List Tree)
+pub record GivesRows {S E : Type 0} (asked : Asks S E) (c : ℕ) (row : Shape) (reader : Standing) (before after : S × List Tree)
     (result : Result (Unit {0}) (Error E)) : Type 0 where
-  pub reading : (rows : Tree) → RowsLeft row reader.left reader.rest rows → GivesAll asked c s rows old m new result
+  pub reading : (rows : Tree) → RowsLeft row reader.left reader.rest rows → GivesAll asked c before rows after result
   pub readable : IfOk result (λ _. (rows : Tree) × RowsLeft row reader.left reader.rest rows)
-  pub unreadable : IfErr result (λ e. IfParse e (RowsFault asked c row reader s old m new))
-  pub refusal : IfErr result (λ e. IfRefused e (StopsAtRow asked c row reader s (length old) e m))
+  pub unreadable : IfErr result (λ e. IfParse e (RowsFault asked c row reader before after))
+  pub refusal : IfErr result (λ e. IfRefused e (StopsAtRow asked c row reader before e after))

@@ -1,17 +1,19 @@
 -- What the call that maps one section gives.
-use Rattle.std.specs.Prelude.{◌≡◌, ◌≢◌, ◌⊎◌, ℕ, List, [], Result, Ok, Err, IfOk, IfErr}
+use Rattle.std.specs.Prelude.{◌≡◌, ◌≢◌, ◌≤◌, ◌<◌, ◌⊎◌, ℕ, List, [], length, Result, Ok, Err, IfOk, IfErr}
 use Rattle.wasm_leb.specs.Place.{BeginsNoNumber}
 use Rattle.wasm_shapes.specs.declared.SectionId.{SectionId}
-use Rattle.wasm_shapes.specs.declared.SectionId.TheVariants as id
-use Rattle.wasm_shapes.specs.Shape.{Shape, Named, table_type, memory_type, tag_type}
+use Rattle.wasm_shapes.specs.Shape.{Shape}
 use Rattle.wasm_shapes.specs.Tree.{Tree, normal}
 use Rattle.wasm_shapes.specs.Spells.{Spells}
-use Rattle.wasm_shapes.specs.Module.{types, imports, functions, tables, memories, exports, code, tags, import_row, function_row, export_row, code_row, type_section, import_section, function_section, table_section, memory_section, export_section, code_section, tag_section}
+use Rattle.wasm_shapes.specs.Module.{body_of, row_of, tree_of}
+use Rattle.wasm_shapes.specs.SectionTable.{number}
 use Rattle.wasm_read.specs.Reading.{Standing, CountRead}
-use Rattle.wasm_read.specs.Frames.{section_number}
+use Rattle.wasm_write.specs.declared.fault.WriteFault.{WriteFault}
+use Rattle.wasm_write.specs.Faults.{IfTooLarge}
 use Rattle.wasm_write.specs.Sections.{Sections, SectionRow, section_row, section_bytes, with_section}
 use Rattle.reencode_hooks.specs.declared.error.Error.{Error}
 use Rattle.reencode_hooks.specs.declared.error.Error.TheVariants.{NoMemory}
+use Rattle.reencode_hooks.specs.Errors.{error_of_write}
 use Rattle.reencode_hooks.specs.Run.{accepted, refused}
 use Rattle.reencode_hooks.specs.Walk.{walk}
 use Rattle.reencode_hooks.specs.Hooks.{Gains}
@@ -22,68 +24,57 @@ use Rattle.reencode_core.specs.Rows.{Asks, RowsFault, StopsAtRow}
 abbrev pub KeepsModule : Sections → Sections → Type 0
 KeepsModule old new = (rows : List SectionRow) × Gains old new rows
 
--- the rows of the sections of a kind; those of a kind that is not in force have no shape
-abbrev pub row_shape : SectionId → Shape
-row_shape id.Type_ = Shape.ref Named.group
-row_shape id.Import = import_row
-row_shape id.Function = function_row
-row_shape id.Table = table_type
-row_shape id.Memory = memory_type
-row_shape id.Export = export_row
-row_shape id.Code = code_row
-row_shape id.Tag = tag_type
-row_shape _ = Shape.none
-
--- the bodies of the sections of a kind
-abbrev pub body_shape : SectionId → Shape
-body_shape id.Type_ = types
-body_shape id.Import = imports
-body_shape id.Function = functions
-body_shape id.Table = tables
-body_shape id.Memory = memories
-body_shape id.Export = exports
-body_shape id.Code = code
-body_shape id.Tag = tags
-body_shape _ = Shape.none
-
--- a section by its kind and its body
-abbrev pub section_tree : SectionId → Tree → Tree
-section_tree id.Type_ body = type_section body
-section_tree id.Import body = import_section body
-section_tree id.Function body = function_section body
-section_tree id.Table body = table_section body
-section_tree id.Memory body = memory_section body
-section_tree id.Export body = export_section body
-section_tree id.Code body = code_section body
-section_tree id.Tag body = tag_section body
-section_tree _ body = Tree.canonical 0
-
 -- the tree is what the body of a section of a kind is read as
 abbrev pub ReadsAs : SectionId → List ℕ → Tree → Type 0
-ReadsAs kind body t = (u : Tree) × (t ≡ section_tree kind u) × Spells (body_shape kind) body u
+ReadsAs kind body t = (u : Tree) × (t ≡ tree_of kind u) × Spells (body_of kind) body u
+
+-- the bodies of the sections of a kind are vectors of its rows
+abbrev pub HasRows : SectionId → Type 0
+HasRows kind = body_of kind ≡ Shape.vec (row_of kind)
+
+-- A section whose rows were mapped was added, or it is too large, or memory is wanting; where its rows were refused, that is
+-- the answer.
+abbrev pub AddsMapped : {E : Type 0} → SectionRow → Sections → Result (Unit {0}) (Error E) → Sections → Result (Unit {0}) (Error E) → Type 0
+AddsMapped row old (Err e) new result = (result ≡ Err e) × (new ≡ old)
+AddsMapped row old (Ok _) new (Ok _) = (new ≡ with_section old row) × (length row.body ≤ old.ceiling)
+AddsMapped row old (Ok _) new (Err e) =
+    (new ≡ old) × (w : WriteFault) × (e ≡ error_of_write w) × IfTooLarge w (λ size. (size ≡ length row.body) × (old.ceiling < size))
 
 -- The section became another, which was added, or it was refused, and nothing was added.
-abbrev pub GivesOne : {S E : Type 0} → Asks S E → SectionId → S → Tree → Sections → S → Sections → Result (Unit {0}) (Error E) → Type 0
-GivesOne asked kind s t old m new (Ok _) =
-    (u : Tree) × (body : List ℕ) × (walk asked old.ceiling s t ≡ accepted u m) × (new ≡ with_section old (section_row (section_number kind) body))
-    × (section_bytes (section_row (section_number kind) body) ≡ normal u)
-GivesOne asked kind s t old m new (Err e) = (new ≡ old) × (e ≢ NoMemory → walk asked old.ceiling s t ≡ refused e m)
+abbrev pub GivesOne : {S E : Type 0} → Asks S E → SectionId → S × Sections → Tree → S × Sections → Result (Unit {0}) (Error E) → Type 0
+GivesOne asked kind before t after (Ok _) =
+    (u : Tree) × (body : List ℕ) × (walk asked before.1.ceiling before.0 t ≡ accepted u after.0)
+    × (after.1 ≡ with_section before.1 (section_row (number kind) body)) × (section_bytes (section_row (number kind) body) ≡ normal u)
+GivesOne asked kind before t after (Err e) =
+    (after.1 ≡ before.1) × (e ≢ NoMemory → walk asked before.1.ceiling before.0 t ≡ refused e after.0)
 
--- At this place in the body the count of the rows is due and none begins; or a row is due and none begins, or bytes are left
--- behind the last row, and all rows before it were accepted. Where no body of the kind is in force, it is the body's front.
+-- The count of the rows stands there. At this place a row is due and none begins, or bytes are left behind the last row, and
+-- all rows before it were accepted.
+pub record RowsFaultIn {S E : Type 0} (asked : Asks S E) (c : ℕ) (kind : SectionId) (body : List ℕ) (s m : S) (at : ℕ) : Type 0 where
+  pub has_rows : HasRows kind
+  pub reader : Standing
+  pub made : List Tree
+  pub counted : CountRead body reader
+  pub fault : RowsFault asked c (row_of kind) reader (s, []) (m, made) at
+
+-- The body is none of its kind: at its front the count of the rows is due and none begins, or no body of the kind is in force;
+-- or the fault stands in its rows.
 abbrev pub BodyFault : {S E : Type 0} → Asks S E → ℕ → SectionId → List ℕ → S → S → ℕ → Type 0
 BodyFault asked c kind body s m at =
     ((t : Tree) → ReadsAs kind body t → ⊥)
-    × (((at ≡ 0) × (BeginsNoNumber 128 32 32 body ⊎ (body_shape kind ≡ Shape.none)) × (m ≡ s))
-    ⊎ ((reader : Standing) × (made : List Tree) × CountRead body reader × RowsFault asked c (row_shape kind) reader s [] m made at))
+    × (((at ≡ 0) × (BeginsNoNumber 128 32 32 body ⊎ (body_of kind ≡ Shape.none)) × (m ≡ s)) ⊎ RowsFaultIn asked c kind body s m at)
 
 -- The count of the rows stands there, rows behind it were accepted, and the next one is refused.
-abbrev pub StopsSection : {S E : Type 0} → Asks S E → ℕ → SectionId → List ℕ → S → Error E → S → Type 0
-StopsSection asked c kind body s e m = (reader : Standing) × CountRead body reader × StopsAtRow asked c (row_shape kind) reader s 0 e m
+pub record StopsSection {S E : Type 0} (asked : Asks S E) (c : ℕ) (kind : SectionId) (body : List ℕ) (s : S) (e : Error E) (m : S) : Type 0 where
+  pub reader : Standing
+  pub made : List Tree
+  pub counted : CountRead body reader
+  pub stops : StopsAtRow asked c (row_of kind) reader (s, []) e (m, made)
 
-pub record GivesSection {S E : Type 0} (asked : Asks S E) (kind : SectionId) (body : List ℕ) (s : S) (old : Sections) (m : S) (new : Sections)
+pub record GivesSection {S E : Type 0} (asked : Asks S E) (kind : SectionId) (body : List ℕ) (before after : S × Sections)
     (result : Result (Unit {0}) (Error E)) : Type 0 where
-  pub reading : (t : Tree) → ReadsAs kind body t → GivesOne asked kind s t old m new result
+  pub reading : (t : Tree) → ReadsAs kind body t → GivesOne asked kind before t after result
   pub readable : IfOk result (λ _. (t : Tree) × ReadsAs kind body t)
-  pub unreadable : IfErr result (λ e. IfParse e (BodyFault asked old.ceiling kind body s m))
-  pub refusal : IfErr result (λ e. IfRefused e (((t : Tree) × ReadsAs kind body t) ⊎ StopsSection asked old.ceiling kind body s e m))
+  pub unreadable : IfErr result (λ e. IfParse e (BodyFault asked before.1.ceiling kind body before.0 after.0))
+  pub refusal : IfErr result (λ e.
+      IfRefused e (((t : Tree) × ReadsAs kind body t) ⊎ StopsSection asked before.1.ceiling kind body before.0 e after.0))

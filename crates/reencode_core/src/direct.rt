@@ -5,21 +5,20 @@ ghost use Rattle.wasm_write.specs.Bodies.{with_operator};
 ghost use Rattle.wasm_write.specs.Instructions.{HasKinds, operator_tree};
 ghost use Rattle.wasm_write.specs.declared.fault.WriteFault.TheVariants as write;
 ghost use Rattle.reencode_hooks.specs.Run.{ask};
-ghost use Rattle.reencode_core.specs.Bodies.{KeepsCode, GivesBody, GivesLocals};
+ghost use Rattle.reencode_core.specs.Bodies.{GivesBody, KeepsCode};
 ghost use Rattle.reencode_core.specs.Direct.{imm_of};
-ghost use Rattle.reencode_core.specs.Leaves.{BodyOf, LeavesReading, LocalsOf};
+ghost use Rattle.reencode_core.specs.Leaves.{BodyOf, LeavesReading};
 
 mod classes;
 mod passing;
 mod runs;
 
-use crate::bodies;
 use crate::direct::passing::{Fresh, Next};
 use crate::direct::runs::{Run, pass_run};
+use crate::shared::new_function_with_parsed_locals;
 use reencode_hooks::Error;
 use reencode_items::ReencodeItems;
 use std::alloc::Global;
-use wasm_leb::List;
 use wasm_read as r;
 use wasm_shapes::Opcode;
 use wasm_write as w;
@@ -43,20 +42,6 @@ fn add(
     }
 }
 
-/// A function with the locals that a body begins with, each type by `val_type`, and no operator.
-fn with_locals<R: ReencodeItems>(
-    reencoder: &mut R,
-    alloc: Global,
-    func: &r::FunctionBody<'_>,
-) -> Result<w::Function, Error<R::Error>>
-    ensures default { IsTrue R.keeps_defaults
-        → GivesLocals (ask R.reply R.next) func.now.bytes.now reencoder.old reencoder.new result (λ f. f) }
-    ensures left { IsTrue R.keeps_defaults → IsTrue R.sure
-        → LeavesReading (LocalsOf func.now.bytes.now) (ask R.reply R.next) reencoder.old reencoder.new result }
-{
-    bodies::new_function_with_parsed_locals!(reencoder, alloc, func)
-}
-
 /// Maps a body as `Reencode::parse_function_body` does by default, without lists.
 ///
 /// A reencoder that keeps the default methods overrides that method by this function, keeps its promises, and is faster:
@@ -70,13 +55,13 @@ pub fn parse_function_body<R: ReencodeItems>(
 ) -> Result<(), Error<R::Error>>
     ensures kept { KeepsCode code.old code.new }
     ensures default { IsTrue R.keeps_defaults
-        → GivesBody (ask R.reply R.next) func.entry.bytes.now reencoder.old code.old
-        reencoder.new code.new result }
-    ensures left { IsTrue R.keeps_defaults → IsTrue R.sure
+        → GivesBody (ask R.reply R.next) func.entry.bytes.now (reencoder.old, code.old)
+        (reencoder.new, code.new) result }
+    ensures after_error { IsTrue R.keeps_defaults → IsTrue R.sure
         → LeavesReading (BodyOf func.entry.bytes.now) (ask R.reply R.next)
         reencoder.old reencoder.new result }
 {
-    let mut function = with_locals(reencoder, alloc, &func)?;
+    let mut function = new_function_with_parsed_locals(reencoder, alloc, &func)?;
     let mut reader = func.operators()?;
     'operators: while !reader.eof() {
         let bytes = reader.rest();

@@ -7,6 +7,9 @@ mod errors;
 mod imports;
 mod plain;
 mod reencode;
+mod rule;
+mod sections;
+mod shared;
 #[cfg(test)]
 mod tests;
 #[cfg(test)]
@@ -16,3 +19,4 @@ pub mod utils;
 mod utils_tests;
 
 pub use reencode::{Reencode, reencode_core};
+pub use rule::reencode_by_rule;

@@ -1,7 +1,7 @@
 //! What a re-encoder does with each section.
 ghost use Rattle.std.specs.Prelude.{◌≡◌, IsTrue, ℕ};
 ghost use Rattle.wasm_shapes.specs.declared.SectionId.TheVariants as kinds;
-ghost use Rattle.wasm_shapes.specs.Module.{CoreReading, core_module};
+ghost use Rattle.wasm_shapes.specs.Module.{CoreReading, core_module, row_of};
 ghost use Rattle.wasm_shapes.specs.Spells.{Spells};
 ghost use Rattle.wasm_shapes.specs.Tree.{visits};
 ghost use Rattle.wasm_read.specs.declared.types.Imports.TheVariants as imported;
@@ -11,25 +11,26 @@ ghost use Rattle.reencode_hooks.specs.Run.{LeavesVisited, ask};
 ghost use Rattle.reencode_items.specs.Maps.{Maps};
 ghost use Rattle.reencode_core.specs.Rows.{KeepsFront, GivesRow, GivesRows, GivesTable, LeavesTable};
 ghost use Rattle.reencode_core.specs.Bodies.{KeepsCode, GivesLocals, GivesBody};
-ghost use Rattle.reencode_core.specs.Sections.{KeepsModule, ReadsAs, row_shape, GivesSection};
+ghost use Rattle.reencode_core.specs.Sections.{KeepsModule, ReadsAs, GivesSection};
 ghost use Rattle.reencode_core.specs.Core.{GivesCore, GivesBytes};
 ghost use Rattle.reencode_core.specs.Leaves.{BodyOf, LeavesReading, LocalsOf, RowsOf};
 
-use crate::bodies;
 use crate::errors::placed;
-use crate::imports::single;
+use crate::sections::add_section;
+use crate::{bodies, shared};
 use reencode_hooks::Error;
 use reencode_items::ReencodeItems;
 use std::alloc::Global;
-use wasm_leb::{List, ReadError};
+use wasm_leb::ReadError;
 use wasm_read as r;
 use wasm_shapes::SectionId;
 use wasm_write as w;
 
 /// What a re-encoder does with each section of a core module.
 ///
-/// The clauses `default` and `left` of each method hold where the reencoder keeps the defaults. `left` says that, where it is
-/// sure too, every error leaves the state after a front part of the visits of what was to be read, want of memory too.
+/// The clauses `default` and `after_error` of each method hold where the reencoder keeps the defaults. `after_error` says
+/// that, where it is sure too, every error leaves the state after a front part of the visits of what was to be read, want
+/// of memory too.
 pub trait Reencode: ReencodeItems {
     /// Maps the rows that the reader still has, each by `parse_recursive_type_group`, and adds each row once it is mapped.
     fn parse_type_section(
@@ -40,11 +41,13 @@ pub trait Reencode: ReencodeItems {
     ) -> Result<(), Error<Self::Error>>
         ensures kept { KeepsFront types.old types.new }
         ensures default { IsTrue Self.keeps_defaults → (c : ℕ)
-            → GivesRows (ask Self.reply Self.next) c (row_shape kinds.Type_) section.entry self.old types.old self.new types.new result }
-        ensures left { IsTrue Self.keeps_defaults → IsTrue Self.sure
-            → LeavesReading (RowsOf (row_shape kinds.Type_) section.entry) (ask Self.reply Self.next) self.old self.new result }
+            → GivesRows (ask Self.reply Self.next) c (row_of kinds.Type_) section.entry
+            (self.old, types.old) (self.new, types.new) result }
+        ensures after_error { IsTrue Self.keeps_defaults → IsTrue Self.sure
+            → LeavesReading (RowsOf (row_of kinds.Type_) section.entry) (ask Self.reply Self.next)
+            self.old self.new result }
     {
-        bodies::parse_type_section!(self, alloc, types, section)
+        bodies::each_row!(section, alloc, row => types.group(&self.parse_recursive_type_group(alloc, row)?))
     }
 
     /// Maps each type of a group by `sub_type`.
@@ -54,11 +57,13 @@ pub trait Reencode: ReencodeItems {
         rec_group: r::RecGroup,
     ) -> Result<w::RecGroup, Error<Self::Error>>
         ensures default { IsTrue Self.keeps_defaults
-            → Maps Self.reply Self.next self.old (read.group_tree rec_group) write.group_tree self.new result }
-        ensures left { IsTrue Self.keeps_defaults → IsTrue Self.sure
-            → LeavesVisited (ask Self.reply Self.next) self.old (visits (read.group_tree rec_group)) self.new result }
+            → Maps Self.reply Self.next self.old (read.group_tree rec_group) write.group_tree
+            self.new result }
+        ensures after_error { IsTrue Self.keeps_defaults → IsTrue Self.sure
+            → LeavesVisited (ask Self.reply Self.next) self.old (visits (read.group_tree rec_group))
+            self.new result }
     {
-        bodies::parse_recursive_type_group!(self, alloc, rec_group)
+        shared::parse_recursive_type_group(self, alloc, rec_group)
     }
 
     /// Maps the rows that the reader still has, each index by `type_index`, and adds each row once its index was answered.
@@ -70,11 +75,13 @@ pub trait Reencode: ReencodeItems {
     ) -> Result<(), Error<Self::Error>>
         ensures kept { KeepsFront functions.old functions.new }
         ensures default { IsTrue Self.keeps_defaults → (c : ℕ)
-            → GivesRows (ask Self.reply Self.next) c (row_shape kinds.Function) section.entry self.old functions.old self.new functions.new result }
-        ensures left { IsTrue Self.keeps_defaults → IsTrue Self.sure
-            → LeavesReading (RowsOf (row_shape kinds.Function) section.entry) (ask Self.reply Self.next) self.old self.new result }
+            → GivesRows (ask Self.reply Self.next) c (row_of kinds.Function) section.entry
+            (self.old, functions.old) (self.new, functions.new) result }
+        ensures after_error { IsTrue Self.keeps_defaults → IsTrue Self.sure
+            → LeavesReading (RowsOf (row_of kinds.Function) section.entry)
+            (ask Self.reply Self.next) self.old self.new result }
     {
-        bodies::parse_function_section!(self, alloc, functions, section)
+        shared::parse_function_section(self, alloc, functions, section)
     }
 
     /// Maps the rows that the reader still has, each by `parse_imports`.
@@ -86,11 +93,13 @@ pub trait Reencode: ReencodeItems {
     ) -> Result<(), Error<Self::Error>>
         ensures kept { KeepsFront imports.old imports.new }
         ensures default { IsTrue Self.keeps_defaults → (c : ℕ)
-            → GivesRows (ask Self.reply Self.next) c (row_shape kinds.Import) section.entry self.old imports.old self.new imports.new result }
-        ensures left { IsTrue Self.keeps_defaults → IsTrue Self.sure
-            → LeavesReading (RowsOf (row_shape kinds.Import) section.entry) (ask Self.reply Self.next) self.old self.new result }
+            → GivesRows (ask Self.reply Self.next) c (row_of kinds.Import) section.entry
+            (self.old, imports.old) (self.new, imports.new) result }
+        ensures after_error { IsTrue Self.keeps_defaults → IsTrue Self.sure
+            → LeavesReading (RowsOf (row_of kinds.Import) section.entry) (ask Self.reply Self.next)
+            self.old self.new result }
     {
-        bodies::parse_import_section!(self, alloc, imports, section)
+        bodies::each_row!(section, alloc, row => self.parse_imports(alloc, imports, row))
     }
 
     /// Maps an entry of an import section, its type by `entity_type`, and adds it.
@@ -102,11 +111,13 @@ pub trait Reencode: ReencodeItems {
     ) -> Result<(), Error<Self::Error>>
         ensures kept { KeepsFront import_section.old import_section.new }
         ensures default { IsTrue Self.keeps_defaults → (c : ℕ)
-            → GivesRow (ask Self.reply Self.next) c self.old (read.import_tree imports.entry) import_section.old self.new import_section.new result }
-        ensures left { IsTrue Self.keeps_defaults → IsTrue Self.sure
-            → LeavesVisited (ask Self.reply Self.next) self.old (visits (read.import_tree imports.entry)) self.new result }
+            → GivesRow (ask Self.reply Self.next) c (self.old, import_section.old)
+            (read.import_tree imports.entry) (self.new, import_section.new) result }
+        ensures after_error { IsTrue Self.keeps_defaults → IsTrue Self.sure
+            → LeavesVisited (ask Self.reply Self.next) self.old
+            (visits (read.import_tree imports.entry)) self.new result }
     {
-        bodies::parse_imports!(self, import_section, imports)
+        shared::parse_imports(self, import_section, imports)
     }
 
     /// Maps what is imported by `parse_imports`, as an entry of its own.
@@ -118,11 +129,13 @@ pub trait Reencode: ReencodeItems {
     ) -> Result<(), Error<Self::Error>>
         ensures kept { KeepsFront imports.old imports.new }
         ensures default { IsTrue Self.keeps_defaults → (c : ℕ)
-            → GivesRow (ask Self.reply Self.next) c self.old (read.import_tree (imported.Single import.entry)) imports.old self.new imports.new result }
-        ensures left { IsTrue Self.keeps_defaults → IsTrue Self.sure
-            → LeavesVisited (ask Self.reply Self.next) self.old (visits (read.import_tree (imported.Single import.entry))) self.new result }
+            → GivesRow (ask Self.reply Self.next) c (self.old, imports.old)
+            (read.import_tree (imported.Single import.entry)) (self.new, imports.new) result }
+        ensures after_error { IsTrue Self.keeps_defaults → IsTrue Self.sure
+            → LeavesVisited (ask Self.reply Self.next) self.old
+            (visits (read.import_tree (imported.Single import.entry))) self.new result }
     {
-        bodies::parse_import!(self, alloc, imports, import)
+        self.parse_imports(alloc, imports, r::Imports::Single(import))
     }
 
     /// Maps the rows that the reader still has, each by `parse_table`.
@@ -134,11 +147,13 @@ pub trait Reencode: ReencodeItems {
     ) -> Result<(), Error<Self::Error>>
         ensures kept { KeepsFront tables.old tables.new }
         ensures default { IsTrue Self.keeps_defaults → (c : ℕ)
-            → GivesRows (ask Self.reply Self.next) c (row_shape kinds.Table) section.entry self.old tables.old self.new tables.new result }
-        ensures left { IsTrue Self.keeps_defaults → IsTrue Self.sure
-            → LeavesReading (RowsOf (row_shape kinds.Table) section.entry) (ask Self.reply Self.next) self.old self.new result }
+            → GivesRows (ask Self.reply Self.next) c (row_of kinds.Table) section.entry
+            (self.old, tables.old) (self.new, tables.new) result }
+        ensures after_error { IsTrue Self.keeps_defaults → IsTrue Self.sure
+            → LeavesReading (RowsOf (row_of kinds.Table) section.entry) (ask Self.reply Self.next)
+            self.old self.new result }
     {
-        bodies::parse_table_section!(self, alloc, tables, section)
+        bodies::each_row!(section, alloc, row => self.parse_table(alloc, tables, row))
     }
 
     /// Maps a table that starts with null references by `table_type`, and adds it. One that starts with the value of an
@@ -151,11 +166,13 @@ pub trait Reencode: ReencodeItems {
     ) -> Result<(), Error<Self::Error>>
         ensures kept { KeepsFront tables.old tables.new }
         ensures default { IsTrue Self.keeps_defaults → (c : ℕ)
-            → GivesTable (ask Self.reply Self.next) c self.old table.entry.ty table.entry.init tables.old self.new tables.new result }
-        ensures left { IsTrue Self.keeps_defaults → IsTrue Self.sure
-            → LeavesTable (ask Self.reply Self.next) self.old table.entry.ty table.entry.init self.new result }
+            → GivesTable (ask Self.reply Self.next) c (self.old, tables.old) table.entry.ty
+            table.entry.init (self.new, tables.new) result }
+        ensures after_error { IsTrue Self.keeps_defaults → IsTrue Self.sure
+            → LeavesTable (ask Self.reply Self.next) self.old table.entry.ty table.entry.init
+            self.new result }
     {
-        bodies::parse_table!(self, tables, table)
+        shared::parse_table(self, tables, table)
     }
 
     /// Maps the rows that the reader still has, each by `memory_type`, and adds each row once it is mapped.
@@ -167,11 +184,13 @@ pub trait Reencode: ReencodeItems {
     ) -> Result<(), Error<Self::Error>>
         ensures kept { KeepsFront memories.old memories.new }
         ensures default { IsTrue Self.keeps_defaults → (c : ℕ)
-            → GivesRows (ask Self.reply Self.next) c (row_shape kinds.Memory) section.entry self.old memories.old self.new memories.new result }
-        ensures left { IsTrue Self.keeps_defaults → IsTrue Self.sure
-            → LeavesReading (RowsOf (row_shape kinds.Memory) section.entry) (ask Self.reply Self.next) self.old self.new result }
+            → GivesRows (ask Self.reply Self.next) c (row_of kinds.Memory) section.entry
+            (self.old, memories.old) (self.new, memories.new) result }
+        ensures after_error { IsTrue Self.keeps_defaults → IsTrue Self.sure
+            → LeavesReading (RowsOf (row_of kinds.Memory) section.entry) (ask Self.reply Self.next)
+            self.old self.new result }
     {
-        bodies::parse_memory_section!(self, alloc, memories, section)
+        shared::parse_memory_section(self, alloc, memories, section)
     }
 
     /// Maps the rows that the reader still has, each by `tag_type`, and adds each row once it is mapped.
@@ -183,11 +202,13 @@ pub trait Reencode: ReencodeItems {
     ) -> Result<(), Error<Self::Error>>
         ensures kept { KeepsFront tags.old tags.new }
         ensures default { IsTrue Self.keeps_defaults → (c : ℕ)
-            → GivesRows (ask Self.reply Self.next) c (row_shape kinds.Tag) section.entry self.old tags.old self.new tags.new result }
-        ensures left { IsTrue Self.keeps_defaults → IsTrue Self.sure
-            → LeavesReading (RowsOf (row_shape kinds.Tag) section.entry) (ask Self.reply Self.next) self.old self.new result }
+            → GivesRows (ask Self.reply Self.next) c (row_of kinds.Tag) section.entry
+            (self.old, tags.old) (self.new, tags.new) result }
+        ensures after_error { IsTrue Self.keeps_defaults → IsTrue Self.sure
+            → LeavesReading (RowsOf (row_of kinds.Tag) section.entry) (ask Self.reply Self.next)
+            self.old self.new result }
     {
-        bodies::parse_tag_section!(self, alloc, tags, section)
+        shared::parse_tag_section(self, alloc, tags, section)
     }
 
     /// Maps the rows that the reader still has, each by `parse_export`.
@@ -199,11 +220,13 @@ pub trait Reencode: ReencodeItems {
     ) -> Result<(), Error<Self::Error>>
         ensures kept { KeepsFront exports.old exports.new }
         ensures default { IsTrue Self.keeps_defaults → (c : ℕ)
-            → GivesRows (ask Self.reply Self.next) c (row_shape kinds.Export) section.entry self.old exports.old self.new exports.new result }
-        ensures left { IsTrue Self.keeps_defaults → IsTrue Self.sure
-            → LeavesReading (RowsOf (row_shape kinds.Export) section.entry) (ask Self.reply Self.next) self.old self.new result }
+            → GivesRows (ask Self.reply Self.next) c (row_of kinds.Export) section.entry
+            (self.old, exports.old) (self.new, exports.new) result }
+        ensures after_error { IsTrue Self.keeps_defaults → IsTrue Self.sure
+            → LeavesReading (RowsOf (row_of kinds.Export) section.entry) (ask Self.reply Self.next)
+            self.old self.new result }
     {
-        bodies::parse_export_section!(self, alloc, exports, section)
+        bodies::each_row!(section, alloc, row => self.parse_export(exports, row))
     }
 
     /// Maps an export by `export_kind` and `external_index`, and adds it.
@@ -214,11 +237,13 @@ pub trait Reencode: ReencodeItems {
     ) -> Result<(), Error<Self::Error>>
         ensures kept { KeepsFront exports.old exports.new }
         ensures default { IsTrue Self.keeps_defaults → (c : ℕ)
-            → GivesRow (ask Self.reply Self.next) c self.old (read.export_tree export.entry) exports.old self.new exports.new result }
-        ensures left { IsTrue Self.keeps_defaults → IsTrue Self.sure
-            → LeavesVisited (ask Self.reply Self.next) self.old (visits (read.export_tree export.entry)) self.new result }
+            → GivesRow (ask Self.reply Self.next) c (self.old, exports.old)
+            (read.export_tree export.entry) (self.new, exports.new) result }
+        ensures after_error { IsTrue Self.keeps_defaults → IsTrue Self.sure
+            → LeavesVisited (ask Self.reply Self.next) self.old
+            (visits (read.export_tree export.entry)) self.new result }
     {
-        bodies::parse_export!(self, exports, export)
+        shared::parse_export(self, exports, export)
     }
 
     /// Maps the rows that the reader still has, each by `parse_function_body`. A `ParseError` holds the place of the row in
@@ -231,9 +256,11 @@ pub trait Reencode: ReencodeItems {
     ) -> Result<(), Error<Self::Error>>
         ensures kept { KeepsCode code.old code.new }
         ensures default { IsTrue Self.keeps_defaults
-            → GivesRows (ask Self.reply Self.next) code.old.ceiling (row_shape kinds.Code) section.entry self.old code.old.rows self.new code.new.rows result }
-        ensures left { IsTrue Self.keeps_defaults → IsTrue Self.sure
-            → LeavesReading (RowsOf (row_shape kinds.Code) section.entry) (ask Self.reply Self.next) self.old self.new result }
+            → GivesRows (ask Self.reply Self.next) code.old.ceiling (row_of kinds.Code)
+            section.entry (self.old, code.old.rows) (self.new, code.new.rows) result }
+        ensures after_error { IsTrue Self.keeps_defaults → IsTrue Self.sure
+            → LeavesReading (RowsOf (row_of kinds.Code) section.entry) (ask Self.reply Self.next)
+            self.old self.new result }
     {
         bodies::parse_code_section!(self, alloc, code, section)
     }
@@ -248,9 +275,11 @@ pub trait Reencode: ReencodeItems {
     ) -> Result<(), Error<Self::Error>>
         ensures kept { KeepsCode code.old code.new }
         ensures default { IsTrue Self.keeps_defaults
-            → GivesBody (ask Self.reply Self.next) func.entry.bytes.now self.old code.old self.new code.new result }
-        ensures left { IsTrue Self.keeps_defaults → IsTrue Self.sure
-            → LeavesReading (BodyOf func.entry.bytes.now) (ask Self.reply Self.next) self.old self.new result }
+            → GivesBody (ask Self.reply Self.next) func.entry.bytes.now (self.old, code.old)
+            (self.new, code.new) result }
+        ensures after_error { IsTrue Self.keeps_defaults → IsTrue Self.sure
+            → LeavesReading (BodyOf func.entry.bytes.now) (ask Self.reply Self.next) self.old
+            self.new result }
     {
         bodies::parse_function_body!(self, alloc, code, func)
     }
@@ -262,11 +291,13 @@ pub trait Reencode: ReencodeItems {
         func: &r::FunctionBody<'_>,
     ) -> Result<w::Function, Error<Self::Error>>
         ensures default { IsTrue Self.keeps_defaults
-            → GivesLocals (ask Self.reply Self.next) func.now.bytes.now self.old self.new result (λ f. f) }
-        ensures left { IsTrue Self.keeps_defaults → IsTrue Self.sure
-            → LeavesReading (LocalsOf func.now.bytes.now) (ask Self.reply Self.next) self.old self.new result }
+            → GivesLocals (ask Self.reply Self.next) func.now.bytes.now self.old self.new result
+            (λ f. f) }
+        ensures after_error { IsTrue Self.keeps_defaults → IsTrue Self.sure
+            → LeavesReading (LocalsOf func.now.bytes.now) (ask Self.reply Self.next) self.old
+            self.new result }
     {
-        bodies::new_function_with_parsed_locals!(self, alloc, func)
+        shared::new_function_with_parsed_locals(self, alloc, func)
     }
 
     /// Maps the body of a section of a kind by the methods of that kind, and adds the section. It calls no section hook.
@@ -279,9 +310,11 @@ pub trait Reencode: ReencodeItems {
     ) -> Result<(), Error<Self::Error>>
         ensures kept { KeepsModule «module».old «module».new }
         ensures default { IsTrue Self.keeps_defaults
-            → GivesSection (ask Self.reply Self.next) id body.now self.old «module».old self.new «module».new result }
-        ensures left { IsTrue Self.keeps_defaults → IsTrue Self.sure
-            → LeavesReading (ReadsAs id body.now) (ask Self.reply Self.next) self.old self.new result }
+            → GivesSection (ask Self.reply Self.next) id body.now (self.old, «module».old)
+            (self.new, «module».new) result }
+        ensures after_error { IsTrue Self.keeps_defaults → IsTrue Self.sure
+            → LeavesReading (ReadsAs id body.now) (ask Self.reply Self.next)
+            self.old self.new result }
     {
         bodies::parse_section!(self, alloc, module, id, body)
     }
@@ -295,9 +328,12 @@ pub trait Reencode: ReencodeItems {
     ) -> Result<(), Error<Self::Error>>
         ensures kept { KeepsModule «module».old «module».new }
         ensures default { IsTrue Self.keeps_defaults → IsTrue Self.adds_nothing
-            → GivesCore (ask Self.reply Self.next) bytes.now self.old «module».old self.new «module».new result }
-        ensures left { IsTrue Self.keeps_defaults → IsTrue Self.adds_nothing → IsTrue Self.sure
-            → LeavesReading (CoreReading bytes.now) (ask Self.reply Self.next) self.old self.new result }
+            → GivesCore (ask Self.reply Self.next) bytes.now (self.old, «module».old)
+            (self.new, «module».new) result }
+        ensures after_error { IsTrue Self.keeps_defaults → IsTrue Self.adds_nothing
+            → IsTrue Self.sure
+            → LeavesReading (CoreReading bytes.now) (ask Self.reply Self.next)
+            self.old self.new result }
     {
         bodies::parse_core_module!(self, alloc, module, bytes)
     }
@@ -312,7 +348,7 @@ pub fn reencode_core<R: Reencode>(
 ) -> Result<Vec<u8>, Error<R::Error>>
     ensures default { IsTrue R.keeps_defaults → IsTrue R.adds_nothing
         → GivesBytes (ask R.reply R.next) ceiling bytes.now r.old r.new result (λ v. v.items) }
-    ensures left { IsTrue R.keeps_defaults → IsTrue R.adds_nothing → IsTrue R.sure
+    ensures after_error { IsTrue R.keeps_defaults → IsTrue R.adds_nothing → IsTrue R.sure
         → LeavesReading (Spells core_module bytes.now) (ask R.reply R.next) r.old r.new result }
 {
     let mut module = w::Module::new(alloc, ceiling)?;

@@ -1,7 +1,7 @@
 //! The default bodies of `Reencode`, as functions of any reencoder.
 ghost use Rattle.std.specs.Prelude.{◌≡◌, IsTrue, ℕ};
 ghost use Rattle.wasm_shapes.specs.declared.SectionId.TheVariants as kinds;
-ghost use Rattle.wasm_shapes.specs.Module.{CoreReading};
+ghost use Rattle.wasm_shapes.specs.Module.{CoreReading, row_of};
 ghost use Rattle.wasm_shapes.specs.Tree.{visits};
 ghost use Rattle.wasm_read.specs.declared.types.Imports.TheVariants as imported;
 ghost use Rattle.wasm_read.specs.Types as read;
@@ -10,17 +10,17 @@ ghost use Rattle.reencode_hooks.specs.Run.{LeavesVisited, ask};
 ghost use Rattle.reencode_items.specs.Maps.{Maps};
 ghost use Rattle.reencode_core.specs.Rows.{KeepsFront, GivesRow, GivesRows, GivesTable, LeavesTable};
 ghost use Rattle.reencode_core.specs.Bodies.{KeepsCode, GivesLocals, GivesBody};
-ghost use Rattle.reencode_core.specs.Sections.{KeepsModule, ReadsAs, row_shape, GivesSection};
+ghost use Rattle.reencode_core.specs.Sections.{KeepsModule, ReadsAs, GivesSection};
 ghost use Rattle.reencode_core.specs.Core.{GivesCore};
 ghost use Rattle.reencode_core.specs.Leaves.{BodyOf, LeavesReading, LocalsOf, RowsOf};
 
-use crate::bodies;
 use crate::errors::placed;
-use crate::imports::single;
 use crate::reencode::Reencode;
+use crate::sections::add_section;
+use crate::{bodies, shared};
 use reencode_hooks::Error;
 use std::alloc::Global;
-use wasm_leb::{List, ReadError};
+use wasm_leb::ReadError;
 use wasm_read as r;
 use wasm_shapes::SectionId;
 use wasm_write as w;
@@ -34,11 +34,13 @@ pub fn parse_type_section<T: Reencode>(
 ) -> Result<(), Error<T::Error>>
     ensures kept { KeepsFront types.old types.new }
     ensures default { IsTrue T.keeps_defaults → (c : ℕ)
-        → GivesRows (ask T.reply T.next) c (row_shape kinds.Type_) section.entry reencoder.old types.old reencoder.new types.new result }
-    ensures left { IsTrue T.keeps_defaults → IsTrue T.sure
-        → LeavesReading (RowsOf (row_shape kinds.Type_) section.entry) (ask T.reply T.next) reencoder.old reencoder.new result }
+        → GivesRows (ask T.reply T.next) c (row_of kinds.Type_) section.entry
+        (reencoder.old, types.old) (reencoder.new, types.new) result }
+    ensures after_error { IsTrue T.keeps_defaults → IsTrue T.sure
+        → LeavesReading (RowsOf (row_of kinds.Type_) section.entry) (ask T.reply T.next)
+        reencoder.old reencoder.new result }
 {
-    bodies::parse_type_section!(reencoder, alloc, types, section)
+    bodies::each_row!(section, alloc, row => types.group(&reencoder.parse_recursive_type_group(alloc, row)?))
 }
 
 /// Maps each type of a group by `sub_type`.
@@ -48,11 +50,13 @@ pub fn parse_recursive_type_group<T: Reencode>(
     rec_group: r::RecGroup,
 ) -> Result<w::RecGroup, Error<T::Error>>
     ensures default { IsTrue T.keeps_defaults
-        → Maps T.reply T.next reencoder.old (read.group_tree rec_group) write.group_tree reencoder.new result }
-    ensures left { IsTrue T.keeps_defaults → IsTrue T.sure
-        → LeavesVisited (ask T.reply T.next) reencoder.old (visits (read.group_tree rec_group)) reencoder.new result }
+        → Maps T.reply T.next reencoder.old (read.group_tree rec_group) write.group_tree
+        reencoder.new result }
+    ensures after_error { IsTrue T.keeps_defaults → IsTrue T.sure
+        → LeavesVisited (ask T.reply T.next) reencoder.old (visits (read.group_tree rec_group))
+        reencoder.new result }
 {
-    bodies::parse_recursive_type_group!(reencoder, alloc, rec_group)
+    shared::parse_recursive_type_group(reencoder, alloc, rec_group)
 }
 
 /// Maps the rows that the reader still has, each index by `type_index`, and adds each row once its index was answered.
@@ -64,11 +68,13 @@ pub fn parse_function_section<T: Reencode>(
 ) -> Result<(), Error<T::Error>>
     ensures kept { KeepsFront functions.old functions.new }
     ensures default { IsTrue T.keeps_defaults → (c : ℕ)
-        → GivesRows (ask T.reply T.next) c (row_shape kinds.Function) section.entry reencoder.old functions.old reencoder.new functions.new result }
-    ensures left { IsTrue T.keeps_defaults → IsTrue T.sure
-        → LeavesReading (RowsOf (row_shape kinds.Function) section.entry) (ask T.reply T.next) reencoder.old reencoder.new result }
+        → GivesRows (ask T.reply T.next) c (row_of kinds.Function) section.entry
+        (reencoder.old, functions.old) (reencoder.new, functions.new) result }
+    ensures after_error { IsTrue T.keeps_defaults → IsTrue T.sure
+        → LeavesReading (RowsOf (row_of kinds.Function) section.entry) (ask T.reply T.next)
+        reencoder.old reencoder.new result }
 {
-    bodies::parse_function_section!(reencoder, alloc, functions, section)
+    shared::parse_function_section(reencoder, alloc, functions, section)
 }
 
 /// Maps the rows that the reader still has, each by `parse_imports`.
@@ -80,11 +86,13 @@ pub fn parse_import_section<T: Reencode>(
 ) -> Result<(), Error<T::Error>>
     ensures kept { KeepsFront imports.old imports.new }
     ensures default { IsTrue T.keeps_defaults → (c : ℕ)
-        → GivesRows (ask T.reply T.next) c (row_shape kinds.Import) section.entry reencoder.old imports.old reencoder.new imports.new result }
-    ensures left { IsTrue T.keeps_defaults → IsTrue T.sure
-        → LeavesReading (RowsOf (row_shape kinds.Import) section.entry) (ask T.reply T.next) reencoder.old reencoder.new result }
+        → GivesRows (ask T.reply T.next) c (row_of kinds.Import) section.entry
+        (reencoder.old, imports.old) (reencoder.new, imports.new) result }
+    ensures after_error { IsTrue T.keeps_defaults → IsTrue T.sure
+        → LeavesReading (RowsOf (row_of kinds.Import) section.entry) (ask T.reply T.next)
+        reencoder.old reencoder.new result }
 {
-    bodies::parse_import_section!(reencoder, alloc, imports, section)
+    bodies::each_row!(section, alloc, row => reencoder.parse_imports(alloc, imports, row))
 }
 
 /// Maps an entry of an import section, its type by `entity_type`, and adds it.
@@ -96,11 +104,13 @@ pub fn parse_imports<T: Reencode>(
 ) -> Result<(), Error<T::Error>>
     ensures kept { KeepsFront import_section.old import_section.new }
     ensures default { IsTrue T.keeps_defaults → (c : ℕ)
-        → GivesRow (ask T.reply T.next) c reencoder.old (read.import_tree imports.entry) import_section.old reencoder.new import_section.new result }
-    ensures left { IsTrue T.keeps_defaults → IsTrue T.sure
-        → LeavesVisited (ask T.reply T.next) reencoder.old (visits (read.import_tree imports.entry)) reencoder.new result }
+        → GivesRow (ask T.reply T.next) c (reencoder.old, import_section.old)
+        (read.import_tree imports.entry) (reencoder.new, import_section.new) result }
+    ensures after_error { IsTrue T.keeps_defaults → IsTrue T.sure
+        → LeavesVisited (ask T.reply T.next) reencoder.old (visits (read.import_tree imports.entry))
+        reencoder.new result }
 {
-    bodies::parse_imports!(reencoder, import_section, imports)
+    shared::parse_imports(reencoder, import_section, imports)
 }
 
 /// Maps what is imported by `parse_imports`, as an entry of its own.
@@ -112,11 +122,13 @@ pub fn parse_import<T: Reencode>(
 ) -> Result<(), Error<T::Error>>
     ensures kept { KeepsFront imports.old imports.new }
     ensures default { IsTrue T.keeps_defaults → (c : ℕ)
-        → GivesRow (ask T.reply T.next) c reencoder.old (read.import_tree (imported.Single import.entry)) imports.old reencoder.new imports.new result }
-    ensures left { IsTrue T.keeps_defaults → IsTrue T.sure
-        → LeavesVisited (ask T.reply T.next) reencoder.old (visits (read.import_tree (imported.Single import.entry))) reencoder.new result }
+        → GivesRow (ask T.reply T.next) c (reencoder.old, imports.old)
+        (read.import_tree (imported.Single import.entry)) (reencoder.new, imports.new) result }
+    ensures after_error { IsTrue T.keeps_defaults → IsTrue T.sure
+        → LeavesVisited (ask T.reply T.next) reencoder.old
+        (visits (read.import_tree (imported.Single import.entry))) reencoder.new result }
 {
-    bodies::parse_import!(reencoder, alloc, imports, import)
+    reencoder.parse_imports(alloc, imports, r::Imports::Single(import))
 }
 
 /// Maps the rows that the reader still has, each by `parse_table`.
@@ -128,11 +140,13 @@ pub fn parse_table_section<T: Reencode>(
 ) -> Result<(), Error<T::Error>>
     ensures kept { KeepsFront tables.old tables.new }
     ensures default { IsTrue T.keeps_defaults → (c : ℕ)
-        → GivesRows (ask T.reply T.next) c (row_shape kinds.Table) section.entry reencoder.old tables.old reencoder.new tables.new result }
-    ensures left { IsTrue T.keeps_defaults → IsTrue T.sure
-        → LeavesReading (RowsOf (row_shape kinds.Table) section.entry) (ask T.reply T.next) reencoder.old reencoder.new result }
+        → GivesRows (ask T.reply T.next) c (row_of kinds.Table) section.entry
+        (reencoder.old, tables.old) (reencoder.new, tables.new) result }
+    ensures after_error { IsTrue T.keeps_defaults → IsTrue T.sure
+        → LeavesReading (RowsOf (row_of kinds.Table) section.entry) (ask T.reply T.next)
+        reencoder.old reencoder.new result }
 {
-    bodies::parse_table_section!(reencoder, alloc, tables, section)
+    bodies::each_row!(section, alloc, row => reencoder.parse_table(alloc, tables, row))
 }
 
 /// Maps a table that starts with null references by `table_type`, and adds it. One that starts with the value of an
@@ -145,11 +159,13 @@ pub fn parse_table<T: Reencode>(
 ) -> Result<(), Error<T::Error>>
     ensures kept { KeepsFront tables.old tables.new }
     ensures default { IsTrue T.keeps_defaults → (c : ℕ)
-        → GivesTable (ask T.reply T.next) c reencoder.old table.entry.ty table.entry.init tables.old reencoder.new tables.new result }
-    ensures left { IsTrue T.keeps_defaults → IsTrue T.sure
-        → LeavesTable (ask T.reply T.next) reencoder.old table.entry.ty table.entry.init reencoder.new result }
+        → GivesTable (ask T.reply T.next) c (reencoder.old, tables.old) table.entry.ty
+        table.entry.init (reencoder.new, tables.new) result }
+    ensures after_error { IsTrue T.keeps_defaults → IsTrue T.sure
+        → LeavesTable (ask T.reply T.next) reencoder.old table.entry.ty table.entry.init
+        reencoder.new result }
 {
-    bodies::parse_table!(reencoder, tables, table)
+    shared::parse_table(reencoder, tables, table)
 }
 
 /// Maps the rows that the reader still has, each by `memory_type`, and adds each row once it is mapped.
@@ -161,11 +177,13 @@ pub fn parse_memory_section<T: Reencode>(
 ) -> Result<(), Error<T::Error>>
     ensures kept { KeepsFront memories.old memories.new }
     ensures default { IsTrue T.keeps_defaults → (c : ℕ)
-        → GivesRows (ask T.reply T.next) c (row_shape kinds.Memory) section.entry reencoder.old memories.old reencoder.new memories.new result }
-    ensures left { IsTrue T.keeps_defaults → IsTrue T.sure
-        → LeavesReading (RowsOf (row_shape kinds.Memory) section.entry) (ask T.reply T.next) reencoder.old reencoder.new result }
+        → GivesRows (ask T.reply T.next) c (row_of kinds.Memory) section.entry
+        (reencoder.old, memories.old) (reencoder.new, memories.new) result }
+    ensures after_error { IsTrue T.keeps_defaults → IsTrue T.sure
+        → LeavesReading (RowsOf (row_of kinds.Memory) section.entry) (ask T.reply T.next)
+        reencoder.old reencoder.new result }
 {
-    bodies::parse_memory_section!(reencoder, alloc, memories, section)
+    shared::parse_memory_section(reencoder, alloc, memories, section)
 }
 
 /// Maps the rows that the reader still has, each by `tag_type`, and adds each row once it is mapped.
@@ -177,11 +195,13 @@ pub fn parse_tag_section<T: Reencode>(
 ) -> Result<(), Error<T::Error>>
     ensures kept { KeepsFront tags.old tags.new }
     ensures default { IsTrue T.keeps_defaults → (c : ℕ)
-        → GivesRows (ask T.reply T.next) c (row_shape kinds.Tag) section.entry reencoder.old tags.old reencoder.new tags.new result }
-    ensures left { IsTrue T.keeps_defaults → IsTrue T.sure
-        → LeavesReading (RowsOf (row_shape kinds.Tag) section.entry) (ask T.reply T.next) reencoder.old reencoder.new result }
+        → GivesRows (ask T.reply T.next) c (row_of kinds.Tag) section.entry
+        (reencoder.old, tags.old) (reencoder.new, tags.new) result }
+    ensures after_error { IsTrue T.keeps_defaults → IsTrue T.sure
+        → LeavesReading (RowsOf (row_of kinds.Tag) section.entry) (ask T.reply T.next) reencoder.old
+        reencoder.new result }
 {
-    bodies::parse_tag_section!(reencoder, alloc, tags, section)
+    shared::parse_tag_section(reencoder, alloc, tags, section)
 }
 
 /// Maps the rows that the reader still has, each by `parse_export`.
@@ -193,11 +213,13 @@ pub fn parse_export_section<T: Reencode>(
 ) -> Result<(), Error<T::Error>>
     ensures kept { KeepsFront exports.old exports.new }
     ensures default { IsTrue T.keeps_defaults → (c : ℕ)
-        → GivesRows (ask T.reply T.next) c (row_shape kinds.Export) section.entry reencoder.old exports.old reencoder.new exports.new result }
-    ensures left { IsTrue T.keeps_defaults → IsTrue T.sure
-        → LeavesReading (RowsOf (row_shape kinds.Export) section.entry) (ask T.reply T.next) reencoder.old reencoder.new result }
+        → GivesRows (ask T.reply T.next) c (row_of kinds.Export) section.entry
+        (reencoder.old, exports.old) (reencoder.new, exports.new) result }
+    ensures after_error { IsTrue T.keeps_defaults → IsTrue T.sure
+        → LeavesReading (RowsOf (row_of kinds.Export) section.entry) (ask T.reply T.next)
+        reencoder.old reencoder.new result }
 {
-    bodies::parse_export_section!(reencoder, alloc, exports, section)
+    bodies::each_row!(section, alloc, row => reencoder.parse_export(exports, row))
 }
 
 /// Maps an export by `export_kind` and `external_index`, and adds it.
@@ -208,11 +230,13 @@ pub fn parse_export<T: Reencode>(
 ) -> Result<(), Error<T::Error>>
     ensures kept { KeepsFront exports.old exports.new }
     ensures default { IsTrue T.keeps_defaults → (c : ℕ)
-        → GivesRow (ask T.reply T.next) c reencoder.old (read.export_tree export.entry) exports.old reencoder.new exports.new result }
-    ensures left { IsTrue T.keeps_defaults → IsTrue T.sure
-        → LeavesVisited (ask T.reply T.next) reencoder.old (visits (read.export_tree export.entry)) reencoder.new result }
+        → GivesRow (ask T.reply T.next) c (reencoder.old, exports.old)
+        (read.export_tree export.entry) (reencoder.new, exports.new) result }
+    ensures after_error { IsTrue T.keeps_defaults → IsTrue T.sure
+        → LeavesVisited (ask T.reply T.next) reencoder.old (visits (read.export_tree export.entry))
+        reencoder.new result }
 {
-    bodies::parse_export!(reencoder, exports, export)
+    shared::parse_export(reencoder, exports, export)
 }
 
 /// Maps the rows that the reader still has, each by `parse_function_body`. A `ParseError` holds the place of the row in
@@ -225,9 +249,11 @@ pub fn parse_code_section<T: Reencode>(
 ) -> Result<(), Error<T::Error>>
     ensures kept { KeepsCode code.old code.new }
     ensures default { IsTrue T.keeps_defaults
-        → GivesRows (ask T.reply T.next) code.old.ceiling (row_shape kinds.Code) section.entry reencoder.old code.old.rows reencoder.new code.new.rows result }
-    ensures left { IsTrue T.keeps_defaults → IsTrue T.sure
-        → LeavesReading (RowsOf (row_shape kinds.Code) section.entry) (ask T.reply T.next) reencoder.old reencoder.new result }
+        → GivesRows (ask T.reply T.next) code.old.ceiling (row_of kinds.Code) section.entry
+        (reencoder.old, code.old.rows) (reencoder.new, code.new.rows) result }
+    ensures after_error { IsTrue T.keeps_defaults → IsTrue T.sure
+        → LeavesReading (RowsOf (row_of kinds.Code) section.entry) (ask T.reply T.next)
+        reencoder.old reencoder.new result }
 {
     bodies::parse_code_section!(reencoder, alloc, code, section)
 }
@@ -242,9 +268,11 @@ pub fn parse_function_body<T: Reencode>(
 ) -> Result<(), Error<T::Error>>
     ensures kept { KeepsCode code.old code.new }
     ensures default { IsTrue T.keeps_defaults
-        → GivesBody (ask T.reply T.next) func.entry.bytes.now reencoder.old code.old reencoder.new code.new result }
-    ensures left { IsTrue T.keeps_defaults → IsTrue T.sure
-        → LeavesReading (BodyOf func.entry.bytes.now) (ask T.reply T.next) reencoder.old reencoder.new result }
+        → GivesBody (ask T.reply T.next) func.entry.bytes.now (reencoder.old, code.old)
+        (reencoder.new, code.new) result }
+    ensures after_error { IsTrue T.keeps_defaults → IsTrue T.sure
+        → LeavesReading (BodyOf func.entry.bytes.now) (ask T.reply T.next) reencoder.old
+        reencoder.new result }
 {
     bodies::parse_function_body!(reencoder, alloc, code, func)
 }
@@ -256,11 +284,13 @@ pub fn new_function_with_parsed_locals<T: Reencode>(
     func: &r::FunctionBody<'_>,
 ) -> Result<w::Function, Error<T::Error>>
     ensures default { IsTrue T.keeps_defaults
-        → GivesLocals (ask T.reply T.next) func.now.bytes.now reencoder.old reencoder.new result (λ f. f) }
-    ensures left { IsTrue T.keeps_defaults → IsTrue T.sure
-        → LeavesReading (LocalsOf func.now.bytes.now) (ask T.reply T.next) reencoder.old reencoder.new result }
+        → GivesLocals (ask T.reply T.next) func.now.bytes.now reencoder.old reencoder.new result
+        (λ f. f) }
+    ensures after_error { IsTrue T.keeps_defaults → IsTrue T.sure
+        → LeavesReading (LocalsOf func.now.bytes.now) (ask T.reply T.next) reencoder.old
+        reencoder.new result }
 {
-    bodies::new_function_with_parsed_locals!(reencoder, alloc, func)
+    shared::new_function_with_parsed_locals(reencoder, alloc, func)
 }
 
 /// Maps the body of a section of a kind by the methods of that kind, and adds the section. It calls no section hook.
@@ -273,9 +303,11 @@ pub fn parse_section<T: Reencode>(
 ) -> Result<(), Error<T::Error>>
     ensures kept { KeepsModule «module».old «module».new }
     ensures default { IsTrue T.keeps_defaults
-        → GivesSection (ask T.reply T.next) id body.now reencoder.old «module».old reencoder.new «module».new result }
-    ensures left { IsTrue T.keeps_defaults → IsTrue T.sure
-        → LeavesReading (ReadsAs id body.now) (ask T.reply T.next) reencoder.old reencoder.new result }
+        → GivesSection (ask T.reply T.next) id body.now (reencoder.old, «module».old)
+        (reencoder.new, «module».new) result }
+    ensures after_error { IsTrue T.keeps_defaults → IsTrue T.sure
+        → LeavesReading (ReadsAs id body.now) (ask T.reply T.next)
+        reencoder.old reencoder.new result }
 {
     bodies::parse_section!(reencoder, alloc, module, id, body)
 }
@@ -289,9 +321,11 @@ pub fn parse_core_module<T: Reencode>(
 ) -> Result<(), Error<T::Error>>
     ensures kept { KeepsModule «module».old «module».new }
     ensures default { IsTrue T.keeps_defaults → IsTrue T.adds_nothing
-        → GivesCore (ask T.reply T.next) bytes.now reencoder.old «module».old reencoder.new «module».new result }
-    ensures left { IsTrue T.keeps_defaults → IsTrue T.adds_nothing → IsTrue T.sure
-        → LeavesReading (CoreReading bytes.now) (ask T.reply T.next) reencoder.old reencoder.new result }
+        → GivesCore (ask T.reply T.next) bytes.now (reencoder.old, «module».old)
+        (reencoder.new, «module».new) result }
+    ensures after_error { IsTrue T.keeps_defaults → IsTrue T.adds_nothing → IsTrue T.sure
+        → LeavesReading (CoreReading bytes.now) (ask T.reply T.next)
+        reencoder.old reencoder.new result }
 {
     bodies::parse_core_module!(reencoder, alloc, module, bytes)
 }

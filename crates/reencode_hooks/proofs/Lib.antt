@@ -3,3 +3,4 @@ pub mod Moments
 pub mod Walks
 pub mod Tables
 pub mod Frames
+pub mod Leaving

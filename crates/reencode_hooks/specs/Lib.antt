@@ -8,3 +8,4 @@ pub mod Frames
 pub mod Tables
 pub mod Renamings
 pub mod Renamed
+pub mod Rules

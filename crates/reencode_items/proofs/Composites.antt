@@ -1,109 +1,60 @@
 -- The walks over composite types and subtypes, by those over the parts that have a call of their own.
-use Rattle.std.proofs.Common.{ℕ, Bool, true, false, List, Option, Some, None}
-use Rattle.std.specs.Prelude.{map}
+use Rattle.std.proofs.Common.{◌≡◌, ℕ, Bool, true, false, List, Option, Some, None, refl}
 use Rattle.wasm_shapes.specs.declared.Visit.{Visit}
-use Rattle.wasm_shapes.specs.Rows.{rows_then}
 use Rattle.wasm_shapes.specs.Tree.{Tree, visits}
-use Rattle.wasm_read.specs.declared.types.UnpackedIndex.{UnpackedIndex}
+use Rattle.wasm_shapes.specs.Types.{behind_descriptor, behind_described, shared_composite_tree}
 use Rattle.wasm_read.specs.declared.types.CompositeType.{CompositeType}
 use Rattle.wasm_read.specs.Types as read
-use Rattle.wasm_write.specs.Types as write
 use Rattle.reencode_hooks.specs.declared.error.Error.{Error}
-use Rattle.reencode_hooks.specs.Run.{Step, Visited}
-use Rattle.reencode_items.proofs.Leaving.{first_visited, second_visited}
-use Rattle.reencode_items.proofs.Steps.{Accepts, Refuses, row_accepts, row_refuses, led_accepts, led_refuses, pair_accepts, pair_refuses, pair_refuses_second, swap_accepts, swap_refuses, swap_refuses_first, final_accepts, final_refuses, final_refuses_second, vec_accepts, vec_refuses}
+use Rattle.reencode_hooks.specs.Run.{Step, accepted, refused, and_then, Visited}
+use Rattle.reencode_hooks.specs.Walk.{walk}
+use Rattle.reencode_hooks.proofs.Agrees.{and_then-and_then}
+use Rattle.reencode_hooks.proofs.Leaving.{first_visited}
 
--- An index that may be left out was asked, where it is there.
-pub data OptionAccepts {S E : Type 0} (asked : S → Visit → Step S (Error E) ℕ) (c : ℕ) (s : S) : Option UnpackedIndex → Option ℕ → S → Type 0 where
-  left_out : OptionAccepts asked c s None None s
-  answered : {i : UnpackedIndex} {n : ℕ} {m : S} → Accepts asked c s (read.type_index i) (write.type_index n) m → OptionAccepts asked c s (Some i) (Some n) m
+-- a tree that may be left out, walked where it is there
+abbrev option_walked : {S E : Type 0} → (S → Visit → Step S (Error E) ℕ) → ℕ → S → Option Tree → Step S (Error E) (Option Tree)
+option_walked asked c s None = accepted None s
+option_walked asked c s (Some t) = and_then (walk asked c s t) (λ u m. accepted (Some u) m)
 
-module _ {S E : Type 0} {asked : S → Visit → Step S (Error E) ℕ} {c : ℕ} where
-  -- ---- composite types
+same_step : {S E A : Type 0} (step : Step S E A) → step ≡ and_then step (λ a m. accepted a m)
+same_step (accepted a m) = refl
+same_step (refused e m) = refl
 
-  pub described_accepts : {s m n : S} {t u : Tree} {i : Option UnpackedIndex} {j : Option ℕ} → Accepts asked c s t u m → OptionAccepts asked c m i j n →
-      Accepts asked c s (read.described_tree i t) (write.described_tree j u) n
-  described_accepts h left_out = h
-  described_accepts h (answered k) = row_accepts (swap_accepts h (led_accepts k))
+module _ {S E : Type 0} (asked : S → Visit → Step S (Error E) ℕ) (c : ℕ) (s : S) where
+  pub walk_shared : (b : Bool) (t : Tree) →
+      walk asked c s (shared_composite_tree b t) ≡ and_then (walk asked c s t) (λ u m. accepted (shared_composite_tree b u) m)
+  walk_shared false t = same_step (walk asked c s t)
+  walk_shared true t = simp and_then-and_then
 
-  pub described_refuses : {s m : S} {t : Tree} {e : Error E} (i : Option UnpackedIndex) → Refuses asked c s t e m → Refuses asked c s (read.described_tree i t) e m
-  described_refuses None h = h
-  described_refuses (Some i) h = row_refuses (swap_refuses h)
+  pub walk_descriptor : (o : Option Tree) (t : Tree) → walk asked c s (behind_descriptor o t) ≡
+      and_then (walk asked c s t) (λ u m. and_then (option_walked asked c m o) (λ p n. accepted (behind_descriptor p u) n))
+  walk_descriptor None t = same_step (walk asked c s t)
+  walk_descriptor (Some i) t = simp and_then-and_then
 
-  pub descriptor_refuses : {s m n : S} {t u : Tree} {e : Error E} (i : UnpackedIndex) → Accepts asked c s t u m → Refuses asked c m (read.type_index i) e n →
-      Refuses asked c s (read.described_tree (Some i) t) e n
-  descriptor_refuses i h k = row_refuses (swap_refuses_first h (led_refuses k))
-
-  pub describing_accepts : {s m n : S} {t u : Tree} {i : Option UnpackedIndex} {j : Option ℕ} → Accepts asked c s t u m → OptionAccepts asked c m i j n →
-      Accepts asked c s (read.describing_tree i t) (write.describing_tree j u) n
-  describing_accepts h left_out = h
-  describing_accepts h (answered k) = row_accepts (swap_accepts h (led_accepts k))
-
-  pub describing_refuses : {s m : S} {t : Tree} {e : Error E} (i : Option UnpackedIndex) → Refuses asked c s t e m → Refuses asked c s (read.describing_tree i t) e m
-  describing_refuses None h = h
-  describing_refuses (Some i) h = row_refuses (swap_refuses h)
-
-  pub describes_refuses : {s m n : S} {t u : Tree} {e : Error E} (i : UnpackedIndex) → Accepts asked c s t u m → Refuses asked c m (read.type_index i) e n →
-      Refuses asked c s (read.describing_tree (Some i) t) e n
-  describes_refuses i h k = row_refuses (swap_refuses_first h (led_refuses k))
-
-  pub shared_accepts : {s m : S} {t u : Tree} (b : Bool) → Accepts asked c s t u m →
-      Accepts asked c s (read.shared_composite_tree b t) (write.shared_composite_tree b u) m
-  shared_accepts false h = h
-  shared_accepts true h = row_accepts (led_accepts h)
-
-  pub shared_refuses : {s m : S} {t : Tree} {e : Error E} (b : Bool) → Refuses asked c s t e m → Refuses asked c s (read.shared_composite_tree b t) e m
-  shared_refuses false h = h
-  shared_refuses true h = row_refuses (led_refuses h)
-
-  -- ---- subtypes
-
-  pub sub_accepts : {s m n : S} {t u : Tree} (b : Bool) (is : List UnpackedIndex) (js : List ℕ) →
-      Accepts asked c s (rows_then (map read.type_index is) Tree.nil) (rows_then (map write.type_index js) Tree.nil) m → Accepts asked c m t u n →
-      Accepts asked c s (read.sub_parts b is t) (write.sub_parts b js u) n
-  sub_accepts true is js h k = row_accepts (final_accepts h k)
-  sub_accepts false is js h k = row_accepts (led_accepts (pair_accepts (vec_accepts h) k))
-
-  pub supertypes_refuse : {s m : S} {e : Error E} (b : Bool) (is : List UnpackedIndex) (t : Tree) →
-      Refuses asked c s (rows_then (map read.type_index is) Tree.nil) e m → Refuses asked c s (read.sub_parts b is t) e m
-  supertypes_refuse true is t h = row_refuses (final_refuses h)
-  supertypes_refuse false is t h = row_refuses (led_refuses (pair_refuses (vec_refuses h)))
-
-  pub composite_refuses : {s m n : S} {t u : Tree} {e : Error E} (b : Bool) (is : List UnpackedIndex) →
-      Accepts asked c s (rows_then (map read.type_index is) Tree.nil) u m → Refuses asked c m t e n → Refuses asked c s (read.sub_parts b is t) e n
-  composite_refuses true is h k = row_refuses (final_refuses_second h k)
-  composite_refuses false is h k = row_refuses (led_refuses (pair_refuses_second (vec_accepts h) k))
+  pub walk_described : (o : Option Tree) (t : Tree) → walk asked c s (behind_described o t) ≡
+      and_then (walk asked c s t) (λ u m. and_then (option_walked asked c m o) (λ p n. accepted (behind_described p u) n))
+  walk_described None t = same_step (walk asked c s t)
+  walk_described (Some i) t = simp and_then-and_then
 
 -- ---- the state that is left
 
-module _ {S E : Type 0} {asked : S → Visit → Step S (Error E) ℕ} where
-  described_leaves : {s m : S} (t : Tree) (i : Option UnpackedIndex) → Visited asked s (visits t) m → Visited asked s (visits (read.described_tree i t)) m
+module _ {S E : Type 0} {asked : S → Visit → Step S (Error E) ℕ} {s m : S} where
+  described_leaves : (t : Tree) (o : Option Tree) → Visited asked s (visits t) m → Visited asked s (visits (behind_descriptor o t)) m
   described_leaves t None v = v
-  described_leaves t (Some i) v = first_visited (visits (read.type_index i)) v
+  described_leaves t (Some i) v = first_visited (visits i) v
 
-  describing_leaves : {s m : S} (t : Tree) (i : Option UnpackedIndex) → Visited asked s (visits t) m → Visited asked s (visits (read.describing_tree i t)) m
+  describing_leaves : (t : Tree) (o : Option Tree) → Visited asked s (visits t) m → Visited asked s (visits (behind_described o t)) m
   describing_leaves t None v = v
-  describing_leaves t (Some i) v = first_visited (visits (read.type_index i)) v
+  describing_leaves t (Some i) v = first_visited (visits i) v
 
-  shared_leaves : {s m : S} (t : Tree) (b : Bool) → Visited asked s (visits t) m → Visited asked s (visits (read.shared_composite_tree b t)) m
+  shared_leaves : (t : Tree) (b : Bool) → Visited asked s (visits t) m → Visited asked s (visits (shared_composite_tree b t)) m
   shared_leaves t false v = v
   shared_leaves t true v = v
 
   -- what a composite type holds was asked in part
-  pub inner_leaves : {s m : S} (ty : CompositeType) → Visited asked s (visits (read.inner_tree ty.inner)) m → Visited asked s (visits (read.composite_tree ty)) m
-  inner_leaves ty v =
-      let described = read.described_tree ty.descriptor_idx (read.inner_tree ty.inner) in
-      shared_leaves (read.describing_tree ty.describes_idx described) ty.shared
-      (describing_leaves described ty.describes_idx (described_leaves (read.inner_tree ty.inner) ty.descriptor_idx v))
+  pub inner_leaves : (b : Bool) (i j : Option Tree) (t : Tree) → Visited asked s (visits t) m →
+      Visited asked s (visits (shared_composite_tree b (behind_described j (behind_descriptor i t)))) m
+  inner_leaves b i j t v = shared_leaves (behind_described j (behind_descriptor i t)) b (describing_leaves (behind_descriptor i t) j (described_leaves t i v))
 
-  -- the supertypes were asked in part
-  pub supertypes_leave : {s m : S} (b : Bool) (is : List UnpackedIndex) (t : Tree) → Visited asked s (visits (rows_then (map read.type_index is) Tree.nil)) m →
-      Visited asked s (visits (read.sub_parts b is t)) m
-  supertypes_leave true is t v = first_visited (visits t) v
-  supertypes_leave false is t v = first_visited (visits t) v
-
-  -- they were accepted, and the composite type was asked in part
-  pub composite_leaves : {c : ℕ} {s m n : S} {u : Tree} (b : Bool) (is : List UnpackedIndex) (t : Tree) →
-      Accepts asked c s (rows_then (map read.type_index is) Tree.nil) u m → Visited asked m (visits t) n → Visited asked s (visits (read.sub_parts b is t)) n
-  composite_leaves {c = c} true is t h v = second_visited c (rows_then (map read.type_index is) Tree.nil) h.is v
-  composite_leaves {c = c} false is t h v = second_visited c (rows_then (map read.type_index is) Tree.nil) h.is v
+-- what proves the walk over a composite type
+pub ruleset composites = (walk_shared, walk_descriptor, walk_described)

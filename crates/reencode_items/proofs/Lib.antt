@@ -1,6 +1,5 @@
 pub mod Leaving
-pub mod Steps
+pub mod Loops
 pub mod Parts
 pub mod Composites
-pub mod Externals
 pub mod Operators

@@ -1,6 +1,6 @@
 -- The walks over operators and their immediates.
-use Rattle.std.proofs.Common.{◌≡◌, ℕ, ◌&&◌, nat_le, Bool, true, false, if◌then◌else◌, List, [], ◌∷◌, ◌++◌, Option, Some, None, Result, Ok, Err, refl, sym, ap, ap₂, ◌∙◌, subst}
-use Rattle.std.specs.Prelude.{map}
+use Rattle.std.proofs.Common.{◌≡◌, ℕ, ◌+◌, ◌&&◌, nat_le, Bool, true, false, if◌then◌else◌, List, [], ◌∷◌, ◌++◌, length, Option, Some, None, Result, Ok, Err, refl, sym, ap, ap₂, ◌∙◌, subst, append_assoc, append-nil, arith}
+use Rattle.std.specs.Prelude.{map, IsTrue}
 use Rattle.std.proofs.lemmas.List.{map-append}
 use Rattle.wasm_shapes.specs.declared.Visit.{Visit}
 use Rattle.wasm_shapes.specs.declared.ImmKind.{ImmKind}
@@ -9,13 +9,9 @@ use Rattle.wasm_shapes.specs.Operators.{Code, plain, prefixed, Operators, look_u
 use Rattle.wasm_shapes.specs.Tree.{Tree, visits}
 use Rattle.wasm_shapes.proofs.Lists.{both}
 use Rattle.wasm_leb.specs.declared.fault.ReadError.{ReadError}
-use Rattle.wasm_leb.specs.declared.fault.Fault.{Fault}
-use Rattle.wasm_leb.specs.declared.fault.Fault.TheVariants as fault
 use Rattle.wasm_shapes.specs.Shape.{Shape}
-use Rattle.wasm_shapes.specs.Place.{Begins, BeginsNone}
+use Rattle.wasm_shapes.specs.Place.{Begins}
 use Rattle.wasm_read.specs.Operations.{Reading, rest_of}
-use Rattle.wasm_read.specs.Reading.{ReadsNoneOrWants}
-use Rattle.reencode_hooks.specs.Errors.{error_of_fault}
 use Rattle.reencode_items.specs.Maps.{Maps, MapsOperator, ParsesOperator}
 use Rattle.wasm_read.specs.declared.types.Imm.{Imm as ReadImm}
 use Rattle.wasm_read.specs.Immediates as read
@@ -27,7 +23,7 @@ use Rattle.reencode_hooks.specs.Run.{Step, accepted, refused, and_then, ask, ans
 use Rattle.reencode_hooks.specs.Walk.{walk}
 use Rattle.reencode_hooks.specs.Moments.{Moment, asks, closes, lost, Ends}
 use Rattle.reencode_hooks.proofs.Walks.{walk_stops}
-use Rattle.reencode_items.proofs.Leaving.{first_visited, second_visited}
+use Rattle.reencode_hooks.proofs.Leaving.{first_visited, second_visited}
 use Rattle.reencode_items.specs.Immediates.{is_mapped_kind, has_mapped, is_mapped}
 
 -- ---- the kinds of a row
@@ -106,11 +102,18 @@ pairs_then (t ∷ ts) others = Tree.pair t (pairs_then ts others)
 abbrev onto_pairs : {S E : Type 0} → List Tree → Step S E Tree → Step S E Tree
 onto_pairs ts step = and_then step (λ u m. accepted (pairs_then ts u) m)
 
--- Of some immediates those in front were walked, to what is made so far and this state, and the rest is walked from here.
-pub record ImmsDone {S E : Type 0} (asked : S → Visit → Step S (Error E) ℕ) (s0 : S) (imms rest : List ReadImm) (s : S) (made : List WrittenImm) : Type 0 where
-  pub walks : (c : ℕ) → walk asked c s0 (read.imms_tree imms) ≡ onto_pairs (map write.imm_tree made) (walk asked c s (read.imms_tree rest))
+-- Of the immediates of an operator those in front were mapped one by one, each to one of its kind, and so many are left, which
+-- are mapped too. Where the defaults are kept, the first were walked, to what is made so far and this state, and the rest is
+-- walked from here.
+pub record ImmsDone {S E : Type 0} (asked : S → Visit → Step S (Error E) ℕ) (keeps : Bool) (s0 : S) (imms gone rest : List ReadImm) (count : ℕ)
+    (s : S) (made : List WrittenImm) : Type 0 where
+  pub parts : gone ++ rest ≡ imms
+  pub counted : count ≡ length rest
+  pub all_mapped : AllMapped rest
+  pub kinds : map write.imm_kind made ≡ map read.kind_of_imm gone
+  pub walks : IsTrue keeps → (c : ℕ) → walk asked c s0 (read.imms_tree imms) ≡ onto_pairs (map write.imm_tree made) (walk asked c s (read.imms_tree rest))
   -- what was asked of the rest was asked behind the first
-  pub onward : (m : S) → Visited asked s (visits (read.imms_tree rest)) m → Visited asked s0 (visits (read.imms_tree imms)) m
+  pub onward : IsTrue keeps → (m : S) → Visited asked s (visits (read.imms_tree rest)) m → Visited asked s0 (visits (read.imms_tree imms)) m
 
 onto_nothing : {S E : Type 0} (step : Step S E Tree) → step ≡ onto_pairs [] step
 onto_nothing (accepted u m) = refl
@@ -131,49 +134,73 @@ imms_are : (made : List WrittenImm) → pairs_then (map write.imm_tree made) Tre
 imms_are [] = refl
 imms_are (m ∷ ms) = ap (λ (z : Tree). Tree.pair (write.imm_tree m) z) (imms_are ms)
 
-module _ {S E : Type 0} {asked : S → Visit → Step S (Error E) ℕ} where
-  pub imms_begin : (s : S) (imms rest : List ReadImm) → rest ≡ imms → ImmsDone asked s imms rest s []
-  imms_begin s imms rest e = record {
-    walks = λ c. rw e (onto_nothing (walk asked c s (read.imms_tree imms)));
-    onward = λ m v. let P : List ReadImm → Type 0 = λ z. Visited asked s (visits (read.imms_tree z)) m in subst P e v;
+none_left : {A : Type 0} (l : List A) → 0 ≡ length l → l ≡ []
+none_left [] h = refl
+none_left (x ∷ xs) h = absurd (omega arith)
+
+module _ {S E : Type 0} {asked : S → Visit → Step S (Error E) ℕ} {keeps : Bool} where
+  pub imms_begin : {imms rest : List ReadImm} {count : ℕ} {made : List WrittenImm} (s : S) →
+      AllMapped imms → rest ≡ imms → count ≡ length rest → made ≡ [] → ImmsDone asked keeps s imms [] rest count s made
+  imms_begin {imms} s mapped all many none = record {
+    parts = all;
+    counted = many;
+    all_mapped = rw all mapped;
+    kinds = rw none refl;
+    walks = λ k c. rw (all, none) (onto_nothing (walk asked c s (read.imms_tree imms)));
+    onward = λ k m v. let P : List ReadImm → Type 0 = λ z. Visited asked s (visits (read.imms_tree z)) m in subst P all v;
   }
 
-  pub imms_more : {s0 s m : S} {imms rest others : List ReadImm} {made more : List WrittenImm} (a : ReadImm) (b : WrittenImm) →
-      ImmsDone asked s0 imms rest s made → rest ≡ a ∷ others → ((c : ℕ) → walk asked c s (read.imm_tree a) ≡ accepted (write.imm_tree b) m) →
-      more ≡ made ++ b ∷ [] → ImmsDone asked s0 imms others m more
-  imms_more {s = s} {m = m} {imms = imms} {others = others} {made = made} a b done here step pushed = record {
-    walks = λ c.
-        let tail : Step S (Error E) Tree = walk asked c m (read.imms_tree others) in
-        let first : walk asked c s (Tree.pair (read.imm_tree a) (read.imms_tree others)) ≡ and_then tail (λ u n. accepted (Tree.pair (write.imm_tree b) u) n) = rw (step c) refl in
-        done.walks c ∙ rw (here, pushed) (ap (λ (r : Step S (Error E) Tree). onto_pairs (map write.imm_tree made) r) first ∙ one_onto made b tail);
-    onward = λ n v.
-        let P : List ReadImm → Type 0 = λ z. Visited asked s (visits (read.imms_tree z)) n in
-        done.onward n (subst P (sym here) (second_visited 0 (read.imm_tree a) (step 0) v));
-  }
+  module _ {s0 s : S} {imms gone rest others : List ReadImm} {count : ℕ} {made : List WrittenImm} (x : ReadImm)
+      (done : ImmsDone asked keeps s0 imms gone rest count s made) (next : rest ≡ x ∷ others) where
+    pub next_mapped : is_mapped x ≡ true
+    next_mapped = (subst AllMapped next done.all_mapped).0
 
-  -- the next was asked in part
-  pub imms_leave : {s0 s m : S} {imms rest others : List ReadImm} {made : List WrittenImm} (a : ReadImm) →
-      ImmsDone asked s0 imms rest s made → rest ≡ a ∷ others → Visited asked s (visits (read.imm_tree a)) m → Visited asked s0 (visits (read.imms_tree imms)) m
-  imms_leave {s = s} {m = m} {others = others} a done here v =
-      let P : List ReadImm → Type 0 = λ z. Visited asked s (visits (read.imms_tree z)) m in
-      done.onward m (subst P (sym here) (first_visited (visits (read.imms_tree others)) v))
+    pub imms_more : {m : S} {more : List WrittenImm} {n : ℕ} (b : WrittenImm) → count ≡ n + 1 → write.imm_kind b ≡ read.kind_of_imm x →
+        (IsTrue keeps → (c : ℕ) → walk asked c s (read.imm_tree x) ≡ accepted (write.imm_tree b) m) → more ≡ made ++ b ∷ [] →
+        ImmsDone asked keeps s0 imms (gone ++ x ∷ []) others n m more
+    imms_more {m = m} b fewer kind step pushed = record {
+      parts = append_assoc gone (x ∷ []) others ∙ rw (← next) done.parts;
+      counted = let many = done.counted in let short = ap length next in omega arith;
+      all_mapped = (subst AllMapped next done.all_mapped).1;
+      kinds = rw (pushed, map-append write.imm_kind made (b ∷ []), map-append read.kind_of_imm gone (x ∷ [])) (rw (done.kinds, kind) refl);
+      walks = λ k c.
+          let tail : Step S (Error E) Tree = walk asked c m (read.imms_tree others) in
+          let first : walk asked c s (Tree.pair (read.imm_tree x) (read.imms_tree others)) ≡ and_then tail (λ u n. accepted (Tree.pair (write.imm_tree b) u) n) = rw (step k c) refl in
+          done.walks k c ∙ rw (next, pushed) (ap (λ (r : Step S (Error E) Tree). onto_pairs (map write.imm_tree made) r) first ∙ one_onto made b tail);
+      onward = λ k n v.
+          let P : List ReadImm → Type 0 = λ z. Visited asked s (visits (read.imms_tree z)) n in
+          done.onward k n (subst P (sym next) (second_visited 0 (read.imm_tree x) (step k 0) v));
+    }
 
-  -- the operator with these immediates is refused where the next is
-  pub operator_refused : {s0 s m : S} {imms rest others : List ReadImm} {made : List WrittenImm} {e : Error E} (code : Code) (a : ReadImm) (c : ℕ) →
-      ImmsDone asked s0 imms rest s made → rest ≡ a ∷ others → walk asked c s (read.imm_tree a) ≡ refused e m →
-      walk asked c s0 (Tree.op code (read.imms_tree imms)) ≡ refused e m
-  operator_refused {s0 = s0} {s = s} {m = m} {imms = imms} {others = others} {made = made} {e = err} code a c done here step =
-      let first : walk asked c s (Tree.pair (read.imm_tree a) (read.imms_tree others)) ≡ refused err m = rw step refl in
-      let all : walk asked c s0 (read.imms_tree imms) ≡ refused err m = done.walks c ∙ rw (here, first) refl in
-      rw all refl
+    -- the next was asked in part
+    pub imms_leave : {m : S} → IsTrue keeps → Visited asked s (visits (read.imm_tree x)) m → Visited asked s0 (visits (read.imms_tree imms)) m
+    imms_leave {m = m} k v =
+        let P : List ReadImm → Type 0 = λ z. Visited asked s (visits (read.imms_tree z)) m in
+        done.onward k m (subst P (sym next) (first_visited (visits (read.imms_tree others)) v))
 
-  pub operator_accepted : {s0 s : S} {imms rest : List ReadImm} {made : List WrittenImm} (code : Code) (c : ℕ) →
-      ImmsDone asked s0 imms rest s made → rest ≡ [] →
-      walk asked c s0 (Tree.op code (read.imms_tree imms)) ≡ accepted (Tree.op code (write.imms_tree made)) s
-  operator_accepted {s0 = s0} {s = s} {imms = imms} {made = made} code c done none =
-      let all : walk asked c s0 (read.imms_tree imms) ≡ accepted (write.imms_tree made) s =
-      done.walks c ∙ rw none (ap (λ (t : Tree). accepted t s) (imms_are made)) in
-      rw all refl
+    -- the operator with these immediates is refused where the next is
+    pub operator_refused : {m : S} {e : Error E} (code : Code) (c : ℕ) → IsTrue keeps → walk asked c s (read.imm_tree x) ≡ refused e m →
+        walk asked c s0 (Tree.op code (read.imms_tree imms)) ≡ refused e m
+    operator_refused {m = m} {e = err} code c k step =
+        let first : walk asked c s (Tree.pair (read.imm_tree x) (read.imms_tree others)) ≡ refused err m = rw step refl in
+        let all : walk asked c s0 (read.imms_tree imms) ≡ refused err m = done.walks k c ∙ rw (next, first) refl in
+        rw all refl
+
+  -- none is left
+  module _ {s0 s : S} {imms gone rest : List ReadImm} {count : ℕ} {made : List WrittenImm} (done : ImmsDone asked keeps s0 imms gone rest count s made) (end : count ≡ 0) where
+    pub all_kinds : (op : Opcode) → read.FitOpcode op imms → write.HasKinds op made
+    all_kinds op fit =
+        let none : rest ≡ [] = none_left rest (sym end ∙ done.counted) in
+        let all : gone ≡ imms = sym (append-nil gone) ∙ rw none at done.parts in
+        operator_kinds op imms made fit (done.kinds ∙ ap (map read.kind_of_imm) all)
+
+    pub operator_accepted : (code : Code) (c : ℕ) → IsTrue keeps →
+        walk asked c s0 (Tree.op code (read.imms_tree imms)) ≡ accepted (Tree.op code (write.imms_tree made)) s
+    operator_accepted code c k =
+        let none : rest ≡ [] = none_left rest (sym end ∙ done.counted) in
+        let all : walk asked c s0 (read.imms_tree imms) ≡ accepted (write.imms_tree made) s =
+        done.walks k c ∙ rw none (ap (λ (t : Tree). accepted t s) (imms_are made)) in
+        rw all refl
 
 -- ---- what a walk is refused with
 
@@ -193,15 +220,6 @@ never_parse {S} {E} reply next c s m t at h =
     ends lost k e = let is : ◌≡◌ {A = Error E} (ParseError at) CanonicalizedHeapTypeReference = e.0 in absurd cc
 
 -- ---- the operator at a reader's place
-
--- none was read
-pub parse_unread : {S E B : Type 0} (reply : S → Visit → Result ℕ E) (next : S → Visit → S) (s : S) (reader behind : Reading) (view : B → Tree) (fault : Fault) →
-    ReadsNoneOrWants fault reader.at (BeginsNone (Shape.op true) (rest_of reader)) →
-    ParsesOperator {B = B} reply next s reader view s behind (Err (error_of_fault fault))
-parse_unread reply next s reader behind view (fault.Read e) h = (h.0, h.1, refl)
-parse_unread reply next s reader behind view fault.CodeSize h = absurd h
-parse_unread reply next s reader behind view (fault.Header k) h = absurd h
-parse_unread reply next s reader behind view fault.NoMemory h = tt
 
 -- one was read and mapped
 pub parse_mapped : {S E B : Type 0} (reply : S → Visit → Result ℕ E) (next : S → Visit → S) (s m : S) (reader behind : Reading) (view : B → Tree) (operator : Tree)

@@ -1,27 +1,6 @@
 //! The default bodies, which the trait and `utils` share: a body of a trait cannot pass its receiver to a function that
 //! is bounded by that trait.
 
-macro_rules! type_index_unpacked {
-    ($reencoder:ident, $ty:ident) => {
-        match $ty {
-            r::UnpackedIndex::Module(index) => $reencoder.type_index(index),
-            r::UnpackedIndex::RecGroup(_) => Err(Error::CanonicalizedHeapTypeReference),
-        }
-    };
-}
-
-macro_rules! external_index {
-    ($reencoder:ident, $kind:ident, $index:ident) => {
-        match $kind {
-            r::ExternalKind::Func | r::ExternalKind::FuncExact => $reencoder.function_index($index),
-            r::ExternalKind::Table => $reencoder.table_index($index),
-            r::ExternalKind::Memory => $reencoder.memory_index($index),
-            r::ExternalKind::Global => $reencoder.global_index($index),
-            r::ExternalKind::Tag => $reencoder.tag_index($index),
-        }
-    };
-}
-
 macro_rules! array_type {
     ($reencoder:ident, $array_ty:ident) => {
         Ok(w::ArrayType($reencoder.field_type($array_ty.0)?))
@@ -246,33 +225,6 @@ macro_rules! block_type {
     };
 }
 
-macro_rules! index {
-    ($reencoder:ident, $space:ident, $index:ident) => {
-        match $space {
-            Space::Data => Ok(w::Imm::Index($space, $reencoder.data_index($index)?)),
-            Space::Element => Ok(w::Imm::Index($space, $reencoder.element_index($index)?)),
-            Space::Function => Ok(w::Imm::Index($space, $reencoder.function_index($index)?)),
-            Space::Global => Ok(w::Imm::Index($space, $reencoder.global_index($index)?)),
-            Space::Memory => Ok(w::Imm::Index($space, $reencoder.memory_index($index)?)),
-            Space::Table => Ok(w::Imm::Index($space, $reencoder.table_index($index)?)),
-            Space::Tag => Ok(w::Imm::Index($space, $reencoder.tag_index($index)?)),
-            Space::Type_ => Ok(w::Imm::Index($space, $reencoder.type_index($index)?)),
-            _ => unreachable!(),
-        }
-    };
-}
-
-macro_rules! immediate {
-    ($reencoder:ident, $imm:ident) => {
-        match $imm {
-            r::Imm::Index(space, index) => bodies::index!($reencoder, space, index),
-            r::Imm::Local(index) => Ok(w::Imm::Local(index)),
-            r::Imm::S32(number) => Ok(w::Imm::S32(number)),
-            _ => unreachable!(),
-        }
-    };
-}
-
 macro_rules! instruction {
     ($reencoder:ident, $alloc:ident, $arg:ident) => {
         {
@@ -283,7 +235,7 @@ macro_rules! instruction {
                 let imm = $reencoder.immediate($alloc, imm)?;
                 mapped.push(imm)?;
             }
-            Ok(instructions::instruction_of(opcode, mapped))
+            Ok(w::Instruction::of_kinds(opcode, mapped))
         }
     };
 }
@@ -302,13 +254,10 @@ pub(crate) use block_type;
 pub(crate) use composite_type;
 pub(crate) use cont_type;
 pub(crate) use entity_type;
-pub(crate) use external_index;
 pub(crate) use field_type;
 pub(crate) use func_type;
 pub(crate) use global_type;
 pub(crate) use heap_type;
-pub(crate) use immediate;
-pub(crate) use index;
 pub(crate) use instruction;
 pub(crate) use parse_instruction;
 pub(crate) use ref_type;
@@ -317,6 +266,5 @@ pub(crate) use struct_type;
 pub(crate) use sub_type;
 pub(crate) use table_type;
 pub(crate) use tag_type;
-pub(crate) use type_index_unpacked;
 pub(crate) use val_type;
 pub(crate) use val_types;

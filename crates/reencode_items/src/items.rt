@@ -4,27 +4,26 @@ ghost use Rattle.reencode_hooks.specs.Run.{Gives, LeavesVisited, NeverWants, acc
 ghost use Rattle.wasm_read.specs.Immediates as immediates;
 ghost use Rattle.wasm_read.specs.Types as read;
 ghost use Rattle.wasm_shapes.specs.Tree.{visits};
-ghost use Rattle.wasm_write.specs.Held.{body_tree};
+ghost use Rattle.wasm_shapes.specs.Types.{vector_tree};
 ghost use Rattle.wasm_write.specs.Instructions as instructions;
 ghost use Rattle.wasm_write.specs.Rows as rows;
 ghost use Rattle.wasm_write.specs.Types as write;
 ghost use Rattle.reencode_items.specs.Immediates.{is_mapped};
 ghost use Rattle.reencode_items.specs.Maps.{LeavesOperator, Maps, MovesOn, ParsesOperator};
 
-use crate::{bodies, instructions, kinds};
+use crate::{bodies, indices, kinds};
 use reencode_hooks::{Error, ReencodeIndices};
 use std::alloc::Global;
 use wasm_leb::List;
 use wasm_read as r;
-use wasm_shapes::Space;
 use wasm_write as w;
 
 /// What a re-encoder does with each item. A default body asks the hook of each index of the item in the order of the
 /// visits, and answers the item with each index replaced by its hook's answer; the first refusal ends it and is the
 /// answer. A part of an item that has a method of its own is mapped by that method.
 ///
-/// The clause `default` of each method, and `sure` or `left`, hold where the reencoder keeps the defaults. `sure` says that
-/// memory is never wanting where no hook wants any, and `left` that every error then leaves the state after a front part of
+/// The clause `default` of each method, and `sure` or `after_error`, hold where the reencoder keeps the defaults. `sure` says that
+/// memory is never wanting where no hook wants any, and `after_error` that every error then leaves the state after a front part of
 /// the item's visits, want of memory too.
 pub trait ReencodeItems: ReencodeIndices {
     /// The index of a type. `CanonicalizedHeapTypeReference` comes for one inside a recursion group.
@@ -33,7 +32,7 @@ pub trait ReencodeItems: ReencodeIndices {
             → Maps Self.reply Self.next self.old (read.type_index ty) write.type_index self.new result }
         ensures sure { IsTrue Self.keeps_defaults → NeverWants Self.sure result }
     {
-        bodies::type_index_unpacked!(self, ty)
+        indices::type_index_unpacked(self, ty)
     }
 
     /// The index of what is exported, by the hook of its kind.
@@ -46,7 +45,7 @@ pub trait ReencodeItems: ReencodeIndices {
             → Maps Self.reply Self.next self.old (read.item_tree kind index) (read.item_tree kind) self.new result }
         ensures sure { IsTrue Self.keeps_defaults → NeverWants Self.sure result }
     {
-        bodies::external_index!(self, kind, index)
+        indices::external_index(self, kind, index)
     }
 
     /// A heap type that names no type of the module (WebAssembly Core Specification 3.0, section 5.3.3).
@@ -145,6 +144,7 @@ pub trait ReencodeItems: ReencodeIndices {
 
     /// A composite type (section 5.3.8). What it holds is asked before the type that describes it, and that before the
     /// type that it describes.
+    #[tactic(auto, using(crate::proofs::Composites::composites, crate::proofs::Composites::inner_leaves, reencode_hooks::proofs::Leaving::walk_left))]
     fn composite_type(
         &mut self,
         alloc: Global,
@@ -152,13 +152,14 @@ pub trait ReencodeItems: ReencodeIndices {
     ) -> Result<w::CompositeType, Error<Self::Error>>
         ensures default { IsTrue Self.keeps_defaults
             → Maps Self.reply Self.next self.old (read.composite_tree composite_ty) write.composite_tree self.new result }
-        ensures left { IsTrue Self.keeps_defaults → IsTrue Self.sure
+        ensures after_error { IsTrue Self.keeps_defaults → IsTrue Self.sure
             → LeavesVisited (ask Self.reply Self.next) self.old (visits (read.composite_tree composite_ty)) self.new result }
     {
         bodies::composite_type!(self, alloc, composite_ty)
     }
 
     /// The parameters and results of a function (section 5.3.8).
+    #[tactic(auto, using(reencode_hooks::proofs::Leaving::first_visited, reencode_hooks::proofs::Leaving::second_part))]
     fn func_type(
         &mut self,
         alloc: Global,
@@ -166,7 +167,7 @@ pub trait ReencodeItems: ReencodeIndices {
     ) -> Result<w::FuncType, Error<Self::Error>>
         ensures default { IsTrue Self.keeps_defaults
             → Maps Self.reply Self.next self.old (read.func_type_tree func_ty) write.func_type_tree self.new result }
-        ensures left { IsTrue Self.keeps_defaults → IsTrue Self.sure
+        ensures after_error { IsTrue Self.keeps_defaults → IsTrue Self.sure
             → LeavesVisited (ask Self.reply Self.next) self.old (visits (read.func_type_tree func_ty)) self.new result }
     {
         bodies::func_type!(self, alloc, func_ty)
@@ -179,8 +180,8 @@ pub trait ReencodeItems: ReencodeIndices {
         struct_ty: r::StructType,
     ) -> Result<w::StructType, Error<Self::Error>>
         ensures default { IsTrue Self.keeps_defaults
-            → Maps Self.reply Self.next self.old (read.fields_tree struct_ty.fields) (λ ty. body_tree (map write.field_type_tree ty.fields)) self.new result }
-        ensures left { IsTrue Self.keeps_defaults → IsTrue Self.sure
+            → Maps Self.reply Self.next self.old (read.fields_tree struct_ty.fields) (λ ty. vector_tree (map write.field_type_tree ty.fields)) self.new result }
+        ensures after_error { IsTrue Self.keeps_defaults → IsTrue Self.sure
             → LeavesVisited (ask Self.reply Self.next) self.old (visits (read.fields_tree struct_ty.fields)) self.new result }
     {
         bodies::struct_type!(self, alloc, struct_ty)
@@ -194,7 +195,7 @@ pub trait ReencodeItems: ReencodeIndices {
     ) -> Result<w::SubType, Error<Self::Error>>
         ensures default { IsTrue Self.keeps_defaults
             → Maps Self.reply Self.next self.old (read.sub_type_tree sub_ty) write.sub_type_tree self.new result }
-        ensures left { IsTrue Self.keeps_defaults → IsTrue Self.sure
+        ensures after_error { IsTrue Self.keeps_defaults → IsTrue Self.sure
             → LeavesVisited (ask Self.reply Self.next) self.old (visits (read.sub_type_tree sub_ty)) self.new result }
     {
         bodies::sub_type!(self, alloc, sub_ty)
@@ -209,7 +210,7 @@ pub trait ReencodeItems: ReencodeIndices {
         ensures counted { IfOk result (λ types. length types ≡ length val_tys) }
         ensures default { IsTrue Self.keeps_defaults
             → Maps Self.reply Self.next self.old (read.val_types_tree val_tys) write.val_types_tree self.new result }
-        ensures left { IsTrue Self.keeps_defaults → IsTrue Self.sure
+        ensures after_error { IsTrue Self.keeps_defaults → IsTrue Self.sure
             → LeavesVisited (ask Self.reply Self.next) self.old (visits (read.val_types_tree val_tys)) self.new result }
     {
         bodies::val_types!(self, alloc, val_tys)
@@ -290,10 +291,10 @@ pub trait ReencodeItems: ReencodeIndices {
         ensures kind { IfOk result (λ made. instructions.imm_kind made ≡ immediates.kind_of_imm imm.entry) }
         ensures default { IsTrue Self.keeps_defaults
             → Maps Self.reply Self.next self.old (immediates.imm_tree imm.entry) instructions.imm_tree self.new result }
-        ensures left { IsTrue Self.keeps_defaults → IsTrue Self.sure
+        ensures after_error { IsTrue Self.keeps_defaults → IsTrue Self.sure
             → LeavesVisited (ask Self.reply Self.next) self.old (visits (immediates.imm_tree imm.entry)) self.new result }
     {
-        bodies::immediate!(self, imm)
+        indices::immediate(self, imm)
     }
 
     /// An operator (section 5.4), each immediate by the method `immediate`.
@@ -304,7 +305,7 @@ pub trait ReencodeItems: ReencodeIndices {
     ) -> Result<w::Instruction<'a>, Error<Self::Error>>
         ensures default { IsTrue Self.keeps_defaults
             → Maps Self.reply Self.next self.old (immediates.operator_tree arg.entry) instructions.instruction_tree self.new result }
-        ensures left { IsTrue Self.keeps_defaults → IsTrue Self.sure
+        ensures after_error { IsTrue Self.keeps_defaults → IsTrue Self.sure
             → LeavesVisited (ask Self.reply Self.next) self.old (visits (immediates.operator_tree arg.entry)) self.new result }
     {
         bodies::instruction!(self, alloc, arg)
@@ -323,7 +324,7 @@ pub trait ReencodeItems: ReencodeIndices {
         ensures taken { IfOk result (λ _. MovesOn reader.old reader.new) }
         ensures default { IsTrue Self.keeps_defaults
             → ParsesOperator Self.reply Self.next self.old reader.old instructions.instruction_tree self.new reader.new result }
-        ensures left { IsTrue Self.keeps_defaults → IsTrue Self.sure
+        ensures after_error { IsTrue Self.keeps_defaults → IsTrue Self.sure
             → LeavesOperator (ask Self.reply Self.next) self.old reader.old self.new result }
     {
         bodies::parse_instruction!(self, alloc, reader)

@@ -2,7 +2,7 @@
 #![tactic(auto)]
 
 mod bodies;
-mod instructions;
+mod indices;
 mod items;
 mod kinds;
 #[cfg(test)]

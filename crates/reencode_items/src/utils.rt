@@ -4,7 +4,7 @@ ghost use Rattle.reencode_hooks.specs.Run.{LeavesVisited, NeverWants, ask};
 ghost use Rattle.wasm_read.specs.Immediates as immediates;
 ghost use Rattle.wasm_read.specs.Types as read;
 ghost use Rattle.wasm_shapes.specs.Tree.{visits};
-ghost use Rattle.wasm_write.specs.Held.{body_tree};
+ghost use Rattle.wasm_shapes.specs.Types.{vector_tree};
 ghost use Rattle.wasm_write.specs.Instructions as instructions;
 ghost use Rattle.wasm_write.specs.Rows as rows;
 ghost use Rattle.wasm_write.specs.Types as write;
@@ -12,12 +12,11 @@ ghost use Rattle.reencode_items.specs.Immediates.{is_mapped};
 ghost use Rattle.reencode_items.specs.Maps.{LeavesOperator, Maps, MovesOn, ParsesOperator};
 
 use crate::items::ReencodeItems;
-use crate::{bodies, instructions, kinds};
+use crate::{bodies, indices, kinds};
 use reencode_hooks::Error;
 use std::alloc::Global;
 use wasm_leb::List;
 use wasm_read as r;
-use wasm_shapes::Space;
 use wasm_write as w;
 
 /// A heap type that names no type of the module (WebAssembly Core Specification 3.0, section 5.3.3).
@@ -54,7 +53,7 @@ pub fn type_index_unpacked<T: ReencodeItems>(
         → Maps T.reply T.next reencoder.old (read.type_index ty) write.type_index reencoder.new result }
     ensures sure { IsTrue T.keeps_defaults → NeverWants T.sure result }
 {
-    bodies::type_index_unpacked!(reencoder, ty)
+    indices::type_index_unpacked(reencoder, ty)
 }
 
 /// The index of what is exported, by the hook of its kind.
@@ -67,7 +66,7 @@ pub fn external_index<T: ReencodeItems>(
         → Maps T.reply T.next reencoder.old (read.item_tree kind index) (read.item_tree kind) reencoder.new result }
     ensures sure { IsTrue T.keeps_defaults → NeverWants T.sure result }
 {
-    bodies::external_index!(reencoder, kind, index)
+    indices::external_index(reencoder, kind, index)
 }
 
 /// An array by the type of its elements (section 5.3.8).
@@ -159,6 +158,7 @@ pub fn val_type<T: ReencodeItems>(
 
 /// A composite type (section 5.3.8). What it holds is asked before the type that describes it, and that before the
 /// type that it describes.
+#[tactic(auto, using(crate::proofs::Composites::composites, crate::proofs::Composites::inner_leaves, reencode_hooks::proofs::Leaving::walk_left))]
 pub fn composite_type<T: ReencodeItems>(
     reencoder: &mut T,
     alloc: Global,
@@ -166,13 +166,14 @@ pub fn composite_type<T: ReencodeItems>(
 ) -> Result<w::CompositeType, Error<T::Error>>
     ensures default { IsTrue T.keeps_defaults
         → Maps T.reply T.next reencoder.old (read.composite_tree composite_ty) write.composite_tree reencoder.new result }
-    ensures left { IsTrue T.keeps_defaults → IsTrue T.sure
+    ensures after_error { IsTrue T.keeps_defaults → IsTrue T.sure
         → LeavesVisited (ask T.reply T.next) reencoder.old (visits (read.composite_tree composite_ty)) reencoder.new result }
 {
     bodies::composite_type!(reencoder, alloc, composite_ty)
 }
 
 /// The parameters and results of a function (section 5.3.8).
+#[tactic(auto, using(reencode_hooks::proofs::Leaving::first_visited, reencode_hooks::proofs::Leaving::second_part))]
 pub fn func_type<T: ReencodeItems>(
     reencoder: &mut T,
     alloc: Global,
@@ -180,7 +181,7 @@ pub fn func_type<T: ReencodeItems>(
 ) -> Result<w::FuncType, Error<T::Error>>
     ensures default { IsTrue T.keeps_defaults
         → Maps T.reply T.next reencoder.old (read.func_type_tree func_ty) write.func_type_tree reencoder.new result }
-    ensures left { IsTrue T.keeps_defaults → IsTrue T.sure
+    ensures after_error { IsTrue T.keeps_defaults → IsTrue T.sure
         → LeavesVisited (ask T.reply T.next) reencoder.old (visits (read.func_type_tree func_ty)) reencoder.new result }
 {
     bodies::func_type!(reencoder, alloc, func_ty)
@@ -193,8 +194,8 @@ pub fn struct_type<T: ReencodeItems>(
     struct_ty: r::StructType,
 ) -> Result<w::StructType, Error<T::Error>>
     ensures default { IsTrue T.keeps_defaults
-        → Maps T.reply T.next reencoder.old (read.fields_tree struct_ty.fields) (λ ty. body_tree (map write.field_type_tree ty.fields)) reencoder.new result }
-    ensures left { IsTrue T.keeps_defaults → IsTrue T.sure
+        → Maps T.reply T.next reencoder.old (read.fields_tree struct_ty.fields) (λ ty. vector_tree (map write.field_type_tree ty.fields)) reencoder.new result }
+    ensures after_error { IsTrue T.keeps_defaults → IsTrue T.sure
         → LeavesVisited (ask T.reply T.next) reencoder.old (visits (read.fields_tree struct_ty.fields)) reencoder.new result }
 {
     bodies::struct_type!(reencoder, alloc, struct_ty)
@@ -208,7 +209,7 @@ pub fn sub_type<T: ReencodeItems>(
 ) -> Result<w::SubType, Error<T::Error>>
     ensures default { IsTrue T.keeps_defaults
         → Maps T.reply T.next reencoder.old (read.sub_type_tree sub_ty) write.sub_type_tree reencoder.new result }
-    ensures left { IsTrue T.keeps_defaults → IsTrue T.sure
+    ensures after_error { IsTrue T.keeps_defaults → IsTrue T.sure
         → LeavesVisited (ask T.reply T.next) reencoder.old (visits (read.sub_type_tree sub_ty)) reencoder.new result }
 {
     bodies::sub_type!(reencoder, alloc, sub_ty)
@@ -223,7 +224,7 @@ pub fn val_types<T: ReencodeItems>(
     ensures counted { IfOk result (λ types. length types ≡ length val_tys) }
     ensures default { IsTrue T.keeps_defaults
         → Maps T.reply T.next reencoder.old (read.val_types_tree val_tys) write.val_types_tree reencoder.new result }
-    ensures left { IsTrue T.keeps_defaults → IsTrue T.sure
+    ensures after_error { IsTrue T.keeps_defaults → IsTrue T.sure
         → LeavesVisited (ask T.reply T.next) reencoder.old (visits (read.val_types_tree val_tys)) reencoder.new result }
 {
     bodies::val_types!(reencoder, alloc, val_tys)
@@ -318,10 +319,10 @@ pub fn immediate<'a, T: ReencodeItems>(
     ensures kind { IfOk result (λ made. instructions.imm_kind made ≡ immediates.kind_of_imm imm.entry) }
     ensures default { IsTrue T.keeps_defaults
         → Maps T.reply T.next reencoder.old (immediates.imm_tree imm.entry) instructions.imm_tree reencoder.new result }
-    ensures left { IsTrue T.keeps_defaults → IsTrue T.sure
+    ensures after_error { IsTrue T.keeps_defaults → IsTrue T.sure
         → LeavesVisited (ask T.reply T.next) reencoder.old (visits (immediates.imm_tree imm.entry)) reencoder.new result }
 {
-    bodies::immediate!(reencoder, imm)
+    indices::immediate(reencoder, imm)
 }
 
 /// An operator (section 5.4), each immediate by the method `immediate`.
@@ -332,7 +333,7 @@ pub fn instruction<'a, T: ReencodeItems>(
 ) -> Result<w::Instruction<'a>, Error<T::Error>>
     ensures default { IsTrue T.keeps_defaults
         → Maps T.reply T.next reencoder.old (immediates.operator_tree arg.entry) instructions.instruction_tree reencoder.new result }
-    ensures left { IsTrue T.keeps_defaults → IsTrue T.sure
+    ensures after_error { IsTrue T.keeps_defaults → IsTrue T.sure
         → LeavesVisited (ask T.reply T.next) reencoder.old (visits (immediates.operator_tree arg.entry)) reencoder.new result }
 {
     bodies::instruction!(reencoder, alloc, arg)
@@ -351,7 +352,7 @@ pub fn parse_instruction<'a, T: ReencodeItems>(
     ensures taken { IfOk result (λ _. MovesOn reader.old reader.new) }
     ensures default { IsTrue T.keeps_defaults
         → ParsesOperator T.reply T.next reencoder.old reader.old instructions.instruction_tree reencoder.new reader.new result }
-    ensures left { IsTrue T.keeps_defaults → IsTrue T.sure
+    ensures after_error { IsTrue T.keeps_defaults → IsTrue T.sure
         → LeavesOperator (ask T.reply T.next) reencoder.old reader.old reencoder.new result }
 {
     bodies::parse_instruction!(reencoder, alloc, reader)

@@ -101,19 +101,22 @@ whole_large {c} {row} {bytes} {s} {m} {n} {e} b few h = go h.refusal
 inside_large : {c : ℕ} {row : Shape} {bytes : List ℕ} {s m : Renaming} {e : Error Unmapped} → Blank s → RefusesInside asks c row bytes s e m → Large c bytes e
 inside_large {c} {s = s} {m = m} {e = e} b h = larger (framed h.begins) (body_large c h.body s m e b h.stops)
 
-row_large : {c : ℕ} {row : Shape} {reader : Standing} {s m : Renaming} {e : Error Unmapped} → Blank s → reader.left < 2 ^ 32 → StopsAtRow asks c row reader s 0 e m →
+row_large : {c : ℕ} {row : Shape} {reader : Standing} {s m : Renaming} {e : Error Unmapped} {new : List Tree} → Blank s → reader.left < 2 ^ 32 → StopsAtRow asks c row reader (s, []) e (m, new) →
     Large c reader.rest e
-row_large {c} {row} {reader} {s} {m} {e} b few h =
-    larger (second_shorter h.before.text h.rest h.before.stands) (go (rows_state c h.state h.read h.made b h.accepts) h.refuses)
+row_large {c} {row} {reader} {s} {m} {e} {new} b few h =
+    larger (second_shorter h.front.text h.rest h.front.stands) (go (rows_state c h.state h.read h.made b h.accepts) h.refuses)
   where
-    go : Blank h.state → RefusesWhole asks c row h.rest h.state (0 + length h.read) e m ⊎ RefusesInside asks c row h.rest h.state e m → Large c h.rest e
-    go state (inl w) = let due : length h.read < reader.left = h.due in whole_large state (omega arith) w
+    go : Blank h.state → RefusesWhole asks c row h.rest h.state (length new) e m ⊎ RefusesInside asks c row h.rest h.state e m → Large c h.rest e
+    go state (inl w) =
+        let due : length h.read < reader.left = h.due in
+        let gained : length new ≡ length h.made = ap length h.gains in
+        let counted : length h.made ≡ length h.read = h.counted in whole_large state (omega arith) w
     go state (inr w) = inside_large state w
 
 section_large : (c : ℕ) (k : SectionId) (body : List ℕ) (s m : Renaming) (e : Error Unmapped) → Blank s → StopsSection asks c k body s e m → Large c body e
 section_large c k body s m e b h =
-    let counted = h.1.counted in
-    larger (second_shorter counted.0 h.0.rest counted.2) (row_large b counted.1.fits h.2)
+    let counted = h.counted.counted in
+    larger (second_shorter counted.0 h.reader.rest counted.2) (row_large b counted.1.fits h.stops)
 
 -- ---- the section in fault
 

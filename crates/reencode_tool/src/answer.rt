@@ -71,9 +71,11 @@ impl Answer {
     /// Says how the program ends, with a line end behind it. After a failure a front of it was taken.
     pub fn say<D: Sink>(self, err: &mut D) -> Result<(), Failed>
         ensures rises { D.faults err.old ≤ D.faults err.new }
-        ensures ok { OnOk result (WhereTold (D.held err.new) (followed (D.held err.old) (text_of self ++ codes "\n"))) }
+        ensures ok { OnOk result
+            (WhereTold (D.held err.new) (followed (D.held err.old) (text_of self ++ codes "\n"))) }
         ensures failed { OnErr result (Rose (D.faults err.old) (D.faults err.new)) }
-        ensures front { OnErr result (TookFront (D.held err.old) (D.held err.new) (text_of self ++ codes "\n")) }
+        ensures front { OnErr result
+            (TookFront (D.held err.old) (D.held err.new) (text_of self ++ codes "\n")) }
     {
         match self {
             Answer::Printed => write_all(err, b"\n"),
@@ -102,9 +104,11 @@ impl Answer {
 /// Writes a text and then another. After a failure a front of both was taken.
 fn write_both<D: Sink>(err: &mut D, first: &[u8], second: &[u8]) -> Result<(), Failed>
     ensures rises { D.faults err.old ≤ D.faults err.new }
-    ensures ok { OnOk result (WhereTold (D.held err.new) (followed (D.held err.old) (first.now ++ second.now))) }
+    ensures ok { OnOk result
+        (WhereTold (D.held err.new) (followed (D.held err.old) (first.now ++ second.now))) }
     ensures failed { OnErr result (Rose (D.faults err.old) (D.faults err.new)) }
-    ensures front { OnErr result (TookFront (D.held err.old) (D.held err.new) (first.now ++ second.now)) }
+    ensures front { OnErr result
+        (TookFront (D.held err.old) (D.held err.new) (first.now ++ second.now)) }
 {
     match write_all(err, first) {
         Ok(()) => write_all(err, second),
@@ -115,9 +119,11 @@ fn write_both<D: Sink>(err: &mut D, first: &[u8], second: &[u8]) -> Result<(), F
 /// Writes a text and then a number in decimal. After a failure a front of both was taken.
 fn write_number<D: Sink>(err: &mut D, text: &[u8], n: u64) -> Result<(), Failed>
     ensures rises { D.faults err.old ≤ D.faults err.new }
-    ensures ok { OnOk result (WhereTold (D.held err.new) (followed (D.held err.old) (text.now ++ decimal n))) }
+    ensures ok { OnOk result
+        (WhereTold (D.held err.new) (followed (D.held err.old) (text.now ++ decimal n))) }
     ensures failed { OnErr result (Rose (D.faults err.old) (D.faults err.new)) }
-    ensures front { OnErr result (TookFront (D.held err.old) (D.held err.new) (text.now ++ decimal n)) }
+    ensures front { OnErr result
+        (TookFront (D.held err.old) (D.held err.new) (text.now ++ decimal n)) }
 {
     let mut room = [0u8; MOST_DIGITS];
     let start = write_decimal(n, &mut room);
@@ -127,9 +133,12 @@ fn write_number<D: Sink>(err: &mut D, text: &[u8], n: u64) -> Result<(), Failed>
 /// Writes a text and then a number in decimal, and ends the line. After a failure a front of it was taken.
 fn write_line<D: Sink>(err: &mut D, text: &[u8], n: u64) -> Result<(), Failed>
     ensures rises { D.faults err.old ≤ D.faults err.new }
-    ensures ok { OnOk result (WhereTold (D.held err.new) (followed (D.held err.old) (text.now ++ decimal n ++ codes "\n"))) }
+    ensures ok { OnOk result
+        (WhereTold (D.held err.new)
+        (followed (D.held err.old) (text.now ++ decimal n ++ codes "\n"))) }
     ensures failed { OnErr result (Rose (D.faults err.old) (D.faults err.new)) }
-    ensures front { OnErr result (TookFront (D.held err.old) (D.held err.new) (text.now ++ decimal n ++ codes "\n")) }
+    ensures front { OnErr result
+        (TookFront (D.held err.old) (D.held err.new) (text.now ++ decimal n ++ codes "\n")) }
 {
     match write_number(err, text, n) {
         Ok(()) => write_all(err, b"\n"),
@@ -140,9 +149,13 @@ fn write_line<D: Sink>(err: &mut D, text: &[u8], n: u64) -> Result<(), Failed>
 /// Says at which place the bytes have no reading.
 fn say_parse_error<D: Sink>(err: &mut D, at: usize) -> Result<(), Failed>
     ensures rises { D.faults err.old ≤ D.faults err.new }
-    ensures ok { OnOk result (WhereTold (D.held err.new) (followed (D.held err.old) (text_of (Answer.ParseError at) ++ codes "\n"))) }
+    ensures ok { OnOk result
+        (WhereTold (D.held err.new)
+        (followed (D.held err.old) (text_of (Answer.ParseError at) ++ codes "\n"))) }
     ensures failed { OnErr result (Rose (D.faults err.old) (D.faults err.new)) }
-    ensures front { OnErr result (TookFront (D.held err.old) (D.held err.new) (text_of (Answer.ParseError at) ++ codes "\n")) }
+    ensures front { OnErr result
+        (TookFront (D.held err.old) (D.held err.new)
+        (text_of (Answer.ParseError at) ++ codes "\n")) }
 {
     write_line(err, b"parse error at ", at as u64)
 }
@@ -150,9 +163,13 @@ fn say_parse_error<D: Sink>(err: &mut D, at: usize) -> Result<(), Failed>
 /// Says which index was refused.
 fn say_refused<D: Sink>(err: &mut D, unmapped: Unmapped) -> Result<(), Failed>
     ensures rises { D.faults err.old ≤ D.faults err.new }
-    ensures ok { OnOk result (WhereTold (D.held err.new) (followed (D.held err.old) (text_of (Answer.Refused unmapped) ++ codes "\n"))) }
+    ensures ok { OnOk result
+        (WhereTold (D.held err.new)
+        (followed (D.held err.old) (text_of (Answer.Refused unmapped) ++ codes "\n"))) }
     ensures failed { OnErr result (Rose (D.faults err.old) (D.faults err.new)) }
-    ensures front { OnErr result (TookFront (D.held err.old) (D.held err.new) (text_of (Answer.Refused unmapped) ++ codes "\n")) }
+    ensures front { OnErr result
+        (TookFront (D.held err.old) (D.held err.new)
+        (text_of (Answer.Refused unmapped) ++ codes "\n")) }
 {
     match write_both(err, b"refused ", unmapped.space.name().as_bytes()) {
         Ok(()) => write_line(err, b" ", unmapped.index as u64),
@@ -163,9 +180,13 @@ fn say_refused<D: Sink>(err: &mut D, unmapped: Unmapped) -> Result<(), Failed>
 /// Says which size is above which ceiling.
 fn say_too_large<D: Sink>(err: &mut D, size: u64, ceiling: u32) -> Result<(), Failed>
     ensures rises { D.faults err.old ≤ D.faults err.new }
-    ensures ok { OnOk result (WhereTold (D.held err.new) (followed (D.held err.old) (text_of (Answer.TooLarge size ceiling) ++ codes "\n"))) }
+    ensures ok { OnOk result
+        (WhereTold (D.held err.new)
+        (followed (D.held err.old) (text_of (Answer.TooLarge size ceiling) ++ codes "\n"))) }
     ensures failed { OnErr result (Rose (D.faults err.old) (D.faults err.new)) }
-    ensures front { OnErr result (TookFront (D.held err.old) (D.held err.new) (text_of (Answer.TooLarge size ceiling) ++ codes "\n")) }
+    ensures front { OnErr result
+        (TookFront (D.held err.old) (D.held err.new)
+        (text_of (Answer.TooLarge size ceiling) ++ codes "\n")) }
 {
     match write_number(err, b"too large: ", size) {
         Ok(()) => write_line(err, b" over ", ceiling as u64),

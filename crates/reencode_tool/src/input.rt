@@ -30,10 +30,12 @@ fn read_piece<S: Source>(
     bytes: &mut Vec<u8>,
 ) -> Result<usize, InputFault>
     ensures rises { S.faults input.old ≤ S.faults input.new }
-    ensures failed { IsErrOf result InputFault.Failed → Rose (S.faults input.old) (S.faults input.new) }
+    ensures failed { IsErrOf result InputFault.Failed
+        → Rose (S.faults input.old) (S.faults input.new) }
     ensures too_long { result ≡ Err InputFault.TooLong → ⊥ }
     ensures within { IfOk result (λ n. n ≤ length piece.old) }
-    ensures gives { IfOk result (λ n. S.left input.old ≡ before (take n piece.new) (S.left input.new)) }
+    ensures gives { IfOk result
+        (λ n. S.left input.old ≡ before (take n piece.new) (S.left input.new)) }
     ensures added { IfOk result (λ n. bytes.new.items ≡ bytes.old.items ++ take n piece.new) }
     ensures longer { IfOk result (λ n. vec_len bytes.new ≡ vec_len bytes.old + n) }
     ensures end { result ≡ Ok 0 → 0 < length piece.old → WhereTold (S.left input.new) (Some []) }
@@ -55,9 +57,12 @@ fn read_pieces<S: Source>(
 ) -> Result<Vec<u8>, InputFault>
     requires { 0 < length piece.old }
     ensures rises { S.faults input.old ≤ S.faults input.new }
-    ensures all { IfOk result (λ bytes. GaveAll MOST (S.left input.old) (S.left input.new) bytes.items) }
-    ensures failed { IsErrOf result InputFault.Failed → Rose (S.faults input.old) (S.faults input.new) }
-    ensures too_long { IsErrOf result InputFault.TooLong → TookMore MOST (S.left input.old) (S.left input.new) }
+    ensures all { IfOk result
+        (λ bytes. GaveAll MOST (S.left input.old) (S.left input.new) bytes.items) }
+    ensures failed { IsErrOf result InputFault.Failed
+        → Rose (S.faults input.old) (S.faults input.new) }
+    ensures too_long { IsErrOf result InputFault.TooLong
+        → TookMore MOST (S.left input.old) (S.left input.new) }
 {
     let mut bytes = Vec::new(alloc);
     'pieces: while bytes.len() <= MOST {
@@ -75,9 +80,12 @@ fn read_pieces<S: Source>(
 /// end, `MOST + 1` bytes are taken.
 pub fn read_all<S: Source>(alloc: Global, input: &mut S) -> Result<Vec<u8>, InputFault>
     ensures rises { S.faults input.old ≤ S.faults input.new }
-    ensures all { IfOk result (λ bytes. GaveAll MOST (S.left input.old) (S.left input.new) bytes.items) }
-    ensures failed { IsErrOf result InputFault.Failed → Rose (S.faults input.old) (S.faults input.new) }
-    ensures too_long { IsErrOf result InputFault.TooLong → TookMore MOST (S.left input.old) (S.left input.new) }
+    ensures all { IfOk result
+        (λ bytes. GaveAll MOST (S.left input.old) (S.left input.new) bytes.items) }
+    ensures failed { IsErrOf result InputFault.Failed
+        → Rose (S.faults input.old) (S.faults input.new) }
+    ensures too_long { IsErrOf result InputFault.TooLong
+        → TookMore MOST (S.left input.old) (S.left input.new) }
 {
     match zeros(alloc, PIECE) {
         Ok(mut piece) => read_pieces(alloc, input, piece.as_mut_slice()),

@@ -32,7 +32,9 @@ pub fn make<S: Source>(alloc: Global, input: &mut S) -> Result<Ready, Answer>
     ensures made { IfOk result (λ ready. (made : Made (S.left input.old) (S.left input.new))
         × (encode_lower ready.output.items ++ ready.tail.items ≡ report_of made)) }
     ensures room { IfOk result (λ ready. 2 ≤ vec_len ready.buffer) }
-    ensures stops { IfErr result (λ answer. Stops answer (S.faults input.old) (S.faults input.new) (S.left input.old) (S.left input.new)) }
+    ensures stops { IfErr result
+        (λ answer. Stops answer (S.faults input.old) (S.faults input.new) (S.left input.old)
+        (S.left input.new)) }
 {
     let text = match read_all(alloc, input) {
         Ok(text) => text,

@@ -54,7 +54,8 @@ impl Source for SureSource {
     ghost faults = { λ _. 0 };
 
     fn read(&mut self, buf: &mut [u8]) -> Result<usize, Failed>
-        ensures count { result ≡ Ok (min (min (length buf.old) self.old.most) (length self.old.left)) }
+        ensures count { result
+            ≡ Ok (min (min (length buf.old) self.old.most) (length self.old.left)) }
         ensures gives { IfOk result (λ n. self.old.left ≡ take n buf.new ++ self.new.left) }
         ensures end { result ≡ Ok 0 → 0 < length buf.old → self.new.left ≡ [] }
         ensures most { self.new.most ≡ self.old.most }
@@ -100,7 +101,8 @@ impl MemSource {
     /// call whose number is in `fails` fails.
     pub fn new(bytes: List<u8>, most: usize, fails: List<u64>) -> MemSource
         requires { 1 ≤ most }
-        ensures { result ≡ record { left = bytes; most = most; fails = fails; calls = 0; faults = 0 } }
+        ensures { result
+            ≡ record { left = bytes; most = most; fails = fails; calls = 0; faults = 0 } }
     {
         MemSource {
             bytes,
@@ -122,12 +124,14 @@ impl Source for MemSource {
         ensures rises { self.old.faults ≤ self.new.faults }
         ensures failed { OnErr result (Rose self.old.faults self.new.faults) }
         ensures fails { is_err result ≡ fails_next self.old.fails self.old.calls }
-        ensures count { IfOk result (λ n. n ≡ min (min (length buf.old) self.old.most) (length self.old.left)) }
+        ensures count { IfOk result
+            (λ n. n ≡ min (min (length buf.old) self.old.most) (length self.old.left)) }
         ensures gives { IfOk result (λ n. self.old.left ≡ take n buf.new ++ self.new.left) }
         ensures kept { OnErr result (self.new.left ≡ self.old.left) }
         ensures rules { (self.new.most ≡ self.old.most) × (self.new.fails ≡ self.old.fails) }
         ensures calls { self.new.calls ≡ one_more self.old.calls }
-        ensures faults { self.new.faults ≡ (if is_err result then one_more self.old.faults else self.old.faults) }
+        ensures faults { self.new.faults
+            ≡ (if is_err result then one_more self.old.faults else self.old.faults) }
         ensures end { result ≡ Ok 0 → 0 < length buf.old → self.new.left ≡ [] }
     {
         self.calls = self.calls.saturating_add(1);
@@ -283,13 +287,18 @@ impl Sink for MemSink {
     fn write(&mut self, piece: &[u8]) -> Result<usize, Failed>
         ensures rises { self.old.faults ≤ self.new.faults }
         ensures failed { OnErr result (Rose self.old.faults self.new.faults) }
-        ensures fails { is_err result ≡ (fails_next self.old.fails self.old.calls || is_full self.old piece.now) }
-        ensures count { IfOk result (λ n. n ≡ min (min (length piece.now) self.old.most) (self.old.room - length self.old.kept)) }
+        ensures fails { is_err result
+            ≡ (fails_next self.old.fails self.old.calls || is_full self.old piece.now) }
+        ensures count { IfOk result
+            (λ n. n
+            ≡ min (min (length piece.now) self.old.most) (self.old.room - length self.old.kept)) }
         ensures taken { IfOk result (λ n. self.new.kept ≡ self.old.kept ++ take n piece.now) }
         ensures kept { OnErr result (self.new.kept ≡ self.old.kept) }
-        ensures rules { (self.new.room ≡ self.old.room) × (self.new.most ≡ self.old.most) × (self.new.fails ≡ self.old.fails) }
+        ensures rules { (self.new.room ≡ self.old.room) × (self.new.most ≡ self.old.most)
+            × (self.new.fails ≡ self.old.fails) }
         ensures calls { self.new.calls ≡ one_more self.old.calls }
-        ensures faults { self.new.faults ≡ (if is_err result then one_more self.old.faults else self.old.faults) }
+        ensures faults { self.new.faults
+            ≡ (if is_err result then one_more self.old.faults else self.old.faults) }
         ensures some { IfOk result (λ n. 0 < length piece.now → 0 < n) }
     {
         self.calls = self.calls.saturating_add(1);

@@ -55,7 +55,8 @@ pub trait Sink {
         ensures failed { OnErr result (Rose (faults self.old) (faults self.new)) }
         ensures within { IfOk result (λ n. n ≤ length piece.now) }
         ensures some { IfOk result (λ n. 0 < length piece.now → 0 < n) }
-        ensures taken { IfOk result (λ n. WhereTold (held self.new) (followed (held self.old) (take n piece.now))) }
+        ensures taken { IfOk result
+            (λ n. WhereTold (held self.new) (followed (held self.old) (take n piece.now))) }
         ensures kept { OnErr result (held self.new ≡ held self.old) };
 }
 
@@ -72,9 +73,11 @@ pub trait Shelf {
     /// answer.
     fn fetch(&mut self, alloc: Global, name: &str, most: u32) -> Result<Vec<u8>, ShelfFault>
         ensures rises { faults self.old ≤ faults self.new }
-        ensures failed { IsErrOf result ShelfFault.Failed → Rose (faults self.old) (faults self.new) }
+        ensures failed { IsErrOf result ShelfFault.Failed
+            → Rose (faults self.old) (faults self.new) }
         ensures same { texts self.new ≡ texts self.old }
         ensures within { IfOk result (λ text. vec_len text ≤ most) }
         ensures text { IfOk result (λ text. HasText (texts self.old) name.now text.items) }
-        ensures too_long { IsErrOf result ShelfFault.TooLong → IsLonger (texts self.old) name.now most };
+        ensures too_long { IsErrOf result ShelfFault.TooLong
+            → IsLonger (texts self.old) name.now most };
 }

@@ -78,7 +78,8 @@ fn add_part(line: &mut Vec<u8>, key: &str, count: u64) -> Result<(), AllocError>
 /// Adds each count with its name to a line.
 fn add_parts(line: &mut Vec<u8>, keys: &[&str], counts: &[u64]) -> Result<(), AllocError>
     requires { length keys.now ≡ length counts.now }
-    ensures { OnOk result (line.new.items ≡ line.old.items ++ parts (map (λ key. key.now) keys.now) counts.now) }
+    ensures { OnOk result
+        (line.new.items ≡ line.old.items ++ parts (map (λ key. key.now) keys.now) counts.now) }
 {
     'keys: for i in 0..counts.len() {
         add_part(line, keys[i], counts[i])?;

@@ -32,9 +32,12 @@ fn is_plain(words: &[String]) -> bool
 fn print<K: Sink>(out: &mut K, output: &[u8], tail: &[u8], buffer: &mut [u8]) -> Result<(), Failed>
     requires { 2 ≤ length buffer.old }
     ensures rises { K.faults out.old ≤ K.faults out.new }
-    ensures ok { OnOk result (WhereTold (K.held out.new) (followed (K.held out.old) (encode_lower output.now ++ tail.now))) }
+    ensures ok { OnOk result
+        (WhereTold (K.held out.new)
+        (followed (K.held out.old) (encode_lower output.now ++ tail.now))) }
     ensures failed { OnErr result (Rose (K.faults out.old) (K.faults out.new)) }
-    ensures front { OnErr result (TookFront (K.held out.old) (K.held out.new) (encode_lower output.now ++ tail.now)) }
+    ensures front { OnErr result
+        (TookFront (K.held out.old) (K.held out.new) (encode_lower output.now ++ tail.now)) }
 {
     match write_digits(out, output, buffer) {
         Ok(()) => write_all(out, tail),
@@ -46,9 +49,13 @@ fn print<K: Sink>(out: &mut K, output: &[u8], tail: &[u8], buffer: &mut [u8]) ->
 fn print_ready<K: Sink>(out: &mut K, ready: Ready) -> Result<(), Failed>
     requires { 2 ≤ vec_len ready.buffer }
     ensures rises { K.faults out.old ≤ K.faults out.new }
-    ensures ok { OnOk result (WhereTold (K.held out.new) (followed (K.held out.old) (encode_lower ready.output.items ++ ready.tail.items))) }
+    ensures ok { OnOk result
+        (WhereTold (K.held out.new)
+        (followed (K.held out.old) (encode_lower ready.output.items ++ ready.tail.items))) }
     ensures failed { OnErr result (Rose (K.faults out.old) (K.faults out.new)) }
-    ensures front { OnErr result (TookFront (K.held out.old) (K.held out.new) (encode_lower ready.output.items ++ ready.tail.items)) }
+    ensures front { OnErr result
+        (TookFront (K.held out.old) (K.held out.new)
+        (encode_lower ready.output.items ++ ready.tail.items)) }
 {
     let Ready {
         output,
@@ -103,7 +110,8 @@ fn tell<D: Sink>(answer: Answer, err: &mut D)
     ensures rises { D.faults err.old ≤ D.faults err.new }
     ensures quiet { answer ≡ Answer.Printed → err.new ≡ err.old }
     ensures says { answer ≢ Answer.Printed
-        → Says (D.faults err.old) (D.faults err.new) (D.held err.old) (D.held err.new) (text_of answer ++ codes "\n") }
+        → Says (D.faults err.old) (D.faults err.new) (D.held err.old) (D.held err.new)
+            (text_of answer ++ codes "\n") }
 {
     match answer {
         Answer::Printed => {}
@@ -157,7 +165,8 @@ pub fn run<F: Shelf, S: Source, K: Sink, D: Sink>(
         × TookFront (K.held out.old) (K.held out.new) (report_of made) }
 
     // Status 5, 8, 13 and 14 come only by what the source gave.
-    ensures parse_error { result ≡ 5 → (at : ℕ) × HasNoReading (S.left input.old) (S.left input.new) at
+    ensures parse_error { result ≡ 5
+        → (at : ℕ) × HasNoReading (S.left input.old) (S.left input.new) at
         × Says (D.faults err.old) (D.faults err.new) (D.held err.old) (D.held err.new)
         (codes "parse error at " ++ decimal at ++ codes "\n") }
     ensures component { result ≡ 8 → HasComponent (S.left input.old) (S.left input.new) }
@@ -166,7 +175,8 @@ pub fn run<F: Shelf, S: Source, K: Sink, D: Sink>(
 
     // Where the words are accepted and neither source nor sink failed, the input decides.
     ensures decided { map string_bytes words.now ≡ plain_words
-        → ¬ Rose (S.faults input.old) (S.faults input.new) → ¬ Rose (K.faults out.old) (K.faults out.new)
+        → ¬ Rose (S.faults input.old) (S.faults input.new)
+            → ¬ Rose (K.faults out.old) (K.faults out.new)
         → IsDecided (S.left input.old) result }
 
     // No other status comes, and with each but 0 and 4 the sink is as it was.
@@ -176,7 +186,8 @@ pub fn run<F: Shelf, S: Source, K: Sink, D: Sink>(
     // Each status but 0 has its message.
     ensures quiet { result ≡ 0 → err.new ≡ err.old }
     ensures says { result ≢ 0 → result ≢ 5
-        → Says (D.faults err.old) (D.faults err.new) (D.held err.old) (D.held err.new) (message result) }
+        → Says (D.faults err.old) (D.faults err.new) (D.held err.old) (D.held err.new)
+            (message result) }
 
     // No count of failures falls, and nothing is fetched.
     ensures input_rises { S.faults input.old ≤ S.faults input.new }

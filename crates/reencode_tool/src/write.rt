@@ -26,9 +26,11 @@ pub fn write_all<K: Sink>(out: &mut K, text: &[u8]) -> Result<(), Failed>
 fn write_piece<K: Sink>(out: &mut K, bytes: &[u8], piece: &mut [u8]) -> Result<(), Failed>
     requires { length piece.old ≡ 2 * length bytes.now }
     ensures rises { K.faults out.old ≤ K.faults out.new }
-    ensures ok { OnOk result (WhereTold (K.held out.new) (followed (K.held out.old) (encode_lower bytes.now))) }
+    ensures ok { OnOk result
+        (WhereTold (K.held out.new) (followed (K.held out.old) (encode_lower bytes.now))) }
     ensures failed { OnErr result (Rose (K.faults out.old) (K.faults out.new)) }
-    ensures front { OnErr result (TookFront (K.held out.old) (K.held out.new) (encode_lower bytes.now)) }
+    ensures front { OnErr result
+        (TookFront (K.held out.old) (K.held out.new) (encode_lower bytes.now)) }
 {
     match hex::encode_to_slice(bytes, &mut *piece) {
         Ok(()) => write_all(out, piece),
@@ -41,9 +43,11 @@ fn write_piece<K: Sink>(out: &mut K, bytes: &[u8], piece: &mut [u8]) -> Result<(
 pub fn write_digits<K: Sink>(out: &mut K, bytes: &[u8], buffer: &mut [u8]) -> Result<(), Failed>
     requires { 2 ≤ length buffer.old }
     ensures rises { K.faults out.old ≤ K.faults out.new }
-    ensures ok { OnOk result (WhereTold (K.held out.new) (followed (K.held out.old) (encode_lower bytes.now))) }
+    ensures ok { OnOk result
+        (WhereTold (K.held out.new) (followed (K.held out.old) (encode_lower bytes.now))) }
     ensures failed { OnErr result (Rose (K.faults out.old) (K.faults out.new)) }
-    ensures front { OnErr result (TookFront (K.held out.old) (K.held out.new) (encode_lower bytes.now)) }
+    ensures front { OnErr result
+        (TookFront (K.held out.old) (K.held out.new) (encode_lower bytes.now)) }
 {
     let most = buffer.len() / 2;
     let mut at = 0;

@@ -1,6 +1,6 @@
 -- The shortest spelling of a number spells it.
 use Rattle.std.proofs.Common.{◌≡◌, ℕ, ℤ, pos, negsuc, zero, suc, ◌+◌, ◌-◌, ◌*◌, ◌/◌, ◌%◌, ◌^◌, ◌<◌, ◌≤◌, List, [], ◌∷◌, length, Bool, true, false, refl, ap, arith, nat_lt, if◌then◌else◌, ltb-true, ltb-false}
-use Rattle.wasm_leb.specs.Leb.{IsLeb, IsNegative, IsUnsigned, IsSignedIndex, IsSigned, shortest, leb, signed_leb, inverted, inverted_byte, shortest_signed}
+use Rattle.wasm_leb.specs.Leb.{FitsBits, IsLeb, IsNegative, IsUnsigned, IsSignedIndex, IsSigned, shortest, leb, signed_leb, inverted, inverted_byte, shortest_signed}
 
 -- what so many bytes more hold
 abbrev pub held : ℕ → ℕ → ℕ
@@ -78,11 +78,6 @@ inverted_spells (b ∷ c ∷ x) n p =
     let sum : n + 128 ≡ b + 128 * p.2 = p.3 in
     let e : inverted_byte b ≡ 383 - b = inverted_high b low in
     (omega arith, omega arith, p.2, omega arith, inverted_spells (c ∷ x) p.2 p.4)
-
--- the magnitude of a number of so many bits with sign
-abbrev pub FitsBits : ℕ → ℤ → Type 0
-FitsBits bits (pos n) = n < 2 ^ (bits - 1)
-FitsBits bits (negsuc n) = n < 2 ^ (bits - 1)
 
 signed_spells : (bits fewer : ℕ) (z : ℤ) → fewer ≤ 9 → suc fewer ≤ (bits + 6) / 7 → 2 ^ (bits - 1) ≤ held fewer 64 → 2 ^ (bits - 1) ≤ held 9 64 →
     FitsBits bits z → IsSigned bits (shortest_signed z) z

@@ -1,9 +1,9 @@
 -- The laws of numbers.
 use Rattle.std.proofs.Common.{◌≡◌, ℕ, ℤ, pos, negsuc, zero, suc, ◌+◌, ◌-◌, ◌*◌, ◌/◌, ◌%◌, ◌^◌, ◌<◌, ◌≤◌, ◌≤ℤ◌, ◌<ℤ◌, List, [], ◌∷◌, length, Bool, true, false, refl, ap, arith, nat_lt, if◌then◌else◌, ltb-false}
 use Rattle.std.proofs.lemmas.Int.{ints}
-use Rattle.wasm_leb.specs.Leb.{IsLeb, IsNegative, IsSigned, shortest, shortest_signed}
+use Rattle.wasm_leb.specs.Leb.{FitsBits, IsLeb, IsNegative, IsSigned, shortest, shortest_signed}
 use Rattle.wasm_leb.specs.Laws.{IsUnsignedUnique, IsIndexUnique, IsSignedUnique, IsUnsignedShortest, IsIndexShortest, IsSignedShortest}
-use Rattle.wasm_leb.proofs.Shortest.{FitsBits, length-inverted, leb_spells, leb_spells_64, signed_leb_spells, s32_spells, s33_spells, s64_spells}
+use Rattle.wasm_leb.proofs.Shortest.{length-inverted, leb_spells, leb_spells_64, signed_leb_spells, s32_spells, s33_spells, s64_spells}
 use Rattle.wasm_leb.proofs.Unique.{unsigned_unique, signed_index_unique, signed_unique}
 
 pub unsigned_is_unique : IsUnsignedUnique

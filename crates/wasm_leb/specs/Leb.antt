@@ -76,3 +76,8 @@ shortest_signed (negsuc n) = inverted (shortest 9 64 n)
 -- the number with sign that one byte below 128 spells
 abbrev pub one_byte_signed : ℕ → ℤ
 one_byte_signed b = if nat_lt b 64 then pos b else negsuc (127 - b)
+
+-- the magnitude of a number of so many bits with sign
+abbrev pub FitsBits : ℕ → ℤ → Type 0
+FitsBits bits (pos n) = n < 2 ^ (bits - 1)
+FitsBits bits (negsuc n) = n < 2 ^ (bits - 1)

@@ -33,7 +33,8 @@ fn number(bytes: &[u8], limit: u8, bits: u32) -> (u64, usize)
     requires limit { limit ≤ 128 }
     requires some_bits { 0 < bits }
     requires most_bits { bits ≤ 64 }
-    ensures some { 0 < result.1 → BeginsNumber limit bits bits bytes.now result.0 (drop result.1 bytes.now) }
+    ensures some { 0 < result.1
+        → BeginsNumber limit bits bits bytes.now result.0 (drop result.1 bytes.now) }
     ensures within { result.1 ≤ length bytes.now }
     ensures none { result.1 ≡ 0 → BeginsNoNumber limit bits bits bytes.now }
 {

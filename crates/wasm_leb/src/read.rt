@@ -17,7 +17,8 @@ fn from_place(bytes: &[u8], at: usize) -> &[u8]
 /// The error holds the place that was asked for, and comes exactly where no spelling begins there, as past the end.
 /// WebAssembly Core Specification 3.0, section 5.2.2.
 pub fn read_u32(bytes: &[u8], at: usize) -> Result<(u32, usize), ReadError>
-    ensures ok { IfOk result (λ r. BeginsNumber 128 32 32 (drop at bytes.now) r.0 (drop r.1 bytes.now)) }
+    ensures ok { IfOk result
+        (λ r. BeginsNumber 128 32 32 (drop at bytes.now) r.0 (drop r.1 bytes.now)) }
     ensures forward { IfOk result (λ r. (at < r.1) × (r.1 ≤ length bytes.now)) }
     ensures err { IfErr result (λ e. (e.at ≡ at) × BeginsNoNumber 128 32 32 (drop at bytes.now)) }
 {
@@ -32,7 +33,8 @@ pub fn read_u32(bytes: &[u8], at: usize) -> Result<(u32, usize), ReadError>
 /// The error holds the place that was asked for, and comes exactly where no spelling begins there, as past the end.
 /// WebAssembly Core Specification 3.0, section 5.2.2.
 pub fn read_u64(bytes: &[u8], at: usize) -> Result<(u64, usize), ReadError>
-    ensures ok { IfOk result (λ r. BeginsNumber 128 64 64 (drop at bytes.now) r.0 (drop r.1 bytes.now)) }
+    ensures ok { IfOk result
+        (λ r. BeginsNumber 128 64 64 (drop at bytes.now) r.0 (drop r.1 bytes.now)) }
     ensures forward { IfOk result (λ r. (at < r.1) × (r.1 ≤ length bytes.now)) }
     ensures err { IfErr result (λ e. (e.at ≡ at) × BeginsNoNumber 128 64 64 (drop at bytes.now)) }
 {

@@ -18,20 +18,8 @@ use Rattle.wasm_read.specs.Types.{abstract_byte, abstract_tree, concrete_tree, h
 -- ---- abstract ones
 
 pub abstract_begins : (ty : AbstractHeapType) {bytes left : List ℕ} → bytes ≡ abstract_byte ty ∷ left → Begins abstract_heap bytes (abstract_tree ty) left
-abstract_begins abstract.NoFunc e = begins_row {k = 0} (begins_byte e)
-abstract_begins abstract.NoExtern e = begins_row {k = 1} (begins_byte e)
-abstract_begins abstract.None e = begins_row {k = 2} (begins_byte e)
-abstract_begins abstract.Func e = begins_row {k = 3} (begins_byte e)
-abstract_begins abstract.Extern e = begins_row {k = 4} (begins_byte e)
-abstract_begins abstract.Any e = begins_row {k = 5} (begins_byte e)
-abstract_begins abstract.Eq e = begins_row {k = 6} (begins_byte e)
-abstract_begins abstract.I31 e = begins_row {k = 7} (begins_byte e)
-abstract_begins abstract.Struct e = begins_row {k = 8} (begins_byte e)
-abstract_begins abstract.Array e = begins_row {k = 9} (begins_byte e)
-abstract_begins abstract.Exn e = begins_row {k = 10} (begins_byte e)
-abstract_begins abstract.NoExn e = begins_row {k = 11} (begins_byte e)
-abstract_begins abstract.Cont e = begins_row {k = 12} (begins_byte e)
-abstract_begins abstract.NoCont e = begins_row {k = 13} (begins_byte e)
+abstract_begins abstract.NoFunc e = begins_row (begins_byte e)
+abstract_begins _ e = begins_row (begins_byte e)
 
 pub abstract_none : {b : ℕ} {xs : List ℕ} → (b < 0x68) ⊎ (0x75 < b) → BeginsNone abstract_heap (b ∷ xs)
 abstract_none {b = b} out = none_by_front refl (outside 0x68 0x75 b (first_bytes abstract_heap) refl out)

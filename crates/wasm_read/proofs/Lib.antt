@@ -1,7 +1,7 @@
 pub mod Accesses
-pub mod Bodies
 pub mod Codes
 pub mod Framed
+pub mod Items
 pub mod OfKinds
 pub mod Placed
 pub mod Vectors

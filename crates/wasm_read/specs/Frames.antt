@@ -4,28 +4,15 @@ use Rattle.wasm_leb.specs.declared.fault.Fault.{Fault}
 use Rattle.wasm_leb.specs.declared.fault.Fault.TheVariants as fault
 use Rattle.wasm_leb.specs.declared.fault.Kind.TheVariants as kind
 use Rattle.wasm_shapes.specs.declared.SectionId.{SectionId}
-use Rattle.wasm_shapes.specs.declared.SectionId.TheVariants as id
 use Rattle.wasm_shapes.specs.Tree.{Tree}
 use Rattle.wasm_shapes.specs.Module.{core_header, component_header}
+use Rattle.wasm_shapes.specs.SectionTable.{number}
 use Rattle.wasm_read.specs.declared.types.Payload.{Payload}
 use Rattle.wasm_read.specs.declared.types.Payload.TheVariants as payload
 
 -- the id of the sections of a kind
 abbrev pub section_number : SectionId → ℕ
-section_number id.Custom = 0
-section_number id.Type_ = 1
-section_number id.Import = 2
-section_number id.Function = 3
-section_number id.Table = 4
-section_number id.Memory = 5
-section_number id.Global = 6
-section_number id.Export = 7
-section_number id.Start = 8
-section_number id.Element = 9
-section_number id.Code = 10
-section_number id.Data = 11
-section_number id.DataCount = 12
-section_number id.Tag = 13
+section_number k = number k
 
 -- an id other than 0, and a body of which nothing is said
 abbrev pub numbered_frame : ℕ → List ℕ → Tree

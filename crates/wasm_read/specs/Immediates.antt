@@ -1,14 +1,12 @@
 -- What immediates stand for, and their kinds (WebAssembly Core Specification 3.0, section 5.4).
-use Rattle.std.specs.Prelude.{◌≡◌, ℕ, ◌^◌, Bool, true, false, nat_lt, nat_eq, if◌then◌else◌, List, [], ◌∷◌, length, map, Option, Some, None}
+use Rattle.std.specs.Prelude.{◌≡◌, ℕ, if◌then◌else◌, List, [], ◌∷◌, length, map, Option, Some, None}
 use Rattle.std.specs.Int.{to_le_bytes, w32, w64}
-use Rattle.wasm_shapes.specs.declared.Space.{Space}
 use Rattle.wasm_shapes.specs.declared.Space.TheVariants as space
 use Rattle.wasm_shapes.specs.declared.ImmKind.{ImmKind}
 use Rattle.wasm_shapes.specs.declared.ImmKind.TheVariants as kind
 use Rattle.wasm_shapes.specs.declared.Opcode.{Opcode}
 use Rattle.wasm_shapes.specs.Operators.{kinds_of, code_of}
 use Rattle.wasm_shapes.specs.Tree.{Tree}
-use Rattle.wasm_shapes.specs.Shape.{Shape, choice, lead}
 use Rattle.wasm_read.specs.declared.types.BlockType.{BlockType}
 use Rattle.wasm_read.specs.declared.types.BlockType.TheVariants as block
 use Rattle.wasm_read.specs.declared.types.Imm.{Imm}
@@ -18,25 +16,11 @@ use Rattle.wasm_read.specs.declared.types.Catch.TheVariants as catch
 use Rattle.wasm_read.specs.declared.types.Handle.{Handle}
 use Rattle.wasm_read.specs.declared.types.Handle.TheVariants as handle
 use Rattle.wasm_read.specs.declared.types.ValType.{ValType}
+use Rattle.wasm_shapes.specs.Types.{led, are_sixteen}
+pub use Rattle.wasm_shapes.specs.Types.{is_core, is_counted, tagged_label, tagged_label_tree, catch_row, handle_row}
 use Rattle.wasm_read.specs.Types.{val_type_tree, val_types_tree, vector_tree, no_reading}
 
 -- ---- kinds
-
--- the spaces of core modules
-abbrev pub is_core : Space → Bool
-is_core space.Data = true
-is_core space.Element = true
-is_core space.Function = true
-is_core space.Global = true
-is_core space.Memory = true
-is_core space.Table = true
-is_core space.Tag = true
-is_core space.Type_ = true
-is_core _ = false
-
--- a list whose count has a spelling
-abbrev pub is_counted : ℕ → Bool
-is_counted n = nat_lt n (2 ^ 32)
 
 -- The kind of an immediate. An index of a space that no core module has, sixteen bytes that are not sixteen, and a list
 -- whose count has no spelling have none.
@@ -54,8 +38,8 @@ kind_of_imm (imm.S32 z) = Some kind.S32
 kind_of_imm (imm.S64 z) = Some kind.S64
 kind_of_imm (imm.Four b) = Some kind.Four
 kind_of_imm (imm.Eight b) = Some kind.Eight
-kind_of_imm (imm.Sixteen b) = if nat_eq (length b.now) 16 then Some kind.Sixteen else None
-kind_of_imm (imm.Lanes b) = if nat_eq (length b.now) 16 then Some kind.Lanes else None
+kind_of_imm (imm.Sixteen b) = if are_sixteen b.now then Some kind.Sixteen else None
+kind_of_imm (imm.Lanes b) = if are_sixteen b.now then Some kind.Lanes else None
 kind_of_imm (imm.Lane b) = Some kind.Lane
 kind_of_imm (imm.Heap h) = Some kind.Heap
 kind_of_imm (imm.Catches cs) = if is_counted (length cs) then Some kind.Catches else None
@@ -85,30 +69,15 @@ block_type_tree block.Empty = Tree.row 0 (Tree.fixed 0x40)
 block_type_tree (block.Type_ ty) = Tree.row 1 (val_type_tree ty)
 block_type_tree (block.FuncType i) = Tree.row 2 (Tree.sx space.Type_ i)
 
--- a tag and a label
-abbrev pub tagged_label : Shape
-tagged_label = Shape.seq (Shape.ix space.Tag) Shape.u32
-
-abbrev pub tagged_label_tree : ℕ → ℕ → Tree
-tagged_label_tree tag label = Tree.pair (Tree.ix space.Tag tag) (Tree.u32 label)
-
--- what a block catches: the rows of `Catches`
-abbrev pub catch_row : Shape
-catch_row = choice (lead 0x00 tagged_label ∷ lead 0x01 tagged_label ∷ lead 0x02 Shape.u32 ∷ lead 0x03 Shape.u32 ∷ [])
-
 abbrev pub catch_tree : Catch → Tree
-catch_tree (catch.One tag label) = Tree.row 0 (Tree.pair (Tree.fixed 0x00) (tagged_label_tree tag label))
-catch_tree (catch.OneRef tag label) = Tree.row 1 (Tree.pair (Tree.fixed 0x01) (tagged_label_tree tag label))
-catch_tree (catch.All label) = Tree.row 2 (Tree.pair (Tree.fixed 0x02) (Tree.u32 label))
-catch_tree (catch.AllRef label) = Tree.row 3 (Tree.pair (Tree.fixed 0x03) (Tree.u32 label))
-
--- how a tag is handled: the rows of `Handlers`
-abbrev pub handle_row : Shape
-handle_row = choice (lead 0x00 tagged_label ∷ lead 0x01 (Shape.ix space.Tag) ∷ [])
+catch_tree (catch.One tag label) = Tree.row 0 (led 0x00 (tagged_label_tree tag label))
+catch_tree (catch.OneRef tag label) = Tree.row 1 (led 0x01 (tagged_label_tree tag label))
+catch_tree (catch.All label) = Tree.row 2 (led 0x02 (Tree.u32 label))
+catch_tree (catch.AllRef label) = Tree.row 3 (led 0x03 (Tree.u32 label))
 
 abbrev pub handle_tree : Handle → Tree
-handle_tree (handle.OnLabel tag label) = Tree.row 0 (Tree.pair (Tree.fixed 0x00) (tagged_label_tree tag label))
-handle_tree (handle.OnSwitch tag) = Tree.row 1 (Tree.pair (Tree.fixed 0x01) (Tree.ix space.Tag tag))
+handle_tree (handle.OnLabel tag label) = Tree.row 0 (led 0x00 (tagged_label_tree tag label))
+handle_tree (handle.OnSwitch tag) = Tree.row 1 (led 0x01 (Tree.ix space.Tag tag))
 
 -- What an immediate stands for. One that has no kind stands for nothing, and so do block types, heap types and casts
 -- until their tables come.
@@ -126,8 +95,8 @@ imm_tree (imm.S32 z) = Tree.s32 z
 imm_tree (imm.S64 z) = Tree.s64 z
 imm_tree (imm.Four b) = Tree.raw (to_le_bytes w32 b.0)
 imm_tree (imm.Eight b) = Tree.raw (to_le_bytes w64 b.0)
-imm_tree (imm.Sixteen b) = if nat_eq (length b.now) 16 then Tree.raw b.now else no_reading
-imm_tree (imm.Lanes b) = if nat_eq (length b.now) 16 then Tree.raw b.now else no_reading
+imm_tree (imm.Sixteen b) = if are_sixteen b.now then Tree.raw b.now else no_reading
+imm_tree (imm.Lanes b) = if are_sixteen b.now then Tree.raw b.now else no_reading
 imm_tree (imm.Lane b) = Tree.byte b
 imm_tree (imm.Catches cs) = if is_counted (length cs) then vector_tree (map catch_tree cs) else no_reading
 imm_tree (imm.Handlers hs) = if is_counted (length hs) then vector_tree (map handle_tree hs) else no_reading

@@ -1,5 +1,5 @@
 -- What the readers of sections promise.
-use Rattle.std.specs.Prelude.{◌≡◌, ◌≢◌, ℕ, ◌+◌, ◌-◌, ◌<◌, ◌⊎◌, List, [], length}
+use Rattle.std.specs.Prelude.{◌≡◌, ◌≢◌, ℕ, ◌+◌, ◌-◌, ◌<◌, ◌⊎◌, Bool, true, false, List, [], length}
 use Rattle.wasm_leb.specs.declared.fault.Fault.{Fault}
 use Rattle.wasm_leb.specs.declared.fault.Fault.TheVariants as fault
 use Rattle.wasm_leb.specs.Place.{BeginsNumber}
@@ -30,6 +30,11 @@ abbrev pub ReadsNoneOrWants : Fault → ℕ → Type 0 → Type 0
 ReadsNoneOrWants (fault.Read e) at why = (e.at ≡ at) × why
 ReadsNoneOrWants fault.NoMemory at why = Unit {0}
 ReadsNoneOrWants _ at why = ⊥
+
+-- The one, or the other where memory may be wanting.
+abbrev pub ReadsNoneIf : Bool → Fault → ℕ → Type 0 → Type 0
+ReadsNoneIf true e at why = ReadsNoneOrWants e at why
+ReadsNoneIf false e at why = ReadsNone e at why
 
 -- ---- a reader of rows
 

@@ -1,10 +1,13 @@
 -- The trees that the types and rows of a core module stand for, as they are read (WebAssembly Core Specification 3.0,
 -- section 5.3). An index inside a recursion group stands for a leaf that no shape has.
-use Rattle.std.specs.Prelude.{ℕ, ◌+◌, Bool, true, false, List, [], ◌∷◌, map, Option, Some, None}
-use Rattle.std.specs.Option.{is_some}
+use Rattle.std.specs.Prelude.{◌≡◌, ℕ, Bool, true, false, List, ◌∷◌, map, Option, Some, None}
+use Rattle.std.specs.Option.{option_map}
 use Rattle.wasm_shapes.specs.declared.Space.TheVariants as space
 use Rattle.wasm_shapes.specs.Tree.{Tree}
-use Rattle.wasm_shapes.specs.Rows.{rows_then}
+use Rattle.wasm_shapes.specs.Shape.{Shape}
+use Rattle.wasm_shapes.specs.Place.{Begins}
+use Rattle.wasm_shapes.specs.Types.{behind_descriptor, behind_described, sub_type_of, group_of, table_of, memory_of, global_of, tag_of, import_of, item_of}
+pub use Rattle.wasm_shapes.specs.Types.{no_reading, led, vector_tree, shared_tree, mutable_of, shared_composite_tree, flag, limits_flags, bounds_tree, paged_tree, limits_tree, global_flags, function_tree}
 use Rattle.wasm_read.specs.declared.types.UnpackedIndex.{UnpackedIndex}
 use Rattle.wasm_read.specs.declared.types.UnpackedIndex.TheVariants as unpacked
 use Rattle.wasm_read.specs.declared.types.AbstractHeapType.{AbstractHeapType}
@@ -43,10 +46,6 @@ abbrev pub module_index : UnpackedIndex → Option ℕ
 module_index (unpacked.Module i) = Some i
 module_index (unpacked.RecGroup i) = None
 
--- What has no table yet stands for this tree, which no shape has.
-abbrev pub no_reading : Tree
-no_reading = Tree.canonical 0
-
 -- an index of a type, spelled without sign and with one
 abbrev pub type_index : UnpackedIndex → Tree
 type_index (unpacked.Module i) = Tree.ix space.Type_ i
@@ -55,14 +54,6 @@ type_index (unpacked.RecGroup i) = Tree.canonical i
 abbrev pub signed_index : UnpackedIndex → Tree
 signed_index (unpacked.Module i) = Tree.sx space.Type_ i
 signed_index (unpacked.RecGroup i) = Tree.canonical i
-
--- a row that begins with its byte
-abbrev pub led : ℕ → Tree → Tree
-led b t = Tree.pair (Tree.fixed b) t
-
--- items behind their number
-abbrev pub vector_tree : List Tree → Tree
-vector_tree ts = Tree.vec (rows_then ts Tree.nil)
 
 -- ---- heap types
 
@@ -99,10 +90,6 @@ abstract_tree abstract.NoExn = Tree.row 11 (Tree.fixed 0x74)
 abstract_tree abstract.Cont = Tree.row 12 (Tree.fixed 0x68)
 abstract_tree abstract.NoCont = Tree.row 13 (Tree.fixed 0x75)
 
-abbrev pub shared_tree : Bool → AbstractHeapType → Tree
-shared_tree false ty = Tree.row 0 (abstract_tree ty)
-shared_tree true ty = Tree.row 1 (led 0x65 (abstract_tree ty))
-
 -- one that names a type of the module
 abbrev pub concrete_tree : HeapType → Tree
 concrete_tree (heap.Abstract shared ty) = no_reading
@@ -110,7 +97,7 @@ concrete_tree (heap.Exact i) = Tree.row 0 (led 0x62 (type_index i))
 concrete_tree (heap.Concrete i) = Tree.row 1 (signed_index i)
 
 abbrev pub heap_type_tree : HeapType → Tree
-heap_type_tree (heap.Abstract shared ty) = shared_tree shared ty
+heap_type_tree (heap.Abstract shared ty) = shared_tree shared (abstract_tree ty)
 heap_type_tree (heap.Exact i) = Tree.row 2 (led 0x62 (type_index i))
 heap_type_tree (heap.Concrete i) = Tree.row 3 (signed_index i)
 
@@ -118,7 +105,7 @@ heap_type_tree (heap.Concrete i) = Tree.row 3 (signed_index i)
 
 -- one that may be null: as its heap type alone where that is abstract
 abbrev pub nullable_tree : HeapType → Tree
-nullable_tree (heap.Abstract shared ty) = Tree.row 1 (Tree.spare 0x63 (shared_tree shared ty))
+nullable_tree (heap.Abstract shared ty) = Tree.row 1 (Tree.spare 0x63 (shared_tree shared (abstract_tree ty)))
 nullable_tree (heap.Exact i) = Tree.row 1 (Tree.kept 0x63 (Tree.row 0 (led 0x62 (type_index i))))
 nullable_tree (heap.Concrete i) = Tree.row 1 (Tree.kept 0x63 (Tree.row 1 (signed_index i)))
 
@@ -148,12 +135,8 @@ storage_type_tree stored.I8 = Tree.row 0 (Tree.fixed 0x78)
 storage_type_tree stored.I16 = Tree.row 1 (Tree.fixed 0x77)
 storage_type_tree (stored.Val ty) = Tree.row 2 (val_type_tree ty)
 
-abbrev pub mutable_tree : Bool → Tree
-mutable_tree false = Tree.row 0 (Tree.fixed 0x00)
-mutable_tree true = Tree.row 1 (Tree.fixed 0x01)
-
 abbrev pub field_type_tree : FieldType → Tree
-field_type_tree ty = Tree.pair (storage_type_tree ty.element_type) (mutable_tree ty.mutable)
+field_type_tree ty = Tree.pair (storage_type_tree ty.element_type) (mutable_of ty.mutable)
 
 -- fields behind their number
 abbrev pub fields_tree : List FieldType → Tree
@@ -172,17 +155,11 @@ inner_tree (inner.Cont ty) = Tree.row 3 (led 0x5d (signed_index ty.0))
 
 -- behind its descriptor, where it has one
 abbrev pub described_tree : Option UnpackedIndex → Tree → Tree
-described_tree None t = t
-described_tree (Some i) t = Tree.row 4 (Tree.swap (led 0x4d (type_index i)) t)
+described_tree i t = behind_descriptor (option_map type_index i) t
 
 -- behind what it describes, where it describes a type
 abbrev pub describing_tree : Option UnpackedIndex → Tree → Tree
-describing_tree None t = t
-describing_tree (Some i) t = Tree.row 5 (Tree.swap (led 0x4c (type_index i)) t)
-
-abbrev pub shared_composite_tree : Bool → Tree → Tree
-shared_composite_tree false t = t
-shared_composite_tree true t = Tree.row 6 (led 0x65 t)
+describing_tree i t = behind_described (option_map type_index i) t
 
 abbrev pub composite_tree : CompositeType → Tree
 composite_tree ty =
@@ -194,74 +171,33 @@ composite_tree ty =
 abbrev pub supertypes_tree : List UnpackedIndex → Tree
 supertypes_tree supertypes = vector_tree (map type_index supertypes)
 
--- a final type, whose supertypes are left out with their number where there are none, or an open one
+-- a final type or an open one, with its supertypes
 abbrev pub sub_parts : Bool → List UnpackedIndex → Tree → Tree
-sub_parts true is t = Tree.row 0 (Tree.final (rows_then (map type_index is) Tree.nil) t)
-sub_parts false is t = Tree.row 1 (led 0x50 (Tree.pair (supertypes_tree is) t))
+sub_parts is_final is t = sub_type_of is_final (map type_index is) t
 
 abbrev pub sub_type_tree : SubType → Tree
 sub_type_tree ty = sub_parts ty.is_final ty.supertype_idxs (composite_tree ty.composite_type)
 
--- types behind their number
-abbrev pub sub_types_tree : List SubType → Tree
-sub_types_tree types = vector_tree (map sub_type_tree types)
-
--- a group that is not explicit holds one type, and is spelled as that type alone
+-- the types of a group, as one that is explicit or as one that is a type alone
 abbrev pub group_parts : Bool → List SubType → Tree
-group_parts true types = Tree.row 2 (led 0x4e (sub_types_tree types))
-group_parts false (ty ∷ types) = sub_type_tree ty
-group_parts false [] = Tree.nil
+group_parts explicit types = group_of explicit (map sub_type_tree types)
 
 abbrev pub group_tree : RecGroup → Tree
 group_tree group = group_parts group.explicit group.types
 
--- ---- limits
-
--- so much where it is set
-abbrev pub flag : ℕ → Bool → ℕ
-flag n false = 0
-flag n true = n
-
--- The flags of limits: whether there is a maximum, whether they are shared, whether they count in 64 bits, and whether the
--- logarithm of the page size is written.
-abbrev pub limits_flags : Bool → Bool → Bool → Bool → ℕ
-limits_flags maximum shared wide page = flag 1 maximum + flag 2 shared + flag 4 wide + flag 8 page
-
--- the minimum, and the maximum behind it
-abbrev pub bounds_tree : ℕ → Option ℕ → Tree
-bounds_tree initial None = Tree.u64 initial
-bounds_tree initial (Some maximum) = Tree.pair (Tree.u64 initial) (Tree.u64 maximum)
-
--- the logarithm of the page size behind them
-abbrev pub paged_tree : Option ℕ → Tree → Tree
-paged_tree None t = t
-paged_tree (Some page) t = Tree.pair t (Tree.u32 page)
-
--- the limits of a row's number
-abbrev pub limits_tree : ℕ → Tree → Tree
-limits_tree flags t = Tree.row flags (led flags t)
-
 -- ---- what is imported
 
 abbrev pub table_type_tree : TableType → Tree
-table_type_tree ty = Tree.pair (ref_type_tree ty.element_type)
-    (limits_tree (limits_flags (is_some ty.maximum) ty.shared ty.table64 false) (bounds_tree ty.initial ty.maximum))
+table_type_tree ty = table_of (ref_type_tree ty.element_type) ty.shared ty.table64 ty.initial ty.maximum
 
 abbrev pub memory_type_tree : MemoryType → Tree
-memory_type_tree ty =
-    limits_tree (limits_flags (is_some ty.maximum) ty.shared ty.memory64 (is_some ty.page_size_log2))
-    (paged_tree ty.page_size_log2 (bounds_tree ty.initial ty.maximum))
-
--- whether a global may change, and whether it is shared
-abbrev pub global_flags : Bool → Bool → ℕ
-global_flags mutable shared = flag 1 mutable + flag 2 shared
+memory_type_tree ty = memory_of ty.shared ty.memory64 ty.initial ty.maximum ty.page_size_log2
 
 abbrev pub global_type_tree : GlobalType → Tree
-global_type_tree ty = Tree.pair (val_type_tree ty.content_type)
-    (Tree.row (global_flags ty.mutable ty.shared) (Tree.fixed (global_flags ty.mutable ty.shared)))
+global_type_tree ty = global_of (val_type_tree ty.content_type) ty.mutable ty.shared
 
 abbrev pub tag_type_tree : TagType → Tree
-tag_type_tree ty = led 0x00 (Tree.ix space.Type_ ty.func_type_idx)
+tag_type_tree ty = tag_of ty.func_type_idx
 
 abbrev pub entity_tree : TypeRef → Tree
 entity_tree (entity.Func i) = Tree.row 0 (led 0x00 (Tree.ix space.Type_ i))
@@ -275,7 +211,7 @@ entity_tree (entity.Tag ty) = Tree.row 4 (led 0x04 (tag_type_tree ty))
 
 -- a module's name, a name in it, and the type of what is imported
 abbrev pub import_tree : Imports → Tree
-import_tree (imported.Single row) = Tree.pair (Tree.name row.module.now) (Tree.pair (Tree.name row.name.now) (entity_tree row.ty))
+import_tree (imported.Single row) = import_of row.module.now row.name.now (entity_tree row.ty)
 
 -- A table that starts with null references. One that starts with the value of an expression has no table yet.
 abbrev pub table_parts : TableInit → TableType → Tree
@@ -285,18 +221,33 @@ table_parts (init.Expr e) ty = no_reading
 abbrev pub table_tree : Table → Tree
 table_tree row = table_parts row.init row.ty
 
--- the type of a function, by its index
-abbrev pub function_tree : ℕ → Tree
-function_tree i = Tree.ix space.Type_ i
-
 -- what is exported, of a kind and by its index: an exact function stands for what a function stands for
 abbrev pub item_tree : ExternalKind → ℕ → Tree
-item_tree external.Func i = Tree.row 0 (Tree.pair (Tree.alike 0x00 0x20) (Tree.ix space.Function i))
-item_tree external.FuncExact i = Tree.row 0 (Tree.pair (Tree.alike 0x00 0x20) (Tree.ix space.Function i))
-item_tree external.Table i = Tree.row 1 (led 0x01 (Tree.ix space.Table i))
-item_tree external.Memory i = Tree.row 2 (led 0x02 (Tree.ix space.Memory i))
-item_tree external.Global i = Tree.row 3 (led 0x03 (Tree.ix space.Global i))
-item_tree external.Tag i = Tree.row 4 (led 0x04 (Tree.ix space.Tag i))
+item_tree external.Func i = item_of space.Function i
+item_tree external.FuncExact i = item_of space.Function i
+item_tree external.Table i = item_of space.Table i
+item_tree external.Memory i = item_of space.Memory i
+item_tree external.Global i = item_of space.Global i
+item_tree external.Tag i = item_of space.Tag i
+
+-- the byte of a kind: an exact function has one of its own
+abbrev pub kind_byte : ExternalKind → ℕ
+kind_byte external.Func = 0x00
+kind_byte external.FuncExact = 0x20
+kind_byte external.Table = 0x01
+kind_byte external.Memory = 0x02
+kind_byte external.Global = 0x03
+kind_byte external.Tag = 0x04
+
+-- the bytes begin with the byte of the kind
+abbrev pub SaysKind : ExternalKind → List ℕ → Type 0
+SaysKind kind bytes = (rest : List ℕ) × (bytes ≡ kind_byte kind ∷ rest)
 
 abbrev pub export_tree : Export → Tree
 export_tree row = Tree.pair (Tree.name row.name.now) (item_tree row.kind row.index)
+
+-- the byte behind the name is that of the kind
+pub record ExportKind (bytes : List ℕ) (row : Export) : Type 0 where
+  pub rest : List ℕ
+  pub named : Begins Shape.name bytes (Tree.name row.name.now) rest
+  pub says : SaysKind row.kind rest

@@ -2,12 +2,12 @@
 ghost use Rattle.std.specs.Prelude.{◌≡◌, ◌^◌, ◌<◌, List, true, refl, map, length, IfOk, IfSome, IfNone};
 ghost use Rattle.wasm_shapes.specs.Module.{local_row};
 ghost use Rattle.wasm_shapes.specs.Place.{Begins, BeginsNone};
-ghost use Rattle.wasm_shapes.specs.Rows.{rows_then};
 ghost use Rattle.wasm_shapes.specs.Shape.{Shape, Named, closed, field};
 ghost use Rattle.wasm_shapes.specs.Sound.{sound};
 ghost use Rattle.wasm_shapes.specs.Tree.{Tree};
+ghost use Rattle.wasm_shapes.specs.Types.{vector_tree, tagged_label, tagged_label_tree, catch_row, handle_row};
 ghost use Rattle.wasm_read.specs.Types.{val_type_tree, field_type_tree};
-ghost use Rattle.wasm_read.specs.Immediates.{local_tree, tagged_label, tagged_label_tree};
+ghost use Rattle.wasm_read.specs.Immediates.{local_tree, catch_tree, handle_tree};
 
 use crate::types::{Catch, FieldType, Handle, UnpackedIndex, ValType};
 use crate::values::{front_field_type, front_val_type};
@@ -21,9 +21,10 @@ pub trait Entry {
     ghost tree: { Self → Tree };
 
     /// The entry at the front of some bytes, and the bytes behind it.
-    fn front(bytes: &[u8]) -> Option<(Self, &[u8])>
-        ensures some { IfSome result (λ r. Begins shape bytes.now (tree r.0) r.1.now) }
-        ensures none { IfNone result (BeginsNone shape bytes.now) };
+    fn front(alloc: Global, bytes: &[u8]) -> Result<Option<(Self, &[u8])>, NoMemory>
+        ensures some { IfOk result (λ o. IfSome o (λ r.
+            Begins shape bytes.now (tree r.0) r.1.now)) }
+        ensures none { IfOk result (λ o. IfNone o (BeginsNone shape bytes.now)) };
 
     /// How many entries can stand in so many bytes.
     fn most(bytes: usize) -> usize;
@@ -43,10 +44,11 @@ impl Entry for u32 {
 
     ghost is_closed = { refl };
 
-    fn front(bytes: &[u8]) -> Option<(u32, &[u8])> {
+    #[inline]
+    fn front(_alloc: Global, bytes: &[u8]) -> Result<Option<(u32, &[u8])>, NoMemory> {
         match front_u32(bytes) {
-            Some((index, rest)) => Some((index, rest)),
-            None => None,
+            Some((index, rest)) => Ok(Some((index, rest))),
+            None => Ok(None),
         }
     }
 
@@ -64,8 +66,9 @@ impl Entry for ValType {
 
     ghost is_closed = { refl };
 
-    fn front(bytes: &[u8]) -> Option<(ValType, &[u8])> {
-        front_val_type(bytes)
+    #[inline]
+    fn front(_alloc: Global, bytes: &[u8]) -> Result<Option<(ValType, &[u8])>, NoMemory> {
+        Ok(front_val_type(bytes))
     }
 
     fn most(bytes: usize) -> usize {
@@ -82,8 +85,9 @@ impl Entry for FieldType {
 
     ghost is_closed = { refl };
 
-    fn front(bytes: &[u8]) -> Option<(FieldType, &[u8])> {
-        front_field_type(bytes)
+    #[inline]
+    fn front(_alloc: Global, bytes: &[u8]) -> Result<Option<(FieldType, &[u8])>, NoMemory> {
+        Ok(front_field_type(bytes))
     }
 
     fn most(bytes: usize) -> usize {
@@ -106,10 +110,11 @@ impl Entry for UnpackedIndex {
 
     ghost is_closed = { refl };
 
-    fn front(bytes: &[u8]) -> Option<(UnpackedIndex, &[u8])> {
+    #[inline]
+    fn front(_alloc: Global, bytes: &[u8]) -> Result<Option<(UnpackedIndex, &[u8])>, NoMemory> {
         match front_u32(bytes) {
-            Some((index, rest)) => Some((UnpackedIndex::Module(index), rest)),
-            None => None,
+            Some((index, rest)) => Ok(Some((UnpackedIndex::Module(index), rest))),
+            None => Ok(None),
         }
     }
 
@@ -128,14 +133,9 @@ impl Entry for (u32, ValType) {
 
     ghost is_closed = { refl };
 
-    fn front(bytes: &[u8]) -> Option<((u32, ValType), &[u8])> {
-        let Some((count, rest)) = front_u32(bytes) else {
-            return None;
-        };
-        match front_val_type(rest) {
-            Some((ty, rest)) => Some(((count, ty), rest)),
-            None => None,
-        }
+    #[inline]
+    fn front(_alloc: Global, bytes: &[u8]) -> Result<Option<((u32, ValType), &[u8])>, NoMemory> {
+        Ok(front_local(bytes))
     }
 
     fn most(bytes: usize) -> usize {
@@ -144,9 +144,6 @@ impl Entry for (u32, ValType) {
 }
 
 impl Entry for Catch {
-    ghost use Rattle.std.specs.Prelude.{refl};
-    ghost use Rattle.wasm_read.specs.Immediates.{catch_row, catch_tree};
-
     ghost shape = { catch_row };
 
     ghost tree = { catch_tree };
@@ -155,29 +152,9 @@ impl Entry for Catch {
 
     ghost is_closed = { refl };
 
-    fn front(bytes: &[u8]) -> Option<(Catch, &[u8])> {
-        let Some((first, rest)) = front_byte(bytes) else {
-            return None;
-        };
-        match first {
-            0x00 => match front_tag_and_label(rest) {
-                Some((tag, label, rest)) => Some((Catch::One { tag, label }, rest)),
-                None => None,
-            },
-            0x01 => match front_tag_and_label(rest) {
-                Some((tag, label, rest)) => Some((Catch::OneRef { tag, label }, rest)),
-                None => None,
-            },
-            0x02 => match front_u32(rest) {
-                Some((label, rest)) => Some((Catch::All { label }, rest)),
-                None => None,
-            },
-            0x03 => match front_u32(rest) {
-                Some((label, rest)) => Some((Catch::AllRef { label }, rest)),
-                None => None,
-            },
-            _ => None,
-        }
+    #[inline]
+    fn front(_alloc: Global, bytes: &[u8]) -> Result<Option<(Catch, &[u8])>, NoMemory> {
+        Ok(front_catch(bytes))
     }
 
     fn most(bytes: usize) -> usize {
@@ -186,9 +163,6 @@ impl Entry for Catch {
 }
 
 impl Entry for Handle {
-    ghost use Rattle.std.specs.Prelude.{refl};
-    ghost use Rattle.wasm_read.specs.Immediates.{handle_row, handle_tree};
-
     ghost shape = { handle_row };
 
     ghost tree = { handle_tree };
@@ -197,21 +171,9 @@ impl Entry for Handle {
 
     ghost is_closed = { refl };
 
-    fn front(bytes: &[u8]) -> Option<(Handle, &[u8])> {
-        let Some((first, rest)) = front_byte(bytes) else {
-            return None;
-        };
-        match first {
-            0x00 => match front_tag_and_label(rest) {
-                Some((tag, label, rest)) => Some((Handle::OnLabel { tag, label }, rest)),
-                None => None,
-            },
-            0x01 => match front_u32(rest) {
-                Some((tag, rest)) => Some((Handle::OnSwitch { tag }, rest)),
-                None => None,
-            },
-            _ => None,
-        }
+    #[inline]
+    fn front(_alloc: Global, bytes: &[u8]) -> Result<Option<(Handle, &[u8])>, NoMemory> {
+        Ok(front_handle(bytes))
     }
 
     fn most(bytes: usize) -> usize {
@@ -219,9 +181,75 @@ impl Entry for Handle {
     }
 }
 
+/// So many locals of a type at the front of some bytes, and the bytes behind them.
+#[inline]
+fn front_local(bytes: &[u8]) -> Option<((u32, ValType), &[u8])>
+    ensures some { IfSome result (λ r. Begins local_row bytes.now (local_tree r.0) r.1.now) }
+    ensures none { IfNone result (BeginsNone local_row bytes.now) }
+{
+    let Some((count, rest)) = front_u32(bytes) else {
+        return None;
+    };
+    match front_val_type(rest) {
+        Some((ty, rest)) => Some(((count, ty), rest)),
+        None => None,
+    }
+}
+
+/// What a block catches, at the front of some bytes, and the bytes behind it.
+fn front_catch(bytes: &[u8]) -> Option<(Catch, &[u8])>
+    ensures some { IfSome result (λ r. Begins catch_row bytes.now (catch_tree r.0) r.1.now) }
+    ensures none { IfNone result (BeginsNone catch_row bytes.now) }
+{
+    let Some((first, rest)) = front_byte(bytes) else {
+        return None;
+    };
+    match first {
+        0x00 => match front_tag_and_label(rest) {
+            Some((tag, label, rest)) => Some((Catch::One { tag, label }, rest)),
+            None => None,
+        },
+        0x01 => match front_tag_and_label(rest) {
+            Some((tag, label, rest)) => Some((Catch::OneRef { tag, label }, rest)),
+            None => None,
+        },
+        0x02 => match front_u32(rest) {
+            Some((label, rest)) => Some((Catch::All { label }, rest)),
+            None => None,
+        },
+        0x03 => match front_u32(rest) {
+            Some((label, rest)) => Some((Catch::AllRef { label }, rest)),
+            None => None,
+        },
+        _ => None,
+    }
+}
+
+/// How a tag is handled, at the front of some bytes, and the bytes behind it.
+fn front_handle(bytes: &[u8]) -> Option<(Handle, &[u8])>
+    ensures some { IfSome result (λ r. Begins handle_row bytes.now (handle_tree r.0) r.1.now) }
+    ensures none { IfNone result (BeginsNone handle_row bytes.now) }
+{
+    let Some((first, rest)) = front_byte(bytes) else {
+        return None;
+    };
+    match first {
+        0x00 => match front_tag_and_label(rest) {
+            Some((tag, label, rest)) => Some((Handle::OnLabel { tag, label }, rest)),
+            None => None,
+        },
+        0x01 => match front_u32(rest) {
+            Some((tag, rest)) => Some((Handle::OnSwitch { tag }, rest)),
+            None => None,
+        },
+        _ => None,
+    }
+}
+
 /// A tag and a label at the front of some bytes, and the bytes behind them.
 fn front_tag_and_label(bytes: &[u8]) -> Option<(u32, u32, &[u8])>
-    ensures some { IfSome result (λ r. Begins tagged_label bytes.now (tagged_label_tree r.0 r.1) r.2.now) }
+    ensures some { IfSome result (λ r.
+        Begins tagged_label bytes.now (tagged_label_tree r.0 r.1) r.2.now) }
     ensures none { IfNone result (BeginsNone tagged_label bytes.now) }
 {
     let Some((tag, rest)) = front_u32(bytes) else {
@@ -239,7 +267,8 @@ pub fn front_vec<T: Entry + Drop>(
     alloc: Global,
     bytes: &[u8],
 ) -> Result<Option<(List<T>, &[u8])>, NoMemory>
-    ensures some { IfOk result (λ o. IfSome o (λ r. Begins (Shape.vec T.shape) bytes.now (Tree.vec (rows_then (map T.tree r.0) Tree.nil)) r.1.now)) }
+    ensures some { IfOk result (λ o. IfSome o (λ r.
+        Begins (Shape.vec T.shape) bytes.now (vector_tree (map T.tree r.0)) r.1.now)) }
     ensures counted { IfOk result (λ o. IfSome o (λ r. length r.0 < 2 ^ 32)) }
     ensures none { IfOk result (λ o. IfNone o (BeginsNone (Shape.vec T.shape) bytes.now)) }
 {
@@ -254,8 +283,8 @@ pub fn front_vec<T: Entry + Drop>(
     let mut rest = start;
     let mut left = count;
     'entries: while left > 0 {
-        match T::front(rest) {
-            Some((entry, behind)) => {
+        match T::front(alloc, rest) {
+            Ok(Some((entry, behind))) => {
                 match entries.push(entry) {
                     Ok(()) => {}
                     Err(NoMemory) => return Err(NoMemory),
@@ -263,24 +292,26 @@ pub fn front_vec<T: Entry + Drop>(
                 rest = behind;
                 left -= 1;
             }
-            None => return Ok(None),
+            Ok(None) => return Ok(None),
+            Err(NoMemory) => return Err(NoMemory),
         }
     }
     Ok(Some((entries, rest)))
 }
 
-/// The bytes behind the vector of entries at the front of some bytes.
-pub fn behind_vec<T: Entry + Drop>(bytes: &[u8]) -> Option<&[u8]>
-    ensures some { IfSome result (λ r. (t : Tree) × Begins (Shape.vec T.shape) bytes.now t r.now) }
-    ensures none { IfNone result (BeginsNone (Shape.vec T.shape) bytes.now) }
+/// The bytes behind the vector of locals at the front of some bytes.
+pub fn behind_locals(bytes: &[u8]) -> Option<&[u8]>
+    ensures some { IfSome result (λ r.
+        (t : Tree) × Begins (Shape.vec local_row) bytes.now t r.now) }
+    ensures none { IfNone result (BeginsNone (Shape.vec local_row) bytes.now) }
 {
     let Some((count, start)) = front_u32(bytes) else {
         return None;
     };
     let mut rest = start;
     let mut left = count;
-    'entries: while left > 0 {
-        match T::front(rest) {
+    'locals: while left > 0 {
+        match front_local(rest) {
             Some((_, behind)) => {
                 rest = behind;
                 left -= 1;

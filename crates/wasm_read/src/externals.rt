@@ -50,7 +50,8 @@ fn flags_of(byte: u8) -> LimitsFlags
 /// The minimum at the front of some bytes, the maximum behind it where there is one, and the bytes behind them.
 #[inline(always)]
 fn front_bounds(bytes: &[u8], maximum: bool) -> Option<(u64, Option<u64>, &[u8])>
-    ensures some { IfSome result (λ r. Begins (bounds maximum) bytes.now (bounds_tree r.0 r.1) r.2.now) }
+    ensures some { IfSome result (λ r.
+        Begins (bounds maximum) bytes.now (bounds_tree r.0 r.1) r.2.now) }
     ensures has { IfSome result (λ r. is_some r.1 ≡ maximum) }
     ensures none { IfNone result (BeginsNone (bounds maximum) bytes.now) }
 {
@@ -70,11 +71,14 @@ fn front_bounds(bytes: &[u8], maximum: bool) -> Option<(u64, Option<u64>, &[u8])
 #[inline(always)]
 fn front_limits(byte: u8, bytes: &[u8]) -> Option<(Limits, &[u8])>
     requires { byte < 16 }
-    ensures flags { IfSome result (λ r. byte ≡ limits_flags (is_some r.0.maximum) r.0.shared r.0.wide (is_some r.0.page)) }
+    ensures flags { IfSome result (λ r.
+        byte ≡ limits_flags (is_some r.0.maximum) r.0.shared r.0.wide (is_some r.0.page)) }
     ensures some { IfSome result (λ r.
-        Begins (paged (is_some r.0.page) (bounds (is_some r.0.maximum))) bytes.now (paged_tree r.0.page (bounds_tree r.0.initial r.0.maximum)) r.1.now) }
+        Begins (paged (is_some r.0.page) (bounds (is_some r.0.maximum))) bytes.now
+        (paged_tree r.0.page (bounds_tree r.0.initial r.0.maximum)) r.1.now) }
     ensures none { IfNone result ((maximum : Bool) × (shared : Bool) × (wide : Bool) × (page : Bool)
-        × (byte ≡ limits_flags maximum shared wide page) × BeginsNone (paged page (bounds maximum)) bytes.now) }
+        × (byte ≡ limits_flags maximum shared wide page)
+        × BeginsNone (paged page (bounds maximum)) bytes.now) }
 {
     let flags = flags_of(byte);
     let Some((initial, maximum, rest)) = front_bounds(bytes, flags.maximum) else {
@@ -138,7 +142,8 @@ pub fn front_table_type(bytes: &[u8]) -> Option<(TableType, &[u8])>
 
 /// The memory type at the front of some bytes, and the bytes behind it (WebAssembly Core Specification 3.0, section 5.3.12).
 pub fn front_memory_type(bytes: &[u8]) -> Option<(MemoryType, &[u8])>
-    ensures some { IfSome result (λ r. Begins memory_type bytes.now (memory_type_tree r.0) r.1.now) }
+    ensures some { IfSome result (λ r.
+        Begins memory_type bytes.now (memory_type_tree r.0) r.1.now) }
     ensures none { IfNone result (BeginsNone memory_type bytes.now) }
 {
     let Some((flags, rest)) = front_byte(bytes) else {
@@ -164,7 +169,8 @@ pub fn front_memory_type(bytes: &[u8]) -> Option<(MemoryType, &[u8])>
 
 /// The global type at the front of some bytes, and the bytes behind it (WebAssembly Core Specification 3.0, section 5.3.13).
 pub fn front_global_type(bytes: &[u8]) -> Option<(GlobalType, &[u8])>
-    ensures some { IfSome result (λ r. Begins global_type bytes.now (global_type_tree r.0) r.1.now) }
+    ensures some { IfSome result (λ r.
+        Begins global_type bytes.now (global_type_tree r.0) r.1.now) }
     ensures none { IfNone result (BeginsNone global_type bytes.now) }
 {
     let Some((content_type, rest)) = front_val_type(bytes) else {
@@ -275,7 +281,8 @@ pub fn front_type_ref(bytes: &[u8]) -> Option<(TypeRef, &[u8])>
 ///
 /// The error holds the place that was asked for, and comes exactly where no such type begins there, as past the end.
 pub fn read_type_ref(bytes: &[u8], at: usize) -> Result<(TypeRef, usize), ReadError>
-    ensures ok { IfOk result (λ r. Begins entity (drop at bytes.now) (entity_tree r.0) (drop r.1 bytes.now)) }
+    ensures ok { IfOk result (λ r.
+        Begins entity (drop at bytes.now) (entity_tree r.0) (drop r.1 bytes.now)) }
     ensures forward { IfOk result (λ r. (at < r.1) × (r.1 ≤ length bytes.now)) }
     ensures err { IfErr result (λ e. (e.at ≡ at) × BeginsNone entity (drop at bytes.now)) }
 {

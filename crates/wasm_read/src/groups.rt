@@ -2,66 +2,32 @@
 ghost use Rattle.std.specs.Prelude.{◌≡◌, ℕ, ◌<◌, ◌≤◌, List, length, drop, IfOk, IfErr, IfSome, IfNone};
 ghost use Rattle.wasm_shapes.specs.declared.Space.TheVariants as space;
 ghost use Rattle.wasm_shapes.specs.Place.{Begins, BeginsNone};
-ghost use Rattle.wasm_shapes.specs.Shape.{Shape, Named, choice, inner_rows, described_rows, describing_rows};
+ghost use Rattle.wasm_shapes.specs.Shape.{Shape, Named, choice, values, inner_rows, described_rows, describing_rows};
 ghost use Rattle.wasm_read.specs.Reading.{ReadsNoneOrWants};
-ghost use Rattle.wasm_read.specs.Types.{val_types_tree, func_type_tree, inner_tree, described_tree, describing_tree, composite_tree, supertypes_tree, sub_type_tree, sub_types_tree, group_tree};
+ghost use Rattle.wasm_read.specs.Types.{val_types_tree, func_type_tree, inner_tree, described_tree, describing_tree, composite_tree, supertypes_tree, sub_type_tree, group_tree};
 
-use crate::entries::front_vec;
+use crate::entries::{Entry, front_vec};
 use crate::fields::from_place;
 use crate::types::{
     ArrayType, CompositeInnerType, CompositeType, ContType, FuncType, RecGroup, StructType,
-    SubType, UnpackedIndex, ValType,
+    SubType, UnpackedIndex,
 };
-use crate::values::{front_field_type, front_val_type};
+use crate::values::front_field_type;
 use std::alloc::Global;
 use wasm_leb::{Fault, List, NoMemory, ReadError, front_byte, front_index, front_u32};
-
-/// The vector of value types at the front of some bytes, and the bytes behind it.
-///
-/// It takes memory for no more types than there are bytes.
-pub fn front_val_types(
-    alloc: Global,
-    bytes: &[u8],
-) -> Result<Option<(List<ValType>, &[u8])>, NoMemory>
-    ensures some { IfOk result (λ o. IfSome o (λ r. Begins (Shape.vec (Shape.ref Named.value)) bytes.now (val_types_tree r.0) r.1.now)) }
-    ensures none { IfOk result (λ o. IfNone o (BeginsNone (Shape.vec (Shape.ref Named.value)) bytes.now)) }
-{
-    let Some((count, start)) = front_u32(bytes) else {
-        return Ok(None);
-    };
-    let room = start.len().min(count as usize);
-    let mut types = match List::with_capacity(alloc, room) {
-        Ok(types) => types,
-        Err(NoMemory) => return Err(NoMemory),
-    };
-    let mut left = count;
-    let mut rest = start;
-    'types: while left > 0 {
-        let Some((ty, behind)) = front_val_type(rest) else {
-            return Ok(None);
-        };
-        match types.push(ty) {
-            Ok(()) => {}
-            Err(NoMemory) => return Err(NoMemory),
-        }
-        rest = behind;
-        left -= 1;
-    }
-    Ok(Some((types, rest)))
-}
 
 /// The parameters and results of a function at the front of some bytes, and the bytes behind them.
 pub fn front_func_type(alloc: Global, bytes: &[u8]) -> Result<Option<(FuncType, &[u8])>, NoMemory>
     ensures some { IfOk result (λ o. IfSome o (λ r.
-        Begins (Shape.seq (Shape.vec (Shape.ref Named.value)) (Shape.vec (Shape.ref Named.value))) bytes.now (func_type_tree r.0) r.1.now)) }
-    ensures none { IfOk result (λ o. IfNone o (BeginsNone (Shape.seq (Shape.vec (Shape.ref Named.value)) (Shape.vec (Shape.ref Named.value))) bytes.now)) }
+        Begins (Shape.seq values values) bytes.now (func_type_tree r.0) r.1.now)) }
+    ensures none { IfOk result (λ o. IfNone o (BeginsNone (Shape.seq values values) bytes.now)) }
 {
-    let (params, rest) = match front_val_types(alloc, bytes) {
+    let (params, rest) = match front_vec(alloc, bytes) {
         Ok(Some((params, rest))) => (params, rest),
         Ok(None) => return Ok(None),
         Err(NoMemory) => return Err(NoMemory),
     };
-    match front_val_types(alloc, rest) {
+    match front_vec(alloc, rest) {
         Ok(Some((results, rest))) => Ok(Some((FuncType { params, results }, rest))),
         Ok(None) => Ok(None),
         Err(NoMemory) => Err(NoMemory),
@@ -70,7 +36,8 @@ pub fn front_func_type(alloc: Global, bytes: &[u8]) -> Result<Option<(FuncType, 
 
 /// The function, array, structure or continuation type at the front of some bytes, and the bytes behind it.
 fn front_inner(alloc: Global, bytes: &[u8]) -> Result<Option<(CompositeInnerType, &[u8])>, NoMemory>
-    ensures some { IfOk result (λ o. IfSome o (λ r. Begins (choice inner_rows) bytes.now (inner_tree r.0) r.1.now)) }
+    ensures some { IfOk result (λ o. IfSome o (λ r.
+        Begins (choice inner_rows) bytes.now (inner_tree r.0) r.1.now)) }
     ensures none { IfOk result (λ o. IfNone o (BeginsNone (choice inner_rows) bytes.now)) }
 {
     let Some((first, rest)) = front_byte(bytes) else {
@@ -109,7 +76,8 @@ fn front_described(
     alloc: Global,
     bytes: &[u8],
 ) -> Result<Option<(CompositeInnerType, Option<UnpackedIndex>, &[u8])>, NoMemory>
-    ensures some { IfOk result (λ o. IfSome o (λ r. Begins (choice described_rows) bytes.now (described_tree r.1 (inner_tree r.0)) r.2.now)) }
+    ensures some { IfOk result (λ o. IfSome o (λ r.
+        Begins (choice described_rows) bytes.now (described_tree r.1 (inner_tree r.0)) r.2.now)) }
     ensures none { IfOk result (λ o. IfNone o (BeginsNone (choice described_rows) bytes.now)) }
 {
     let Some((first, rest)) = front_byte(bytes) else {
@@ -148,7 +116,8 @@ fn front_describing(
     NoMemory,
 >
     ensures some { IfOk result (λ o. IfSome o (λ r.
-        Begins (choice describing_rows) bytes.now (describing_tree r.2 (described_tree r.1 (inner_tree r.0))) r.3.now)) }
+        Begins (choice describing_rows) bytes.now
+        (describing_tree r.2 (described_tree r.1 (inner_tree r.0))) r.3.now)) }
     ensures none { IfOk result (λ o. IfNone o (BeginsNone (choice describing_rows) bytes.now)) }
 {
     let Some((first, rest)) = front_byte(bytes) else {
@@ -178,7 +147,8 @@ fn front_describing(
 
 /// The composite type at the front of some bytes, and the bytes behind it.
 fn front_composite(alloc: Global, bytes: &[u8]) -> Result<Option<(CompositeType, &[u8])>, NoMemory>
-    ensures some { IfOk result (λ o. IfSome o (λ r. Begins (Shape.ref Named.composite) bytes.now (composite_tree r.0) r.1.now)) }
+    ensures some { IfOk result (λ o. IfSome o (λ r.
+        Begins (Shape.ref Named.composite) bytes.now (composite_tree r.0) r.1.now)) }
     ensures none { IfOk result (λ o. IfNone o (BeginsNone (Shape.ref Named.composite) bytes.now)) }
 {
     let Some((first, rest)) = front_byte(bytes) else {
@@ -222,7 +192,8 @@ fn front_behind_supertypes(
     ensures some { IfOk result (λ o. IfSome o (λ r. (middle : List ℕ)
         × Begins (Shape.vec (Shape.ix space.Type_)) bytes.now (supertypes_tree r.0) middle
         × Begins (Shape.ref Named.composite) middle (composite_tree r.1) r.2.now)) }
-    ensures none { IfOk result (λ o. IfNone o (BeginsNone (Shape.seq (Shape.vec (Shape.ix space.Type_)) (Shape.ref Named.composite)) bytes.now)) }
+    ensures none { IfOk result (λ o. IfNone o (BeginsNone
+        (Shape.seq (Shape.vec (Shape.ix space.Type_)) (Shape.ref Named.composite)) bytes.now)) }
 {
     let (supertypes, rest) = match front_vec(alloc, bytes) {
         Ok(Some((supertypes, rest))) => (supertypes, rest),
@@ -238,7 +209,8 @@ fn front_behind_supertypes(
 
 /// The subtype at the front of some bytes, and the bytes behind it (WebAssembly Core Specification 3.0, section 5.3.9).
 pub fn front_sub_type(alloc: Global, bytes: &[u8]) -> Result<Option<(SubType, &[u8])>, NoMemory>
-    ensures some { IfOk result (λ o. IfSome o (λ r. Begins (Shape.ref Named.sub) bytes.now (sub_type_tree r.0) r.1.now)) }
+    ensures some { IfOk result (λ o. IfSome o (λ r.
+        Begins (Shape.ref Named.sub) bytes.now (sub_type_tree r.0) r.1.now)) }
     ensures none { IfOk result (λ o. IfNone o (BeginsNone (Shape.ref Named.sub) bytes.now)) }
 {
     let Some((first, rest)) = front_byte(bytes) else {
@@ -284,37 +256,26 @@ pub fn front_sub_type(alloc: Global, bytes: &[u8]) -> Result<Option<(SubType, &[
     }
 }
 
-/// The vector of subtypes at the front of some bytes, and the bytes behind it.
-///
-/// It takes memory for no more types than the bytes can hold.
-fn front_sub_types(alloc: Global, bytes: &[u8]) -> Result<Option<(List<SubType>, &[u8])>, NoMemory>
-    ensures some { IfOk result (λ o. IfSome o (λ r. Begins (Shape.vec (Shape.ref Named.sub)) bytes.now (sub_types_tree r.0) r.1.now)) }
-    ensures none { IfOk result (λ o. IfNone o (BeginsNone (Shape.vec (Shape.ref Named.sub)) bytes.now)) }
-{
-    let Some((count, start)) = front_u32(bytes) else {
-        return Ok(None);
-    };
-    let room = (start.len() / 2).min(count as usize);
-    let mut types = match List::with_capacity(alloc, room) {
-        Ok(types) => types,
-        Err(NoMemory) => return Err(NoMemory),
-    };
-    let mut left = count;
-    let mut rest = start;
-    'types: while left > 0 {
-        let (ty, behind) = match front_sub_type(alloc, rest) {
-            Ok(Some((ty, behind))) => (ty, behind),
-            Ok(None) => return Ok(None),
-            Err(NoMemory) => return Err(NoMemory),
-        };
-        match types.push(ty) {
-            Ok(()) => {}
-            Err(NoMemory) => return Err(NoMemory),
-        }
-        rest = behind;
-        left -= 1;
+/// A subtype of a group.
+impl Entry for SubType {
+    ghost use Rattle.std.specs.Prelude.{refl};
+
+    ghost shape = { Shape.ref Named.sub };
+
+    ghost tree = { sub_type_tree };
+
+    ghost is_sound = { refl };
+
+    ghost is_closed = { refl };
+
+    #[inline]
+    fn front(alloc: Global, bytes: &[u8]) -> Result<Option<(SubType, &[u8])>, NoMemory> {
+        front_sub_type(alloc, bytes)
     }
-    Ok(Some((types, rest)))
+
+    fn most(bytes: usize) -> usize {
+        bytes / 2
+    }
 }
 
 /// The group that is one type alone.
@@ -336,14 +297,15 @@ fn bare_group(alloc: Global, ty: SubType) -> Result<RecGroup, NoMemory>
 
 /// The group of types at the front of some bytes, and the bytes behind it.
 pub fn front_group(alloc: Global, bytes: &[u8]) -> Result<Option<(RecGroup, &[u8])>, NoMemory>
-    ensures some { IfOk result (λ o. IfSome o (λ r. Begins (Shape.ref Named.group) bytes.now (group_tree r.0) r.1.now)) }
+    ensures some { IfOk result (λ o. IfSome o (λ r.
+        Begins (Shape.ref Named.group) bytes.now (group_tree r.0) r.1.now)) }
     ensures none { IfOk result (λ o. IfNone o (BeginsNone (Shape.ref Named.group) bytes.now)) }
 {
     let Some((first, rest)) = front_byte(bytes) else {
         return Ok(None);
     };
     if first == 0x4e {
-        return match front_sub_types(alloc, rest) {
+        return match front_vec(alloc, rest) {
             Ok(Some((types, rest))) => Ok(Some((
                 RecGroup {
                     explicit: true,
@@ -372,9 +334,11 @@ pub fn front_group(alloc: Global, bytes: &[u8]) -> Result<Option<(RecGroup, &[u8
 /// The error is `Read` with the place that was asked for exactly where no group begins there, as past the end, or
 /// memory is wanting.
 pub fn read_group(alloc: Global, bytes: &[u8], at: usize) -> Result<(RecGroup, usize), Fault>
-    ensures ok { IfOk result (λ r. Begins (Shape.ref Named.group) (drop at bytes.now) (group_tree r.0) (drop r.1 bytes.now)) }
+    ensures ok { IfOk result (λ r.
+        Begins (Shape.ref Named.group) (drop at bytes.now) (group_tree r.0) (drop r.1 bytes.now)) }
     ensures forward { IfOk result (λ r. (at < r.1) × (r.1 ≤ length bytes.now)) }
-    ensures err { IfErr result (λ e. ReadsNoneOrWants e at (BeginsNone (Shape.ref Named.group) (drop at bytes.now))) }
+    ensures err { IfErr result (λ e.
+        ReadsNoneOrWants e at (BeginsNone (Shape.ref Named.group) (drop at bytes.now))) }
 {
     match front_group(alloc, from_place(bytes, at)) {
         Ok(Some((group, rest))) => Ok((group, bytes.len() - rest.len())),

@@ -39,7 +39,8 @@ fn front_imm<'a>(
     bytes: &'a [u8],
 ) -> Result<Option<(Imm<'a>, &'a [u8])>, NoMemory>
     requires { is_core_kind kind ≡ true }
-    ensures some { IfOk result (λ o. IfSome o (λ r. Begins (shape_of_kind kind) bytes.now (imm_tree r.0) r.1.now)) }
+    ensures some { IfOk result (λ o. IfSome o (λ r.
+        Begins (shape_of_kind kind) bytes.now (imm_tree r.0) r.1.now)) }
     ensures kind { IfOk result (λ o. IfSome o (λ r. kind_of_imm r.0 ≡ Some kind)) }
     ensures none { IfOk result (λ o. IfNone o (BeginsNone (shape_of_kind kind) bytes.now)) }
 {
@@ -69,7 +70,8 @@ fn front_imm<'a>(
 /// A label, by the number of blocks round it.
 #[tactic(auto, using(wasm_shapes::proofs::Begins::begins_u32))]
 fn front_label<'a>(bytes: &'a [u8]) -> Option<(Imm<'a>, &'a [u8])>
-    ensures some { IfSome result (λ r. Begins (shape_of_kind ImmKind.Label) bytes.now (imm_tree r.0) r.1.now) }
+    ensures some { IfSome result (λ r.
+        Begins (shape_of_kind ImmKind.Label) bytes.now (imm_tree r.0) r.1.now) }
     ensures kind { IfSome result (λ r. kind_of_imm r.0 ≡ Some ImmKind.Label) }
     ensures none { IfNone result (BeginsNone (shape_of_kind ImmKind.Label) bytes.now) }
 {
@@ -82,7 +84,8 @@ fn front_label<'a>(bytes: &'a [u8]) -> Option<(Imm<'a>, &'a [u8])>
 /// An index of a space.
 fn front_index<'a>(space: Space, bytes: &'a [u8]) -> Option<(Imm<'a>, &'a [u8])>
     requires { is_core space ≡ true }
-    ensures some { IfSome result (λ r. Begins (shape_of_kind (ImmKind.Index space)) bytes.now (imm_tree r.0) r.1.now) }
+    ensures some { IfSome result (λ r.
+        Begins (shape_of_kind (ImmKind.Index space)) bytes.now (imm_tree r.0) r.1.now) }
     ensures kind { IfSome result (λ r. kind_of_imm r.0 ≡ Some (ImmKind.Index space)) }
     ensures none { IfNone result (BeginsNone (shape_of_kind (ImmKind.Index space)) bytes.now) }
 {
@@ -95,7 +98,8 @@ fn front_index<'a>(space: Space, bytes: &'a [u8]) -> Option<(Imm<'a>, &'a [u8])>
 /// The number of a local.
 #[tactic(auto, using(wasm_shapes::proofs::Begins::begins_u32))]
 fn front_local<'a>(bytes: &'a [u8]) -> Option<(Imm<'a>, &'a [u8])>
-    ensures some { IfSome result (λ r. Begins (shape_of_kind ImmKind.Local) bytes.now (imm_tree r.0) r.1.now) }
+    ensures some { IfSome result (λ r.
+        Begins (shape_of_kind ImmKind.Local) bytes.now (imm_tree r.0) r.1.now) }
     ensures kind { IfSome result (λ r. kind_of_imm r.0 ≡ Some ImmKind.Local) }
     ensures none { IfNone result (BeginsNone (shape_of_kind ImmKind.Local) bytes.now) }
 {
@@ -108,7 +112,8 @@ fn front_local<'a>(bytes: &'a [u8]) -> Option<(Imm<'a>, &'a [u8])>
 /// The number of a field.
 #[tactic(auto, using(wasm_shapes::proofs::Begins::begins_u32))]
 fn front_field<'a>(bytes: &'a [u8]) -> Option<(Imm<'a>, &'a [u8])>
-    ensures some { IfSome result (λ r. Begins (shape_of_kind ImmKind.Field) bytes.now (imm_tree r.0) r.1.now) }
+    ensures some { IfSome result (λ r.
+        Begins (shape_of_kind ImmKind.Field) bytes.now (imm_tree r.0) r.1.now) }
     ensures kind { IfSome result (λ r. kind_of_imm r.0 ≡ Some ImmKind.Field) }
     ensures none { IfNone result (BeginsNone (shape_of_kind ImmKind.Field) bytes.now) }
 {
@@ -121,7 +126,8 @@ fn front_field<'a>(bytes: &'a [u8]) -> Option<(Imm<'a>, &'a [u8])>
 /// The number of an array's elements.
 #[tactic(auto, using(wasm_shapes::proofs::Begins::begins_u32))]
 fn front_size<'a>(bytes: &'a [u8]) -> Option<(Imm<'a>, &'a [u8])>
-    ensures some { IfSome result (λ r. Begins (shape_of_kind ImmKind.Size) bytes.now (imm_tree r.0) r.1.now) }
+    ensures some { IfSome result (λ r.
+        Begins (shape_of_kind ImmKind.Size) bytes.now (imm_tree r.0) r.1.now) }
     ensures kind { IfSome result (λ r. kind_of_imm r.0 ≡ Some ImmKind.Size) }
     ensures none { IfNone result (BeginsNone (shape_of_kind ImmKind.Size) bytes.now) }
 {
@@ -134,7 +140,8 @@ fn front_size<'a>(bytes: &'a [u8]) -> Option<(Imm<'a>, &'a [u8])>
 /// A number of 32 bits with sign.
 #[tactic(auto, using(wasm_shapes::proofs::Begins::begins_s32))]
 fn front_s32_imm<'a>(bytes: &'a [u8]) -> Option<(Imm<'a>, &'a [u8])>
-    ensures some { IfSome result (λ r. Begins (shape_of_kind ImmKind.S32) bytes.now (imm_tree r.0) r.1.now) }
+    ensures some { IfSome result (λ r.
+        Begins (shape_of_kind ImmKind.S32) bytes.now (imm_tree r.0) r.1.now) }
     ensures kind { IfSome result (λ r. kind_of_imm r.0 ≡ Some ImmKind.S32) }
     ensures none { IfNone result (BeginsNone (shape_of_kind ImmKind.S32) bytes.now) }
 {
@@ -147,7 +154,8 @@ fn front_s32_imm<'a>(bytes: &'a [u8]) -> Option<(Imm<'a>, &'a [u8])>
 /// A number of 64 bits with sign.
 #[tactic(auto, using(wasm_shapes::proofs::Begins::begins_s64))]
 fn front_s64_imm<'a>(bytes: &'a [u8]) -> Option<(Imm<'a>, &'a [u8])>
-    ensures some { IfSome result (λ r. Begins (shape_of_kind ImmKind.S64) bytes.now (imm_tree r.0) r.1.now) }
+    ensures some { IfSome result (λ r.
+        Begins (shape_of_kind ImmKind.S64) bytes.now (imm_tree r.0) r.1.now) }
     ensures kind { IfSome result (λ r. kind_of_imm r.0 ≡ Some ImmKind.S64) }
     ensures none { IfNone result (BeginsNone (shape_of_kind ImmKind.S64) bytes.now) }
 {
@@ -159,7 +167,8 @@ fn front_s64_imm<'a>(bytes: &'a [u8]) -> Option<(Imm<'a>, &'a [u8])>
 
 /// The number of a lane.
 fn front_lane<'a>(bytes: &'a [u8]) -> Option<(Imm<'a>, &'a [u8])>
-    ensures some { IfSome result (λ r. Begins (shape_of_kind ImmKind.Lane) bytes.now (imm_tree r.0) r.1.now) }
+    ensures some { IfSome result (λ r.
+        Begins (shape_of_kind ImmKind.Lane) bytes.now (imm_tree r.0) r.1.now) }
     ensures kind { IfSome result (λ r. kind_of_imm r.0 ≡ Some ImmKind.Lane) }
     ensures none { IfNone result (BeginsNone (shape_of_kind ImmKind.Lane) bytes.now) }
 {
@@ -172,7 +181,8 @@ fn front_lane<'a>(bytes: &'a [u8]) -> Option<(Imm<'a>, &'a [u8])>
 /// The byte 0.
 #[tactic(auto, using(crate::proofs::OfKinds::begins_zero))]
 fn front_zero<'a>(bytes: &'a [u8]) -> Option<(Imm<'a>, &'a [u8])>
-    ensures some { IfSome result (λ r. Begins (shape_of_kind ImmKind.Zero) bytes.now (imm_tree r.0) r.1.now) }
+    ensures some { IfSome result (λ r.
+        Begins (shape_of_kind ImmKind.Zero) bytes.now (imm_tree r.0) r.1.now) }
     ensures kind { IfSome result (λ r. kind_of_imm r.0 ≡ Some ImmKind.Zero) }
     ensures none { IfNone result (BeginsNone (shape_of_kind ImmKind.Zero) bytes.now) }
 {
@@ -190,7 +200,8 @@ fn front_zero<'a>(bytes: &'a [u8]) -> Option<(Imm<'a>, &'a [u8])>
 
 /// So many bytes, and the bytes behind them.
 fn front_bytes(bytes: &[u8], count: usize) -> Option<(&[u8], &[u8])>
-    ensures some { IfSome result (λ r. Begins (Shape.bytes count) bytes.now (Tree.raw r.0.now) r.1.now) }
+    ensures some { IfSome result (λ r.
+        Begins (Shape.bytes count) bytes.now (Tree.raw r.0.now) r.1.now) }
     ensures counted { IfSome result (λ r. length r.0.now ≡ count) }
     ensures none { IfNone result (BeginsNone (Shape.bytes count) bytes.now) }
 {
@@ -203,7 +214,8 @@ fn front_bytes(bytes: &[u8], count: usize) -> Option<(&[u8], &[u8])>
 
 /// The bits of a floating-point number of 32 bits.
 fn front_four<'a>(bytes: &'a [u8]) -> Option<(Imm<'a>, &'a [u8])>
-    ensures some { IfSome result (λ r. Begins (shape_of_kind ImmKind.Four) bytes.now (imm_tree r.0) r.1.now) }
+    ensures some { IfSome result (λ r.
+        Begins (shape_of_kind ImmKind.Four) bytes.now (imm_tree r.0) r.1.now) }
     ensures kind { IfSome result (λ r. kind_of_imm r.0 ≡ Some ImmKind.Four) }
     ensures none { IfNone result (BeginsNone (shape_of_kind ImmKind.Four) bytes.now) }
 {
@@ -218,7 +230,8 @@ fn front_four<'a>(bytes: &'a [u8]) -> Option<(Imm<'a>, &'a [u8])>
 
 /// The bits of a floating-point number of 64 bits.
 fn front_eight<'a>(bytes: &'a [u8]) -> Option<(Imm<'a>, &'a [u8])>
-    ensures some { IfSome result (λ r. Begins (shape_of_kind ImmKind.Eight) bytes.now (imm_tree r.0) r.1.now) }
+    ensures some { IfSome result (λ r.
+        Begins (shape_of_kind ImmKind.Eight) bytes.now (imm_tree r.0) r.1.now) }
     ensures kind { IfSome result (λ r. kind_of_imm r.0 ≡ Some ImmKind.Eight) }
     ensures none { IfNone result (BeginsNone (shape_of_kind ImmKind.Eight) bytes.now) }
 {
@@ -235,7 +248,8 @@ fn front_eight<'a>(bytes: &'a [u8]) -> Option<(Imm<'a>, &'a [u8])>
 
 /// Sixteen bytes.
 fn front_sixteen<'a>(bytes: &'a [u8]) -> Option<(Imm<'a>, &'a [u8])>
-    ensures some { IfSome result (λ r. Begins (shape_of_kind ImmKind.Sixteen) bytes.now (imm_tree r.0) r.1.now) }
+    ensures some { IfSome result (λ r.
+        Begins (shape_of_kind ImmKind.Sixteen) bytes.now (imm_tree r.0) r.1.now) }
     ensures kind { IfSome result (λ r. kind_of_imm r.0 ≡ Some ImmKind.Sixteen) }
     ensures none { IfNone result (BeginsNone (shape_of_kind ImmKind.Sixteen) bytes.now) }
 {
@@ -247,7 +261,8 @@ fn front_sixteen<'a>(bytes: &'a [u8]) -> Option<(Imm<'a>, &'a [u8])>
 
 /// The numbers of sixteen lanes.
 fn front_lanes<'a>(bytes: &'a [u8]) -> Option<(Imm<'a>, &'a [u8])>
-    ensures some { IfSome result (λ r. Begins (shape_of_kind ImmKind.Lanes) bytes.now (imm_tree r.0) r.1.now) }
+    ensures some { IfSome result (λ r.
+        Begins (shape_of_kind ImmKind.Lanes) bytes.now (imm_tree r.0) r.1.now) }
     ensures kind { IfSome result (λ r. kind_of_imm r.0 ≡ Some ImmKind.Lanes) }
     ensures none { IfNone result (BeginsNone (shape_of_kind ImmKind.Lanes) bytes.now) }
 {
@@ -259,7 +274,8 @@ fn front_lanes<'a>(bytes: &'a [u8]) -> Option<(Imm<'a>, &'a [u8])>
 
 /// Where a memory access goes: flags below 128, the memory where bit 6 is set, and the offset.
 fn front_mem<'a>(bytes: &'a [u8]) -> Option<(Imm<'a>, &'a [u8])>
-    ensures some { IfSome result (λ r. Begins (shape_of_kind ImmKind.Mem) bytes.now (imm_tree r.0) r.1.now) }
+    ensures some { IfSome result (λ r.
+        Begins (shape_of_kind ImmKind.Mem) bytes.now (imm_tree r.0) r.1.now) }
     ensures kind { IfSome result (λ r. kind_of_imm r.0 ≡ Some ImmKind.Mem) }
     ensures none { IfNone result (BeginsNone (shape_of_kind ImmKind.Mem) bytes.now) }
 {
@@ -298,9 +314,11 @@ fn mem_arg<'a>(align: u8, memory: u32, offset: u64) -> Imm<'a>
 
 /// The labels of a table of branches, and the one where no other is chosen.
 fn front_labels<'a>(alloc: Global, bytes: &'a [u8]) -> Result<Option<(Imm<'a>, &'a [u8])>, NoMemory>
-    ensures some { IfOk result (λ o. IfSome o (λ r. Begins (shape_of_kind ImmKind.Labels) bytes.now (imm_tree r.0) r.1.now)) }
+    ensures some { IfOk result (λ o. IfSome o (λ r.
+        Begins (shape_of_kind ImmKind.Labels) bytes.now (imm_tree r.0) r.1.now)) }
     ensures kind { IfOk result (λ o. IfSome o (λ r. kind_of_imm r.0 ≡ Some ImmKind.Labels)) }
-    ensures none { IfOk result (λ o. IfNone o (BeginsNone (shape_of_kind ImmKind.Labels) bytes.now)) }
+    ensures none { IfOk result (λ o.
+        IfNone o (BeginsNone (shape_of_kind ImmKind.Labels) bytes.now)) }
 {
     match front_vec(alloc, bytes) {
         Ok(Some((targets, rest))) => match front_u32(rest) {
@@ -314,9 +332,11 @@ fn front_labels<'a>(alloc: Global, bytes: &'a [u8]) -> Result<Option<(Imm<'a>, &
 
 /// Value types.
 fn front_types<'a>(alloc: Global, bytes: &'a [u8]) -> Result<Option<(Imm<'a>, &'a [u8])>, NoMemory>
-    ensures some { IfOk result (λ o. IfSome o (λ r. Begins (shape_of_kind ImmKind.Types) bytes.now (imm_tree r.0) r.1.now)) }
+    ensures some { IfOk result (λ o. IfSome o (λ r.
+        Begins (shape_of_kind ImmKind.Types) bytes.now (imm_tree r.0) r.1.now)) }
     ensures kind { IfOk result (λ o. IfSome o (λ r. kind_of_imm r.0 ≡ Some ImmKind.Types)) }
-    ensures none { IfOk result (λ o. IfNone o (BeginsNone (shape_of_kind ImmKind.Types) bytes.now)) }
+    ensures none { IfOk result (λ o.
+        IfNone o (BeginsNone (shape_of_kind ImmKind.Types) bytes.now)) }
 {
     match front_vec(alloc, bytes) {
         Ok(Some((types, rest))) => Ok(Some((Imm::Types(types), rest))),
@@ -330,9 +350,11 @@ fn front_catches<'a>(
     alloc: Global,
     bytes: &'a [u8],
 ) -> Result<Option<(Imm<'a>, &'a [u8])>, NoMemory>
-    ensures some { IfOk result (λ o. IfSome o (λ r. Begins (shape_of_kind ImmKind.Catches) bytes.now (imm_tree r.0) r.1.now)) }
+    ensures some { IfOk result (λ o. IfSome o (λ r.
+        Begins (shape_of_kind ImmKind.Catches) bytes.now (imm_tree r.0) r.1.now)) }
     ensures kind { IfOk result (λ o. IfSome o (λ r. kind_of_imm r.0 ≡ Some ImmKind.Catches)) }
-    ensures none { IfOk result (λ o. IfNone o (BeginsNone (shape_of_kind ImmKind.Catches) bytes.now)) }
+    ensures none { IfOk result (λ o.
+        IfNone o (BeginsNone (shape_of_kind ImmKind.Catches) bytes.now)) }
 {
     match front_vec(alloc, bytes) {
         Ok(Some((catches, rest))) => Ok(Some((Imm::Catches(catches), rest))),
@@ -346,9 +368,11 @@ fn front_handlers<'a>(
     alloc: Global,
     bytes: &'a [u8],
 ) -> Result<Option<(Imm<'a>, &'a [u8])>, NoMemory>
-    ensures some { IfOk result (λ o. IfSome o (λ r. Begins (shape_of_kind ImmKind.Handlers) bytes.now (imm_tree r.0) r.1.now)) }
+    ensures some { IfOk result (λ o. IfSome o (λ r.
+        Begins (shape_of_kind ImmKind.Handlers) bytes.now (imm_tree r.0) r.1.now)) }
     ensures kind { IfOk result (λ o. IfSome o (λ r. kind_of_imm r.0 ≡ Some ImmKind.Handlers)) }
-    ensures none { IfOk result (λ o. IfNone o (BeginsNone (shape_of_kind ImmKind.Handlers) bytes.now)) }
+    ensures none { IfOk result (λ o.
+        IfNone o (BeginsNone (shape_of_kind ImmKind.Handlers) bytes.now)) }
 {
     match front_vec(alloc, bytes) {
         Ok(Some((handlers, rest))) => Ok(Some((Imm::Handlers(handlers), rest))),
@@ -375,7 +399,8 @@ pub fn front_imms<'a>(
     bytes: &'a [u8],
 ) -> Result<Option<(List<Imm<'a>>, &'a [u8])>, NoMemory>
     requires { AreCore kinds.now }
-    ensures some { IfOk result (λ o. IfSome o (λ r. Begins (shape_of_kinds kinds.now) bytes.now (imms_tree r.0) r.1.now)) }
+    ensures some { IfOk result (λ o. IfSome o (λ r.
+        Begins (shape_of_kinds kinds.now) bytes.now (imms_tree r.0) r.1.now)) }
     ensures kinds { IfOk result (λ o. IfSome o (λ r. AreOf kinds.now r.0)) }
     ensures none { IfOk result (λ o. IfNone o (BeginsNone (shape_of_kinds kinds.now) bytes.now)) }
 {

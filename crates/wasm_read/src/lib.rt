@@ -14,6 +14,7 @@ mod names;
 mod operators;
 mod payloads;
 mod rows;
+mod section_reader;
 mod sections;
 #[cfg(test)]
 mod tests;
@@ -22,7 +23,6 @@ mod type_tests;
 mod types;
 mod values;
 
-pub use code::CodeSectionReader;
 pub use expressions::ConstExpr;
 pub use externals::read_type_ref;
 pub use fields::{front_name, read_item, read_name};
@@ -30,9 +30,10 @@ pub use groups::read_group;
 pub use names::{IndirectNameMap, NameMap};
 pub use operators::{Operator, OperatorsReader};
 pub use payloads::Payloads;
+pub use section_reader::{ReadRow, SectionReader};
 pub use sections::{
-    ExportSectionReader, FunctionSectionReader, ImportSectionReader, MemorySectionReader,
-    TableSectionReader, TagSectionReader, TypeSectionReader,
+    BodyFrames, CodeSectionReader, ExportSectionReader, FunctionSectionReader, ImportSectionReader,
+    MemorySectionReader, TableSectionReader, TagSectionReader, TypeSectionReader,
 };
 pub use types::{
     AbstractHeapType, ArrayType, BlockType, Catch, CompositeInnerType, CompositeType, ContType,

@@ -36,7 +36,8 @@ impl<'a> Operator<'a> {
     /// the immediates are not those of its row. Three sorts of immediates have no kind: an index of a space that no core
     /// module has, `Sixteen` or `Lanes` of other than 16 bytes, and a list of more than 2^32 - 1 entries.
     pub fn new(opcode: Opcode, imms: List<Imm<'a>>) -> Option<Operator<'a>>
-        ensures some { IfSome result (λ o. (o ≡ operation opcode imms.entry) × FitOpcode opcode imms.entry) }
+        ensures some { IfSome result (λ o.
+            (o ≡ operation opcode imms.entry) × FitOpcode opcode imms.entry) }
         ensures none { IfNone result (¬ FitOpcode opcode imms.entry) }
     {
         let Some(kinds) = row_of(opcode) else {
@@ -124,11 +125,14 @@ impl<'a> OperatorsReader<'a> {
     /// `Read` comes exactly where no operator begins, and holds the place where the reader stands, counted from the
     /// first of its bytes. An error leaves the reader where it stood.
     pub fn read(&mut self, alloc: Global) -> Result<Operator<'a>, Fault>
-        ensures row { IfOk result (λ o. Begins (Shape.op true) (rest_of self.old) (operator_tree o) (rest_of self.new)) }
+        ensures row { IfOk result (λ o.
+            Begins (Shape.op true) (rest_of self.old) (operator_tree o) (rest_of self.new)) }
         ensures fit { IfOk result (λ o. FitOpcode o.opcode o.imms) }
-        ensures forward { IfOk result (λ _. (self.old.at < self.new.at) × (self.new.at ≤ length self.old.bytes)) }
+        ensures forward { IfOk result (λ _.
+            (self.old.at < self.new.at) × (self.new.at ≤ length self.old.bytes)) }
         ensures bytes { self.new.bytes ≡ self.old.bytes }
-        ensures err { IfErr result (λ e. ReadsNoneOrWants e self.old.at (BeginsNone (Shape.op true) (rest_of self.old))) }
+        ensures err { IfErr result (λ e.
+            ReadsNoneOrWants e self.old.at (BeginsNone (Shape.op true) (rest_of self.old))) }
         ensures stays { IfErr result (λ _. self.new ≡ self.old) }
     {
         match front_operator(alloc, self.rest()) {
@@ -164,7 +168,8 @@ fn front_operator<'a>(
     alloc: Global,
     bytes: &'a [u8],
 ) -> Result<Option<(Operator<'a>, &'a [u8])>, NoMemory>
-    ensures some { IfOk result (λ o. IfSome o (λ r. Begins (Shape.op true) bytes.now (operator_tree r.0) r.1.now)) }
+    ensures some { IfOk result (λ o. IfSome o (λ r.
+        Begins (Shape.op true) bytes.now (operator_tree r.0) r.1.now)) }
     ensures fit { IfOk result (λ o. IfSome o (λ r. FitOpcode r.0.opcode r.0.imms)) }
     ensures shorter { IfOk result (λ o. IfSome o (λ r. length r.1.now < length bytes.now)) }
     ensures none { IfOk result (λ o. IfNone o (BeginsNone (Shape.op true) bytes.now)) }

@@ -1,4 +1,4 @@
-//! The sections of a module, frame by frame (WebAssembly Core Specification 3.0, sections 5.5.2 and 5.5.16).
+//! The sections of a module, frame by frame (WebAssembly Core Specification 3.0, sections 5.5.2 and 5.5.17).
 ghost use Rattle.std.specs.Prelude.{◌≡◌, ◌≢◌, ◌≤◌, ◌<◌, ◌⊎◌, [], IfOk, IfErr, IfSome, IfNone};
 ghost use Rattle.wasm_shapes.specs.Module.{frame};
 ghost use Rattle.wasm_shapes.specs.Place.{Begins, BeginsNone};
@@ -62,11 +62,14 @@ impl<'a> Payloads<'a> {
     /// body that begins with a name. It holds the place where the frame is due, counted from the first byte of the
     /// header, and leaves the reader where it stood. No memory is taken.
     pub fn next(&mut self) -> Result<Option<Payload<'a>>, Fault>
-        ensures some { IfOk result (λ o. IfSome o (λ p. Begins frame self.old.rest (frame_tree p) self.new.rest)) }
+        ensures some { IfOk result (λ o. IfSome o (λ p.
+            Begins frame self.old.rest (frame_tree p) self.new.rest)) }
         ensures at { IfOk result (λ o. IfSome o (λ p. payload_at p ≡ sections_place self.old)) }
         ensures unknown { IfOk result (λ o. IfSome o (λ p. IsUnknown p)) }
         ensures ended { IfOk result (λ o. IfNone o ((self.old.rest ≡ []) × (self.new ≡ self.old))) }
-        ensures err { IfErr result (λ e. ReadsNone e (sections_place self.old) (BeginsNone frame self.old.rest × (self.old.rest ≢ []))) }
+        ensures err { IfErr result (λ e.
+            ReadsNone e (sections_place self.old)
+            (BeginsNone frame self.old.rest × (self.old.rest ≢ []))) }
         ensures stays { IfErr result (λ _. self.new ≡ self.old) }
         ensures len { self.new.len ≡ self.old.len }
     {
@@ -86,7 +89,8 @@ impl<'a> Payloads<'a> {
 
 /// The body at the front of some bytes, behind its size, and the bytes behind it.
 pub fn front_sized(bytes: &[u8]) -> Option<(&[u8], &[u8])>
-    ensures some { IfSome result (λ r. Begins (Shape.sized Shape.rest) bytes.now (Tree.sized (Tree.raw r.0.now)) r.1.now) }
+    ensures some { IfSome result (λ r.
+        Begins (Shape.sized Shape.rest) bytes.now (Tree.sized (Tree.raw r.0.now)) r.1.now) }
     ensures none { IfNone result (BeginsNone (Shape.sized Shape.rest) bytes.now) }
 {
     let Some((len, rest)) = front_u32(bytes) else {

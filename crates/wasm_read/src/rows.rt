@@ -55,9 +55,11 @@ impl<'a> Rows<'a> {
 
     /// The bytes where a row is due, or none at the end.
     pub fn due(&self) -> Result<Option<&'a [u8]>, Fault>
-        ensures due { IfOk result (λ o. IfSome o (λ bytes. (bytes.now ≡ self.now.rest) × (0 < self.now.left))) }
+        ensures due { IfOk result (λ o. IfSome o (λ bytes.
+            (bytes.now ≡ self.now.rest) × (0 < self.now.left))) }
         ensures ended { IfOk result (λ o. IfNone o ((self.now.left ≡ 0) × (self.now.rest ≡ []))) }
-        ensures err { IfErr result (λ e. ReadsNone e (place_of self.now) ((self.now.left ≡ 0) × (self.now.rest ≢ []))) }
+        ensures err { IfErr result (λ e.
+            ReadsNone e (place_of self.now) ((self.now.left ≡ 0) × (self.now.rest ≢ []))) }
     {
         if self.left > 0 {
             Ok(Some(self.rest))
@@ -71,48 +73,13 @@ impl<'a> Rows<'a> {
     /// A row was read, and these bytes are left behind it.
     pub fn advance(&mut self, rest: &'a [u8])
         requires { 0 < self.old.left }
-        ensures { self.new ≡ record { rest = rest.now; left = self.old.left - 1; len = self.old.len } }
+        ensures { self.new ≡ record {
+          rest = rest.now;
+          left = self.old.left - 1;
+          len = self.old.len;
+        } }
     {
         self.rest = rest;
         self.left -= 1;
     }
 }
-
-/// The text of `next_row` of the readers whose rows take no memory. `front` reads the row at the front of some bytes.
-macro_rules! next_row {
-    ($reader:ident, $front:ident) => {
-        match $reader.rows.due() {
-            Ok(Some(bytes)) => match $front(bytes) {
-                Some((row, rest)) => {
-                    $reader.rows.advance(rest);
-                    Ok(Some(row))
-                }
-                None => Err($reader.rows.refusal()),
-            },
-            Ok(None) => Ok(None),
-            Err(fault) => Err(fault),
-        }
-    };
-}
-
-pub(crate) use next_row;
-
-/// The same for rows that take memory.
-macro_rules! next_row_in {
-    ($reader:ident, $alloc:ident, $front:ident) => {
-        match $reader.rows.due() {
-            Ok(Some(bytes)) => match $front($alloc, bytes) {
-                Ok(Some((row, rest))) => {
-                    $reader.rows.advance(rest);
-                    Ok(Some(row))
-                }
-                Ok(None) => Err($reader.rows.refusal()),
-                Err(NoMemory) => Err(Fault::NoMemory),
-            },
-            Ok(None) => Ok(None),
-            Err(fault) => Err(fault),
-        }
-    };
-}
-
-pub(crate) use next_row_in;

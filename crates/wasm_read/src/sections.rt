@@ -1,351 +1,162 @@
-//! The readers of sections, row by row (WebAssembly Core Specification 3.0, section 5.5).
-ghost use Rattle.std.specs.Prelude.{◌≡◌, IfOk, IfErr, IfSome, IfNone};
-ghost use Rattle.wasm_leb.specs.Place.{BeginsNoNumber};
-ghost use Rattle.wasm_shapes.specs.Module.{import_row, function_row, export_row};
-ghost use Rattle.wasm_shapes.specs.Shape.{Shape, Named, table_type, memory_type, tag_type};
-ghost use Rattle.wasm_read.specs.Reading.{place_of, ReadsNone, ReadsNoneOrWants, CountRead, RowRead, RowMissing, RowsEnded};
-ghost use Rattle.wasm_read.specs.Types.{group_tree, import_tree, function_tree, table_tree, memory_type_tree, tag_type_tree, export_tree};
+//! The readers of the sections of rows (WebAssembly Core Specification 3.0, section 5.5).
+ghost use Rattle.std.specs.Prelude.{true};
+ghost use Rattle.wasm_read.specs.Operations.{body_tree};
+ghost use Rattle.wasm_read.specs.Types.{group_tree, import_tree, function_tree, table_tree, memory_type_tree, tag_type_tree, export_tree, ExportKind};
 
+use crate::code::front_body;
 use crate::externals::{front_import, front_memory_type, front_table, front_tag_type};
 use crate::fields::{front_export, front_function};
 use crate::groups::front_group;
-use crate::rows::{Rows, next_row, next_row_in};
-use crate::types::{Export, Imports, MemoryType, RecGroup, Table, TagType};
+use crate::section_reader::{ReadRow, SectionReader};
+use crate::types::{Export, FunctionBody, Imports, MemoryType, RecGroup, Table, TagType};
 use std::alloc::Global;
-use std::marker::Model;
-use wasm_leb::{Fault, NoMemory};
+use wasm_leb::NoMemory;
+use wasm_shapes::kinds;
+use wasm_shapes::kinds::SectionKind;
 
-/// A reader of the rows of a type section: groups of types (section 5.5.4).
-#[derive(Drop)]
-pub struct TypeSectionReader<'a> {
-    rows: Rows<'a>,
-}
+/// A reader of the rows of a type section: groups of types (section 5.5.4). A row takes memory.
+pub type TypeSectionReader<'a> = SectionReader<'a, kinds::Types>;
 
-impl<'a> Model for TypeSectionReader<'a> {
-    ghost use Rattle.wasm_read.specs.Reading.{Standing};
+impl<'a> ReadRow<'a> for kinds::Types {
+    type Row = RecGroup;
 
-    ghost Value = { Standing };
+    ghost tree = { group_tree };
 
-    ghost view = { λ reader. reader.rows };
-}
+    ghost takes_memory = { true };
 
-impl<'a> TypeSectionReader<'a> {
-    /// Reads the count of the rows. The error comes exactly where no count begins, with the place 0.
-    pub fn new(body: &'a [u8]) -> Result<Self, Fault>
-        ensures ok { IfOk result (λ reader. CountRead body.now reader) }
-        ensures err { IfErr result (λ e. ReadsNone e 0 (BeginsNoNumber 128 32 32 body.now)) }
-    {
-        match Rows::new(body) {
-            Ok(rows) => Ok(TypeSectionReader { rows }),
-            Err(fault) => Err(fault),
-        }
-    }
-
-    /// The place in the body where it stands.
-    pub fn place(&self) -> usize
-        ensures { result ≡ place_of self.now }
-    {
-        self.rows.place()
-    }
-
-    /// The next row, or none where all counted rows were given and the body is filled.
-    ///
-    /// The error is `Read` exactly where no row begins or where bytes are left after the last, with that place, or
-    /// memory is wanting. It leaves the reader where it stood.
-    pub fn next_row(&mut self, alloc: Global) -> Result<Option<RecGroup>, Fault>
-        ensures row { IfOk result (λ o. IfSome o (λ row. RowRead (Shape.ref Named.group) self.old (group_tree row) self.new)) }
-        ensures ended { IfOk result (λ o. IfNone o (RowsEnded self.old self.new)) }
-        ensures err { IfErr result (λ e. ReadsNoneOrWants e (place_of self.old) (RowMissing (Shape.ref Named.group) self.old)) }
-        ensures stays { IfErr result (λ _. self.new ≡ self.old) }
-    {
-        next_row_in!(self, alloc, front_group)
+    #[inline]
+    fn front(alloc: Global, bytes: &'a [u8]) -> Result<Option<(RecGroup, &'a [u8])>, NoMemory> {
+        front_group(alloc, bytes)
     }
 }
 
 /// A reader of the rows of an import section (section 5.5.5).
-#[derive(Drop)]
-pub struct ImportSectionReader<'a> {
-    rows: Rows<'a>,
-}
+pub type ImportSectionReader<'a> = SectionReader<'a, kinds::Imports>;
 
-impl<'a> Model for ImportSectionReader<'a> {
-    ghost use Rattle.wasm_read.specs.Reading.{Standing};
+impl<'a> ReadRow<'a> for kinds::Imports {
+    type Row = Imports<'a>;
 
-    ghost Value = { Standing };
+    ghost tree = { import_tree };
 
-    ghost view = { λ reader. reader.rows };
-}
-
-impl<'a> ImportSectionReader<'a> {
-    /// Reads the count of the rows. The error comes exactly where no count begins, with the place 0.
-    pub fn new(body: &'a [u8]) -> Result<Self, Fault>
-        ensures ok { IfOk result (λ reader. CountRead body.now reader) }
-        ensures err { IfErr result (λ e. ReadsNone e 0 (BeginsNoNumber 128 32 32 body.now)) }
-    {
-        match Rows::new(body) {
-            Ok(rows) => Ok(ImportSectionReader { rows }),
-            Err(fault) => Err(fault),
-        }
-    }
-
-    /// The place in the body where it stands.
-    pub fn place(&self) -> usize
-        ensures { result ≡ place_of self.now }
-    {
-        self.rows.place()
-    }
-
-    /// The next row, or none where all counted rows were given and the body is filled.
-    ///
-    /// The error comes exactly where no row begins or where bytes are left after the last, with that place. It leaves
-    /// the reader where it stood. No memory is taken.
-    #[tactic(auto, using(crate::proofs::Missing::row_missing))]
-    pub fn next_row(&mut self, _alloc: Global) -> Result<Option<Imports<'a>>, Fault>
-        ensures row { IfOk result (λ o. IfSome o (λ row. RowRead import_row self.old (import_tree row) self.new)) }
-        ensures ended { IfOk result (λ o. IfNone o (RowsEnded self.old self.new)) }
-        ensures err { IfErr result (λ e. ReadsNone e (place_of self.old) (RowMissing import_row self.old)) }
-        ensures stays { IfErr result (λ _. self.new ≡ self.old) }
-    {
-        next_row!(self, front_import)
+    #[inline]
+    fn front(_alloc: Global, bytes: &'a [u8]) -> Result<Option<(Imports<'a>, &'a [u8])>, NoMemory> {
+        Ok(front_import(bytes))
     }
 }
 
 /// A reader of the rows of a function section: the index of the type of each function (section 5.5.6).
-#[derive(Drop)]
-pub struct FunctionSectionReader<'a> {
-    rows: Rows<'a>,
-}
+pub type FunctionSectionReader<'a> = SectionReader<'a, kinds::Functions>;
 
-impl<'a> Model for FunctionSectionReader<'a> {
-    ghost use Rattle.wasm_read.specs.Reading.{Standing};
+impl<'a> ReadRow<'a> for kinds::Functions {
+    type Row = u32;
 
-    ghost Value = { Standing };
+    ghost tree = { function_tree };
 
-    ghost view = { λ reader. reader.rows };
-}
-
-impl<'a> FunctionSectionReader<'a> {
-    /// Reads the count of the rows. The error comes exactly where no count begins, with the place 0.
-    pub fn new(body: &'a [u8]) -> Result<Self, Fault>
-        ensures ok { IfOk result (λ reader. CountRead body.now reader) }
-        ensures err { IfErr result (λ e. ReadsNone e 0 (BeginsNoNumber 128 32 32 body.now)) }
-    {
-        match Rows::new(body) {
-            Ok(rows) => Ok(FunctionSectionReader { rows }),
-            Err(fault) => Err(fault),
-        }
-    }
-
-    /// The place in the body where it stands.
-    pub fn place(&self) -> usize
-        ensures { result ≡ place_of self.now }
-    {
-        self.rows.place()
-    }
-
-    /// The next row, or none where all counted rows were given and the body is filled.
-    ///
-    /// The error comes exactly where no row begins or where bytes are left after the last, with that place. It leaves
-    /// the reader where it stood. No memory is taken.
-    #[tactic(auto, using(crate::proofs::Missing::row_missing))]
-    pub fn next_row(&mut self, _alloc: Global) -> Result<Option<u32>, Fault>
-        ensures row { IfOk result (λ o. IfSome o (λ index. RowRead function_row self.old (function_tree index) self.new)) }
-        ensures ended { IfOk result (λ o. IfNone o (RowsEnded self.old self.new)) }
-        ensures err { IfErr result (λ e. ReadsNone e (place_of self.old) (RowMissing function_row self.old)) }
-        ensures stays { IfErr result (λ _. self.new ≡ self.old) }
-    {
-        next_row!(self, front_function)
+    #[inline]
+    fn front(_alloc: Global, bytes: &'a [u8]) -> Result<Option<(u32, &'a [u8])>, NoMemory> {
+        Ok(front_function(bytes))
     }
 }
 
 /// A reader of the rows of a table section: tables that start with null references (section 5.5.7).
-#[derive(Drop)]
-pub struct TableSectionReader<'a> {
-    rows: Rows<'a>,
-}
+pub type TableSectionReader<'a> = SectionReader<'a, kinds::Tables>;
 
-impl<'a> Model for TableSectionReader<'a> {
-    ghost use Rattle.wasm_read.specs.Reading.{Standing};
+impl<'a> ReadRow<'a> for kinds::Tables {
+    type Row = Table<'a>;
 
-    ghost Value = { Standing };
+    ghost tree = { table_tree };
 
-    ghost view = { λ reader. reader.rows };
-}
-
-impl<'a> TableSectionReader<'a> {
-    /// Reads the count of the rows. The error comes exactly where no count begins, with the place 0.
-    pub fn new(body: &'a [u8]) -> Result<Self, Fault>
-        ensures ok { IfOk result (λ reader. CountRead body.now reader) }
-        ensures err { IfErr result (λ e. ReadsNone e 0 (BeginsNoNumber 128 32 32 body.now)) }
-    {
-        match Rows::new(body) {
-            Ok(rows) => Ok(TableSectionReader { rows }),
-            Err(fault) => Err(fault),
-        }
-    }
-
-    /// The place in the body where it stands.
-    pub fn place(&self) -> usize
-        ensures { result ≡ place_of self.now }
-    {
-        self.rows.place()
-    }
-
-    /// The next row, or none where all counted rows were given and the body is filled.
-    ///
-    /// The error comes exactly where no row begins or where bytes are left after the last, with that place. It leaves
-    /// the reader where it stood. No memory is taken.
-    #[tactic(auto, using(crate::proofs::Missing::row_missing))]
-    pub fn next_row(&mut self, _alloc: Global) -> Result<Option<Table<'a>>, Fault>
-        ensures row { IfOk result (λ o. IfSome o (λ row. RowRead table_type self.old (table_tree row) self.new)) }
-        ensures ended { IfOk result (λ o. IfNone o (RowsEnded self.old self.new)) }
-        ensures err { IfErr result (λ e. ReadsNone e (place_of self.old) (RowMissing table_type self.old)) }
-        ensures stays { IfErr result (λ _. self.new ≡ self.old) }
-    {
-        next_row!(self, front_table)
+    #[inline]
+    fn front(_alloc: Global, bytes: &'a [u8]) -> Result<Option<(Table<'a>, &'a [u8])>, NoMemory> {
+        Ok(front_table(bytes))
     }
 }
 
 /// A reader of the rows of a memory section (section 5.5.8).
-#[derive(Drop)]
-pub struct MemorySectionReader<'a> {
-    rows: Rows<'a>,
-}
+pub type MemorySectionReader<'a> = SectionReader<'a, kinds::Memories>;
 
-impl<'a> Model for MemorySectionReader<'a> {
-    ghost use Rattle.wasm_read.specs.Reading.{Standing};
+impl<'a> ReadRow<'a> for kinds::Memories {
+    type Row = MemoryType;
 
-    ghost Value = { Standing };
+    ghost tree = { memory_type_tree };
 
-    ghost view = { λ reader. reader.rows };
-}
-
-impl<'a> MemorySectionReader<'a> {
-    /// Reads the count of the rows. The error comes exactly where no count begins, with the place 0.
-    pub fn new(body: &'a [u8]) -> Result<Self, Fault>
-        ensures ok { IfOk result (λ reader. CountRead body.now reader) }
-        ensures err { IfErr result (λ e. ReadsNone e 0 (BeginsNoNumber 128 32 32 body.now)) }
-    {
-        match Rows::new(body) {
-            Ok(rows) => Ok(MemorySectionReader { rows }),
-            Err(fault) => Err(fault),
-        }
-    }
-
-    /// The place in the body where it stands.
-    pub fn place(&self) -> usize
-        ensures { result ≡ place_of self.now }
-    {
-        self.rows.place()
-    }
-
-    /// The next row, or none where all counted rows were given and the body is filled.
-    ///
-    /// The error comes exactly where no row begins or where bytes are left after the last, with that place. It leaves
-    /// the reader where it stood. No memory is taken.
-    #[tactic(auto, using(crate::proofs::Missing::row_missing))]
-    pub fn next_row(&mut self, _alloc: Global) -> Result<Option<MemoryType>, Fault>
-        ensures row { IfOk result (λ o. IfSome o (λ row. RowRead memory_type self.old (memory_type_tree row) self.new)) }
-        ensures ended { IfOk result (λ o. IfNone o (RowsEnded self.old self.new)) }
-        ensures err { IfErr result (λ e. ReadsNone e (place_of self.old) (RowMissing memory_type self.old)) }
-        ensures stays { IfErr result (λ _. self.new ≡ self.old) }
-    {
-        next_row!(self, front_memory_type)
+    #[inline]
+    fn front(_alloc: Global, bytes: &'a [u8]) -> Result<Option<(MemoryType, &'a [u8])>, NoMemory> {
+        Ok(front_memory_type(bytes))
     }
 }
 
 /// A reader of the rows of a tag section (section 5.5.16).
-#[derive(Drop)]
-pub struct TagSectionReader<'a> {
-    rows: Rows<'a>,
-}
+pub type TagSectionReader<'a> = SectionReader<'a, kinds::Tags>;
 
-impl<'a> Model for TagSectionReader<'a> {
-    ghost use Rattle.wasm_read.specs.Reading.{Standing};
+impl<'a> ReadRow<'a> for kinds::Tags {
+    type Row = TagType;
 
-    ghost Value = { Standing };
+    ghost tree = { tag_type_tree };
 
-    ghost view = { λ reader. reader.rows };
-}
-
-impl<'a> TagSectionReader<'a> {
-    /// Reads the count of the rows. The error comes exactly where no count begins, with the place 0.
-    pub fn new(body: &'a [u8]) -> Result<Self, Fault>
-        ensures ok { IfOk result (λ reader. CountRead body.now reader) }
-        ensures err { IfErr result (λ e. ReadsNone e 0 (BeginsNoNumber 128 32 32 body.now)) }
-    {
-        match Rows::new(body) {
-            Ok(rows) => Ok(TagSectionReader { rows }),
-            Err(fault) => Err(fault),
-        }
-    }
-
-    /// The place in the body where it stands.
-    pub fn place(&self) -> usize
-        ensures { result ≡ place_of self.now }
-    {
-        self.rows.place()
-    }
-
-    /// The next row, or none where all counted rows were given and the body is filled.
-    ///
-    /// The error comes exactly where no row begins or where bytes are left after the last, with that place. It leaves
-    /// the reader where it stood. No memory is taken.
-    #[tactic(auto, using(crate::proofs::Missing::row_missing))]
-    pub fn next_row(&mut self, _alloc: Global) -> Result<Option<TagType>, Fault>
-        ensures row { IfOk result (λ o. IfSome o (λ row. RowRead tag_type self.old (tag_type_tree row) self.new)) }
-        ensures ended { IfOk result (λ o. IfNone o (RowsEnded self.old self.new)) }
-        ensures err { IfErr result (λ e. ReadsNone e (place_of self.old) (RowMissing tag_type self.old)) }
-        ensures stays { IfErr result (λ _. self.new ≡ self.old) }
-    {
-        next_row!(self, front_tag_type)
+    #[inline]
+    fn front(_alloc: Global, bytes: &'a [u8]) -> Result<Option<(TagType, &'a [u8])>, NoMemory> {
+        Ok(front_tag_type(bytes))
     }
 }
 
-/// A reader of the rows of an export section (section 5.5.10).
-#[derive(Drop)]
-pub struct ExportSectionReader<'a> {
-    rows: Rows<'a>,
+/// A reader of the rows of an export section (section 5.5.10). The byte behind a name is that of the kind.
+pub type ExportSectionReader<'a> = SectionReader<'a, kinds::Exports>;
+
+impl<'a> ReadRow<'a> for kinds::Exports {
+    type Row = Export<'a>;
+
+    ghost tree = { export_tree };
+
+    ghost beside = { ExportKind };
+
+    #[inline]
+    fn front(_alloc: Global, bytes: &'a [u8]) -> Result<Option<(Export<'a>, &'a [u8])>, NoMemory> {
+        Ok(front_export(bytes))
+    }
 }
 
-impl<'a> Model for ExportSectionReader<'a> {
-    ghost use Rattle.wasm_read.specs.Reading.{Standing};
+/// The frames of the bodies of functions, of whose contents nothing is said: the rows of a code section as they are
+/// read.
+pub struct BodyFrames;
 
-    ghost Value = { Standing };
+impl SectionKind for BodyFrames {
+    ghost use Rattle.std.specs.Prelude.{refl};
+    ghost use Rattle.std.proofs.Common.{lit≤};
+    ghost use Rattle.wasm_shapes.specs.declared.SectionId.TheVariants as id;
+    ghost use Rattle.wasm_read.specs.Operations.{frame_row};
 
-    ghost view = { λ reader. reader.rows };
+    ghost kind = { id.Code };
+
+    ghost shape = { frame_row };
+
+    ghost ID = { 10 };
+
+    const ID: u8 = 10;
+
+    ghost is_sound = { refl };
+
+    ghost is_closed = { refl };
+
+    ghost rows_sound = { refl };
+
+    ghost small = { lit≤ tt };
 }
 
-impl<'a> ExportSectionReader<'a> {
-    /// Reads the count of the rows. The error comes exactly where no count begins, with the place 0.
-    pub fn new(body: &'a [u8]) -> Result<Self, Fault>
-        ensures ok { IfOk result (λ reader. CountRead body.now reader) }
-        ensures err { IfErr result (λ e. ReadsNone e 0 (BeginsNoNumber 128 32 32 body.now)) }
-    {
-        match Rows::new(body) {
-            Ok(rows) => Ok(ExportSectionReader { rows }),
-            Err(fault) => Err(fault),
-        }
-    }
+/// A reader of the rows of a code section: the frames of function bodies, of whose contents nothing is said (section
+/// 5.5.13).
+pub type CodeSectionReader<'a> = SectionReader<'a, BodyFrames>;
 
-    /// The place in the body where it stands.
-    pub fn place(&self) -> usize
-        ensures { result ≡ place_of self.now }
-    {
-        self.rows.place()
-    }
+impl<'a> ReadRow<'a> for BodyFrames {
+    type Row = FunctionBody<'a>;
 
-    /// The next row, or none where all counted rows were given and the body is filled.
-    ///
-    /// The error comes exactly where no row begins or where bytes are left after the last, with that place. It leaves
-    /// the reader where it stood. No memory is taken.
-    #[tactic(auto, using(crate::proofs::Missing::row_missing))]
-    pub fn next_row(&mut self, _alloc: Global) -> Result<Option<Export<'a>>, Fault>
-        ensures row { IfOk result (λ o. IfSome o (λ row. RowRead export_row self.old (export_tree row) self.new)) }
-        ensures ended { IfOk result (λ o. IfNone o (RowsEnded self.old self.new)) }
-        ensures err { IfErr result (λ e. ReadsNone e (place_of self.old) (RowMissing export_row self.old)) }
-        ensures stays { IfErr result (λ _. self.new ≡ self.old) }
-    {
-        next_row!(self, front_export)
+    ghost tree = { body_tree };
+
+    #[inline]
+    fn front(
+        _alloc: Global,
+        bytes: &'a [u8],
+    ) -> Result<Option<(FunctionBody<'a>, &'a [u8])>, NoMemory> {
+        Ok(front_body(bytes))
     }
 }

@@ -2,7 +2,7 @@
 ghost use Rattle.std.specs.Prelude.{◌≡◌, ◌<◌, ◌≤◌, ◌⊎◌, length, drop, IfOk, IfErr, IfSome, IfNone};
 ghost use Rattle.wasm_shapes.specs.Place.{Begins, BeginsNone};
 ghost use Rattle.wasm_shapes.specs.Shape.{Shape, Named, abstract_rows, concrete_rows, heap, reference, storage, field};
-ghost use Rattle.wasm_read.specs.Types.{abstract_byte, shared_tree, concrete_tree, heap_type_tree, ref_type_tree, val_type_tree, storage_type_tree, field_type_tree};
+ghost use Rattle.wasm_read.specs.Types.{abstract_byte, abstract_tree, shared_tree, concrete_tree, heap_type_tree, ref_type_tree, val_type_tree, storage_type_tree, field_type_tree};
 
 use crate::fields::from_place;
 use crate::types::{
@@ -38,7 +38,8 @@ fn abstract_of(byte: u8) -> Option<AbstractHeapType>
 /// The abstract heap type at the front of some bytes and whether it is shared, and the bytes behind it.
 #[inline(always)]
 fn front_abstract(bytes: &[u8]) -> Option<(bool, AbstractHeapType, &[u8])>
-    ensures some { IfSome result (λ r. Begins abstract_rows bytes.now (shared_tree r.0 r.1) r.2.now) }
+    ensures some { IfSome result (λ r.
+        Begins abstract_rows bytes.now (shared_tree r.0 (abstract_tree r.1)) r.2.now) }
     ensures none { IfNone result (BeginsNone abstract_rows bytes.now) }
 {
     let Some((first, rest)) = front_byte(bytes) else {
@@ -139,7 +140,8 @@ pub fn front_ref_type(bytes: &[u8]) -> Option<(RefType, &[u8])>
 
 /// The value type at the front of some bytes, and the bytes behind it.
 pub fn front_val_type(bytes: &[u8]) -> Option<(ValType, &[u8])>
-    ensures some { IfSome result (λ r. Begins (Shape.ref Named.value) bytes.now (val_type_tree r.0) r.1.now) }
+    ensures some { IfSome result (λ r.
+        Begins (Shape.ref Named.value) bytes.now (val_type_tree r.0) r.1.now) }
     ensures none { IfNone result (BeginsNone (Shape.ref Named.value) bytes.now) }
 {
     let Some((first, rest)) = front_byte(bytes) else {
@@ -162,9 +164,12 @@ pub fn front_val_type(bytes: &[u8]) -> Option<(ValType, &[u8])>
 ///
 /// The error holds the place that was asked for, and comes exactly where no value type begins there, as past the end.
 pub fn read_val_type(bytes: &[u8], at: usize) -> Result<(ValType, usize), ReadError>
-    ensures ok { IfOk result (λ r. Begins (Shape.ref Named.value) (drop at bytes.now) (val_type_tree r.0) (drop r.1 bytes.now)) }
+    ensures ok { IfOk result (λ r.
+        Begins (Shape.ref Named.value) (drop at bytes.now)
+        (val_type_tree r.0) (drop r.1 bytes.now)) }
     ensures forward { IfOk result (λ r. (at < r.1) × (r.1 ≤ length bytes.now)) }
-    ensures err { IfErr result (λ e. (e.at ≡ at) × BeginsNone (Shape.ref Named.value) (drop at bytes.now)) }
+    ensures err { IfErr result (λ e.
+        (e.at ≡ at) × BeginsNone (Shape.ref Named.value) (drop at bytes.now)) }
 {
     match front_val_type(from_place(bytes, at)) {
         Some((ty, rest)) => Ok((ty, bytes.len() - rest.len())),

@@ -1,9 +1,12 @@
 -- The normal spelling spells its tree.
 use Rattle.std.specs.Prelude.{None}
 use Rattle.std.proofs.Common.{◌≡◌, ℕ, ℤ, pos, negsuc, zero, suc, ◌+◌, ◌-◌, ◌^◌, ◌<◌, ◌≤◌, List, [], ◌∷◌, ◌++◌, length, get_or, drop, refl, sym, ap, arith, All, inl, inr, get_or-drop}
+use Rattle.std.specs.Coded.{le_prop}
 use Rattle.std.proofs.lemmas.List.Elements.{All-cons, All-head, All-tail}
-use Rattle.wasm_leb.specs.Leb.{leb, IsSigned}
-use Rattle.wasm_leb.proofs.Shortest.{leb_spells, leb_spells_64, signed_leb_spells, s32_spells, s64_spells, FitsBits}
+use Rattle.std.proofs.lemmas.Str.{IsUtf8-had}
+use mathlib.Core.Logic.{∥∥₁_elim, ∥∥₁_map}
+use Rattle.wasm_leb.specs.Leb.{FitsBits, leb, IsSigned}
+use Rattle.wasm_leb.proofs.Shortest.{leb_spells, leb_spells_64, signed_leb_spells, s32_spells, s64_spells}
 use Rattle.wasm_shapes.specs.Operators.{Code, plain, prefixed}
 use Rattle.wasm_shapes.specs.Tree.{code_bytes, mem_bytes, final_bytes, placed_bytes, Tree, count, normal, frames, after, before, fill, aimed_at, Listed, typed, left_flag, aimed_flag}
 use Rattle.wasm_shapes.specs.Shape.{Shape, listing}
@@ -184,6 +187,56 @@ spelled_in_range (Tree.placed i o t) x p = (place_in_range i p.0 p.4, spelled_in
 spelled_in_range (Tree.told k t) x p = spelled_in_range t x p
 spelled_in_range Tree.finish x p = tt
 spelled_in_range (Tree.also t u) x p = (spelled_in_range t p.0 p.3, spelled_in_range u p.1 p.4)
+
+-- ---- a tree that is in range in some way is so
+
+below_had : {n m : ℕ} → ∥ n < m ∥₁ → n < m
+below_had h = ∥∥₁_elim h le_prop (λ r. r)
+
+code_had : (c : Code) → ∥ CodeInRange c ∥₁ → CodeInRange c
+code_had (plain b) h = tt
+code_had (prefixed p n) h = below_had h
+
+signed_had : (bits : ℕ) (z : ℤ) → ∥ FitsBits bits z ∥₁ → FitsBits bits z
+signed_had bits (pos n) h = below_had h
+signed_had bits (negsuc n) h = below_had h
+
+pub in_range_had : (t : Tree) → ∥ InRange t ∥₁ → InRange t
+in_range_had (Tree.byte b) h = below_had h
+in_range_had (Tree.u32 n) h = below_had h
+in_range_had (Tree.u64 n) h = below_had h
+in_range_had (Tree.s32 z) h = signed_had 32 z h
+in_range_had (Tree.s64 z) h = signed_had 64 z h
+in_range_had (Tree.ix s i) h = below_had h
+in_range_had (Tree.sx s i) h = below_had h
+in_range_had (Tree.outer s c i) h = (below_had (∥∥₁_map h (λ r. r.0)), below_had (∥∥₁_map h (λ r. r.1)))
+in_range_had (Tree.name bs) h = (below_had (∥∥₁_map h (λ r. r.0)), IsUtf8-had bs (∥∥₁_map h (λ r. r.1)))
+in_range_had (Tree.content bs) h = below_had h
+in_range_had (Tree.mem a i o) h = (below_had (∥∥₁_map h (λ r. r.0)), below_had (∥∥₁_map h (λ r. r.1)), below_had (∥∥₁_map h (λ r. r.2)))
+in_range_had (Tree.canonical i) h = ∥∥₁_elim h (λ r s. absurd r) (λ r. r)
+in_range_had (Tree.flag n) h = below_had h
+in_range_had (Tree.pair t u) h = (in_range_had t (∥∥₁_map h (λ r. r.0)), in_range_had u (∥∥₁_map h (λ r. r.1)))
+in_range_had (Tree.swap t u) h = (in_range_had t (∥∥₁_map h (λ r. r.0)), in_range_had u (∥∥₁_map h (λ r. r.1)))
+in_range_had (Tree.cons t u) h = (in_range_had t (∥∥₁_map h (λ r. r.0)), in_range_had u (∥∥₁_map h (λ r. r.1)))
+in_range_had (Tree.vec t) h = (below_had (∥∥₁_map h (λ r. r.0)), in_range_had t (∥∥₁_map h (λ r. r.1)))
+in_range_had (Tree.present t) h = in_range_had t h
+in_range_had (Tree.sized t) h = in_range_had t h
+in_range_had (Tree.row k t) h = in_range_had t h
+in_range_had (Tree.scope t) h = in_range_had t h
+in_range_had (Tree.spare b t) h = in_range_had t h
+in_range_had (Tree.kept b t) h = in_range_had t h
+in_range_had (Tree.final t u) h =
+    (below_had (∥∥₁_map h (λ r. r.0)), in_range_had t (∥∥₁_map h (λ r. r.1)), in_range_had u (∥∥₁_map h (λ r. r.2)))
+in_range_had (Tree.until b t) h = in_range_had t h
+in_range_had (Tree.op c t) h = (code_had c (∥∥₁_map h (λ r. r.0)), in_range_had t (∥∥₁_map h (λ r. r.1)))
+in_range_had (Tree.left w o t) h = (in_range_had o (∥∥₁_map h (λ r. r.0)), in_range_had t (∥∥₁_map h (λ r. r.1)))
+in_range_had (Tree.aimed w i o t) h =
+    (below_had (∥∥₁_map h (λ r. r.0)), in_range_had o (∥∥₁_map h (λ r. r.1)), in_range_had t (∥∥₁_map h (λ r. r.2)))
+in_range_had (Tree.placed i o t) h =
+    (below_had (∥∥₁_map h (λ r. r.0)), in_range_had o (∥∥₁_map h (λ r. r.1)), in_range_had t (∥∥₁_map h (λ r. r.2)))
+in_range_had (Tree.told k t) h = in_range_had t h
+in_range_had (Tree.also t u) h = (in_range_had t (∥∥₁_map h (λ r. r.0)), in_range_had u (∥∥₁_map h (λ r. r.1)))
+in_range_had _ h = tt
 
 -- ---- filling
 

@@ -1,6 +1,6 @@
 -- What a tree needs to have a spelling, and a ceiling on its frames.
 use Rattle.std.specs.Prelude.{ℕ, ◌^◌, ◌<◌, ◌≤◌, length, IsUtf8, All}
-use Rattle.wasm_leb.proofs.Shortest.{FitsBits}
+use Rattle.wasm_leb.specs.Leb.{FitsBits}
 use Rattle.wasm_shapes.specs.Operators.{Code, plain, prefixed}
 use Rattle.wasm_shapes.specs.Tree.{Tree, count, frames}
 

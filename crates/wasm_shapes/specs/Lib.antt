@@ -12,3 +12,4 @@ pub mod Sound
 pub mod Spells
 pub mod Tree
 pub mod TreeCode
+pub mod Types

@@ -7,6 +7,7 @@ use Rattle.wasm_shapes.specs.Tree.{Tree}
 use Rattle.wasm_shapes.specs.Shape.{Shape, Named, choice, lead, table_type, memory_type, tag_type, entity}
 use Rattle.wasm_shapes.specs.Spells.{Spells}
 use Rattle.wasm_shapes.specs.Place.{BeginsNone}
+use Rattle.wasm_shapes.specs.SectionTable.{Kind, of_body, framed_tree, shapes_of, place_in, body_in, item_of}
 
 abbrev pub core_header : List ℕ
 core_header = 0x00 ∷ 0x61 ∷ 0x73 ∷ 0x6d ∷ 0x01 ∷ 0x00 ∷ 0x00 ∷ 0x00 ∷ []
@@ -68,45 +69,29 @@ code = Shape.vec code_row
 
 -- ---- sections
 
--- a section of a kind, by its id and its body
-abbrev pub framed : SectionId → ℕ → Shape → Shape
-framed k n body = Shape.told k (lead n (Shape.sized body))
+-- the kinds of sections that a module has
+abbrev pub in_force : List Kind
+in_force =
+    of_body id.Type_ types ∷ of_body id.Import imports ∷ of_body id.Function functions ∷ of_body id.Table tables ∷
+    of_body id.Memory memories ∷ of_body id.Export exports ∷ of_body id.Code code ∷ of_body id.Tag tags ∷ []
 
--- the sections that a module has
 abbrev pub section : Shape
-section = choice (
-    framed id.Type_ 1 types ∷ framed id.Function 3 functions ∷ framed id.Export 7 exports ∷ framed id.Code 10 code ∷
-    framed id.Import 2 imports ∷ framed id.Table 4 tables ∷ framed id.Memory 5 memories ∷ framed id.Tag 13 tags ∷ [])
+section = choice (shapes_of in_force)
 
 abbrev pub sections : Shape
 sections = Shape.sections section
 
-abbrev pub framed_tree : SectionId → ℕ → Tree → Tree
-framed_tree k n body = Tree.told k (Tree.pair (Tree.fixed n) (Tree.sized body))
+-- the bodies of the sections of a kind; none where it is not in force
+abbrev pub body_of : SectionId → Shape
+body_of k = body_in in_force k
 
-abbrev pub type_section : Tree → Tree
-type_section body = Tree.row 0 (framed_tree id.Type_ 1 body)
+-- their rows; none where they are no vectors
+abbrev pub row_of : SectionId → Shape
+row_of k = item_of (body_of k)
 
-abbrev pub function_section : Tree → Tree
-function_section body = Tree.row 1 (framed_tree id.Function 3 body)
-
-abbrev pub export_section : Tree → Tree
-export_section body = Tree.row 2 (framed_tree id.Export 7 body)
-
-abbrev pub code_section : Tree → Tree
-code_section body = Tree.row 3 (framed_tree id.Code 10 body)
-
-abbrev pub import_section : Tree → Tree
-import_section body = Tree.row 4 (framed_tree id.Import 2 body)
-
-abbrev pub table_section : Tree → Tree
-table_section body = Tree.row 5 (framed_tree id.Table 4 body)
-
-abbrev pub memory_section : Tree → Tree
-memory_section body = Tree.row 6 (framed_tree id.Memory 5 body)
-
-abbrev pub tag_section : Tree → Tree
-tag_section body = Tree.row 7 (framed_tree id.Tag 13 body)
+-- a section by its kind and its body
+abbrev pub tree_of : SectionId → Tree → Tree
+tree_of k body = Tree.row (place_in in_force k) (framed_tree k body)
 
 -- sections, and others behind them
 abbrev pub alsos : List Tree → Tree → Tree

@@ -1,10 +1,9 @@
--- The kinds of sections that are in force, as one table.
-use Rattle.std.specs.Prelude.{ℕ, suc, List, [], ◌∷◌, if◌then◌else◌, nat_eq}
+-- Tables of kinds of sections, and the sections of a table.
+use Rattle.std.specs.Prelude.{ℕ, suc, List, [], ◌∷◌, Bool, true, ◌&&◌, if◌then◌else◌, nat_eq, nat_le}
 use Rattle.wasm_shapes.specs.declared.SectionId.{SectionId}
 use Rattle.wasm_shapes.specs.declared.SectionId.TheVariants as id
 use Rattle.wasm_shapes.specs.Tree.{Tree}
-use Rattle.wasm_shapes.specs.Shape.{Shape}
-use Rattle.wasm_shapes.specs.Module.{framed, framed_tree, types, imports, functions, tables, memories, tags, exports, code}
+use Rattle.wasm_shapes.specs.Shape.{Shape, lead}
 
 -- the id of a section of a kind
 abbrev pub number : SectionId → ℕ
@@ -31,28 +30,34 @@ pub record Kind : Type 0 where
 abbrev pub of_body : SectionId → Shape → Kind
 of_body k s = record { name = k; body = s }
 
-abbrev pub in_force : List Kind
-in_force =
-    of_body id.Type_ types ∷ of_body id.Function functions ∷ of_body id.Export exports ∷ of_body id.Code code ∷
-    of_body id.Import imports ∷ of_body id.Table tables ∷ of_body id.Memory memories ∷ of_body id.Tag tags ∷ []
+-- a section of a kind, by its body
+abbrev pub framed : SectionId → Shape → Shape
+framed k s = Shape.told k (lead (number k) (Shape.sized s))
 
+abbrev pub framed_tree : SectionId → Tree → Tree
+framed_tree k body = Tree.told k (Tree.pair (Tree.fixed (number k)) (Tree.sized body))
+
+-- the sections of a table
 abbrev pub shapes_of : List Kind → List Shape
 shapes_of [] = []
-shapes_of (x ∷ xs) = framed x.name (number x.name) x.body ∷ shapes_of xs
+shapes_of (x ∷ xs) = framed x.name x.body ∷ shapes_of xs
 
 -- where a kind stands in a table
 abbrev pub place_in : List Kind → SectionId → ℕ
 place_in [] k = 0
 place_in (x ∷ xs) k = if nat_eq (number x.name) (number k) then 0 else suc (place_in xs k)
 
--- the shape of its bodies, and none where it is not in force
+-- the shape of its bodies, and none where it is not in the table
 abbrev pub body_in : List Kind → SectionId → Shape
 body_in [] k = Shape.none
 body_in (x ∷ xs) k = if nat_eq (number x.name) (number k) then x.body else body_in xs k
 
-abbrev pub body_of : SectionId → Shape
-body_of k = body_in in_force k
+-- the items of a vector
+abbrev pub item_of : Shape → Shape
+item_of (Shape.vec s) = s
+item_of _ = Shape.none
 
--- a section by its kind and its body
-abbrev pub tree_of : SectionId → Tree → Tree
-tree_of k body = Tree.row (place_in in_force k) (framed_tree k (number k) body)
+-- the kinds stand in the order of their ids, which lie between these
+abbrev pub ascending : ℕ → ℕ → List Kind → Bool
+ascending low high [] = true
+ascending low high (x ∷ xs) = nat_le low (number x.name) && (nat_le (number x.name) high && ascending (suc (number x.name)) high xs)

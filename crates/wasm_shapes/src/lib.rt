@@ -84,6 +84,35 @@ pub enum SectionId {
     Tag,
 }
 
+// The ids of the public standard.
+const _: () = prove!(SectionId::Custom as u8 == 0);
+
+const _: () = prove!(SectionId::Type_ as u8 == 1);
+
+const _: () = prove!(SectionId::Import as u8 == 2);
+
+const _: () = prove!(SectionId::Function as u8 == 3);
+
+const _: () = prove!(SectionId::Table as u8 == 4);
+
+const _: () = prove!(SectionId::Memory as u8 == 5);
+
+const _: () = prove!(SectionId::Global as u8 == 6);
+
+const _: () = prove!(SectionId::Export as u8 == 7);
+
+const _: () = prove!(SectionId::Start as u8 == 8);
+
+const _: () = prove!(SectionId::Element as u8 == 9);
+
+const _: () = prove!(SectionId::Code as u8 == 10);
+
+const _: () = prove!(SectionId::Data as u8 == 11);
+
+const _: () = prove!(SectionId::DataCount as u8 == 12);
+
+const _: () = prove!(SectionId::Tag as u8 == 13);
+
 /// What a re-encoder is asked: an index of a space, an outer index with the count of scopes that it leaves,
 /// the hook before a section (after which kind, before which kind), and the begin and the end of a scope.
 #[derive(Clone, Copy, Debug, PartialEq)]

@@ -74,6 +74,35 @@ pub const REF_FUNC: Opcode = Opcode {
     sub: 0xd2,
 };
 
+// The numbers by which the public standard knows them (WebAssembly Core Specification 3.0, section 5.4).
+const _: () = prove!(UNREACHABLE.prefix == 0 && UNREACHABLE.sub == 0x00);
+
+const _: () = prove!(NOP.prefix == 0 && NOP.sub == 0x01);
+
+const _: () = prove!(BLOCK.prefix == 0 && BLOCK.sub == 0x02);
+
+const _: () = prove!(END.prefix == 0 && END.sub == 0x0b);
+
+const _: () = prove!(BR.prefix == 0 && BR.sub == 0x0c);
+
+const _: () = prove!(CALL.prefix == 0 && CALL.sub == 0x10);
+
+const _: () = prove!(CALL_INDIRECT.prefix == 0 && CALL_INDIRECT.sub == 0x11);
+
+const _: () = prove!(DROP.prefix == 0 && DROP.sub == 0x1a);
+
+const _: () = prove!(LOCAL_GET.prefix == 0 && LOCAL_GET.sub == 0x20);
+
+const _: () = prove!(GLOBAL_GET.prefix == 0 && GLOBAL_GET.sub == 0x23);
+
+const _: () = prove!(I32_LOAD.prefix == 0 && I32_LOAD.sub == 0x28);
+
+const _: () = prove!(I32_CONST.prefix == 0 && I32_CONST.sub == 0x41);
+
+const _: () = prove!(I32_ADD.prefix == 0 && I32_ADD.sub == 0x6a);
+
+const _: () = prove!(REF_FUNC.prefix == 0 && REF_FUNC.sub == 0xd2);
+
 static NONE: [ImmKind; 0] = [];
 
 static FUNCTION: [ImmKind; 1] = [ImmKind::Index(Space::Function)];

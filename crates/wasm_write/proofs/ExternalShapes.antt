@@ -1,12 +1,10 @@
--- The trees of tables, memories, globals, tags and of what is imported have the shapes of their tables, and no frames.
+-- The trees of tables, memories, globals, tags and of what is imported have the shapes of their tables.
 use Rattle.std.specs.Option.{is_some}
-use Rattle.std.proofs.Common.{◌≡◌, ℕ, zero, suc, Bool, true, false, List, [], ◌∷◌, ◌++◌, get_or, Option, Some, None, refl, sym, ap₂, subst}
-use Rattle.wasm_shapes.specs.Tree.{Tree, normal, frames}
-use Rattle.wasm_shapes.specs.Shape.{Shape, Named, choice, lead, bounds, paged, four_limits, table_limits, memory_type, table_type, global_type, tag_type, entity}
+use Rattle.std.proofs.Common.{◌≡◌, ℕ, zero, suc, Bool, true, false, List, [], ◌∷◌, get_or, Option, Some, None, refl, sym, subst}
+use Rattle.wasm_shapes.specs.Tree.{Tree}
+use Rattle.wasm_shapes.specs.Shape.{Shape, choice, lead, bounds, paged, four_limits, memory_type, table_type, global_type, tag_type, entity}
 use Rattle.wasm_shapes.specs.Module.{import_row}
-use Rattle.wasm_shapes.specs.Spells.{Is, Spells}
-use Rattle.wasm_shapes.specs.Fits.{InRange}
-use Rattle.wasm_shapes.proofs.ReadBack.{read_back}
+use Rattle.wasm_shapes.specs.Spells.{Is}
 use Rattle.wasm_write.specs.declared.types.TableType.{TableType}
 use Rattle.wasm_write.specs.declared.types.MemoryType.{MemoryType}
 use Rattle.wasm_write.specs.declared.types.GlobalType.{GlobalType}
@@ -15,9 +13,10 @@ use Rattle.wasm_write.specs.declared.types.EntityType.{EntityType}
 use Rattle.wasm_write.specs.declared.types.EntityType.TheVariants as variant
 use Rattle.wasm_write.specs.declared.types.Imports.{Imports}
 use Rattle.wasm_write.specs.declared.types.Imports.TheVariants as imported
-use Rattle.wasm_write.specs.Types.{led, limits_flags, bounds_tree, paged_tree, limits_tree, table_type_tree, memory_type_tree, global_flags, global_type_tree, tag_type_tree, entity_tree}
+use Rattle.wasm_shapes.specs.Types.{led, limits_flags, bounds_tree, paged_tree, limits_tree, global_flags}
+use Rattle.wasm_write.specs.Types.{table_type_tree, memory_type_tree, global_type_tree, tag_type_tree, entity_tree}
 use Rattle.wasm_write.specs.Rows.{import_tree}
-use Rattle.wasm_write.proofs.TypeShapes.{frameless_fits, reference_is, reference_frameless, value_is, value_frameless}
+use Rattle.wasm_write.proofs.TypeShapes.{reference_is, value_is}
 
 -- a row by its number
 row_at : (rows : List Shape) (k : ℕ) {t : Tree} → Is (get_or rows k Shape.none) t → Is (choice rows) (Tree.row k t)
@@ -31,17 +30,9 @@ bounds_is : (minimum : ℕ) (maximum : Option ℕ) → Is (bounds (is_some maxim
 bounds_is minimum None = Is.u64
 bounds_is minimum (Some maximum) = Is.seq Is.u64 Is.u64
 
-bounds_frameless : (minimum : ℕ) (maximum : Option ℕ) → frames (bounds_tree minimum maximum) ≡ []
-bounds_frameless minimum None = refl
-bounds_frameless minimum (Some maximum) = refl
-
 paged_is : (page : Option ℕ) {s : Shape} {t : Tree} → Is s t → Is (paged (is_some page) s) (paged_tree page t)
 paged_is None d = d
 paged_is (Some page) d = Is.seq d Is.u32
-
-paged_frameless : (page : Option ℕ) (t : Tree) → frames t ≡ [] → frames (paged_tree page t) ≡ []
-paged_frameless None t e = e
-paged_frameless (Some page) t e = ap₂ (λ (y z : List ℕ). y ++ z) e refl
 
 -- limits in the row that their flags say
 limits_are : (rows : List Shape) (flags : ℕ) {s : Shape} {t : Tree} → get_or rows flags Shape.none ≡ lead flags s → Is s t → Is (choice rows) (limits_tree flags t)
@@ -85,22 +76,15 @@ memory_row true true true true = refl
 
 -- ---- what is imported
 
-table_type_is : (ty : TableType) → Is table_type (table_type_tree ty)
+pub table_type_is : (ty : TableType) → Is table_type (table_type_tree ty)
 table_type_is ty =
     Is.seq (reference_is ty.element_type.nullable ty.element_type.heap_type)
     (limits_are table_rows _ (table_row (is_some ty.maximum) ty.shared ty.table64) (bounds_is ty.minimum ty.maximum))
 
-table_type_frameless : (ty : TableType) → frames (table_type_tree ty) ≡ []
-table_type_frameless ty =
-    ap₂ (λ (y z : List ℕ). y ++ z) (reference_frameless ty.element_type.nullable ty.element_type.heap_type) (bounds_frameless ty.minimum ty.maximum)
-
-memory_type_is : (ty : MemoryType) → Is memory_type (memory_type_tree ty)
+pub memory_type_is : (ty : MemoryType) → Is memory_type (memory_type_tree ty)
 memory_type_is ty =
     limits_are memory_rows _ (memory_row (is_some ty.maximum) ty.shared ty.memory64 (is_some ty.page_size_log2))
     (paged_is ty.page_size_log2 (bounds_is ty.minimum ty.maximum))
-
-memory_type_frameless : (ty : MemoryType) → frames (memory_type_tree ty) ≡ []
-memory_type_frameless ty = paged_frameless ty.page_size_log2 _ (bounds_frameless ty.minimum ty.maximum)
 
 abbrev global_rows : List Shape
 global_rows = Shape.fixed 0 ∷ Shape.fixed 1 ∷ Shape.fixed 2 ∷ Shape.fixed 3 ∷ []
@@ -117,10 +101,7 @@ global_type_is ty =
     let P : Shape → Type 0 = λ z. Is z (Tree.fixed flags) in
     Is.seq (value_is ty.val_type) (row_at global_rows flags (subst P (sym (global_row ty.mutable ty.shared)) Is.fixed))
 
-global_type_frameless : (ty : GlobalType) → frames (global_type_tree ty) ≡ []
-global_type_frameless ty = ap₂ (λ (y z : List ℕ). y ++ z) (value_frameless ty.val_type) refl
-
-tag_type_is : (ty : TagType) → Is tag_type (tag_type_tree ty)
+pub tag_type_is : (ty : TagType) → Is tag_type (tag_type_tree ty)
 tag_type_is ty = Is.seq Is.fixed Is.ix
 
 entity_is : (ty : EntityType) → Is entity (entity_tree ty)
@@ -131,34 +112,5 @@ entity_is (variant.Global ty) = Is.later {k = 2} (Is.later {k = 1} (Is.later {k 
 entity_is (variant.Tag ty) = Is.later {k = 3} (Is.later {k = 2} (Is.later {k = 1} (Is.later {k = 0} (Is.first (Is.seq Is.fixed (tag_type_is ty))))))
 entity_is (variant.FunctionExact i) = Is.later {k = 4} (Is.later {k = 3} (Is.later {k = 2} (Is.later {k = 1} (Is.later {k = 0} (Is.first (Is.seq Is.fixed Is.ix))))))
 
-entity_frameless : (ty : EntityType) → frames (entity_tree ty) ≡ []
-entity_frameless (variant.Function i) = refl
-entity_frameless (variant.Table ty) = table_type_frameless ty
-entity_frameless (variant.Memory ty) = memory_type_frameless ty
-entity_frameless (variant.Global ty) = global_type_frameless ty
-entity_frameless (variant.Tag ty) = refl
-entity_frameless (variant.FunctionExact i) = refl
-
-import_is : (row : Imports) → Is import_row (import_tree row)
+pub import_is : (row : Imports) → Is import_row (import_tree row)
 import_is (imported.Single row) = Is.seq Is.name (Is.seq Is.name (entity_is row.ty))
-
-import_frameless : (row : Imports) → frames (import_tree row) ≡ []
-import_frameless (imported.Single row) = entity_frameless row.ty
-
--- ---- what is in range is spelled
-
-module _ (s : Shape) (t : Tree) (d : Is s t) (e : frames t ≡ []) (r : InRange t) where
-  frameless_spelled : Spells s (normal t) t
-  frameless_spelled = record { shaped = d; spelled = read_back t r (frameless_fits t e) }
-
-pub table_type_spelled : (ty : TableType) → InRange (table_type_tree ty) → Spells table_type (normal (table_type_tree ty)) (table_type_tree ty)
-table_type_spelled ty r = frameless_spelled table_type (table_type_tree ty) (table_type_is ty) (table_type_frameless ty) r
-
-pub memory_type_spelled : (ty : MemoryType) → InRange (memory_type_tree ty) → Spells memory_type (normal (memory_type_tree ty)) (memory_type_tree ty)
-memory_type_spelled ty r = frameless_spelled memory_type (memory_type_tree ty) (memory_type_is ty) (memory_type_frameless ty) r
-
-pub tag_type_spelled : (ty : TagType) → InRange (tag_type_tree ty) → Spells tag_type (normal (tag_type_tree ty)) (tag_type_tree ty)
-tag_type_spelled ty r = frameless_spelled tag_type (tag_type_tree ty) (tag_type_is ty) refl r
-
-pub import_spelled : (row : Imports) → InRange (import_tree row) → Spells import_row (normal (import_tree row)) (import_tree row)
-import_spelled row r = frameless_spelled import_row (import_tree row) (import_is row) (import_frameless row) r

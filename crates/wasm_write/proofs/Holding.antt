@@ -1,6 +1,5 @@
 -- Rows that are held, and one more.
-use Rattle.std.proofs.Common.{◌≡◌, ℕ, suc, ◌+◌, ◌<◌, ◌^◌, List, [], ◌∷◌, ◌++◌, length, refl, sym, ap, ap₂, ◌∙◌, append-nil, append_assoc, subst, true, length-append, Result, Ok, Err, OnOk, take}
-use Rattle.std.proofs.Math.Seq.{take-append_seam}
+use Rattle.std.proofs.Common.{◌≡◌, ℕ, suc, ◌+◌, ◌<◌, ◌^◌, List, [], ◌∷◌, ◌++◌, length, refl, sym, ap, ap₂, ◌∙◌, append-nil, append_assoc, subst, true, length-append, Result, Ok, Err, OnOk}
 use Rattle.std.specs.Coded.{Coded-set, coded_ℕ, coded_list}
 use mathlib.Core.Logic.{∥∥₁_elim, ∥∥₁_map, ∥∥₁_prop}
 use Rattle.wasm_leb.specs.Leb.{leb}
@@ -9,7 +8,8 @@ use Rattle.wasm_shapes.specs.Tree.{Tree, count, normal}
 use Rattle.wasm_shapes.specs.Shape.{Shape}
 use Rattle.wasm_shapes.specs.Sound.{sound}
 use Rattle.wasm_shapes.specs.Spells.{Is, Spelled, Spells}
-use Rattle.wasm_write.specs.Held.{BodySpells, AreHeld, Held, Held-one, held_rows, rows_tree, body_tree}
+use Rattle.wasm_shapes.specs.Types.{rows_tree, vector_tree}
+use Rattle.wasm_write.specs.Held.{BodySpells, AreHeld, Held, Held-one, held_rows}
 
 -- ---- rows as a tree
 
@@ -49,13 +49,11 @@ are_more {bytes = bytes} {rows = rows} {t = t} r p = record {
 
 module _ (s : Shape) {bytes : List ℕ} where
   pub held_none : bytes ≡ [] → Held s 0 bytes
-  held_none e = let P : List ℕ → Type 0 = λ z. Held s 0 z in subst P (sym e) ([], ∣ are_none s ∣₁)
+  held_none e = ([], ∣ rw e (are_none s) ∣₁)
 
   pub held_none_is : sound (Shape.many s) ≡ true → (h : Held s 0 bytes) → bytes ≡ [] → held_rows s 0 bytes h ≡ []
-  unfolding held_rows
-  held_none_is passes h e =
-      let P : List ℕ → Type 0 = λ z. (k : Held s 0 z) → k.0 ≡ [] in
-      subst P (sym e) (λ k. Held-one s passes 0 [] k ([], ∣ are_none s ∣₁)) h
+  unfolding held_rows held_none
+  held_none_is passes h e = Held-one s passes 0 bytes h (held_none e)
 
 module _ {s : Shape} {n : ℕ} {bytes : List ℕ} (h : Held s n bytes) where
   pub held_length : length (held_rows s n bytes h) ≡ n
@@ -63,7 +61,7 @@ module _ {s : Shape} {n : ℕ} {bytes : List ℕ} (h : Held s n bytes) where
   held_length = ∥∥₁_elim h.1 (Coded-set coded_ℕ (length h.0) n) (λ r. r.counted)
 
   -- the body is the number of the rows, and their spelling
-  pub held_normal : normal (body_tree (held_rows s n bytes h)) ≡ leb n ++ bytes
+  pub held_normal : normal (vector_tree (held_rows s n bytes h)) ≡ leb n ++ bytes
   unfolding held_rows
   held_normal =
       ap₂ (λ (k : ℕ) (z : List ℕ). leb k ++ z) (count_rows h.0 ∙ held_length)
@@ -77,44 +75,30 @@ module _ {s : Shape} {n : ℕ} {bytes : List ℕ} (h : Held s n bytes) where
     reads_back = λ shape d. ∥∥₁_map h.1 (λ r. record { shaped = d; spelled = go h.0 r });
   }
     where
-      go : (rows : List Tree) → AreHeld s n bytes rows → Spelled (body_tree rows) (normal (body_tree rows))
+      go : (rows : List Tree) → AreHeld s n bytes rows → Spelled (vector_tree rows) (normal (vector_tree rows))
       go rows r =
           let few : count (rows_tree rows) < 2 ^ 32 = rw (count_rows rows ∙ r.counted) small in
           let P : List ℕ → Type 0 = λ z. Spelled (rows_tree rows) z in
           (leb (count (rows_tree rows)), normal (rows_tree rows), refl, leb_spells (count (rows_tree rows)) few, subst P (sym r.normally) r.spelled)
 
-  abbrev held_more : (t : Tree) → ∥ Spells s (normal t) t ∥₁ → Held s (n + 1) (bytes ++ normal t)
-  held_more t p = (h.0 ++ t ∷ [], ∥∥₁_elim h.1 ∥∥₁_prop (λ r. ∥∥₁_map p (λ q. are_more r q)))
-
   -- the bytes have grown by a row
   pub held_grown : {new : List ℕ} (t : Tree) → new ≡ bytes ++ normal t → ∥ Spells s (normal t) t ∥₁ → Held s (n + 1) new
-  held_grown t e p = let P : List ℕ → Type 0 = λ z. Held s (n + 1) z in subst P (sym e) (held_more t p)
+  held_grown t e p = (h.0 ++ t ∷ [], ∥∥₁_elim h.1 ∥∥₁_prop (λ r. ∥∥₁_map p (λ q. rw e (are_more r q))))
 
   pub held_grown_is : {new : List ℕ} (t : Tree) → sound (Shape.many s) ≡ true → (k : Held s (n + 1) new) → new ≡ bytes ++ normal t → ∥ Spells s (normal t) t ∥₁ →
       held_rows s (n + 1) new k ≡ held_rows s n bytes h ++ t ∷ []
-  unfolding held_rows
-  held_grown_is t passes k e p =
-      let P : List ℕ → Type 0 = λ z. (k : Held s (n + 1) z) → k.0 ≡ h.0 ++ t ∷ [] in
-      subst P (sym e) (λ k. Held-one s passes (n + 1) (bytes ++ normal t) k (held_more t p)) k
+  unfolding held_rows held_grown
+  held_grown_is {new} t passes k e p = Held-one s passes (n + 1) new k (held_grown t e p)
 
   -- the bytes are the same
-  pub held_same : {new : List ℕ} → new ≡ bytes → Held s n new
-  held_same e = let P : List ℕ → Type 0 = λ z. Held s n z in subst P (sym e) h
-
   pub held_same_is : {new : List ℕ} → sound (Shape.many s) ≡ true → (k : Held s n new) → new ≡ bytes → held_rows s n new k ≡ held_rows s n bytes h
   unfolding held_rows
-  held_same_is passes k e =
-      let P : List ℕ → Type 0 = λ z. (k : Held s n z) → k.0 ≡ h.0 in
-      subst P (sym e) (λ k. Held-one s passes n bytes k h) k
+  held_same_is {new} passes k e = Held-one s passes n new k (h.0, ∥∥₁_map h.1 (λ r. rw e r))
 
 -- what holds anyway holds of an Ok
 pub OnOk-of : {A E : Type 0} {P : Type 0} (r : Result A E) → P → OnOk r P
 OnOk-of (Ok a) p = p
 OnOk-of (Err e) p = tt
-
--- what was added is taken away again
-pub cut_back : {n : ℕ} {new : List ℕ} (old text : List ℕ) → n ≡ length old → new ≡ old ++ text → take n new ≡ old
-cut_back {n = n} {new = new} old text l e = rw (l, e) (take-append_seam old text)
 
 pub OnOk-map : {A E : Type 0} {P Q : Type 0} (r : Result A E) → OnOk r P → (P → Q) → OnOk r Q
 OnOk-map (Ok a) p f = f p

@@ -1,5 +1,6 @@
 -- Functions, code sections and constant expressions that are held, and one operator or row more.
-use Rattle.std.proofs.Common.{◌≡◌, ℕ, ◌+◌, ◌<◌, ◌^◌, List, [], ◌∷◌, ◌++◌, length, map, refl, sym, ap, ap₂, ◌∙◌, append-nil, append_assoc, subst, true, false, arith, ◌≢◌, ◌&&◌, Bool, nat_le, if◌then◌else◌, Option, Some, Result, Ok, Err, OnOk, OnErr}
+use Rattle.std.specs.Prelude.{IfErr}
+use Rattle.std.proofs.Common.{◌≡◌, ℕ, ◌-◌, ◌<◌, ◌≤◌, ◌^◌, ◌⊎◌, inr, Result, Ok, Err, List, [], ◌∷◌, ◌++◌, length, map, refl, sym, ap, ap₂, ◌∙◌, append-nil, append_assoc, subst, true, false, arith, ◌≢◌, ◌&&◌, Bool, nat_le, if◌then◌else◌, Option, Some, OnOk, OnErr}
 use Rattle.std.proofs.lemmas.Bool.{leb-true}
 use Rattle.std.specs.Coded.{Coded-set, coded_ℕ, coded_list}
 use mathlib.Core.Logic.{∥∥₁_elim, ∥∥₁_map, ∥∥₁_prop}
@@ -13,28 +14,30 @@ use Rattle.wasm_shapes.specs.Module.{local_row, body as body_shape, code_row}
 use Rattle.wasm_shapes.specs.Spells.{Is, Spelled, Spells}
 use Rattle.wasm_shapes.specs.Fits.{InRange}
 use Rattle.wasm_shapes.proofs.Lists.{both}
-use Rattle.wasm_shapes.proofs.ReadBack.{read_back}
+use Rattle.wasm_shapes.proofs.Frameless.{frameless_spells}
+use Rattle.wasm_shapes.proofs.ReadBack.{spelled_in_range, in_range_had}
 use Rattle.wasm_write.specs.declared.types.ValType.{ValType}
-use Rattle.wasm_write.specs.Held.{rows_tree, body_tree, AreHeld, Held, held_rows}
+use Rattle.wasm_shapes.specs.Types.{rows_tree, vector_tree}
+use Rattle.wasm_write.specs.declared.fault.WriteFault.{WriteFault}
+use Rattle.wasm_write.specs.declared.fault.WriteFault.TheVariants.{TooLarge, NoMemory}
+use Rattle.wasm_write.specs.Counts.{counts, IsTooLarge}
+use Rattle.wasm_write.specs.Faults.{IfTooLarge}
+use Rattle.wasm_write.specs.Held.{AreHeld}
 use Rattle.wasm_write.specs.Instructions.{Parts, imms_tree, instruction_tree}
-use Rattle.wasm_write.specs.Bodies.{AreOperators, Body, local_tree, with_operator, with_operators, function_body, code_tree, code_sound, IsBody, HeldBody, HeldBody-one, held_body, CodeRows, with_row, HeldOperators, HeldOperators-one, held_operators}
-use Rattle.wasm_write.proofs.Holding.{snoc_is, snoc_spelled, snoc_normal, snoc_length, are_none, are_more, held_length, held_grown_is, held_same_is}
-use Rattle.wasm_write.proofs.TypeShapes.{items_are, items_frameless, frameless_fits, value_is, value_frameless}
+use Rattle.wasm_write.specs.Bodies.{AreOperators, Body, local_tree, with_operator, with_operators, function_body, code_tree, IsBody, HeldBody, HeldBody-one, held_body, HeldOperators, HeldOperators-one, held_operators}
+use Rattle.wasm_write.proofs.Holding.{snoc_is, snoc_spelled, snoc_normal, snoc_length, are_none, are_more}
+use Rattle.wasm_write.proofs.SmallCounts.{counts_small, last_is_large}
+use Rattle.wasm_write.proofs.TypeShapes.{items_are, value_is}
 
 abbrev with_locals : List (ℕ × ValType) → Body
 with_locals locals = record { locals = map local_tree locals; operators = [] }
 
-is_new : (locals : List (ℕ × ValType)) → InRange (body_tree (map local_tree locals)) → IsBody (normal (body_tree (map local_tree locals))) (with_locals locals)
+is_new : (locals : List (ℕ × ValType)) → InRange (vector_tree (map local_tree locals)) → IsBody (normal (vector_tree (map local_tree locals))) (with_locals locals)
 is_new locals r =
-    let rows = body_tree (map local_tree locals) in record {
-      shaped = Is.seq (Is.vec (items_are local_row local_tree (λ l. Is.seq Is.u32 (value_is l.1)) locals)) Is.nil;
-      spelled = (
-        normal rows,
-        [],
-        sym (append-nil (normal rows)),
-        read_back rows r (frameless_fits rows (items_frameless local_tree (λ l. value_frameless l.1) locals)),
-        refl,
-      );
+    let rows = vector_tree (map local_tree locals) in
+    let all = frameless_spells (Shape.vec local_row) refl (Is.vec (items_are local_row local_tree (λ l. Is.seq Is.u32 (value_is l.1)) locals)) r in record {
+      shaped = Is.seq all.shaped Is.nil;
+      spelled = (normal rows, [], sym (append-nil (normal rows)), all.spelled, refl);
       normally = append-nil (normal rows);
     }
 
@@ -49,8 +52,8 @@ is_more {bytes = bytes} {f = f} {t = t} b p = record {
     snoc_spelled f.operators t b.spelled.1 (normal t) b.spelled.4 p.spelled,
   );
   normally =
-      ap (λ (z : List ℕ). normal (body_tree f.locals) ++ z) (snoc_normal f.operators t)
-      ∙ sym (append_assoc (normal (body_tree f.locals)) (normal (rows_tree f.operators)) (normal t)) ∙ ap (λ (z : List ℕ). z ++ normal t) b.normally;
+      ap (λ (z : List ℕ). normal (vector_tree f.locals) ++ z) (snoc_normal f.operators t)
+      ∙ sym (append_assoc (normal (vector_tree f.locals)) (normal (rows_tree f.operators)) (normal t)) ∙ ap (λ (z : List ℕ). z ++ normal t) b.normally;
 }
   where
     go : Is body_shape (function_body f) → Is body_shape (function_body (with_operator f t))
@@ -82,23 +85,21 @@ is_many {text = text} {f = f} {rows = rows} b p = record {
     many_spelled f.operators rows b.spelled.1 text b.spelled.4 p.spelled,
   );
   normally =
-      ap (λ (z : List ℕ). normal (body_tree f.locals) ++ z) (many_normal f.operators rows)
-      ∙ sym (append_assoc (normal (body_tree f.locals)) (normal (rows_tree f.operators)) (normal (rows_tree rows)))
+      ap (λ (z : List ℕ). normal (vector_tree f.locals) ++ z) (many_normal f.operators rows)
+      ∙ sym (append_assoc (normal (vector_tree f.locals)) (normal (rows_tree f.operators)) (normal (rows_tree rows)))
       ∙ ap₂ (λ (y z : List ℕ). y ++ z) b.normally p.normally;
 }
   where
     go : Is body_shape (function_body f) → Is body_shape (function_body (with_operators f rows))
     go (Is.seq d e) = Is.seq d (many_is f.operators rows e p.shaped)
 
-module _ {bytes : List ℕ} (locals : List (ℕ × ValType)) (e : bytes ≡ normal (body_tree (map local_tree locals))) (r : InRange (body_tree (map local_tree locals))) where
+module _ {bytes : List ℕ} (locals : List (ℕ × ValType)) (e : bytes ≡ normal (vector_tree (map local_tree locals))) (r : InRange (vector_tree (map local_tree locals))) where
   pub body_new : HeldBody bytes
-  body_new = let P : List ℕ → Type 0 = λ z. HeldBody z in subst P (sym e) (with_locals locals, ∣ is_new locals r ∣₁)
+  body_new = (with_locals locals, ∣ rw e (is_new locals r) ∣₁)
 
   pub body_new_is : (h : HeldBody bytes) → held_body bytes h ≡ with_locals locals
-  unfolding held_body
-  body_new_is h =
-      let P : List ℕ → Type 0 = λ z. (k : HeldBody z) → k.0 ≡ with_locals locals in
-      subst P (sym e) (λ k. HeldBody-one _ k (with_locals locals, ∣ is_new locals r ∣₁)) h
+  unfolding held_body body_new
+  body_new_is h = HeldBody-one bytes h body_new
 
 module _ {bytes : List ℕ} (h : HeldBody bytes) where
   pub body_normal : normal (function_body (held_body bytes h)) ≡ bytes
@@ -111,19 +112,14 @@ module _ {bytes : List ℕ} (h : HeldBody bytes) where
       let P : List ℕ → Type 0 = λ z. Spelled (function_body h.0) z in
       ∥∥₁_map h.1 (λ b. record { shaped = b.shaped; spelled = subst P (sym b.normally) b.spelled })
 
-  abbrev body_more : (t : Tree) → ∥ Spells (Shape.op true) (normal t) t ∥₁ → HeldBody (bytes ++ normal t)
-  body_more t p = (with_operator h.0 t, ∥∥₁_elim h.1 ∥∥₁_prop (λ b. ∥∥₁_map p (λ q. is_more b q)))
-
   -- the bytes have grown by an operator
   pub body_grown : {new : List ℕ} (t : Tree) → new ≡ bytes ++ normal t → ∥ Spells (Shape.op true) (normal t) t ∥₁ → HeldBody new
-  body_grown t e p = let P : List ℕ → Type 0 = λ z. HeldBody z in subst P (sym e) (body_more t p)
+  body_grown t e p = (with_operator h.0 t, ∥∥₁_elim h.1 ∥∥₁_prop (λ b. ∥∥₁_map p (λ q. rw e (is_more b q))))
 
   pub body_grown_is : {new : List ℕ} (t : Tree) (k : HeldBody new) → new ≡ bytes ++ normal t → ∥ Spells (Shape.op true) (normal t) t ∥₁ →
       held_body new k ≡ with_operator (held_body bytes h) t
-  unfolding held_body
-  body_grown_is t k e p =
-      let P : List ℕ → Type 0 = λ z. (k : HeldBody z) → k.0 ≡ with_operator h.0 t in
-      subst P (sym e) (λ k. HeldBody-one (bytes ++ normal t) k (body_more t p)) k
+  unfolding held_body body_grown
+  body_grown_is {new} t k e p = HeldBody-one new k (body_grown t e p)
 
   abbrev body_many : {text : List ℕ} (rows : List Tree) → AreOperators text rows → HeldBody (bytes ++ text)
   body_many rows p = (with_operators h.0 rows, ∥∥₁_map h.1 (λ b. is_many b p))
@@ -147,25 +143,9 @@ module _ {bytes : List ℕ} (h : HeldBody bytes) where
   -- the bytes are the same
   pub body_same_is : {new : List ℕ} (k : HeldBody new) → new ≡ bytes → held_body new k ≡ held_body bytes h
   unfolding held_body
-  body_same_is k e =
-      let P : List ℕ → Type 0 = λ z. (k : HeldBody z) → k.0 ≡ h.0 in
-      subst P (sym e) (λ k. HeldBody-one bytes k h) k
+  body_same_is {new} k e = HeldBody-one new k (h.0, ∥∥₁_map h.1 (λ b. rw e b))
 
 -- ---- a code section
-
-abbrev view : ℕ → List Tree → CodeRows
-view ceiling rows = record { ceiling = ceiling; rows = rows }
-
-module _ {n : ℕ} {bytes : List ℕ} (h : Held code_row n bytes) (ceiling : ℕ) {s : CodeRows} (is : view ceiling (held_rows code_row n bytes h) ≡ s) where
-  pub code_length : length s.rows ≡ n
-  code_length = rw (← is) (held_length h)
-
-  pub code_same : {new : List ℕ} (k : Held code_row n new) → new ≡ bytes → view ceiling (held_rows code_row n new k) ≡ s
-  code_same k e = ap (view ceiling) (held_same_is h code_sound k e) ∙ is
-
-  pub code_grown : {new : List ℕ} (t : Tree) (k : Held code_row (n + 1) new) → new ≡ bytes ++ normal t → ∥ Spells code_row (normal t) t ∥₁ →
-      view ceiling (held_rows code_row (n + 1) new k) ≡ with_row s t
-  code_grown t k e p = ap (view ceiling) (held_grown_is h t code_sound k e p) ∙ ap (λ (z : CodeRows). with_row z t) is
 
 -- a function in its frame
 pub framed_spells : (f : Body) → length (normal (function_body f)) < 2 ^ 32 → ∥ Spells body_shape (normal (function_body f)) (function_body f) ∥₁ →
@@ -176,6 +156,20 @@ framed_spells f small p =
       shaped = Is.sized q.shaped;
       spelled = (leb (length body), body, refl, leb_spells (length body) small, q.spelled);
     })
+
+-- a function that fits is refused for the number of the rows alone
+pub code_large : {A : Type 0} (r : Result A WriteFault) (f : Body) (ceiling n : ℕ) →
+    ∥ Spells body_shape (normal (function_body f)) (function_body f) ∥₁ → length (normal (function_body f)) ≤ ceiling →
+    IfErr r (λ e. IfTooLarge e (IsTooLarge (counts (code_tree f) ++ n ∷ []))) →
+    IfErr r (λ e. IfTooLarge e (λ size. ((size ≡ length (normal (function_body f))) × (ceiling < size))
+    ⊎ ((size ≡ n) × (2 ^ 32 - 1 < size) × (length (normal (function_body f)) ≤ ceiling))))
+code_large (Ok a) f ceiling n p fits q = tt
+code_large (Err NoMemory) f ceiling n p fits q = tt
+code_large (Err (TooLarge size)) f ceiling n p fits q =
+    let body = function_body f in
+    let ranged = in_range_had body (∥∥₁_map p (λ s. spelled_in_range body (normal body) s.spelled)) in
+    let last = last_is_large (counts body) n size (counts_small body ranged) q in
+    inr (last.0, last.1, fits)
 
 -- ---- a constant expression
 
@@ -203,36 +197,25 @@ expression_more : {bytes : List ℕ} {rows : List Tree} {t : Tree} → AreHeld (
 expression_more {rows = rows} {t = t} r p = rw (snoc_length rows t) (are_more r p)
 
 pub expression_none : {bytes : List ℕ} → bytes ≡ [] → HeldOperators bytes
-expression_none e = let P : List ℕ → Type 0 = λ z. HeldOperators z in subst P (sym e) ([], ∣ are_none (Shape.op false) ∣₁)
+expression_none e = ([], ∣ rw e (are_none (Shape.op false)) ∣₁)
 
 pub expression_none_is : {bytes : List ℕ} (h : HeldOperators bytes) → bytes ≡ [] → held_operators bytes h ≡ []
-unfolding held_operators
-expression_none_is h e =
-    let P : List ℕ → Type 0 = λ z. (k : HeldOperators z) → k.0 ≡ [] in
-    subst P (sym e) (λ k. HeldOperators-one [] k ([], ∣ are_none (Shape.op false) ∣₁)) h
+unfolding held_operators expression_none
+expression_none_is {bytes} h e = HeldOperators-one bytes h (expression_none e)
 
 module _ {bytes : List ℕ} (h : HeldOperators bytes) where
-  abbrev operators_more : (i : Parts) → code_of i.opcode ≢ plain 0x0b → ∥ Spells (Shape.op true) (normal (instruction_tree i)) (instruction_tree i) ∥₁ →
-      HeldOperators (bytes ++ normal (instruction_tree i))
-  operators_more i other p =
-      let t = instruction_tree i in
-      (h.0 ++ t ∷ [], ∥∥₁_elim h.1 ∥∥₁_prop (λ r. ∥∥₁_map p (λ q. expression_more r (inner_operator i other q))))
-
   -- the bytes have grown by an operator
   pub operators_grown : {new : List ℕ} (i : Parts) → code_of i.opcode ≢ plain 0x0b → new ≡ bytes ++ normal (instruction_tree i) →
       ∥ Spells (Shape.op true) (normal (instruction_tree i)) (instruction_tree i) ∥₁ → HeldOperators new
-  operators_grown i other e p = let P : List ℕ → Type 0 = λ z. HeldOperators z in subst P (sym e) (operators_more i other p)
+  operators_grown i other e p =
+      (h.0 ++ instruction_tree i ∷ [], ∥∥₁_elim h.1 ∥∥₁_prop (λ r. ∥∥₁_map p (λ q. rw e (expression_more r (inner_operator i other q)))))
 
   pub operators_grown_is : {new : List ℕ} (i : Parts) (k : HeldOperators new) → code_of i.opcode ≢ plain 0x0b → new ≡ bytes ++ normal (instruction_tree i) →
       ∥ Spells (Shape.op true) (normal (instruction_tree i)) (instruction_tree i) ∥₁ → held_operators new k ≡ held_operators bytes h ++ instruction_tree i ∷ []
-  unfolding held_operators
-  operators_grown_is i k other e p =
-      let P : List ℕ → Type 0 = λ z. (k : HeldOperators z) → k.0 ≡ h.0 ++ instruction_tree i ∷ [] in
-      subst P (sym e) (λ k. HeldOperators-one (bytes ++ normal (instruction_tree i)) k (operators_more i other p)) k
+  unfolding held_operators operators_grown
+  operators_grown_is {new} i k other e p = HeldOperators-one new k (operators_grown i other e p)
 
   -- the bytes are the same
   pub operators_same_is : {new : List ℕ} (k : HeldOperators new) → new ≡ bytes → held_operators new k ≡ held_operators bytes h
   unfolding held_operators
-  operators_same_is k e =
-      let P : List ℕ → Type 0 = λ z. (k : HeldOperators z) → k.0 ≡ h.0 in
-      subst P (sym e) (λ k. HeldOperators-one bytes k h) k
+  operators_same_is {new} k e = HeldOperators-one new k (h.0, ∥∥₁_map h.1 (λ r. rw e r))

@@ -1,5 +1,5 @@
 -- The sections of a module, and one more.
-use Rattle.std.proofs.Common.{◌≡◌, ℕ, suc, ◌+◌, ◌<◌, ◌≤◌, ◌^◌, List, [], ◌∷◌, ◌++◌, length, map, refl, sym, ap, ◌∙◌, append_assoc, subst, arith, length-append}
+use Rattle.std.proofs.Common.{◌≡◌, ℕ, suc, ◌+◌, ◌<◌, ◌≤◌, ◌^◌, List, [], ◌∷◌, ◌++◌, length, map, refl, sym, ap, ◌∙◌, append_assoc, arith, length-append}
 use Rattle.std.specs.Coded.{Coded-set, coded_ℕ, coded_list}
 use mathlib.Core.Logic.{∥∥₁_elim, ∥∥₁_map}
 use Rattle.wasm_leb.specs.Leb.{leb}
@@ -7,7 +7,7 @@ use Rattle.wasm_leb.proofs.Shortest.{leb_spells}
 use Rattle.wasm_shapes.specs.Tree.{Tree, normal}
 use Rattle.wasm_shapes.specs.Spells.{Is, Spells}
 use Rattle.wasm_shapes.specs.Module.{core_header}
-use Rattle.wasm_write.specs.Held.{rows_tree}
+use Rattle.wasm_shapes.specs.Types.{rows_tree}
 use Rattle.wasm_write.specs.Sections.{SectionRow, Sections, with_section, section_bytes, sections_bytes, module_bytes, framed, framed_tree, AreSections, HeldSections, HeldSections-one, held_sections}
 use Rattle.wasm_write.proofs.Holding.{are_none, are_more}
 
@@ -55,13 +55,11 @@ view ceiling rows = record { ceiling = ceiling; sections = rows }
 
 module _ {bytes : List ℕ} where
   pub sections_none : bytes ≡ core_header → HeldSections 0 bytes
-  sections_none e = let P : List ℕ → Type 0 = λ z. HeldSections 0 z in subst P (sym e) ([], ∣ are_no_sections ∣₁)
+  sections_none e = ([], ∣ rw e are_no_sections ∣₁)
 
   pub sections_none_is : (h : HeldSections 0 bytes) → bytes ≡ core_header → held_sections 0 bytes h ≡ []
-  unfolding held_sections
-  sections_none_is h e =
-      let P : List ℕ → Type 0 = λ z. (k : HeldSections 0 z) → k.0 ≡ [] in
-      subst P (sym e) (λ k. HeldSections-one 0 core_header k ([], ∣ are_no_sections ∣₁)) h
+  unfolding held_sections sections_none
+  sections_none_is h e = HeldSections-one 0 bytes h (sections_none e)
 
 module _ {n : ℕ} {bytes : List ℕ} (h : HeldSections n bytes) where
   pub sections_length : length (held_sections n bytes h) ≡ n
@@ -82,29 +80,19 @@ module _ {n : ℕ} {bytes : List ℕ} (h : HeldSections n bytes) where
       let all = sections_length in
       rw sections_are (omega (arith, many, all))
 
-  abbrev sections_more : (s : SectionRow) → IsWritable s → HeldSections (n + 1) (bytes ++ section_bytes s)
-  sections_more s w = (h.0 ++ s ∷ [], ∥∥₁_map h.1 (λ r. are_more_sections r w))
-
   -- the bytes have grown by a section
   pub sections_grown : {new : List ℕ} (s : SectionRow) → new ≡ bytes ++ section_bytes s → IsWritable s → HeldSections (n + 1) new
-  sections_grown s e w = let P : List ℕ → Type 0 = λ z. HeldSections (n + 1) z in subst P (sym e) (sections_more s w)
+  sections_grown s e w = (h.0 ++ s ∷ [], ∥∥₁_map h.1 (λ r. rw e (are_more_sections r w)))
 
-  pub sections_grown_is : {new : List ℕ} (s : SectionRow) (k : HeldSections (n + 1) new) → new ≡ bytes ++ section_bytes s → IsWritable s →
+  sections_grown_is : {new : List ℕ} (s : SectionRow) (k : HeldSections (n + 1) new) → new ≡ bytes ++ section_bytes s → IsWritable s →
       held_sections (n + 1) new k ≡ held_sections n bytes h ++ s ∷ []
-  unfolding held_sections
-  sections_grown_is s k e w =
-      let P : List ℕ → Type 0 = λ z. (k : HeldSections (n + 1) z) → k.0 ≡ h.0 ++ s ∷ [] in
-      subst P (sym e) (λ k. HeldSections-one (n + 1) (bytes ++ section_bytes s) k (sections_more s w)) k
+  unfolding held_sections sections_grown
+  sections_grown_is {new} s k e w = HeldSections-one (n + 1) new k (sections_grown s e w)
 
   -- the bytes are the same
-  pub sections_same : {new : List ℕ} → new ≡ bytes → HeldSections n new
-  sections_same e = let P : List ℕ → Type 0 = λ z. HeldSections n z in subst P (sym e) h
-
-  pub sections_same_is : {new : List ℕ} (k : HeldSections n new) → new ≡ bytes → held_sections n new k ≡ held_sections n bytes h
+  sections_same_is : {new : List ℕ} (k : HeldSections n new) → new ≡ bytes → held_sections n new k ≡ held_sections n bytes h
   unfolding held_sections
-  sections_same_is k e =
-      let P : List ℕ → Type 0 = λ z. (k : HeldSections n z) → k.0 ≡ h.0 in
-      subst P (sym e) (λ k. HeldSections-one n bytes k h) k
+  sections_same_is {new} k e = HeldSections-one n new k (h.0, ∥∥₁_map h.1 (λ r. rw e r))
 
   -- ---- the same of the whole module, seen as its ceiling and its sections
 

@@ -1,7 +1,7 @@
--- The trees of instructions have the shapes of their rows, and no frames.
+-- The trees of instructions have the shapes of their rows.
 use Rattle.std.specs.Prelude.{IsSome}
 use Rattle.std.specs.Coded.{Coded-set, coded_bool, le_prop}
-use Rattle.std.proofs.Common.{◌≡◌, ℕ, zero, suc, ◌<◌, ◌≤◌, ◌^◌, Bool, true, false, ◌&&◌, nat_le, nat_lt, nat_eq, if◌then◌else◌, List, [], ◌∷◌, ◌++◌, length, map, Option, Some, None, refl, sym, ap, ap₂, ◌∙◌, subst, arith, All}
+use Rattle.std.proofs.Common.{◌≡◌, ℕ, zero, suc, ◌<◌, ◌≤◌, ◌^◌, Bool, true, false, ◌&&◌, nat_le, nat_lt, nat_eq, if◌then◌else◌, List, [], ◌∷◌, length, map, Option, Some, None, refl, sym, ap, ◌∙◌, subst, arith, All}
 use Rattle.std.proofs.lemmas.Bool.{leb-true, ltb-true, eqb-true}
 use Rattle.std.proofs.lemmas.List.Elements.{All-cons}
 use mathlib.Core.HLevel.{Π_prop}
@@ -12,22 +12,20 @@ use Rattle.wasm_shapes.specs.declared.ImmKind.{ImmKind}
 use Rattle.wasm_shapes.specs.declared.ImmKind.TheVariants as kind
 use Rattle.wasm_shapes.specs.declared.Opcode.{Opcode}
 use Rattle.wasm_shapes.specs.Operators.{Code, plain, prefixed, code_from, code_of, is_code, Operators, look_up, one_byte_operators, prefixed_operators, kinds_among}
-use Rattle.wasm_shapes.specs.Tree.{Tree, normal, frames}
+use Rattle.wasm_shapes.specs.Tree.{Tree, normal}
 use Rattle.wasm_shapes.specs.Shape.{Shape, shape_of_kind, shape_of_kinds, shape_of_row}
 use Rattle.wasm_shapes.specs.Spells.{Is, Spells}
 use Rattle.wasm_shapes.specs.Fits.{InRange, CodeInRange}
 use Rattle.wasm_shapes.proofs.Lists.{both}
-use Rattle.wasm_shapes.proofs.ReadBack.{read_back}
-use Rattle.wasm_write.specs.declared.types.BlockType.{BlockType}
-use Rattle.wasm_write.specs.declared.types.BlockType.TheVariants as block
+use Rattle.wasm_shapes.proofs.Frameless.{frameless_spells}
 use Rattle.wasm_write.specs.declared.types.Catch.{Catch}
 use Rattle.wasm_write.specs.declared.types.Catch.TheVariants as catch
 use Rattle.wasm_write.specs.declared.types.Handle.{Handle}
 use Rattle.wasm_write.specs.declared.types.Handle.TheVariants as handle
 use Rattle.wasm_write.specs.declared.types.Imm.{Imm}
 use Rattle.wasm_write.specs.declared.types.Imm.TheVariants as imm
-use Rattle.wasm_write.specs.Instructions.{if_few, if_sixteen, index_kind, imm_kind, HasKinds, Parts, block_type_tree, label_tree, catch_tree, handle_tree, imm_tree, imms_tree, instruction_tree}
-use Rattle.wasm_write.proofs.TypeShapes.{items_are, items_frameless, frameless_fits, heap_frameless, value_frameless, values_are}
+use Rattle.wasm_write.specs.Instructions.{if_few, if_sixteen, index_kind, imm_kind, HasKinds, Parts, label_tree, catch_tree, handle_tree, imm_tree, imms_tree, instruction_tree}
+use Rattle.wasm_write.proofs.TypeShapes.{items_are, values_are}
 
 -- ---- the tables of operators
 
@@ -207,39 +205,8 @@ instruction_is i h =
     Is.op (code_is (code_of i.opcode) h.kinds h.row)
     (subst P (sym h.row) (imms_are i.imms h.kinds h.same (kinds_settled (code_of i.opcode) h.kinds h.row)))
 
--- ---- frames
-
-block_frameless : (ty : BlockType) → frames (block_type_tree ty) ≡ []
-block_frameless (block.Result ty) = value_frameless ty
-block_frameless _ = refl
-
-catch_frameless : (c : Catch) → frames (catch_tree c) ≡ []
-catch_frameless (catch.One tag label) = refl
-catch_frameless _ = refl
-
-handle_frameless : (h : Handle) → frames (handle_tree h) ≡ []
-handle_frameless (handle.OnLabel tag label) = refl
-handle_frameless _ = refl
-
-imm_frameless : (i : Imm) → frames (imm_tree i) ≡ []
-imm_frameless (imm.Block ty) = block_frameless ty
-imm_frameless (imm.Labels targets default) = ap (λ (z : List ℕ). z ++ []) (items_frameless label_tree (λ n. refl) targets)
-imm_frameless (imm.Types types) = items_frameless _ value_frameless types
-imm_frameless (imm.Heap ty) = heap_frameless ty
-imm_frameless (imm.Catches catches) = items_frameless catch_tree catch_frameless catches
-imm_frameless (imm.Cast label from to) = ap₂ (λ (y z : List ℕ). y ++ z) (heap_frameless from.heap_type) (heap_frameless to.heap_type)
-imm_frameless (imm.Handlers handlers) = items_frameless handle_tree handle_frameless handlers
-imm_frameless _ = refl
-
-imms_frameless : (imms : List Imm) → frames (imms_tree imms) ≡ []
-imms_frameless [] = refl
-imms_frameless (i ∷ imms) = ap₂ (λ (y z : List ℕ). y ++ z) (imm_frameless i) (imms_frameless imms)
-
 -- ---- what is in range spells an instruction
 
 pub instruction_spelled : (i : Parts) → HasKinds i.opcode i.imms → CodeInRange (code_of i.opcode) → InRange (imms_tree i.imms) →
     Spells (Shape.op true) (normal (instruction_tree i)) (instruction_tree i)
-instruction_spelled i h c r = record {
-  shaped = instruction_is i h;
-  spelled = read_back (instruction_tree i) (c, r) (frameless_fits (instruction_tree i) (imms_frameless i.imms));
-}
+instruction_spelled i h c r = frameless_spells (Shape.op true) refl (instruction_is i h) (c, r)

@@ -9,7 +9,7 @@ use Rattle.wasm_write.specs.declared.fault.WriteFault.{WriteFault}
 use Rattle.wasm_write.specs.declared.fault.WriteFault.TheVariants.{TooLarge, NoMemory}
 use Rattle.wasm_write.specs.Counts.{counts, IsTooLarge}
 use Rattle.wasm_write.specs.Faults.{IfTooLarge}
-use Rattle.wasm_write.specs.Held.{rows_tree, body_tree}
+use Rattle.wasm_shapes.specs.Types.{rows_tree, vector_tree}
 
 -- some items are left; these and what is written are all, and if these are in range, all are
 pub record ItemsSoFar (left all : List Tree) (start out : List ℕ) : Type 0 where
@@ -26,7 +26,7 @@ module _ {A : Type 0} (f : A → Tree) (xs : List A) {i : ℕ} {out start : List
   none_left = ap (map f) (drop_of_length-le xs past)
 
   -- all items are written behind their number
-  pub items_written : (old : List ℕ) → start ≡ old ++ leb (length xs) → out ≡ old ++ normal (body_tree (map f xs))
+  pub items_written : (old : List ℕ) → start ≡ old ++ leb (length xs) → out ≡ old ++ normal (vector_tree (map f xs))
   items_written old e =
       let P : List Tree → Type 0 = λ z. out ++ normal (rows_tree z) ≡ start ++ normal (rows_tree (map f xs)) in
       let all : out ++ [] ≡ start ++ normal (rows_tree (map f xs)) = subst P none_left done.written in
@@ -34,7 +34,7 @@ module _ {A : Type 0} (f : A → Tree) (xs : List A) {i : ℕ} {out start : List
       ∙ append_assoc old (leb (length xs)) (normal (rows_tree (map f xs)))
       ∙ ap (λ (k : ℕ). old ++ (leb k ++ normal (rows_tree (map f xs)))) (sym (count_map f xs))
 
-  pub items_in_range : length xs < 2 ^ 32 → InRange (body_tree (map f xs))
+  pub items_in_range : length xs < 2 ^ 32 → InRange (vector_tree (map f xs))
   items_in_range few =
       let P : List Tree → Type 0 = λ z. InRange (rows_tree z) → InRange (rows_tree (map f xs)) in
       (rw (count_map f xs) few, subst P none_left done.in_range tt)
@@ -62,7 +62,7 @@ large_second e m n others p = large_right e (m ∷ []) (n ∷ others) (large_fir
 
 -- the number of the items is too large
 pub items_too_large : {A : Type 0} (f : A → Tree) (xs : List A) (e : WriteFault) → IfTooLarge e (λ size. (size ≡ length xs) × (2 ^ 32 - 1 < size)) →
-    LargeAmong e (counts (body_tree (map f xs)))
+    LargeAmong e (counts (vector_tree (map f xs)))
 items_too_large f xs e p =
     large_right e (counts (rows_tree (map f xs))) (count (rows_tree (map f xs)) ∷ []) (large_first e _ [] (rw (count_map f xs) p))
 
@@ -76,7 +76,7 @@ items_at f (y ∷ xs) (suc i) x e h is p = large_right e (counts (f y)) (counts 
 
 -- a count of an item is too large
 pub item_too_large : {A : Type 0} (f : A → Tree) (xs : List A) (i : ℕ) (x : A) (e : WriteFault) → i < length xs → x ≡ get_or xs i x →
-    LargeAmong e (counts (f x)) → LargeAmong e (counts (body_tree (map f xs)))
+    LargeAmong e (counts (f x)) → LargeAmong e (counts (vector_tree (map f xs)))
 item_too_large f xs i x e h is p =
     large_left e (counts (rows_tree (map f xs))) (count (rows_tree (map f xs)) ∷ []) (items_at f xs i x e h is p)
 

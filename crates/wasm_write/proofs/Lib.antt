@@ -9,3 +9,4 @@ pub mod ExternalShapes
 pub mod ImmsSoFar
 pub mod InstructionShapes
 pub mod HoldingBodies
+pub mod SmallCounts

@@ -7,13 +7,13 @@ use Rattle.wasm_shapes.specs.Tree.{Tree, count, normal}
 use Rattle.wasm_write.specs.declared.fault.WriteFault.{WriteFault}
 use Rattle.wasm_write.specs.Counts.{counts, IsTooLarge}
 use Rattle.wasm_write.specs.Faults.{IfTooLarge}
-use Rattle.wasm_write.specs.Held.{rows_tree}
-use Rattle.wasm_write.specs.Types.{led, type_index, supertypes_tree, sub_parts}
+use Rattle.wasm_shapes.specs.Types.{led, rows_tree, sub_type_of}
+use Rattle.wasm_write.specs.Types.{type_index, supertypes_tree}
 use Rattle.wasm_write.proofs.Items.{large_right}
 
 -- with supertypes the byte and their number stand before them
 pub marked_normal : (is_final : Bool) (supertypes : List ℕ) (t : Tree) → is_final ≡ true → nat_eq (length supertypes) 0 ≡ false →
-    normal (led 0x4f (Tree.pair (supertypes_tree supertypes) t)) ≡ normal (sub_parts is_final supertypes t)
+    normal (led 0x4f (Tree.pair (supertypes_tree supertypes) t)) ≡ normal (sub_type_of is_final (map type_index supertypes) t)
 marked_normal false is t e h = absurd cc
 marked_normal true [] t e h = absurd cc
 marked_normal true (i ∷ is) t e h =
@@ -22,7 +22,7 @@ marked_normal true (i ∷ is) t e h =
 
 -- without supertypes a count of the type is one of all
 pub alone_large : (r : Result Unit WriteFault) (is_final : Bool) (supertypes : List ℕ) (t : Tree) → is_final ≡ true → nat_eq (length supertypes) 0 ≡ true →
-    IfErr r (λ e. IfTooLarge e (IsTooLarge (counts t))) → IfErr r (λ e. IfTooLarge e (IsTooLarge (counts (sub_parts is_final supertypes t))))
+    IfErr r (λ e. IfTooLarge e (IsTooLarge (counts t))) → IfErr r (λ e. IfTooLarge e (IsTooLarge (counts (sub_type_of is_final (map type_index supertypes) t))))
 alone_large (Ok a) is_final is t e h p = tt
 alone_large (Err f) false is t e h p = absurd cc
 alone_large (Err f) true [] t e h p = large_right f (0 ∷ []) (counts t) p

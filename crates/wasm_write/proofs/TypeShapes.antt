@@ -1,11 +1,10 @@
--- The trees of types have the shapes of their tables, and no frames.
-use Rattle.std.proofs.Common.{◌≡◌, ℕ, ◌-◌, ◌^◌, Bool, true, false, List, [], ◌∷◌, ◌++◌, length, map, Option, Some, None, refl, ap₂, arith}
+-- The trees of types have the shapes of their tables.
+use Rattle.std.proofs.Common.{◌≡◌, ℕ, Bool, true, false, List, [], ◌∷◌, length, map, Option, Some, None, refl, arith}
 use Rattle.wasm_shapes.specs.declared.Space.TheVariants as space
-use Rattle.wasm_shapes.specs.Tree.{Tree, normal, frames}
+use Rattle.wasm_shapes.specs.Tree.{Tree}
 use Rattle.wasm_shapes.specs.Shape.{Shape, Named, choice, abstract_heap, heap, reference, storage, field, values, inner_rows, rows_and, described_rows, describing_rows, composite_rows, sub_rows, group_rows}
-use Rattle.wasm_shapes.specs.Spells.{Is, Spells}
-use Rattle.wasm_shapes.specs.Fits.{InRange, Fits}
-use Rattle.wasm_shapes.proofs.ReadBack.{read_back}
+use Rattle.wasm_shapes.specs.Spells.{Is}
+use Rattle.wasm_shapes.specs.Types.{rows_tree, mutable_of, shared_composite_tree, sub_type_of, group_of}
 use Rattle.wasm_write.specs.declared.types.AbstractHeapType.{AbstractHeapType}
 use Rattle.wasm_write.specs.declared.types.AbstractHeapType.TheVariants as abstract
 use Rattle.wasm_write.specs.declared.types.HeapType.{HeapType}
@@ -20,22 +19,13 @@ use Rattle.wasm_write.specs.declared.types.CompositeInnerType.TheVariants as inn
 use Rattle.wasm_write.specs.declared.types.CompositeType.{CompositeType}
 use Rattle.wasm_write.specs.declared.types.SubType.{SubType}
 use Rattle.wasm_write.specs.declared.types.RecGroup.{RecGroup}
-use Rattle.wasm_write.specs.Held.{rows_tree}
-use Rattle.wasm_write.specs.Types.{type_index, abstract_tree, heap_type_tree, nullable_tree, reference_parts, val_type_tree, val_types_tree, storage_type_tree, mutable_tree, field_type_tree, inner_tree, described_tree, describing_tree, shared_composite_tree, composite_tree, supertypes_tree, sub_parts, sub_type_tree, group_parts, group_tree}
+use Rattle.wasm_write.specs.Types.{type_index, abstract_tree, heap_type_tree, nullable_tree, reference_parts, val_type_tree, val_types_tree, storage_type_tree, field_type_tree, inner_tree, described_tree, describing_tree, composite_tree, supertypes_tree, sub_type_tree, group_tree}
 
 -- ---- items
 
 pub items_are : {A : Type 0} (s : Shape) (f : A → Tree) → ((x : A) → Is s (f x)) → (xs : List A) → Is (Shape.many s) (rows_tree (map f xs))
 items_are s f each [] = Is.nil
 items_are s f each (x ∷ xs) = Is.cons (each x) (items_are s f each xs)
-
-pub items_frameless : {A : Type 0} (f : A → Tree) → ((x : A) → frames (f x) ≡ []) → (xs : List A) → frames (rows_tree (map f xs)) ≡ []
-items_frameless f each [] = refl
-items_frameless f each (x ∷ xs) = ap₂ (λ (y z : List ℕ). y ++ z) (each x) (items_frameless f each xs)
-
--- what has no frames fits
-pub frameless_fits : (t : Tree) → frames t ≡ [] → Fits t (2 ^ 32 - 1)
-frameless_fits t e = rw e (λ k d h. absurd (omega arith))
 
 -- the rows of a choice are rows of one with more
 among : (rows others : List Shape) {t : Tree} → Is (choice rows) t → Is (choice (rows_and rows others)) t
@@ -61,21 +51,11 @@ abstract_is abstract.NoExn = Is.later {k = 10} (Is.later {k = 9} (Is.later {k = 
 abstract_is abstract.Cont = Is.later {k = 11} (Is.later {k = 10} (Is.later {k = 9} (Is.later {k = 8} (Is.later {k = 7} (Is.later {k = 6} (Is.later {k = 5} (Is.later {k = 4} (Is.later {k = 3} (Is.later {k = 2} (Is.later {k = 1} (Is.later {k = 0} (Is.first Is.fixed))))))))))))
 abstract_is abstract.NoCont = Is.later {k = 12} (Is.later {k = 11} (Is.later {k = 10} (Is.later {k = 9} (Is.later {k = 8} (Is.later {k = 7} (Is.later {k = 6} (Is.later {k = 5} (Is.later {k = 4} (Is.later {k = 3} (Is.later {k = 2} (Is.later {k = 1} (Is.later {k = 0} (Is.first Is.fixed)))))))))))))
 
-abstract_frameless : (ty : AbstractHeapType) → frames (abstract_tree ty) ≡ []
-abstract_frameless abstract.NoFunc = refl
-abstract_frameless _ = refl
-
 pub heap_is : (ty : HeapType) → Is heap (heap_type_tree ty)
 heap_is (variant.Abstract false ty) = Is.first (abstract_is ty)
 heap_is (variant.Abstract true ty) = Is.later {k = 0} (Is.first (Is.seq Is.fixed (abstract_is ty)))
 heap_is (variant.Exact i) = Is.later {k = 1} (Is.later {k = 0} (Is.first (Is.seq Is.fixed Is.ix)))
 heap_is (variant.Concrete i) = Is.later {k = 2} (Is.later {k = 1} (Is.later {k = 0} (Is.first Is.sx)))
-
-pub heap_frameless : (ty : HeapType) → frames (heap_type_tree ty) ≡ []
-heap_frameless (variant.Abstract false ty) = abstract_frameless ty
-heap_frameless (variant.Abstract true ty) = abstract_frameless ty
-heap_frameless (variant.Exact i) = refl
-heap_frameless (variant.Concrete i) = refl
 
 -- ---- reference and value types
 
@@ -85,19 +65,9 @@ nullable_is (variant.Abstract true ty) = Is.later {k = 0} (Is.first (Is.spare (I
 nullable_is (variant.Exact i) = Is.later {k = 0} (Is.first (Is.kept (Is.first (Is.seq Is.fixed Is.ix))))
 nullable_is (variant.Concrete i) = Is.later {k = 0} (Is.first (Is.kept (Is.later {k = 0} (Is.first Is.sx))))
 
-nullable_frameless : (ty : HeapType) → frames (nullable_tree ty) ≡ []
-nullable_frameless (variant.Abstract false ty) = abstract_frameless ty
-nullable_frameless (variant.Abstract true ty) = abstract_frameless ty
-nullable_frameless (variant.Exact i) = refl
-nullable_frameless (variant.Concrete i) = refl
-
 pub reference_is : (nullable : Bool) (ty : HeapType) → Is reference (reference_parts nullable ty)
 reference_is false ty = Is.first (Is.seq Is.fixed (heap_is ty))
 reference_is true ty = nullable_is ty
-
-pub reference_frameless : (nullable : Bool) (ty : HeapType) → frames (reference_parts nullable ty) ≡ []
-reference_frameless false ty = heap_frameless ty
-reference_frameless true ty = nullable_frameless ty
 
 pub value_is : (ty : ValType) → Is (Shape.ref Named.value) (val_type_tree ty)
 value_is value.I32 = Is.ref (Is.first Is.fixed)
@@ -107,10 +77,6 @@ value_is value.F64 = Is.ref (Is.later {k = 2} (Is.later {k = 1} (Is.later {k = 0
 value_is value.V128 = Is.ref (Is.later {k = 3} (Is.later {k = 2} (Is.later {k = 1} (Is.later {k = 0} (Is.first Is.fixed)))))
 value_is (value.Ref ty) = Is.ref (Is.later {k = 4} (Is.later {k = 3} (Is.later {k = 2} (Is.later {k = 1} (Is.later {k = 0} (Is.first (reference_is ty.nullable ty.heap_type)))))))
 
-pub value_frameless : (ty : ValType) → frames (val_type_tree ty) ≡ []
-value_frameless (value.Ref ty) = reference_frameless ty.nullable ty.heap_type
-value_frameless _ = refl
-
 -- ---- fields
 
 storage_is : (ty : StorageType) → Is storage (storage_type_tree ty)
@@ -118,31 +84,17 @@ storage_is stored.I8 = Is.first Is.fixed
 storage_is stored.I16 = Is.later {k = 0} (Is.first Is.fixed)
 storage_is (stored.Val ty) = Is.later {k = 1} (Is.later {k = 0} (Is.first (value_is ty)))
 
-storage_frameless : (ty : StorageType) → frames (storage_type_tree ty) ≡ []
-storage_frameless (stored.Val ty) = value_frameless ty
-storage_frameless _ = refl
-
-mutable_is : (m : Bool) → Is (Shape.or (Shape.fixed 0) (Shape.or (Shape.fixed 1) Shape.none)) (mutable_tree m)
+mutable_is : (m : Bool) → Is (Shape.or (Shape.fixed 0) (Shape.or (Shape.fixed 1) Shape.none)) (mutable_of m)
 mutable_is false = Is.first Is.fixed
 mutable_is true = Is.later {k = 0} (Is.first Is.fixed)
 
-mutable_frameless : (m : Bool) → frames (mutable_tree m) ≡ []
-mutable_frameless false = refl
-mutable_frameless true = refl
-
 field_is : (ty : FieldType) → Is field (field_type_tree ty)
 field_is ty = Is.seq (storage_is ty.element_type) (mutable_is ty.mutable)
-
-field_frameless : (ty : FieldType) → frames (field_type_tree ty) ≡ []
-field_frameless ty = ap₂ (λ (y z : List ℕ). y ++ z) (storage_frameless ty.element_type) (mutable_frameless ty.mutable)
 
 -- ---- composite types
 
 pub values_are : (types : List ValType) → Is values (val_types_tree types)
 values_are types = Is.vec (items_are (Shape.ref Named.value) val_type_tree value_is types)
-
-values_frameless : (types : List ValType) → frames (val_types_tree types) ≡ []
-values_frameless types = items_frameless val_type_tree value_frameless types
 
 inner_is : (ty : CompositeInnerType) → Is (choice inner_rows) (inner_tree ty)
 inner_is (inner.Func ty) = Is.first (Is.seq Is.fixed (Is.seq (values_are ty.params) (values_are ty.results)))
@@ -150,80 +102,38 @@ inner_is (inner.Array ty) = Is.later {k = 0} (Is.first (Is.seq Is.fixed (field_i
 inner_is (inner.Struct ty) = Is.later {k = 1} (Is.later {k = 0} (Is.first (Is.seq Is.fixed (Is.vec (items_are field field_type_tree field_is ty.fields)))))
 inner_is (inner.Cont ty) = Is.later {k = 2} (Is.later {k = 1} (Is.later {k = 0} (Is.first (Is.seq Is.fixed Is.sx))))
 
-inner_frameless : (ty : CompositeInnerType) → frames (inner_tree ty) ≡ []
-inner_frameless (inner.Func ty) = ap₂ (λ (y z : List ℕ). y ++ z) (values_frameless ty.params) (values_frameless ty.results)
-inner_frameless (inner.Array ty) = field_frameless ty.0
-inner_frameless (inner.Struct ty) = items_frameless field_type_tree field_frameless ty.fields
-inner_frameless (inner.Cont ty) = refl
-
 described_is : (descriptor : Option ℕ) {t : Tree} → Is (choice inner_rows) t → Is (choice described_rows) (described_tree descriptor t)
 described_is None d = among inner_rows (Shape.swap (Shape.seq (Shape.fixed 0x4d) (Shape.ix space.Type_)) (choice inner_rows) ∷ []) d
 described_is (Some i) d = Is.later {k = 3} (Is.later {k = 2} (Is.later {k = 1} (Is.later {k = 0} (Is.first (Is.swap (Is.seq Is.fixed Is.ix) d)))))
-
-described_frameless : (descriptor : Option ℕ) (t : Tree) → frames t ≡ [] → frames (described_tree descriptor t) ≡ []
-described_frameless None t e = e
-described_frameless (Some i) t e = e
 
 describing_is : (describes : Option ℕ) {t : Tree} → Is (choice described_rows) t → Is (choice describing_rows) (describing_tree describes t)
 describing_is None d = among described_rows (Shape.swap (Shape.seq (Shape.fixed 0x4c) (Shape.ix space.Type_)) (choice described_rows) ∷ []) d
 describing_is (Some i) d = Is.later {k = 4} (Is.later {k = 3} (Is.later {k = 2} (Is.later {k = 1} (Is.later {k = 0} (Is.first (Is.swap (Is.seq Is.fixed Is.ix) d))))))
 
-describing_frameless : (describes : Option ℕ) (t : Tree) → frames t ≡ [] → frames (describing_tree describes t) ≡ []
-describing_frameless None t e = e
-describing_frameless (Some i) t e = e
-
 shared_is : (shared : Bool) {t : Tree} → Is (choice describing_rows) t → Is (choice composite_rows) (shared_composite_tree shared t)
 shared_is false d = among describing_rows (Shape.seq (Shape.fixed 0x65) (choice describing_rows) ∷ []) d
 shared_is true d = Is.later {k = 5} (Is.later {k = 4} (Is.later {k = 3} (Is.later {k = 2} (Is.later {k = 1} (Is.later {k = 0} (Is.first (Is.seq Is.fixed d)))))))
 
-shared_frameless : (shared : Bool) (t : Tree) → frames t ≡ [] → frames (shared_composite_tree shared t) ≡ []
-shared_frameless false t e = e
-shared_frameless true t e = e
-
 composite_is : (ty : CompositeType) → Is (choice composite_rows) (composite_tree ty)
 composite_is ty = shared_is ty.shared (describing_is ty.describes (described_is ty.descriptor (inner_is ty.inner)))
-
-composite_frameless : (ty : CompositeType) → frames (composite_tree ty) ≡ []
-composite_frameless ty =
-    shared_frameless ty.shared _ (describing_frameless ty.describes _ (described_frameless ty.descriptor _ (inner_frameless ty.inner)))
 
 -- ---- subtypes and groups
 
 supertypes_are : (supertypes : List ℕ) → Is (Shape.vec (Shape.ix space.Type_)) (supertypes_tree supertypes)
 supertypes_are supertypes = Is.vec (items_are (Shape.ix space.Type_) type_index (λ i. Is.ix) supertypes)
 
-supertypes_frameless : (supertypes : List ℕ) → frames (supertypes_tree supertypes) ≡ []
-supertypes_frameless supertypes = items_frameless type_index (λ i. refl) supertypes
-
-sub_parts_are : (is_final : Bool) (supertypes : List ℕ) {t : Tree} → Is (choice composite_rows) t → Is (choice sub_rows) (sub_parts is_final supertypes t)
-sub_parts_are true is d = Is.first (Is.final (items_are (Shape.ix space.Type_) type_index (λ i. Is.ix) is) (Is.ref d))
-sub_parts_are false is d = Is.later {k = 0} (Is.first (Is.seq Is.fixed (Is.seq (supertypes_are is) (Is.ref d))))
-
-sub_parts_frameless : (is_final : Bool) (supertypes : List ℕ) (t : Tree) → frames t ≡ [] → frames (sub_parts is_final supertypes t) ≡ []
-sub_parts_frameless true is t e = ap₂ (λ (y z : List ℕ). y ++ z) (items_frameless type_index (λ i. refl) is) e
-sub_parts_frameless false is t e = ap₂ (λ (y z : List ℕ). y ++ z) (supertypes_frameless is) e
+sub_of_is : (is_final : Bool) (supertypes : List ℕ) {t : Tree} → Is (choice composite_rows) t → Is (choice sub_rows) (sub_type_of is_final (map type_index supertypes) t)
+sub_of_is true is d = Is.first (Is.final (items_are (Shape.ix space.Type_) type_index (λ i. Is.ix) is) (Is.ref d))
+sub_of_is false is d = Is.later {k = 0} (Is.first (Is.seq Is.fixed (Is.seq (supertypes_are is) (Is.ref d))))
 
 sub_is : (ty : SubType) → Is (choice sub_rows) (sub_type_tree ty)
-sub_is ty = sub_parts_are ty.is_final ty.supertype_idxs (composite_is ty.composite_type)
+sub_is ty = sub_of_is ty.is_final ty.supertype_idxs (composite_is ty.composite_type)
 
-sub_frameless : (ty : SubType) → frames (sub_type_tree ty) ≡ []
-sub_frameless ty = sub_parts_frameless ty.is_final ty.supertype_idxs _ (composite_frameless ty.composite_type)
-
-group_parts_are : (explicit : Bool) (types : List SubType) → (explicit ≡ false → length types ≡ 1) → Is (choice group_rows) (group_parts explicit types)
-group_parts_are true types h =
+group_of_is : (explicit : Bool) (types : List SubType) → (explicit ≡ false → length types ≡ 1) → Is (choice group_rows) (group_of explicit (map sub_type_tree types))
+group_of_is true types h =
     Is.later {k = 1} (Is.later {k = 0} (Is.first (Is.seq Is.fixed (Is.vec (items_are (Shape.ref Named.sub) sub_type_tree (λ ty. Is.ref (sub_is ty)) types)))))
-group_parts_are false (ty ∷ types) h = among sub_rows (Shape.seq (Shape.fixed 0x4e) (Shape.vec (Shape.ref Named.sub)) ∷ []) (sub_is ty)
-group_parts_are false [] h = absurd (omega (arith, h refl))
+group_of_is false (ty ∷ types) h = among sub_rows (Shape.seq (Shape.fixed 0x4e) (Shape.vec (Shape.ref Named.sub)) ∷ []) (sub_is ty)
+group_of_is false [] h = absurd (omega (arith, h refl))
 
-group_parts_frameless : (explicit : Bool) (types : List SubType) → frames (group_parts explicit types) ≡ []
-group_parts_frameless true types = items_frameless sub_type_tree sub_frameless types
-group_parts_frameless false (ty ∷ types) = sub_frameless ty
-group_parts_frameless false [] = refl
-
--- what is in range spells a group
-pub group_spelled : (group : RecGroup) → InRange (group_tree group) →
-    Spells (Shape.ref Named.group) (normal (group_tree group)) (group_tree group)
-group_spelled group r = record {
-  shaped = Is.ref (group_parts_are group.explicit group.types group.bare_holds_one);
-  spelled = read_back (group_tree group) r (frameless_fits (group_tree group) (group_parts_frameless group.explicit group.types));
-}
+pub group_is : (group : RecGroup) → Is (Shape.ref Named.group) (group_tree group)
+group_is group = Is.ref (group_of_is group.explicit group.types group.bare_holds_one)

@@ -7,12 +7,13 @@ use mathlib.Core.Logic.{∥∥₁_elim, ∥∥₁_prop}
 use Rattle.wasm_shapes.specs.Tree.{Tree, normal}
 use Rattle.wasm_shapes.specs.TreeCode.{trees_code}
 use Rattle.wasm_shapes.specs.Shape.{Shape}
-use Rattle.wasm_shapes.specs.Module.{body as body_shape, code_row}
+use Rattle.wasm_shapes.specs.Module.{body as body_shape}
 use Rattle.wasm_shapes.specs.Sound.{sound}
+use Rattle.wasm_shapes.specs.Types.{rows_tree, vector_tree}
 use Rattle.wasm_shapes.specs.Spells.{Is, Spelled}
 use Rattle.wasm_shapes.proofs.Laws.{one_tree}
 use Rattle.wasm_write.specs.declared.types.ValType.{ValType}
-use Rattle.wasm_write.specs.Held.{rows_tree, body_tree, AreHeld, rows_are_one, listed, listed_rows}
+use Rattle.wasm_write.specs.Held.{AreHeld, rows_are_one, listed, listed_rows}
 use Rattle.wasm_write.specs.Types.{val_type_tree}
 
 -- ---- a function
@@ -53,7 +54,7 @@ GainsOperators old bytes new = (rows : List Tree) → AreOperators bytes rows �
 
 -- the locals behind their number, and the operators
 abbrev pub function_body : Body → Tree
-function_body f = Tree.pair (body_tree f.locals) (rows_tree f.operators)
+function_body f = Tree.pair (vector_tree f.locals) (rows_tree f.operators)
 
 -- the same in its frame, as a row of a code section
 abbrev pub code_tree : Body → Tree
@@ -61,9 +62,6 @@ code_tree f = Tree.sized (function_body f)
 
 pub body_sound : sound body_shape ≡ true
 body_sound = refl
-
-pub code_sound : sound (Shape.many code_row) ≡ true
-code_sound = refl
 
 -- a function whose normal spelling these bytes are
 pub record IsBody (bytes : List ℕ) (f : Body) : Type 0 where

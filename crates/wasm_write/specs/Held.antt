@@ -9,21 +9,14 @@ use Rattle.wasm_shapes.specs.TreeCode.{trees_code}
 use Rattle.wasm_shapes.specs.Shape.{Shape}
 use Rattle.wasm_shapes.specs.Sound.{sound}
 use Rattle.wasm_shapes.specs.Spells.{Is, Spelled, Spells}
-use Rattle.wasm_shapes.specs.Rows.{rows_then}
+use Rattle.wasm_shapes.specs.Types.{rows_tree, vector_tree}
 use Rattle.wasm_shapes.proofs.Laws.{one_tree}
-
--- rows one behind another
-abbrev pub rows_tree : List Tree → Tree
-rows_tree rows = rows_then rows Tree.nil
-
--- the same behind their number, as the body of a section
-abbrev pub body_tree : List Tree → Tree
-body_tree rows = Tree.vec (rows_tree rows)
 
 -- The body of a section spells a vector of rows of a shape, and whatever other shape it has, as that of the rows in force.
 pub record BodySpells (row : Shape) (rows : List Tree) : Type 0 where
-  pub spells : ∥ Spells (Shape.vec row) (normal (body_tree rows)) (body_tree rows) ∥₁
-  pub reads_back : (shape : Shape) → Is shape (body_tree rows) → ∥ Spells shape (normal (body_tree rows)) (body_tree rows) ∥₁
+  pub spells : ∥ Spells (Shape.vec row) (normal (vector_tree rows)) (vector_tree rows) ∥₁
+  pub reads_back : (shape : Shape) → Is shape (vector_tree rows) →
+      ∥ Spells shape (normal (vector_tree rows)) (vector_tree rows) ∥₁
 
 -- so many rows of a shape, whose normal spelling these bytes are
 pub record AreHeld (shape : Shape) (count : ℕ) (bytes : List ℕ) (rows : List Tree) : Type 0 where

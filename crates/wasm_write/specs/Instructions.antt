@@ -8,6 +8,7 @@ use Rattle.wasm_shapes.specs.declared.ImmKind.TheVariants as kind
 use Rattle.wasm_shapes.specs.declared.Opcode.{Opcode}
 use Rattle.wasm_shapes.specs.Operators.{kinds_of, code_of}
 use Rattle.wasm_shapes.specs.Tree.{Tree}
+use Rattle.wasm_shapes.specs.Types.{led, vector_tree}
 use Rattle.wasm_write.specs.declared.types.RefType.{RefType}
 use Rattle.wasm_write.specs.declared.types.BlockType.{BlockType}
 use Rattle.wasm_write.specs.declared.types.BlockType.TheVariants as block
@@ -17,8 +18,7 @@ use Rattle.wasm_write.specs.declared.types.Handle.{Handle}
 use Rattle.wasm_write.specs.declared.types.Handle.TheVariants as handle
 use Rattle.wasm_write.specs.declared.types.Imm.{Imm}
 use Rattle.wasm_write.specs.declared.types.Imm.TheVariants as imm
-use Rattle.wasm_write.specs.Held.{body_tree}
-use Rattle.wasm_write.specs.Types.{led, signed_index, heap_type_tree, val_type_tree, val_types_tree}
+use Rattle.wasm_write.specs.Types.{signed_index, heap_type_tree, val_type_tree, val_types_tree}
 
 -- ---- kinds
 
@@ -106,7 +106,7 @@ cast_flags true true = 3
 
 -- labels and the default one
 abbrev pub targets_tree : List ℕ → ℕ → Tree
-targets_tree targets default = Tree.pair (body_tree (map label_tree targets)) (Tree.u32 default)
+targets_tree targets default = Tree.pair (vector_tree (map label_tree targets)) (Tree.u32 default)
 
 -- the flags, the label and the heap types of a cast
 abbrev pub cast_tree : ℕ → RefType → RefType → Tree
@@ -132,9 +132,9 @@ imm_tree (imm.Sixteen bs) = Tree.raw bs.now
 imm_tree (imm.Lanes bs) = Tree.raw bs.now
 imm_tree (imm.Lane b) = Tree.byte b
 imm_tree (imm.Heap ty) = heap_type_tree ty
-imm_tree (imm.Catches catches) = body_tree (map catch_tree catches)
+imm_tree (imm.Catches catches) = vector_tree (map catch_tree catches)
 imm_tree (imm.Cast label from to) = cast_tree label from to
-imm_tree (imm.Handlers handlers) = body_tree (map handle_tree handlers)
+imm_tree (imm.Handlers handlers) = vector_tree (map handle_tree handlers)
 imm_tree imm.Zero = Tree.fixed 0x00
 
 -- immediates one behind another

@@ -1,10 +1,9 @@
 -- The trees that the types of a core module stand for, as they are written (WebAssembly Core Specification 3.0,
 -- section 5.3). Each is of the table with all its rows.
-use Rattle.std.specs.Prelude.{ℕ, ◌+◌, Bool, true, false, List, [], ◌∷◌, map, Option, Some, None}
-use Rattle.std.specs.Option.{is_some}
+use Rattle.std.specs.Prelude.{ℕ, Bool, true, false, List, map, Option, option_map}
 use Rattle.wasm_shapes.specs.declared.Space.TheVariants as space
 use Rattle.wasm_shapes.specs.Tree.{Tree}
-use Rattle.wasm_write.specs.Held.{rows_tree, body_tree}
+use Rattle.wasm_shapes.specs.Types.{led, vector_tree, shared_tree, mutable_of, behind_descriptor, behind_described, shared_composite_tree, sub_type_of, group_of, table_of, memory_of, global_of, tag_of}
 use Rattle.wasm_write.specs.declared.types.AbstractHeapType.{AbstractHeapType}
 use Rattle.wasm_write.specs.declared.types.AbstractHeapType.TheVariants as abstract
 use Rattle.wasm_write.specs.declared.types.HeapType.{HeapType}
@@ -35,10 +34,6 @@ type_index i = Tree.ix space.Type_ i
 abbrev pub signed_index : ℕ → Tree
 signed_index i = Tree.sx space.Type_ i
 
--- a row that begins with its byte
-abbrev pub led : ℕ → Tree → Tree
-led b t = Tree.pair (Tree.fixed b) t
-
 -- ---- heap types
 
 abbrev pub abstract_tree : AbstractHeapType → Tree
@@ -57,12 +52,8 @@ abstract_tree abstract.NoExn = Tree.row 11 (Tree.fixed 0x74)
 abstract_tree abstract.Cont = Tree.row 12 (Tree.fixed 0x68)
 abstract_tree abstract.NoCont = Tree.row 13 (Tree.fixed 0x75)
 
-abbrev pub shared_tree : Bool → AbstractHeapType → Tree
-shared_tree false ty = Tree.row 0 (abstract_tree ty)
-shared_tree true ty = Tree.row 1 (led 0x65 (abstract_tree ty))
-
 abbrev pub heap_type_tree : HeapType → Tree
-heap_type_tree (heap.Abstract shared ty) = shared_tree shared ty
+heap_type_tree (heap.Abstract shared ty) = shared_tree shared (abstract_tree ty)
 heap_type_tree (heap.Exact i) = Tree.row 2 (led 0x62 (type_index i))
 heap_type_tree (heap.Concrete i) = Tree.row 3 (signed_index i)
 
@@ -70,7 +61,7 @@ heap_type_tree (heap.Concrete i) = Tree.row 3 (signed_index i)
 
 -- one that may be null: as its heap type alone where that is abstract
 abbrev pub nullable_tree : HeapType → Tree
-nullable_tree (heap.Abstract shared ty) = Tree.row 1 (Tree.spare 0x63 (shared_tree shared ty))
+nullable_tree (heap.Abstract shared ty) = Tree.row 1 (Tree.spare 0x63 (shared_tree shared (abstract_tree ty)))
 nullable_tree (heap.Exact i) = Tree.row 1 (Tree.kept 0x63 (Tree.row 0 (led 0x62 (type_index i))))
 nullable_tree (heap.Concrete i) = Tree.row 1 (Tree.kept 0x63 (Tree.row 1 (signed_index i)))
 
@@ -91,7 +82,7 @@ val_type_tree (value.Ref ty) = Tree.row 5 (ref_type_tree ty)
 
 -- value types behind their number
 abbrev pub val_types_tree : List ValType → Tree
-val_types_tree types = body_tree (map val_type_tree types)
+val_types_tree types = vector_tree (map val_type_tree types)
 
 -- ---- fields
 
@@ -100,12 +91,8 @@ storage_type_tree stored.I8 = Tree.row 0 (Tree.fixed 0x78)
 storage_type_tree stored.I16 = Tree.row 1 (Tree.fixed 0x77)
 storage_type_tree (stored.Val ty) = Tree.row 2 (val_type_tree ty)
 
-abbrev pub mutable_tree : Bool → Tree
-mutable_tree false = Tree.row 0 (Tree.fixed 0x00)
-mutable_tree true = Tree.row 1 (Tree.fixed 0x01)
-
 abbrev pub field_type_tree : FieldType → Tree
-field_type_tree ty = Tree.pair (storage_type_tree ty.element_type) (mutable_tree ty.mutable)
+field_type_tree ty = Tree.pair (storage_type_tree ty.element_type) (mutable_of ty.mutable)
 
 -- ---- composite types
 
@@ -115,96 +102,52 @@ func_type_tree ty = Tree.pair (val_types_tree ty.params) (val_types_tree ty.resu
 abbrev pub inner_tree : CompositeInnerType → Tree
 inner_tree (inner.Func ty) = Tree.row 0 (led 0x60 (func_type_tree ty))
 inner_tree (inner.Array ty) = Tree.row 1 (led 0x5e (field_type_tree ty.0))
-inner_tree (inner.Struct ty) = Tree.row 2 (led 0x5f (body_tree (map field_type_tree ty.fields)))
+inner_tree (inner.Struct ty) = Tree.row 2 (led 0x5f (vector_tree (map field_type_tree ty.fields)))
 inner_tree (inner.Cont ty) = Tree.row 3 (led 0x5d (signed_index ty.0))
 
 -- behind its descriptor, where it has one
 abbrev pub described_tree : Option ℕ → Tree → Tree
-described_tree None t = t
-described_tree (Some i) t = Tree.row 4 (Tree.swap (led 0x4d (type_index i)) t)
+described_tree descriptor t = behind_descriptor (option_map type_index descriptor) t
 
 -- behind what it describes, where it describes a type
 abbrev pub describing_tree : Option ℕ → Tree → Tree
-describing_tree None t = t
-describing_tree (Some i) t = Tree.row 5 (Tree.swap (led 0x4c (type_index i)) t)
+describing_tree describes t = behind_described (option_map type_index describes) t
 
-abbrev pub shared_composite_tree : Bool → Tree → Tree
-shared_composite_tree false t = t
-shared_composite_tree true t = Tree.row 6 (led 0x65 t)
+-- one that is not shared
+abbrev pub unshared_tree : CompositeType → Tree
+unshared_tree ty = describing_tree ty.describes (described_tree ty.descriptor (inner_tree ty.inner))
 
 abbrev pub composite_tree : CompositeType → Tree
-composite_tree ty =
-    shared_composite_tree ty.shared (describing_tree ty.describes (described_tree ty.descriptor (inner_tree ty.inner)))
+composite_tree ty = shared_composite_tree ty.shared (unshared_tree ty)
 
 -- ---- subtypes and groups
 
 abbrev pub supertypes_tree : List ℕ → Tree
-supertypes_tree supertypes = body_tree (map type_index supertypes)
+supertypes_tree supertypes = vector_tree (map type_index supertypes)
 
--- A final type, which is spelled as its composite type alone where it has no supertypes, or an open one.
-abbrev pub sub_parts : Bool → List ℕ → Tree → Tree
-sub_parts true is t = Tree.row 0 (Tree.final (rows_tree (map type_index is)) t)
-sub_parts false is t = Tree.row 1 (led 0x50 (Tree.pair (supertypes_tree is) t))
+-- the supertypes and the composite type of a subtype
+abbrev pub parts_tree : SubType → Tree
+parts_tree ty = Tree.pair (supertypes_tree ty.supertype_idxs) (composite_tree ty.composite_type)
 
 abbrev pub sub_type_tree : SubType → Tree
-sub_type_tree ty = sub_parts ty.is_final ty.supertype_idxs (composite_tree ty.composite_type)
-
--- a group that is not explicit holds one type, and is spelled as that type alone
-abbrev pub group_parts : Bool → List SubType → Tree
-group_parts true types = Tree.row 2 (led 0x4e (body_tree (map sub_type_tree types)))
-group_parts false (ty ∷ types) = sub_type_tree ty
-group_parts false [] = Tree.nil
+sub_type_tree ty = sub_type_of ty.is_final (map type_index ty.supertype_idxs) (composite_tree ty.composite_type)
 
 abbrev pub group_tree : RecGroup → Tree
-group_tree group = group_parts group.explicit group.types
-
--- ---- limits
-
--- so much where it is set
-abbrev pub flag : ℕ → Bool → ℕ
-flag n false = 0
-flag n true = n
-
--- The flags of limits: whether there is a maximum, whether they are shared, whether they count in 64 bits, and whether the
--- logarithm of the page size is written.
-abbrev pub limits_flags : Bool → Bool → Bool → Bool → ℕ
-limits_flags maximum shared wide page = flag 1 maximum + flag 2 shared + flag 4 wide + flag 8 page
-
--- the minimum, and the maximum behind it
-abbrev pub bounds_tree : ℕ → Option ℕ → Tree
-bounds_tree minimum None = Tree.u64 minimum
-bounds_tree minimum (Some maximum) = Tree.pair (Tree.u64 minimum) (Tree.u64 maximum)
-
--- the logarithm of the page size behind them
-abbrev pub paged_tree : Option ℕ → Tree → Tree
-paged_tree None t = t
-paged_tree (Some page) t = Tree.pair t (Tree.u32 page)
-
--- limits behind their flags, which are the row's number
-abbrev pub limits_tree : ℕ → Tree → Tree
-limits_tree flags t = Tree.row flags (led flags t)
+group_tree group = group_of group.explicit (map sub_type_tree group.types)
 
 -- ---- what is imported
 
 abbrev pub table_type_tree : TableType → Tree
-table_type_tree ty = Tree.pair (ref_type_tree ty.element_type)
-    (limits_tree (limits_flags (is_some ty.maximum) ty.shared ty.table64 false) (bounds_tree ty.minimum ty.maximum))
+table_type_tree ty = table_of (ref_type_tree ty.element_type) ty.shared ty.table64 ty.minimum ty.maximum
 
 abbrev pub memory_type_tree : MemoryType → Tree
-memory_type_tree ty =
-    limits_tree (limits_flags (is_some ty.maximum) ty.shared ty.memory64 (is_some ty.page_size_log2))
-    (paged_tree ty.page_size_log2 (bounds_tree ty.minimum ty.maximum))
-
--- whether a global may change, and whether it is shared
-abbrev pub global_flags : Bool → Bool → ℕ
-global_flags mutable shared = flag 1 mutable + flag 2 shared
+memory_type_tree ty = memory_of ty.shared ty.memory64 ty.minimum ty.maximum ty.page_size_log2
 
 abbrev pub global_type_tree : GlobalType → Tree
-global_type_tree ty = Tree.pair (val_type_tree ty.val_type)
-    (Tree.row (global_flags ty.mutable ty.shared) (Tree.fixed (global_flags ty.mutable ty.shared)))
+global_type_tree ty = global_of (val_type_tree ty.val_type) ty.mutable ty.shared
 
 abbrev pub tag_type_tree : TagType → Tree
-tag_type_tree ty = led 0x00 (type_index ty.func_type_idx)
+tag_type_tree ty = tag_of ty.func_type_idx
 
 abbrev pub entity_tree : EntityType → Tree
 entity_tree (entity.Function i) = Tree.row 0 (led 0x00 (type_index i))

@@ -4,7 +4,6 @@ ghost use Rattle.wasm_shapes.specs.Tree.{normal};
 ghost use Rattle.wasm_shapes.specs.Spells.{Spells};
 ghost use Rattle.wasm_shapes.specs.Fits.{InRange};
 ghost use Rattle.wasm_write.specs.Faults.{IfTooLarge};
-ghost use Rattle.wasm_write.specs.Held.{body_tree};
 ghost use Rattle.wasm_write.specs.Instructions.{HasKinds, instruction_tree, operator_tree};
 ghost use Rattle.wasm_shapes.specs.Module.{body as body_shape};
 ghost use Rattle.wasm_write.specs.Bodies.{HasOperators, HeldBody, HeldBody-prop, function_body, local_tree, with_operator, GainsOperators};
@@ -14,6 +13,7 @@ use crate::immediates::write_bytes;
 use crate::instructions::{Instruction, write_operator};
 use crate::types::{Imm, ValType};
 use crate::types_write::write_val_type;
+use crate::vectors::{InCode, ItemOf, write_list};
 use std::alloc::Global;
 use std::marker::Model;
 use wasm_leb::{List, NoMemory, write_u32};
@@ -53,24 +53,17 @@ fn write_local(out: &mut Vec<u8>, local: (u32, ValType)) -> Result<(), NoMemory>
     }
 }
 
-/// Appends locals behind their number, or a part of that where memory is wanting.
-fn write_locals(out: &mut Vec<u8>, locals: &[(u32, ValType)]) -> Result<(), NoMemory>
-    requires { length locals.now < 2 ^ 32 }
-    ensures ok { OnOk result (out.new.items ≡ out.old.items ++ normal (body_tree (map local_tree locals.now))) }
-    ensures in_range { OnOk result (InRange (body_tree (map local_tree locals.now))) }
-    ensures err { OnErr result (take (vec_len out.old) out.new.items ≡ out.old.items) }
-{
-    match write_u32(out, locals.len() as u32) {
-        Ok(()) => {}
-        Err(NoMemory) => return Err(NoMemory),
-    }
-    for local in locals {
-        match write_local(out, *local) {
-            Ok(()) => {}
-            Err(NoMemory) => return Err(NoMemory),
+impl ItemOf<InCode> for (u32, ValType) {
+    ghost use Rattle.wasm_write.specs.Bodies.{local_tree};
+
+    ghost tree = { local_tree };
+
+    fn write(&self, out: &mut Vec<u8>) -> Result<(), WriteFault> {
+        match write_local(out, *self) {
+            Ok(()) => Ok(()),
+            Err(NoMemory) => Err(WriteFault::NoMemory),
         }
     }
-    Ok(())
 }
 
 impl Function {
@@ -78,9 +71,11 @@ impl Function {
     ///
     /// `TooLarge` comes exactly where there are more than 2^32 - 1 pairs, with their number.
     pub fn new(alloc: Global, locals: &List<(u32, ValType)>) -> Result<Function, WriteFault>
-        ensures ok { IfOk result (λ f. f ≡ record { locals = map local_tree locals.now; operators = [] }) }
+        ensures ok { IfOk result
+            (λ f. f ≡ record { locals = map local_tree locals.now; operators = [] }) }
         ensures fits { OnOk result (length locals.now < 2 ^ 32) }
-        ensures large { IfErr result (λ e. IfTooLarge e (λ size. (size ≡ length locals.now) × (2 ^ 32 - 1 < size))) }
+        ensures large { IfErr result (λ e. IfTooLarge e
+            (λ size. (size ≡ length locals.now) × (2 ^ 32 - 1 < size))) }
     {
         let count = locals.len();
         if count > u32::MAX as usize {
@@ -90,7 +85,7 @@ impl Function {
             Ok(bytes) => bytes,
             Err(_) => return Err(WriteFault::NoMemory),
         };
-        match write_locals(&mut bytes, locals.as_slice()) {
+        match write_list(&mut bytes, locals.as_slice()) {
             Ok(()) => Ok(Function { bytes }),
             Err(NoMemory) => Err(WriteFault::NoMemory),
         }
@@ -98,7 +93,8 @@ impl Function {
 
     /// Adds an operator. The one refusal is want of memory, and changes nothing.
     pub fn instruction(&mut self, instruction: &Instruction<'_>) -> Result<(), WriteFault>
-        ensures ok { OnOk result (self.new ≡ with_operator self.old (instruction_tree instruction.now)) }
+        ensures ok { OnOk result
+            (self.new ≡ with_operator self.old (instruction_tree instruction.now)) }
         ensures err { OnErr result (self.new ≡ self.old) }
         ensures wants { IfErr result (λ e. e ≡ WriteFault.NoMemory) }
     {

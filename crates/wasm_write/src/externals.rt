@@ -1,10 +1,16 @@
 //! The types of tables, memories, globals, tags and of what is imported, in their normal spelling.
-ghost use Rattle.std.specs.Prelude.{◌≡◌, ◌++◌, ◌≤◌, take, vec_len, OnOk, OnErr};
+ghost use Rattle.std.specs.Prelude.{◌≡◌, ◌++◌, ◌≤◌, take, vec_len, OnOk, OnErr, IfErr};
 ghost use Rattle.wasm_shapes.specs.Tree.{normal};
 ghost use Rattle.wasm_shapes.specs.Fits.{InRange};
-ghost use Rattle.wasm_write.specs.Types.{flag, limits_flags, bounds_tree, paged_tree, limits_tree, table_type_tree, memory_type_tree, global_flags, global_type_tree, tag_type_tree, entity_tree};
+ghost use Rattle.wasm_shapes.specs.Types.{flag, limits_flags, bounds_tree, paged_tree, limits_tree, global_flags};
+ghost use Rattle.wasm_write.specs.Counts.{counts, IsTooLarge};
+ghost use Rattle.wasm_write.specs.Faults.{IfTooLarge};
+ghost use Rattle.wasm_write.specs.Rows.{single_tree};
+ghost use Rattle.wasm_write.specs.Types.{table_type_tree, memory_type_tree, global_type_tree, tag_type_tree, entity_tree};
 
-use crate::types::{EntityType, GlobalType, MemoryType, TableType, TagKind, TagType};
+use crate::fault::WriteFault;
+use crate::fields::write_name;
+use crate::types::{EntityType, GlobalType, Import, MemoryType, TableType, TagKind, TagType};
 use crate::types_write::{write_byte, write_marked, write_ref_type, write_val_type};
 use wasm_leb::{NoMemory, write_u32, write_u64};
 
@@ -27,7 +33,8 @@ fn flags_of(maximum: bool, shared: bool, wide: bool, page: bool) -> u8
 
 /// Appends the minimum and the maximum, or a part of them where memory is wanting.
 fn write_bounds(out: &mut Vec<u8>, minimum: u64, maximum: Option<u64>) -> Result<(), NoMemory>
-    ensures ok { OnOk result (out.new.items ≡ out.old.items ++ normal (bounds_tree minimum maximum)) }
+    ensures ok { OnOk result
+        (out.new.items ≡ out.old.items ++ normal (bounds_tree minimum maximum)) }
     ensures in_range { OnOk result (InRange (bounds_tree minimum maximum)) }
     ensures err { OnErr result (take (vec_len out.old) out.new.items ≡ out.old.items) }
 {
@@ -47,7 +54,8 @@ fn write_paged(
     maximum: Option<u64>,
     page: Option<u32>,
 ) -> Result<(), NoMemory>
-    ensures ok { OnOk result (out.new.items ≡ out.old.items ++ normal (paged_tree page (bounds_tree minimum maximum))) }
+    ensures ok { OnOk result
+        (out.new.items ≡ out.old.items ++ normal (paged_tree page (bounds_tree minimum maximum))) }
     ensures in_range { OnOk result (InRange (paged_tree page (bounds_tree minimum maximum))) }
     ensures err { OnErr result (take (vec_len out.old) out.new.items ≡ out.old.items) }
 {
@@ -68,8 +76,11 @@ fn write_limits(
     maximum: Option<u64>,
     page: Option<u32>,
 ) -> Result<(), NoMemory>
-    ensures ok { OnOk result (out.new.items ≡ out.old.items ++ normal (limits_tree flags (paged_tree page (bounds_tree minimum maximum)))) }
-    ensures in_range { OnOk result (InRange (limits_tree flags (paged_tree page (bounds_tree minimum maximum)))) }
+    ensures ok { OnOk result
+        (out.new.items ≡ out.old.items
+        ++ normal (limits_tree flags (paged_tree page (bounds_tree minimum maximum)))) }
+    ensures in_range { OnOk result
+        (InRange (limits_tree flags (paged_tree page (bounds_tree minimum maximum)))) }
     ensures err { OnErr result (take (vec_len out.old) out.new.items ≡ out.old.items) }
 {
     match write_byte(out, flags) {
@@ -159,5 +170,27 @@ pub fn write_entity_type(out: &mut Vec<u8>, ty: EntityType) -> Result<(), NoMemo
             Ok(()) => write_tag_type(out, ty),
             Err(NoMemory) => Err(NoMemory),
         },
+    }
+}
+
+/// Appends what is imported (WebAssembly Core Specification 3.0, section 5.5.5), or a part of it where that is refused.
+pub(crate) fn write_import(out: &mut Vec<u8>, import: &Import<'_>) -> Result<(), WriteFault>
+    ensures ok { OnOk result (out.new.items ≡ out.old.items ++ normal (single_tree import.now)) }
+    ensures in_range { OnOk result (InRange (single_tree import.now)) }
+    ensures err { OnErr result (take (vec_len out.old) out.new.items ≡ out.old.items) }
+    ensures large { IfErr result (λ e. IfTooLarge e
+        (IsTooLarge (counts (single_tree import.now)))) }
+{
+    match write_name(out, import.module) {
+        Ok(()) => {}
+        Err(fault) => return Err(fault),
+    }
+    match write_name(out, import.name) {
+        Ok(()) => {}
+        Err(fault) => return Err(fault),
+    }
+    match write_entity_type(out, import.ty) {
+        Ok(()) => Ok(()),
+        Err(NoMemory) => Err(WriteFault::NoMemory),
     }
 }

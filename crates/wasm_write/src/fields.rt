@@ -1,5 +1,6 @@
 //! Fields in their normal spelling.
 ghost use Rattle.std.specs.Prelude.{◌≡◌, ◌++◌, ◌<◌, ◌-◌, ◌^◌, length, take, vec_len, OnOk, OnErr, IfErr};
+ghost use Rattle.wasm_leb.specs.Leb.{leb};
 ghost use Rattle.wasm_shapes.specs.Tree.{Tree, normal};
 ghost use Rattle.wasm_shapes.specs.Fits.{InRange};
 ghost use Rattle.wasm_write.specs.Faults.{IfTooLarge};
@@ -8,6 +9,22 @@ ghost use Rattle.wasm_write.specs.Rows.{item_tree};
 use crate::fault::WriteFault;
 use crate::types::ExportKind;
 use wasm_leb::{NoMemory, write_u32};
+
+/// Appends bytes behind a number, or a part of that where memory is wanting.
+#[inline(always)]
+pub(crate) fn write_behind(out: &mut Vec<u8>, number: u32, bytes: &[u8]) -> Result<(), NoMemory>
+    ensures ok { OnOk result (out.new.items ≡ out.old.items ++ (leb number ++ bytes.now)) }
+    ensures err { OnErr result (take (vec_len out.old) out.new.items ≡ out.old.items) }
+{
+    match write_u32(out, number) {
+        Ok(()) => {}
+        Err(NoMemory) => return Err(NoMemory),
+    }
+    match out.extend_from_slice(bytes) {
+        Ok(()) => Ok(()),
+        Err(_) => Err(NoMemory),
+    }
+}
 
 /// Appends a name behind its length (WebAssembly Core Specification 3.0, section 5.2.4). A refusal leaves what stood in
 /// `out` before.
@@ -18,19 +35,16 @@ pub fn write_name(out: &mut Vec<u8>, name: &str) -> Result<(), WriteFault>
     ensures fits { OnOk result (length name.now < 2 ^ 32) }
     ensures in_range { OnOk result (InRange (Tree.name name.now)) }
     ensures err { OnErr result (take (vec_len out.old) out.new.items ≡ out.old.items) }
-    ensures large { IfErr result (λ e. IfTooLarge e (λ size. (size ≡ length name.now) × (2 ^ 32 - 1 < size))) }
+    ensures large { IfErr result (λ e. IfTooLarge e
+        (λ size. (size ≡ length name.now) × (2 ^ 32 - 1 < size))) }
 {
     let size = name.len();
     if size > u32::MAX as usize {
         return Err(WriteFault::TooLarge { size: size as u64 });
     }
-    match write_u32(out, size as u32) {
-        Ok(()) => {}
-        Err(NoMemory) => return Err(WriteFault::NoMemory),
-    }
-    match out.extend_from_slice(name.as_bytes()) {
+    match write_behind(out, size as u32, name.as_bytes()) {
         Ok(()) => Ok(()),
-        Err(_) => Err(WriteFault::NoMemory),
+        Err(NoMemory) => Err(WriteFault::NoMemory),
     }
 }
 
@@ -38,6 +52,7 @@ pub fn write_name(out: &mut Vec<u8>, name: &str) -> Result<(), WriteFault>
 /// leaves what stood in `out` before.
 pub fn write_item(out: &mut Vec<u8>, kind: ExportKind, index: u32) -> Result<(), NoMemory>
     ensures ok { OnOk result (out.new.items ≡ out.old.items ++ normal (item_tree kind index)) }
+    ensures in_range { OnOk result (InRange (item_tree kind index)) }
     ensures err { OnErr result (take (vec_len out.old) out.new.items ≡ out.old.items) }
 {
     let byte = match kind {

@@ -1,17 +1,59 @@
 //! Composite types, subtypes and groups in their normal spelling.
-ghost use Rattle.std.specs.Prelude.{◌≡◌, ◌++◌, ◌∷◌, [], map, take, vec_len, OnOk, OnErr, IfErr};
-ghost use Rattle.wasm_shapes.specs.Tree.{Tree, normal};
+ghost use Rattle.std.specs.Prelude.{◌≡◌, ◌++◌, take, vec_len, OnOk, OnErr, IfErr};
+ghost use Rattle.wasm_shapes.specs.Tree.{normal};
 ghost use Rattle.wasm_shapes.specs.Fits.{InRange};
 ghost use Rattle.wasm_write.specs.Counts.{counts, IsTooLarge};
 ghost use Rattle.wasm_write.specs.Faults.{IfTooLarge};
-ghost use Rattle.wasm_write.specs.Held.{body_tree};
-ghost use Rattle.wasm_write.specs.Types.{led, supertypes_tree, func_type_tree, inner_tree, described_tree, describing_tree, composite_tree, sub_type_tree, group_tree};
+ghost use Rattle.wasm_shapes.specs.Types.{led};
+ghost use Rattle.wasm_write.specs.Types.{func_type_tree, inner_tree, described_tree, unshared_tree, composite_tree, parts_tree, sub_type_tree, group_tree};
 
 use crate::fault::WriteFault;
-use crate::types::{CompositeInnerType, CompositeType, FuncType, RecGroup, SubType};
-use crate::types_write::{write_byte, write_field_type, write_marked};
-use crate::vectors::{write_count, write_fields, write_supertypes, write_val_types};
-use wasm_leb::{NoMemory, write_index};
+use crate::types::{
+    CompositeInnerType, CompositeType, FieldType, FuncType, RecGroup, SubType, ValType,
+};
+use crate::types_write::{write_byte, write_field_type, write_marked, write_val_type};
+use crate::vectors::{InTypes, ItemOf, write_vec};
+use wasm_leb::{NoMemory, write_index, write_u32};
+
+impl<P> ItemOf<P> for ValType {
+    ghost use Rattle.wasm_write.specs.Types.{val_type_tree};
+
+    ghost tree = { val_type_tree };
+
+    fn write(&self, out: &mut Vec<u8>) -> Result<(), WriteFault> {
+        match write_val_type(out, *self) {
+            Ok(()) => Ok(()),
+            Err(NoMemory) => Err(WriteFault::NoMemory),
+        }
+    }
+}
+
+impl ItemOf<InTypes> for FieldType {
+    ghost use Rattle.wasm_write.specs.Types.{field_type_tree};
+
+    ghost tree = { field_type_tree };
+
+    fn write(&self, out: &mut Vec<u8>) -> Result<(), WriteFault> {
+        match write_field_type(out, *self) {
+            Ok(()) => Ok(()),
+            Err(NoMemory) => Err(WriteFault::NoMemory),
+        }
+    }
+}
+
+/// A supertype.
+impl ItemOf<InTypes> for u32 {
+    ghost use Rattle.wasm_write.specs.Types.{type_index};
+
+    ghost tree = { type_index };
+
+    fn write(&self, out: &mut Vec<u8>) -> Result<(), WriteFault> {
+        match write_u32(out, *self) {
+            Ok(()) => Ok(()),
+            Err(NoMemory) => Err(WriteFault::NoMemory),
+        }
+    }
+}
 
 /// Appends the parameters and results of a function, or a part of them where that is refused.
 fn write_func_type(out: &mut Vec<u8>, ty: &FuncType) -> Result<(), WriteFault>
@@ -20,11 +62,11 @@ fn write_func_type(out: &mut Vec<u8>, ty: &FuncType) -> Result<(), WriteFault>
     ensures err { OnErr result (take (vec_len out.old) out.new.items ≡ out.old.items) }
     ensures large { IfErr result (λ e. IfTooLarge e (IsTooLarge (counts (func_type_tree ty.now)))) }
 {
-    match write_val_types(out, ty.params.as_slice()) {
+    match write_vec::<InTypes, _>(out, ty.params.as_slice()) {
         Ok(()) => {}
         Err(fault) => return Err(fault),
     }
-    match write_val_types(out, ty.results.as_slice()) {
+    match write_vec::<InTypes, _>(out, ty.results.as_slice()) {
         Ok(()) => Ok(()),
         Err(fault) => Err(fault),
     }
@@ -50,7 +92,7 @@ fn write_inner(out: &mut Vec<u8>, ty: &CompositeInnerType) -> Result<(), WriteFa
             Err(NoMemory) => Err(WriteFault::NoMemory),
         },
         CompositeInnerType::Struct(ty) => match write_byte(out, 0x5f) {
-            Ok(()) => write_fields(out, ty.fields.as_slice()),
+            Ok(()) => write_vec::<InTypes, _>(out, ty.fields.as_slice()),
             Err(NoMemory) => Err(WriteFault::NoMemory),
         },
         CompositeInnerType::Cont(ty) => match write_byte(out, 0x5d) {
@@ -69,10 +111,12 @@ fn write_described(
     descriptor: Option<u32>,
     ty: &CompositeInnerType,
 ) -> Result<(), WriteFault>
-    ensures ok { OnOk result (out.new.items ≡ out.old.items ++ normal (described_tree descriptor (inner_tree ty.now))) }
+    ensures ok { OnOk result
+        (out.new.items ≡ out.old.items ++ normal (described_tree descriptor (inner_tree ty.now))) }
     ensures in_range { OnOk result (InRange (described_tree descriptor (inner_tree ty.now))) }
     ensures err { OnErr result (take (vec_len out.old) out.new.items ≡ out.old.items) }
-    ensures large { IfErr result (λ e. IfTooLarge e (IsTooLarge (counts (described_tree descriptor (inner_tree ty.now))))) }
+    ensures large { IfErr result (λ e. IfTooLarge e
+        (IsTooLarge (counts (described_tree descriptor (inner_tree ty.now))))) }
 {
     match descriptor {
         None => write_inner(out, ty),
@@ -85,10 +129,10 @@ fn write_described(
 
 /// Appends a composite type that is not shared, or a part of it where that is refused.
 fn write_describing(out: &mut Vec<u8>, ty: &CompositeType) -> Result<(), WriteFault>
-    ensures ok { OnOk result (out.new.items ≡ out.old.items ++ normal (describing_tree ty.now.describes (described_tree ty.now.descriptor (inner_tree ty.now.inner)))) }
-    ensures in_range { OnOk result (InRange (describing_tree ty.now.describes (described_tree ty.now.descriptor (inner_tree ty.now.inner)))) }
+    ensures ok { OnOk result (out.new.items ≡ out.old.items ++ normal (unshared_tree ty.now)) }
+    ensures in_range { OnOk result (InRange (unshared_tree ty.now)) }
     ensures err { OnErr result (take (vec_len out.old) out.new.items ≡ out.old.items) }
-    ensures large { IfErr result (λ e. IfTooLarge e (IsTooLarge (counts (describing_tree ty.now.describes (described_tree ty.now.descriptor (inner_tree ty.now.inner)))))) }
+    ensures large { IfErr result (λ e. IfTooLarge e (IsTooLarge (counts (unshared_tree ty.now)))) }
 {
     match ty.describes {
         None => write_described(out, ty.descriptor, &ty.inner),
@@ -118,23 +162,29 @@ fn write_composite(out: &mut Vec<u8>, ty: &CompositeType) -> Result<(), WriteFau
 
 /// Appends the supertypes and the composite type of a subtype, or a part of them where that is refused.
 fn write_parts(out: &mut Vec<u8>, ty: &SubType) -> Result<(), WriteFault>
-    ensures ok { OnOk result (out.new.items ≡ out.old.items ++ normal (Tree.pair (supertypes_tree ty.now.supertype_idxs) (composite_tree ty.now.composite_type))) }
-    ensures in_range { OnOk result (InRange (Tree.pair (supertypes_tree ty.now.supertype_idxs) (composite_tree ty.now.composite_type))) }
+    ensures ok { OnOk result (out.new.items ≡ out.old.items ++ normal (parts_tree ty.now)) }
+    ensures in_range { OnOk result (InRange (parts_tree ty.now)) }
     ensures err { OnErr result (take (vec_len out.old) out.new.items ≡ out.old.items) }
-    ensures large { IfErr result (λ e. IfTooLarge e (IsTooLarge (counts (Tree.pair (supertypes_tree ty.now.supertype_idxs) (composite_tree ty.now.composite_type))))) }
+    ensures large { IfErr result (λ e. IfTooLarge e (IsTooLarge (counts (parts_tree ty.now)))) }
 {
-    match write_supertypes(out, ty.supertype_idxs.as_slice()) {
-        Ok(()) => write_composite(out, &ty.composite_type),
+    match write_vec::<InTypes, _>(out, ty.supertype_idxs.as_slice()) {
+        Ok(()) => {}
+        Err(fault) => return Err(fault),
+    }
+    match write_composite(out, &ty.composite_type) {
+        Ok(()) => Ok(()),
         Err(fault) => Err(fault),
     }
 }
 
 /// Appends supertypes and a composite type behind a byte, or a part of them where that is refused.
 fn write_subtype(out: &mut Vec<u8>, byte: u8, ty: &SubType) -> Result<(), WriteFault>
-    ensures ok { OnOk result (out.new.items ≡ out.old.items ++ normal (led byte (Tree.pair (supertypes_tree ty.now.supertype_idxs) (composite_tree ty.now.composite_type)))) }
-    ensures in_range { OnOk result (InRange (led byte (Tree.pair (supertypes_tree ty.now.supertype_idxs) (composite_tree ty.now.composite_type)))) }
+    ensures ok { OnOk result
+        (out.new.items ≡ out.old.items ++ normal (led byte (parts_tree ty.now))) }
+    ensures in_range { OnOk result (InRange (led byte (parts_tree ty.now))) }
     ensures err { OnErr result (take (vec_len out.old) out.new.items ≡ out.old.items) }
-    ensures large { IfErr result (λ e. IfTooLarge e (IsTooLarge (counts (led byte (Tree.pair (supertypes_tree ty.now.supertype_idxs) (composite_tree ty.now.composite_type)))))) }
+    ensures large { IfErr result (λ e. IfTooLarge e
+        (IsTooLarge (counts (led byte (parts_tree ty.now))))) }
 {
     match write_byte(out, byte) {
         Ok(()) => write_parts(out, ty),
@@ -159,24 +209,14 @@ fn write_sub_type(out: &mut Vec<u8>, ty: &SubType) -> Result<(), WriteFault>
     }
 }
 
-/// Appends subtypes behind their number, or a part of that where it is refused.
-fn write_sub_types(out: &mut Vec<u8>, types: &[SubType]) -> Result<(), WriteFault>
-    ensures ok { OnOk result (out.new.items ≡ out.old.items ++ normal (body_tree (map sub_type_tree types.now))) }
-    ensures in_range { OnOk result (InRange (body_tree (map sub_type_tree types.now))) }
-    ensures err { OnErr result (take (vec_len out.old) out.new.items ≡ out.old.items) }
-    ensures large { IfErr result (λ e. IfTooLarge e (IsTooLarge (counts (body_tree (map sub_type_tree types.now))))) }
-{
-    match write_count(out, types.len()) {
-        Ok(()) => {}
-        Err(fault) => return Err(fault),
+impl ItemOf<InTypes> for SubType {
+    ghost use Rattle.wasm_write.specs.Types.{sub_type_tree};
+
+    ghost tree = { sub_type_tree };
+
+    fn write(&self, out: &mut Vec<u8>) -> Result<(), WriteFault> {
+        write_sub_type(out, self)
     }
-    for ty in types {
-        match write_sub_type(out, ty) {
-            Ok(()) => {}
-            Err(fault) => return Err(fault),
-        }
-    }
-    Ok(())
 }
 
 /// Appends a group of types (WebAssembly Core Specification 3.0, section 5.3.9). One that is not explicit is spelled as its
@@ -192,7 +232,7 @@ pub fn write_group(out: &mut Vec<u8>, group: &RecGroup) -> Result<(), WriteFault
 {
     if group.explicit {
         match write_byte(out, 0x4e) {
-            Ok(()) => write_sub_types(out, group.types.as_slice()),
+            Ok(()) => write_vec::<InTypes, _>(out, group.types.as_slice()),
             Err(NoMemory) => Err(WriteFault::NoMemory),
         }
     } else {

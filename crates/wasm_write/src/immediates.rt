@@ -1,15 +1,93 @@
 //! Immediates in their normal spelling.
-ghost use Rattle.std.specs.Prelude.{◌≡◌, ◌++◌, ◌+◌, ◌<◌, ◌^◌, length, take, vec_len, OnOk, OnErr, IsSome};
+ghost use Rattle.std.specs.Prelude.{◌≡◌, ◌++◌, ◌∷◌, ◌+◌, ◌<◌, take, vec_len, OnOk, OnErr, IsSome};
 ghost use Rattle.wasm_leb.specs.Leb.{leb};
 ghost use Rattle.wasm_shapes.specs.Tree.{Tree, normal};
 ghost use Rattle.wasm_shapes.specs.Fits.{InRange};
 ghost use Rattle.wasm_write.specs.Types.{heap_type_tree};
-ghost use Rattle.wasm_write.specs.Instructions.{imm_kind, imm_tree, block_type_tree, targets_tree, cast_flags, cast_tree};
+ghost use Rattle.wasm_write.specs.Instructions.{imm_kind, imm_tree, block_type_tree, targets_tree, cast_flags, cast_tree, catch_tree, handle_tree};
 
-use crate::types::{BlockType, HeapType, Imm, MemArg, RefType};
-use crate::types_write::{write_byte, write_heap_type, write_val_type};
-use crate::vectors::{write_catches, write_few_val_types, write_handlers, write_labels};
+use crate::fault::WriteFault;
+use crate::types::{BlockType, Catch, Handle, HeapType, Imm, MemArg, RefType};
+use crate::types_write::{write_byte, write_heap_type, write_marked, write_val_type};
+use crate::vectors::{InCode, ItemOf, write_list};
 use wasm_leb::{NoMemory, write_index, write_s32, write_s64, write_u32, write_u64};
+
+/// A label.
+impl ItemOf<InCode> for u32 {
+    ghost use Rattle.wasm_write.specs.Instructions.{label_tree};
+
+    ghost tree = { label_tree };
+
+    fn write(&self, out: &mut Vec<u8>) -> Result<(), WriteFault> {
+        match write_u32(out, *self) {
+            Ok(()) => Ok(()),
+            Err(NoMemory) => Err(WriteFault::NoMemory),
+        }
+    }
+}
+
+impl ItemOf<InCode> for Catch {
+    ghost use Rattle.wasm_write.specs.Instructions.{catch_tree};
+
+    ghost tree = { catch_tree };
+
+    fn write(&self, out: &mut Vec<u8>) -> Result<(), WriteFault> {
+        match write_catch(out, *self) {
+            Ok(()) => Ok(()),
+            Err(NoMemory) => Err(WriteFault::NoMemory),
+        }
+    }
+}
+
+impl ItemOf<InCode> for Handle {
+    ghost use Rattle.wasm_write.specs.Instructions.{handle_tree};
+
+    ghost tree = { handle_tree };
+
+    fn write(&self, out: &mut Vec<u8>) -> Result<(), WriteFault> {
+        match write_handler(out, *self) {
+            Ok(()) => Ok(()),
+            Err(NoMemory) => Err(WriteFault::NoMemory),
+        }
+    }
+}
+
+/// Appends a byte and two numbers, or a part of them where memory is wanting.
+fn write_pair(out: &mut Vec<u8>, byte: u8, first: u32, second: u32) -> Result<(), NoMemory>
+    ensures ok { OnOk result (out.new.items ≡ out.old.items ++ (byte ∷ (leb first ++ leb second))) }
+    ensures err { OnErr result (take (vec_len out.old) out.new.items ≡ out.old.items) }
+{
+    match write_marked(out, byte, first) {
+        Ok(()) => write_u32(out, second),
+        Err(NoMemory) => Err(NoMemory),
+    }
+}
+
+/// Appends what a block catches, or a part of it where memory is wanting.
+fn write_catch(out: &mut Vec<u8>, catch: Catch) -> Result<(), NoMemory>
+    ensures ok { OnOk result (out.new.items ≡ out.old.items ++ normal (catch_tree catch)) }
+    ensures in_range { OnOk result (InRange (catch_tree catch)) }
+    ensures err { OnErr result (take (vec_len out.old) out.new.items ≡ out.old.items) }
+{
+    match catch {
+        Catch::One { tag, label } => write_pair(out, 0x00, tag, label),
+        Catch::OneRef { tag, label } => write_pair(out, 0x01, tag, label),
+        Catch::All { label } => write_marked(out, 0x02, label),
+        Catch::AllRef { label } => write_marked(out, 0x03, label),
+    }
+}
+
+/// Appends a handler, or a part of it where memory is wanting.
+fn write_handler(out: &mut Vec<u8>, handler: Handle) -> Result<(), NoMemory>
+    ensures ok { OnOk result (out.new.items ≡ out.old.items ++ normal (handle_tree handler)) }
+    ensures in_range { OnOk result (InRange (handle_tree handler)) }
+    ensures err { OnErr result (take (vec_len out.old) out.new.items ≡ out.old.items) }
+{
+    match handler {
+        Handle::OnLabel { tag, label } => write_pair(out, 0x00, tag, label),
+        Handle::OnSwitch { tag } => write_marked(out, 0x01, tag),
+    }
+}
 
 /// Appends the type of a block, or a part of it where memory is wanting.
 fn write_block_type(out: &mut Vec<u8>, ty: BlockType) -> Result<(), NoMemory>
@@ -26,12 +104,12 @@ fn write_block_type(out: &mut Vec<u8>, ty: BlockType) -> Result<(), NoMemory>
 
 /// Appends labels and the default one, or a part of them where memory is wanting.
 fn write_targets(out: &mut Vec<u8>, targets: &[u32], default: u32) -> Result<(), NoMemory>
-    requires { length targets.now < 2 ^ 32 }
-    ensures ok { OnOk result (out.new.items ≡ out.old.items ++ normal (targets_tree targets.now default)) }
+    ensures ok { OnOk result
+        (out.new.items ≡ out.old.items ++ normal (targets_tree targets.now default)) }
     ensures in_range { OnOk result (InRange (targets_tree targets.now default)) }
     ensures err { OnErr result (take (vec_len out.old) out.new.items ≡ out.old.items) }
 {
-    match write_labels(out, targets) {
+    match write_list(out, targets) {
         Ok(()) => write_u32(out, default),
         Err(NoMemory) => Err(NoMemory),
     }
@@ -40,7 +118,8 @@ fn write_targets(out: &mut Vec<u8>, targets: &[u32], default: u32) -> Result<(),
 /// Appends the flags, the memory and the offset of a memory access, or a part of them where memory is wanting.
 /// The memory is left out where it is 0.
 fn write_mem_arg(out: &mut Vec<u8>, arg: MemArg) -> Result<(), NoMemory>
-    ensures ok { OnOk result (out.new.items ≡ out.old.items ++ normal (Tree.mem arg.align arg.memory arg.offset)) }
+    ensures ok { OnOk result
+        (out.new.items ≡ out.old.items ++ normal (Tree.mem arg.align arg.memory arg.offset)) }
     ensures in_range { OnOk result (InRange (Tree.mem arg.align arg.memory arg.offset)) }
     ensures err { OnErr result (take (vec_len out.old) out.new.items ≡ out.old.items) }
 {
@@ -56,7 +135,9 @@ fn write_mem_arg(out: &mut Vec<u8>, arg: MemArg) -> Result<(), NoMemory>
 
 /// Appends the flags, the memory and the offset of a memory access, or a part of them where memory is wanting.
 fn write_far_mem_arg(out: &mut Vec<u8>, arg: MemArg) -> Result<(), NoMemory>
-    ensures ok { OnOk result (out.new.items ≡ out.old.items ++ (leb (arg.align + 64) ++ (leb arg.memory ++ leb arg.offset))) }
+    ensures ok { OnOk result
+        (out.new.items ≡ out.old.items
+        ++ (leb (arg.align + 64) ++ (leb arg.memory ++ leb arg.offset))) }
     ensures err { OnErr result (take (vec_len out.old) out.new.items ≡ out.old.items) }
 {
     match write_u32(out, u32::from(arg.align) + 64) {
@@ -84,7 +165,9 @@ fn flags_of(from: bool, to: bool) -> u8
 
 /// Appends two heap types, or a part of them where memory is wanting.
 fn write_heap_types(out: &mut Vec<u8>, from: HeapType, to: HeapType) -> Result<(), NoMemory>
-    ensures ok { OnOk result (out.new.items ≡ out.old.items ++ normal (Tree.pair (heap_type_tree from) (heap_type_tree to))) }
+    ensures ok { OnOk result
+        (out.new.items ≡ out.old.items
+        ++ normal (Tree.pair (heap_type_tree from) (heap_type_tree to))) }
     ensures in_range { OnOk result (InRange (Tree.pair (heap_type_tree from) (heap_type_tree to))) }
     ensures err { OnErr result (take (vec_len out.old) out.new.items ≡ out.old.items) }
 {
@@ -153,7 +236,7 @@ fn write_any_imm(out: &mut Vec<u8>, imm: &Imm<'_>) -> Result<(), NoMemory>
         }
         Imm::Labels { targets, default } => write_targets(out, targets.as_slice(), *default),
         Imm::Index(_, index) => write_u32(out, *index),
-        Imm::Types(types) => write_few_val_types(out, types.as_slice()),
+        Imm::Types(types) => write_list(out, types.as_slice()),
         Imm::Mem(arg) => write_mem_arg(out, *arg),
         Imm::S32(number) => write_s32(out, *number),
         Imm::S64(number) => write_s64(out, *number),
@@ -162,9 +245,9 @@ fn write_any_imm(out: &mut Vec<u8>, imm: &Imm<'_>) -> Result<(), NoMemory>
         Imm::Sixteen(bytes) | Imm::Lanes(bytes) => write_bytes(out, bytes),
         Imm::Lane(byte) => write_byte(out, *byte),
         Imm::Heap(ty) => write_heap_type(out, *ty),
-        Imm::Catches(catches) => write_catches(out, catches.as_slice()),
+        Imm::Catches(catches) => write_list(out, catches.as_slice()),
         Imm::Cast { label, from, to } => write_cast(out, *label, *from, *to),
-        Imm::Handlers(handlers) => write_handlers(out, handlers.as_slice()),
+        Imm::Handlers(handlers) => write_list(out, handlers.as_slice()),
         Imm::Zero => write_byte(out, 0x00),
     }
 }

@@ -134,6 +134,14 @@ impl<'a> Instruction<'a> {
         }
     }
 
+    /// An operator with its immediates, which are known to be of the kinds of its row.
+    pub fn of_kinds(opcode: Opcode, imms: List<Imm<'a>>) -> Instruction<'a>
+        requires { HasKinds opcode imms }
+        ensures { result ≡ record { opcode = opcode; imms = imms.entry } }
+    {
+        Instruction { opcode, imms }
+    }
+
     /// The operator's number.
     pub fn opcode(&self) -> Opcode
         ensures { result ≡ self.now.opcode }
@@ -152,8 +160,11 @@ impl<'a> Instruction<'a> {
     /// `out` before stands there still.
     #[inline(always)]
     pub fn encode(&self, out: &mut Vec<u8>) -> Result<(), NoMemory>
-        ensures ok { OnOk result (out.new.items ≡ out.old.items ++ normal (instruction_tree self.now)) }
-        ensures spells { OnOk result (∥ Spells (Shape.op true) (normal (instruction_tree self.now)) (instruction_tree self.now) ∥₁) }
+        ensures ok { OnOk result
+            (out.new.items ≡ out.old.items ++ normal (instruction_tree self.now)) }
+        ensures spells { OnOk result
+            (∥ Spells (Shape.op true) (normal (instruction_tree self.now))
+            (instruction_tree self.now) ∥₁) }
         ensures err { OnErr result (take (vec_len out.old) out.new.items ≡ out.old.items) }
     {
         write_operator(out, self.opcode, self.imms.as_slice())

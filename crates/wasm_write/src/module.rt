@@ -10,7 +10,7 @@ use std::alloc::Global;
 use std::marker::Model;
 use wasm_leb::{NoMemory, write_u32};
 
-/// A core module under construction (WebAssembly Core Specification 3.0, section 5.5.16).
+/// A core module under construction (WebAssembly Core Specification 3.0, section 5.5.17).
 ///
 /// Contracts see it as the list of its sections, each an id and a body, and its ceiling, the greatest length that a body
 /// may have.
@@ -28,7 +28,10 @@ impl Model for Module {
 
     ghost Value = { Sections };
 
-    ghost view = { λ m. record { ceiling = m.ceiling; sections = held_sections m.count m.bytes.items m.held } };
+    ghost view = { λ m. record {
+      ceiling = m.ceiling;
+      sections = held_sections m.count m.bytes.items m.held;
+    } };
 }
 
 impl Module {
@@ -64,10 +67,13 @@ impl Module {
     ///
     /// `TooLarge` comes exactly where the body is longer than the ceiling, with its length.
     pub fn section<S: Section>(&mut self, section: &S) -> Result<(), WriteFault>
-        ensures ok { OnOk result (self.new ≡ with_section self.old (section_row (S.number section.now) (S.contents section.now))) }
+        ensures ok { OnOk result
+            (self.new ≡ with_section self.old
+            (section_row (S.number section.now) (S.contents section.now))) }
         ensures fits { OnOk result (length (S.contents section.now) ≤ self.old.ceiling) }
         ensures err { OnErr result (self.new ≡ self.old) }
-        ensures large { IfErr result (λ e. IfTooLarge e (λ size. (size ≡ length (S.contents section.now)) × (self.old.ceiling < size))) }
+        ensures large { IfErr result (λ e. IfTooLarge e
+            (λ size. (size ≡ length (S.contents section.now)) × (self.old.ceiling < size))) }
     {
         let len = self.bytes.len();
         match write_section(&mut self.bytes, section, self.ceiling) {
@@ -100,10 +106,13 @@ impl Module {
 /// Appends the id, the length and the body of a section, or a part of them where that is refused. The body is written where
 /// it stands in the end, but for the bytes of its length, which is known when it has been written.
 fn write_section<S: Section>(out: &mut Vec<u8>, section: &S, ceiling: u32) -> Result<(), WriteFault>
-    ensures ok { OnOk result (out.new.items ≡ out.old.items ++ section_bytes (section_row (S.number section.now) (S.contents section.now))) }
+    ensures ok { OnOk result
+        (out.new.items ≡ out.old.items
+        ++ section_bytes (section_row (S.number section.now) (S.contents section.now))) }
     ensures fits { OnOk result (length (S.contents section.now) ≤ ceiling) }
     ensures err { OnErr result (take (vec_len out.old) out.new.items ≡ out.old.items) }
-    ensures large { IfErr result (λ e. IfTooLarge e (λ size. (size ≡ length (S.contents section.now)) × (ceiling < size))) }
+    ensures large { IfErr result (λ e. IfTooLarge e
+        (λ size. (size ≡ length (S.contents section.now)) × (ceiling < size))) }
 {
     match out.push(section.id()) {
         Ok(()) => {}

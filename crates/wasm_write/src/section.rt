@@ -1,8 +1,7 @@
 //! What can be added to a module.
 ghost use Rattle.std.specs.Prelude.{◌≡◌, ◌++◌, ◌≤◌, ℕ, List, OnOk, OnErr, take, vec_len};
-ghost use Rattle.wasm_leb.specs.Leb.{leb};
 
-use wasm_leb::{NoMemory, write_u32};
+use wasm_leb::NoMemory;
 
 /// A section that can be added to a module (WebAssembly Core Specification 3.0, section 5.5.2).
 ///
@@ -23,19 +22,4 @@ pub trait Section {
         ensures err { OnErr result (take (vec_len out.old) out.new.items ≡ out.old.items) };
 
     ghost small: { (s : Self) → number s ≤ 127 };
-}
-
-/// Appends the number of some rows and their bytes, or a part of them where memory is wanting.
-pub(crate) fn write_rows(out: &mut Vec<u8>, count: u32, bytes: &[u8]) -> Result<(), NoMemory>
-    ensures ok { OnOk result (out.new.items ≡ out.old.items ++ (leb count ++ bytes.now)) }
-    ensures err { OnErr result (take (vec_len out.old) out.new.items ≡ out.old.items) }
-{
-    match write_u32(out, count) {
-        Ok(()) => {}
-        Err(NoMemory) => return Err(NoMemory),
-    }
-    match out.extend_from_slice(bytes) {
-        Ok(()) => Ok(()),
-        Err(_) => Err(NoMemory),
-    }
 }

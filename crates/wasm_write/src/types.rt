@@ -183,6 +183,14 @@ pub enum ExportKind {
     Tag,
 }
 
+/// A name, and what is exported under it, by its kind and its index (section 5.5.10).
+#[derive(Clone, Copy, PartialEq, Debug)]
+pub struct Export<'a> {
+    pub name: &'a str,
+    pub kind: ExportKind,
+    pub index: u32,
+}
+
 /// An entry of an import section (section 5.5.5).
 #[derive(Clone, Copy, PartialEq, Debug)]
 pub enum Imports<'a> {

@@ -2,7 +2,8 @@
 ghost use Rattle.std.specs.Prelude.{◌≡◌, ◌++◌, ◌∷◌, [], take, vec_len, OnOk, OnErr};
 ghost use Rattle.wasm_shapes.specs.Tree.{normal};
 ghost use Rattle.wasm_shapes.specs.Fits.{InRange};
-ghost use Rattle.wasm_write.specs.Types.{led, type_index, abstract_tree, shared_tree, heap_type_tree, nullable_tree, ref_type_tree, val_type_tree, storage_type_tree, field_type_tree};
+ghost use Rattle.wasm_shapes.specs.Types.{led, shared_tree};
+ghost use Rattle.wasm_write.specs.Types.{type_index, abstract_tree, heap_type_tree, nullable_tree, ref_type_tree, val_type_tree, storage_type_tree, field_type_tree};
 
 use crate::types::{AbstractHeapType, FieldType, HeapType, RefType, StorageType, ValType};
 use wasm_leb::{NoMemory, write_index, write_u32};
@@ -31,7 +32,8 @@ fn abstract_byte(ty: AbstractHeapType) -> u8
 
 /// Appends a heap type that names no type of the module, or a part of it where memory is wanting.
 fn write_abstract(out: &mut Vec<u8>, shared: bool, ty: AbstractHeapType) -> Result<(), NoMemory>
-    ensures ok { OnOk result (out.new.items ≡ out.old.items ++ normal (shared_tree shared ty)) }
+    ensures ok { OnOk result
+        (out.new.items ≡ out.old.items ++ normal (shared_tree shared (abstract_tree ty))) }
     ensures err { OnErr result (take (vec_len out.old) out.new.items ≡ out.old.items) }
 {
     if shared {
@@ -112,7 +114,8 @@ pub(crate) fn write_byte(out: &mut Vec<u8>, byte: u8) -> Result<(), NoMemory>
 
 /// Appends a byte and the index of a type, or a part of them where memory is wanting.
 pub(crate) fn write_marked(out: &mut Vec<u8>, byte: u8, index: u32) -> Result<(), NoMemory>
-    ensures ok { OnOk result (out.new.items ≡ out.old.items ++ normal (led byte (type_index index))) }
+    ensures ok { OnOk result
+        (out.new.items ≡ out.old.items ++ normal (led byte (type_index index))) }
     ensures err { OnErr result (take (vec_len out.old) out.new.items ≡ out.old.items) }
 {
     match out.push(byte) {

@@ -8,7 +8,7 @@ ghost use Rattle.wasm_shapes.specs.declared.Visit.TheVariants.{Index};
 ghost use Rattle.wasm_shapes.specs.Place.{Begins};
 ghost use Rattle.wasm_shapes.specs.Shape.{Shape};
 ghost use Rattle.wasm_shapes.specs.Tree.{Tree, normal};
-ghost use Rattle.wasm_read.specs.Immediates.{is_core};
+ghost use Rattle.wasm_shapes.specs.Types.{is_core};
 ghost use Rattle.wasm_write.specs.Instructions.{imm_kind, imm_tree};
 ghost use Rattle.reencode_hooks.specs.Hooks.{Replies};
 ghost use Rattle.reencode_hooks.specs.Run.{NeverWants, ask};

@@ -12,8 +12,8 @@ returns-in_err-parse_core_module-clause-default g c =
 pub returns-clause-default : goal.returns-clause-default
 returns-clause-default g c = λ k n. bytes_given _ _ _ _ _ _ _ _ c.in_ok-module.ensures (c.in_ok-parse_core_module.ensures.default k n) _ _ c.finish.ensures
 
-pub returns-in_err-module-clause-left : goal.returns-in_err-module-clause-left
-returns-in_err-module-clause-left g c = λ k n sure. reading_left _ (λ t p. none_visited _ _)
+pub returns-in_err-module-clause-after_error : goal.returns-in_err-module-clause-after_error
+returns-in_err-module-clause-after_error g c = λ k n sure. reading_left _ (λ t p. none_visited _ _)
 
-pub returns-in_err-parse_core_module-clause-left : goal.returns-in_err-parse_core_module-clause-left
-returns-in_err-parse_core_module-clause-left g c = λ k n sure. reading_left _ (bytes_leave (c.in_err-parse_core_module.ensures.left k n sure))
+pub returns-in_err-parse_core_module-clause-after_error : goal.returns-in_err-parse_core_module-clause-after_error
+returns-in_err-parse_core_module-clause-after_error g c = λ k n sure. reading_left _ (bytes_leave (c.in_err-parse_core_module.ensures.after_error k n sure))

@@ -1,20 +1,9 @@
-use Rattle.std.proofs.Common.{IsTrue}
-use Rattle.wasm_shapes.specs.declared.SectionId.TheVariants as kinds
-use Rattle.reencode_hooks.specs.Run.{ask}
-use Rattle.reencode_core.specs.Bodies.{KeepsCode}
-use Rattle.reencode_core.specs.Sections.{row_shape}
-use Rattle.reencode_core.proofs.RowLoop.{RowsDone}
+use Rattle.reencode_core.proofs.EachBody.{CodeKept}
 use Rattle.reencode_core.proofs.utils.parse_code_section.Given as goal
 
 -- the rows so far are walked and added
 abbrev pub invariant-rows : goal.invariant-rows
-invariant-rows g l =
-    record {
-      kept : KeepsCode l.initial.code l.code;
-      default : IsTrue g.T.ReencodeIndices.keeps_defaults
-          → RowsDone (ask g.T.ReencodeIndices.reply g.T.ReencodeIndices.next) l.initial.code.ceiling (row_shape kinds.Code)
-          l.initial.rows l.initial.reencoder l.initial.code.rows l.rows l.reencoder l.code.rows;
-    }
+invariant-rows g l = CodeKept g.T.ReencodeIndices l.initial.rows l.initial.reencoder l.initial.code l.rows l.reencoder l.code
 
 abbrev pub decreases-rows : goal.decreases-rows
 decreases-rows g l = l.rows.left

@@ -1,19 +1,10 @@
-use Rattle.std.proofs.Common.{◌≡◌, ◌-◌, ℕ, IsTrue, length}
-use Rattle.wasm_read.specs.Operations.{rest_of}
-use Rattle.reencode_hooks.specs.Run.{ask}
-use Rattle.reencode_core.proofs.BodyLoop.{OperatorsDone}
+use Rattle.std.proofs.Common.{◌-◌, length}
+use Rattle.reencode_core.proofs.EachBody.{OperatorsKept}
 use Rattle.reencode_core.proofs.utils.parse_function_body.Given as goal
 
 -- the operators so far are mapped
 abbrev pub invariant-operators : goal.invariant-operators
-invariant-operators g l =
-    record {
-      bytes : l.reader.bytes ≡ l.initial.reader.bytes;
-      locals : l.function.locals ≡ l.initial.function.locals;
-      default : IsTrue g.T.ReencodeIndices.keeps_defaults → (c : ℕ)
-          → OperatorsDone (ask g.T.ReencodeIndices.reply g.T.ReencodeIndices.next) c
-          (rest_of l.initial.reader) l.initial.reencoder (rest_of l.reader) l.reencoder l.function.operators;
-    }
+invariant-operators g l = OperatorsKept g.T.ReencodeIndices l.initial.reader l.initial.reencoder l.initial.function l.reader l.reencoder l.function
 
 abbrev pub decreases-operators : goal.decreases-operators
 decreases-operators g l = length l.reader.bytes - l.reader.at

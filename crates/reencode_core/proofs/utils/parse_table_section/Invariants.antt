@@ -1,20 +1,10 @@
-use Rattle.std.proofs.Common.{ℕ, IsTrue}
-use Rattle.wasm_shapes.specs.declared.SectionId.TheVariants as kinds
-use Rattle.reencode_hooks.specs.Run.{ask}
-use Rattle.reencode_core.specs.Rows.{KeepsFront}
-use Rattle.reencode_core.specs.Sections.{row_shape}
-use Rattle.reencode_core.proofs.RowLoop.{RowsDone}
+use Rattle.wasm_shapes.specs.Shape.{table_type}
+use Rattle.reencode_core.proofs.EachRow.{RowsKept}
 use Rattle.reencode_core.proofs.utils.parse_table_section.Given as goal
 
 -- the rows so far are walked and added
 abbrev pub invariant-rows : goal.invariant-rows
-invariant-rows g l =
-    record {
-      kept : KeepsFront l.initial.tables l.tables;
-      default : IsTrue g.T.ReencodeIndices.keeps_defaults → (c : ℕ)
-          → RowsDone (ask g.T.ReencodeIndices.reply g.T.ReencodeIndices.next) c (row_shape kinds.Table)
-          l.initial.rows l.initial.reencoder l.initial.tables l.rows l.reencoder l.tables;
-    }
+invariant-rows g l = RowsKept g.T.ReencodeIndices table_type l.initial.rows l.initial.reencoder l.initial.tables l.rows l.reencoder l.tables
 
 abbrev pub decreases-rows : goal.decreases-rows
 decreases-rows g l = l.rows.left

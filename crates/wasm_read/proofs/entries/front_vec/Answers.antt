@@ -5,19 +5,21 @@ use Rattle.wasm_read.proofs.entries.front_vec.Goals as goal
 
 pub entries-preserved : goal.entries-preserved
 entries-preserved g c =
-    let pushed : c.push.new.self ≡ c.entries.entries ++ c.in-Some-front.entry ∷ [] = c.in-Ok-push.ensures.ok in
+    let some = rw c.in-Ok-Some.field-0-is at c.in-Ok-Some.ensures.some in
+    let pushed : c.push.new.self ≡ c.entries.entries ++ c.in-Ok-Some.entry ∷ [] = c.in-Ok-push.ensures.ok in
     let before = c.entries.entries in
     let more : c.entries.left ≡ suc (c.entries.left - 1) = omega arith in
     let so_far =
-    items_more (map g.T.Entry.tree before) g.met.T.Entry.is_sound g.met.T.Entry.is_closed more c.in-Some-front.ensures.some c.entries.invariant.0 in
+    items_more (map g.T.Entry.tree before) g.met.T.Entry.is_sound g.met.T.Entry.is_closed more some c.entries.invariant.0 in
     let counted = c.entries.invariant.1 in
-    let long = length-append before (c.in-Some-front.entry ∷ []) in
-    rw (pushed, map-append g.T.Entry.tree before (c.in-Some-front.entry ∷ [])) (so_far, omega arith)
+    let long = length-append before (c.in-Ok-Some.entry ∷ []) in
+    rw (pushed, map-append g.T.Entry.tree before (c.in-Ok-Some.entry ∷ [])) (so_far, omega arith)
 
-pub returns-in-None-clause-none : goal.returns-in-None-clause-none
-returns-in-None-clause-none g c =
+pub returns-in-Ok-None-clause-none : goal.returns-in-Ok-None-clause-none
+returns-in-Ok-None-clause-none g c =
+    let none = rw c.in-Ok-None.field-0-is at c.in-Ok-None.ensures.none in
     let more : c.entries.left ≡ suc (c.entries.left - 1) = omega arith in
-    none_vec c.in-Some.ensures.some (items_stuck more c.in-None.ensures.none c.entries.invariant.0)
+    none_vec c.in-Some.ensures.some (items_stuck more none c.entries.invariant.0)
 
 pub returns-clause-some : goal.returns-clause-some
 returns-clause-some g c =

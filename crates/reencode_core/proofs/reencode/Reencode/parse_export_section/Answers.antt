@@ -1,42 +1,23 @@
-use Rattle.std.proofs.Common.{refl, arith}
-use Rattle.std.proofs.lemmas.Grind.{common_steps}
-use Rattle.std.proofs.lemmas.Result.{err_from_is_err_and}
-use Rattle.reencode_core.proofs.RowLoop.{rows_begin, rows_more, rows_all, rows_unread, row_refused, none_or_wants, kept_on}
-use Rattle.reencode_core.proofs.Leaving.{reading_left, rows_leave_none, rows_leave_next}
+use Rattle.std.proofs.Common.{refl}
+use Rattle.reencode_core.proofs.EachRow.{rows_begun, rows_ended, rows_stuck, rows_added, rows_refused_at}
+use Rattle.reencode_core.proofs.RowLoop.{none_or_wants}
 use Rattle.reencode_core.proofs.reencode.Reencode.parse_export_section.Goals as goal
 
 pub rows-init : goal.rows-init
-rows-init g c = record { kept = grind (arith, common_steps); default = λ k n. rows_begin _ _ _ _ _ _ }
+rows-init g c = rows_begun g.Self.ReencodeIndices
 
 pub rows-preserved : goal.rows-preserved
 rows-preserved g c =
-    let row = rw c.in-Some.is at c.in_ok-export.ensures.row in
-    record {
-      kept = kept_on _ _ _ c.rows.invariant.kept c.in_ok-parse_export-in-Some.ensures.kept;
-      default = λ k n. let q = c.in_ok-parse_export-in-Some.ensures.default k n in rows_more _ refl refl (c.rows.invariant.default k n) row q.1 q.2;
-    }
+    let row = rw c.in-Some.is at c.in_ok-row.ensures.row in
+    rows_added g.Self.ReencodeIndices c.rows.invariant refl refl row c.in_ok-parse_export.ensures
 
-pub returns-in_err-export-clause-default : goal.returns-in_err-export-clause-default
-returns-in_err-export-clause-default g c =
-    let p = err_from_is_err_and c.from_residual.result c.from_residual.ensures.1 in
-    rw (p.1, p.2) (λ k n. rows_unread _ _ (c.rows.invariant.default k n) (none_or_wants _ _ _ c.in_err-export.ensures.err))
+pub returns-in_err-row : goal.returns-in_err-row
+returns-in_err-row g c = rows_stuck g.Self.ReencodeIndices c.rows.invariant _ (none_or_wants _ _ _ c.in_err-row.ensures.err) _ c.from_residual.ensures.1
 
-pub returns-in_err-parse_export-in-Some-clause-default : goal.returns-in_err-parse_export-in-Some-clause-default
-returns-in_err-parse_export-in-Some-clause-default g c =
-    let p = err_from_is_err_and c.from_residual-in_err-parse_export-in-Some.result c.from_residual-in_err-parse_export-in-Some.ensures.1 in
-    let i = g.Self.ReencodeIndices in
-    let row = rw c.in-Some.is at c.in_ok-export.ensures.row in
-    rw (p.1, p.2) (λ k n. row_refused i.reply i.next refl refl (c.rows.invariant.default k n) row (c.in_err-parse_export-in-Some.ensures.default k n))
+pub returns-in_err-parse_export : goal.returns-in_err-parse_export
+returns-in_err-parse_export g c =
+    let row = rw c.in-Some.is at c.in_ok-row.ensures.row in
+    rows_refused_at g.Self.ReencodeIndices c.rows.invariant refl refl row _ c.in_err-parse_export.ensures _ c.from_residual-in_err-parse_export.ensures.1
 
-pub returns-in-None-clause-default : goal.returns-in-None-clause-default
-returns-in-None-clause-default g c =
-    let ended = rw c.in-None.is at c.in_ok-export.ensures.ended in
-    λ k n. rows_all _ (c.rows.invariant.default k n) ended
-
-pub returns-in_err-export-clause-left : goal.returns-in_err-export-clause-left
-returns-in_err-export-clause-left g c = λ k sure. reading_left _ (rows_leave_none (c.rows.invariant.default k 0))
-
-pub returns-in_err-parse_export-in-Some-clause-left : goal.returns-in_err-parse_export-in-Some-clause-left
-returns-in_err-parse_export-in-Some-clause-left g c =
-    let row = rw c.in-Some.is at c.in_ok-export.ensures.row in
-    λ k sure. reading_left _ (rows_leave_next (c.rows.invariant.default k 0) refl refl row (c.in_err-parse_export-in-Some.ensures.left k sure))
+pub returns : goal.returns
+returns g c = rows_ended g.Self.ReencodeIndices c.rows.invariant (rw c.in_default.is at c.in_ok-row.ensures.ended)

@@ -1,19 +1,10 @@
-use Rattle.std.proofs.Common.{◌≡◌, ◌-◌, ℕ, IsTrue, length}
-use Rattle.wasm_read.specs.Operations.{rest_of}
-use Rattle.reencode_hooks.specs.Run.{ask}
-use Rattle.reencode_core.proofs.BodyLoop.{OperatorsDone}
+use Rattle.std.proofs.Common.{◌-◌, length}
+use Rattle.reencode_core.proofs.EachBody.{OperatorsKept}
 use Rattle.reencode_core.proofs.reencode.Reencode.parse_function_body.Given as goal
 
 -- the operators so far are mapped
 abbrev pub invariant-operators : goal.invariant-operators
-invariant-operators g l =
-    record {
-      bytes : l.reader.bytes ≡ l.initial.reader.bytes;
-      locals : l.function.locals ≡ l.initial.function.locals;
-      default : IsTrue g.Self.ReencodeIndices.keeps_defaults → (c : ℕ)
-          → OperatorsDone (ask g.Self.ReencodeIndices.reply g.Self.ReencodeIndices.next) c
-          (rest_of l.initial.reader) l.initial.self (rest_of l.reader) l.self l.function.operators;
-    }
+invariant-operators g l = OperatorsKept g.Self.ReencodeIndices l.initial.reader l.initial.self l.initial.function l.reader l.self l.function
 
 abbrev pub decreases-operators : goal.decreases-operators
 decreases-operators g l = length l.reader.bytes - l.reader.at

@@ -1,20 +1,10 @@
-use Rattle.std.proofs.Common.{ℕ, IsTrue}
-use Rattle.wasm_shapes.specs.declared.SectionId.TheVariants as kinds
-use Rattle.reencode_hooks.specs.Run.{ask}
-use Rattle.reencode_core.specs.Rows.{KeepsFront}
-use Rattle.reencode_core.specs.Sections.{row_shape}
-use Rattle.reencode_core.proofs.RowLoop.{RowsDone}
+use Rattle.wasm_shapes.specs.Module.{import_row}
+use Rattle.reencode_core.proofs.EachRow.{RowsKept}
 use Rattle.reencode_core.proofs.reencode.Reencode.parse_import_section.Given as goal
 
 -- the rows so far are walked and added
 abbrev pub invariant-rows : goal.invariant-rows
-invariant-rows g l =
-    record {
-      kept : KeepsFront l.initial.imports l.imports;
-      default : IsTrue g.Self.ReencodeIndices.keeps_defaults → (c : ℕ)
-          → RowsDone (ask g.Self.ReencodeIndices.reply g.Self.ReencodeIndices.next) c (row_shape kinds.Import)
-          l.initial.rows l.initial.self l.initial.imports l.rows l.self l.imports;
-    }
+invariant-rows g l = RowsKept g.Self.ReencodeIndices import_row l.initial.rows l.initial.self l.initial.imports l.rows l.self l.imports
 
 abbrev pub decreases-rows : goal.decreases-rows
 decreases-rows g l = l.rows.left

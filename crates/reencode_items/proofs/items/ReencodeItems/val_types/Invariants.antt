@@ -1,16 +1,10 @@
-use Rattle.std.proofs.Common.{◌≡◌, IsTrue, length}
 use Rattle.wasm_read.specs.Types as read
 use Rattle.wasm_write.specs.Types as write
 use Rattle.reencode_hooks.specs.Run.{ask}
-use Rattle.reencode_items.proofs.Steps.{ItemsDone}
+use Rattle.reencode_items.proofs.Loops.{ItemsDone}
 use Rattle.reencode_items.proofs.items.ReencodeItems.val_types.Given as goal
 
 -- the types below the index are mapped
 abbrev pub invariant-loop-ty : goal.invariant-loop-ty
-invariant-loop-ty g l =
-    record {
-      counted : length l.mapped ≡ l.ty-index;
-      default : IsTrue g.Self.ReencodeIndices.keeps_defaults
-          → ItemsDone (ask g.Self.ReencodeIndices.reply g.Self.ReencodeIndices.next) read.val_type_tree write.val_type_tree
-          l.initial.self l.fn.val_tys l.ty-index l.self l.mapped;
-    }
+invariant-loop-ty g l = let i = g.Self.ReencodeIndices in
+    ItemsDone (ask i.reply i.next) i.keeps_defaults read.val_type_tree write.val_type_tree l.initial.self l.fn.val_tys l.ty-index l.self l.mapped

@@ -1,0 +1,193 @@
+-- Function bodies: the loops over the rows of a code section and over the operators of a body, and what the calls give at their ends.
+use Rattle.std.proofs.Common.{◌≡◌, ◌≢◌, ◌<◌, ◌≤◌, ◌^◌, ◌+◌, ◌-◌, ◌⊎◌, ℕ, List, [], ◌∷◌, length, Result, Ok, Err, IsErrAnd, IsTrue, refl, sym, ap, ◌∙◌, subst}
+use Rattle.std.proofs.Math.Seq.{take-append_seam}
+use Rattle.wasm_leb.specs.declared.fault.Fault.{Fault}
+use Rattle.wasm_shapes.specs.Tree.{Tree, normal}
+use Rattle.wasm_shapes.specs.Shape.{Shape}
+use Rattle.wasm_shapes.specs.Place.{Begins, BeginsNone}
+use Rattle.wasm_shapes.specs.Module.{code_row}
+use Rattle.wasm_read.specs.Operations.{Reading, rest_of, frame_row}
+use Rattle.wasm_read.specs.Reading.{Standing, place_of, ReadsNone, RowRead, RowMissing, RowsEnded}
+use Rattle.wasm_write.specs.declared.fault.WriteFault.{WriteFault}
+use Rattle.wasm_write.specs.declared.fault.WriteFault.TheVariants as faults
+use Rattle.wasm_write.specs.Bodies.{Body, CodeRows, code_tree, function_body, with_operator, with_row}
+use Rattle.wasm_write.specs.Faults.{IfTooLarge}
+use Rattle.wasm_write.specs.Held.{body_tree}
+use Rattle.reencode_hooks.specs.declared.error.Error.{Error}
+use Rattle.reencode_hooks.specs.declared.error.Error.TheVariants.{NoMemory}
+use Rattle.reencode_hooks.specs.declared.indices.ReencodeIndices.{Ghosts}
+use Rattle.reencode_hooks.specs.Errors.{error_of_fault, error_of_write}
+use Rattle.reencode_hooks.specs.Run.{accepted}
+use Rattle.reencode_hooks.specs.Walk.{walk}
+use Rattle.reencode_items.specs.Maps.{LeavesOperator, MapsOperator, MovesOn, ParsesOperator}
+use Rattle.reencode_items.proofs.Leaving.{accepted_visited}
+use Rattle.reencode_core.specs.Errors.{placed_at}
+use Rattle.reencode_core.specs.Rows.{GivesRows, locals}
+use Rattle.reencode_core.specs.Bodies.{GivesBody, GivesLocals, KeepsCode}
+use Rattle.reencode_core.specs.Leaves.{BodyOf, LeavesReading, LocalsOf, RowsOf}
+use Rattle.reencode_core.proofs.BodyLoop.{OperatorsDone, body_err, body_more, frames_unread, keeps_code}
+use Rattle.reencode_core.proofs.Leaving.{reading_left, body_leaves_locals, body_leaves_next, body_leaves_none, body_leaves_operator, code_leaves_next, rows_leave_none}
+use Rattle.reencode_core.proofs.OneRow.{answers, asks}
+use Rattle.reencode_core.proofs.RowLoop.{RowsDone, kept_on, rows_all, rows_begin}
+use Rattle.reencode_core.proofs.WholeBody.{body_given, body_locals_refused, body_not_added, body_wants, operator_err, operators_found, operators_none, operators_on}
+
+-- ---- a code section
+
+-- the bodies so far are walked and added
+pub record CodeKept {S E : Type 0} (i : Ghosts S E) (start : Standing) (s0 : S) (old : CodeRows) (reader : Standing) (s : S) (new : CodeRows) : Type 0 where
+  pub kept : KeepsCode old new
+  pub default : IsTrue i.keeps_defaults → RowsDone (asks i) old.ceiling code_row start s0 old.rows reader s new.rows
+
+-- the clauses of the call that maps a code section
+abbrev pub CodeClauses : {S E : Type 0} → Ghosts S E → Standing → S → CodeRows → S → CodeRows → Result (Unit {0}) (Error E) → Type 0
+CodeClauses i start s old m new result =
+    record {
+      kept : KeepsCode old new;
+      default : IsTrue i.keeps_defaults → GivesRows (asks i) old.ceiling code_row start (s, old.rows) (m, new.rows) result;
+      after_error : IsTrue i.keeps_defaults → IsTrue i.sure → LeavesReading (RowsOf code_row start) (asks i) s m result;
+    }
+
+-- the clauses of the call that maps a body
+abbrev pub BodyClauses : {S E : Type 0} → Ghosts S E → List ℕ → S → CodeRows → S → CodeRows → Result (Unit {0}) (Error E) → Type 0
+BodyClauses i bytes s old m new result =
+    record {
+      kept : KeepsCode old new;
+      default : IsTrue i.keeps_defaults → GivesBody (asks i) bytes (s, old) (m, new) result;
+      after_error : IsTrue i.keeps_defaults → IsTrue i.sure → LeavesReading (BodyOf bytes) (asks i) s m result;
+    }
+
+-- the clauses of the call that maps its locals
+abbrev pub LocalsClauses : {S E : Type 0} → Ghosts S E → List ℕ → S → S → Result Body (Error E) → Type 0
+LocalsClauses i bytes s m result =
+    record {
+      default : IsTrue i.keeps_defaults → GivesLocals (asks i) bytes s m result (λ f. f);
+      after_error : IsTrue i.keeps_defaults → IsTrue i.sure → LeavesReading (LocalsOf bytes) (asks i) s m result;
+    }
+
+module _ {S E : Type 0} (i : Ghosts S E) {start : Standing} {s0 : S} {old : CodeRows} where
+  pub code_begun : CodeKept i start s0 old start s0 old
+  code_begun = record { kept = keeps_code old; default = λ k. rows_begin (asks i) old.ceiling code_row start s0 old.rows }
+
+  module _ {reader : Standing} {s : S} {new : CodeRows} (inv : CodeKept i start s0 old reader s new) where
+    pub code_ended : {reader' : Standing} → RowsEnded reader reader' → CodeClauses i start s0 old s new (Ok tt)
+    code_ended ended = record { kept = inv.kept; default = λ k. rows_all (asks i) (inv.default k) ended; after_error = λ k sure t reads. tt }
+
+    -- no frame is there
+    pub code_stuck : (f : Fault) → ReadsNone f (place_of reader) (RowMissing frame_row reader) → (r : Result (Unit {0}) (Error E)) → IsErrAnd r (λ y. y ≡ error_of_fault f) →
+        CodeClauses i start s0 old s new r
+    code_stuck f missing r q =
+        let P : Result (Unit {0}) (Error E) → Type 0 = λ z. CodeClauses i start s0 old s new z in
+        subst P (answers r q) (record {
+          kept = inv.kept;
+          default = λ k. frames_unread (asks i) f (inv.default k) missing;
+          after_error = λ k sure. rows_leave_none (inv.default k);
+        })
+
+    module _ {reader' : Standing} {bytes : List ℕ} (read : RowRead frame_row reader (Tree.sized (Tree.raw bytes)) reader') where
+      grown : {new' : CodeRows} → KeepsCode new new' → KeepsCode old new'
+      grown {new' = new'} kept = record { ceiling = kept.ceiling ∙ inv.kept.ceiling; rows = kept_on old.rows new.rows new'.rows inv.kept.rows kept.rows }
+
+      pub code_more : {m : S} {new' : CodeRows} → BodyClauses i bytes s new m new' (Ok tt) → CodeKept i start s0 old reader' m new'
+      code_more given = record { kept = grown given.kept; default = λ k. body_more i.reply i.next inv.kept.ceiling (inv.default k) read (given.default k) }
+
+      -- a body is refused, or it is none
+      pub code_refused : {m : S} {new' : CodeRows} (e : Error E) (at : ℕ) → BodyClauses i bytes s new m new' (Err e) → at ≡ place_of reader → (r : Error E) → r ≡ placed_at e at → CodeClauses i start s0 old m new' (Err r)
+      code_refused {m = m} {new' = new'} e at given place r q =
+          let P : Error E → Type 0 = λ z. CodeClauses i start s0 old m new' (Err z) in
+          subst P (sym q) (record {
+            kept = grown given.kept;
+            default = λ k. body_err i.reply i.next inv.kept.ceiling (inv.default k) read e at (given.default k) place;
+            after_error = λ k sure. code_leaves_next (inv.default k) read (given.after_error k sure);
+          })
+
+-- ---- a body
+
+-- the operators so far are mapped
+pub record OperatorsKept {S E : Type 0} (i : Ghosts S E) (start : Reading) (s0 : S) (f0 : Body) (reader : Reading) (s : S) (f : Body) : Type 0 where
+  pub bytes : reader.bytes ≡ start.bytes
+  pub same_locals : f.locals ≡ f0.locals
+  pub default : IsTrue i.keeps_defaults → (c : ℕ) → OperatorsDone (asks i) c (rest_of start) s0 (rest_of reader) s f.operators
+
+module _ {S E : Type 0} (i : Ghosts S E) {bytes : List ℕ} {s0 : S} (old : CodeRows) where
+  -- the locals are refused
+  pub body_unbegun : {m : S} (e : Error E) → LocalsClauses i bytes s0 m (Err e) → (r : Result (Unit {0}) (Error E)) → IsErrAnd r (λ y. y ≡ e) → BodyClauses i bytes s0 old m old r
+  body_unbegun {m = m} e given r q =
+      let P : Result (Unit {0}) (Error E) → Type 0 = λ z. BodyClauses i bytes s0 old m old z in
+      subst P (answers r q) (record {
+        kept = keeps_code old;
+        default = λ k. body_locals_refused (asks i) bytes s0 m old e (given.default k);
+        after_error = λ k sure. body_leaves_locals (given.after_error k sure);
+      })
+
+  module _ {m : S} {f0 : Body} (made : LocalsClauses i bytes s0 m (Ok f0)) where
+    -- where locals were read, the operators are found
+    pub body_found : (f : Fault) → ReadsNone f 0 (BeginsNone locals bytes) → (r : Result (Unit {0}) (Error E)) → BodyClauses i bytes s0 old m old r
+    body_found f none r = record {
+      kept = keeps_code old;
+      default = λ k. operators_found (asks i) bytes s0 m old old f0 f r (made.default k) none;
+      after_error = λ k sure. reading_left r (body_leaves_locals (λ t p. accepted_visited 0 t ((made.default k).reading 0 t p.0 p.1)));
+    }
+
+    pub operators_begun : (start : Reading) → OperatorsKept i start m f0 start m f0
+    operators_begun start = record { bytes = refl; same_locals = refl; default = λ k c. operators_none (asks i) c (rest_of start) m f0.operators (made.default k).bare }
+
+    module _ {start : Reading} {l : Tree} (begins : Begins locals bytes l (rest_of start)) (is_bytes : start.bytes ≡ bytes) {reader : Reading} {s : S} {f : Body}
+        (inv : OperatorsKept i start m f0 reader s f) where
+      -- the walk of the locals
+      walked : IsTrue i.keeps_defaults → walk (asks i) 0 s0 l ≡ accepted (body_tree f0.locals) m
+      walked k = (made.default k).reading 0 l (rest_of start) begins
+
+      -- the next operator is refused, or none is there
+      pub operator_refused : {B : Type 0} (view : B → Tree) (behind : Reading) {n : S} (e : Error E) → rest_of reader ≢ [] →
+          (IsTrue i.keeps_defaults → ParsesOperator i.reply i.next s reader view n behind (Err e)) →
+          (IsTrue i.keeps_defaults → IsTrue i.sure → LeavesOperator {B = B} (asks i) s reader n (Err e)) →
+          (r : Result (Unit {0}) (Error E)) → IsErrAnd r (λ y. y ≡ e) → BodyClauses i bytes s0 old n old r
+      operator_refused {B = B} view behind {n = n} e some parses leaves r q =
+          let P : Result (Unit {0}) (Error E) → Type 0 = λ z. BodyClauses i bytes s0 old n old z in
+          subst P (answers r q) (record {
+            kept = keeps_code old;
+            default = λ k. operator_err i.reply i.next s0 m s f0 f.operators old begins (made.default k) (inv.default k) B view reader behind n e refl (inv.bytes ∙ is_bytes) some (parses k);
+            after_error = λ k sure. body_leaves_operator begins (walked k) (inv.default k 0) reader refl (leaves k sure);
+          })
+
+      module _ {B : Type 0} (view : B → Tree) (b : B) {behind : Reading} {n : S} (parses : IsTrue i.keeps_defaults → ParsesOperator i.reply i.next s reader view n behind (Ok b)) where
+        -- an operator was mapped, and added
+        pub operators_more : {f' : Body} → MovesOn reader behind → f' ≡ with_operator f (view b) → OperatorsKept i start m f0 behind n f'
+        operators_more {f' = f'} taken added = record {
+          bytes = taken.bytes ∙ inv.bytes;
+          same_locals = ap Body.locals added ∙ inv.same_locals;
+          default = λ k c. let p = parses k in operators_on (asks i) c f f' (inv.default k c) p.begins p.behind_it (p.maps c) added;
+        }
+
+        -- there is no memory for it
+        pub operator_not_added : (w : WriteFault) → w ≡ faults.NoMemory → (r : Result (Unit {0}) (Error E)) → IsErrAnd r (λ y. y ≡ error_of_write w) → BodyClauses i bytes s0 old n old r
+        operator_not_added w wants r q =
+            let P : Result (Unit {0}) (Error E) → Type 0 = λ z. BodyClauses i bytes s0 old n old z in
+            let Q : WriteFault → Type 0 = λ z. BodyClauses i bytes s0 old n old (Err (error_of_write z)) in
+            subst P (answers r q) (subst Q (sym wants) (record {
+              kept = keeps_code old;
+              default = λ k. body_wants (asks i) bytes s0 n old;
+              after_error = λ k sure. let p = parses k in body_leaves_next begins (walked k) (inv.default k 0) p.begins (accepted_visited 0 p.operator (p.maps 0));
+            }))
+
+      module _ (ended : rest_of reader ≡ []) where
+        -- the body was added
+        pub body_added : {new : CodeRows} → new ≡ with_row old (code_tree f) → length (normal (function_body f)) ≤ old.ceiling → BodyClauses i bytes s0 old s new (Ok tt)
+        body_added {new = new} added fits = record {
+          kept = let P : CodeRows → Type 0 = λ z. KeepsCode old z in subst P (sym added) (record { ceiling = refl; rows = take-append_seam old.rows (code_tree f ∷ []) });
+          default = λ k. body_given i.reply i.next s0 m s f0 f.operators old begins (made.default k) (inv.default k) new f ended inv.same_locals refl added fits;
+          after_error = λ k sure t reads. tt;
+        }
+
+        -- it was not added
+        pub body_refused : {new : CodeRows} (w : WriteFault) → new ≡ old →
+            IfTooLarge w (λ size. ((size ≡ length (normal (function_body f))) × (old.ceiling < size)) ⊎ ((size ≡ length old.rows + 1) × (2 ^ 32 - 1 < size) × (length (normal (function_body f)) ≤ old.ceiling))) →
+            (r : Result (Unit {0}) (Error E)) → IsErrAnd r (λ y. y ≡ error_of_write w) → BodyClauses i bytes s0 old s new r
+        body_refused {new = new} w unchanged large r q =
+            let P : Result (Unit {0}) (Error E) → Type 0 = λ z. BodyClauses i bytes s0 old s new z in
+            let Q : CodeRows → Type 0 = λ z. BodyClauses i bytes s0 old s z (Err (error_of_write w)) in
+            subst P (answers r q) (subst Q (sym unchanged) (record {
+              kept = keeps_code old;
+              default = λ k. body_not_added i.reply i.next s0 m s f0 f.operators old begins (made.default k) (inv.default k) f w ended inv.same_locals refl large;
+              after_error = λ k sure. body_leaves_none begins (walked k) (inv.default k 0);
+            }))

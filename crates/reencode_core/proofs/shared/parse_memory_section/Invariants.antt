@@ -1,0 +1,10 @@
+use Rattle.wasm_shapes.specs.Shape.{memory_type}
+use Rattle.reencode_core.proofs.EachRow.{RowsKept}
+use Rattle.reencode_core.proofs.shared.parse_memory_section.Given as goal
+
+-- the rows so far are walked and added
+abbrev pub invariant-rows : goal.invariant-rows
+invariant-rows g l = RowsKept g.T.ReencodeIndices memory_type l.initial.rows l.initial.reencoder l.initial.memories l.rows l.reencoder l.memories
+
+abbrev pub decreases-rows : goal.decreases-rows
+decreases-rows g l = l.rows.left

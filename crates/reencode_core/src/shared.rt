@@ -1,0 +1,208 @@
+//! The bodies that call methods of the traits below alone: one for a method and its function.
+ghost use Rattle.std.specs.Prelude.{◌≡◌, IsTrue, ℕ};
+ghost use Rattle.wasm_shapes.specs.declared.SectionId.TheVariants as kinds;
+ghost use Rattle.wasm_shapes.specs.Module.{CoreReading, row_of};
+ghost use Rattle.wasm_shapes.specs.Tree.{visits};
+ghost use Rattle.wasm_read.specs.declared.types.Imports.TheVariants as imported;
+ghost use Rattle.wasm_read.specs.Types as read;
+ghost use Rattle.wasm_write.specs.Types as write;
+ghost use Rattle.reencode_hooks.specs.Run.{LeavesVisited, ask};
+ghost use Rattle.reencode_items.specs.Maps.{Maps};
+ghost use Rattle.reencode_core.specs.Rows.{KeepsFront, GivesRow, GivesRows, GivesTable, LeavesTable};
+ghost use Rattle.reencode_core.specs.Bodies.{KeepsCode, GivesLocals, GivesBody};
+ghost use Rattle.reencode_core.specs.Sections.{KeepsModule, ReadsAs, GivesSection};
+ghost use Rattle.reencode_core.specs.Core.{GivesCore};
+ghost use Rattle.reencode_core.specs.Leaves.{BodyOf, LeavesReading, LocalsOf, RowsOf};
+
+use crate::imports::single;
+use reencode_hooks::Error;
+use reencode_items::ReencodeItems;
+use std::alloc::Global;
+use wasm_leb::{List, ReadError};
+use wasm_read as r;
+use wasm_write as w;
+
+/// Maps each type of a group by `sub_type`.
+pub(crate) fn parse_recursive_type_group<T: ReencodeItems>(
+    reencoder: &mut T,
+    alloc: Global,
+    rec_group: r::RecGroup,
+) -> Result<w::RecGroup, Error<T::Error>>
+    ensures default { IsTrue T.keeps_defaults
+        → Maps T.reply T.next reencoder.old (read.group_tree rec_group) write.group_tree
+        reencoder.new result }
+    ensures after_error { IsTrue T.keeps_defaults → IsTrue T.sure
+        → LeavesVisited (ask T.reply T.next) reencoder.old (visits (read.group_tree rec_group))
+        reencoder.new result }
+{
+    let mut types = List::with_capacity(alloc, rec_group.types.len())?;
+    for ty in rec_group.types.into_vec() {
+        let ty = reencoder.sub_type(alloc, ty)?;
+        types.push(ty)?;
+    }
+    Ok(w::RecGroup {
+        explicit: rec_group.explicit,
+        types,
+    })
+}
+
+/// Maps the rows that the reader still has, each index by `type_index`, and adds each row once its index was answered.
+pub(crate) fn parse_function_section<T: ReencodeItems>(
+    reencoder: &mut T,
+    alloc: Global,
+    functions: &mut w::FunctionSection,
+    section: r::FunctionSectionReader<'_>,
+) -> Result<(), Error<T::Error>>
+    ensures kept { KeepsFront functions.old functions.new }
+    ensures default { IsTrue T.keeps_defaults → (c : ℕ)
+        → GivesRows (ask T.reply T.next) c (row_of kinds.Function) section.entry
+        (reencoder.old, functions.old) (reencoder.new, functions.new) result }
+    ensures after_error { IsTrue T.keeps_defaults → IsTrue T.sure
+        → LeavesReading (RowsOf (row_of kinds.Function) section.entry) (ask T.reply T.next)
+        reencoder.old reencoder.new result }
+{
+    let mut rows = section;
+    'rows: while let Some(row) = rows.next_row(alloc)? {
+        let index = reencoder.type_index(row)?;
+        functions.function(index)?;
+    }
+    Ok(())
+}
+
+/// Maps an entry of an import section, its type by `entity_type`, and adds it.
+pub(crate) fn parse_imports<T: ReencodeItems>(
+    reencoder: &mut T,
+    import_section: &mut w::ImportSection,
+    imports: r::Imports<'_>,
+) -> Result<(), Error<T::Error>>
+    ensures kept { KeepsFront import_section.old import_section.new }
+    ensures default { IsTrue T.keeps_defaults → (c : ℕ)
+        → GivesRow (ask T.reply T.next) c (reencoder.old, import_section.old)
+        (read.import_tree imports.entry) (reencoder.new, import_section.new) result }
+    ensures after_error { IsTrue T.keeps_defaults → IsTrue T.sure
+        → LeavesVisited (ask T.reply T.next) reencoder.old (visits (read.import_tree imports.entry))
+        reencoder.new result }
+{
+    let import = single(imports);
+    let ty = reencoder.entity_type(import.ty)?;
+    let entry = w::Imports::Single(w::Import {
+        module: import.module,
+        name: import.name,
+        ty,
+    });
+    import_section.imports(&entry)?;
+    Ok(())
+}
+
+/// Maps a table that starts with null references by `table_type`, and adds it. One that starts with the value of an
+/// expression has no reading yet, and is refused as bytes without one are.
+pub(crate) fn parse_table<T: ReencodeItems>(
+    reencoder: &mut T,
+    tables: &mut w::TableSection,
+    table: r::Table<'_>,
+) -> Result<(), Error<T::Error>>
+    ensures kept { KeepsFront tables.old tables.new }
+    ensures default { IsTrue T.keeps_defaults → (c : ℕ)
+        → GivesTable (ask T.reply T.next) c (reencoder.old, tables.old) table.entry.ty
+        table.entry.init (reencoder.new, tables.new) result }
+    ensures after_error { IsTrue T.keeps_defaults → IsTrue T.sure
+        → LeavesTable (ask T.reply T.next) reencoder.old table.entry.ty table.entry.init
+        reencoder.new result }
+{
+    match table.init {
+        r::TableInit::RefNull => {
+            let ty = reencoder.table_type(table.ty)?;
+            tables.table(ty)?;
+            Ok(())
+        }
+        r::TableInit::Expr(_) => Err(Error::ParseError(ReadError { at: 0 })),
+    }
+}
+
+/// Maps the rows that the reader still has, each by `memory_type`, and adds each row once it is mapped.
+pub(crate) fn parse_memory_section<T: ReencodeItems>(
+    reencoder: &mut T,
+    alloc: Global,
+    memories: &mut w::MemorySection,
+    section: r::MemorySectionReader<'_>,
+) -> Result<(), Error<T::Error>>
+    ensures kept { KeepsFront memories.old memories.new }
+    ensures default { IsTrue T.keeps_defaults → (c : ℕ)
+        → GivesRows (ask T.reply T.next) c (row_of kinds.Memory) section.entry
+        (reencoder.old, memories.old) (reencoder.new, memories.new) result }
+    ensures after_error { IsTrue T.keeps_defaults → IsTrue T.sure
+        → LeavesReading (RowsOf (row_of kinds.Memory) section.entry) (ask T.reply T.next)
+        reencoder.old reencoder.new result }
+{
+    let mut rows = section;
+    'rows: while let Some(row) = rows.next_row(alloc)? {
+        let ty = reencoder.memory_type(row)?;
+        memories.memory(ty)?;
+    }
+    Ok(())
+}
+
+/// Maps the rows that the reader still has, each by `tag_type`, and adds each row once it is mapped.
+pub(crate) fn parse_tag_section<T: ReencodeItems>(
+    reencoder: &mut T,
+    alloc: Global,
+    tags: &mut w::TagSection,
+    section: r::TagSectionReader<'_>,
+) -> Result<(), Error<T::Error>>
+    ensures kept { KeepsFront tags.old tags.new }
+    ensures default { IsTrue T.keeps_defaults → (c : ℕ)
+        → GivesRows (ask T.reply T.next) c (row_of kinds.Tag) section.entry
+        (reencoder.old, tags.old) (reencoder.new, tags.new) result }
+    ensures after_error { IsTrue T.keeps_defaults → IsTrue T.sure
+        → LeavesReading (RowsOf (row_of kinds.Tag) section.entry) (ask T.reply T.next) reencoder.old
+        reencoder.new result }
+{
+    let mut rows = section;
+    'rows: while let Some(row) = rows.next_row(alloc)? {
+        let ty = reencoder.tag_type(row)?;
+        tags.tag(ty)?;
+    }
+    Ok(())
+}
+
+/// Maps an export by `export_kind` and `external_index`, and adds it.
+pub(crate) fn parse_export<T: ReencodeItems>(
+    reencoder: &mut T,
+    exports: &mut w::ExportSection,
+    export: r::Export<'_>,
+) -> Result<(), Error<T::Error>>
+    ensures kept { KeepsFront exports.old exports.new }
+    ensures default { IsTrue T.keeps_defaults → (c : ℕ)
+        → GivesRow (ask T.reply T.next) c (reencoder.old, exports.old)
+        (read.export_tree export.entry) (reencoder.new, exports.new) result }
+    ensures after_error { IsTrue T.keeps_defaults → IsTrue T.sure
+        → LeavesVisited (ask T.reply T.next) reencoder.old (visits (read.export_tree export.entry))
+        reencoder.new result }
+{
+    let kind = reencoder.export_kind(export.kind)?;
+    let index = reencoder.external_index(export.kind, export.index)?;
+    exports.export(export.name, kind, index)?;
+    Ok(())
+}
+
+/// A function with the locals that a body begins with, each type by `val_type`, and no operator.
+pub(crate) fn new_function_with_parsed_locals<T: ReencodeItems>(
+    reencoder: &mut T,
+    alloc: Global,
+    func: &r::FunctionBody<'_>,
+) -> Result<w::Function, Error<T::Error>>
+    ensures default { IsTrue T.keeps_defaults
+        → GivesLocals (ask T.reply T.next) func.now.bytes.now reencoder.old reencoder.new result
+        (λ f. f) }
+    ensures after_error { IsTrue T.keeps_defaults → IsTrue T.sure
+        → LeavesReading (LocalsOf func.now.bytes.now) (ask T.reply T.next) reencoder.old
+        reencoder.new result }
+{
+    let locals = func.locals(alloc)?;
+    let mut mapped = List::with_capacity(alloc, locals.len())?;
+    for local in locals.into_vec() {
+        let ty = reencoder.val_type(local.1)?;
+        mapped.push((local.0, ty))?;
+    }
+    Ok(w::Function::new(alloc, &mapped)?)
+}

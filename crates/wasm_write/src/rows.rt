@@ -1,0 +1,110 @@
+//! Rows of sections in their normal spelling.
+ghost use Rattle.std.specs.Prelude.{◌≡◌, ◌++◌, ◌<◌, ◌^◌, length, take, vec_len, OnOk, OnErr};
+ghost use Rattle.wasm_shapes.specs.Tree.{normal};
+
+use crate::externals::{write_import, write_memory_type, write_table_type, write_tag_type};
+use crate::fault::WriteFault;
+use crate::fields::{write_item, write_name};
+use crate::groups::write_group;
+use crate::row_section::RowOf;
+use crate::types::{Export, Imports, MemoryType, RecGroup, TableType, TagType};
+use wasm_leb::{NoMemory, write_u32};
+use wasm_shapes::kinds;
+
+impl RowOf<kinds::Types> for RecGroup {
+    ghost use Rattle.wasm_write.specs.Types.{group_tree};
+
+    ghost tree = { group_tree };
+
+    #[tactic(auto, using(crate::proofs::RowSpelling::group_spelled))]
+    fn write(&self, out: &mut Vec<u8>) -> Result<(), WriteFault> {
+        write_group(out, self)
+    }
+}
+
+impl<'a> RowOf<kinds::Imports> for Imports<'a> {
+    ghost use Rattle.wasm_write.specs.Rows.{import_tree};
+
+    ghost tree = { import_tree };
+
+    #[tactic(auto, using(crate::proofs::RowSpelling::import_spelled))]
+    fn write(&self, out: &mut Vec<u8>) -> Result<(), WriteFault> {
+        match self {
+            Imports::Single(import) => write_import(out, import),
+        }
+    }
+}
+
+impl RowOf<kinds::Functions> for u32 {
+    ghost use Rattle.wasm_shapes.specs.Types.{function_tree};
+
+    ghost tree = { function_tree };
+
+    #[tactic(auto, using(crate::proofs::RowSpelling::function_spelled))]
+    fn write(&self, out: &mut Vec<u8>) -> Result<(), WriteFault> {
+        match write_u32(out, *self) {
+            Ok(()) => Ok(()),
+            Err(NoMemory) => Err(WriteFault::NoMemory),
+        }
+    }
+}
+
+impl RowOf<kinds::Tables> for TableType {
+    ghost use Rattle.wasm_write.specs.Types.{table_type_tree};
+
+    ghost tree = { table_type_tree };
+
+    #[tactic(auto, using(crate::proofs::RowSpelling::table_type_spelled))]
+    fn write(&self, out: &mut Vec<u8>) -> Result<(), WriteFault> {
+        match write_table_type(out, *self) {
+            Ok(()) => Ok(()),
+            Err(NoMemory) => Err(WriteFault::NoMemory),
+        }
+    }
+}
+
+impl RowOf<kinds::Memories> for MemoryType {
+    ghost use Rattle.wasm_write.specs.Types.{memory_type_tree};
+
+    ghost tree = { memory_type_tree };
+
+    #[tactic(auto, using(crate::proofs::RowSpelling::memory_type_spelled))]
+    fn write(&self, out: &mut Vec<u8>) -> Result<(), WriteFault> {
+        match write_memory_type(out, *self) {
+            Ok(()) => Ok(()),
+            Err(NoMemory) => Err(WriteFault::NoMemory),
+        }
+    }
+}
+
+impl RowOf<kinds::Tags> for TagType {
+    ghost use Rattle.wasm_write.specs.Types.{tag_type_tree};
+
+    ghost tree = { tag_type_tree };
+
+    #[tactic(auto, using(crate::proofs::RowSpelling::tag_type_spelled))]
+    fn write(&self, out: &mut Vec<u8>) -> Result<(), WriteFault> {
+        match write_tag_type(out, *self) {
+            Ok(()) => Ok(()),
+            Err(NoMemory) => Err(WriteFault::NoMemory),
+        }
+    }
+}
+
+impl<'a> RowOf<kinds::Exports> for Export<'a> {
+    ghost use Rattle.wasm_write.specs.Rows.{export_tree};
+
+    ghost tree = { λ row. export_tree row.name.now row.kind row.index };
+
+    #[tactic(auto, using(crate::proofs::RowSpelling::export_spelled))]
+    fn write(&self, out: &mut Vec<u8>) -> Result<(), WriteFault> {
+        match write_name(out, self.name) {
+            Ok(()) => {}
+            Err(fault) => return Err(fault),
+        }
+        match write_item(out, self.kind, self.index) {
+            Ok(()) => Ok(()),
+            Err(NoMemory) => Err(WriteFault::NoMemory),
+        }
+    }
+}
