@@ -86,8 +86,11 @@ impl ReencodeIndices for Widened {
 impl ReencodeItems for Widened {
     fn val_type(&mut self, val_ty: r::ValType) -> Result<w::ValType, Error<Infallible>> {
         match val_ty {
-            r::ValType::I32 => Ok(w::ValType::I64),
-            ty => reencode_items::utils::val_type(self, ty),
+            r::ValType::I32 | r::ValType::I64 => Ok(w::ValType::I64),
+            r::ValType::F32 => Ok(w::ValType::F32),
+            r::ValType::F64 => Ok(w::ValType::F64),
+            r::ValType::V128 => Ok(w::ValType::V128),
+            r::ValType::Ref(ty) => Ok(w::ValType::Ref(self.ref_type(ty)?)),
         }
     }
 }

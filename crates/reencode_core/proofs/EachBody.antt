@@ -3,7 +3,6 @@ use Rattle.std.proofs.Common.{◌≡◌, ◌≢◌, ◌<◌, ◌≤◌, ◌^◌,
 use Rattle.std.proofs.Math.Seq.{take-append_seam}
 use Rattle.wasm_leb.specs.declared.fault.Fault.{Fault}
 use Rattle.wasm_shapes.specs.Tree.{Tree, normal}
-use Rattle.wasm_shapes.specs.Shape.{Shape}
 use Rattle.wasm_shapes.specs.Place.{Begins, BeginsNone}
 use Rattle.wasm_shapes.specs.Module.{code_row}
 use Rattle.wasm_read.specs.Operations.{Reading, rest_of, frame_row}
@@ -12,14 +11,13 @@ use Rattle.wasm_write.specs.declared.fault.WriteFault.{WriteFault}
 use Rattle.wasm_write.specs.declared.fault.WriteFault.TheVariants as faults
 use Rattle.wasm_write.specs.Bodies.{Body, CodeRows, code_tree, function_body, with_operator, with_row}
 use Rattle.wasm_write.specs.Faults.{IfTooLarge}
-use Rattle.wasm_write.specs.Held.{body_tree}
+use Rattle.wasm_shapes.specs.Types.{vector_tree}
 use Rattle.reencode_hooks.specs.declared.error.Error.{Error}
-use Rattle.reencode_hooks.specs.declared.error.Error.TheVariants.{NoMemory}
 use Rattle.reencode_hooks.specs.declared.indices.ReencodeIndices.{Ghosts}
 use Rattle.reencode_hooks.specs.Errors.{error_of_fault, error_of_write}
 use Rattle.reencode_hooks.specs.Run.{accepted}
 use Rattle.reencode_hooks.specs.Walk.{walk}
-use Rattle.reencode_items.specs.Maps.{LeavesOperator, MapsOperator, MovesOn, ParsesOperator}
+use Rattle.reencode_items.specs.Maps.{LeavesOperator, MovesOn, ParsesOperator}
 use Rattle.reencode_items.proofs.Leaving.{accepted_visited}
 use Rattle.reencode_core.specs.Errors.{placed_at}
 use Rattle.reencode_core.specs.Rows.{GivesRows, locals}
@@ -134,7 +132,7 @@ module _ {S E : Type 0} (i : Ghosts S E) {bytes : List ℕ} {s0 : S} (old : Code
     module _ {start : Reading} {l : Tree} (begins : Begins locals bytes l (rest_of start)) (is_bytes : start.bytes ≡ bytes) {reader : Reading} {s : S} {f : Body}
         (inv : OperatorsKept i start m f0 reader s f) where
       -- the walk of the locals
-      walked : IsTrue i.keeps_defaults → walk (asks i) 0 s0 l ≡ accepted (body_tree f0.locals) m
+      walked : IsTrue i.keeps_defaults → walk (asks i) 0 s0 l ≡ accepted (vector_tree f0.locals) m
       walked k = (made.default k).reading 0 l (rest_of start) begins
 
       -- the next operator is refused, or none is there

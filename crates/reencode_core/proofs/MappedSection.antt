@@ -1,5 +1,5 @@
 -- A section whose rows were mapped, as it is added to a module.
-use Rattle.std.proofs.Common.{◌≡◌, ℕ, List, [], ◌∷◌, length, Result, Ok, Err, IsErrAnd, IsTrue, refl, sym, ap, ◌∙◌, subst}
+use Rattle.std.proofs.Common.{◌≡◌, ℕ, List, [], ◌∷◌, Result, Ok, Err, IsErrAnd, IsTrue, refl, sym, ap, ◌∙◌, subst}
 use Rattle.wasm_leb.specs.declared.fault.Fault.{Fault}
 use Rattle.wasm_leb.specs.Place.{BeginsNoNumber}
 use Rattle.wasm_shapes.specs.declared.SectionId.{SectionId}
@@ -10,8 +10,8 @@ use Rattle.wasm_shapes.specs.Module.{body_of, row_of}
 use Rattle.wasm_shapes.specs.SectionTable.{number}
 use Rattle.wasm_read.specs.Reading.{Standing, CountRead, ReadsNone}
 use Rattle.wasm_write.specs.Bodies.{CodeRows}
-use Rattle.wasm_write.specs.Held.{body_tree}
-use Rattle.wasm_write.specs.Sections.{Sections, SectionRow, section_row}
+use Rattle.wasm_shapes.specs.Types.{vector_tree}
+use Rattle.wasm_write.specs.Sections.{Sections, section_row}
 use Rattle.reencode_hooks.specs.declared.error.Error.{Error}
 use Rattle.reencode_hooks.specs.declared.error.Error.TheVariants.{ParseError}
 use Rattle.reencode_hooks.specs.declared.indices.ReencodeIndices.{Ghosts}
@@ -61,7 +61,7 @@ module _ {S E : Type 0} (i : Ghosts S E) {kind : SectionId} {body : List ℕ} {s
     section_mapped : {reader : Standing} {start made : List Tree} {m : S} {new : Sections} (mapped r : Result (Unit {0}) (Error E)) → start ≡ [] → CountRead body reader →
         (IsTrue i.keeps_defaults → GivesRows (asks i) old.ceiling (row_of k) reader (s, start) (m, made) mapped) →
         (IsTrue i.keeps_defaults → IsTrue i.sure → LeavesReading (RowsOf (row_of k) reader) (asks i) s m mapped) →
-        AddsMapped (section_row (number k) (normal (body_tree made))) old mapped new r → SectionClauses i kind body s old m new r
+        AddsMapped (section_row (number k) (normal (vector_tree made))) old mapped new r → SectionClauses i kind body s old m new r
     section_mapped {reader = reader} {start = start} {made = made} {m = m} {new = new} mapped r empty there gives leaves adds =
         let P : SectionId → Type 0 = λ z. SectionClauses i z body s old m new r in subst P (sym same) (go mapped r gives leaves adds)
       where
@@ -70,7 +70,7 @@ module _ {S E : Type 0} (i : Ghosts S E) {kind : SectionId} {body : List ℕ} {s
 
         go : (mapped r : Result (Unit {0}) (Error E)) → (IsTrue i.keeps_defaults → GivesRows (asks i) old.ceiling (row_of k) reader (s, start) (m, made) mapped) →
             (IsTrue i.keeps_defaults → IsTrue i.sure → LeavesReading (RowsOf (row_of k) reader) (asks i) s m mapped) →
-            AddsMapped (section_row (number k) (normal (body_tree made))) old mapped new r → SectionClauses i k body s old m new r
+            AddsMapped (section_row (number k) (normal (vector_tree made))) old mapped new r → SectionClauses i k body s old m new r
         go (Err e) r gives leaves adds =
             let P : Result (Unit {0}) (Error E) → Type 0 = λ z. SectionClauses i k body s old m new z in
             subst P (sym adds.0) (record {
@@ -79,7 +79,7 @@ module _ {S E : Type 0} (i : Ghosts S E) {kind : SectionId} {body : List ℕ} {s
               after_error = λ keeps sure. section_leaves k known there (leaves keeps sure);
             })
         go (Ok u) (Ok v) gives leaves adds = record {
-          kept = (section_row (number k) (normal (body_tree made)) ∷ [], adds.0);
+          kept = (section_row (number k) (normal (vector_tree made)) ∷ [], adds.0);
           default = λ keeps. section_given (asks i) k known s m body reader start made old new empty there (gives keeps) adds.0 adds.1;
           after_error = λ keeps sure t reads. tt;
         }
@@ -93,13 +93,13 @@ module _ {S E : Type 0} (i : Ghosts S E) {kind : SectionId} {body : List ℕ} {s
 
     -- its rows were mapped, or refused
     pub section_done : {reader : Standing} {start made : List Tree} {m : S} {new : Sections} (mapped r : Result (Unit {0}) (Error E)) → start ≡ [] → CountRead body reader →
-        RowsClauses i (row_of k) reader s start m made mapped → AddsMapped (section_row (number k) (normal (body_tree made))) old mapped new r → SectionClauses i kind body s old m new r
+        RowsClauses i (row_of k) reader s start m made mapped → AddsMapped (section_row (number k) (normal (vector_tree made))) old mapped new r → SectionClauses i kind body s old m new r
     section_done mapped r empty there rows adds = section_mapped mapped r empty there (λ keeps. rows.default keeps old.ceiling) rows.after_error adds
 
   -- the same of its bodies
   pub code_done : {c : ℕ} {reader : Standing} {start made : CodeRows} {m : S} {new : Sections} (mapped r : Result (Unit {0}) (Error E)) → kind ≡ id.Code →
       start ≡ record { ceiling = c; rows = [] } → c ≡ old.ceiling → CountRead body reader → CodeClauses i reader s start m made mapped →
-      AddsMapped (section_row 10 (normal (body_tree made.rows))) old mapped new r → SectionClauses i kind body s old m new r
+      AddsMapped (section_row 10 (normal (vector_tree made.rows))) old mapped new r → SectionClauses i kind body s old m new r
   code_done mapped r same fresh ceiling there rows adds =
       section_mapped same refl mapped r (ap CodeRows.rows fresh) there
       (λ keeps. at_ceiling _ _ (ap CodeRows.ceiling fresh ∙ ceiling) (rows.default keeps)) rows.after_error adds

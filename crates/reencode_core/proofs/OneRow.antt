@@ -4,7 +4,6 @@ use Rattle.std.proofs.Math.Seq.{take-append_seam, take-length}
 use Rattle.std.proofs.lemmas.List.Elements.{Contains-append_left, Contains-append_right}
 use Rattle.std.proofs.lemmas.Result.{err_from_is_err_and}
 use Rattle.wasm_shapes.specs.declared.Space.{Space}
-use Rattle.wasm_shapes.specs.declared.Visit.{Visit}
 use Rattle.wasm_shapes.specs.declared.Visit.TheVariants.{Index}
 use Rattle.wasm_shapes.specs.Tree.{Tree, visits}
 use Rattle.wasm_shapes.specs.Shape.{table_type}
@@ -15,7 +14,6 @@ use Rattle.wasm_read.specs.declared.types.Imports.TheVariants as imported
 use Rattle.wasm_read.specs.declared.types.TableType.{TableType}
 use Rattle.wasm_read.specs.declared.types.TableInit.{TableInit}
 use Rattle.wasm_read.specs.declared.types.TableInit.TheVariants as init
-use Rattle.wasm_read.specs.Reading.{Standing, RowRead}
 use Rattle.wasm_read.specs.Types as read
 use Rattle.wasm_write.specs.declared.fault.WriteFault.{WriteFault}
 use Rattle.wasm_write.specs.declared.fault.WriteFault.TheVariants as fault
@@ -34,7 +32,7 @@ use Rattle.reencode_hooks.specs.Run.{Step, accepted, refused, LeavesVisited, Nev
 use Rattle.reencode_hooks.specs.Walk.{walk}
 use Rattle.reencode_items.specs.Maps.{Maps}
 use Rattle.reencode_items.proofs.Leaving.{accepted_visited, sure_visited}
-use Rattle.reencode_core.specs.Rows.{Asks, KeepsFront, GivesRow, GivesTable, LeavesTable, TooLargeMade}
+use Rattle.reencode_core.specs.Rows.{Asks, KeepsFront, GivesRow, TooLargeMade}
 
 -- what asks
 abbrev pub asks : {S E : Type 0} → Ghosts S E → Asks S E

@@ -15,7 +15,7 @@ use Rattle.wasm_shapes.specs.SectionTable.{number}
 use Rattle.wasm_write.specs.declared.fault.WriteFault.{WriteFault}
 use Rattle.wasm_write.specs.declared.fault.WriteFault.TheVariants as write
 use Rattle.wasm_write.specs.Faults.{IfTooLarge}
-use Rattle.wasm_write.specs.Held.{body_tree}
+use Rattle.wasm_shapes.specs.Types.{vector_tree}
 use Rattle.wasm_write.specs.Sections.{Sections, section_row, with_section}
 use Rattle.reencode_hooks.specs.declared.error.Error.{Error}
 use Rattle.reencode_hooks.specs.declared.error.Error.TheVariants.{ParseError, TooLarge, NoMemory}
@@ -121,7 +121,7 @@ module _ {S E : Type 0} (asked : Asks S E) (k : SectionId) (known : HasRows k) w
 
   -- the body that was made
   body_made : (c : ℕ) (s m : S) (reader : Standing) (start made : List Tree) → start ≡ [] → GivesRows asked c (row_of k) reader (s, start) (m, made) (Ok tt) →
-      (rows : Tree) → RowsLeft (row_of k) reader.left reader.rest rows → walk asked c s (Tree.vec rows) ≡ accepted (body_tree made) m
+      (rows : Tree) → RowsLeft (row_of k) reader.left reader.rest rows → walk asked c s (Tree.vec rows) ≡ accepted (vector_tree made) m
   body_made c s m reader start made empty g rows r =
       let q = g.reading rows r in
       let same : made ≡ q.0 = q.2 ∙ ap (λ (z : List Tree). z ++ q.0) empty in
@@ -129,13 +129,13 @@ module _ {S E : Type 0} (asked : Asks S E) (k : SectionId) (known : HasRows k) w
 
   pub section_given : (s m : S) (body : List ℕ) (reader : Standing) (start made : List Tree) (old new : Sections) → start ≡ [] → CountRead body reader →
       GivesRows asked old.ceiling (row_of k) reader (s, start) (m, made) (Ok tt) →
-      new ≡ with_section old (section_row (number k) (normal (body_tree made))) → length (normal (body_tree made)) ≤ old.ceiling →
+      new ≡ with_section old (section_row (number k) (normal (vector_tree made))) → length (normal (vector_tree made)) ≤ old.ceiling →
       GivesSection asked k body (s, old) (m, new) (Ok tt)
   section_given s m body reader start made old new empty there g gains fits = record {
     reading = λ t r.
         let v = rows_read there t r in
         let done = body_made old.ceiling s m reader start made empty g v.0 v.2 in
-        (tree_of k (body_tree made), normal (body_tree made), rw v.1 (section_fits k asked old.ceiling s m (Tree.vec v.0) (body_tree made) done fits), gains, section_spelled k (body_tree made));
+        (tree_of k (vector_tree made), normal (vector_tree made), rw v.1 (section_fits k asked old.ceiling s m (Tree.vec v.0) (vector_tree made) done fits), gains, section_spelled k (vector_tree made));
     readable = section_read there g.readable.0 g.readable.1;
     unreadable = tt;
     refusal = tt;
@@ -143,7 +143,7 @@ module _ {S E : Type 0} (asked : Asks S E) (k : SectionId) (known : HasRows k) w
 
   pub section_not_given : (s m : S) (body : List ℕ) (reader : Standing) (start made : List Tree) (old : Sections) (w : WriteFault) → start ≡ [] → CountRead body reader →
       GivesRows asked old.ceiling (row_of k) reader (s, start) (m, made) (Ok tt) →
-      IfTooLarge w (λ size. (size ≡ length (normal (body_tree made))) × (old.ceiling < size)) →
+      IfTooLarge w (λ size. (size ≡ length (normal (vector_tree made))) × (old.ceiling < size)) →
       GivesSection asked k body (s, old) (m, old) (Err (error_of_write w))
   section_not_given s m body reader start made old w empty there g large = record {
     reading = λ t r.
@@ -155,12 +155,12 @@ module _ {S E : Type 0} (asked : Asks S E) (k : SectionId) (known : HasRows k) w
     refusal = unless_wanting (error_of_write w) (λ other. inl (section_read there g.readable.0 g.readable.1));
   }
     where
-      stops : (w : WriteFault) → IfTooLarge w (λ size. (size ≡ length (normal (body_tree made))) × (old.ceiling < size)) → (u : Tree) →
-          walk asked old.ceiling s u ≡ accepted (body_tree made) m → error_of_write {E = E} w ≢ NoMemory → walk asked old.ceiling s (tree_of k u) ≡ refused (error_of_write w) m
+      stops : (w : WriteFault) → IfTooLarge w (λ size. (size ≡ length (normal (vector_tree made))) × (old.ceiling < size)) → (u : Tree) →
+          walk asked old.ceiling s u ≡ accepted (vector_tree made) m → error_of_write {E = E} w ≢ NoMemory → walk asked old.ceiling s (tree_of k u) ≡ refused (error_of_write w) m
       stops (write.TooLarge size) q u h other =
-          let same : size ≡ length (normal (body_tree made)) = q.0 in
-          let above : old.ceiling < length (normal (body_tree made)) = let p : old.ceiling < size = q.1 in omega arith in
-          section_large k asked old.ceiling s m u (body_tree made) h above ∙ ap (λ (n : ℕ). refused (TooLarge n) m) (sym same)
+          let same : size ≡ length (normal (vector_tree made)) = q.0 in
+          let above : old.ceiling < length (normal (vector_tree made)) = let p : old.ceiling < size = q.1 in omega arith in
+          section_large k asked old.ceiling s m u (vector_tree made) h above ∙ ap (λ (n : ℕ). refused (TooLarge n) m) (sym same)
       stops write.NoMemory q u h other = absurd (other refl)
 
 -- ---- a kind that is not in force

@@ -1,9 +1,7 @@
 -- The loop over the rows of a section.
-use Rattle.std.proofs.Common.{◌≡◌, ◌≢◌, ℕ, suc, ◌+◌, ◌-◌, ◌<◌, ◌^◌, List, [], ◌∷◌, ◌++◌, length, length-append, take, None, Result, Ok, Err, ◌≤◌, refl, sym, ap, ◌∙◌, append_assoc, append-nil, arith, subst, ◌⊎◌, inl, inr, true}
+use Rattle.std.proofs.Common.{◌≡◌, ◌≢◌, ℕ, suc, ◌+◌, ◌-◌, ◌<◌, List, [], ◌∷◌, ◌++◌, length, length-append, take, None, Result, Ok, Err, ◌≤◌, refl, sym, ap, ◌∙◌, append_assoc, append-nil, arith, subst, ◌⊎◌, inl, inr, true, Bool, false}
 use Rattle.std.proofs.lemmas.List.{take-take, length-take}
-use Rattle.wasm_shapes.specs.declared.Space.{Space}
 use Rattle.wasm_shapes.specs.declared.Visit.{Visit}
-use Rattle.wasm_shapes.specs.declared.Visit.TheVariants.{Index}
 use Rattle.wasm_shapes.specs.Tree.{Tree, count}
 use Rattle.wasm_shapes.specs.Shape.{Shape, closed}
 use Rattle.wasm_shapes.specs.Sound.{sound}
@@ -13,12 +11,8 @@ use Rattle.wasm_shapes.specs.Rows.{RowsLeft, rows_then}
 use Rattle.wasm_shapes.proofs.Rows.{RowsSoFar, so_far_none, so_far_more, so_far_stuck, rows_end, rows_then-append, rows_first}
 use Rattle.wasm_leb.specs.declared.fault.Fault.{Fault}
 use Rattle.wasm_leb.specs.declared.fault.Fault.TheVariants as fault
-use Rattle.wasm_read.specs.Reading.{Standing, place_of, ReadsNone, ReadsNoneOrWants, RowRead, RowMissing, RowsEnded}
-use Rattle.reencode_hooks.specs.Errors.{error_of_fault, error_of_write}
-use Rattle.wasm_write.specs.declared.fault.WriteFault.{WriteFault}
-use Rattle.wasm_write.specs.declared.fault.WriteFault.TheVariants as write
-use Rattle.wasm_write.specs.Faults.{IfTooLarge}
-use Rattle.wasm_write.specs.Counts.{counts, IsTooLarge}
+use Rattle.wasm_read.specs.Reading.{Standing, place_of, ReadsNone, ReadsNoneIf, ReadsNoneOrWants, RowRead, RowMissing, RowsEnded}
+use Rattle.reencode_hooks.specs.Errors.{error_of_fault}
 use Rattle.reencode_hooks.specs.declared.error.Error.{Error}
 use Rattle.reencode_hooks.specs.declared.error.Error.TheVariants.{CanonicalizedHeapTypeReference, InvalidConstExpr, InvalidCodeSectionSize, UnexpectedNonCoreModuleSection, UnexpectedNonComponentSection, UnsupportedCoreTypeInComponent, ParseError, UserError, TooLarge, NoMemory}
 use Rattle.reencode_hooks.specs.Run.{Step, accepted, refused, and_then, ask}
@@ -88,6 +82,11 @@ none_or_wants (fault.Read x) at P h = h
 none_or_wants fault.NoMemory at P h = tt
 none_or_wants fault.CodeSize at P h = h
 none_or_wants (fault.Header k) at P h = h
+
+-- a reader that may take memory or not
+pub none_if : (wants : Bool) (f : Fault) (at : ℕ) (P : Type 0) → ReadsNoneIf wants f at P → ReadsNoneOrWants f at P
+none_if true f at P h = h
+none_if false f at P h = none_or_wants f at P h
 
 module _ {S E : Type 0} (asked : Asks S E) where
   pub onto_nothing : (step : Step S (Error E) Tree) → step ≡ onto_rows [] step

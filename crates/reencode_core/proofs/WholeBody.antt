@@ -17,7 +17,7 @@ use Rattle.wasm_write.specs.declared.fault.WriteFault.{WriteFault}
 use Rattle.wasm_write.specs.declared.fault.WriteFault.TheVariants as write
 use Rattle.wasm_write.specs.Faults.{IfTooLarge}
 use Rattle.wasm_write.specs.Counts.{counts}
-use Rattle.wasm_write.specs.Held.{rows_tree, body_tree}
+use Rattle.wasm_shapes.specs.Types.{rows_tree, vector_tree}
 use Rattle.wasm_write.specs.Bodies.{Body, CodeRows, function_body, code_tree, with_row, with_operator}
 use Rattle.reencode_hooks.specs.declared.error.Error.{Error}
 use Rattle.reencode_hooks.specs.declared.error.Error.TheVariants.{CanonicalizedHeapTypeReference, InvalidConstExpr, InvalidCodeSectionSize, UnexpectedNonCoreModuleSection, UnexpectedNonComponentSection, UnsupportedCoreTypeInComponent, ParseError, UserError, TooLarge, NoMemory}
@@ -79,7 +79,7 @@ module _ {S E : Type 0} (reply : S → Visit → Result ℕ E) (next : S → Vis
     (begins : Begins locals bytes l start) (g : GivesLocals {E = E} {A = Body} (ask reply next) bytes s0 m (Ok f0) (λ f. f))
     (done : (c : ℕ) → OperatorsDone (ask reply next) c start m rest s ops) where
   -- the locals' walk
-  walked : (c : ℕ) → walk (ask reply next) c s0 l ≡ accepted (body_tree f0.locals) m
+  walked : (c : ℕ) → walk (ask reply next) c s0 l ≡ accepted (vector_tree f0.locals) m
   walked c = g.reading c l start begins
 
   -- what stands behind the operators that were read
@@ -93,13 +93,13 @@ module _ {S E : Type 0} (reply : S → Visit → Result ℕ E) (next : S → Vis
 
   -- ---- the end
 
-  body_walk : (c : ℕ) (t : Tree) → Spells body bytes t → rest ≡ [] → walk (ask reply next) c s0 t ≡ accepted (Tree.pair (body_tree f0.locals) (rows_tree ops)) s
+  body_walk : (c : ℕ) (t : Tree) → Spells body bytes t → rest ≡ [] → walk (ask reply next) c s0 t ≡ accepted (Tree.pair (vector_tree f0.locals) (rows_tree ops)) s
   body_walk c t p empty =
       let o = others_of c t p in
       let P : List ℕ → Type 0 = λ z. ManyLeft z o.1 in
       let last : o.1 ≡ Tree.nil = many_none o.1 (subst P empty o.3) in
       let operators : walk (ask reply next) c m (rows_then o.0 o.1) ≡ accepted (rows_tree ops) s = o.4 ∙ rw last refl in
-      rw o.2 (pair_accepted (ask reply next) c s0 m s l (body_tree f0.locals) (rows_then o.0 o.1) (rows_tree ops) (walked c) operators)
+      rw o.2 (pair_accepted (ask reply next) c s0 m s l (vector_tree f0.locals) (rows_then o.0 o.1) (rows_tree ops) (walked c) operators)
 
   -- the body that was read
   body_read : rest ≡ [] → (t : Tree) × Spells body bytes t
@@ -170,7 +170,7 @@ module _ {S E : Type 0} (reply : S → Visit → Result ℕ E) (next : S → Vis
         inr (inr (
           l,
           start,
-          body_tree f0.locals,
+          vector_tree f0.locals,
           m,
           begins,
           walked old.ceiling,
@@ -196,7 +196,7 @@ module _ {S E : Type 0} (reply : S → Visit → Result ℕ E) (next : S → Vis
           let first : walk (ask reply next) old.ceiling s (Tree.cons operator k.0) ≡ refused e n = rw (stops old.ceiling other) refl in
           let here : walk (ask reply next) old.ceiling s o.1 ≡ refused e n = rw k.1 first in
           let operators : walk (ask reply next) old.ceiling m (rows_then o.0 o.1) ≡ refused e n = o.4 ∙ ap (λ (r : Step S (Error E) Tree). onto_rows ops r) here in
-          sized_refused (ask reply next) old.ceiling s0 n t e (rw o.2 (pair_refused (ask reply next) old.ceiling s0 m n l (body_tree f0.locals) (rows_then o.0 o.1) e (walked old.ceiling) operators))
+          sized_refused (ask reply next) old.ceiling s0 n t e (rw o.2 (pair_refused (ask reply next) old.ceiling s0 m n l (vector_tree f0.locals) (rows_then o.0 o.1) e (walked old.ceiling) operators))
 
   no_operator : (at : ℕ) → BeginsNone (Shape.op true) rest → rest ≢ [] → at ≡ length bytes - length rest → GivesBody (ask reply next) bytes (s0, old) (s, old) (Err (ParseError (record { at = at })))
   no_operator at none some place =
@@ -209,8 +209,8 @@ module _ {S E : Type 0} (reply : S → Visit → Result ℕ E) (next : S → Vis
         unreadable = (
           never,
           inr (l, d.read, start, rest, begins, d.before, place, none, some),
-          walk_further (ask reply next) 0 s0 s (Tree.pair l (rows_then d.read Tree.nil)) (Tree.pair (body_tree f0.locals) (rows_tree ops))
-              (pair_accepted (ask reply next) 0 s0 m s l (body_tree f0.locals) (rows_then d.read Tree.nil) (rows_tree ops) (walked 0) read),
+          walk_further (ask reply next) 0 s0 s (Tree.pair l (rows_then d.read Tree.nil)) (Tree.pair (vector_tree f0.locals) (rows_tree ops))
+              (pair_accepted (ask reply next) 0 s0 m s l (vector_tree f0.locals) (rows_then d.read Tree.nil) (rows_tree ops) (walked 0) read),
         );
         refusal = tt;
       }

@@ -5,7 +5,7 @@ use Rattle.wasm_shapes.specs.Tree.{Tree}
 use Rattle.wasm_shapes.specs.Spells.{Spells}
 use Rattle.wasm_shapes.specs.Place.{Begins, BeginsNone}
 use Rattle.wasm_shapes.specs.Module.{body}
-use Rattle.wasm_write.specs.Held.{body_tree}
+use Rattle.wasm_shapes.specs.Types.{vector_tree}
 use Rattle.wasm_write.specs.Bodies.{Body, CodeRows}
 use Rattle.reencode_hooks.specs.declared.error.Error.{Error}
 use Rattle.reencode_hooks.specs.Run.{Gives}
@@ -22,7 +22,7 @@ pub record KeepsCode (old new : CodeRows) : Type 0 where
 
 -- A function with the locals that a body begins with, each type mapped, and no operator.
 pub record GivesLocals {S E A : Type 0} (asked : Asks S E) (bytes : List ℕ) (s m : S) (result : Result A (Error E)) (view : A → Body) : Type 0 where
-  pub reading : (c : ℕ) (t : Tree) (rest : List ℕ) → Begins locals bytes t rest → Gives (walk asked c s t) (λ f. body_tree (view f).locals) m result
+  pub reading : (c : ℕ) (t : Tree) (rest : List ℕ) → Begins locals bytes t rest → Gives (walk asked c s t) (λ f. vector_tree (view f).locals) m result
   pub bare : IfOk result (λ f. (view f).operators ≡ [])
   pub readable : IfOk result (λ _. (t : Tree) × (rest : List ℕ) × Begins locals bytes t rest)
   pub unreadable : IfErr result (λ e. IfParse e (λ at. (at ≡ 0) × BeginsNone locals bytes × (m ≡ s)))

@@ -5,18 +5,13 @@ mod bodies;
 pub mod direct;
 mod errors;
 mod imports;
+mod mapped;
 mod plain;
 mod reencode;
 mod rule;
 mod sections;
 mod shared;
-#[cfg(test)]
-mod tests;
-#[cfg(test)]
-mod type_tests;
 pub mod utils;
-#[cfg(test)]
-mod utils_tests;
 
 pub use reencode::{Reencode, reencode_core};
 pub use rule::reencode_by_rule;

@@ -17,7 +17,7 @@ ghost use Rattle.reencode_core.specs.Leaves.{BodyOf, LeavesReading, LocalsOf, Ro
 
 use crate::errors::placed;
 use crate::sections::add_section;
-use crate::{bodies, shared};
+use crate::{bodies, mapped, shared};
 use reencode_hooks::Error;
 use reencode_items::ReencodeItems;
 use std::alloc::Global;
@@ -81,7 +81,7 @@ pub trait Reencode: ReencodeItems {
             → LeavesReading (RowsOf (row_of kinds.Function) section.entry)
             (ask Self.reply Self.next) self.old self.new result }
     {
-        shared::parse_function_section(self, alloc, functions, section)
+        mapped::map_section(self, alloc, functions, section)
     }
 
     /// Maps the rows that the reader still has, each by `parse_imports`.
@@ -190,7 +190,7 @@ pub trait Reencode: ReencodeItems {
             → LeavesReading (RowsOf (row_of kinds.Memory) section.entry) (ask Self.reply Self.next)
             self.old self.new result }
     {
-        shared::parse_memory_section(self, alloc, memories, section)
+        mapped::map_section(self, alloc, memories, section)
     }
 
     /// Maps the rows that the reader still has, each by `tag_type`, and adds each row once it is mapped.
@@ -208,7 +208,7 @@ pub trait Reencode: ReencodeItems {
             → LeavesReading (RowsOf (row_of kinds.Tag) section.entry) (ask Self.reply Self.next)
             self.old self.new result }
     {
-        shared::parse_tag_section(self, alloc, tags, section)
+        mapped::map_section(self, alloc, tags, section)
     }
 
     /// Maps the rows that the reader still has, each by `parse_export`.

@@ -46,29 +46,6 @@ pub(crate) fn parse_recursive_type_group<T: ReencodeItems>(
     })
 }
 
-/// Maps the rows that the reader still has, each index by `type_index`, and adds each row once its index was answered.
-pub(crate) fn parse_function_section<T: ReencodeItems>(
-    reencoder: &mut T,
-    alloc: Global,
-    functions: &mut w::FunctionSection,
-    section: r::FunctionSectionReader<'_>,
-) -> Result<(), Error<T::Error>>
-    ensures kept { KeepsFront functions.old functions.new }
-    ensures default { IsTrue T.keeps_defaults → (c : ℕ)
-        → GivesRows (ask T.reply T.next) c (row_of kinds.Function) section.entry
-        (reencoder.old, functions.old) (reencoder.new, functions.new) result }
-    ensures after_error { IsTrue T.keeps_defaults → IsTrue T.sure
-        → LeavesReading (RowsOf (row_of kinds.Function) section.entry) (ask T.reply T.next)
-        reencoder.old reencoder.new result }
-{
-    let mut rows = section;
-    'rows: while let Some(row) = rows.next_row(alloc)? {
-        let index = reencoder.type_index(row)?;
-        functions.function(index)?;
-    }
-    Ok(())
-}
-
 /// Maps an entry of an import section, its type by `entity_type`, and adds it.
 pub(crate) fn parse_imports<T: ReencodeItems>(
     reencoder: &mut T,
@@ -117,52 +94,6 @@ pub(crate) fn parse_table<T: ReencodeItems>(
         }
         r::TableInit::Expr(_) => Err(Error::ParseError(ReadError { at: 0 })),
     }
-}
-
-/// Maps the rows that the reader still has, each by `memory_type`, and adds each row once it is mapped.
-pub(crate) fn parse_memory_section<T: ReencodeItems>(
-    reencoder: &mut T,
-    alloc: Global,
-    memories: &mut w::MemorySection,
-    section: r::MemorySectionReader<'_>,
-) -> Result<(), Error<T::Error>>
-    ensures kept { KeepsFront memories.old memories.new }
-    ensures default { IsTrue T.keeps_defaults → (c : ℕ)
-        → GivesRows (ask T.reply T.next) c (row_of kinds.Memory) section.entry
-        (reencoder.old, memories.old) (reencoder.new, memories.new) result }
-    ensures after_error { IsTrue T.keeps_defaults → IsTrue T.sure
-        → LeavesReading (RowsOf (row_of kinds.Memory) section.entry) (ask T.reply T.next)
-        reencoder.old reencoder.new result }
-{
-    let mut rows = section;
-    'rows: while let Some(row) = rows.next_row(alloc)? {
-        let ty = reencoder.memory_type(row)?;
-        memories.memory(ty)?;
-    }
-    Ok(())
-}
-
-/// Maps the rows that the reader still has, each by `tag_type`, and adds each row once it is mapped.
-pub(crate) fn parse_tag_section<T: ReencodeItems>(
-    reencoder: &mut T,
-    alloc: Global,
-    tags: &mut w::TagSection,
-    section: r::TagSectionReader<'_>,
-) -> Result<(), Error<T::Error>>
-    ensures kept { KeepsFront tags.old tags.new }
-    ensures default { IsTrue T.keeps_defaults → (c : ℕ)
-        → GivesRows (ask T.reply T.next) c (row_of kinds.Tag) section.entry
-        (reencoder.old, tags.old) (reencoder.new, tags.new) result }
-    ensures after_error { IsTrue T.keeps_defaults → IsTrue T.sure
-        → LeavesReading (RowsOf (row_of kinds.Tag) section.entry) (ask T.reply T.next) reencoder.old
-        reencoder.new result }
-{
-    let mut rows = section;
-    'rows: while let Some(row) = rows.next_row(alloc)? {
-        let ty = reencoder.tag_type(row)?;
-        tags.tag(ty)?;
-    }
-    Ok(())
 }
 
 /// Maps an export by `export_kind` and `external_index`, and adds it.

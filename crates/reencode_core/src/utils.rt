@@ -17,7 +17,7 @@ ghost use Rattle.reencode_core.specs.Leaves.{BodyOf, LeavesReading, LocalsOf, Ro
 use crate::errors::placed;
 use crate::reencode::Reencode;
 use crate::sections::add_section;
-use crate::{bodies, shared};
+use crate::{bodies, mapped, shared};
 use reencode_hooks::Error;
 use std::alloc::Global;
 use wasm_leb::ReadError;
@@ -74,7 +74,7 @@ pub fn parse_function_section<T: Reencode>(
         → LeavesReading (RowsOf (row_of kinds.Function) section.entry) (ask T.reply T.next)
         reencoder.old reencoder.new result }
 {
-    shared::parse_function_section(reencoder, alloc, functions, section)
+    mapped::map_section(reencoder, alloc, functions, section)
 }
 
 /// Maps the rows that the reader still has, each by `parse_imports`.
@@ -183,7 +183,7 @@ pub fn parse_memory_section<T: Reencode>(
         → LeavesReading (RowsOf (row_of kinds.Memory) section.entry) (ask T.reply T.next)
         reencoder.old reencoder.new result }
 {
-    shared::parse_memory_section(reencoder, alloc, memories, section)
+    mapped::map_section(reencoder, alloc, memories, section)
 }
 
 /// Maps the rows that the reader still has, each by `tag_type`, and adds each row once it is mapped.
@@ -201,7 +201,7 @@ pub fn parse_tag_section<T: Reencode>(
         → LeavesReading (RowsOf (row_of kinds.Tag) section.entry) (ask T.reply T.next) reencoder.old
         reencoder.new result }
 {
-    shared::parse_tag_section(reencoder, alloc, tags, section)
+    mapped::map_section(reencoder, alloc, tags, section)
 }
 
 /// Maps the rows that the reader still has, each by `parse_export`.

@@ -5,11 +5,7 @@ mod bodies;
 mod indices;
 mod items;
 mod kinds;
-#[cfg(test)]
-mod overriding_tests;
 mod plain;
-#[cfg(test)]
-mod tests;
 pub mod utils;
 
 pub use items::ReencodeItems;

@@ -116,7 +116,7 @@ fn try_case(rt: &impl Abort, alloc: Global, case: &Case) -> Result<(), Fail> {
 }
 
 /// How a run ends.
-static CASES: [Case<'static>; 21] = [
+static CASES: [Case<'static>; 14] = [
     Case {
         words: &["rename"],
         status: 2,
@@ -185,50 +185,14 @@ static CASES: [Case<'static>; 21] = [
         most: 1,
         ..PRINTED
     },
-    // The header alone.
-    Case {
-        text: b"0061736d01000000",
-        out: b"0061736d01000000\nasked section_hook 1\n",
-        ..USUAL
-    },
-    // Longer numbers than needed are written in the shortest spelling.
-    Case {
-        text: b"0061736d01000000 0303018000",
-        out: b"0061736d0100000003020100\nasked type 1 section_hook 2\n",
-        ..USUAL
-    },
-    Case {
-        text: b"0061736d01000000 030601ffffffff0f",
-        out: b"0061736d01000000030601ffffffff0f\nasked type 1 section_hook 2\n",
-        ..USUAL
-    },
-    Case {
-        text: b"0061736d01000000 030601ffffffff1f",
-        err: b"parse error at 8\n",
-        ..NO_HEADER
-    },
     Case {
         text: b"",
         ..NO_HEADER
     },
-    Case {
-        text: b"0061736d010000",
-        ..NO_HEADER
-    },
-    // The header of a component, alone and with bytes behind it.
+    // The header of a component.
     Case {
         text: b"0061736d0d000100",
         ..COMPONENT
-    },
-    Case {
-        text: b"0061736d0d000100 01080061736d01000000",
-        ..COMPONENT
-    },
-    // Sections in another order, and one kind twice.
-    Case {
-        text: b"0061736d01000000 03020101 03020100",
-        out: b"0061736d010000000302010103020100\nasked type 2 section_hook 3\n",
-        ..USUAL
     },
     // The second section has no reading.
     Case {

@@ -7,8 +7,6 @@ mod laws;
 mod list;
 mod minimal;
 mod read;
-#[cfg(test)]
-mod tests;
 mod write;
 
 pub use fault::{Fault, Kind, NoMemory, ReadError};

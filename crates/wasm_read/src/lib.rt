@@ -2,8 +2,6 @@
 #![tactic(auto)]
 
 mod code;
-#[cfg(test)]
-mod code_tests;
 mod entries;
 mod expressions;
 mod externals;
@@ -16,10 +14,6 @@ mod payloads;
 mod rows;
 mod section_reader;
 mod sections;
-#[cfg(test)]
-mod tests;
-#[cfg(test)]
-mod type_tests;
 mod types;
 mod values;
 

@@ -13,13 +13,9 @@ mod instructions;
 mod module;
 mod names;
 mod row_section;
-#[cfg(test)]
-mod row_tests;
 mod rows;
 mod section;
 mod sections;
-#[cfg(test)]
-mod tests;
 mod types;
 mod types_write;
 mod values;

@@ -1,6 +1,4 @@
 //! Rows of sections in their normal spelling.
-ghost use Rattle.std.specs.Prelude.{◌≡◌, ◌++◌, ◌<◌, ◌^◌, length, take, vec_len, OnOk, OnErr};
-ghost use Rattle.wasm_shapes.specs.Tree.{normal};
 
 use crate::externals::{write_import, write_memory_type, write_table_type, write_tag_type};
 use crate::fault::WriteFault;
@@ -77,20 +75,6 @@ impl RowOf<kinds::Memories> for MemoryType {
     }
 }
 
-impl RowOf<kinds::Tags> for TagType {
-    ghost use Rattle.wasm_write.specs.Types.{tag_type_tree};
-
-    ghost tree = { tag_type_tree };
-
-    #[tactic(auto, using(crate::proofs::RowSpelling::tag_type_spelled))]
-    fn write(&self, out: &mut Vec<u8>) -> Result<(), WriteFault> {
-        match write_tag_type(out, *self) {
-            Ok(()) => Ok(()),
-            Err(NoMemory) => Err(WriteFault::NoMemory),
-        }
-    }
-}
-
 impl<'a> RowOf<kinds::Exports> for Export<'a> {
     ghost use Rattle.wasm_write.specs.Rows.{export_tree};
 
@@ -103,6 +87,20 @@ impl<'a> RowOf<kinds::Exports> for Export<'a> {
             Err(fault) => return Err(fault),
         }
         match write_item(out, self.kind, self.index) {
+            Ok(()) => Ok(()),
+            Err(NoMemory) => Err(WriteFault::NoMemory),
+        }
+    }
+}
+
+impl RowOf<kinds::Tags> for TagType {
+    ghost use Rattle.wasm_write.specs.Types.{tag_type_tree};
+
+    ghost tree = { tag_type_tree };
+
+    #[tactic(auto, using(crate::proofs::RowSpelling::tag_type_spelled))]
+    fn write(&self, out: &mut Vec<u8>) -> Result<(), WriteFault> {
+        match write_tag_type(out, *self) {
             Ok(()) => Ok(()),
             Err(NoMemory) => Err(WriteFault::NoMemory),
         }

@@ -111,25 +111,6 @@ impl RowSection<kinds::Memories> {
     }
 }
 
-/// A tag section (WebAssembly Core Specification 3.0, section 5.5.16).
-pub type TagSection = RowSection<kinds::Tags>;
-
-impl RowSection<kinds::Tags> {
-    /// Adds a tag. A refusal changes nothing.
-    ///
-    /// `TooLarge` comes exactly where the number of rows would pass 2^32 - 1, with that number.
-    #[inline]
-    pub fn tag(&mut self, ty: TagType) -> Result<(), WriteFault>
-        ensures ok { OnOk result (self.new ≡ self.old ++ tag_type_tree ty ∷ []) }
-        ensures fits { OnOk result (length self.old + 1 < 2 ^ 32) }
-        ensures err { OnErr result (self.new ≡ self.old) }
-        ensures large { IfErr result (λ e. IfTooLarge e
-            (λ size. (size ≡ length self.old + 1) × (2 ^ 32 - 1 < size))) }
-    {
-        self.add(&ty)
-    }
-}
-
 /// An export section (WebAssembly Core Specification 3.0, section 5.5.10).
 pub type ExportSection = RowSection<kinds::Exports>;
 
@@ -147,5 +128,24 @@ impl RowSection<kinds::Exports> {
             ((size ≡ length name.now) ⊎ (size ≡ length self.old + 1)) × (2 ^ 32 - 1 < size))) }
     {
         self.add(&Export { name, kind, index })
+    }
+}
+
+/// A tag section (WebAssembly Core Specification 3.0, section 5.5.16).
+pub type TagSection = RowSection<kinds::Tags>;
+
+impl RowSection<kinds::Tags> {
+    /// Adds a tag. A refusal changes nothing.
+    ///
+    /// `TooLarge` comes exactly where the number of rows would pass 2^32 - 1, with that number.
+    #[inline]
+    pub fn tag(&mut self, ty: TagType) -> Result<(), WriteFault>
+        ensures ok { OnOk result (self.new ≡ self.old ++ tag_type_tree ty ∷ []) }
+        ensures fits { OnOk result (length self.old + 1 < 2 ^ 32) }
+        ensures err { OnErr result (self.new ≡ self.old) }
+        ensures large { IfErr result (λ e. IfTooLarge e
+            (λ size. (size ≡ length self.old + 1) × (2 ^ 32 - 1 < size))) }
+    {
+        self.add(&ty)
     }
 }

@@ -1,4 +1,3 @@
-use Rattle.std.proofs.Common.{Err, refl}
 use Rattle.wasm_shapes.specs.Tree.{Tree}
 use Rattle.wasm_read.specs.Types as read
 use Rattle.wasm_write.specs.Rows.{export_tree}

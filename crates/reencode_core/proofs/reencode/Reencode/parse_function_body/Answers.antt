@@ -24,7 +24,7 @@ returns-in_err-instruction g c =
     let found = c.in_ok-reader.ensures.ok in
     let some = some_left c.eof.result (rest_of c.operators.reader) c.eof.ensures c.operators-test.true in
     let gone = c.in_err-instruction.ensures in
-    operator_refused g.Self.ReencodeIndices c.args.code.now c.in_ok-function.ensures found.1 c.in_ok-reader.ensures.bytes c.operators.invariant instruction_tree _ _ some gone.default gone.left _ c.from_residual-in_err-instruction.ensures.1
+    operator_refused g.Self.ReencodeIndices c.args.code.now c.in_ok-function.ensures found.1 c.in_ok-reader.ensures.bytes c.operators.invariant instruction_tree _ _ some gone.default gone.after_error _ c.from_residual-in_err-instruction.ensures.1
 
 pub returns-in_err-instruction-2 : goal.returns-in_err-instruction-2
 returns-in_err-instruction-2 g c =

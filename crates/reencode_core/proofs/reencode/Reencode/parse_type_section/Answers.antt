@@ -1,4 +1,4 @@
-use Rattle.std.proofs.Common.{Err, Ok, refl}
+use Rattle.std.proofs.Common.{Err, refl}
 use Rattle.wasm_read.specs.Types as read
 use Rattle.wasm_write.specs.Types as write
 use Rattle.reencode_core.proofs.EachRow.{rows_begun, rows_ended, rows_stuck, rows_added, rows_refused_at}

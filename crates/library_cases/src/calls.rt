@@ -1,0 +1,44 @@
+//! The calls by their names.
+use crate::case::Case;
+use crate::stop::Stop;
+use crate::{modules, numbers, readers, sections, written};
+use std::alloc::{AllocError, Global};
+
+/// What comes of a call that is given bytes, where there is one of this name.
+fn of_bytes(alloc: Global, case: &Case<'_>) -> Result<Option<String>, Stop> {
+    let bytes = case.bytes(alloc)?;
+    let bytes = bytes.as_slice();
+    if let Some(given) = modules::answer(alloc, case.call, case.words, bytes)? {
+        return Ok(Some(given));
+    }
+    let at = case.place()?;
+    if let Some(given) = numbers::answer(alloc, case.call, bytes, at)? {
+        return Ok(Some(given));
+    }
+    if let Some(given) = readers::answer(alloc, case.call, bytes, at)? {
+        return Ok(Some(given));
+    }
+    if let Some(given) = sections::answer(alloc, case.call, bytes)? {
+        return Ok(Some(given));
+    }
+    written::answer(alloc, case.call, bytes)
+}
+
+/// What comes of a call, where there is one of this name.
+fn given(alloc: Global, case: &Case<'_>) -> Result<String, Stop> {
+    if let Some(given) = numbers::written(alloc, case.call, case.input)? {
+        return Ok(given);
+    }
+    match of_bytes(alloc, case)? {
+        Some(given) => Ok(given),
+        None => Err(Stop::Unread),
+    }
+}
+
+/// What comes of a call: its answer, or what its refusal says.
+pub fn answer(alloc: Global, case: &Case<'_>) -> Result<String, AllocError> {
+    match given(alloc, case) {
+        Ok(given) => Ok(given),
+        Err(stop) => stop.text(alloc),
+    }
+}

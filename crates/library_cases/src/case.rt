@@ -1,0 +1,64 @@
+//! The lines of the input.
+use crate::stop::Stop;
+use std::alloc::Global;
+use std::str::FromStr;
+
+/// A call of the libraries with its words, what it is given, and what is to come of it.
+#[derive(Clone, Copy, Debug)]
+pub struct Case<'a> {
+    pub call: &'a str,
+    pub words: &'a str,
+    pub input: &'a str,
+    pub wanted: &'a str,
+}
+
+impl<'a> Case<'a> {
+    /// The case of a line `CALL WORDS : INPUT -> WANTED`.
+    pub fn of_line(line: &'a str) -> Option<Case<'a>> {
+        let (call, rest) = line.split_once(':')?;
+        let (input, wanted) = rest.split_once("->")?;
+        let call = call.trim();
+        let (call, words) = call.split_once(' ').unwrap_or((call, ""));
+        Some(Case {
+            call,
+            words,
+            input: input.trim(),
+            wanted: wanted.trim(),
+        })
+    }
+
+    /// The bytes of the input, as hexadecimal digits with blanks between them.
+    pub fn bytes(&self, alloc: Global) -> Result<Vec<u8>, Stop> {
+        let mut digits = String::new(alloc);
+        for part in self.input.split_whitespace() {
+            digits.push_str(part)?;
+        }
+        match hex::decode(alloc, digits.as_str()) {
+            Ok(bytes) => Ok(bytes),
+            Err(hex::FromHexError::OutOfMemory) => Err(Stop::NoMemory),
+            Err(_) => Err(Stop::Unread),
+        }
+    }
+
+    /// The place of the word `at=PLACE`, and 0 where there is no word.
+    pub fn place(&self) -> Result<usize, Stop> {
+        if self.words.is_empty() {
+            return Ok(0);
+        }
+        match self.words.split_once("at=") {
+            Some(("", place)) => number(place),
+            _ => Err(Stop::Unread),
+        }
+    }
+}
+
+/// The number of a word.
+pub fn number<T: FromStr>(word: &str) -> Result<T, Stop>
+where
+    T::Err: Drop,
+{
+    match word.parse::<T>() {
+        Ok(number) => Ok(number),
+        Err(_) => Err(Stop::Unread),
+    }
+}

@@ -1,0 +1,32 @@
+//! The parts of a module.
+use crate::bodies::body;
+use crate::groups::group;
+use crate::numbers::found;
+use crate::stop::Stop;
+use std::alloc::Global;
+use wasm_read::{front_name, read_item, read_name, read_type_ref, read_val_type};
+
+/// What a reader of a part of a module gives.
+pub fn answer(alloc: Global, call: &str, bytes: &[u8], at: usize) -> Result<Option<String>, Stop> {
+    match call {
+        "read_name" => {
+            let (name, at) = read_name(bytes, at)?;
+            found(alloc, name, at)
+        }
+        "read_val_type" => {
+            let (ty, at) = read_val_type(bytes, at)?;
+            found(alloc, ty, at)
+        }
+        "read_type_ref" => {
+            let (ty, at) = read_type_ref(bytes, at)?;
+            found(alloc, ty, at)
+        }
+        "read_item" => {
+            let (kind, index, at) = read_item(bytes, at)?;
+            found(alloc, (kind, index), at)
+        }
+        "read_group" => Ok(Some(group(alloc, bytes, at)?)),
+        "body" => Ok(Some(body(alloc, bytes)?)),
+        _ => Ok(None),
+    }
+}

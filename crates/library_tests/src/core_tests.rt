@@ -1,0 +1,218 @@
+//! Each free function of sections and rows through its bound, and sections by their kind.
+use reencode_core::{Reencode, utils};
+use reencode_hooks::{Error, Renamer, RoundtripReencoder};
+use std::alloc::Global;
+use std::test::Fail;
+use wasm_leb::ReadError;
+use wasm_read as r;
+use wasm_shapes::{SectionId, Space};
+use wasm_write as w;
+
+/// The section `01 60 00 00` of types and the section `01 00` of functions.
+fn types_and_functions<R: Reencode>(
+    reencoder: &mut R,
+    alloc: Global,
+    module: &mut w::Module,
+) -> Result<(), Error<R::Error>> {
+    let mut types = w::TypeSection::new(alloc);
+    let rows = r::TypeSectionReader::new(&[0x01, 0x60, 0x00, 0x00])?;
+    utils::parse_type_section(reencoder, alloc, &mut types, rows)?;
+    module.section(&types)?;
+    let mut functions = w::FunctionSection::new(alloc);
+    let rows = r::FunctionSectionReader::new(&[0x01, 0x00])?;
+    utils::parse_function_section(reencoder, alloc, &mut functions, rows)?;
+    module.section(&functions)?;
+    Ok(())
+}
+
+/// The section `01 01 66 00 00` of exports, and another row of it.
+fn exports<R: Reencode>(
+    reencoder: &mut R,
+    alloc: Global,
+    module: &mut w::Module,
+) -> Result<(), Error<R::Error>> {
+    let mut exports = w::ExportSection::new(alloc);
+    let rows = r::ExportSectionReader::new(&[0x01, 0x01, 0x66, 0x00, 0x00])?;
+    utils::parse_export_section(reencoder, alloc, &mut exports, rows)?;
+    let export = r::Export {
+        name: "g",
+        kind: r::ExternalKind::Func,
+        index: 0,
+    };
+    utils::parse_export(reencoder, &mut exports, export)?;
+    module.section(&exports)?;
+    Ok(())
+}
+
+/// The section `01 01 61 01 62 20 00` of imports, and two more rows of it.
+fn imports<R: Reencode>(
+    reencoder: &mut R,
+    alloc: Global,
+    module: &mut w::Module,
+) -> Result<(), Error<R::Error>> {
+    let mut imports = w::ImportSection::new(alloc);
+    let rows = r::ImportSectionReader::new(&[0x01, 0x01, 0x61, 0x01, 0x62, 0x20, 0x00])?;
+    utils::parse_import_section(reencoder, alloc, &mut imports, rows)?;
+    let import = r::Import {
+        module: "",
+        name: "c",
+        ty: r::TypeRef::Func(0),
+    };
+    utils::parse_imports(reencoder, alloc, &mut imports, r::Imports::Single(import))?;
+    utils::parse_import(reencoder, alloc, &mut imports, import)?;
+    module.section(&imports)?;
+    Ok(())
+}
+
+/// The section `01 64 00 00 01` of tables, and another row of it.
+fn tables<R: Reencode>(
+    reencoder: &mut R,
+    alloc: Global,
+    module: &mut w::Module,
+) -> Result<(), Error<R::Error>> {
+    let mut tables = w::TableSection::new(alloc);
+    let rows = r::TableSectionReader::new(&[0x01, 0x64, 0x00, 0x00, 0x01])?;
+    utils::parse_table_section(reencoder, alloc, &mut tables, rows)?;
+    let table = r::Table {
+        ty: r::TableType {
+            element_type: r::RefType {
+                nullable: true,
+                heap_type: r::HeapType::Abstract {
+                    shared: false,
+                    ty: r::AbstractHeapType::Func,
+                },
+            },
+            table64: false,
+            initial: 2,
+            maximum: None,
+            shared: false,
+        },
+        init: r::TableInit::RefNull,
+    };
+    utils::parse_table(reencoder, alloc, &mut tables, table)?;
+    module.section(&tables)?;
+    Ok(())
+}
+
+/// The section `01 01 01 02` of memories and the section `01 00 00` of tags.
+fn memories_and_tags<R: Reencode>(
+    reencoder: &mut R,
+    alloc: Global,
+    module: &mut w::Module,
+) -> Result<(), Error<R::Error>> {
+    let mut memories = w::MemorySection::new(alloc);
+    let rows = r::MemorySectionReader::new(&[0x01, 0x01, 0x01, 0x02])?;
+    utils::parse_memory_section(reencoder, alloc, &mut memories, rows)?;
+    module.section(&memories)?;
+    let mut tags = w::TagSection::new(alloc);
+    let rows = r::TagSectionReader::new(&[0x01, 0x00, 0x00])?;
+    utils::parse_tag_section(reencoder, alloc, &mut tags, rows)?;
+    module.section(&tags)?;
+    Ok(())
+}
+
+/// The section `01 04 00 10 00 0b` of code, and another row of it.
+fn code<R: Reencode>(
+    reencoder: &mut R,
+    alloc: Global,
+    module: &mut w::Module,
+) -> Result<(), Error<R::Error>> {
+    let mut code = w::CodeSection::new(alloc, module.ceiling());
+    let rows = r::CodeSectionReader::new(&[0x01, 0x04, 0x00, 0x10, 0x00, 0x0b])?;
+    utils::parse_code_section(reencoder, alloc, &mut code, rows)?;
+    let body = r::FunctionBody {
+        bytes: &[0x01, 0x01, 0x7f, 0x0b],
+    };
+    utils::parse_function_body(reencoder, alloc, &mut code, body)?;
+    let function = utils::new_function_with_parsed_locals(reencoder, alloc, &body)?;
+    code.function(&function)?;
+    module.section(&code)?;
+    Ok(())
+}
+
+#[test]
+fn functions_map_rows(rt: HostRuntime) -> Result<(), Fail> {
+    let mut renamer = Renamer::new(rt.alloc());
+    renamer.set(Space::Type_, 0, 5)?;
+    renamer.set(Space::Function, 0, 7)?;
+    let mut module = w::Module::new(rt.alloc(), u32::MAX)?;
+    types_and_functions(&mut renamer, rt.alloc(), &mut module)?;
+    exports(&mut renamer, rt.alloc(), &mut module)?;
+    code(&mut renamer, rt.alloc(), &mut module)?;
+    let expected = [
+        0x00, 0x61, 0x73, 0x6d, 0x01, 0x00, 0x00, 0x00, 0x01, 0x04, 0x01, 0x60, 0x00, 0x00, 0x03,
+        0x02, 0x01, 0x05, 0x07, 0x09, 0x02, 0x01, 0x66, 0x00, 0x07, 0x01, 0x67, 0x00, 0x07, 0x0a,
+        0x0f, 0x03, 0x04, 0x00, 0x10, 0x07, 0x0b, 0x04, 0x01, 0x01, 0x7f, 0x0b, 0x03, 0x01, 0x01,
+        0x7f,
+    ];
+    assert_eq!(rt; module.as_slice(), expected.as_slice());
+    Ok(())
+}
+
+#[test]
+fn functions_map_imports(rt: HostRuntime) -> Result<(), Fail> {
+    let mut renamer = Renamer::new(rt.alloc());
+    renamer.set(Space::Type_, 0, 5)?;
+    let mut module = w::Module::new(rt.alloc(), u32::MAX)?;
+    imports(&mut renamer, rt.alloc(), &mut module)?;
+    tables(&mut renamer, rt.alloc(), &mut module)?;
+    memories_and_tags(&mut renamer, rt.alloc(), &mut module)?;
+    let expected = [
+        0x00, 0x61, 0x73, 0x6d, 0x01, 0x00, 0x00, 0x00, 0x02, 0x11, 0x03, 0x01, 0x61, 0x01, 0x62,
+        0x20, 0x05, 0x00, 0x01, 0x63, 0x00, 0x05, 0x00, 0x01, 0x63, 0x00, 0x05, 0x04, 0x08, 0x02,
+        0x64, 0x05, 0x00, 0x01, 0x70, 0x00, 0x02, 0x05, 0x04, 0x01, 0x01, 0x01, 0x02, 0x0d, 0x03,
+        0x01, 0x00, 0x05,
+    ];
+    assert_eq!(rt; module.as_slice(), expected.as_slice());
+    Ok(())
+}
+
+#[test]
+fn functions_map_modules(rt: HostRuntime) -> Result<(), Fail> {
+    let mut renamer = Renamer::new(rt.alloc());
+    renamer.set(Space::Type_, 0, 5)?;
+    let mut module = w::Module::new(rt.alloc(), u32::MAX)?;
+    let bytes = [
+        0x00, 0x61, 0x73, 0x6d, 0x01, 0x00, 0x00, 0x00, 0x03, 0x02, 0x01, 0x00,
+    ];
+    utils::parse_core_module(&mut renamer, rt.alloc(), &mut module, &bytes)?;
+    let expected = [
+        0x00, 0x61, 0x73, 0x6d, 0x01, 0x00, 0x00, 0x00, 0x03, 0x02, 0x01, 0x05,
+    ];
+    assert_eq!(rt; module.as_slice(), expected.as_slice());
+    let (group, _) = r::read_group(rt.alloc(), &[0x60, 0x00, 0x00], 0)?;
+    let group = utils::parse_recursive_type_group(&mut renamer, rt.alloc(), group)?;
+    assert_eq!(rt; group.types.len(), 1);
+    Ok(())
+}
+
+/// A section is mapped through its bound, by the free function and by the method.
+fn sections_of_a_kind<R: Reencode>(
+    reencoder: &mut R,
+    alloc: Global,
+    module: &mut w::Module,
+    id: SectionId,
+    body: &[u8],
+) -> Result<(), Error<R::Error>> {
+    utils::parse_section(reencoder, alloc, module, id, body)?;
+    reencoder.parse_section(alloc, module, id, body)
+}
+
+#[test]
+fn sections_by_kind(rt: HostRuntime) -> Result<(), Fail> {
+    let mut same = RoundtripReencoder;
+    let mut module = w::Module::new(rt.alloc(), u32::MAX)?;
+    let body = [0x01, 0x07, 0x00, 0x20, 0x00, 0x20, 0x01, 0x6a, 0x0b];
+    sections_of_a_kind(&mut same, rt.alloc(), &mut module, SectionId::Code, &body)?;
+    assert_eq!(rt; module.len(), 2);
+    let none = sections_of_a_kind(
+        &mut same,
+        rt.alloc(),
+        &mut module,
+        SectionId::Start,
+        &[0x00],
+    );
+    assert!(rt; matches!(none, Err(Error::ParseError(ReadError { at: 0 }))));
+    assert_eq!(rt; module.len(), 2);
+    Ok(())
+}

@@ -1,0 +1,363 @@
+//! Each call on an item, as a method and as a function, at a renamer that makes type 1 type 11 and function 2
+//! function 22.
+use reencode_hooks::{Asked, Error, Renamer, RoundtripReencoder};
+use reencode_items::{ReencodeItems, utils};
+use std::alloc::Global;
+use std::test::Fail;
+use wasm_leb::{List, NoMemory, ReadError};
+use wasm_read as r;
+use wasm_shapes::{CALL, END, I32_CONST, Space};
+use wasm_write as w;
+
+fn renamer(alloc: Global) -> Result<Renamer, NoMemory> {
+    let mut renamer = Renamer::new(alloc);
+    renamer.set(Space::Type_, 1, 11)?;
+    renamer.set(Space::Function, 2, 22)?;
+    Ok(renamer)
+}
+
+const ONE: r::UnpackedIndex = r::UnpackedIndex::Module(1);
+
+const REFERENCE: r::RefType = r::RefType {
+    nullable: true,
+    heap_type: r::HeapType::Concrete(ONE),
+};
+
+const FIELD: r::FieldType = r::FieldType {
+    element_type: r::StorageType::Val(r::ValType::Ref(REFERENCE)),
+    mutable: true,
+};
+
+const WRITTEN: w::RefType = w::RefType {
+    nullable: true,
+    heap_type: w::HeapType::Concrete(11),
+};
+
+const WRITTEN_FIELD: w::FieldType = w::FieldType {
+    element_type: w::StorageType::Val(w::ValType::Ref(WRITTEN)),
+    mutable: true,
+};
+
+/// The calls on types as methods.
+fn types_by_methods<R: ReencodeItems>(reencoder: &mut R) -> Result<[bool; 12], Error<R::Error>> {
+    Ok([
+        reencoder.type_index_unpacked(ONE)? == 11,
+        reencoder.external_index(r::ExternalKind::FuncExact, 2)? == 22,
+        reencoder.export_kind(r::ExternalKind::FuncExact)? == w::ExportKind::Func,
+        reencoder.cont_type(r::ContType(ONE))? == w::ContType(11),
+        reencoder.abstract_heap_type(r::AbstractHeapType::Exn)? == w::AbstractHeapType::Exn,
+        reencoder.heap_type(r::HeapType::Exact(ONE))? == w::HeapType::Exact(11),
+        reencoder.ref_type(REFERENCE)? == WRITTEN,
+        reencoder.val_type(r::ValType::Ref(REFERENCE))? == w::ValType::Ref(WRITTEN),
+        reencoder.block_type(r::BlockType::FuncType(1))? == w::BlockType::FunctionType(11),
+        reencoder.storage_type(r::StorageType::I16)? == w::StorageType::I16,
+        reencoder.field_type(FIELD)? == WRITTEN_FIELD,
+        reencoder.array_type(r::ArrayType(FIELD))? == w::ArrayType(WRITTEN_FIELD),
+    ])
+}
+
+/// The same as functions.
+fn types_by_functions<R: ReencodeItems>(of: &mut R) -> Result<[bool; 12], Error<R::Error>> {
+    Ok([
+        utils::type_index_unpacked(of, ONE)? == 11,
+        utils::external_index(of, r::ExternalKind::FuncExact, 2)? == 22,
+        utils::export_kind(of, r::ExternalKind::FuncExact) == w::ExportKind::Func,
+        utils::cont_type(of, r::ContType(ONE))? == w::ContType(11),
+        utils::abstract_heap_type(of, r::AbstractHeapType::Exn) == w::AbstractHeapType::Exn,
+        utils::heap_type(of, r::HeapType::Exact(ONE))? == w::HeapType::Exact(11),
+        utils::ref_type(of, REFERENCE)? == WRITTEN,
+        utils::val_type(of, r::ValType::Ref(REFERENCE))? == w::ValType::Ref(WRITTEN),
+        utils::block_type(of, r::BlockType::FuncType(1))? == w::BlockType::FunctionType(11),
+        utils::storage_type(of, r::StorageType::I16)? == w::StorageType::I16,
+        utils::field_type(of, FIELD)? == WRITTEN_FIELD,
+        utils::array_type(of, r::ArrayType(FIELD))? == w::ArrayType(WRITTEN_FIELD),
+    ])
+}
+
+#[test]
+fn types(rt: HostRuntime) -> Result<(), Fail> {
+    let mut renamer = renamer(rt.alloc())?;
+    assert_eq!(rt; types_by_methods(&mut renamer).ok(), Some([true; 12]));
+    assert_eq!(rt; types_by_functions(&mut renamer).ok(), Some([true; 12]));
+    assert_eq!(rt; renamer.count(Asked::Of(Space::Type_)), 16);
+    assert_eq!(rt; renamer.count(Asked::Of(Space::Function)), 2);
+    Ok(())
+}
+
+#[test]
+fn lost_indices(rt: HostRuntime) {
+    let lost = r::HeapType::Concrete(r::UnpackedIndex::RecGroup(0));
+    let result = RoundtripReencoder.heap_type(lost);
+    assert!(rt; matches!(result, Err(Error::CanonicalizedHeapTypeReference)));
+}
+
+fn list_of<T: Copy + Drop>(alloc: Global, items: &[T]) -> Result<List<T>, NoMemory> {
+    let mut list = List::with_capacity(alloc, items.len())?;
+    for item in items {
+        list.push(*item)?;
+    }
+    Ok(list)
+}
+
+fn val_types(alloc: Global) -> Result<List<r::ValType>, NoMemory> {
+    list_of(alloc, &[r::ValType::Ref(REFERENCE), r::ValType::F64])
+}
+
+/// A structure with a field of type 1.
+fn fields(alloc: Global) -> Result<r::StructType, NoMemory> {
+    Ok(r::StructType {
+        fields: list_of(alloc, &[FIELD])?,
+    })
+}
+
+/// A structure with a field and a supertype, all of type 1.
+fn structure(alloc: Global) -> Result<r::SubType, NoMemory> {
+    Ok(r::SubType {
+        is_final: false,
+        supertype_idxs: list_of(alloc, &[ONE])?,
+        composite_type: r::CompositeType {
+            inner: r::CompositeInnerType::Struct(fields(alloc)?),
+            shared: true,
+            descriptor_idx: None,
+            describes_idx: None,
+        },
+    })
+}
+
+/// A function without parameters that gives a number.
+fn function(alloc: Global) -> Result<r::FuncType, NoMemory> {
+    Ok(r::FuncType {
+        params: List::new(alloc),
+        results: list_of(alloc, &[r::ValType::I32])?,
+    })
+}
+
+/// The calls on lists of types as methods.
+fn lists_by_methods<R: ReencodeItems>(
+    reencoder: &mut R,
+    alloc: Global,
+) -> Result<[bool; 6], Error<R::Error>> {
+    let types = reencoder.val_types(alloc, val_types(alloc)?)?;
+    let function = reencoder.func_type(alloc, function(alloc)?)?;
+    let fields = reencoder.struct_type(alloc, fields(alloc)?)?.fields;
+    let sub_type = reencoder.sub_type(alloc, structure(alloc)?)?;
+    let composite = reencoder.composite_type(alloc, structure(alloc)?.composite_type)?;
+    Ok([
+        types.as_slice() == [w::ValType::Ref(WRITTEN), w::ValType::F64].as_slice(),
+        function.params.is_empty(),
+        function.results.as_slice() == [w::ValType::I32].as_slice(),
+        fields.as_slice() == [WRITTEN_FIELD].as_slice(),
+        sub_type.supertype_idxs.as_slice() == [11].as_slice(),
+        composite.shared,
+    ])
+}
+
+/// The same as functions.
+fn lists_by_functions<R: ReencodeItems>(
+    reencoder: &mut R,
+    alloc: Global,
+) -> Result<[bool; 6], Error<R::Error>> {
+    let types = utils::val_types(reencoder, alloc, val_types(alloc)?)?;
+    let function = utils::func_type(reencoder, alloc, function(alloc)?)?;
+    let fields = utils::struct_type(reencoder, alloc, fields(alloc)?)?.fields;
+    let sub_type = utils::sub_type(reencoder, alloc, structure(alloc)?)?;
+    let composite = utils::composite_type(reencoder, alloc, structure(alloc)?.composite_type)?;
+    Ok([
+        types.as_slice() == [w::ValType::Ref(WRITTEN), w::ValType::F64].as_slice(),
+        function.params.is_empty(),
+        function.results.as_slice() == [w::ValType::I32].as_slice(),
+        fields.as_slice() == [WRITTEN_FIELD].as_slice(),
+        sub_type.supertype_idxs.as_slice() == [11].as_slice(),
+        composite.shared,
+    ])
+}
+
+#[test]
+fn lists(rt: HostRuntime) -> Result<(), Fail> {
+    let mut renamer = renamer(rt.alloc())?;
+    assert_eq!(rt;
+        lists_by_methods(&mut renamer, rt.alloc()).ok(),
+        Some([true; 6])
+    );
+    assert_eq!(rt;
+        lists_by_functions(&mut renamer, rt.alloc()).ok(),
+        Some([true; 6])
+    );
+    assert_eq!(rt; renamer.count(Asked::Of(Space::Type_)), 10);
+    Ok(())
+}
+
+const TABLE: r::TableType = r::TableType {
+    element_type: REFERENCE,
+    table64: true,
+    initial: 1,
+    maximum: Some(2),
+    shared: false,
+};
+
+const MEMORY: r::MemoryType = r::MemoryType {
+    memory64: false,
+    shared: true,
+    initial: 3,
+    maximum: None,
+    page_size_log2: Some(4),
+};
+
+const GLOBAL: r::GlobalType = r::GlobalType {
+    content_type: r::ValType::Ref(REFERENCE),
+    mutable: true,
+    shared: false,
+};
+
+const TAG: r::TagType = r::TagType {
+    kind: r::TagKind::Exception,
+    func_type_idx: 1,
+};
+
+const WRITTEN_TABLE: w::TableType = w::TableType {
+    element_type: WRITTEN,
+    table64: true,
+    minimum: 1,
+    maximum: Some(2),
+    shared: false,
+};
+
+const WRITTEN_MEMORY: w::MemoryType = w::MemoryType {
+    memory64: false,
+    shared: true,
+    minimum: 3,
+    maximum: None,
+    page_size_log2: Some(4),
+};
+
+const WRITTEN_GLOBAL: w::GlobalType = w::GlobalType {
+    val_type: w::ValType::Ref(WRITTEN),
+    mutable: true,
+    shared: false,
+};
+
+const WRITTEN_TAG: w::TagType = w::TagType {
+    kind: w::TagKind::Exception,
+    func_type_idx: 11,
+};
+
+/// The calls on what is imported as methods.
+fn externals_by_methods<R: ReencodeItems>(of: &mut R) -> Result<[bool; 11], Error<R::Error>> {
+    Ok([
+        of.table_type(TABLE)? == WRITTEN_TABLE,
+        of.memory_type(MEMORY)? == WRITTEN_MEMORY,
+        of.global_type(GLOBAL)? == WRITTEN_GLOBAL,
+        of.tag_kind(r::TagKind::Exception)? == w::TagKind::Exception,
+        of.tag_type(TAG)? == WRITTEN_TAG,
+        of.entity_type(r::TypeRef::Func(1))? == w::EntityType::Function(11),
+        of.entity_type(r::TypeRef::FuncExact(1))? == w::EntityType::FunctionExact(11),
+        of.entity_type(r::TypeRef::Table(TABLE))? == w::EntityType::Table(WRITTEN_TABLE),
+        of.entity_type(r::TypeRef::Memory(MEMORY))? == w::EntityType::Memory(WRITTEN_MEMORY),
+        of.entity_type(r::TypeRef::Global(GLOBAL))? == w::EntityType::Global(WRITTEN_GLOBAL),
+        of.entity_type(r::TypeRef::Tag(TAG))? == w::EntityType::Tag(WRITTEN_TAG),
+    ])
+}
+
+/// The same as functions.
+fn externals_by_functions<R: ReencodeItems>(of: &mut R) -> Result<[bool; 8], Error<R::Error>> {
+    Ok([
+        utils::table_type(of, TABLE)? == WRITTEN_TABLE,
+        utils::memory_type(of, MEMORY) == WRITTEN_MEMORY,
+        utils::global_type(of, GLOBAL)? == WRITTEN_GLOBAL,
+        utils::tag_kind(of, r::TagKind::Exception) == w::TagKind::Exception,
+        utils::tag_type(of, TAG)? == WRITTEN_TAG,
+        utils::entity_type(of, r::TypeRef::Memory(MEMORY))?
+            == w::EntityType::Memory(WRITTEN_MEMORY),
+        utils::entity_type(of, r::TypeRef::Global(GLOBAL))?
+            == w::EntityType::Global(WRITTEN_GLOBAL),
+        utils::entity_type(of, r::TypeRef::Tag(TAG))? == w::EntityType::Tag(WRITTEN_TAG),
+    ])
+}
+
+#[test]
+fn externals(rt: HostRuntime) -> Result<(), Fail> {
+    let mut renamer = renamer(rt.alloc())?;
+    assert_eq!(rt; externals_by_methods(&mut renamer).ok(), Some([true; 11]));
+    assert_eq!(rt; renamer.count(Asked::Of(Space::Type_)), 8);
+    assert_eq!(rt; externals_by_functions(&mut renamer).ok(), Some([true; 8]));
+    assert_eq!(rt; renamer.count(Asked::Of(Space::Type_)), 13);
+    Ok(())
+}
+
+/// The operator `i32.const 7`.
+fn seven<'a>(alloc: Global) -> Result<Option<r::Operator<'a>>, NoMemory> {
+    let mut imms = List::with_capacity(alloc, 1)?;
+    imms.push(r::Imm::S32(7))?;
+    Ok(r::Operator::new(I32_CONST, imms))
+}
+
+/// Whether it is `call 22`.
+fn calls(instruction: &w::Instruction<'_>) -> bool {
+    instruction.opcode() == CALL
+        && matches!(instruction.imms(), [w::Imm::Index(Space::Function, 22)])
+}
+
+/// Whether the operator `i32.const 7` stays.
+fn number_stays<R: ReencodeItems>(
+    reencoder: &mut R,
+    alloc: Global,
+) -> Result<bool, Error<R::Error>> {
+    let Some(seven) = seven(alloc)? else {
+        return Ok(false);
+    };
+    let made = reencoder.instruction(alloc, seven)?;
+    Ok(made.opcode() == I32_CONST && matches!(made.imms(), [w::Imm::S32(7)]))
+}
+
+/// The calls on operators, as methods and as functions: `call 2` is to become `call 22`.
+fn operators_by_calls<R: ReencodeItems>(
+    reencoder: &mut R,
+    alloc: Global,
+) -> Result<[bool; 6], Error<R::Error>> {
+    let index = reencoder.immediate(alloc, r::Imm::Index(Space::Function, 2))?;
+    let local = utils::immediate(reencoder, alloc, r::Imm::Local(2))?;
+    let body = r::FunctionBody {
+        bytes: &[0x00, 0x10, 0x02, 0x10, 0x02, 0x10, 0x02, 0x0b],
+    };
+    let mut reader = body.operators()?;
+    let first = reencoder.parse_instruction(alloc, &mut reader)?;
+    let second = utils::parse_instruction(reencoder, alloc, &mut reader)?;
+    let third = reader.read(alloc)?;
+    let third = utils::instruction(reencoder, alloc, third)?;
+    Ok([
+        matches!(index, w::Imm::Index(Space::Function, 22)),
+        matches!(local, w::Imm::Local(2)),
+        calls(&first),
+        calls(&second),
+        calls(&third),
+        reader.is_end_then_eof(),
+    ])
+}
+
+#[test]
+fn operators(rt: HostRuntime) -> Result<(), Fail> {
+    let mut renamer = renamer(rt.alloc())?;
+    assert_eq!(rt;
+        operators_by_calls(&mut renamer, rt.alloc()).ok(),
+        Some([true; 6])
+    );
+    assert_eq!(rt; renamer.count(Asked::Of(Space::Function)), 4);
+    assert_eq!(rt;
+        number_stays(&mut RoundtripReencoder, rt.alloc()).ok(),
+        Some(true)
+    );
+    Ok(())
+}
+
+#[test]
+fn operators_refused(rt: HostRuntime) -> Result<(), Fail> {
+    let body = r::FunctionBody {
+        bytes: &[0x00, 0x0b, 0xff],
+    };
+    let mut reader = body.operators()?;
+    let end = RoundtripReencoder.parse_instruction(rt.alloc(), &mut reader)?;
+    assert_eq!(rt; end.opcode(), END);
+    let none = RoundtripReencoder.parse_instruction(rt.alloc(), &mut reader);
+    assert!(rt; matches!(none, Err(Error::ParseError(ReadError { at: 2 }))));
+    Ok(())
+}

@@ -1,0 +1,20 @@
+//! Tests of the libraries over their public names: typed values, which no line of text shows. The rows that text shows
+//! are the cases of `library_cases`.
+#![tactic(auto)]
+
+#[cfg(test)]
+mod core_tests;
+#[cfg(test)]
+mod hooks_tests;
+#[cfg(test)]
+mod items_tests;
+#[cfg(test)]
+mod leb_tests;
+#[cfg(test)]
+mod override_tests;
+#[cfg(test)]
+mod read_tests;
+#[cfg(test)]
+mod shapes_tests;
+#[cfg(test)]
+mod write_tests;

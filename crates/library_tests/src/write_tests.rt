@@ -1,0 +1,383 @@
+//! Values that are put together and written, against bytes that were spelled by hand from the grammar.
+use reencode_hooks::Error;
+use std::alloc::Global;
+use std::convert::Infallible;
+use std::test::Fail;
+use wasm_leb::{List, NoMemory};
+use wasm_shapes::{CALL, END, I32_ADD, I32_CONST, LOCAL_GET, NOP, Opcode, Space};
+use wasm_write::{
+    ArrayType, CodeSection, CompositeInnerType, CompositeType, ConstExpr, ContType, CustomSection,
+    DataCountSection, EntityType, ExportKind, ExportSection, FieldType, FuncType, Function,
+    FunctionSection, HeapType, Imm, Import, ImportSection, Imports, Instruction, MemorySection,
+    MemoryType, Module, RawSection, RecGroup, RefType, StartSection, StorageType, StructType,
+    SubType, TableSection, TableType, TagKind, TagSection, TagType, TypeSection, ValType,
+    WriteFault, write_item, write_name,
+};
+
+const REFERENCE: RefType = RefType {
+    nullable: true,
+    heap_type: HeapType::Concrete(3),
+};
+
+/// A final type without supertypes, that is not shared and has no descriptor.
+fn alone(alloc: Global, inner: CompositeInnerType) -> SubType {
+    SubType {
+        is_final: true,
+        supertype_idxs: List::new(alloc),
+        composite_type: CompositeType {
+            inner,
+            shared: false,
+            descriptor: None,
+            describes: None,
+        },
+    }
+}
+
+fn list_of<T: Copy + Drop>(alloc: Global, items: &[T]) -> Result<List<T>, NoMemory> {
+    let mut list = List::with_capacity(alloc, items.len())?;
+    for item in items {
+        list.push(*item)?;
+    }
+    Ok(list)
+}
+
+/// The group that is one type alone.
+fn bare(alloc: Global, ty: SubType) -> Result<RecGroup, NoMemory> {
+    let mut types = List::new(alloc);
+    types.push(ty)?;
+    Ok(RecGroup {
+        explicit: false,
+        types,
+    })
+}
+
+/// The instruction with one immediate.
+fn with_imm(
+    alloc: Global,
+    opcode: Opcode,
+    imm: Imm<'static>,
+) -> Result<Option<Instruction<'static>>, NoMemory> {
+    let mut imms = List::new(alloc);
+    imms.push(imm)?;
+    Ok(Instruction::new(opcode, imms))
+}
+
+/// The group of a function that takes two numbers and gives one.
+fn binary_type(alloc: Global) -> Result<RecGroup, NoMemory> {
+    let params = list_of(alloc, &[ValType::I32, ValType::I32])?;
+    let results = list_of(alloc, &[ValType::I32])?;
+    let inner = CompositeInnerType::Func(FuncType { params, results });
+    bare(alloc, alone(alloc, inner))
+}
+
+type Made<T> = Result<T, Error<Infallible>>;
+
+/// The function that adds its two parameters.
+fn adding(alloc: Global) -> Made<Function> {
+    let mut body = Function::new(alloc, &List::new(alloc))?;
+    for index in [0u32, 1] {
+        if let Some(get) = with_imm(alloc, LOCAL_GET, Imm::Local(index))? {
+            body.instruction(&get)?;
+        }
+    }
+    for opcode in [I32_ADD, END] {
+        if let Some(operator) = Instruction::new(opcode, List::new(alloc)) {
+            body.instruction(&operator)?;
+        }
+    }
+    Ok(body)
+}
+
+/// Adds the section of code that holds that function.
+fn add_code(alloc: Global, module: &mut Module) -> Made<()> {
+    let mut code = CodeSection::new(alloc, 7);
+    code.function(&adding(alloc)?)?;
+    Ok(module.section(&code)?)
+}
+
+/// The module of that function, exported as `f`.
+fn adding_module(alloc: Global) -> Made<Module> {
+    let mut module = Module::new(alloc, 9)?;
+    let mut types = TypeSection::new(alloc);
+    types.group(&binary_type(alloc)?)?;
+    module.section(&types)?;
+    let mut functions = FunctionSection::new(alloc);
+    functions.function(0)?;
+    module.section(&functions)?;
+    let mut exports = ExportSection::new(alloc);
+    exports.export("f", ExportKind::Func, 0)?;
+    module.section(&exports)?;
+    add_code(alloc, &mut module)?;
+    Ok(module)
+}
+
+#[test]
+fn module_that_adds(rt: HostRuntime) -> Result<(), Fail> {
+    let whole = [
+        0x00u8, 0x61, 0x73, 0x6d, 0x01, 0x00, 0x00, 0x00, 0x01, 0x07, 0x01, 0x60, 0x02, 0x7f, 0x7f,
+        0x01, 0x7f, 0x03, 0x02, 0x01, 0x00, 0x07, 0x05, 0x01, 0x01, 0x66, 0x00, 0x00, 0x0a, 0x09,
+        0x01, 0x07, 0x00, 0x20, 0x00, 0x20, 0x01, 0x6a, 0x0b,
+    ];
+    let module = adding_module(rt.alloc())?;
+    assert_eq!(rt; module.ceiling(), 9);
+    assert_eq!(rt; module.len(), 4);
+    assert_eq!(rt; module.as_slice(), whole.as_slice());
+    assert_eq!(rt; module.finish().as_slice(), whole.as_slice());
+    Ok(())
+}
+
+#[test]
+fn ceilings(rt: HostRuntime) -> Result<(), Fail> {
+    let body = adding(rt.alloc())?;
+    let mut code = CodeSection::new(rt.alloc(), 6);
+    assert_eq!(rt; code.function(&body), Err(WriteFault::TooLarge { size: 7 }));
+    let mut module = Module::new(rt.alloc(), 2)?;
+    let section = RawSection {
+        id: 99,
+        contents: &[0, 1, 2],
+    };
+    assert_eq!(rt;
+        module.section(&section),
+        Err(WriteFault::TooLarge { size: 3 })
+    );
+    Ok(())
+}
+
+/// A start section, a data count section and a custom section.
+fn given_module(alloc: Global) -> Made<Module> {
+    let mut module = Module::new(alloc, u32::MAX)?;
+    module.section(&StartSection {
+        function_index: 300,
+    })?;
+    module.section(&DataCountSection { count: 2 })?;
+    module.section(&CustomSection {
+        name: "x",
+        contents: &[0xaa],
+    })?;
+    Ok(module)
+}
+
+/// A name, and an item.
+fn given_fields(alloc: Global) -> Made<Vec<u8>> {
+    let mut out = Vec::new(alloc);
+    write_name(&mut out, "f")?;
+    write_item(&mut out, ExportKind::Tag, 300)?;
+    Ok(out)
+}
+
+#[test]
+fn given(rt: HostRuntime) -> Result<(), Fail> {
+    let want = [
+        0x00u8, 0x61, 0x73, 0x6d, 0x01, 0x00, 0x00, 0x00, 0x08, 0x02, 0xac, 0x02, 0x0c, 0x01, 0x02,
+        0x00, 0x03, 0x01, 0x78, 0xaa,
+    ];
+    assert_eq!(rt; given_module(rt.alloc())?.as_slice(), want.as_slice());
+    let want = [0x01u8, 0x66, 0x04, 0xac, 0x02];
+    assert_eq!(rt; given_fields(rt.alloc())?.as_slice(), want.as_slice());
+    Ok(())
+}
+
+const TABLE: TableType = TableType {
+    element_type: REFERENCE,
+    table64: true,
+    minimum: 0x1_0000_0000,
+    maximum: None,
+    shared: false,
+};
+
+const MEMORY: MemoryType = MemoryType {
+    memory64: false,
+    shared: true,
+    minimum: 1,
+    maximum: Some(200),
+    page_size_log2: Some(0),
+};
+
+/// An import, and a table.
+fn add_imports(alloc: Global, module: &mut Module) -> Made<()> {
+    let mut imports = ImportSection::new(alloc);
+    imports.imports(&Imports::Single(Import {
+        module: "m",
+        name: "",
+        ty: EntityType::FunctionExact(1),
+    }))?;
+    module.section(&imports)?;
+    let mut tables = TableSection::new(alloc);
+    tables.table(TABLE)?;
+    Ok(module.section(&tables)?)
+}
+
+/// An import, a table, a memory and a tag.
+fn external_module(alloc: Global) -> Made<Module> {
+    let mut module = Module::new(alloc, u32::MAX)?;
+    add_imports(alloc, &mut module)?;
+    let mut memories = MemorySection::new(alloc);
+    memories.memory(MEMORY)?;
+    module.section(&memories)?;
+    let mut tags = TagSection::new(alloc);
+    tags.tag(TagType {
+        kind: TagKind::Exception,
+        func_type_idx: 128,
+    })?;
+    module.section(&tags)?;
+    Ok(module)
+}
+
+#[test]
+fn external_types(rt: HostRuntime) -> Result<(), Fail> {
+    let want = [
+        0x00u8, 0x61, 0x73, 0x6d, 0x01, 0x00, 0x00, 0x00, 0x02, 0x06, 0x01, 0x01, 0x6d, 0x00, 0x20,
+        0x01, 0x04, 0x09, 0x01, 0x63, 0x03, 0x04, 0x80, 0x80, 0x80, 0x80, 0x10, 0x05, 0x06, 0x01,
+        0x0b, 0x01, 0xc8, 0x01, 0x00, 0x0d, 0x04, 0x01, 0x00, 0x80, 0x01,
+    ];
+    assert_eq!(rt; external_module(rt.alloc())?.as_slice(), want.as_slice());
+    Ok(())
+}
+
+/// A structure of two fields.
+fn structure(alloc: Global) -> Result<SubType, NoMemory> {
+    let short = FieldType {
+        element_type: StorageType::I16,
+        mutable: false,
+    };
+    let reference = FieldType {
+        element_type: StorageType::Val(ValType::Ref(REFERENCE)),
+        mutable: true,
+    };
+    let fields = list_of(alloc, &[short, reference])?;
+    let inner = CompositeInnerType::Struct(StructType { fields });
+    Ok(alone(alloc, inner))
+}
+
+/// The same that is open, shared, described and describing.
+fn open_structure(alloc: Global) -> Result<SubType, NoMemory> {
+    let mut open = structure(alloc)?;
+    open.is_final = false;
+    open.composite_type.shared = true;
+    open.composite_type.descriptor = Some(3);
+    open.composite_type.describes = Some(2);
+    Ok(open)
+}
+
+/// A continuation by the index of its function's type.
+fn continuation(alloc: Global, index: u32) -> SubType {
+    alone(alloc, CompositeInnerType::Cont(ContType(index)))
+}
+
+/// A continuation below type 7.
+fn below(alloc: Global) -> Result<SubType, NoMemory> {
+    let mut below = continuation(alloc, 0);
+    below.supertype_idxs.push(7)?;
+    Ok(below)
+}
+
+/// A shared array that is described and describes.
+fn array(alloc: Global) -> SubType {
+    let field = FieldType {
+        element_type: StorageType::I8,
+        mutable: true,
+    };
+    let mut array = alone(alloc, CompositeInnerType::Array(ArrayType(field)));
+    array.composite_type.shared = true;
+    array.composite_type.describes = Some(2);
+    array.composite_type.descriptor = Some(300);
+    array
+}
+
+/// A section of types that stand alone.
+fn bare_groups(alloc: Global) -> Made<Module> {
+    let mut types = TypeSection::new(alloc);
+    types.group(&bare(alloc, structure(alloc)?)?)?;
+    types.group(&bare(alloc, continuation(alloc, 64))?)?;
+    types.group(&bare(alloc, below(alloc)?)?)?;
+    types.group(&bare(alloc, open_structure(alloc)?)?)?;
+    types.group(&bare(alloc, array(alloc))?)?;
+    let mut module = Module::new(alloc, u32::MAX)?;
+    module.section(&types)?;
+    Ok(module)
+}
+
+/// Three structures without fields: two that are open, and two that have a supertype.
+fn empty_structures(alloc: Global) -> Result<List<SubType>, NoMemory> {
+    let mut types = List::new(alloc);
+    for (is_final, supertypes) in [(false, &[] as &[u32]), (false, &[1]), (true, &[0])] {
+        let fields = List::new(alloc);
+        let mut ty = alone(alloc, CompositeInnerType::Struct(StructType { fields }));
+        ty.is_final = is_final;
+        ty.supertype_idxs = list_of(alloc, supertypes)?;
+        types.push(ty)?;
+    }
+    Ok(types)
+}
+
+/// A section of groups that are explicit.
+fn explicit_groups(alloc: Global) -> Made<Module> {
+    let mut types = TypeSection::new(alloc);
+    let mut group = bare(alloc, continuation(alloc, 1))?;
+    group.explicit = true;
+    types.group(&group)?;
+    types.group(&RecGroup {
+        explicit: true,
+        types: empty_structures(alloc)?,
+    })?;
+    let mut module = Module::new(alloc, u32::MAX)?;
+    module.section(&types)?;
+    Ok(module)
+}
+
+#[test]
+fn groups(rt: HostRuntime) -> Result<(), Fail> {
+    let want = [
+        0x00u8, 0x61, 0x73, 0x6d, 0x01, 0x00, 0x00, 0x00, 0x01, 0x27, 0x05, 0x5f, 0x02, 0x77, 0x00,
+        0x63, 0x03, 0x01, 0x5d, 0xc0, 0x00, 0x4f, 0x01, 0x07, 0x5d, 0x00, 0x50, 0x00, 0x65, 0x4c,
+        0x02, 0x4d, 0x03, 0x5f, 0x02, 0x77, 0x00, 0x63, 0x03, 0x01, 0x65, 0x4c, 0x02, 0x4d, 0xac,
+        0x02, 0x5e, 0x78, 0x01,
+    ];
+    assert_eq!(rt; bare_groups(rt.alloc())?.as_slice(), want.as_slice());
+    let want = [
+        0x00u8, 0x61, 0x73, 0x6d, 0x01, 0x00, 0x00, 0x00, 0x01, 0x15, 0x02, 0x4e, 0x01, 0x5d, 0x01,
+        0x4e, 0x03, 0x50, 0x00, 0x5f, 0x00, 0x50, 0x01, 0x01, 0x5f, 0x00, 0x4f, 0x01, 0x00, 0x5f,
+        0x00,
+    ];
+    assert_eq!(rt; explicit_groups(rt.alloc())?.as_slice(), want.as_slice());
+    Ok(())
+}
+
+/// The bytes of the instruction with one immediate, and none where it is no operator's.
+fn spelled(alloc: Global, opcode: Opcode, imm: Imm<'static>) -> Result<Vec<u8>, NoMemory> {
+    let mut out = Vec::new(alloc);
+    if let Some(instruction) = with_imm(alloc, opcode, imm)? {
+        instruction.encode(&mut out)?;
+    }
+    Ok(out)
+}
+
+#[test]
+fn instructions(rt: HostRuntime) -> Result<(), Fail> {
+    for (opcode, imm, want) in [
+        (
+            CALL,
+            Imm::Index(Space::Function, 300),
+            &[0x10u8, 0xac, 0x02] as &[u8],
+        ),
+        (I32_CONST, Imm::S32(-1), &[0x41, 0x7f]),
+        (CALL, Imm::Local(0), &[]),
+        (CALL, Imm::Index(Space::Component, 0), &[]),
+        (NOP, Imm::Zero, &[]),
+    ] {
+        assert_eq!(rt; spelled(rt.alloc(), opcode, imm)?.as_slice(), want);
+    }
+    Ok(())
+}
+
+#[test]
+fn expressions(rt: HostRuntime) -> Result<(), Fail> {
+    let constant = with_imm(rt.alloc(), I32_CONST, Imm::S32(-65))?.ok_or("i32.const")?;
+    assert_eq!(rt; constant.opcode().sub, 0x41);
+    assert_eq!(rt; constant.imms().len(), 1);
+    if constant.opcode() != END {
+        let mut expression = ConstExpr::new(rt.alloc());
+        expression.instruction(&constant)?;
+    }
+    Ok(())
+}

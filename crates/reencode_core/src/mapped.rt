@@ -1,0 +1,75 @@
+//! Sections whose rows are mapped by hooks and by methods of items alone: one loop for all of them.
+ghost use Rattle.std.specs.Prelude.{IsTrue, ℕ};
+ghost use Rattle.reencode_hooks.specs.Run.{NeverWants, ask};
+ghost use Rattle.reencode_items.specs.Maps.{Maps};
+ghost use Rattle.reencode_core.specs.Rows.{KeepsFront, GivesRows};
+ghost use Rattle.reencode_core.specs.Leaves.{LeavesReading, RowsOf};
+
+use reencode_hooks::Error;
+use reencode_items::ReencodeItems;
+use std::alloc::Global;
+use wasm_read as r;
+use wasm_read::{ReadRow, SectionReader};
+use wasm_shapes::kinds;
+use wasm_write as w;
+use wasm_write::{RowOf, RowSection};
+
+/// A kind of section with a method that maps its rows.
+pub(crate) trait MapRow<'a, B: RowOf<Self>>: ReadRow<'a> {
+    /// What a row becomes.
+    fn map<T: ReencodeItems>(reencoder: &mut T, row: Self::Row) -> Result<B, Error<T::Error>>
+        ensures default { IsTrue T.keeps_defaults
+            → Maps T.reply T.next reencoder.old (Self.tree row) B.tree reencoder.new result }
+        ensures sure { IsTrue T.keeps_defaults → NeverWants T.sure result };
+}
+
+impl<'a> MapRow<'a, u32> for kinds::Functions {
+    fn map<T: ReencodeItems>(reencoder: &mut T, row: u32) -> Result<u32, Error<T::Error>> {
+        reencoder.type_index(row)
+    }
+}
+
+impl<'a> MapRow<'a, w::MemoryType> for kinds::Memories {
+    fn map<T: ReencodeItems>(
+        reencoder: &mut T,
+        row: r::MemoryType,
+    ) -> Result<w::MemoryType, Error<T::Error>> {
+        reencoder.memory_type(row)
+    }
+}
+
+impl<'a> MapRow<'a, w::TagType> for kinds::Tags {
+    fn map<T: ReencodeItems>(
+        reencoder: &mut T,
+        row: r::TagType,
+    ) -> Result<w::TagType, Error<T::Error>> {
+        reencoder.tag_type(row)
+    }
+}
+
+/// Maps the rows that the reader still has, and adds each row once it is mapped.
+pub(crate) fn map_section<'a, T, K, B>(
+    reencoder: &mut T,
+    alloc: Global,
+    sink: &mut RowSection<K>,
+    section: SectionReader<'a, K>,
+) -> Result<(), Error<T::Error>>
+where
+    T: ReencodeItems,
+    K: MapRow<'a, B>,
+    B: RowOf<K> + Drop,
+    ensures kept { KeepsFront sink.old sink.new }
+    ensures default { IsTrue T.keeps_defaults → (c : ℕ)
+        → GivesRows (ask T.reply T.next) c K.shape section.entry (reencoder.old, sink.old)
+        (reencoder.new, sink.new) result }
+    ensures after_error { IsTrue T.keeps_defaults → IsTrue T.sure
+        → LeavesReading (RowsOf K.shape section.entry) (ask T.reply T.next) reencoder.old
+        reencoder.new result }
+{
+    let mut rows = section;
+    'rows: while let Some(row) = rows.next_row(alloc)? {
+        let made = K::map(reencoder, row)?;
+        sink.add(&made)?;
+    }
+    Ok(())
+}
