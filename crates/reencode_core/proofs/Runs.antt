@@ -6,7 +6,7 @@ use Rattle.wasm_shapes.specs.declared.Opcode.{Opcode}
 use Rattle.wasm_shapes.specs.Rows.{rows_then}
 use Rattle.wasm_shapes.specs.Shape.{Shape}
 use Rattle.wasm_shapes.specs.Tree.{Tree}
-use Rattle.wasm_shapes.specs.Types.{rows_tree}
+use Rattle.wasm_shapes.specs.Types.{rows_tree, vector_tree}
 use Rattle.wasm_shapes.specs.Spells.{Is, Spelled}
 use Rattle.wasm_shapes.specs.Place.{Begins}
 use Rattle.wasm_shapes.proofs.Rows.{rows_then-append}
@@ -14,7 +14,6 @@ use Rattle.wasm_read.specs.Operations.{Reading, rest_of}
 use Rattle.wasm_read.proofs.Codes.{fewer_left}
 use Rattle.wasm_write.specs.declared.fault.WriteFault.{WriteFault}
 use Rattle.wasm_write.specs.declared.fault.WriteFault.TheVariants as faults
-use Rattle.wasm_write.specs.Held.{body_tree}
 use Rattle.wasm_write.specs.Bodies.{AreOperators, Body, CodeRows, GainsOperators, HasOperators, with_operator, with_operators}
 use Rattle.wasm_write.specs.Instructions.{operator_tree}
 use Rattle.wasm_write.proofs.Holding.{snoc_is, snoc_normal, snoc_spelled}
@@ -223,7 +222,7 @@ module _ {S E : Type 0} (i : Ghosts S E) {m : S} {f0 : Body} {start reader behin
 module _ {S E : Type 0} (i : Ghosts S E) {bytes : List ℕ} {s0 : S} (old : CodeRows) {m : S} {f0 : Body} (made : LocalsClauses i bytes s0 m (Ok f0)) {start : Reading} {l : Tree}
     (begins : Begins locals bytes l (rest_of start)) {reader : Reading} {s : S} {f : Body} (inv : OperatorsKept i start m f0 reader s f) where
   -- the walk of the locals
-  walked : IsTrue i.keeps_defaults → walk (asks i) 0 s0 l ≡ accepted (body_tree f0.locals) m
+  walked : IsTrue i.keeps_defaults → walk (asks i) 0 s0 l ≡ accepted (vector_tree f0.locals) m
   walked k = (made.default k).reading 0 l (rest_of start) begins
 
   -- an operator is refused behind a run
