@@ -1,6 +1,7 @@
 -- The types of a group as they are mapped.
 use Rattle.std.proofs.Common.{◌≡◌, ℕ, suc, List, [], ◌∷◌, ◌++◌, length, map, Bool, true, false, refl, sym, ap, ◌∙◌, subst, append-nil, arith}
 use Rattle.std.proofs.lemmas.List.{map-append}
+use Rattle.wasm_shapes.specs.Types.{group_of}
 use Rattle.wasm_shapes.specs.Tree.{Tree}
 use Rattle.wasm_shapes.specs.Rows.{rows_then}
 use Rattle.wasm_shapes.proofs.Rows.{rows_then-append}
@@ -67,7 +68,7 @@ module _ {S E : Type 0} (asked : Asks S E) (c : ℕ) where
 
   pub group_accepted : (s0 s : S) (explicit : Bool) (types : List r.SubType) (made : List w.SubType) (done : List r.SubType) →
       ItemsDone asked read.sub_type_tree write.sub_type_tree s0 done s made → done ≡ types → length made ≡ length done → (explicit ≡ false → length types ≡ 1) →
-      walk asked c s0 (read.group_parts explicit types) ≡ accepted (write.group_parts explicit made) s
+      walk asked c s0 (read.group_parts explicit types) ≡ accepted (group_of explicit (map write.sub_type_tree made)) s
   group_accepted s0 s explicit types made done d same counted bare = go explicit types made whole bare (counted ∙ ap length same)
     where
       whole : walk asked c s0 (rows_then (map read.sub_type_tree types) Tree.nil) ≡ accepted (rows_then (map write.sub_type_tree made) Tree.nil) s
@@ -76,7 +77,7 @@ module _ {S E : Type 0} (asked : Asks S E) (c : ℕ) where
           subst P same (d.walks c Tree.nil)
 
       go : (explicit : Bool) (types : List r.SubType) (made : List w.SubType) → walk asked c s0 (rows_then (map read.sub_type_tree types) Tree.nil) ≡ accepted (rows_then (map write.sub_type_tree made) Tree.nil) s →
-          (explicit ≡ false → length types ≡ 1) → length made ≡ length types → walk asked c s0 (read.group_parts explicit types) ≡ accepted (write.group_parts explicit made) s
+          (explicit ≡ false → length types ≡ 1) → length made ≡ length types → walk asked c s0 (read.group_parts explicit types) ≡ accepted (group_of explicit (map write.sub_type_tree made)) s
       go true types made h bare k = rw h refl
       go false [] made h bare k = absurd (let one : 0 ≡ 1 = bare refl in omega arith)
       go false (x ∷ y ∷ types) made h bare k = absurd (let one : suc (suc (length types)) ≡ 1 = bare refl in omega arith)

@@ -101,21 +101,21 @@ module _ {S E : Type 0} (reply : S → Visit → Result ℕ E) where
 
 -- ---- a rule for indices
 
-module _ {S E A : Type 0} (renamed : S → Space → ℕ → Result ℕ E) {ceiling : ℕ} {bytes : List ℕ} {s m : S} {view : A → List ℕ} where
-  abbrev rule_asks : S → Visit → Step S (Error E) ℕ
-  rule_asks = stays (λ k v. by_rule (renamed k) v)
+abbrev pub rule_asks : {S E : Type 0} → (S → Space → ℕ → Result ℕ E) → S → Visit → Step S (Error E) ℕ
+rule_asks renamed = stays (λ k v. by_rule (renamed k) v)
 
-  pub rule_ok : (r : Result A (Error E)) → GivesBytes rule_asks ceiling bytes s m r view → IfOk r (λ out. IsRenamed (renamed s) bytes (view out))
+module _ {S E A : Type 0} (renamed : S → Space → ℕ → Result ℕ E) {ceiling : ℕ} {bytes : List ℕ} {s m : S} {view : A → List ℕ} where
+  pub rule_ok : (r : Result A (Error E)) → GivesBytes (rule_asks renamed) ceiling bytes s m r view → IfOk r (λ out. IsRenamed (renamed s) bytes (view out))
   rule_ok (Ok out) g =
       let a = all_answered (λ (k : S) (v : Visit). by_rule (renamed k) v) g in
       record { tree = a.0; reading = a.2; answers = a.1; answered = a.3; spelled = a.4 }
   rule_ok (Err e) g = tt
 
-  pub rule_refused : (r : Result A (Error E)) → GivesBytes rule_asks ceiling bytes s m r view → IfErr r (λ e. IfUser e (IsRefusal (renamed s) bytes))
+  pub rule_refused : (r : Result A (Error E)) → GivesBytes (rule_asks renamed) ceiling bytes s m r view → IfErr r (λ e. IfUser e (IsRefusal (renamed s) bytes))
   rule_refused (Ok out) g = tt
   rule_refused (Err (UserError x)) g = first_refused (λ (k : S) (v : Visit). by_rule (renamed k) v) g
   rule_refused (Err e) g = tt
 
-  pub rule_made : (r : Result A (Error E)) → GivesBytes rule_asks ceiling bytes s m r view → IfErr r (IsMade (renamed s) ceiling bytes)
+  pub rule_made : (r : Result A (Error E)) → GivesBytes (rule_asks renamed) ceiling bytes s m r view → IfErr r (IsMade (renamed s) ceiling bytes)
   rule_made (Ok out) g = tt
   rule_made (Err e) g = only_memory (λ (k : S) (v : Visit). by_rule (renamed k) v) e g
