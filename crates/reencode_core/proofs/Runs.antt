@@ -235,7 +235,7 @@ module _ {S E : Type 0} (i : Ghosts S E) {bytes : List ℕ} {s0 : S} (old : Code
       subst P (answers r q) (record {
         kept = keeps_code old;
         default = λ k. operator_refused i.reply i.next s0 m p.mid f0 (f.operators ++ p.kept.operators) old begins (made.default k) (d k) n e t.operator t.left t.begins t.refuses;
-        after_error = λ k never. reading_left (Err e) (body_leaves_next begins (walked k) (d k 0) t.begins (refused_visited 0 t.operator (t.refuses 0 (never_wants e sure never))));
+        after_error = λ k never. reading_left {A = Unit {0}} (Err e) (body_leaves_next begins (walked k) (d k 0) t.begins (refused_visited 0 t.operator (t.refuses 0 (never_wants e sure never))));
       })
 
   -- there is no memory for a run, or for the operator behind it
@@ -247,7 +247,7 @@ module _ {S E : Type 0} (i : Ghosts S E) {bytes : List ℕ} {s0 : S} (old : Code
       subst P (answers r q) (subst Q (sym wants) (record {
         kept = keeps_code old;
         default = λ k. body_wants (asks i) bytes s0 n old;
-        after_error = λ k never. reading_left (Err NoMemory) (leaves run p k);
+        after_error = λ k never. reading_left {A = Unit {0}} (Err NoMemory) (leaves run p k);
       }))
     where
       leaves : (run : Run) → PassesRun (asks i) s (rest_of reader) n run → IsTrue i.keeps_defaults → Leaves (BodyOf bytes) (asks i) s0 n

@@ -53,7 +53,7 @@ returns-in_err-instruction-in-Other g c =
     let inv = run_passed i c.operators.invariant _ run gains c.pass-in-Other.ensures.bytes c.pass-in-Other.ensures.rest in
     let some = some_left c.eof-in-Other.result (rest_of c.pass-in-Other.new.self) c.eof-in-Other.ensures c.if-not-eof.true in
     let gone = c.in_err-instruction-in-Other.ensures in
-    operator_refused i c.args.code.now c.in_ok-function.ensures found.1 c.in_ok-reader.ensures.bytes inv instruction_tree _ _ some gone.default gone.left _ c.from_residual-in_err-instruction-in-Other.ensures.1
+    operator_refused i c.args.code.now c.in_ok-function.ensures found.1 c.in_ok-reader.ensures.bytes inv instruction_tree _ _ some gone.default gone.after_error _ c.from_residual-in_err-instruction-in-Other.ensures.1
 
 pub returns-in_err-instruction-in-Other-2 : goal.returns-in_err-instruction-in-Other-2
 returns-in_err-instruction-in-Other-2 g c =
