@@ -16,3 +16,5 @@ pub mod RuleRuns
 pub mod MappedSection
 pub mod EachSection
 pub mod EachBody
+pub mod Passing
+pub mod Runs

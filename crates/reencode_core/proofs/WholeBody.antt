@@ -158,7 +158,7 @@ module _ {S E : Type 0} (reply : S → Visit → Result ℕ E) (next : S → Vis
 
   -- ---- an operator is refused, or none is there
 
-  operator_refused : (n : S) (e : Error E) (operator : Tree) (left : List ℕ) → Begins (Shape.op true) rest operator left → ((c : ℕ) → e ≢ NoMemory → walk (ask reply next) c s operator ≡ refused e n) →
+  pub operator_refused : (n : S) (e : Error E) (operator : Tree) (left : List ℕ) → Begins (Shape.op true) rest operator left → ((c : ℕ) → e ≢ NoMemory → walk (ask reply next) c s operator ≡ refused e n) →
       GivesBody (ask reply next) bytes (s0, old) (n, old) (Err e)
   operator_refused n e operator left there stops = record {
     reading = λ t p. (refl, λ other. inl (go t p other));

@@ -1,3 +1,4 @@
+pub mod Direct
 pub mod Errors
 pub mod Rows
 pub mod Bodies

@@ -1,6 +1,8 @@
+pub mod Full
 pub mod Numbers
 pub mod Placed
 pub mod Shifts
+pub mod Short
 pub mod Shortest
 pub mod Signed
 pub mod Spellings

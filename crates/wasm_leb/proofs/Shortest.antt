@@ -11,7 +11,7 @@ leb_more : (limit b n high : ℕ) (x : List ℕ) → 128 ≤ b → b < 256 → n
 leb_more limit b n high [] low small e p = absurd p
 leb_more limit b n high (c ∷ x) low small e p = (low, small, high, e, p)
 
-shortest_spells : (more limit n : ℕ) → n < held more limit → IsLeb limit (shortest more limit n) n
+pub shortest_spells : (more limit n : ℕ) → n < held more limit → IsLeb limit (shortest more limit n) n
 unfolding shortest
 shortest_spells zero limit n h = (h, refl)
 shortest_spells (suc more) limit n h = go (nat_lt n limit) refl (shortest_spells more limit (n / 128))

@@ -1,5 +1,5 @@
 //! Numbers at the front of some bytes.
-ghost use Rattle.std.specs.Prelude.{◌≡◌, ℕ, ◌<◌, ◌≤◌, ◌^◌, ◌-◌, ◌∷◌, [], length, drop, IfSome, IfNone, IsTrue, ◌↔◌};
+ghost use Rattle.std.specs.Prelude.{◌≡◌, ◌+ℤ◌, ◌*ℤ◌, pos, ℕ, ◌<◌, ◌≤◌, ◌^◌, ◌-◌, ◌∷◌, [], length, drop, IfSome, IfNone, IsTrue, ◌↔◌};
 ghost use Rattle.wasm_leb.specs.Leb.{one_byte_signed};
 ghost use Rattle.wasm_leb.specs.Place.{BeginsNumber, BeginsNoNumber, BeginsSigned, BeginsNoSigned};
 
@@ -118,6 +118,53 @@ fn one_byte(byte: u8) -> i8
     if byte < 64 { number } else { number - 64 - 64 }
 }
 
+/// A number without sign of one or two bytes at the front of some bytes, and the bytes behind it. None says nothing.
+#[inline(always)]
+fn front_short(bytes: &[u8]) -> Option<(u16, &[u8])>
+    ensures { IfSome result (λ r. BeginsNumber 128 14 14 bytes.now r.0 r.1.now) }
+{
+    let Some((first, rest)) = front_byte(bytes) else {
+        return None;
+    };
+    if first < 128 {
+        return Some((u16::from(first), rest));
+    }
+    match front_byte(rest) {
+        Some((second, rest)) if second < 128 => {
+            let number = u16::from(first - 128) + u16::from(second) * 128;
+            Some((number, rest))
+        }
+        _ => None,
+    }
+}
+
+/// The number with sign that two bytes spell.
+#[inline(always)]
+fn two_bytes(first: u8, second: u8) -> i16
+    requires low { 128 ≤ first }
+    requires high { second < 128 }
+    ensures { result ≡ (one_byte_signed second *ℤ pos 128) +ℤ pos (first - 128) }
+{
+    i16::from(one_byte(second)) * 128 + i16::from(first - 128)
+}
+
+/// A number with sign of one or two bytes at the front of some bytes, and the bytes behind it. None says nothing.
+#[inline(always)]
+fn front_short_signed(bytes: &[u8]) -> Option<(i16, &[u8])>
+    ensures { IfSome result (λ r. BeginsSigned 14 bytes.now r.0 r.1.now) }
+{
+    let Some((first, rest)) = front_byte(bytes) else {
+        return None;
+    };
+    if first < 128 {
+        return Some((i16::from(one_byte(first)), rest));
+    }
+    match front_byte(rest) {
+        Some((second, rest)) if second < 128 => Some((two_bytes(first, second), rest)),
+        _ => None,
+    }
+}
+
 /// The number of 32 bits without sign at the front of some bytes, and the bytes behind it.
 /// None exactly where no spelling begins there. WebAssembly Core Specification 3.0, section 5.2.2.
 #[inline(always)]
@@ -125,9 +172,9 @@ pub fn front_u32(bytes: &[u8]) -> Option<(u32, &[u8])>
     ensures some { IfSome result (λ r. BeginsNumber 128 32 32 bytes.now r.0 r.1.now) }
     ensures none { IfNone result (BeginsNoNumber 128 32 32 bytes.now) }
 {
-    match front_byte(bytes) {
-        Some((first, rest)) if first < 128 => Some((u32::from(first), rest)),
-        _ => {
+    match front_short(bytes) {
+        Some((number, rest)) => Some((u32::from(number), rest)),
+        None => {
             let (number, len) = number(bytes, 128, 32);
             if len > 0 {
                 Some((number as u32, &bytes[len..]))
@@ -145,9 +192,9 @@ pub fn front_u64(bytes: &[u8]) -> Option<(u64, &[u8])>
     ensures some { IfSome result (λ r. BeginsNumber 128 64 64 bytes.now r.0 r.1.now) }
     ensures none { IfNone result (BeginsNoNumber 128 64 64 bytes.now) }
 {
-    match front_byte(bytes) {
-        Some((first, rest)) if first < 128 => Some((u64::from(first), rest)),
-        _ => {
+    match front_short(bytes) {
+        Some((number, rest)) => Some((u64::from(number), rest)),
+        None => {
             let (number, len) = number(bytes, 128, 64);
             if len > 0 {
                 Some((number, &bytes[len..]))
@@ -186,9 +233,9 @@ pub fn front_s32(bytes: &[u8]) -> Option<(i32, &[u8])>
     ensures some { IfSome result (λ r. BeginsSigned 32 bytes.now r.0 r.1.now) }
     ensures none { IfNone result (BeginsNoSigned 32 bytes.now) }
 {
-    match front_byte(bytes) {
-        Some((first, rest)) if first < 128 => Some((i32::from(one_byte(first)), rest)),
-        _ => {
+    match front_short_signed(bytes) {
+        Some((number, rest)) => Some((i32::from(number), rest)),
+        None => {
             let (number, len) = signed(bytes, 32);
             if len > 0 {
                 Some((number as i32, &bytes[len..]))
@@ -226,9 +273,9 @@ pub fn front_s64(bytes: &[u8]) -> Option<(i64, &[u8])>
     ensures some { IfSome result (λ r. BeginsSigned 64 bytes.now r.0 r.1.now) }
     ensures none { IfNone result (BeginsNoSigned 64 bytes.now) }
 {
-    match front_byte(bytes) {
-        Some((first, rest)) if first < 128 => Some((i64::from(one_byte(first)), rest)),
-        _ => {
+    match front_short_signed(bytes) {
+        Some((number, rest)) => Some((i64::from(number), rest)),
+        None => {
             let (number, len) = signed(bytes, 64);
             if len > 0 {
                 Some((number, &bytes[len..]))

@@ -5,6 +5,7 @@ mod fault;
 mod front;
 mod laws;
 mod list;
+mod minimal;
 mod read;
 mod write;
 
@@ -15,5 +16,6 @@ pub use laws::{
     written_spelling_is_shortest,
 };
 pub use list::List;
+pub use minimal::{is_shortest, is_shortest_signed};
 pub use read::{read_s32, read_s33, read_s64, read_u32, read_u64};
 pub use write::{len_u32, write_index, write_s32, write_s33, write_s64, write_u32, write_u64};

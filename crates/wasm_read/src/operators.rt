@@ -1,5 +1,5 @@
 //! The operators of function bodies.
-ghost use Rattle.std.specs.Prelude.{◌≡◌, ◌<◌, ◌≤◌, ◌∷◌, [], IfSome, IfNone, IfOk, IfErr, if◌then◌else◌, nat_eq, length, map, Some, IsTrue, ◌↔◌, true};
+ghost use Rattle.std.specs.Prelude.{◌≡◌, ◌+◌, ◌<◌, ◌≤◌, ◌∷◌, [], drop, IfSome, IfNone, IfOk, IfErr, if◌then◌else◌, nat_eq, length, map, Some, IsTrue, ◌↔◌, true};
 ghost use Rattle.wasm_shapes.specs.Immediates.{HasKinds};
 ghost use Rattle.wasm_shapes.specs.Place.{Begins, BeginsNone};
 ghost use Rattle.wasm_shapes.specs.Shape.{Shape};
@@ -104,8 +104,20 @@ impl<'a> OperatorsReader<'a> {
         OperatorsReader { bytes, at }
     }
 
+    /// Passes by so many bytes.
+    #[inline(always)]
+    pub fn pass(&mut self, count: usize)
+        requires { count ≤ length (rest_of self.now) }
+        ensures bytes { self.new.bytes ≡ self.old.bytes }
+        ensures at { self.new.at ≡ self.old.at + count }
+        ensures rest { rest_of self.new ≡ drop count (rest_of self.old) }
+    {
+        self.at += count;
+    }
+
     /// The bytes that are left.
-    fn rest(&self) -> &'a [u8]
+    #[inline(always)]
+    pub fn rest(&self) -> &'a [u8]
         ensures { result.now ≡ rest_of self.now }
     {
         &self.bytes[self.at..]

@@ -1,6 +1,6 @@
 -- Functions, code sections and constant expressions that are held, and one operator or row more.
 use Rattle.std.specs.Prelude.{IfErr}
-use Rattle.std.proofs.Common.{◌≡◌, ℕ, ◌-◌, ◌<◌, ◌≤◌, ◌^◌, ◌⊎◌, inr, Result, Ok, Err, List, [], ◌∷◌, ◌++◌, length, map, refl, sym, ap, ◌∙◌, append-nil, append_assoc, subst, true, false, arith, ◌≢◌, ◌&&◌, Bool, nat_le, if◌then◌else◌, Option, Some}
+use Rattle.std.proofs.Common.{◌≡◌, ℕ, ◌-◌, ◌<◌, ◌≤◌, ◌^◌, ◌⊎◌, inr, Result, Ok, Err, List, [], ◌∷◌, ◌++◌, length, map, refl, sym, ap, ap₂, ◌∙◌, append-nil, append_assoc, subst, true, false, arith, ◌≢◌, ◌&&◌, Bool, nat_le, if◌then◌else◌, Option, Some, OnOk, OnErr}
 use Rattle.std.proofs.lemmas.Bool.{leb-true}
 use Rattle.std.specs.Coded.{Coded-set, coded_ℕ, coded_list}
 use mathlib.Core.Logic.{∥∥₁_elim, ∥∥₁_map, ∥∥₁_prop}
@@ -24,7 +24,7 @@ use Rattle.wasm_write.specs.Counts.{counts, IsTooLarge}
 use Rattle.wasm_write.specs.Faults.{IfTooLarge}
 use Rattle.wasm_write.specs.Held.{AreHeld}
 use Rattle.wasm_write.specs.Instructions.{Parts, imms_tree, instruction_tree}
-use Rattle.wasm_write.specs.Bodies.{Body, local_tree, with_operator, function_body, code_tree, IsBody, HeldBody, HeldBody-one, held_body, HeldOperators, HeldOperators-one, held_operators}
+use Rattle.wasm_write.specs.Bodies.{AreOperators, Body, local_tree, with_operator, with_operators, function_body, code_tree, IsBody, HeldBody, HeldBody-one, held_body, HeldOperators, HeldOperators-one, held_operators}
 use Rattle.wasm_write.proofs.Holding.{snoc_is, snoc_spelled, snoc_normal, snoc_length, are_none, are_more}
 use Rattle.wasm_write.proofs.SmallCounts.{counts_small, last_is_large}
 use Rattle.wasm_write.proofs.TypeShapes.{items_are, value_is}
@@ -59,6 +59,40 @@ is_more {bytes = bytes} {f = f} {t = t} b p = record {
     go : Is body_shape (function_body f) → Is body_shape (function_body (with_operator f t))
     go (Is.seq d e) = Is.seq d (snoc_is f.operators e p.shaped)
 
+-- ---- several operators more
+
+pub many_is : {s : Shape} (xs ys : List Tree) → Is (Shape.many s) (rows_tree xs) → Is (Shape.many s) (rows_tree ys) → Is (Shape.many s) (rows_tree (xs ++ ys))
+many_is [] ys d e = e
+many_is (u ∷ xs) ys (Is.cons d d') e = Is.cons d (many_is xs ys d' e)
+
+pub many_spelled : (xs ys : List Tree) (x y : List ℕ) → Spelled (rows_tree xs) x → Spelled (rows_tree ys) y → Spelled (rows_tree (xs ++ ys)) (x ++ y)
+many_spelled [] ys x y p q = let P : List ℕ → Type 0 = λ z. Spelled (rows_tree ys) (z ++ y) in subst P (sym p) q
+many_spelled (u ∷ xs) ys x y p q =
+    (p.0, p.1 ++ y, ap (λ (z : List ℕ). z ++ y) p.2 ∙ append_assoc p.0 p.1 y, p.3, many_spelled xs ys p.1 y p.4 q)
+
+many_normal : (xs ys : List Tree) → normal (rows_tree (xs ++ ys)) ≡ normal (rows_tree xs) ++ normal (rows_tree ys)
+many_normal [] ys = refl
+many_normal (u ∷ xs) ys = ap (λ (z : List ℕ). normal u ++ z) (many_normal xs ys) ∙ sym (append_assoc (normal u) (normal (rows_tree xs)) (normal (rows_tree ys)))
+
+is_many : {bytes text : List ℕ} {f : Body} {rows : List Tree} → IsBody bytes f → AreOperators text rows → IsBody (bytes ++ text) (with_operators f rows)
+is_many {text = text} {f = f} {rows = rows} b p = record {
+  shaped = go b.shaped;
+  spelled = (
+    b.spelled.0,
+    b.spelled.1 ++ text,
+    ap (λ (z : List ℕ). z ++ text) b.spelled.2 ∙ append_assoc b.spelled.0 b.spelled.1 text,
+    b.spelled.3,
+    many_spelled f.operators rows b.spelled.1 text b.spelled.4 p.spelled,
+  );
+  normally =
+      ap (λ (z : List ℕ). normal (vector_tree f.locals) ++ z) (many_normal f.operators rows)
+      ∙ sym (append_assoc (normal (vector_tree f.locals)) (normal (rows_tree f.operators)) (normal (rows_tree rows)))
+      ∙ ap₂ (λ (y z : List ℕ). y ++ z) b.normally p.normally;
+}
+  where
+    go : Is body_shape (function_body f) → Is body_shape (function_body (with_operators f rows))
+    go (Is.seq d e) = Is.seq d (many_is f.operators rows e p.shaped)
+
 module _ {bytes : List ℕ} (locals : List (ℕ × ValType)) (e : bytes ≡ normal (vector_tree (map local_tree locals))) (r : InRange (vector_tree (map local_tree locals))) where
   pub body_new : HeldBody bytes
   body_new = (with_locals locals, ∣ rw e (is_new locals r) ∣₁)
@@ -86,6 +120,25 @@ module _ {bytes : List ℕ} (h : HeldBody bytes) where
       held_body new k ≡ with_operator (held_body bytes h) t
   unfolding held_body body_grown
   body_grown_is {new} t k e p = HeldBody-one new k (body_grown t e p)
+
+  abbrev body_many : {text : List ℕ} (rows : List Tree) → AreOperators text rows → HeldBody (bytes ++ text)
+  body_many rows p = (with_operators h.0 rows, ∥∥₁_map h.1 (λ b. is_many b p))
+
+  -- the bytes have grown by several operators
+  pub body_joined : {new text : List ℕ} (rows : List Tree) → new ≡ bytes ++ text → AreOperators text rows → HeldBody new
+  body_joined rows e p = let P : List ℕ → Type 0 = λ z. HeldBody z in subst P (sym e) (body_many rows p)
+
+  -- or they are as they were
+  pub body_perhaps_joined : {A E : Type 0} {new text : List ℕ} (r : Result A E) (rows : List Tree) → OnOk r (new ≡ bytes ++ text) → OnErr r (new ≡ bytes) → AreOperators text rows → HeldBody new
+  body_perhaps_joined (Ok a) rows grown same p = body_joined rows grown p
+  body_perhaps_joined (Err e) rows grown same p = let P : List ℕ → Type 0 = λ z. HeldBody z in subst P (sym same) h
+
+  pub body_joined_is : {new text : List ℕ} (rows : List Tree) (k : HeldBody new) → new ≡ bytes ++ text → AreOperators text rows →
+      held_body new k ≡ with_operators (held_body bytes h) rows
+  unfolding held_body
+  body_joined_is {text = text} rows k e p =
+      let P : List ℕ → Type 0 = λ z. (k : HeldBody z) → k.0 ≡ with_operators h.0 rows in
+      subst P (sym e) (λ k. HeldBody-one (bytes ++ text) k (body_many rows p)) k
 
   -- the bytes are the same
   pub body_same_is : {new : List ℕ} (k : HeldBody new) → new ≡ bytes → held_body new k ≡ held_body bytes h

@@ -34,6 +34,24 @@ local_tree l = Tree.pair (Tree.u32 l.0) (val_type_tree l.1)
 abbrev pub with_operator : Body → Tree → Body
 with_operator f t = record f { operators = f.operators ++ t ∷ [] }
 
+-- the function with these operators more
+abbrev pub with_operators : Body → List Tree → Body
+with_operators f ts = record f { operators = f.operators ++ ts }
+
+-- operators one behind another, whose normal spelling these bytes are
+pub record AreOperators (bytes : List ℕ) (rows : List Tree) : Type 0 where
+  pub shaped : Is (Shape.many (Shape.op true)) (rows_tree rows)
+  pub spelled : Spelled (rows_tree rows) bytes
+  pub normally : normal (rows_tree rows) ≡ bytes
+
+-- there are such operators
+abbrev pub HasOperators : List ℕ → Type 0
+HasOperators bytes = (rows : List Tree) × AreOperators bytes rows
+
+-- the second function has the operators of these bytes more
+abbrev pub GainsOperators : Body → List ℕ → Body → Type 0
+GainsOperators old bytes new = (rows : List Tree) → AreOperators bytes rows → new ≡ with_operators old rows
+
 -- the locals behind their number, and the operators
 abbrev pub function_body : Body → Tree
 function_body f = Tree.pair (vector_tree f.locals) (rows_tree f.operators)

@@ -116,6 +116,10 @@ abbrev pub imms_tree : List Imm → Tree
 imms_tree [] = Tree.empty
 imms_tree (i ∷ is) = Tree.pair (imm_tree i) (imms_tree is)
 
+-- the operator of an opcode with these immediates
+abbrev pub operator_tree : Opcode → List Imm → Tree
+operator_tree op imms = Tree.op (code_of op) (imms_tree imms)
+
 -- the operator with its immediates
 abbrev pub instruction_tree : Parts → Tree
 instruction_tree i = Tree.op (code_of i.opcode) (imms_tree i.imms)

@@ -4,18 +4,21 @@ ghost use Rattle.wasm_shapes.specs.Tree.{normal};
 ghost use Rattle.wasm_shapes.specs.Spells.{Spells};
 ghost use Rattle.wasm_shapes.specs.Fits.{InRange};
 ghost use Rattle.wasm_write.specs.Faults.{IfTooLarge};
-ghost use Rattle.wasm_write.specs.Instructions.{instruction_tree};
+ghost use Rattle.wasm_shapes.specs.Immediates.{HasKinds};
+ghost use Rattle.wasm_write.specs.Instructions.{imm_kind, instruction_tree, operator_tree};
 ghost use Rattle.wasm_shapes.specs.Module.{body as body_shape};
-ghost use Rattle.wasm_write.specs.Bodies.{HeldBody, HeldBody-prop, function_body, local_tree, with_operator};
+ghost use Rattle.wasm_write.specs.Bodies.{HasOperators, HeldBody, HeldBody-prop, function_body, local_tree, with_operator, GainsOperators};
 
 use crate::fault::WriteFault;
-use crate::instructions::Instruction;
-use crate::types::ValType;
+use crate::immediates::write_bytes;
+use crate::instructions::{Instruction, write_operator};
+use crate::types::{Imm, ValType};
 use crate::types_write::write_val_type;
 use crate::vectors::{InCode, ItemOf, write_list};
 use std::alloc::Global;
 use std::marker::Model;
 use wasm_leb::{List, NoMemory, write_u32};
+use wasm_shapes::Opcode;
 
 /// A function under construction (WebAssembly Core Specification 3.0, section 5.5.13).
 ///
@@ -104,6 +107,38 @@ impl Function {
                 Err(WriteFault::NoMemory)
             }
         }
+    }
+
+    /// Adds the operator of an opcode with these immediates, as `instruction` does, with no list of them.
+    #[inline(always)]
+    pub fn operator(&mut self, opcode: Opcode, imms: &[Imm<'_>]) -> Result<(), WriteFault>
+        requires { HasKinds opcode (map imm_kind imms.now) }
+        ensures ok { OnOk result (self.new ≡ with_operator self.old (operator_tree opcode imms.now)) }
+        ensures err { OnErr result (self.new ≡ self.old) }
+        ensures wants { IfErr result (λ e. e ≡ WriteFault.NoMemory) }
+    {
+        let len = self.bytes.len();
+        match write_operator(&mut self.bytes, opcode, imms) {
+            Ok(()) => Ok(()),
+            Err(NoMemory) => {
+                self.bytes.truncate(len);
+                Err(WriteFault::NoMemory)
+            }
+        }
+    }
+
+    /// Adds the operators whose normal spelling these bytes are. The one refusal is want of memory, and changes nothing.
+    #[inline(always)]
+    pub fn spelled(&mut self, bytes: &[u8]) -> Result<(), WriteFault>
+        requires { HasOperators bytes.now }
+        ensures ok { OnOk result (GainsOperators self.old bytes.now self.new) }
+        ensures err { OnErr result (self.new ≡ self.old) }
+        ensures wants { IfErr result (λ e. e ≡ WriteFault.NoMemory) }
+    {
+        let Ok(()) = write_bytes(&mut self.bytes, bytes) else {
+            return Err(WriteFault::NoMemory);
+        };
+        Ok(())
     }
 
     /// The normal spelling of the locals and the operators, which reads back as this function.

@@ -194,7 +194,8 @@ fn write_cast(out: &mut Vec<u8>, label: u32, from: RefType, to: RefType) -> Resu
 }
 
 /// Appends bytes, or nothing.
-fn write_bytes(out: &mut Vec<u8>, bytes: &[u8]) -> Result<(), NoMemory>
+#[inline(always)]
+pub(crate) fn write_bytes(out: &mut Vec<u8>, bytes: &[u8]) -> Result<(), NoMemory>
     ensures ok { OnOk result (out.new.items ≡ out.old.items ++ bytes.now) }
     ensures err { OnErr result (out.new.items ≡ out.old.items) }
 {

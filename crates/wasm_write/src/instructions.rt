@@ -8,7 +8,7 @@ ghost use Rattle.wasm_shapes.specs.Shape.{Shape};
 ghost use Rattle.wasm_shapes.specs.Spells.{Spells};
 ghost use Rattle.wasm_shapes.specs.Fits.{CodeInRange, InRange};
 ghost use Rattle.wasm_shapes.specs.Types.{are_sixteen, is_core, is_counted};
-ghost use Rattle.wasm_write.specs.Instructions.{imm_kind, imms_tree, instruction_tree};
+ghost use Rattle.wasm_write.specs.Instructions.{imm_kind, imms_tree, instruction_tree, operator_tree};
 
 use crate::immediates::write_imm;
 use crate::types::Imm;
@@ -163,10 +163,26 @@ impl<'a> Instruction<'a> {
             (instruction_tree self.now) ∥₁) }
         ensures err { OnErr result (take (vec_len out.old) out.new.items ≡ out.old.items) }
     {
-        match write_opcode(out, self.opcode) {
-            Ok(()) => write_imms(out, self.imms.as_slice()),
-            Err(NoMemory) => Err(NoMemory),
-        }
+        write_operator(out, self.opcode, self.imms.as_slice())
+    }
+}
+
+/// Appends an operator with immediates of the kinds of its row, or a part of it where memory is wanting.
+#[inline(always)]
+pub(crate) fn write_operator(
+    out: &mut Vec<u8>,
+    opcode: Opcode,
+    imms: &[Imm<'_>],
+) -> Result<(), NoMemory>
+    requires { ∥ HasKinds opcode (map imm_kind imms.now) ∥₁ }
+    ensures ok { OnOk result (out.new.items ≡ out.old.items ++ normal (operator_tree opcode imms.now)) }
+    ensures spells { OnOk result
+        (∥ Spells (Shape.op true) (normal (operator_tree opcode imms.now)) (operator_tree opcode imms.now) ∥₁) }
+    ensures err { OnErr result (take (vec_len out.old) out.new.items ≡ out.old.items) }
+{
+    match write_opcode(out, opcode) {
+        Ok(()) => write_imms(out, imms),
+        Err(NoMemory) => Err(NoMemory),
     }
 }
 

@@ -1,6 +1,6 @@
 use Rattle.std.proofs.Common.{arith}
-use Rattle.wasm_leb.proofs.Numbers.{number_one}
+use Rattle.wasm_leb.proofs.Short.{number_wider}
 use Rattle.wasm_leb.proofs.front.front_u32.Goals as goal
 
 pub returns-in-Some-clause-some : goal.returns-in-Some-clause-some
-returns-in-Some-clause-some c = number_one (omega arith) (omega arith) (omega arith) c.in-Some.ensures.some c.if-first-lt128.true c.from.ensures
+returns-in-Some-clause-some c = number_wider (omega arith) c.in-Some.ensures c.from.ensures

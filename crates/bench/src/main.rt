@@ -1,0 +1,133 @@
+//! Makes a module and re-encodes it: `bench WAY FUNCTIONS ROWS ROUNDS`. The module has so many functions, each of so many
+//! rows of eight operators, and is re-encoded so many times. It prints how many bytes came. The ways:
+//!
+//! | | |
+//! |---|---|
+//! | `text` | the module is printed as hexadecimal digits, and not re-encoded |
+//! | `make` | it is made, and not re-encoded |
+//! | `default` | by a reencoder that overrides nothing |
+//! | `roundtrip` | by `RoundtripReencoder` |
+//! | `renamer` | by `Renamer`, without entries |
+//! | `renamed` | by `Renamer`, with an entry for the function that is called |
+#![tactic(auto)]
+
+mod generic;
+mod making;
+
+use crate::generic::Generic;
+use crate::making::module;
+use reencode_core::{Reencode, reencode_core};
+use reencode_hooks::{Renamer, RoundtripReencoder};
+use std::alloc::{AllocError, Global};
+use std::process::ExitCode;
+use std::{env, io};
+use wasm_leb::NoMemory;
+use wasm_shapes::Space;
+
+/// What the words say.
+#[derive(Drop)]
+struct Words {
+    way: String,
+    functions: u32,
+    rows: u32,
+    rounds: u32,
+}
+
+/// The words behind the program's name.
+fn read_words(rt: &HostRuntime) -> io::Result<Option<Words>> {
+    let mut words = env::args(rt)?.skip(1);
+    let Some(way) = words.next() else {
+        return Ok(None);
+    };
+    let mut numbers = [0u32; 3];
+    for number in &mut numbers {
+        let Some(word) = words.next() else {
+            return Ok(None);
+        };
+        let Ok(said) = word.as_str().parse::<u32>() else {
+            return Ok(None);
+        };
+        *number = said;
+    }
+    let [functions, rows, rounds] = numbers;
+    Ok(Some(Words {
+        way,
+        functions,
+        rows,
+        rounds,
+    }))
+}
+
+/// How many bytes a module re-encodes to, and 0 where it is refused.
+fn len_of<R: Reencode>(alloc: Global, reencoder: &mut R, module: &[u8]) -> usize
+where
+    R::Error: Drop,
+{
+    match reencode_core(alloc, reencoder, module, u32::MAX) {
+        Ok(made) => made.len(),
+        Err(_) => 0,
+    }
+}
+
+/// A renamer with an entry for the function that is called.
+fn renaming(alloc: Global) -> Result<Renamer, NoMemory> {
+    let mut renamer = Renamer::new(alloc);
+    renamer.set(Space::Function, making::CALLED, 1000)?;
+    Ok(renamer)
+}
+
+/// How many bytes come of a module by a way, where there is such a way.
+fn once(alloc: Global, way: &str, module: &[u8]) -> Result<Option<usize>, NoMemory> {
+    match way {
+        "make" => Ok(Some(module.len())),
+        "default" => Ok(Some(len_of(alloc, &mut Generic::new(alloc), module))),
+        "roundtrip" => Ok(Some(len_of(alloc, &mut RoundtripReencoder, module))),
+        "renamer" => Ok(Some(len_of(alloc, &mut Renamer::new(alloc), module))),
+        "renamed" => Ok(Some(len_of(alloc, &mut renaming(alloc)?, module))),
+        _ => Ok(None),
+    }
+}
+
+/// How many bytes come of a module in all rounds, where there is such a way.
+fn all(alloc: Global, words: &Words, module: &[u8]) -> Result<Option<usize>, NoMemory> {
+    let mut sum: usize = 0;
+    for _ in 0..words.rounds {
+        match once(alloc, words.way.as_str(), module)? {
+            Some(len) => sum = sum.saturating_add(len),
+            None => return Ok(None),
+        }
+    }
+    Ok(Some(sum))
+}
+
+/// What is printed, where the words say it.
+fn said(alloc: Global, words: &Words) -> Result<Option<String>, AllocError> {
+    let Ok(module) = module(alloc, words.functions, words.rows) else {
+        return Err(AllocError);
+    };
+    if words.way.as_str() == "text" {
+        return Ok(Some(hex::encode(alloc, module.as_slice())?));
+    }
+    match all(alloc, words, module.as_slice()) {
+        Ok(Some(sum)) => Ok(Some(format!(in alloc; "{sum}")?)),
+        Ok(None) => Ok(None),
+        Err(NoMemory) => Err(AllocError),
+    }
+}
+
+fn main(rt: HostRuntime) -> ExitCode {
+    let Ok(Some(words)) = read_words(&rt) else {
+        return ExitCode::from(2);
+    };
+    match said(rt.alloc(), &words) {
+        Ok(Some(text)) => {
+            let text = text.as_str();
+            match println!(rt; "{text}") {
+                Ok(()) => ExitCode::SUCCESS,
+                Err(_) => ExitCode::from(4),
+            }
+        }
+        Ok(None) => ExitCode::from(2),
+        Err(_) => ExitCode::from(1),
+    }
+}

@@ -1,0 +1,272 @@
+-- One operator that is passed by, made anew or refused.
+use Rattle.std.proofs.Common.{◌≡◌, ◌≢◌, ◌≤◌, ◌+◌, ◌-◌, zero, suc, ℕ, ℤ, List, [], ◌∷◌, ◌++◌, length, length-append, Bool, true, false, not, Option, Some, None, Result, Ok, Err, refl, sym, ap, ◌∙◌, ◌<◌, drop, take, append-nil, append_assoc, subst, arith, inl}
+use Rattle.std.proofs.lemmas.Bool.{lt-ltb}
+use Rattle.std.proofs.Math.Seq.{take-length}
+use Rattle.std.proofs.lemmas.List.{append_cancel_right, length-drop, length-take-le, take-append-drop}
+use Rattle.wasm_leb.specs.Leb.{leb, shortest, shortest_signed}
+use Rattle.wasm_leb.specs.Place.{BeginsNumber, BeginsSigned}
+use Rattle.wasm_leb.proofs.Shortest.{leb_spells}
+use Rattle.wasm_shapes.specs.declared.ImmKind.{ImmKind}
+use Rattle.wasm_shapes.specs.declared.ImmKind.TheVariants as kind
+use Rattle.wasm_shapes.specs.declared.Opcode.{Opcode}
+use Rattle.wasm_shapes.specs.declared.Space.{Space}
+use Rattle.wasm_shapes.specs.declared.Space.TheVariants as space
+use Rattle.wasm_shapes.specs.declared.Visit.{Visit}
+use Rattle.wasm_shapes.specs.declared.Visit.TheVariants.{Index}
+use Rattle.wasm_shapes.specs.Operators.{code_of, is_code, is_prefix, kinds_of, plain}
+use Rattle.wasm_shapes.specs.Shape.{Shape, shape_of_kind, shape_of_kinds, shape_of_row}
+use Rattle.wasm_shapes.specs.Tree.{Tree, code_bytes, normal}
+use Rattle.wasm_shapes.specs.Spells.{Is, Spelled}
+use Rattle.wasm_shapes.specs.Place.{Begins}
+use Rattle.wasm_shapes.proofs.Begins.{begins_empty, begins_s64, begins_seq, begins_u32}
+use Rattle.wasm_shapes.specs.Types.{is_core}
+use Rattle.wasm_write.specs.declared.types.Imm.{Imm}
+use Rattle.wasm_shapes.specs.Immediates.{AreOfRow}
+use Rattle.wasm_write.specs.declared.types.Imm.TheVariants as imm
+use Rattle.wasm_write.specs.Instructions.{imm_kind, imm_tree}
+use Rattle.reencode_hooks.specs.declared.error.Error.{Error}
+use Rattle.reencode_hooks.specs.declared.error.Error.TheVariants.{NoMemory}
+use Rattle.reencode_hooks.specs.Hooks.{Replies}
+use Rattle.reencode_hooks.specs.Run.{accepted, refused, ask}
+use Rattle.reencode_hooks.specs.Walk.{walk}
+use Rattle.reencode_core.specs.Rows.{Asks}
+use Rattle.reencode_core.specs.declared.direct.classes.Class.{Class}
+use Rattle.reencode_core.specs.declared.direct.classes.Class.TheVariants as class
+use Rattle.reencode_core.specs.declared.direct.classes.Leaf.{Leaf}
+use Rattle.reencode_core.specs.declared.direct.passing.Next.{Next}
+use Rattle.reencode_core.specs.declared.direct.passing.Next.TheVariants as next
+use Rattle.reencode_core.specs.Direct.{BeginsNormal, HasClass, HasOne, IsHead, IsUnasked, KeepsLeaf, KeepsOperator, MakesOperator, OperatorThere, Passes, PassesLeaf, PassesNext, PassesS32, RefusesOperator, SkipsLeaf, imm_of, leaf_shape}
+
+pub class_at : {c d : Class} (op : Opcode) → c ≡ d → HasClass op c → HasClass op d
+class_at op same h = let P : Class → Type 0 = λ z. HasClass op z in subst P same h
+
+-- ---- the number of an operator
+
+-- one byte
+pub plain_head : {b : ℕ} {bytes rest : List ℕ} → is_code (plain b) ≡ true → bytes ≡ b ∷ rest → IsHead bytes (record { prefix = 0; sub = b }) rest
+plain_head valid e = record { valid = valid; spelled = refl; reads = e }
+
+not_alone : (b : ℕ) → false ≡ is_code (plain b) → is_prefix b ≡ true
+not_alone b e = go (is_prefix b) e
+  where
+    go : (p : Bool) → false ≡ not p → p ≡ true
+    go true f = refl
+    go false f = absurd cc
+
+-- a prefix and a number in its shortest spelling
+pub prefixed_head : (p : ℕ) {n : ℕ} {bytes middle rest : List ℕ} → false ≡ is_code (plain p) → bytes ≡ p ∷ middle → BeginsNumber 128 32 32 middle n rest → middle ≡ leb n ++ rest →
+    IsHead bytes (record { prefix = p; sub = n }) rest
+prefixed_head zero alone e there f = let never : is_prefix 0 ≡ true = not_alone 0 alone in absurd cc
+prefixed_head (suc p) {n = n} alone e there f = record {
+  valid = not_alone (suc p) alone;
+  spelled = (leb n, refl, leb_spells n there.1.fits);
+  reads = e ∙ ap (λ (z : List ℕ). suc p ∷ z) f;
+}
+
+-- ---- normal spellings
+
+-- how many bytes stand before others
+before_others : (bytes text left : List ℕ) → bytes ≡ text ++ left → length text ≡ length bytes - length left
+before_others bytes text left e = let long : length bytes ≡ length text + length left = ap length e ∙ length-append text left in omega arith
+
+pub head_longer : {bytes rest : List ℕ} {op : Opcode} → IsHead bytes op rest → length rest ≤ length bytes
+head_longer {bytes = bytes} {rest = rest} {op = op} h =
+    let text = code_bytes (code_of op) in
+    let long : length bytes ≡ length text + length rest = ap length h.reads ∙ length-append text rest in
+    omega arith
+
+pub begins_longer : {s : Shape} {t : Tree} {bytes left : List ℕ} → Begins s bytes t left → length left ≤ length bytes
+begins_longer {bytes = bytes} {left = left} p = let long : length bytes ≡ length p.text + length left = ap length p.reads ∙ length-append p.text left in omega arith
+
+-- the spelling that stands there is the normal one
+pub normally : {s : Shape} {t : Tree} {bytes left : List ℕ} → Begins s bytes t left → bytes ≡ normal t ++ left → BeginsNormal s bytes t left
+normally {t = t} {left = left} p e =
+    let same : p.text ≡ normal t = append_cancel_right p.text (normal t) left (sym p.reads ∙ e) in
+    let P : List ℕ → Type 0 = λ z. Spelled t z in
+    record { shaped = p.spells.shaped; spelled = subst P same p.spells.spelled; reads = e }
+
+abbrev pub begins_normally : {s : Shape} {t : Tree} {bytes left : List ℕ} → BeginsNormal s bytes t left → Begins s bytes t left
+begins_normally {t = t} p = record { text = normal t; spells = record { shaped = p.shaped; spelled = p.spelled }; reads = p.reads }
+
+-- ---- leaves in their normal spelling
+
+pub skips_number : {n : ℕ} {bytes rest : List ℕ} → BeginsNumber 128 32 32 bytes n rest → bytes ≡ leb n ++ rest → SkipsLeaf Shape.u32 bytes rest
+skips_number {n = n} p e = record { tree = Tree.u32 n; begins = normally (begins_u32 p) e; unasked = tt }
+
+pub skips_long : (z : ℤ) {bytes rest : List ℕ} → BeginsSigned 64 bytes z rest → bytes ≡ shortest_signed z ++ rest → SkipsLeaf Shape.s64 bytes rest
+skips_long z p e = record { tree = Tree.s64 z; begins = normally (begins_s64 z p) e; unasked = tt }
+
+-- the rest of some bytes from a place on
+pub rest_is : (n : ℕ) (bytes : List ℕ) → take (length bytes - n) (drop n bytes) ≡ drop n bytes
+rest_is n bytes = let P : ℕ → Type 0 = λ k. take k (drop n bytes) ≡ drop n bytes in subst P (length-drop n bytes) (take-length (drop n bytes))
+
+pub skips_raw : (n : ℕ) (bytes : List ℕ) → n ≤ length bytes → SkipsLeaf (Shape.bytes n) bytes (take (length bytes - n) (drop n bytes))
+skips_raw n bytes within =
+    let B : List ℕ → Type 0 = λ z. SkipsLeaf (Shape.bytes n) bytes z in
+    subst B (sym (rest_is n bytes)) (record {
+      tree = Tree.raw (take n bytes);
+      begins = record { shaped = Is.bytes (length-take-le n bytes within); spelled = refl; reads = sym (take-append-drop n bytes) };
+      unasked = tt;
+    })
+
+-- ---- an operator
+
+module _ {bytes rest behind : List ℕ} {op : Opcode} {ks : List ImmKind} {t : Tree} (h : IsHead bytes op rest) (row : kinds_of op ≡ Some ks) (p : Begins (shape_of_kinds ks) rest t behind) where
+  abbrev whole_begins : Begins (Shape.op true) bytes (Tree.op (code_of op) t) behind
+  whole_begins =
+      let I : Option (List ImmKind) → Type 0 = λ o. Is (shape_of_row o) t in
+      let front = code_bytes (code_of op) in
+      record {
+        text = front ++ p.text;
+        spells = record {
+          shaped = Is.op h.valid (subst I (sym row) p.spells.shaped);
+          spelled = (front, p.text, refl, h.spelled, p.spells.spelled);
+        };
+        reads = h.reads ∙ ap (λ (z : List ℕ). front ++ z) p.reads ∙ sym (append_assoc front p.text behind);
+      }
+
+  abbrev whole_there : OperatorThere bytes (length bytes - length behind)
+  whole_there = record {
+    operator = Tree.op (code_of op) t;
+    left = behind;
+    begins = whole_begins;
+    counted = before_others bytes (code_bytes (code_of op) ++ p.text) behind whole_begins.reads;
+  }
+
+-- it has no immediate
+pub keeps_bare : {S E : Type 0} (asked : Asks S E) (s : S) {bytes rest : List ℕ} {op : Opcode} → IsHead bytes op rest → kinds_of op ≡ Some [] →
+    KeepsOperator asked s bytes (length bytes - length rest) s
+keeps_bare asked s {rest = rest} {op = op} h row =
+    let none : Begins Shape.empty rest Tree.empty rest = record { text = []; spells = record { shaped = Is.empty; spelled = refl }; reads = refl } in
+    record {
+      there = whole_there h row none;
+      normally = refl;
+      walks = λ c. refl;
+    }
+
+abbrev one_begins : (k : ImmKind) {u : Tree} {rest behind : List ℕ} → Begins (shape_of_kind k) rest u behind → Begins (shape_of_kinds (k ∷ [])) rest (Tree.pair u Tree.empty) behind
+one_begins k p = begins_seq p begins_empty
+
+-- it has one immediate
+module _ {S E : Type 0} (asked : Asks S E) (s m : S) {bytes rest behind : List ℕ} {op : Opcode} {k : ImmKind} {u : Tree} (h : IsHead bytes op rest) (row : kinds_of op ≡ Some (k ∷ [])) where
+  pub keeps_one : BeginsNormal (shape_of_kind k) rest u behind → ((c : ℕ) → walk asked c s u ≡ accepted u m) → KeepsOperator asked s bytes (length bytes - length behind) m
+  keeps_one p walks =
+      let whole : BeginsNormal (shape_of_kinds (k ∷ [])) rest (Tree.pair u Tree.empty) behind = record {
+        shaped = Is.seq p.shaped Is.empty;
+        spelled = (normal u, [], refl, p.spelled, refl);
+        reads = p.reads ∙ ap (λ (z : List ℕ). z ++ behind) (sym (append-nil (normal u)));
+      } in
+      record {
+        there = whole_there h row (begins_normally whole);
+        normally = refl;
+        walks = λ c. rw (walks c) refl;
+      }
+
+  pub makes_one : Begins (shape_of_kind k) rest u behind → (imm : Imm) → imm_kind imm ≡ Some k → ((c : ℕ) → walk asked c s u ≡ accepted (imm_tree imm) m) →
+      MakesOperator asked s bytes (length bytes - length behind) op imm m
+  makes_one p imm same walks = record {
+    there = whole_there h row (one_begins k p);
+    kinds = let R : Option (List ImmKind) → Type 0 = λ o. AreOfRow o (imm_kind imm ∷ []) in subst R (sym row) (ap (λ (z : Option ImmKind). z ∷ []) same);
+    walks = λ c. rw (walks c) refl;
+  }
+
+  pub refuses_one : Begins (shape_of_kind k) rest u behind → (err : Error E) → ((c : ℕ) → err ≢ NoMemory → walk asked c s u ≡ refused err m) → RefusesOperator asked s bytes err m
+  refuses_one p err walks = record {
+    operator = Tree.op (code_of op) (Tree.pair u Tree.empty);
+    left = behind;
+    begins = whole_begins h row (one_begins k p);
+    refuses = λ c other. rw (walks c other) refl;
+  }
+
+-- ---- immediates that ask nothing
+
+unasked_walk : {S E : Type 0} (asked : Asks S E) (s : S) (t : Tree) → IsUnasked t → (c : ℕ) → walk asked c s t ≡ accepted t s
+unasked_walk asked s (Tree.u32 n) h c = refl
+unasked_walk asked s (Tree.s32 z) h c = refl
+unasked_walk asked s (Tree.s64 z) h c = refl
+unasked_walk asked s (Tree.raw bs) h c = refl
+unasked_walk asked s _ h c = absurd h
+
+keeps_leaf : {S E : Type 0} (asked : Asks S E) (s : S) {bytes rest : List ℕ} {op : Opcode} {k : ImmKind} {a : Shape} {n : ℕ} → IsHead bytes op rest → kinds_of op ≡ Some (k ∷ []) →
+    shape_of_kind k ≡ a → KeepsLeaf a bytes rest n → KeepsOperator asked s bytes n s
+keeps_leaf asked s {bytes = bytes} {rest = rest} h row same p =
+    let q = p.skips in
+    let B : Shape → Type 0 = λ z. BeginsNormal z rest q.tree p.left in
+    let K : ℕ → Type 0 = λ z. KeepsOperator asked s bytes z s in
+    subst K (sym p.counted) (keeps_one asked s s h row (subst B (sym same) q.begins) (unasked_walk asked s q.tree q.unasked))
+
+pub leaf_passes : {S E : Type 0} (asked : Asks S E) (s : S) {bytes rest : List ℕ} {op : Opcode} {l : Leaf} (next : Next) (kept : Option ℕ) → IsHead bytes op rest →
+    HasOne op (class.Leaf l) → PassesLeaf (leaf_shape l) bytes rest next kept → Passes asked s bytes s next kept
+leaf_passes asked s next (Some n) h one p = keeps_leaf asked s h one.row one.is p
+leaf_passes asked s {bytes = bytes} next None h one p = let P : Next → Type 0 = λ z. PassesNext asked s bytes s z in subst P (sym p) refl
+
+abbrev pub s32_row : {op : Opcode} → HasOne op class.S32 → kinds_of op ≡ Some (kind.S32 ∷ [])
+s32_row one = one.row ∙ ap (λ (z : ImmKind). Some (z ∷ [])) one.is
+
+pub s32_passes : {S E : Type 0} (asked : Asks S E) (s : S) {bytes rest : List ℕ} {op : Opcode} (next : Next) (kept : Option ℕ) → IsHead bytes op rest → HasOne op class.S32 →
+    PassesS32 op bytes rest next kept → Passes asked s bytes s next kept
+s32_passes asked s next (Some n) h one p = keeps_leaf asked s h (s32_row one) refl p
+s32_passes asked s {bytes = bytes} (next.Made o f n) None h one p =
+    let q = p.1 in
+    let M : ℕ → Type 0 = λ z. MakesOperator asked s bytes z o (imm_of f) s in
+    let O : Opcode → Type 0 = λ z. MakesOperator asked s bytes (length bytes - length q.left) z (imm_of f) s in
+    subst M (sym q.counted) (subst O (sym p.0) (makes_one asked s s h (s32_row one) q.begins (imm_of f) q.kind (λ c. ap (λ (t : Tree). accepted t s) (sym q.tree))))
+s32_passes asked s next.Other None h one p = refl
+
+-- ---- an index
+
+abbrev pub index_row : {op : Opcode} {p : Space} → HasOne op (class.Index p) → kinds_of op ≡ Some (kind.Index p ∷ [])
+index_row one = one.row ∙ ap (λ (z : ImmKind). Some (z ∷ [])) one.is.0
+
+pub index_kind_core : (p : Space) (i : ℕ) → is_core p ≡ true → imm_kind (imm.Index p i) ≡ Some (kind.Index p)
+index_kind_core p i h = rw h refl
+
+module _ {S E : Type 0} (reply : S → Visit → Result ℕ E) (next : S → Visit → S) (s m : S) (p : Space) (i : ℕ) where
+  pub index_made : (n : ℕ) → Replies reply next s m (Index p i) (Ok n) → (c : ℕ) → walk (ask reply next) c s (Tree.ix p i) ≡ accepted (Tree.ix p n) m
+  index_made n h c = rw h refl
+
+  pub index_kept : (n : ℕ) → Replies reply next s m (Index p i) (Ok n) → n ≡ i → (c : ℕ) → walk (ask reply next) c s (Tree.ix p i) ≡ accepted (Tree.ix p i) m
+  index_kept n h same c = rw h (ap (λ (z : ℕ). accepted (Tree.ix p z) m) same)
+
+  pub index_refused : (e : Error E) → Replies reply next s m (Index p i) (Err e) → (c : ℕ) → e ≢ NoMemory → walk (ask reply next) c s (Tree.ix p i) ≡ refused e m
+  index_refused e h c other = rw (h other) refl
+
+-- ---- a memory access
+
+abbrev pub mem_row : {op : Opcode} → HasOne op class.Mem → kinds_of op ≡ Some (kind.Mem ∷ [])
+mem_row one = one.row ∙ ap (λ (z : ImmKind). Some (z ∷ [])) one.is
+
+-- its memory is left out
+pub mem_begins : {a o : ℕ} {bytes middle left : List ℕ} → bytes ≡ a ∷ middle → a < 64 → BeginsNumber 128 64 64 middle o left → Begins Shape.mem bytes (Tree.mem a 0 o) left
+mem_begins {a = a} e small p = record {
+  text = a ∷ p.0;
+  spells = record {
+    shaped = Is.mem;
+    spelled = (
+      small,
+      inl (record {
+        flags = a ∷ [];
+        offset = p.0;
+        parts = refl;
+        zero = refl;
+        flagged = record { spelled = (omega arith, refl); short = omega arith; fits = omega arith };
+        offsets = p.1;
+      }),
+    );
+  };
+  reads = e ∙ ap (λ (z : List ℕ). a ∷ z) p.2;
+}
+
+pub mem_short : (a o : ℕ) {bytes middle : List ℕ} (left : List ℕ) → bytes ≡ a ∷ middle → a < 64 → middle ≡ leb o ++ left → bytes ≡ normal (Tree.mem a 0 o) ++ left
+unfolding shortest
+mem_short a o left e small f = let near : a < 128 = omega arith in rw (lt-ltb a 128 near) (e ∙ ap (λ (z : List ℕ). a ∷ z) f)
+
+module _ {S E : Type 0} (reply : S → Visit → Result ℕ E) (next : S → Visit → S) (s m : S) (a o : ℕ) where
+  pub mem_made : (n : ℕ) → Replies reply next s m (Index space.Memory 0) (Ok n) → (c : ℕ) → walk (ask reply next) c s (Tree.mem a 0 o) ≡ accepted (Tree.mem a n o) m
+  mem_made n h c = rw h refl
+
+  pub mem_kept : (n : ℕ) → Replies reply next s m (Index space.Memory 0) (Ok n) → n ≡ 0 → (c : ℕ) → walk (ask reply next) c s (Tree.mem a 0 o) ≡ accepted (Tree.mem a 0 o) m
+  mem_kept n h same c = rw h (ap (λ (z : ℕ). accepted (Tree.mem a z o) m) same)
+
+  pub mem_refused : (e : Error E) → Replies reply next s m (Index space.Memory 0) (Err e) → (c : ℕ) → e ≢ NoMemory → walk (ask reply next) c s (Tree.mem a 0 o) ≡ refused e m
+  mem_refused e h c other = rw (h other) refl
