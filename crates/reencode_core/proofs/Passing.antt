@@ -22,7 +22,7 @@ use Rattle.wasm_shapes.proofs.Begins.{begins_empty, begins_s64, begins_seq, begi
 use Rattle.wasm_shapes.specs.Types.{is_core}
 use Rattle.wasm_write.specs.declared.types.Imm.{Imm}
 use Rattle.wasm_shapes.specs.Immediates.{AreOfRow}
-use Rattle.wasm_write.specs.declared.types.Imm.TheVariants as imm
+use Rattle.wasm_write.specs.declared.types.Imm.TheVariants as imms
 use Rattle.wasm_write.specs.Instructions.{imm_kind, imm_tree}
 use Rattle.reencode_hooks.specs.declared.error.Error.{Error}
 use Rattle.reencode_hooks.specs.declared.error.Error.TheVariants.{NoMemory}
@@ -218,7 +218,7 @@ s32_passes asked s next.Other None h one p = refl
 abbrev pub index_row : {op : Opcode} {p : Space} → HasOne op (class.Index p) → kinds_of op ≡ Some (kind.Index p ∷ [])
 index_row one = one.row ∙ ap (λ (z : ImmKind). Some (z ∷ [])) one.is.0
 
-pub index_kind_core : (p : Space) (i : ℕ) → is_core p ≡ true → imm_kind (imm.Index p i) ≡ Some (kind.Index p)
+pub index_kind_core : (p : Space) (i : ℕ) → is_core p ≡ true → imm_kind (imms.Index p i) ≡ Some (kind.Index p)
 index_kind_core p i h = rw h refl
 
 module _ {S E : Type 0} (reply : S → Visit → Result ℕ E) (next : S → Visit → S) (s m : S) (p : Space) (i : ℕ) where
