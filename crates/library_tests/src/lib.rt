@@ -5,6 +5,8 @@
 #[cfg(test)]
 mod core_tests;
 #[cfg(test)]
+mod examples_tests;
+#[cfg(test)]
 mod hooks_tests;
 #[cfg(test)]
 mod items_tests;

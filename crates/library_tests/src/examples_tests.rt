@@ -1,0 +1,54 @@
+//! The examples, run.
+use examples::{NotBelow, TooMany, Widened, check_below, move_behind};
+use reencode_core::reencode_core;
+use reencode_hooks::Error;
+use std::test::Fail;
+
+/// A module that adds two numbers: a type, a function, an export and its code.
+const ADDS: [u8; 39] = [
+    0x00, 0x61, 0x73, 0x6d, 0x01, 0x00, 0x00, 0x00, 0x01, 0x07, 0x01, 0x60, 0x02, 0x7f, 0x7f, 0x01,
+    0x7f, 0x03, 0x02, 0x01, 0x00, 0x07, 0x05, 0x01, 0x01, 0x66, 0x00, 0x00, 0x0a, 0x09, 0x01, 0x07,
+    0x00, 0x20, 0x00, 0x20, 0x01, 0x6a, 0x0b,
+];
+
+/// A module that exports its function 1.
+const EXPORTS: [u8; 15] = [
+    0x00, 0x61, 0x73, 0x6d, 0x01, 0x00, 0x00, 0x00, 0x07, 0x05, 0x01, 0x01, 0x66, 0x00, 0x01,
+];
+
+#[test]
+fn functions_move(rt: HostRuntime) -> Result<(), Fail> {
+    let mut moved = ADDS;
+    moved[27] = 0x05;
+    let bytes = move_behind(rt.alloc(), &ADDS, 5)?;
+    assert!(rt; bytes.as_slice() == moved.as_slice());
+    let refused = match move_behind(rt.alloc(), &EXPORTS, u32::MAX) {
+        Err(Error::UserError(TooMany { index })) => index == 1,
+        _ => false,
+    };
+    assert!(rt; refused);
+    Ok(())
+}
+
+#[test]
+fn functions_are_checked(rt: HostRuntime) -> Result<(), Fail> {
+    let bytes = check_below(rt.alloc(), &EXPORTS, 2)?;
+    assert!(rt; bytes.as_slice() == EXPORTS.as_slice());
+    let refused = match check_below(rt.alloc(), &EXPORTS, 1) {
+        Err(Error::UserError(NotBelow { index })) => index == 1,
+        _ => false,
+    };
+    assert!(rt; refused);
+    Ok(())
+}
+
+#[test]
+fn types_are_widened(rt: HostRuntime) -> Result<(), Fail> {
+    let mut wide = ADDS;
+    wide[13] = 0x7e;
+    wide[14] = 0x7e;
+    wide[16] = 0x7e;
+    let bytes = reencode_core(rt.alloc(), &mut Widened, &ADDS, u32::MAX)?;
+    assert!(rt; bytes.as_slice() == wide.as_slice());
+    Ok(())
+}
