@@ -11,11 +11,10 @@
 //! | `renamed` | by `Renamer`, with an entry for the function that is called |
 #![tactic(auto)]
 
-mod generic;
 mod making;
 
-use crate::generic::Generic;
 use crate::making::module;
+use default_renamer::DefaultRenamer;
 use reencode_core::{Reencode, reencode_core};
 use reencode_hooks::{Renamer, RoundtripReencoder};
 use std::alloc::{AllocError, Global};
@@ -80,7 +79,10 @@ fn renaming(alloc: Global) -> Result<Renamer, NoMemory> {
 fn once(alloc: Global, way: &str, module: &[u8]) -> Result<Option<usize>, NoMemory> {
     match way {
         "make" => Ok(Some(module.len())),
-        "default" => Ok(Some(len_of(alloc, &mut Generic::new(alloc), module))),
+        "default" => {
+            let renamer = Renamer::new(alloc);
+            Ok(Some(len_of(alloc, &mut DefaultRenamer { renamer }, module)))
+        }
         "roundtrip" => Ok(Some(len_of(alloc, &mut RoundtripReencoder, module))),
         "renamer" => Ok(Some(len_of(alloc, &mut Renamer::new(alloc), module))),
         "renamed" => Ok(Some(len_of(alloc, &mut renaming(alloc)?, module))),

@@ -1,6 +1,7 @@
 //! Whole modules.
 use crate::case::number;
 use crate::stop::{Stop, refusal};
+use default_renamer::DefaultRenamer;
 use crate::text::{add, add_bytes, add_word};
 use reencode_core::{Reencode, reencode_core};
 use reencode_hooks::{Asked, Renamer, RoundtripReencoder};
@@ -127,6 +128,28 @@ where
     Ok(text)
 }
 
+/// Says also what came another way, where it differs.
+fn compare(text: &mut String, other: &str) -> Result<(), AllocError> {
+    if text.as_str() == other {
+        return Ok(());
+    }
+    add_word(text, "but by the default methods")?;
+    add_word(text, other)
+}
+
+/// What comes of a module by a renamer of these words, where it overrides nothing.
+fn renamed_by_default(alloc: Global, words: &str, bytes: &[u8]) -> Result<String, Stop> {
+    let way = way_of(alloc, words)?;
+    let mut renamer = DefaultRenamer {
+        renamer: way.renamer,
+    };
+    let mut text = made(alloc, &mut renamer, bytes, way.ceiling)?;
+    if way.is_counted {
+        add_counts(&mut text, &renamer.renamer)?;
+    }
+    Ok(text)
+}
+
 /// What comes of a module that is renamed.
 fn renamed(alloc: Global, words: &str, bytes: &[u8]) -> Result<String, Stop> {
     let mut way = way_of(alloc, words)?;
@@ -134,6 +157,14 @@ fn renamed(alloc: Global, words: &str, bytes: &[u8]) -> Result<String, Stop> {
     if way.is_counted {
         add_counts(&mut text, &way.renamer)?;
     }
+    compare(&mut text, renamed_by_default(alloc, words, bytes)?.as_str())?;
+    Ok(text)
+}
+
+/// What comes of a module that is re-encoded as it is.
+fn roundtripped(alloc: Global, bytes: &[u8]) -> Result<String, Stop> {
+    let mut text = made(alloc, &mut RoundtripReencoder, bytes, u32::MAX)?;
+    compare(&mut text, renamed_by_default(alloc, "", bytes)?.as_str())?;
     Ok(text)
 }
 
@@ -146,7 +177,7 @@ pub fn answer(
 ) -> Result<Option<String>, Stop> {
     match call {
         "rename" => Ok(Some(renamed(alloc, words, bytes)?)),
-        "roundtrip" => Ok(Some(made(alloc, &mut RoundtripReencoder, bytes, u32::MAX)?)),
+        "roundtrip" => Ok(Some(roundtripped(alloc, bytes)?)),
         _ => Ok(None),
     }
 }
