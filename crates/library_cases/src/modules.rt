@@ -1,8 +1,8 @@
 //! Whole modules.
 use crate::case::number;
 use crate::stop::{Stop, refusal};
-use default_renamer::DefaultRenamer;
 use crate::text::{add, add_bytes, add_word};
+use default_renamer::DefaultRenamer;
 use reencode_core::{Reencode, reencode_core};
 use reencode_hooks::{Asked, Renamer, RoundtripReencoder};
 use std::alloc::{AllocError, Global};

@@ -26,11 +26,7 @@ use wasm_write as w;
 
 /// Adds the operator of an opcode and an immediate.
 #[inline(always)]
-fn add(
-    function: &mut w::Function,
-    opcode: Opcode,
-    fresh: Fresh,
-) -> Result<(), w::WriteFault>
+fn add(function: &mut w::Function, opcode: Opcode, fresh: Fresh) -> Result<(), w::WriteFault>
     requires { HasKinds opcode (imm_kind (imm_of fresh) ∷ []) }
     ensures ok { OnOk result (function.new
         ≡ with_operator function.old (operator_tree opcode (imm_of fresh ∷ []))) }

@@ -268,9 +268,10 @@ unsigned_shortest {bits = bits} {n = n} {x = x} few p l = (
 
 low_is_full : {bits n : ℕ} {x : List ℕ} → bits ≤ 64 → IsSigned bits x (pos n) → 2 ≤ length x → Full 64 x ↔ (x ≡ shortest 9 64 n)
 low_is_full {bits = bits} {n = n} {x = x} few p l =
-    let short : length x ≤ (bits + 6) / 7 = p.short in
-    (λ full. full_is 9 64 n x (omega arith) (omega arith) (omega arith) p.spelled full,
-    λ same. let P : List ℕ → Type 0 = λ z. Full 64 z in subst P (sym same) (shortest_full 9 64 n))
+    let short : length x ≤ (bits + 6) / 7 = p.short in (
+      λ full. full_is 9 64 n x (omega arith) (omega arith) (omega arith) p.spelled full,
+      λ same. let P : List ℕ → Type 0 = λ z. Full 64 z in subst P (sym same) (shortest_full 9 64 n),
+    )
 
 negative_is_full : {bits n : ℕ} {x : List ℕ} → bits ≤ 64 → IsSigned bits x (negsuc n) → 2 ≤ length x → Full 64 (inverted x) ↔ (x ≡ inverted (shortest 9 64 n))
 negative_is_full {bits = bits} {n = n} {x = x} few p l =
@@ -279,9 +280,10 @@ negative_is_full {bits = bits} {n = n} {x = x} few p l =
     let fewer : bits - 1 ≤ 63 = omega arith in
     let room : 2 ^ (bits - 1) ≤ 2 ^ 63 = pow_mono fewer in
     let fits : n < 2 ^ (bits - 1) = p.fits in
-    let twice : shortest 9 64 n ≡ inverted (inverted (shortest 9 64 n)) = leb_twice (shortest 9 64 n) n (shortest_spells 9 64 n (omega arith)) in
-    (λ full. inverted_twice x n p.spelled ∙ ap inverted (full_is 9 64 n (inverted x) (omega arith) (omega arith) (omega arith) (inverted_leb x n p.spelled) full),
-    λ same. let P : List ℕ → Type 0 = λ z. Full 64 z in subst P (twice ∙ ap inverted (sym same)) (shortest_full 9 64 n))
+    let twice : shortest 9 64 n ≡ inverted (inverted (shortest 9 64 n)) = leb_twice (shortest 9 64 n) n (shortest_spells 9 64 n (omega arith)) in (
+      λ full. inverted_twice x n p.spelled ∙ ap inverted (full_is 9 64 n (inverted x) (omega arith) (omega arith) (omega arith) (inverted_leb x n p.spelled) full),
+      λ same. let P : List ℕ → Type 0 = λ z. Full 64 z in subst P (twice ∙ ap inverted (sym same)) (shortest_full 9 64 n),
+    )
 
 -- A spelling with sign whose byte before the last has bit 6 clear is the shortest exactly where its last byte is not 0.
 pub clear_shortest : {bits : ℕ} (z : ℤ) {x : List ℕ} → bits ≤ 64 → IsSigned bits x z → 2 ≤ length x → before_last x < 192 → (last x ≢ 0) ↔ (x ≡ shortest_signed z)

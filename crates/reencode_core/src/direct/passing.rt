@@ -15,9 +15,7 @@ ghost use Rattle.reencode_hooks.specs.Run.{NeverWants, ask};
 ghost use Rattle.reencode_core.specs.declared.direct.classes.Class.TheVariants as class;
 ghost use Rattle.reencode_core.specs.Direct.{HasClass, HasOne, IsHead, Passes, PassesLeaf, PassesS32, RefusesOperator, SkipsLeaf, imm_of, leaf_shape};
 
-use crate::direct::classes::{
-    Class, Leaf, class_by_row, frequent_class, one_byte, stands_alone,
-};
+use crate::direct::classes::{Class, Leaf, class_by_row, frequent_class, one_byte, stands_alone};
 use reencode_hooks::{Error, ReencodeIndices};
 use wasm_leb::{
     front_byte, front_s32, front_s64, front_u32, front_u64, is_shortest, is_shortest_signed,

@@ -14,10 +14,7 @@ pub struct Run {
 }
 
 /// Passes the operators at the front of some bytes that do not change.
-pub fn pass_run<R: ReencodeIndices>(
-    reencoder: &mut R,
-    bytes: &[u8],
-) -> Result<Run, Error<R::Error>>
+pub fn pass_run<R: ReencodeIndices>(reencoder: &mut R, bytes: &[u8]) -> Result<Run, Error<R::Error>>
     ensures ok { IfOk result
         (PassesRun (ask R.reply R.next) reencoder.old bytes.now reencoder.new) }
     ensures within { IfOk result (λ run. IsWithin run.kept run.next (length bytes.now)) }

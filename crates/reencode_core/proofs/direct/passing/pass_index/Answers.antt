@@ -11,7 +11,7 @@ returns-then-short-clause-ok g c =
 pub returns-else-answer-index-clause-ok : goal.returns-else-answer-index-clause-ok
 returns-else-answer-index-clause-ok g c =
     let i = g.R.ReencodeIndices in
-    makes_one _ _ _ c.requires.head (index_row c.requires.one) (begins_ix c.in-Some.ensures.begins) _ (index_kind_core c.args.space _ c.requires.one.is.1)
+    makes_one _ _ _ c.requires.head (index_row c.requires.one) (begins_ix c.in-Some.ensures.begins) _ (index_kind_core c.args.space c.in-Ok.answer c.requires.one.is.1)
     (index_made i.reply i.next _ _ _ _ _ c.in-Ok.ensures.answer)
 
 pub returns-in-Err-clause-err : goal.returns-in-Err-clause-err

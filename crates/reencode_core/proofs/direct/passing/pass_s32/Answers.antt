@@ -19,12 +19,14 @@ returns-then-short c = record {
 
 pub returns : goal.returns
 returns c =
-    let fits : SFits w32 c.in-Some.number = search rules in
-    (refl, record {
-      number = c.in-Some.number;
-      left = c.in-Some.behind.now;
-      begins = begins_s32 c.in-Some.number c.in-Some.ensures.begins;
-      counted = refl;
-      tree = ap (λ (z : ℤ). Tree.s32 z) (to_z-of_z w32 c.in-Some.number fits);
-      kind = refl;
-    })
+    let fits : SFits w32 c.in-Some.number = search rules in (
+      refl,
+      record {
+        number = c.in-Some.number;
+        left = c.in-Some.behind.now;
+        begins = begins_s32 c.in-Some.number c.in-Some.ensures.begins;
+        counted = refl;
+        tree = ap (λ (z : ℤ). Tree.s32 z) (to_z-of_z w32 c.in-Some.number fits);
+        kind = refl;
+      },
+    )
