@@ -96,7 +96,8 @@ pub trait ReencodeIndices {
         after: Option<SectionId>,
         before: Option<SectionId>,
     ) -> Result<(), Error<Self::Error>>
-        ensures answer { RepliesSection reply next adds self.old self.new «module».old «module».new after before result }
+        ensures answer { RepliesSection reply next adds self.old self.new
+            «module».old «module».new after before result }
         ensures sure { NeverWants sure result };
 
     // An answer is an index, and a component's index is never refused.

@@ -37,7 +37,8 @@ impl<R: IndexRule> ByRule<R> {
     /// The answer of the rule as that of a hook.
     #[inline(always)]
     fn ask(&mut self, space: Space, index: u32) -> Result<u32, Error<R::Error>>
-        ensures answer { Gives (answered (R.renamed self.old.rule space index) self.old) (λ n. n) self.new result }
+        ensures answer { Gives (answered (R.renamed self.old.rule space index) self.old)
+            (λ n. n) self.new result }
         ensures sure { NeverWants true result }
     {
         match self.rule.index(space, index) {

@@ -61,7 +61,8 @@ impl Table {
 fn put(pairs: &mut Vec<(u32, u32)>, key: u32, value: u32) -> Result<(), NoMemory>
     requires { IsStrictlySorted pairs.old.items }
     ensures sorted { IsStrictlySorted pairs.new.items }
-    ensures ok { OnOk result (entries_of pairs.new.items ≡ map.insert (entries_of pairs.old.items) key value) }
+    ensures ok { OnOk result
+        (entries_of pairs.new.items ≡ map.insert (entries_of pairs.old.items) key value) }
     ensures err { OnErr result (pairs.new.items ≡ pairs.old.items) }
 {
     let at = place_of(pairs, key);

@@ -113,7 +113,8 @@ impl Function {
     #[inline(always)]
     pub fn operator(&mut self, opcode: Opcode, imms: &[Imm<'_>]) -> Result<(), WriteFault>
         requires { HasKinds opcode (map imm_kind imms.now) }
-        ensures ok { OnOk result (self.new ≡ with_operator self.old (operator_tree opcode imms.now)) }
+        ensures ok { OnOk result
+            (self.new ≡ with_operator self.old (operator_tree opcode imms.now)) }
         ensures err { OnErr result (self.new ≡ self.old) }
         ensures wants { IfErr result (λ e. e ≡ WriteFault.NoMemory) }
     {
@@ -144,7 +145,8 @@ impl Function {
     /// The normal spelling of the locals and the operators, which reads back as this function.
     pub(crate) fn as_bytes(&self) -> &[u8]
         ensures value { result.now ≡ normal (function_body self.now) }
-        ensures spells { ∥ Spells body_shape (normal (function_body self.now)) (function_body self.now) ∥₁ }
+        ensures spells { ∥ Spells body_shape (normal (function_body self.now))
+            (function_body self.now) ∥₁ }
     {
         &self.bytes
     }

@@ -175,9 +175,11 @@ pub(crate) fn write_operator(
     imms: &[Imm<'_>],
 ) -> Result<(), NoMemory>
     requires { ∥ HasKinds opcode (map imm_kind imms.now) ∥₁ }
-    ensures ok { OnOk result (out.new.items ≡ out.old.items ++ normal (operator_tree opcode imms.now)) }
+    ensures ok { OnOk result
+        (out.new.items ≡ out.old.items ++ normal (operator_tree opcode imms.now)) }
     ensures spells { OnOk result
-        (∥ Spells (Shape.op true) (normal (operator_tree opcode imms.now)) (operator_tree opcode imms.now) ∥₁) }
+        (∥ Spells (Shape.op true) (normal (operator_tree opcode imms.now))
+        (operator_tree opcode imms.now) ∥₁) }
     ensures err { OnErr result (take (vec_len out.old) out.new.items ≡ out.old.items) }
 {
     match write_opcode(out, opcode) {

@@ -107,7 +107,8 @@ fn front_offset(bytes: &[u8]) -> Option<(u64, bool, &[u8])>
 #[inline(always)]
 fn front_access(bytes: &[u8]) -> Option<(u8, u64, bool, &[u8])>
     ensures begins { IfSome result (λ r. Begins Shape.mem bytes.now (Tree.mem r.0 0 r.1) r.3.now) }
-    ensures short { IfSome result (λ r. IsTrue r.2 → bytes.now ≡ normal (Tree.mem r.0 0 r.1) ++ r.3.now) }
+    ensures short { IfSome result
+        (λ r. IsTrue r.2 → bytes.now ≡ normal (Tree.mem r.0 0 r.1) ++ r.3.now) }
     ensures small { IfSome result (λ r. r.0 < 64) }
 {
     match front_byte(bytes) {
