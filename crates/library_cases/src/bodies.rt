@@ -2,22 +2,49 @@
 use crate::stop::Stop;
 use crate::text::{add, add_refusal, add_word};
 use std::alloc::{AllocError, Global};
-use std::fmt::Write;
+use std::fmt::{Debug, Write};
 use wasm_read::{FunctionBody, Imm, Operator, OperatorsReader};
 
-/// Adds an immediate of the rows in force.
+/// Adds a value behind a word for what it is.
+fn add_as<T: Debug>(text: &mut String, what: &str, value: &T) -> Result<(), AllocError> {
+    add_word(text, what)?;
+    add(text, value)
+}
+
+/// Adds an immediate.
 fn add_imm(text: &mut String, imm: &Imm<'_>) -> Result<(), AllocError> {
     match imm {
+        Imm::Block(ty) => add_as(text, "block", ty),
+        Imm::Label(label) => add_as(text, "label", label),
+        Imm::Labels { targets, default } => {
+            add_as(text, "labels", &targets.as_slice())?;
+            add(text, default)
+        }
         Imm::Index(space, index) => {
             add(text, space)?;
             add(text, index)
         }
-        Imm::Local(local) => {
-            add_word(text, "local")?;
-            add(text, local)
-        }
+        Imm::Local(local) => add_as(text, "local", local),
+        Imm::Field(field) => add_as(text, "field", field),
+        Imm::Size(size) => add_as(text, "size", size),
+        Imm::Types(types) => add_as(text, "types", &types.as_slice()),
+        Imm::Mem(arg) => add(text, arg),
         Imm::S32(number) => add(text, number),
-        _ => add_word(text, "other"),
+        Imm::S64(number) => add(text, number),
+        Imm::Four(bits) => add(text, bits),
+        Imm::Eight(bits) => add(text, bits),
+        Imm::Sixteen(bytes) => add_as(text, "sixteen", bytes),
+        Imm::Lanes(lanes) => add_as(text, "lanes", lanes),
+        Imm::Lane(lane) => add_as(text, "lane", lane),
+        Imm::Heap(ty) => add_as(text, "heap", ty),
+        Imm::Catches(catches) => add_as(text, "catches", &catches.as_slice()),
+        Imm::Cast { label, from, to } => {
+            add_as(text, "cast", label)?;
+            add(text, from)?;
+            add(text, to)
+        }
+        Imm::Handlers(handlers) => add_as(text, "handlers", &handlers.as_slice()),
+        Imm::Zero => add_word(text, "zero"),
     }
 }
 

@@ -1,13 +1,16 @@
-//! Whole modules.
+//! Whole modules, and operators.
 use crate::case::number;
 use crate::stop::{Stop, refusal};
 use crate::text::{add, add_bytes, add_word};
 use default_renamer::DefaultRenamer;
 use reencode_core::{Reencode, reencode_core};
-use reencode_hooks::{Asked, Renamer, RoundtripReencoder};
+use reencode_hooks::{Asked, Error, Renamer, RoundtripReencoder};
 use std::alloc::{AllocError, Global};
 use std::fmt::Display;
+use wasm_leb::NoMemory;
+use wasm_read::{CodeSectionReader, FunctionBody};
 use wasm_shapes::Space;
+use wasm_write::{CodeSection, Section};
 
 /// All that is counted, in the order in which counts are told.
 const COUNTED: [Asked; 19] = [
@@ -54,7 +57,14 @@ fn space(word: &str) -> Result<Space, Stop> {
     Err(Stop::Unread)
 }
 
-/// How a module is re-encoded.
+/// What is re-encoded: a whole module, or the operators of a body without locals.
+#[derive(Clone, Copy)]
+enum What {
+    Module,
+    Operators,
+}
+
+/// How it is re-encoded.
 #[derive(Drop)]
 struct Way {
     renamer: Renamer,
@@ -110,10 +120,44 @@ fn add_counts(text: &mut String, renamer: &Renamer) -> Result<(), AllocError> {
     Ok(())
 }
 
-/// What comes of a module: its bytes, or the refusal.
+/// Some bytes behind others in memory of their own.
+fn joined(alloc: Global, front: &[u8], back: &[u8]) -> Result<Vec<u8>, NoMemory> {
+    let mut bytes = Vec::new(alloc);
+    match bytes.extend_from_slice(front) {
+        Ok(()) => match bytes.extend_from_slice(back) {
+            Ok(()) => Ok(bytes),
+            Err(_) => Err(NoMemory),
+        },
+        Err(_) => Err(NoMemory),
+    }
+}
+
+/// The operators of a body without locals, re-encoded.
+fn reencode_operators<R: Reencode>(
+    alloc: Global,
+    reencoder: &mut R,
+    operators: &[u8],
+    ceiling: u32,
+) -> Result<Vec<u8>, Error<R::Error>> {
+    let body = joined(alloc, &[0], operators)?;
+    let mut code = CodeSection::new(alloc, ceiling);
+    let func = FunctionBody {
+        bytes: body.as_slice(),
+    };
+    reencoder.parse_function_body(alloc, &mut code, func)?;
+    let mut section = Vec::new(alloc);
+    code.encode_body(&mut section)?;
+    match CodeSectionReader::new(section.as_slice())?.next_row(alloc)? {
+        Some(func) => Ok(joined(alloc, &[], func.operators()?.rest())?),
+        None => Ok(Vec::new(alloc)),
+    }
+}
+
+/// What comes of it: its bytes, or the refusal.
 fn made<R: Reencode>(
     alloc: Global,
     reencoder: &mut R,
+    what: What,
     bytes: &[u8],
     ceiling: u32,
 ) -> Result<String, AllocError>
@@ -121,7 +165,11 @@ where
     R::Error: Display + Drop,
 {
     let mut text = String::new(alloc);
-    match reencode_core(alloc, reencoder, bytes, ceiling) {
+    let made = match what {
+        What::Module => reencode_core(alloc, reencoder, bytes, ceiling),
+        What::Operators => reencode_operators(alloc, reencoder, bytes, ceiling),
+    };
+    match made {
         Ok(bytes) => add_bytes(alloc, &mut text, bytes.as_slice())?,
         Err(e) => add_word(&mut text, refusal(alloc, &e)?.as_str())?,
     }
@@ -137,38 +185,55 @@ fn compare(text: &mut String, other: &str) -> Result<(), AllocError> {
     add_word(text, other)
 }
 
-/// What comes of a module by a renamer of these words, where it overrides nothing.
-fn renamed_by_default(alloc: Global, words: &str, bytes: &[u8]) -> Result<String, Stop> {
+/// What comes of it by a renamer of these words, where it overrides nothing.
+fn renamed_by_default(
+    alloc: Global,
+    what: What,
+    words: &str,
+    bytes: &[u8],
+) -> Result<String, Stop> {
     let way = way_of(alloc, words)?;
     let mut renamer = DefaultRenamer {
         renamer: way.renamer,
     };
-    let mut text = made(alloc, &mut renamer, bytes, way.ceiling)?;
+    let mut text = made(alloc, &mut renamer, what, bytes, way.ceiling)?;
     if way.is_counted {
         add_counts(&mut text, &renamer.renamer)?;
     }
     Ok(text)
 }
 
-/// What comes of a module that is renamed.
-fn renamed(alloc: Global, words: &str, bytes: &[u8]) -> Result<String, Stop> {
+/// What comes of it where it is renamed.
+fn renamed(alloc: Global, what: What, words: &str, bytes: &[u8]) -> Result<String, Stop> {
     let mut way = way_of(alloc, words)?;
-    let mut text = made(alloc, &mut way.renamer, bytes, way.ceiling)?;
+    let mut text = made(alloc, &mut way.renamer, what, bytes, way.ceiling)?;
     if way.is_counted {
         add_counts(&mut text, &way.renamer)?;
     }
-    compare(&mut text, renamed_by_default(alloc, words, bytes)?.as_str())?;
+    compare(
+        &mut text,
+        renamed_by_default(alloc, what, words, bytes)?.as_str(),
+    )?;
     Ok(text)
 }
 
 /// What comes of a module that is re-encoded as it is.
 fn roundtripped(alloc: Global, bytes: &[u8]) -> Result<String, Stop> {
-    let mut text = made(alloc, &mut RoundtripReencoder, bytes, u32::MAX)?;
-    compare(&mut text, renamed_by_default(alloc, "", bytes)?.as_str())?;
+    let mut text = made(
+        alloc,
+        &mut RoundtripReencoder,
+        What::Module,
+        bytes,
+        u32::MAX,
+    )?;
+    compare(
+        &mut text,
+        renamed_by_default(alloc, What::Module, "", bytes)?.as_str(),
+    )?;
     Ok(text)
 }
 
-/// What comes of a module that is re-encoded.
+/// What comes of a module, or of operators, re-encoded.
 pub fn answer(
     alloc: Global,
     call: &str,
@@ -176,7 +241,8 @@ pub fn answer(
     bytes: &[u8],
 ) -> Result<Option<String>, Stop> {
     match call {
-        "rename" => Ok(Some(renamed(alloc, words, bytes)?)),
+        "rename" => Ok(Some(renamed(alloc, What::Module, words, bytes)?)),
+        "operators" => Ok(Some(renamed(alloc, What::Operators, words, bytes)?)),
         "roundtrip" => Ok(Some(roundtripped(alloc, bytes)?)),
         _ => Ok(None),
     }

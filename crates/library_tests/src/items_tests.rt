@@ -1,5 +1,7 @@
-//! Each call on an item, as a method and as a function, at a renamer that makes type 1 type 11 and function 2
-//! function 22.
+//! Each call on an item, as a method and as a function, at a renamer that makes type 1 type 11, function 2 function 22,
+//! memory 0 memory 10 and tag 3 tag 33.
+ghost use Rattle.std.specs.Prelude.{◌≡◌, ◌∷◌, [], IfOk};
+
 use reencode_hooks::{Asked, Error, Renamer, RoundtripReencoder};
 use reencode_items::{ReencodeItems, utils};
 use std::alloc::Global;
@@ -13,6 +15,8 @@ fn renamer(alloc: Global) -> Result<Renamer, NoMemory> {
     let mut renamer = Renamer::new(alloc);
     renamer.set(Space::Type_, 1, 11)?;
     renamer.set(Space::Function, 2, 22)?;
+    renamer.set(Space::Memory, 0, 10)?;
+    renamer.set(Space::Tag, 3, 33)?;
     Ok(renamer)
 }
 
@@ -281,6 +285,150 @@ fn externals(rt: HostRuntime) -> Result<(), Fail> {
     assert_eq!(rt; renamer.count(Asked::Of(Space::Type_)), 8);
     assert_eq!(rt; externals_by_functions(&mut renamer).ok(), Some([true; 8]));
     assert_eq!(rt; renamer.count(Asked::Of(Space::Type_)), 13);
+    Ok(())
+}
+
+const ACCESS: r::MemArg = r::MemArg {
+    align: 2,
+    memory: 0,
+    offset: 8,
+};
+
+const WRITTEN_ACCESS: w::MemArg = w::MemArg {
+    align: 2,
+    memory: 10,
+    offset: 8,
+};
+
+const CATCH: r::Catch = r::Catch::One { tag: 3, label: 3 };
+
+const WRITTEN_CATCH: w::Catch = w::Catch::One { tag: 33, label: 3 };
+
+const HANDLE: r::Handle = r::Handle::OnLabel { tag: 3, label: 3 };
+
+const WRITTEN_HANDLE: w::Handle = w::Handle::OnLabel { tag: 33, label: 3 };
+
+/// The calls on parts of immediates as methods.
+fn parts_by_methods<R: ReencodeItems>(of: &mut R) -> Result<[bool; 7], Error<R::Error>> {
+    Ok([
+        of.mem_arg(ACCESS)? == WRITTEN_ACCESS,
+        of.catch(CATCH)? == WRITTEN_CATCH,
+        of.catch(r::Catch::All { label: 3 })? == w::Catch::All { label: 3 },
+        of.handle(HANDLE)? == WRITTEN_HANDLE,
+        of.ordering(r::Ordering::AcqRel)? == w::Ordering::AcqRel,
+        of.ieee32_arg(r::Ieee32(7))? == w::Ieee32(7),
+        of.ieee64_arg(r::Ieee64(7))? == w::Ieee64(7),
+    ])
+}
+
+/// The same as functions.
+fn parts_by_functions<R: ReencodeItems>(of: &mut R) -> Result<[bool; 7], Error<R::Error>> {
+    Ok([
+        utils::mem_arg(of, ACCESS)? == WRITTEN_ACCESS,
+        utils::catch(of, CATCH)? == WRITTEN_CATCH,
+        utils::catch(of, r::Catch::AllRef { label: 3 })? == w::Catch::AllRef { label: 3 },
+        utils::handle(of, HANDLE)? == WRITTEN_HANDLE,
+        utils::ordering(of, r::Ordering::AcqRel) == w::Ordering::AcqRel,
+        utils::ieee32_arg(of, r::Ieee32(7)) == w::Ieee32(7),
+        utils::ieee64_arg(of, r::Ieee64(7)) == w::Ieee64(7),
+    ])
+}
+
+#[test]
+fn parts(rt: HostRuntime) -> Result<(), Fail> {
+    let mut renamer = renamer(rt.alloc())?;
+    assert_eq!(rt; parts_by_methods(&mut renamer).ok(), Some([true; 7]));
+    assert_eq!(rt; parts_by_functions(&mut renamer).ok(), Some([true; 7]));
+    assert_eq!(rt; renamer.count(Asked::Of(Space::Memory)), 2);
+    assert_eq!(rt; renamer.count(Asked::Of(Space::Tag)), 4);
+    Ok(())
+}
+
+/// A list of one item.
+fn one<T: Drop>(alloc: Global, item: T) -> Result<List<T>, NoMemory>
+    ensures { IfOk result (λ items. items ≡ item ∷ []) }
+{
+    let mut items = List::with_capacity(alloc, 1)?;
+    items.push(item)?;
+    Ok(items)
+}
+
+/// Immediates whose parts are mapped.
+fn immediates_by_parts<R: ReencodeItems>(
+    of: &mut R,
+    alloc: Global,
+) -> Result<[bool; 5], Error<R::Error>> {
+    let access = of.immediate(alloc, r::Imm::Mem(ACCESS))?;
+    let types = of.immediate(
+        alloc,
+        r::Imm::Types(one(alloc, r::ValType::Ref(REFERENCE))?),
+    )?;
+    let catches = utils::immediate(of, alloc, r::Imm::Catches(one(alloc, CATCH)?))?;
+    let handlers = of.immediate(alloc, r::Imm::Handlers(one(alloc, HANDLE)?))?;
+    let bits = of.immediate(alloc, r::Imm::Eight(r::Ieee64(7)))?;
+    Ok([
+        matches!(access, w::Imm::Mem(access) if access == WRITTEN_ACCESS),
+        matches!(types, w::Imm::Types(types) if types.as_slice() == [w::ValType::Ref(WRITTEN)].as_slice()),
+        matches!(catches, w::Imm::Catches(catches) if catches.as_slice() == [WRITTEN_CATCH].as_slice()),
+        matches!(handlers, w::Imm::Handlers(handlers) if handlers.as_slice() == [WRITTEN_HANDLE].as_slice()),
+        matches!(bits, w::Imm::Eight(bits) if bits == w::Ieee64(7)),
+    ])
+}
+
+/// Immediates that hold block types and heap types, and one that stays.
+fn immediates_by_types<R: ReencodeItems>(
+    of: &mut R,
+    alloc: Global,
+) -> Result<[bool; 4], Error<R::Error>> {
+    let block = of.immediate(alloc, r::Imm::Block(r::BlockType::FuncType(1)))?;
+    let heap = of.immediate(alloc, r::Imm::Heap(r::HeapType::Concrete(ONE)))?;
+    let cast = r::Imm::Cast {
+        label: 1,
+        from: REFERENCE,
+        to: r::RefType {
+            nullable: false,
+            heap_type: r::HeapType::Exact(ONE),
+        },
+    };
+    let cast = utils::immediate(of, alloc, cast)?;
+    let targets = one(alloc, 3)?;
+    let labels = r::Imm::Labels {
+        targets,
+        default: 1,
+    };
+    let labels = of.immediate(alloc, labels)?;
+    Ok([
+        matches!(block, w::Imm::Block(w::BlockType::FunctionType(11))),
+        matches!(heap, w::Imm::Heap(w::HeapType::Concrete(11))),
+        matches!(
+            cast,
+            w::Imm::Cast {
+                label: 1,
+                from: WRITTEN,
+                to: w::RefType {
+                    nullable: false,
+                    heap_type: w::HeapType::Exact(11)
+                }
+            }
+        ),
+        matches!(labels, w::Imm::Labels { targets, default: 1 } if targets.as_slice() == [3].as_slice()),
+    ])
+}
+
+#[test]
+fn immediates(rt: HostRuntime) -> Result<(), Fail> {
+    let mut renamer = renamer(rt.alloc())?;
+    assert_eq!(rt;
+        immediates_by_parts(&mut renamer, rt.alloc()).ok(),
+        Some([true; 5])
+    );
+    assert_eq!(rt;
+        immediates_by_types(&mut renamer, rt.alloc()).ok(),
+        Some([true; 4])
+    );
+    assert_eq!(rt; renamer.count(Asked::Of(Space::Memory)), 1);
+    assert_eq!(rt; renamer.count(Asked::Of(Space::Tag)), 2);
+    assert_eq!(rt; renamer.count(Asked::Of(Space::Type_)), 5);
     Ok(())
 }
 

@@ -2,36 +2,45 @@
 use std::test::Fail;
 use wasm_shapes::{
     BLOCK, BR, CALL, CALL_INDIRECT, DROP, END, GLOBAL_GET, I32_ADD, I32_CONST, I32_LOAD, ImmKind,
-    LOCAL_GET, NOP, REF_FUNC, SectionId, Space, UNREACHABLE, row_of,
+    LOCAL_GET, NOP, Opcode, REF_FUNC, SectionId, Space, UNREACHABLE, row_of,
 };
 
 #[test]
 fn operators_in_force(rt: HostRuntime) -> Result<(), Fail> {
-    // The numbers of the operators and the kinds of their immediates, by the public standard.
+    // The numbers of the operators and the first of their immediates, by the public standard.
     for (opcode, byte, kind) in [
+        (UNREACHABLE, 0x00, None),
+        (NOP, 0x01, None),
+        (BLOCK, 0x02, Some(ImmKind::Block)),
         (END, 0x0b, None),
+        (BR, 0x0c, Some(ImmKind::Label)),
         (CALL, 0x10, Some(ImmKind::Index(Space::Function))),
+        (CALL_INDIRECT, 0x11, Some(ImmKind::Index(Space::Type_))),
+        (DROP, 0x1a, None),
         (LOCAL_GET, 0x20, Some(ImmKind::Local)),
+        (GLOBAL_GET, 0x23, Some(ImmKind::Index(Space::Global))),
+        (I32_LOAD, 0x28, Some(ImmKind::Mem)),
         (I32_CONST, 0x41, Some(ImmKind::S32)),
         (I32_ADD, 0x6a, None),
+        (REF_FUNC, 0xd2, Some(ImmKind::Index(Space::Function))),
     ] {
         assert_eq!(rt; opcode.sub, byte);
         let kinds = row_of(opcode).ok_or("a row")?;
         assert_eq!(rt; kinds.first().copied(), kind);
     }
-    // No operator of the tables in force.
-    for opcode in [
-        UNREACHABLE,
-        NOP,
-        BLOCK,
-        BR,
-        CALL_INDIRECT,
-        DROP,
-        GLOBAL_GET,
-        I32_LOAD,
-        REF_FUNC,
+    // No operator has these numbers.
+    for (prefix, sub) in [
+        (0, 0x16),
+        (0, 0xfb),
+        (0, 0x100),
+        (0xfb, 31),
+        (0xfc, 18),
+        (0xfd, 154),
+        (0xfd, 276),
+        (0xfe, 4),
+        (0xff, 0),
     ] {
-        assert!(rt; row_of(opcode).is_none());
+        assert!(rt; row_of(Opcode { prefix, sub }).is_none());
     }
     Ok(())
 }

@@ -1,10 +1,8 @@
 -- The walks over composite types and subtypes, by those over the parts that have a call of their own.
-use Rattle.std.proofs.Common.{◌≡◌, ℕ, Bool, true, false, List, Option, Some, None, refl}
+use Rattle.std.proofs.Common.{◌≡◌, ℕ, Bool, true, false, Option, Some, None, refl}
 use Rattle.wasm_shapes.specs.declared.Visit.{Visit}
 use Rattle.wasm_shapes.specs.Tree.{Tree, visits}
 use Rattle.wasm_shapes.specs.Types.{behind_descriptor, behind_described, shared_composite_tree}
-use Rattle.wasm_read.specs.declared.types.CompositeType.{CompositeType}
-use Rattle.wasm_read.specs.Types as read
 use Rattle.reencode_hooks.specs.declared.error.Error.{Error}
 use Rattle.reencode_hooks.specs.Run.{Step, accepted, refused, and_then, Visited}
 use Rattle.reencode_hooks.specs.Walk.{walk}

@@ -90,6 +90,16 @@ module _ {S E A B : Type 0} {asked : S → Visit → Step S (Error E) ℕ} {keep
       walk asked c s0 (rows_tree (map read items)) ≡ accepted (rows_tree (map write made)) s
   rows_accept {items = items} {i = i} c done e all k = let none : drop i items ≡ [] = rw (← e) (drop_all i _ all) in done.walks k c ∙ rw none refl
 
+  pub items_accept : {s0 s : S} {items slice : List A} {i : ℕ} {made : List B} (c : ℕ) →
+      ItemsDone asked keeps read write s0 items i s made → slice ≡ items → length slice ≤ i → IsTrue keeps →
+      walk asked c s0 (vector_tree (map read items)) ≡ accepted (vector_tree (map write made)) s
+  items_accept c done e all k = rw (rows_accept c done e all k) refl
+
+  -- as many were made
+  pub items_counted : {s0 s : S} {items slice : List A} {i : ℕ} {made : List B} →
+      ItemsDone asked keeps read write s0 items i s made → slice ≡ items → length slice ≤ i → i ≤ length slice → length made ≡ length items
+  items_counted done e all some = rw (← e) (let so_far = done.counted in omega (arith, so_far, all, some))
+
   -- The item at the place was asked in part: it was refused, or it was accepted.
   items_leave : {s0 s m : S} {items slice : List A} {i : ℕ} {made : List B} (d : A) →
       ItemsDone asked keeps read write s0 items i s made → slice ≡ items → i < length slice → IsTrue keeps →

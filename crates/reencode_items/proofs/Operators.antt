@@ -1,14 +1,13 @@
 -- The walks over operators and their immediates.
-use Rattle.std.proofs.Common.{◌≡◌, ℕ, ◌+◌, ◌&&◌, nat_le, Bool, true, false, if◌then◌else◌, List, [], ◌∷◌, ◌++◌, length, Option, Some, None, Result, Ok, Err, refl, sym, ap, ◌∙◌, subst, append_assoc, append-nil, arith}
-use Rattle.std.specs.Prelude.{map, IsTrue}
+use Rattle.std.proofs.Common.{◌≡◌, ℕ, ◌+◌, Bool, true, List, [], ◌∷◌, ◌++◌, length, Option, Some, None, Result, Ok, Err, refl, sym, ap, ◌∙◌, subst, append_assoc, append-nil, arith}
+use Rattle.std.specs.Prelude.{map, IsTrue, IsSome}
 use Rattle.std.proofs.lemmas.List.{map-append}
 use Rattle.wasm_shapes.specs.declared.Visit.{Visit}
 use Rattle.wasm_shapes.specs.declared.ImmKind.{ImmKind}
 use Rattle.wasm_shapes.specs.declared.Opcode.{Opcode}
-use Rattle.wasm_shapes.specs.Operators.{Code, plain, prefixed, Operators, look_up, kinds_among, kinds_of, code_of, one_byte_operators, prefixed_operators}
+use Rattle.wasm_shapes.specs.Operators.{Code, kinds_of}
 use Rattle.wasm_shapes.specs.Immediates.{AreOfRow, HasKinds}
 use Rattle.wasm_shapes.specs.Tree.{Tree, visits}
-use Rattle.wasm_shapes.proofs.Lists.{both}
 use Rattle.wasm_leb.specs.declared.fault.ReadError.{ReadError}
 use Rattle.wasm_shapes.specs.Shape.{Shape}
 use Rattle.wasm_shapes.specs.Place.{Begins}
@@ -25,56 +24,29 @@ use Rattle.reencode_hooks.specs.Walk.{walk}
 use Rattle.reencode_hooks.specs.Moments.{Moment, asks, closes, lost, Ends}
 use Rattle.reencode_hooks.proofs.Walks.{walk_stops}
 use Rattle.reencode_hooks.proofs.Leaving.{first_visited, second_visited}
-use Rattle.reencode_items.specs.Immediates.{is_mapped_kind, has_mapped, is_mapped}
 
 -- ---- the kinds of a row
 
-abbrev are_mapped : List ImmKind → Bool
-are_mapped [] = true
-are_mapped (k ∷ ks) = is_mapped_kind k && are_mapped ks
+-- each of these immediates has a kind
+abbrev pub AllKinds : List ReadImm → Type 0
+AllKinds [] = Unit {0}
+AllKinds (m ∷ ms) = IsSome (read.imm_kind m) × AllKinds ms
 
-abbrev rows_are_mapped : List Operators → Bool
-rows_are_mapped [] = true
-rows_are_mapped (o ∷ os) = are_mapped o.kinds && rows_are_mapped os
-
-row_mapped : (os : List Operators) (n : ℕ) (ks : List ImmKind) → rows_are_mapped os ≡ true → look_up os n ≡ Some ks → are_mapped ks ≡ true
-row_mapped [] n ks h e = absurd cc
-row_mapped (o ∷ os) n ks h e =
-    let parts : (are_mapped o.kinds ≡ true) × (rows_are_mapped os ≡ true) = both _ _ h in
-    go (nat_le o.from n && nat_le n o.to) parts.0 e (row_mapped os n ks parts.1)
-  where
-    go : (p : Bool) → are_mapped o.kinds ≡ true → (if p then Some o.kinds else look_up os n) ≡ Some ks → (look_up os n ≡ Some ks → are_mapped ks ≡ true) → are_mapped ks ≡ true
-    go true h e others = let same : o.kinds ≡ ks = cc in subst (λ (z : List ImmKind). are_mapped z ≡ true) same h
-    go false h e others = others e
-
-prefixed_mapped : (p : ℕ) → rows_are_mapped (prefixed_operators p) ≡ true
-prefixed_mapped p = refl
-
-kinds_mapped : (c : Code) (ks : List ImmKind) → kinds_among true c ≡ Some ks → are_mapped ks ≡ true
-kinds_mapped (plain b) ks e = row_mapped (one_byte_operators true) b ks refl e
-kinds_mapped (prefixed p n) ks e = row_mapped (prefixed_operators p) n ks (prefixed_mapped p) e
-
--- each of these immediates is mapped
-abbrev pub AllMapped : List ReadImm → Type 0
-AllMapped [] = Unit {0}
-AllMapped (m ∷ ms) = (is_mapped m ≡ true) × AllMapped ms
-
-all_mapped : (ks : List ImmKind) (ms : List ReadImm) → are_mapped ks ≡ true → map read.imm_kind ms ≡ map Some ks → AllMapped ms
-all_mapped ks [] h f = tt
-all_mapped [] (m ∷ ms) h f = absurd cc
-all_mapped (k ∷ ks) (m ∷ ms) h f =
-    let parts : (is_mapped_kind k ≡ true) × (are_mapped ks ≡ true) = both _ _ h in
+all_some : (ks : List ImmKind) (ms : List ReadImm) → map read.imm_kind ms ≡ map Some ks → AllKinds ms
+all_some ks [] f = tt
+all_some [] (m ∷ ms) f = absurd cc
+all_some (k ∷ ks) (m ∷ ms) f =
     let first : read.imm_kind m ≡ Some k = cc in
     let others : map read.imm_kind ms ≡ map Some ks = cc in
-    (ap has_mapped first ∙ parts.0, all_mapped ks ms parts.1 others)
+    (rw first refl, all_some ks ms others)
 
--- the immediates of an operator are mapped
-pub operator_mapped : (op : Opcode) (ms : List ReadImm) → HasKinds op (map read.imm_kind ms) → AllMapped ms
-operator_mapped op ms f = go (kinds_of op) refl f
+-- the immediates of an operator have kinds
+pub operator_kinds : (op : Opcode) (ms : List ReadImm) → HasKinds op (map read.imm_kind ms) → AllKinds ms
+operator_kinds op ms f = go (kinds_of op) f
   where
-    go : (o : Option (List ImmKind)) → kinds_of op ≡ o → AreOfRow o (map read.imm_kind ms) → AllMapped ms
-    go (Some ks) e f = all_mapped ks ms (kinds_mapped (code_of op) ks e) f
-    go None e f = absurd f
+    go : (o : Option (List ImmKind)) → AreOfRow o (map read.imm_kind ms) → AllKinds ms
+    go (Some ks) f = all_some ks ms f
+    go None f = absurd f
 
 -- ---- immediates one behind another
 
@@ -87,13 +59,13 @@ abbrev onto_pairs : {S E : Type 0} → List Tree → Step S E Tree → Step S E 
 onto_pairs ts step = and_then step (λ u m. accepted (pairs_then ts u) m)
 
 -- Of the immediates of an operator those in front were mapped one by one, each to one of its kind, and so many are left, which
--- are mapped too. Where the defaults are kept, the first were walked, to what is made so far and this state, and the rest is
+-- have kinds too. Where the defaults are kept, the first were walked, to what is made so far and this state, and the rest is
 -- walked from here.
 pub record ImmsDone {S E : Type 0} (asked : S → Visit → Step S (Error E) ℕ) (keeps : Bool) (s0 : S) (imms gone rest : List ReadImm) (count : ℕ)
     (s : S) (made : List WrittenImm) : Type 0 where
   pub parts : gone ++ rest ≡ imms
   pub counted : count ≡ length rest
-  pub all_mapped : AllMapped rest
+  pub all_have : AllKinds rest
   pub kinds : map write.imm_kind made ≡ map read.imm_kind gone
   pub walks : IsTrue keeps → (c : ℕ) → walk asked c s0 (read.imms_tree imms) ≡ onto_pairs (map write.imm_tree made) (walk asked c s (read.imms_tree rest))
   -- what was asked of the rest was asked behind the first
@@ -124,11 +96,11 @@ none_left (x ∷ xs) h = absurd (omega arith)
 
 module _ {S E : Type 0} {asked : S → Visit → Step S (Error E) ℕ} {keeps : Bool} where
   pub imms_begin : {imms rest : List ReadImm} {count : ℕ} {made : List WrittenImm} (s : S) →
-      AllMapped imms → rest ≡ imms → count ≡ length rest → made ≡ [] → ImmsDone asked keeps s imms [] rest count s made
-  imms_begin {imms} s mapped all many none = record {
+      AllKinds imms → rest ≡ imms → count ≡ length rest → made ≡ [] → ImmsDone asked keeps s imms [] rest count s made
+  imms_begin {imms} s have all many none = record {
     parts = all;
     counted = many;
-    all_mapped = rw all mapped;
+    all_have = rw all have;
     kinds = rw none refl;
     walks = λ k c. rw (all, none) (onto_nothing (walk asked c s (read.imms_tree imms)));
     onward = λ k m v. let P : List ReadImm → Type 0 = λ z. Visited asked s (visits (read.imms_tree z)) m in subst P all v;
@@ -136,8 +108,8 @@ module _ {S E : Type 0} {asked : S → Visit → Step S (Error E) ℕ} {keeps : 
 
   module _ {s0 s : S} {imms gone rest others : List ReadImm} {count : ℕ} {made : List WrittenImm} (x : ReadImm)
       (done : ImmsDone asked keeps s0 imms gone rest count s made) (next : rest ≡ x ∷ others) where
-    pub next_mapped : is_mapped x ≡ true
-    next_mapped = (subst AllMapped next done.all_mapped).0
+    pub next_has : IsSome (read.imm_kind x)
+    next_has = (subst AllKinds next done.all_have).0
 
     pub imms_more : {m : S} {more : List WrittenImm} {n : ℕ} (b : WrittenImm) → count ≡ n + 1 → write.imm_kind b ≡ read.imm_kind x →
         (IsTrue keeps → (c : ℕ) → walk asked c s (read.imm_tree x) ≡ accepted (write.imm_tree b) m) → more ≡ made ++ b ∷ [] →
@@ -145,7 +117,7 @@ module _ {S E : Type 0} {asked : S → Visit → Step S (Error E) ℕ} {keeps : 
     imms_more {m = m} b fewer kind step pushed = record {
       parts = append_assoc gone (x ∷ []) others ∙ rw (← next) done.parts;
       counted = let many = done.counted in let short = ap length next in omega arith;
-      all_mapped = (subst AllMapped next done.all_mapped).1;
+      all_have = (subst AllKinds next done.all_have).1;
       kinds = rw (pushed, map-append write.imm_kind made (b ∷ []), map-append read.imm_kind gone (x ∷ [])) (rw (done.kinds, kind) refl);
       walks = λ k c.
           let tail : Step S (Error E) Tree = walk asked c m (read.imms_tree others) in

@@ -1,2 +1,2 @@
-pub mod Immediates
 pub mod Maps
+pub mod Orderings

@@ -225,6 +225,61 @@ macro_rules! block_type {
     };
 }
 
+macro_rules! immediate {
+    ($reencoder:ident, $alloc:ident, $imm:ident) => {
+        match $imm {
+            r::Imm::Block(ty) => Ok(w::Imm::Block($reencoder.block_type(ty)?)),
+            r::Imm::Label(label) => Ok(w::Imm::Label(label)),
+            r::Imm::Labels { targets, default } => Ok(w::Imm::Labels { targets, default }),
+            r::Imm::Index(space, index) => Ok(w::Imm::Index(
+                space,
+                indices::core_index($reencoder, space, index)?,
+            )),
+            r::Imm::Local(local) => Ok(w::Imm::Local(local)),
+            r::Imm::Field(field) => Ok(w::Imm::Field(field)),
+            r::Imm::Size(size) => Ok(w::Imm::Size(size)),
+            r::Imm::Types(types) => Ok(w::Imm::Types($reencoder.val_types($alloc, types)?)),
+            r::Imm::Mem(arg) => Ok(w::Imm::Mem($reencoder.mem_arg(arg)?)),
+            r::Imm::S32(number) => Ok(w::Imm::S32(number)),
+            r::Imm::S64(number) => Ok(w::Imm::S64(number)),
+            r::Imm::Four(arg) => Ok(w::Imm::Four($reencoder.ieee32_arg(arg)?)),
+            r::Imm::Eight(arg) => Ok(w::Imm::Eight($reencoder.ieee64_arg(arg)?)),
+            r::Imm::Sixteen(bytes) => Ok(w::Imm::Sixteen(bytes)),
+            r::Imm::Lanes(lanes) => Ok(w::Imm::Lanes(lanes)),
+            r::Imm::Lane(lane) => Ok(w::Imm::Lane(lane)),
+            r::Imm::Heap(ty) => Ok(w::Imm::Heap($reencoder.heap_type(ty)?)),
+            r::Imm::Catches(catches) => {
+                let mut mapped = List::with_capacity($alloc, catches.len())?;
+                for arg in catches.as_slice() {
+                    let arg = $reencoder.catch(*arg)?;
+                    mapped.push(arg)?;
+                }
+                Ok(w::Imm::Catches(mapped))
+            }
+            r::Imm::Cast { label, from, to } => {
+                let from = w::RefType {
+                    nullable: from.nullable,
+                    heap_type: $reencoder.heap_type(from.heap_type)?,
+                };
+                let to = w::RefType {
+                    nullable: to.nullable,
+                    heap_type: $reencoder.heap_type(to.heap_type)?,
+                };
+                Ok(w::Imm::Cast { label, from, to })
+            }
+            r::Imm::Handlers(handlers) => {
+                let mut mapped = List::with_capacity($alloc, handlers.len())?;
+                for on in handlers.as_slice() {
+                    let on = $reencoder.handle(*on)?;
+                    mapped.push(on)?;
+                }
+                Ok(w::Imm::Handlers(mapped))
+            }
+            r::Imm::Zero => Ok(w::Imm::Zero),
+        }
+    };
+}
+
 macro_rules! instruction {
     ($reencoder:ident, $alloc:ident, $arg:ident) => {
         {
@@ -258,6 +313,7 @@ pub(crate) use field_type;
 pub(crate) use func_type;
 pub(crate) use global_type;
 pub(crate) use heap_type;
+pub(crate) use immediate;
 pub(crate) use instruction;
 pub(crate) use parse_instruction;
 pub(crate) use ref_type;

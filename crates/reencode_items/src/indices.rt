@@ -1,13 +1,12 @@
-//! What the hooks of a reencoder map by themselves: indices, and the immediates of operators.
-ghost use Rattle.std.specs.Prelude.{◌≡◌, IsTrue, IfOk, true};
-ghost use Rattle.reencode_hooks.specs.Run.{LeavesVisited, NeverWants, ask};
-ghost use Rattle.wasm_read.specs.declared.types.Imm.TheVariants as imm;
+//! What the hooks of a reencoder map by themselves: indices, and what holds one index.
+ghost use Rattle.std.specs.Prelude.{◌≡◌, true};
+ghost use Rattle.reencode_hooks.specs.Run.{NeverWants};
 ghost use Rattle.wasm_read.specs.Immediates as immediates;
 ghost use Rattle.wasm_read.specs.Types as read;
-ghost use Rattle.wasm_shapes.specs.Tree.{Tree, visits};
+ghost use Rattle.wasm_shapes.specs.Tree.{Tree};
+ghost use Rattle.wasm_shapes.specs.Types.{is_core};
 ghost use Rattle.wasm_write.specs.Instructions as instructions;
 ghost use Rattle.wasm_write.specs.Types as write;
-ghost use Rattle.reencode_items.specs.Immediates.{is_mapped};
 ghost use Rattle.reencode_items.specs.Maps.{Maps};
 
 use reencode_hooks::{Error, ReencodeIndices};
@@ -50,14 +49,14 @@ pub(crate) fn external_index<T: ReencodeIndices>(
 }
 
 /// The index of a space of core modules, by its hook. One of another space is no hook's, and stays as it is.
-fn core_index<T: ReencodeIndices>(
+pub(crate) fn core_index<T: ReencodeIndices>(
     reencoder: &mut T,
     space: Space,
     index: u32,
 ) -> Result<u32, Error<T::Error>>
-    ensures default { is_mapped (imm.Index space index) ≡ true
+    ensures default { is_core space ≡ true
         → Maps T.reply T.next reencoder.old
-        (immediates.imm_tree (imm.Index space index)) (Tree.ix space) reencoder.new result }
+        (Tree.ix space index) (Tree.ix space) reencoder.new result }
     ensures sure { NeverWants T.sure result }
 {
     match space {
@@ -73,28 +72,62 @@ fn core_index<T: ReencodeIndices>(
     }
 }
 
-/// An immediate of an operator: an index of a space of core modules, a local or a number of 32 bits. The new one is of the
-/// same kind.
-pub(crate) fn immediate<'a, T: ReencodeIndices>(
+/// Where a memory access goes: its memory, by the hook of memories, also where it was left out.
+pub(crate) fn mem_arg<T: ReencodeIndices>(
     reencoder: &mut T,
-    imm: r::Imm<'a>,
-) -> Result<w::Imm<'a>, Error<T::Error>>
-    requires { is_mapped imm ≡ true }
-    ensures kind { IfOk result
-        (λ made. instructions.imm_kind made ≡ immediates.imm_kind imm.entry) }
+    arg: r::MemArg,
+) -> Result<w::MemArg, Error<T::Error>>
     ensures default { Maps T.reply T.next reencoder.old
-        (immediates.imm_tree imm.entry) instructions.imm_tree reencoder.new result }
-    ensures after_error { IsTrue T.sure
-        → LeavesVisited (ask T.reply T.next) reencoder.old
-        (visits (immediates.imm_tree imm.entry)) reencoder.new result }
+        (Tree.mem arg.align arg.memory arg.offset)
+        (λ made. Tree.mem made.align made.memory made.offset) reencoder.new result }
+    ensures sure { NeverWants T.sure result }
 {
-    match imm {
-        r::Imm::Index(space, index) => Ok(w::Imm::Index(
-            space,
-            core_index(reencoder, space, index)?,
-        )),
-        r::Imm::Local(index) => Ok(w::Imm::Local(index)),
-        r::Imm::S32(number) => Ok(w::Imm::S32(number)),
-        _ => unreachable!(),
+    Ok(w::MemArg {
+        align: arg.align,
+        memory: reencoder.memory_index(arg.memory)?,
+        offset: arg.offset,
+    })
+}
+
+/// What a block catches: its tag, where it has one. The label stays.
+pub(crate) fn catch<T: ReencodeIndices>(
+    reencoder: &mut T,
+    arg: r::Catch,
+) -> Result<w::Catch, Error<T::Error>>
+    ensures default { Maps T.reply T.next reencoder.old
+        (immediates.catch_tree arg) instructions.catch_tree reencoder.new result }
+    ensures sure { NeverWants T.sure result }
+{
+    match arg {
+        r::Catch::One { tag, label } => Ok(w::Catch::One {
+            tag: reencoder.tag_index(tag)?,
+            label,
+        }),
+        r::Catch::OneRef { tag, label } => Ok(w::Catch::OneRef {
+            tag: reencoder.tag_index(tag)?,
+            label,
+        }),
+        r::Catch::All { label } => Ok(w::Catch::All { label }),
+        r::Catch::AllRef { label } => Ok(w::Catch::AllRef { label }),
+    }
+}
+
+/// How a resumed continuation's tag is handled: the tag. The label stays.
+pub(crate) fn handle<T: ReencodeIndices>(
+    reencoder: &mut T,
+    on: r::Handle,
+) -> Result<w::Handle, Error<T::Error>>
+    ensures default { Maps T.reply T.next reencoder.old
+        (immediates.handle_tree on) instructions.handle_tree reencoder.new result }
+    ensures sure { NeverWants T.sure result }
+{
+    match on {
+        r::Handle::OnLabel { tag, label } => Ok(w::Handle::OnLabel {
+            tag: reencoder.tag_index(tag)?,
+            label,
+        }),
+        r::Handle::OnSwitch { tag } => Ok(w::Handle::OnSwitch {
+            tag: reencoder.tag_index(tag)?,
+        }),
     }
 }

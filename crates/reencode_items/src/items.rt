@@ -1,15 +1,15 @@
 //! The items of a core module, re-encoded through a reencoder's hooks.
-ghost use Rattle.std.specs.Prelude.{◌≡◌, ℕ, IsTrue, IfOk, length, map, true};
+ghost use Rattle.std.specs.Prelude.{◌≡◌, ℕ, IsTrue, IsSome, IfOk, length, map};
 ghost use Rattle.reencode_hooks.specs.Run.{Gives, LeavesVisited, NeverWants, accepted, ask};
 ghost use Rattle.wasm_read.specs.Immediates as immediates;
 ghost use Rattle.wasm_read.specs.Types as read;
-ghost use Rattle.wasm_shapes.specs.Tree.{visits};
+ghost use Rattle.wasm_shapes.specs.Tree.{Tree, visits};
 ghost use Rattle.wasm_shapes.specs.Types.{vector_tree};
 ghost use Rattle.wasm_write.specs.Instructions as instructions;
 ghost use Rattle.wasm_write.specs.Rows as rows;
 ghost use Rattle.wasm_write.specs.Types as write;
-ghost use Rattle.reencode_items.specs.Immediates.{is_mapped};
 ghost use Rattle.reencode_items.specs.Maps.{LeavesOperator, Maps, MovesOn, ParsesOperator};
+ghost use Rattle.reencode_items.specs.Orderings.{read_ordering_name, ordering_name};
 
 use crate::{bodies, indices, kinds};
 use reencode_hooks::{Error, ReencodeIndices};
@@ -309,14 +309,74 @@ pub trait ReencodeItems: ReencodeIndices {
         bodies::block_type!(self, arg)
     }
 
-    /// An immediate of an operator (section 5.4): an index of a space of core modules, a local or a number of 32 bits. The
-    /// new one is of the same kind, also where the defaults are not kept.
+    /// Where a memory access goes (section 5.4.6): its memory, also where it was left out. The alignment and the offset
+    /// stay.
+    fn mem_arg(&mut self, arg: r::MemArg) -> Result<w::MemArg, Error<Self::Error>>
+        ensures default { IsTrue Self.keeps_defaults
+            → Maps Self.reply Self.next self.old (Tree.mem arg.align arg.memory arg.offset)
+            (λ made. Tree.mem made.align made.memory made.offset) self.new result }
+        ensures sure { IsTrue Self.keeps_defaults → NeverWants Self.sure result }
+    {
+        indices::mem_arg(self, arg)
+    }
+
+    /// What a block catches (section 5.4.1): its tag, where it has one. The label stays.
+    fn catch(&mut self, arg: r::Catch) -> Result<w::Catch, Error<Self::Error>>
+        ensures default { IsTrue Self.keeps_defaults
+            → Maps Self.reply Self.next self.old (immediates.catch_tree arg)
+            instructions.catch_tree self.new result }
+        ensures sure { IsTrue Self.keeps_defaults → NeverWants Self.sure result }
+    {
+        indices::catch(self, arg)
+    }
+
+    /// How a resumed continuation's tag is handled: the tag. The label stays.
+    fn handle(&mut self, on: r::Handle) -> Result<w::Handle, Error<Self::Error>>
+        ensures default { IsTrue Self.keeps_defaults
+            → Maps Self.reply Self.next self.old (immediates.handle_tree on)
+            instructions.handle_tree self.new result }
+        ensures sure { IsTrue Self.keeps_defaults → NeverWants Self.sure result }
+    {
+        indices::handle(self, on)
+    }
+
+    /// The order of an atomic access: that of the same name. No operator of the table has one.
+    fn ordering(&mut self, arg: r::Ordering) -> Result<w::Ordering, Error<Self::Error>>
+        ensures default { IsTrue Self.keeps_defaults
+            → Gives (accepted (read_ordering_name arg) self.old)
+            ordering_name self.new result }
+        ensures sure { IsTrue Self.keeps_defaults → NeverWants Self.sure result }
+    {
+        Ok(kinds::ordering(arg))
+    }
+
+    /// A floating-point number of 32 bits, by its bits.
+    fn ieee32_arg(&mut self, arg: r::Ieee32) -> Result<w::Ieee32, Error<Self::Error>>
+        ensures default { IsTrue Self.keeps_defaults
+            → Gives (accepted arg.0 self.old) (λ made. made.0) self.new result }
+        ensures sure { IsTrue Self.keeps_defaults → NeverWants Self.sure result }
+    {
+        Ok(kinds::ieee32_arg(arg))
+    }
+
+    /// A floating-point number of 64 bits, by its bits.
+    fn ieee64_arg(&mut self, arg: r::Ieee64) -> Result<w::Ieee64, Error<Self::Error>>
+        ensures default { IsTrue Self.keeps_defaults
+            → Gives (accepted arg.0 self.old) (λ made. made.0) self.new result }
+        ensures sure { IsTrue Self.keeps_defaults → NeverWants Self.sure result }
+    {
+        Ok(kinds::ieee64_arg(arg))
+    }
+
+    /// An immediate of an operator (section 5.4) that has a kind: its types, its memory access, what it catches or handles,
+    /// its heap types and its floating-point number by their methods, an index by its space's hook. Labels, locals, fields,
+    /// sizes, lanes and other numbers stay. The new one is of the same kind, also where the defaults are not kept.
     fn immediate<'a>(
         &mut self,
         alloc: Global,
         imm: r::Imm<'a>,
     ) -> Result<w::Imm<'a>, Error<Self::Error>>
-        requires { is_mapped imm ≡ true }
+        requires { IsSome (immediates.imm_kind imm) }
         ensures kind { IfOk result
             (λ made. instructions.imm_kind made ≡ immediates.imm_kind imm.entry) }
         ensures default { IsTrue Self.keeps_defaults
@@ -326,7 +386,7 @@ pub trait ReencodeItems: ReencodeIndices {
             → LeavesVisited (ask Self.reply Self.next) self.old
             (visits (immediates.imm_tree imm.entry)) self.new result }
     {
-        indices::immediate(self, imm)
+        bodies::immediate!(self, alloc, imm)
     }
 
     /// An operator (section 5.4), each immediate by the method `immediate`.

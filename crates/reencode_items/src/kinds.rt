@@ -1,8 +1,9 @@
-//! Kinds and types that hold no index.
+//! Kinds, types and numbers that hold no index.
 ghost use Rattle.std.specs.Prelude.{◌≡◌, ℕ};
 ghost use Rattle.wasm_read.specs.Types as read;
 ghost use Rattle.wasm_write.specs.Rows as rows;
 ghost use Rattle.wasm_write.specs.Types as write;
+ghost use Rattle.reencode_items.specs.Orderings.{read_ordering_name, ordering_name};
 
 use wasm_read as r;
 use wasm_write as w;
@@ -64,4 +65,28 @@ pub(crate) fn memory_type(memory_ty: r::MemoryType) -> w::MemoryType
         maximum: memory_ty.maximum,
         page_size_log2: memory_ty.page_size_log2,
     }
+}
+
+/// The order of the same name.
+pub(crate) fn ordering(arg: r::Ordering) -> w::Ordering
+    ensures { ordering_name result ≡ read_ordering_name arg }
+{
+    match arg {
+        r::Ordering::SeqCst => w::Ordering::SeqCst,
+        r::Ordering::AcqRel => w::Ordering::AcqRel,
+    }
+}
+
+/// The number of the same bits.
+pub(crate) fn ieee32_arg(arg: r::Ieee32) -> w::Ieee32
+    ensures { result.0 ≡ arg.0 }
+{
+    w::Ieee32(arg.0)
+}
+
+/// The number of the same bits.
+pub(crate) fn ieee64_arg(arg: r::Ieee64) -> w::Ieee64
+    ensures { result.0 ≡ arg.0 }
+{
+    w::Ieee64(arg.0)
 }

@@ -1,15 +1,15 @@
 //! The default bodies of `ReencodeItems`, as functions of any reencoder.
-ghost use Rattle.std.specs.Prelude.{◌≡◌, ℕ, IsTrue, IfOk, length, map, true};
+ghost use Rattle.std.specs.Prelude.{◌≡◌, ℕ, IsTrue, IsSome, IfOk, length, map};
 ghost use Rattle.reencode_hooks.specs.Run.{LeavesVisited, NeverWants, ask};
 ghost use Rattle.wasm_read.specs.Immediates as immediates;
 ghost use Rattle.wasm_read.specs.Types as read;
-ghost use Rattle.wasm_shapes.specs.Tree.{visits};
+ghost use Rattle.wasm_shapes.specs.Tree.{Tree, visits};
 ghost use Rattle.wasm_shapes.specs.Types.{vector_tree};
 ghost use Rattle.wasm_write.specs.Instructions as instructions;
 ghost use Rattle.wasm_write.specs.Rows as rows;
 ghost use Rattle.wasm_write.specs.Types as write;
-ghost use Rattle.reencode_items.specs.Immediates.{is_mapped};
 ghost use Rattle.reencode_items.specs.Maps.{LeavesOperator, Maps, MovesOn, ParsesOperator};
+ghost use Rattle.reencode_items.specs.Orderings.{read_ordering_name, ordering_name};
 
 use crate::items::ReencodeItems;
 use crate::{bodies, indices, kinds};
@@ -334,14 +334,81 @@ pub fn block_type<T: ReencodeItems>(
     bodies::block_type!(reencoder, arg)
 }
 
-/// An immediate of an operator (section 5.4): an index of a space of core modules, a local or a number of 32 bits. The
-/// new one is of the same kind, also where the defaults are not kept.
+/// Where a memory access goes (section 5.4.6): its memory, also where it was left out. The alignment and the offset stay.
+pub fn mem_arg<T: ReencodeItems>(
+    reencoder: &mut T,
+    arg: r::MemArg,
+) -> Result<w::MemArg, Error<T::Error>>
+    ensures default { IsTrue T.keeps_defaults
+        → Maps T.reply T.next reencoder.old (Tree.mem arg.align arg.memory arg.offset)
+        (λ made. Tree.mem made.align made.memory made.offset) reencoder.new result }
+    ensures sure { IsTrue T.keeps_defaults → NeverWants T.sure result }
+{
+    indices::mem_arg(reencoder, arg)
+}
+
+/// What a block catches (section 5.4.1): its tag, where it has one. The label stays.
+pub fn catch<T: ReencodeItems>(
+    reencoder: &mut T,
+    arg: r::Catch,
+) -> Result<w::Catch, Error<T::Error>>
+    ensures default { IsTrue T.keeps_defaults
+        → Maps T.reply T.next reencoder.old (immediates.catch_tree arg)
+        instructions.catch_tree reencoder.new result }
+    ensures sure { IsTrue T.keeps_defaults → NeverWants T.sure result }
+{
+    indices::catch(reencoder, arg)
+}
+
+/// How a resumed continuation's tag is handled: the tag. The label stays.
+pub fn handle<T: ReencodeItems>(
+    reencoder: &mut T,
+    on: r::Handle,
+) -> Result<w::Handle, Error<T::Error>>
+    ensures default { IsTrue T.keeps_defaults
+        → Maps T.reply T.next reencoder.old (immediates.handle_tree on)
+        instructions.handle_tree reencoder.new result }
+    ensures sure { IsTrue T.keeps_defaults → NeverWants T.sure result }
+{
+    indices::handle(reencoder, on)
+}
+
+/// The order of an atomic access: that of the same name. No operator of the table has one.
+pub fn ordering<T: ReencodeItems>(reencoder: &mut T, arg: r::Ordering) -> w::Ordering
+    ensures value { ordering_name result ≡ read_ordering_name arg }
+    ensures state { reencoder.new ≡ reencoder.old }
+{
+    let _ = reencoder;
+    kinds::ordering(arg)
+}
+
+/// A floating-point number of 32 bits, by its bits.
+pub fn ieee32_arg<T: ReencodeItems>(reencoder: &mut T, arg: r::Ieee32) -> w::Ieee32
+    ensures value { result.0 ≡ arg.0 }
+    ensures state { reencoder.new ≡ reencoder.old }
+{
+    let _ = reencoder;
+    kinds::ieee32_arg(arg)
+}
+
+/// A floating-point number of 64 bits, by its bits.
+pub fn ieee64_arg<T: ReencodeItems>(reencoder: &mut T, arg: r::Ieee64) -> w::Ieee64
+    ensures value { result.0 ≡ arg.0 }
+    ensures state { reencoder.new ≡ reencoder.old }
+{
+    let _ = reencoder;
+    kinds::ieee64_arg(arg)
+}
+
+/// An immediate of an operator (section 5.4) that has a kind: its types, its memory access, what it catches or handles, its
+/// heap types and its floating-point number by their methods, an index by its space's hook. Labels, locals, fields, sizes,
+/// lanes and other numbers stay. The new one is of the same kind, also where the defaults are not kept.
 pub fn immediate<'a, T: ReencodeItems>(
     reencoder: &mut T,
     alloc: Global,
     imm: r::Imm<'a>,
 ) -> Result<w::Imm<'a>, Error<T::Error>>
-    requires { is_mapped imm ≡ true }
+    requires { IsSome (immediates.imm_kind imm) }
     ensures kind { IfOk result
         (λ made. instructions.imm_kind made ≡ immediates.imm_kind imm.entry) }
     ensures default { IsTrue T.keeps_defaults
@@ -351,7 +418,7 @@ pub fn immediate<'a, T: ReencodeItems>(
         → LeavesVisited (ask T.reply T.next) reencoder.old
         (visits (immediates.imm_tree imm.entry)) reencoder.new result }
 {
-    indices::immediate(reencoder, imm)
+    bodies::immediate!(reencoder, alloc, imm)
 }
 
 /// An operator (section 5.4), each immediate by the method `immediate`.

@@ -1,9 +1,10 @@
 -- Immediates of some kinds, one by one.
-use Rattle.std.proofs.Common.{◌≡◌, ℕ, zero, suc, get_or, List, [], ◌∷◌, ◌++◌, ◌<◌, ◌+◌, length, length-append, true, refl, sym, ap, ◌∙◌, append_assoc, append-nil, arith, ◌^◌, map, Some, subst, Bool, false, ◌&&◌, nat_le, if◌then◌else◌}
+use Rattle.std.specs.List.{list_all}
+use Rattle.std.proofs.Common.{◌≡◌, ℕ, zero, suc, get_or, List, [], ◌∷◌, ◌++◌, ◌<◌, ◌+◌, length, length-append, true, refl, sym, ap, ◌∙◌, append_assoc, append-nil, arith, ◌^◌, map, Some, subst, if◌then◌else◌}
 use Rattle.std.proofs.lemmas.Bool.{lt-ltb}
 use Rattle.wasm_shapes.specs.declared.ImmKind.{ImmKind}
 use Rattle.wasm_shapes.specs.declared.ImmKind.TheVariants as kind
-use Rattle.wasm_shapes.specs.Operators.{Code, plain, prefixed, Operators, look_up, one_byte_operators, prefixed_operators, kinds_among}
+use Rattle.wasm_shapes.specs.Operators.{Code, kinds_among}
 use Rattle.wasm_shapes.specs.Tree.{Tree}
 use Rattle.wasm_shapes.specs.Shape.{Shape, closed, shape_of_kind, shape_of_kinds}
 use Rattle.wasm_shapes.specs.Sound.{sound}
@@ -11,6 +12,7 @@ use Rattle.wasm_shapes.specs.Spells.{Is, Spelled}
 use Rattle.wasm_shapes.specs.Place.{Begins, BeginsNone}
 use Rattle.wasm_shapes.proofs.Begins.{begins_empty, begins_byte, at_byte, begins_seq, none_seq_first, none_seq_second}
 use Rattle.wasm_shapes.proofs.Lists.{both}
+use Rattle.wasm_shapes.proofs.TableRows.{kinds_pass}
 use Rattle.wasm_read.specs.declared.types.Imm.{Imm}
 use Rattle.wasm_read.specs.Immediates.{imm_tree, imms_tree, imm_kind, is_counted}
 use Rattle.wasm_read.specs.Operations.{is_core_kind, AreCore}
@@ -67,35 +69,13 @@ core_of e p = subst AreCore e p
 
 -- ---- the rows of the tables
 
-abbrev are_core : List ImmKind → Bool
-are_core [] = true
-are_core (k ∷ ks) = is_core_kind k && are_core ks
-
-abbrev rows_are_core : List Operators → Bool
-rows_are_core [] = true
-rows_are_core (o ∷ os) = are_core o.kinds && rows_are_core os
-
-are_core_sound : (ks : List ImmKind) → are_core ks ≡ true → AreCore ks
-are_core_sound [] e = tt
-are_core_sound (k ∷ ks) e = let parts : (is_core_kind k ≡ true) × (are_core ks ≡ true) = both _ _ e in (parts.0, are_core_sound ks parts.1)
-
-row_core : (os : List Operators) (n : ℕ) (ks : List ImmKind) → rows_are_core os ≡ true → look_up os n ≡ Some ks → AreCore ks
-row_core [] n ks k e = absurd cc
-row_core (o ∷ os) n ks k e =
-    let parts : (are_core o.kinds ≡ true) × (rows_are_core os ≡ true) = both _ _ k in
-    go (nat_le o.from n && nat_le n o.to) parts.0 e (row_core os n ks parts.1)
-  where
-    go : (p : Bool) → are_core o.kinds ≡ true → (if p then Some o.kinds else look_up os n) ≡ Some ks → (look_up os n ≡ Some ks → AreCore ks) → AreCore ks
-    go true h e others = let same : o.kinds ≡ ks = cc in subst AreCore same (are_core_sound o.kinds h)
-    go false h e others = others e
-
-prefixed_core : (p : ℕ) → rows_are_core (prefixed_operators p) ≡ true
-prefixed_core p = refl
+all_core : (ks : List ImmKind) → list_all is_core_kind ks ≡ true → AreCore ks
+all_core [] e = tt
+all_core (k ∷ ks) e = let parts : (is_core_kind k ≡ true) × (list_all is_core_kind ks ≡ true) = both _ _ e in (parts.0, all_core ks parts.1)
 
 -- no row has an index of a space that core modules do not have
 pub kinds_core : (c : Code) (ks : List ImmKind) → kinds_among true c ≡ Some ks → AreCore ks
-kinds_core (plain b) ks e = row_core (one_byte_operators true) b ks refl e
-kinds_core (prefixed p n) ks e = row_core (prefixed_operators p) n ks (prefixed_core p) e
+kinds_core c ks e = all_core ks (kinds_pass is_core_kind refl c ks e)
 
 -- ---- single kinds
 

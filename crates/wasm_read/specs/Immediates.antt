@@ -1,11 +1,11 @@
 -- What immediates stand for, and their kinds (WebAssembly Core Specification 3.0, section 5.4).
-use Rattle.std.specs.Prelude.{◌≡◌, ℕ, if◌then◌else◌, List, [], ◌∷◌, length, map, Option, Some, None}
+use Rattle.std.specs.Prelude.{ℕ, if◌then◌else◌, List, [], ◌∷◌, length, map, Option, Some, None}
 use Rattle.std.specs.Int.{to_le_bytes, w32, w64}
 use Rattle.wasm_shapes.specs.declared.Space.TheVariants as space
 use Rattle.wasm_shapes.specs.declared.ImmKind.{ImmKind}
 use Rattle.wasm_shapes.specs.declared.ImmKind.TheVariants as kind
 use Rattle.wasm_shapes.specs.declared.Opcode.{Opcode}
-use Rattle.wasm_shapes.specs.Operators.{kinds_of, code_of}
+use Rattle.wasm_shapes.specs.Operators.{code_of}
 use Rattle.wasm_shapes.specs.Tree.{Tree}
 use Rattle.wasm_read.specs.declared.types.BlockType.{BlockType}
 use Rattle.wasm_read.specs.declared.types.BlockType.TheVariants as block
@@ -15,10 +15,11 @@ use Rattle.wasm_read.specs.declared.types.Catch.{Catch}
 use Rattle.wasm_read.specs.declared.types.Catch.TheVariants as catch
 use Rattle.wasm_read.specs.declared.types.Handle.{Handle}
 use Rattle.wasm_read.specs.declared.types.Handle.TheVariants as handle
+use Rattle.wasm_read.specs.declared.types.RefType.{RefType}
 use Rattle.wasm_read.specs.declared.types.ValType.{ValType}
-use Rattle.wasm_shapes.specs.Types.{led, are_sixteen}
+use Rattle.wasm_shapes.specs.Types.{led, are_sixteen, cast_of}
 pub use Rattle.wasm_shapes.specs.Types.{is_core, is_counted, tagged_label, tagged_label_tree, catch_row, handle_row}
-use Rattle.wasm_read.specs.Types.{val_type_tree, val_types_tree, vector_tree, no_reading}
+use Rattle.wasm_read.specs.Types.{heap_type_tree, val_type_tree, val_types_tree, vector_tree, no_reading}
 
 -- ---- kinds
 
@@ -65,9 +66,13 @@ abbrev pub handle_tree : Handle → Tree
 handle_tree (handle.OnLabel tag label) = Tree.row 0 (led 0x00 (tagged_label_tree tag label))
 handle_tree (handle.OnSwitch tag) = Tree.row 1 (led 0x01 (Tree.ix space.Tag tag))
 
--- What an immediate stands for. One that has no kind stands for nothing, and so do block types, heap types and casts
--- until their tables come.
+-- the label and the references of a cast
+abbrev pub cast_tree : ℕ → RefType → RefType → Tree
+cast_tree label from to = cast_of label from.nullable (heap_type_tree from.heap_type) to.nullable (heap_type_tree to.heap_type)
+
+-- What an immediate stands for. One that has no kind stands for nothing.
 abbrev pub imm_tree : Imm → Tree
+imm_tree (imm.Block ty) = block_type_tree ty
 imm_tree (imm.Label i) = Tree.u32 i
 imm_tree (imm.Labels targets default) =
     if is_counted (length targets) then Tree.pair (vector_tree (map Tree.u32 targets)) (Tree.u32 default) else no_reading
@@ -84,10 +89,11 @@ imm_tree (imm.Eight b) = Tree.raw (to_le_bytes w64 b.0)
 imm_tree (imm.Sixteen b) = if are_sixteen b.now then Tree.raw b.now else no_reading
 imm_tree (imm.Lanes b) = if are_sixteen b.now then Tree.raw b.now else no_reading
 imm_tree (imm.Lane b) = Tree.byte b
+imm_tree (imm.Heap ty) = heap_type_tree ty
 imm_tree (imm.Catches cs) = if is_counted (length cs) then vector_tree (map catch_tree cs) else no_reading
+imm_tree (imm.Cast label from to) = cast_tree label from to
 imm_tree (imm.Handlers hs) = if is_counted (length hs) then vector_tree (map handle_tree hs) else no_reading
 imm_tree imm.Zero = Tree.fixed 0x00
-imm_tree _ = no_reading
 
 -- immediates one behind another
 abbrev pub imms_tree : List Imm → Tree

@@ -1,14 +1,17 @@
 //! The immediates of operators at the front of some bytes.
 ghost use Rattle.std.specs.Prelude.{◌≡◌, ◌<◌, ◌∷◌, [], length, map, Some, IfOk, IfSome, IfNone, true};
 ghost use Rattle.wasm_shapes.specs.Place.{Begins, BeginsNone};
-ghost use Rattle.wasm_shapes.specs.Shape.{Shape, shape_of_kind, shape_of_kinds};
+ghost use Rattle.wasm_shapes.specs.Shape.{Shape, block_type, shape_of_kind, shape_of_kinds};
 ghost use Rattle.wasm_shapes.specs.Tree.{Tree};
 ghost use Rattle.wasm_shapes.specs.Operators.{code_of};
-ghost use Rattle.wasm_read.specs.Immediates.{imm_tree, imms_tree, imm_kind, is_core};
+ghost use Rattle.wasm_shapes.specs.Types.{cast_flags};
+ghost use Rattle.wasm_read.specs.Types.{heap_type_tree};
+ghost use Rattle.wasm_read.specs.Immediates.{block_type_tree, imm_tree, imms_tree, imm_kind, is_core};
 ghost use Rattle.wasm_read.specs.Operations.{BeginsCode, BeginsNoCode, is_core_kind, AreCore};
 
 use crate::entries::front_vec;
-use crate::types::{Ieee32, Ieee64, Imm, MemArg};
+use crate::types::{BlockType, HeapType, Ieee32, Ieee64, Imm, MemArg, RefType};
+use crate::values::{front_heap_type, front_val_type};
 use std::alloc::Global;
 use wasm_leb::{List, NoMemory, front_byte, front_s32, front_s64, front_u32, front_u64};
 use wasm_shapes::{ImmKind, Opcode, Space};
@@ -45,7 +48,7 @@ fn front_imm<'a>(
     ensures none { IfOk result (λ o. IfNone o (BeginsNone (shape_of_kind kind) bytes.now)) }
 {
     match kind {
-        ImmKind::Block | ImmKind::Heap | ImmKind::Cast => Ok(None),
+        ImmKind::Block => Ok(front_block(bytes)),
         ImmKind::Label => Ok(front_label(bytes)),
         ImmKind::Labels => front_labels(alloc, bytes),
         ImmKind::Index(space) => Ok(front_index(space, bytes)),
@@ -61,9 +64,118 @@ fn front_imm<'a>(
         ImmKind::Sixteen => Ok(front_sixteen(bytes)),
         ImmKind::Lanes => Ok(front_lanes(bytes)),
         ImmKind::Lane => Ok(front_lane(bytes)),
+        ImmKind::Heap => Ok(front_heap(bytes)),
         ImmKind::Catches => front_catches(alloc, bytes),
+        ImmKind::Cast => Ok(front_cast(bytes)),
         ImmKind::Handlers => front_handlers(alloc, bytes),
         ImmKind::Zero => Ok(front_zero(bytes)),
+    }
+}
+
+/// The type of a block at the front of some bytes, and the bytes behind it.
+fn front_block_type(bytes: &[u8]) -> Option<(BlockType, &[u8])>
+    ensures some { IfSome result (λ r.
+        Begins block_type bytes.now (block_type_tree r.0) r.1.now) }
+    ensures none { IfNone result (BeginsNone block_type bytes.now) }
+{
+    let Some((first, rest)) = front_byte(bytes) else {
+        return None;
+    };
+    if first == 0x40 {
+        return Some((BlockType::Empty, rest));
+    }
+    match front_val_type(bytes) {
+        Some((ty, rest)) => Some((BlockType::Type_(ty), rest)),
+        None => match wasm_leb::front_index(bytes) {
+            Some((index, rest)) => Some((BlockType::FuncType(index), rest)),
+            None => None,
+        },
+    }
+}
+
+/// The type of a block.
+fn front_block<'a>(bytes: &'a [u8]) -> Option<(Imm<'a>, &'a [u8])>
+    ensures some { IfSome result (λ r.
+        Begins (shape_of_kind ImmKind.Block) bytes.now (imm_tree r.0) r.1.now) }
+    ensures kind { IfSome result (λ r. imm_kind r.0 ≡ Some ImmKind.Block) }
+    ensures none { IfNone result (BeginsNone (shape_of_kind ImmKind.Block) bytes.now) }
+{
+    match front_block_type(bytes) {
+        Some((ty, rest)) => Some((Imm::Block(ty), rest)),
+        None => None,
+    }
+}
+
+/// A heap type.
+fn front_heap<'a>(bytes: &'a [u8]) -> Option<(Imm<'a>, &'a [u8])>
+    ensures some { IfSome result (λ r.
+        Begins (shape_of_kind ImmKind.Heap) bytes.now (imm_tree r.0) r.1.now) }
+    ensures kind { IfSome result (λ r. imm_kind r.0 ≡ Some ImmKind.Heap) }
+    ensures none { IfNone result (BeginsNone (shape_of_kind ImmKind.Heap) bytes.now) }
+{
+    match front_heap_type(bytes) {
+        Some((ty, rest)) => Some((Imm::Heap(ty), rest)),
+        None => None,
+    }
+}
+
+/// A cast to another type: flags below 4, a label, and two heap types.
+fn front_cast<'a>(bytes: &'a [u8]) -> Option<(Imm<'a>, &'a [u8])>
+    ensures some { IfSome result (λ r.
+        Begins (shape_of_kind ImmKind.Cast) bytes.now (imm_tree r.0) r.1.now) }
+    ensures kind { IfSome result (λ r. imm_kind r.0 ≡ Some ImmKind.Cast) }
+    ensures none { IfNone result (BeginsNone (shape_of_kind ImmKind.Cast) bytes.now) }
+{
+    let Some((flags, rest)) = front_byte(bytes) else {
+        return None;
+    };
+    if flags >= 4 {
+        return None;
+    }
+    let Some((label, rest)) = front_u32(rest) else {
+        return None;
+    };
+    let Some((from, rest)) = front_heap_type(rest) else {
+        return None;
+    };
+    match front_heap_type(rest) {
+        Some((to, rest)) => Some((cast_of(flags, label, from, to), rest)),
+        None => None,
+    }
+}
+
+/// Which references of a cast may be null, by its flags.
+fn nullable_of(flags: u8) -> (bool, bool)
+    requires { flags < 4 }
+    ensures { cast_flags result.0 result.1 ≡ flags }
+{
+    match flags {
+        0 => (false, false),
+        1 => (true, false),
+        2 => (false, true),
+        _ => (true, true),
+    }
+}
+
+/// A cast, of its flags, its label and what its references point to.
+fn cast_of<'a>(flags: u8, label: u32, from: HeapType, to: HeapType) -> Imm<'a>
+    requires { flags < 4 }
+    ensures tree { imm_tree result
+        ≡ Tree.pair (Tree.byte flags) (Tree.pair (Tree.u32 label)
+        (Tree.pair (heap_type_tree from) (heap_type_tree to))) }
+    ensures kind { imm_kind result ≡ Some ImmKind.Cast }
+{
+    let nullable = nullable_of(flags);
+    Imm::Cast {
+        label,
+        from: RefType {
+            nullable: nullable.0,
+            heap_type: from,
+        },
+        to: RefType {
+            nullable: nullable.1,
+            heap_type: to,
+        },
     }
 }
 

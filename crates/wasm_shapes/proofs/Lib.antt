@@ -5,9 +5,11 @@ pub mod Fronts
 pub mod SectionTable
 pub mod Laws
 pub mod Lists
+pub mod OperatorRows
 pub mod Operations
 pub mod OwnAnswers
 pub mod Parts
 pub mod ReadBack
 pub mod Rows
+pub mod TableRows
 pub mod Unique

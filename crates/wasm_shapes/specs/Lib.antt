@@ -4,6 +4,7 @@ pub mod SectionTable
 pub mod Laws
 pub mod Module
 pub mod Names
+pub mod OperatorRows
 pub mod Operators
 pub mod Own
 pub mod Place

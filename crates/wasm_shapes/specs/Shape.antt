@@ -203,9 +203,17 @@ shape_of Named.expression = Shape.until 0x0b (Shape.op false)
 
 -- ---- immediates
 
--- The shape of each kind of immediate. Block and heap types and what holds them come with their tables.
+-- what a block takes and gives: nothing, one value, or by the index of a function type
+abbrev pub block_type : Shape
+block_type = choice (Shape.fixed 0x40 ∷ Shape.ref Named.value ∷ Shape.sx space.Type_ ∷ [])
+
+-- a cast to another type: its flags, its label, and what the two references point to
+abbrev pub cast : Shape
+cast = Shape.seq (Shape.within 0 3) (Shape.seq Shape.u32 (Shape.seq heap heap))
+
+-- the shape of each kind of immediate
 abbrev pub shape_of_kind : ImmKind → Shape
-shape_of_kind kind.Block = Shape.none
+shape_of_kind kind.Block = block_type
 shape_of_kind kind.Label = Shape.u32
 shape_of_kind kind.Labels = Shape.seq (Shape.vec Shape.u32) Shape.u32
 shape_of_kind (kind.Index s) = Shape.ix s
@@ -221,11 +229,11 @@ shape_of_kind kind.Eight = Shape.bytes 8
 shape_of_kind kind.Sixteen = Shape.bytes 16
 shape_of_kind kind.Lanes = Shape.bytes 16
 shape_of_kind kind.Lane = Shape.byte
-shape_of_kind kind.Heap = Shape.none
+shape_of_kind kind.Heap = heap
 shape_of_kind kind.Catches = Shape.vec (choice (
     lead 0x00 (Shape.seq (Shape.ix space.Tag) Shape.u32) ∷ lead 0x01 (Shape.seq (Shape.ix space.Tag) Shape.u32) ∷
     lead 0x02 Shape.u32 ∷ lead 0x03 Shape.u32 ∷ []))
-shape_of_kind kind.Cast = Shape.none
+shape_of_kind kind.Cast = cast
 shape_of_kind kind.Handlers = Shape.vec (choice (lead 0x00 (Shape.seq (Shape.ix space.Tag) Shape.u32) ∷ lead 0x01 (Shape.ix space.Tag) ∷ []))
 shape_of_kind kind.Zero = Shape.fixed 0x00
 

@@ -180,3 +180,8 @@ cast_flags false false = 0
 cast_flags true false = 1
 cast_flags false true = 2
 cast_flags true true = 3
+
+-- a cast: its label, and of each of the two references whether it may be null and what it points to
+abbrev pub cast_of : ℕ → Bool → Tree → Bool → Tree → Tree
+cast_of label from_nullable from to_nullable to =
+    Tree.pair (Tree.byte (cast_flags from_nullable to_nullable)) (Tree.pair (Tree.u32 label) (Tree.pair from to))

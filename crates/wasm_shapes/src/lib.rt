@@ -2,6 +2,7 @@
 #![tactic(auto)]
 
 pub mod kinds;
+mod operator_rows;
 mod operators;
 mod spelling;
 

@@ -1,8 +1,10 @@
 //! The operators, and the kinds of their immediates.
-ghost use Rattle.std.specs.Prelude.{◌≡◌, IfSome, IfNone};
-ghost use Rattle.wasm_shapes.specs.Operators.{kinds_of};
+ghost use Rattle.std.specs.Prelude.{◌≡◌, IfSome, IfNone, List, Some, None};
+ghost use Rattle.wasm_shapes.specs.Operators.{Operators, kinds_of, look_up};
+ghost use Rattle.wasm_shapes.specs.OperatorRows.{Holds, kinds_in};
 
-use crate::{ImmKind, Opcode, Space};
+use crate::operator_rows::{FB, FC, FD, FE, ONE_BYTE, Row};
+use crate::{ImmKind, Opcode};
 
 pub const UNREACHABLE: Opcode = Opcode {
     prefix: 0,
@@ -103,28 +105,28 @@ const _: () = prove!(I32_ADD.prefix == 0 && I32_ADD.sub == 0x6a);
 
 const _: () = prove!(REF_FUNC.prefix == 0 && REF_FUNC.sub == 0xd2);
 
-static NONE: [ImmKind; 0] = [];
-
-static FUNCTION: [ImmKind; 1] = [ImmKind::Index(Space::Function)];
-
-static LOCAL: [ImmKind; 1] = [ImmKind::Local];
-
-static S32: [ImmKind; 1] = [ImmKind::S32];
-
 /// The kinds of an operator's immediates in the order of the bytes, or none where no operator has the number.
 pub fn row_of(op: Opcode) -> Option<&'static [ImmKind]>
     ensures some { IfSome result (λ kinds. kinds_of op ≡ Some kinds.now) }
     ensures none { IfNone result (kinds_of op ≡ None) }
 {
-    if op.prefix != 0 {
-        return None;
-    }
-    match op.sub {
-        0x0b => Some(&NONE),
-        0x10 => Some(&FUNCTION),
-        0x20 => Some(&LOCAL),
-        0x41 => Some(&S32),
-        0x6a => Some(&NONE),
+    match op.prefix {
+        0 => row_at(&ONE_BYTE, op.sub),
+        0xfb => row_at(&FB, op.sub),
+        0xfc => row_at(&FC, op.sub),
+        0xfd => row_at(&FD, op.sub),
+        0xfe => row_at(&FE, op.sub),
         _ => None,
+    }
+}
+
+/// The entry at a number in a list of rows, or none behind it.
+#[inline(always)]
+fn row_at(rows: &[Row], number: u32) -> Row
+    ensures { (os : List Operators) → Holds rows.now os → kinds_in result ≡ look_up os number }
+{
+    match rows.get(number as usize) {
+        Some(row) => *row,
+        None => None,
     }
 }

@@ -1,8 +1,8 @@
 -- The trees of instructions have the shapes of their rows.
 use Rattle.std.specs.Prelude.{IsSome}
 use Rattle.std.specs.Coded.{Coded-set, coded_bool, le_prop}
-use Rattle.std.proofs.Common.{◌≡◌, ℕ, zero, suc, ◌<◌, ◌≤◌, ◌^◌, Bool, true, false, ◌&&◌, nat_le, nat_lt, nat_eq, if◌then◌else◌, List, [], ◌∷◌, length, map, Option, Some, None, refl, sym, ap, ◌∙◌, subst, arith, All}
-use Rattle.std.proofs.lemmas.Bool.{leb-true, ltb-true, eqb-true}
+use Rattle.std.proofs.Common.{◌≡◌, ℕ, zero, suc, ◌<◌, ◌≤◌, Bool, true, false, if◌then◌else◌, List, [], ◌∷◌, length, map, Option, Some, None, refl, sym, subst, arith, All}
+use Rattle.std.proofs.lemmas.Bool.{eqb-true}
 use Rattle.std.proofs.lemmas.List.Elements.{All-cons}
 use mathlib.Core.HLevel.{Π_prop}
 use mathlib.Core.Logic.{∥∥₁_elim}
@@ -10,99 +10,28 @@ use Rattle.wasm_shapes.specs.declared.Space.TheVariants as space
 use Rattle.wasm_shapes.specs.declared.ImmKind.{ImmKind}
 use Rattle.wasm_shapes.specs.declared.ImmKind.TheVariants as kind
 use Rattle.wasm_shapes.specs.declared.Opcode.{Opcode}
-use Rattle.wasm_shapes.specs.Operators.{Code, plain, prefixed, code_from, code_of, is_code, Operators, look_up, one_byte_operators, prefixed_operators, kinds_among, kinds_of}
+use Rattle.wasm_shapes.specs.Operators.{code_from, code_of, kinds_among, kinds_of}
 use Rattle.wasm_shapes.specs.Immediates.{AreOfRow, HasKinds}
 use Rattle.wasm_shapes.specs.Tree.{Tree, normal}
-use Rattle.wasm_shapes.specs.Shape.{Shape, shape_of_kind, shape_of_kinds, shape_of_row}
+use Rattle.wasm_shapes.specs.Shape.{Shape, block_type, cast, shape_of_kind, shape_of_kinds, shape_of_row}
 use Rattle.wasm_shapes.specs.Spells.{Is, Spells}
 use Rattle.wasm_shapes.specs.Fits.{InRange, CodeInRange}
-use Rattle.wasm_shapes.specs.Types.{are_sixteen, is_core, is_counted}
-use Rattle.wasm_shapes.proofs.Lists.{both}
+use Rattle.wasm_shapes.specs.Types.{are_sixteen, is_core, is_counted, cast_flags}
+use Rattle.wasm_shapes.proofs.TableRows.{one_byte_small, code_is}
 use Rattle.wasm_shapes.proofs.Frameless.{frameless_spells}
+use Rattle.wasm_write.specs.declared.types.RefType.{RefType}
+use Rattle.wasm_write.specs.declared.types.BlockType.{BlockType}
+use Rattle.wasm_write.specs.declared.types.BlockType.TheVariants as block
 use Rattle.wasm_write.specs.declared.types.Catch.{Catch}
 use Rattle.wasm_write.specs.declared.types.Catch.TheVariants as catch
 use Rattle.wasm_write.specs.declared.types.Handle.{Handle}
 use Rattle.wasm_write.specs.declared.types.Handle.TheVariants as handle
 use Rattle.wasm_write.specs.declared.types.Imm.{Imm}
 use Rattle.wasm_write.specs.declared.types.Imm.TheVariants as imm
-use Rattle.wasm_write.specs.Instructions.{imm_kind, Parts, label_tree, catch_tree, handle_tree, imm_tree, imms_tree, instruction_tree}
-use Rattle.wasm_write.proofs.TypeShapes.{items_are, values_are}
+use Rattle.wasm_write.specs.Instructions.{imm_kind, Parts, label_tree, block_type_tree, cast_tree, catch_tree, handle_tree, imm_tree, imms_tree, instruction_tree}
+use Rattle.wasm_write.proofs.TypeShapes.{heap_is, value_is, items_are, values_are}
 
--- ---- the tables of operators
-
--- all rows pass a test
-abbrev each : (Operators → Bool) → List Operators → Bool
-each test [] = true
-each test (o ∷ os) = test o && each test os
-
--- the row that was looked up
-record Found (os : List Operators) (n : ℕ) (kinds : List ImmKind) : Type 0 where
-  row : Operators
-  among : (test : Operators → Bool) → each test os ≡ true → test row ≡ true
-  below : n ≤ row.to
-  same : row.kinds ≡ kinds
-
-found : (os : List Operators) (n : ℕ) (kinds : List ImmKind) → look_up os n ≡ Some kinds → Found os n kinds
-found [] n kinds e = absurd cc
-found (o ∷ os) n kinds e = go (nat_le o.from n && nat_le n o.to) refl e (found os n kinds)
-  where
-    go : (b : Bool) → (nat_le o.from n && nat_le n o.to) ≡ b → (if b then Some o.kinds else look_up os n) ≡ Some kinds →
-        (look_up os n ≡ Some kinds → Found os n kinds) → Found (o ∷ os) n kinds
-    go true inside is others = record {
-      row = o;
-      among = λ test all. (both (test o) (each test os) all).0;
-      below = leb-true n o.to (both (nat_le o.from n) (nat_le n o.to) inside).1;
-      same = cc;
-    }
-    go false inside is others = further (others is)
-      where
-        further : Found os n kinds → Found (o ∷ os) n kinds
-        further f = record {
-          row = f.row;
-          among = λ test all. f.among test (both (test o) (each test os) all).1;
-          below = f.below;
-          same = f.same;
-        }
-
--- the numbers of a row are below those of prefixes
-abbrev below_prefixes : Operators → Bool
-below_prefixes o = nat_lt o.to 0xfb
-
--- kinds whose shapes have all their rows
-abbrev settled : ImmKind → Bool
-settled kind.Block = false
-settled kind.Heap = false
-settled kind.Cast = false
-settled _ = true
-
-abbrev all_settled : List ImmKind → Bool
-all_settled [] = true
-all_settled (k ∷ ks) = settled k && all_settled ks
-
-abbrev settled_row : Operators → Bool
-settled_row o = all_settled o.kinds
-
-plain_small : (n : ℕ) (kinds : List ImmKind) → look_up (one_byte_operators true) n ≡ Some kinds → n < 0xfb
-plain_small n kinds e =
-    let f = found (one_byte_operators true) n kinds e in
-    let top : f.row.to < 0xfb = ltb-true f.row.to 0xfb (f.among below_prefixes refl) in
-    omega (arith, f.below)
-
-kinds_settled : (c : Code) (kinds : List ImmKind) → kinds_among true c ≡ Some kinds → all_settled kinds ≡ true
-kinds_settled (plain n) kinds e =
-    let f = found (one_byte_operators true) n kinds e in
-    ap all_settled (sym f.same) ∙ f.among settled_row refl
-kinds_settled (prefixed p n) kinds e =
-    let f = found (prefixed_operators p) n kinds e in
-    ap all_settled (sym f.same) ∙ f.among settled_row refl
-
-small_no_prefix : (n : ℕ) → n < 0xfb → (b : Bool) → nat_le 0xfb n ≡ b → (b && nat_le n 0xfe) ≡ false
-small_no_prefix n h true e = absurd (omega (arith, leb-true 0xfb n e))
-small_no_prefix n h false e = refl
-
-code_is : (c : Code) (kinds : List ImmKind) → kinds_among true c ≡ Some kinds → is_code c ≡ true
-code_is (plain n) kinds e = rw (small_no_prefix n (plain_small n kinds e) (nat_le 0xfb n) refl) refl
-code_is (prefixed p n) kinds e = absurd cc
+-- ---- the rows of opcodes
 
 -- the row of an opcode, and the kinds of its immediates
 row_had : (op : Opcode) (own : List (Option ImmKind)) → HasKinds op own → (kinds : List ImmKind) × (kinds_of op ≡ Some kinds) × (own ≡ map Some kinds)
@@ -117,7 +46,7 @@ opcode_byte : (op : Opcode) (own : List (Option ImmKind)) → HasKinds op own �
 opcode_byte op own h none = let row = row_had op own h in go row.0 op.prefix none row.1
   where
     go : (kinds : List ImmKind) (p : ℕ) → p ≡ 0 → kinds_among true (code_from p op.sub) ≡ Some kinds → op.sub < 256
-    go kinds zero e row = let small : op.sub < 0xfb = plain_small op.sub kinds row in omega arith
+    go kinds zero e row = let small : op.sub < 0xfb = one_byte_small op.sub kinds row in omega arith
     go kinds (suc p) e row = absurd (omega arith)
 
 pub opcode_byte_of : (op : Opcode) (own : List (Option ImmKind)) → ∥ HasKinds op own ∥₁ → op.prefix ≡ 0 → op.sub < 256
@@ -149,50 +78,63 @@ handle_is : (h : Handle) → Is (Shape.or (Shape.seq (Shape.fixed 0) (Shape.seq 
 handle_is (handle.OnLabel tag label) = Is.first (Is.seq Is.fixed (Is.seq Is.ix Is.u32))
 handle_is (handle.OnSwitch tag) = Is.later {k = 0} (Is.first (Is.seq Is.fixed Is.ix))
 
+block_is : (ty : BlockType) → Is block_type (block_type_tree ty)
+block_is block.Empty = Is.first Is.fixed
+block_is (block.Result ty) = Is.later {k = 0} (Is.first (value_is ty))
+block_is (block.FunctionType i) = Is.later {k = 1} (Is.later {k = 0} (Is.first Is.sx))
+
+flags_small : (from to : Bool) → cast_flags from to ≤ 3
+flags_small false false = omega arith
+flags_small true false = omega arith
+flags_small false true = omega arith
+flags_small true true = omega arith
+
+cast_is : (label : ℕ) (from to : RefType) → Is cast (cast_tree label from to)
+cast_is label from to = Is.seq (Is.within (omega arith) (flags_small from.nullable to.nullable)) (Is.seq Is.u32 (Is.seq (heap_is from.heap_type) (heap_is to.heap_type)))
+
 -- the kind that is chosen by a test
 chosen : (b : Bool) (j k : ImmKind) → (if b then Some j else None) ≡ Some k → (b ≡ true) × (j ≡ k)
 chosen true j k is = (refl, cc)
 chosen false j k is = absurd cc
 
 -- an immediate of a kind has its shape
-imm_is : (i : Imm) (k : ImmKind) → imm_kind i ≡ Some k → settled k ≡ true → Is (shape_of_kind k) (imm_tree i)
-imm_is (imm.Block ty) k e s = let same : kind.Block ≡ k = cc in let no : false ≡ true = rw (← same) at s in absurd cc
-imm_is (imm.Label n) k e s = let P : ImmKind → Type 0 = λ j. Is (shape_of_kind j) (imm_tree (imm.Label n)) in let same : kind.Label ≡ k = cc in subst P same (Is.u32)
-imm_is (imm.Labels targets default) k e s = let P : ImmKind → Type 0 = λ j. Is (shape_of_kind j) (imm_tree (imm.Labels targets default)) in subst P ((chosen (is_counted (length targets)) kind.Labels k e).1) (Is.seq (Is.vec (items_are Shape.u32 label_tree (λ n. Is.u32) targets)) Is.u32)
-imm_is (imm.Index x i) k e s = let P : ImmKind → Type 0 = λ j. Is (shape_of_kind j) (Tree.ix x i) in subst P (chosen (is_core x) (kind.Index x) k e).1 Is.ix
-imm_is (imm.Local n) k e s = let P : ImmKind → Type 0 = λ j. Is (shape_of_kind j) (imm_tree (imm.Local n)) in let same : kind.Local ≡ k = cc in subst P same (Is.u32)
-imm_is (imm.Field n) k e s = let P : ImmKind → Type 0 = λ j. Is (shape_of_kind j) (imm_tree (imm.Field n)) in let same : kind.Field ≡ k = cc in subst P same (Is.u32)
-imm_is (imm.Size n) k e s = let P : ImmKind → Type 0 = λ j. Is (shape_of_kind j) (imm_tree (imm.Size n)) in let same : kind.Size ≡ k = cc in subst P same (Is.u32)
-imm_is (imm.Types types) k e s = let P : ImmKind → Type 0 = λ j. Is (shape_of_kind j) (imm_tree (imm.Types types)) in subst P ((chosen (is_counted (length types)) kind.Types k e).1) (values_are types)
-imm_is (imm.Mem m) k e s = let P : ImmKind → Type 0 = λ j. Is (shape_of_kind j) (imm_tree (imm.Mem m)) in let same : kind.Mem ≡ k = cc in subst P same (Is.mem)
-imm_is (imm.S32 z) k e s = let P : ImmKind → Type 0 = λ j. Is (shape_of_kind j) (imm_tree (imm.S32 z)) in let same : kind.S32 ≡ k = cc in subst P same (Is.s32)
-imm_is (imm.S64 z) k e s = let P : ImmKind → Type 0 = λ j. Is (shape_of_kind j) (imm_tree (imm.S64 z)) in let same : kind.S64 ≡ k = cc in subst P same (Is.s64)
-imm_is (imm.Four bits) k e s = let P : ImmKind → Type 0 = λ j. Is (shape_of_kind j) (imm_tree (imm.Four bits)) in let same : kind.Four ≡ k = cc in subst P same (Is.bytes refl)
-imm_is (imm.Eight bits) k e s = let P : ImmKind → Type 0 = λ j. Is (shape_of_kind j) (imm_tree (imm.Eight bits)) in let same : kind.Eight ≡ k = cc in subst P same (Is.bytes refl)
-imm_is (imm.Sixteen bs) k e s = let P : ImmKind → Type 0 = λ j. Is (shape_of_kind j) (Tree.raw bs.now) in let same = chosen (are_sixteen bs.now) kind.Sixteen k e in subst P same.1 (Is.bytes (eqb-true (length bs.now) 16 same.0))
-imm_is (imm.Lanes bs) k e s = let P : ImmKind → Type 0 = λ j. Is (shape_of_kind j) (Tree.raw bs.now) in let same = chosen (are_sixteen bs.now) kind.Lanes k e in subst P same.1 (Is.bytes (eqb-true (length bs.now) 16 same.0))
-imm_is (imm.Lane b) k e s = let P : ImmKind → Type 0 = λ j. Is (shape_of_kind j) (imm_tree (imm.Lane b)) in let same : kind.Lane ≡ k = cc in subst P same (Is.byte)
-imm_is (imm.Heap ty) k e s = let same : kind.Heap ≡ k = cc in let no : false ≡ true = rw (← same) at s in absurd cc
-imm_is (imm.Catches catches) k e s = let P : ImmKind → Type 0 = λ j. Is (shape_of_kind j) (imm_tree (imm.Catches catches)) in subst P ((chosen (is_counted (length catches)) kind.Catches k e).1) (Is.vec (items_are _ catch_tree catch_is catches))
-imm_is (imm.Cast label from to) k e s = let same : kind.Cast ≡ k = cc in let no : false ≡ true = rw (← same) at s in absurd cc
-imm_is (imm.Handlers handlers) k e s = let P : ImmKind → Type 0 = λ j. Is (shape_of_kind j) (imm_tree (imm.Handlers handlers)) in subst P ((chosen (is_counted (length handlers)) kind.Handlers k e).1) (Is.vec (items_are _ handle_tree handle_is handlers))
-imm_is imm.Zero k e s = let P : ImmKind → Type 0 = λ j. Is (shape_of_kind j) (imm_tree imm.Zero) in let same : kind.Zero ≡ k = cc in subst P same (Is.fixed)
+imm_is : (i : Imm) (k : ImmKind) → imm_kind i ≡ Some k → Is (shape_of_kind k) (imm_tree i)
+imm_is (imm.Block ty) k e = let P : ImmKind → Type 0 = λ j. Is (shape_of_kind j) (imm_tree (imm.Block ty)) in let same : kind.Block ≡ k = cc in subst P same (block_is ty)
+imm_is (imm.Label n) k e = let P : ImmKind → Type 0 = λ j. Is (shape_of_kind j) (imm_tree (imm.Label n)) in let same : kind.Label ≡ k = cc in subst P same (Is.u32)
+imm_is (imm.Labels targets default) k e = let P : ImmKind → Type 0 = λ j. Is (shape_of_kind j) (imm_tree (imm.Labels targets default)) in subst P ((chosen (is_counted (length targets)) kind.Labels k e).1) (Is.seq (Is.vec (items_are Shape.u32 label_tree (λ n. Is.u32) targets)) Is.u32)
+imm_is (imm.Index x i) k e = let P : ImmKind → Type 0 = λ j. Is (shape_of_kind j) (Tree.ix x i) in subst P (chosen (is_core x) (kind.Index x) k e).1 Is.ix
+imm_is (imm.Local n) k e = let P : ImmKind → Type 0 = λ j. Is (shape_of_kind j) (imm_tree (imm.Local n)) in let same : kind.Local ≡ k = cc in subst P same (Is.u32)
+imm_is (imm.Field n) k e = let P : ImmKind → Type 0 = λ j. Is (shape_of_kind j) (imm_tree (imm.Field n)) in let same : kind.Field ≡ k = cc in subst P same (Is.u32)
+imm_is (imm.Size n) k e = let P : ImmKind → Type 0 = λ j. Is (shape_of_kind j) (imm_tree (imm.Size n)) in let same : kind.Size ≡ k = cc in subst P same (Is.u32)
+imm_is (imm.Types types) k e = let P : ImmKind → Type 0 = λ j. Is (shape_of_kind j) (imm_tree (imm.Types types)) in subst P ((chosen (is_counted (length types)) kind.Types k e).1) (values_are types)
+imm_is (imm.Mem m) k e = let P : ImmKind → Type 0 = λ j. Is (shape_of_kind j) (imm_tree (imm.Mem m)) in let same : kind.Mem ≡ k = cc in subst P same (Is.mem)
+imm_is (imm.S32 z) k e = let P : ImmKind → Type 0 = λ j. Is (shape_of_kind j) (imm_tree (imm.S32 z)) in let same : kind.S32 ≡ k = cc in subst P same (Is.s32)
+imm_is (imm.S64 z) k e = let P : ImmKind → Type 0 = λ j. Is (shape_of_kind j) (imm_tree (imm.S64 z)) in let same : kind.S64 ≡ k = cc in subst P same (Is.s64)
+imm_is (imm.Four bits) k e = let P : ImmKind → Type 0 = λ j. Is (shape_of_kind j) (imm_tree (imm.Four bits)) in let same : kind.Four ≡ k = cc in subst P same (Is.bytes refl)
+imm_is (imm.Eight bits) k e = let P : ImmKind → Type 0 = λ j. Is (shape_of_kind j) (imm_tree (imm.Eight bits)) in let same : kind.Eight ≡ k = cc in subst P same (Is.bytes refl)
+imm_is (imm.Sixteen bs) k e = let P : ImmKind → Type 0 = λ j. Is (shape_of_kind j) (Tree.raw bs.now) in let same = chosen (are_sixteen bs.now) kind.Sixteen k e in subst P same.1 (Is.bytes (eqb-true (length bs.now) 16 same.0))
+imm_is (imm.Lanes bs) k e = let P : ImmKind → Type 0 = λ j. Is (shape_of_kind j) (Tree.raw bs.now) in let same = chosen (are_sixteen bs.now) kind.Lanes k e in subst P same.1 (Is.bytes (eqb-true (length bs.now) 16 same.0))
+imm_is (imm.Lane b) k e = let P : ImmKind → Type 0 = λ j. Is (shape_of_kind j) (imm_tree (imm.Lane b)) in let same : kind.Lane ≡ k = cc in subst P same (Is.byte)
+imm_is (imm.Heap ty) k e = let P : ImmKind → Type 0 = λ j. Is (shape_of_kind j) (imm_tree (imm.Heap ty)) in let same : kind.Heap ≡ k = cc in subst P same (heap_is ty)
+imm_is (imm.Catches catches) k e = let P : ImmKind → Type 0 = λ j. Is (shape_of_kind j) (imm_tree (imm.Catches catches)) in subst P ((chosen (is_counted (length catches)) kind.Catches k e).1) (Is.vec (items_are _ catch_tree catch_is catches))
+imm_is (imm.Cast label from to) k e = let P : ImmKind → Type 0 = λ j. Is (shape_of_kind j) (imm_tree (imm.Cast label from to)) in let same : kind.Cast ≡ k = cc in subst P same (cast_is label from to)
+imm_is (imm.Handlers handlers) k e = let P : ImmKind → Type 0 = λ j. Is (shape_of_kind j) (imm_tree (imm.Handlers handlers)) in subst P ((chosen (is_counted (length handlers)) kind.Handlers k e).1) (Is.vec (items_are _ handle_tree handle_is handlers))
+imm_is imm.Zero k e = let P : ImmKind → Type 0 = λ j. Is (shape_of_kind j) (imm_tree imm.Zero) in let same : kind.Zero ≡ k = cc in subst P same (Is.fixed)
 
-imms_are : (imms : List Imm) (kinds : List ImmKind) → map imm_kind imms ≡ map Some kinds → all_settled kinds ≡ true → Is (shape_of_kinds kinds) (imms_tree imms)
-imms_are [] [] e s = Is.empty
-imms_are [] (k ∷ kinds) e s = absurd cc
-imms_are (i ∷ imms) [] e s = absurd cc
-imms_are (i ∷ imms) (k ∷ kinds) e s =
+imms_are : (imms : List Imm) (kinds : List ImmKind) → map imm_kind imms ≡ map Some kinds → Is (shape_of_kinds kinds) (imms_tree imms)
+imms_are [] [] e = Is.empty
+imms_are [] (k ∷ kinds) e = absurd cc
+imms_are (i ∷ imms) [] e = absurd cc
+imms_are (i ∷ imms) (k ∷ kinds) e =
     let one : imm_kind i ≡ Some k = cc in
     let others : map imm_kind imms ≡ map Some kinds = cc in
-    let parts = both (settled k) (all_settled kinds) s in
-    Is.seq (imm_is i k one parts.0) (imms_are imms kinds others parts.1)
+    Is.seq (imm_is i k one) (imms_are imms kinds others)
 
 instruction_is : (i : Parts) → HasKinds i.opcode (map imm_kind i.imms) → Is (Shape.op true) (instruction_tree i)
 instruction_is i h =
     let row = row_had i.opcode (map imm_kind i.imms) h in
     let P : Option (List ImmKind) → Type 0 = λ o. Is (shape_of_row o) (imms_tree i.imms) in
-    Is.op (code_is (code_of i.opcode) row.0 row.1) (subst P (sym row.1) (imms_are i.imms row.0 row.2 (kinds_settled (code_of i.opcode) row.0 row.1)))
+    Is.op (code_is (code_of i.opcode) row.0 row.1) (subst P (sym row.1) (imms_are i.imms row.0 row.2))
 
 -- ---- what is in range spells an instruction
 

@@ -1,5 +1,5 @@
 -- The trees that instructions stand for (WebAssembly Core Specification 3.0, section 5.4).
-use Rattle.std.specs.Prelude.{ℕ, Bool, true, false, List, [], ◌∷◌, length, map, Option, Some, None, if◌then◌else◌}
+use Rattle.std.specs.Prelude.{ℕ, List, [], ◌∷◌, length, map, Option, Some, None, if◌then◌else◌}
 use Rattle.std.specs.Int.{to_le_bytes, w32, w64}
 use Rattle.wasm_shapes.specs.declared.Space.TheVariants as space
 use Rattle.wasm_shapes.specs.declared.ImmKind.{ImmKind}
@@ -7,7 +7,7 @@ use Rattle.wasm_shapes.specs.declared.ImmKind.TheVariants as kind
 use Rattle.wasm_shapes.specs.declared.Opcode.{Opcode}
 use Rattle.wasm_shapes.specs.Operators.{code_of}
 use Rattle.wasm_shapes.specs.Tree.{Tree}
-use Rattle.wasm_shapes.specs.Types.{are_sixteen, is_core, is_counted, led, vector_tree}
+use Rattle.wasm_shapes.specs.Types.{are_sixteen, cast_of, is_core, is_counted, led, vector_tree}
 use Rattle.wasm_write.specs.declared.types.RefType.{RefType}
 use Rattle.wasm_write.specs.declared.types.BlockType.{BlockType}
 use Rattle.wasm_write.specs.declared.types.BlockType.TheVariants as block
@@ -71,22 +71,13 @@ abbrev pub handle_tree : Handle → Tree
 handle_tree (handle.OnLabel tag label) = Tree.row 0 (led 0x00 (Tree.pair (Tree.ix space.Tag tag) (Tree.u32 label)))
 handle_tree (handle.OnSwitch tag) = Tree.row 1 (led 0x01 (Tree.ix space.Tag tag))
 
--- bit 0 says that the first reference may be null, and bit 1 that the second may
-abbrev pub cast_flags : Bool → Bool → ℕ
-cast_flags false false = 0
-cast_flags true false = 1
-cast_flags false true = 2
-cast_flags true true = 3
-
 -- labels and the default one
 abbrev pub targets_tree : List ℕ → ℕ → Tree
 targets_tree targets default = Tree.pair (vector_tree (map label_tree targets)) (Tree.u32 default)
 
--- the flags, the label and the heap types of a cast
+-- the label and the references of a cast
 abbrev pub cast_tree : ℕ → RefType → RefType → Tree
-cast_tree label from to =
-    Tree.pair (Tree.byte (cast_flags from.nullable to.nullable))
-    (Tree.pair (Tree.u32 label) (Tree.pair (heap_type_tree from.heap_type) (heap_type_tree to.heap_type)))
+cast_tree label from to = cast_of label from.nullable (heap_type_tree from.heap_type) to.nullable (heap_type_tree to.heap_type)
 
 abbrev pub imm_tree : Imm → Tree
 imm_tree (imm.Block ty) = block_type_tree ty

@@ -3,8 +3,9 @@ ghost use Rattle.std.specs.Prelude.{◌≡◌, ◌++◌, ◌∷◌, ◌+◌, ◌
 ghost use Rattle.wasm_leb.specs.Leb.{leb};
 ghost use Rattle.wasm_shapes.specs.Tree.{Tree, normal};
 ghost use Rattle.wasm_shapes.specs.Fits.{InRange};
+ghost use Rattle.wasm_shapes.specs.Types.{cast_flags};
 ghost use Rattle.wasm_write.specs.Types.{heap_type_tree};
-ghost use Rattle.wasm_write.specs.Instructions.{imm_kind, imm_tree, block_type_tree, targets_tree, cast_flags, cast_tree, catch_tree, handle_tree};
+ghost use Rattle.wasm_write.specs.Instructions.{imm_kind, imm_tree, block_type_tree, targets_tree, cast_tree, catch_tree, handle_tree};
 
 use crate::fault::WriteFault;
 use crate::types::{BlockType, Catch, Handle, HeapType, Imm, MemArg, RefType};

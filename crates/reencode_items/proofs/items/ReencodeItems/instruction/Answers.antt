@@ -2,17 +2,17 @@ use Rattle.std.proofs.Common.{ap, ◌∙◌, length, arith}
 use Rattle.wasm_read.specs.Immediates as read
 use Rattle.wasm_shapes.specs.Operators.{code_of}
 use Rattle.reencode_hooks.proofs.Leaving.{accepted_visited, handed, visited_left}
-use Rattle.reencode_items.proofs.Operators.{all_kinds, imms_begin, imms_leave, imms_more, next_mapped, operator_accepted, operator_mapped, operator_refused}
+use Rattle.reencode_items.proofs.Operators.{all_kinds, imms_begin, imms_leave, imms_more, next_has, operator_accepted, operator_kinds, operator_refused}
 use Rattle.reencode_items.proofs.items.ReencodeItems.instruction.Goals as goal
 
 pub loop-imm-init : goal.loop-imm-init
 loop-imm-init g c =
     let gives = c.into_iter-imm-iterator.ensures.into_iter_gives in
-    imms_begin c.args.self.now (operator_mapped c.args.arg.opcode c.args.arg.imms c.into_imms-imms.ensures.fit) (gives.0 ∙ c.into_vec-imm-items.ensures ∙ c.into_imms-imms.ensures.items)
+    imms_begin c.args.self.now (operator_kinds c.args.arg.opcode c.args.arg.imms c.into_imms-imms.ensures.fit) (gives.0 ∙ c.into_vec-imm-items.ensures ∙ c.into_imms-imms.ensures.items)
     (let same = ap length gives.0 in omega (arith, gives.1, c.into_vec-imm-items.result.ok.0)) c.in_ok-mapped.ensures
 
 pub immediate-requires : goal.immediate-requires
-immediate-requires g c = next_mapped c.in-Some.imm c.loop-imm.invariant c.in-Some.ensures.steps.0
+immediate-requires g c = next_has c.in-Some.imm c.loop-imm.invariant c.in-Some.ensures.steps.0
 
 pub returns-in_err-imm-clause-default : goal.returns-in_err-imm-clause-default
 returns-in_err-imm-clause-default g c = rw (handed _ c.from_residual-in_err-imm.ensures.1) (λ k ceiling other.
