@@ -260,8 +260,8 @@ macro_rules! parse_instruction {
 pub(crate) use array_type;
 pub(crate) use block_type;
 pub(crate) use composite_type;
-pub(crate) use each_val_type;
 pub(crate) use cont_type;
+pub(crate) use each_val_type;
 pub(crate) use entity_type;
 pub(crate) use field_type;
 pub(crate) use func_type;
