@@ -9,6 +9,8 @@ use Rattle.wasm_shapes.specs.Module.{core_module}
 use Rattle.reencode_hooks.specs.declared.error.Error.{Error}
 use Rattle.reencode_hooks.specs.declared.error.Error.TheVariants.{UserError, NoMemory}
 use Rattle.reencode_hooks.specs.Rules.{by_rule}
+use Rattle.reencode_hooks.specs.Run.{ask}
+use Rattle.reencode_core.specs.Core.{GivesBytes}
 
 -- The bytes are a core module, the rule has an answer to each index that stands in it, in the order of the visits, and the
 -- output is the normal spelling of the module with each index replaced by its answer.
@@ -44,3 +46,8 @@ abbrev pub IsMade : {E : Type 0} → (Space → ℕ → Result ℕ E) → ℕ �
 IsMade renamed ceiling bytes e =
     (tree : Tree) (answers : List ℕ) → Spells core_module bytes tree → map (by_rule renamed) (visits tree) ≡ map Ok answers
     → Fits (fill tree answers) ceiling → e ≡ NoMemory
+
+-- What a reencoder gives that answers each visit by a rule and stays as it is.
+abbrev pub GivesByRule : {S E A : Type 0} → (S → Space → ℕ → Result ℕ E) → ℕ → List ℕ → S → Result A (Error E) → (A → List ℕ) → Type 0
+GivesByRule {S} renamed ceiling bytes s result view =
+    (last : S) × GivesBytes (ask (λ k visit. by_rule (renamed k) visit) (λ k _. k)) ceiling bytes s last result view

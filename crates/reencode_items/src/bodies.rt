@@ -112,12 +112,27 @@ macro_rules! composite_type {
     };
 }
 
+// A list of value types, each by the method `val_type`.
+macro_rules! each_val_type {
+    ($reencoder:ident, $alloc:ident, $val_tys:expr) => {
+        {
+            let mut mapped = List::with_capacity($alloc, $val_tys.len())?;
+            for ty in $val_tys.as_slice() {
+                let ty = $reencoder.val_type(*ty)?;
+                mapped.push(ty)?;
+            }
+            mapped
+        }
+    };
+}
+
 macro_rules! func_type {
     ($reencoder:ident, $alloc:ident, $func_ty:ident) => {
-        Ok(w::FuncType {
-            params: $reencoder.val_types($alloc, $func_ty.params)?,
-            results: $reencoder.val_types($alloc, $func_ty.results)?,
-        })
+        {
+            let params = bodies::each_val_type!($reencoder, $alloc, $func_ty.params);
+            let results = bodies::each_val_type!($reencoder, $alloc, $func_ty.results);
+            Ok(w::FuncType { params, results })
+        }
     };
 }
 
@@ -154,14 +169,7 @@ macro_rules! sub_type {
 
 macro_rules! val_types {
     ($reencoder:ident, $alloc:ident, $val_tys:ident) => {
-        {
-            let mut mapped = List::with_capacity($alloc, $val_tys.len())?;
-            for ty in $val_tys.as_slice() {
-                let ty = $reencoder.val_type(*ty)?;
-                mapped.push(ty)?;
-            }
-            Ok(mapped)
-        }
+        Ok(bodies::each_val_type!($reencoder, $alloc, $val_tys))
     };
 }
 
@@ -308,6 +316,7 @@ pub(crate) use array_type;
 pub(crate) use block_type;
 pub(crate) use composite_type;
 pub(crate) use cont_type;
+pub(crate) use each_val_type;
 pub(crate) use entity_type;
 pub(crate) use field_type;
 pub(crate) use func_type;

@@ -171,8 +171,7 @@ pub trait ReencodeItems: ReencodeIndices {
         bodies::composite_type!(self, alloc, composite_ty)
     }
 
-    /// The parameters and results of a function (section 5.3.8).
-    #[tactic(auto, using(reencode_hooks::proofs::Leaving::two_parts))]
+    /// The parameters and results of a function (section 5.3.8), each by the method `val_type`.
     fn func_type(
         &mut self,
         alloc: Global,

@@ -183,8 +183,7 @@ pub fn composite_type<T: ReencodeItems>(
     bodies::composite_type!(reencoder, alloc, composite_ty)
 }
 
-/// The parameters and results of a function (section 5.3.8).
-#[tactic(auto, using(reencode_hooks::proofs::Leaving::two_parts))]
+/// The parameters and results of a function (section 5.3.8), each by the method `val_type`.
 pub fn func_type<T: ReencodeItems>(
     reencoder: &mut T,
     alloc: Global,

@@ -10,3 +10,6 @@ returns-clause-refused g c = rule_refused (λ rule. g.R.IndexRule.renamed rule.r
 
 pub returns-clause-made : goal.returns-clause-made
 returns-clause-made g c = rule_made (λ rule. g.R.IndexRule.renamed rule.rule) c.reencode_core.result (c.reencode_core.ensures.default refl refl)
+
+pub returns-clause-gives : goal.returns-clause-gives
+returns-clause-gives g c = (c.reencode_core.new.r, c.reencode_core.ensures.default refl refl)
