@@ -1,5 +1,5 @@
 //! Instructions.
-ghost use Rattle.std.specs.Prelude.{◌≡◌, ◌++◌, ◌∷◌, ◌<◌, ◌↔◌, true, map, take, vec_len, All, IsSome, IfSome, IfNone, IsTrue, Some, None, if◌then◌else◌, OnOk, OnErr};
+ghost use Rattle.std.specs.Prelude.{◌≡◌, ◌++◌, ◌∷◌, ◌<◌, ◌^◌, ◌↔◌, true, map, take, vec_len, All, IsSome, IfSome, IfNone, IsTrue, Some, None, if◌then◌else◌, OnOk, OnErr};
 ghost use Rattle.wasm_leb.specs.Leb.{leb};
 ghost use Rattle.wasm_shapes.specs.Immediates.{HasKinds};
 ghost use Rattle.wasm_shapes.specs.Operators.{code_of};
@@ -180,6 +180,60 @@ pub(crate) fn write_operator(
     ensures spells { OnOk result
         (∥ Spells (Shape.op true) (normal (operator_tree opcode imms.now))
         (operator_tree opcode imms.now) ∥₁) }
+    ensures err { OnErr result (take (vec_len out.old) out.new.items ≡ out.old.items) }
+{
+    match short_operator(opcode, imms) {
+        Some((byte, number)) => write_short(out, byte, number),
+        None => write_any_operator(out, opcode, imms),
+    }
+}
+
+/// The byte and the number that are all of an operator, where its number takes one or two bytes. None says nothing.
+#[inline(always)]
+fn short_operator(opcode: Opcode, imms: &[Imm<'_>]) -> Option<(u8, u16)>
+    requires { opcode.prefix ≡ 0 → opcode.sub < 256 }
+    ensures normal { IfSome result
+        (λ r. normal (operator_tree opcode imms.now) ≡ r.0 ∷ leb r.1) }
+    ensures in_range { IfSome result (λ _. InRange (operator_tree opcode imms.now)) }
+    ensures small { IfSome result (λ r. r.1 < 2 ^ 14) }
+{
+    match imms {
+        [imm] if opcode.prefix == 0 => match imm {
+            Imm::Index(_, index) if *index < 1 << 14 => Some((opcode.sub as u8, *index as u16)),
+            _ => None,
+        },
+        _ => None,
+    }
+}
+
+/// Appends a byte and a number of one or two bytes, or nothing: memory is asked for once.
+#[inline(always)]
+fn write_short(out: &mut Vec<u8>, byte: u8, number: u16) -> Result<(), NoMemory>
+    requires { number < 2 ^ 14 }
+    ensures ok { OnOk result (out.new.items ≡ out.old.items ++ (byte ∷ leb number)) }
+    ensures err { OnErr result (take (vec_len out.old) out.new.items ≡ out.old.items) }
+{
+    let Ok(()) = out.reserve(3) else {
+        return Err(NoMemory);
+    };
+    out.push_reserved(byte);
+    if number < 128 {
+        out.push_reserved(number as u8);
+    } else {
+        out.push_reserved((number % 128 + 128) as u8);
+        out.push_reserved((number / 128) as u8);
+    }
+    Ok(())
+}
+
+/// Appends an operator part by part, or a part of it where memory is wanting.
+#[inline(always)]
+fn write_any_operator(out: &mut Vec<u8>, opcode: Opcode, imms: &[Imm<'_>]) -> Result<(), NoMemory>
+    requires byte { opcode.prefix ≡ 0 → opcode.sub < 256 }
+    requires kinds { All (λ i. IsSome (imm_kind i)) imms.now }
+    ensures ok { OnOk result
+        (out.new.items ≡ out.old.items ++ normal (operator_tree opcode imms.now)) }
+    ensures in_range { OnOk result (InRange (operator_tree opcode imms.now)) }
     ensures err { OnErr result (take (vec_len out.old) out.new.items ≡ out.old.items) }
 {
     match write_opcode(out, opcode) {
