@@ -1,5 +1,5 @@
 //! Instructions.
-ghost use Rattle.std.specs.Prelude.{◌≡◌, ◌++◌, ◌∷◌, ◌<◌, ◌^◌, ◌↔◌, true, map, take, vec_len, All, IsSome, IfSome, IfNone, IsTrue, Some, None, if◌then◌else◌, OnOk, OnErr};
+ghost use Rattle.std.specs.Prelude.{[], ◌≡◌, ◌++◌, ◌∷◌, ◌<◌, ◌^◌, ◌↔◌, true, map, take, vec_len, All, IsSome, IfSome, IfNone, IsTrue, Some, None, if◌then◌else◌, OnOk, OnErr};
 ghost use Rattle.wasm_leb.specs.Leb.{leb};
 ghost use Rattle.wasm_shapes.specs.Immediates.{HasKinds};
 ghost use Rattle.wasm_shapes.specs.Operators.{code_of};
@@ -8,6 +8,7 @@ ghost use Rattle.wasm_shapes.specs.Shape.{Shape};
 ghost use Rattle.wasm_shapes.specs.Spells.{Spells};
 ghost use Rattle.wasm_shapes.specs.Fits.{CodeInRange, InRange};
 ghost use Rattle.wasm_shapes.specs.Types.{are_sixteen, is_core, is_counted};
+ghost use Rattle.wasm_write.specs.declared.types.Imm.TheVariants as imm;
 ghost use Rattle.wasm_write.specs.Instructions.{imm_kind, imms_tree, instruction_tree, operator_tree};
 
 use crate::immediates::write_imm;
@@ -182,31 +183,37 @@ pub(crate) fn write_operator(
         (operator_tree opcode imms.now) ∥₁) }
     ensures err { OnErr result (take (vec_len out.old) out.new.items ≡ out.old.items) }
 {
-    match short_operator(opcode, imms) {
-        Some((byte, number)) => write_short(out, byte, number),
-        None => write_any_operator(out, opcode, imms),
+    match write_opcode(out, opcode) {
+        Ok(()) => write_imms(out, imms),
+        Err(NoMemory) => Err(NoMemory),
     }
 }
 
-/// The byte and the number that are all of an operator, where its number takes one or two bytes. None says nothing.
+/// The same of an operator whose one immediate is an index. Where it takes two or three bytes, memory is asked for once.
 #[inline(always)]
-fn short_operator(opcode: Opcode, imms: &[Imm<'_>]) -> Option<(u8, u16)>
-    requires { opcode.prefix ≡ 0 → opcode.sub < 256 }
-    ensures normal { IfSome result
-        (λ r. normal (operator_tree opcode imms.now) ≡ r.0 ∷ leb r.1) }
-    ensures in_range { IfSome result (λ _. InRange (operator_tree opcode imms.now)) }
-    ensures small { IfSome result (λ r. r.1 < 2 ^ 14) }
+pub(crate) fn write_index_operator(
+    out: &mut Vec<u8>,
+    opcode: Opcode,
+    space: Space,
+    index: u32,
+) -> Result<(), NoMemory>
+    requires { HasKinds opcode (imm_kind (imm.Index space index) ∷ []) }
+    ensures ok { OnOk result
+        (out.new.items ≡ out.old.items
+        ++ normal (operator_tree opcode (imm.Index space index ∷ []))) }
+    ensures spells { OnOk result
+        (∥ Spells (Shape.op true) (normal (operator_tree opcode (imm.Index space index ∷ [])))
+        (operator_tree opcode (imm.Index space index ∷ [])) ∥₁) }
+    ensures err { OnErr result (take (vec_len out.old) out.new.items ≡ out.old.items) }
 {
-    match imms {
-        [imm] if opcode.prefix == 0 => match imm {
-            Imm::Index(_, index) if *index < 1 << 14 => Some((opcode.sub as u8, *index as u16)),
-            _ => None,
-        },
-        _ => None,
+    if opcode.prefix == 0 && index < 1 << 14 {
+        write_short(out, opcode.sub as u8, index as u16)
+    } else {
+        write_operator(out, opcode, &[Imm::Index(space, index)])
     }
 }
 
-/// Appends a byte and a number of one or two bytes, or nothing: memory is asked for once.
+/// Appends a byte and a number of one or two bytes, or nothing.
 #[inline(always)]
 fn write_short(out: &mut Vec<u8>, byte: u8, number: u16) -> Result<(), NoMemory>
     requires { number < 2 ^ 14 }
@@ -224,22 +231,6 @@ fn write_short(out: &mut Vec<u8>, byte: u8, number: u16) -> Result<(), NoMemory>
         out.push_reserved((number / 128) as u8);
     }
     Ok(())
-}
-
-/// Appends an operator part by part, or a part of it where memory is wanting.
-#[inline(always)]
-fn write_any_operator(out: &mut Vec<u8>, opcode: Opcode, imms: &[Imm<'_>]) -> Result<(), NoMemory>
-    requires byte { opcode.prefix ≡ 0 → opcode.sub < 256 }
-    requires kinds { All (λ i. IsSome (imm_kind i)) imms.now }
-    ensures ok { OnOk result
-        (out.new.items ≡ out.old.items ++ normal (operator_tree opcode imms.now)) }
-    ensures in_range { OnOk result (InRange (operator_tree opcode imms.now)) }
-    ensures err { OnErr result (take (vec_len out.old) out.new.items ≡ out.old.items) }
-{
-    match write_opcode(out, opcode) {
-        Ok(()) => write_imms(out, imms),
-        Err(NoMemory) => Err(NoMemory),
-    }
 }
 
 /// Appends the number of an operator, or a part of it where memory is wanting.
