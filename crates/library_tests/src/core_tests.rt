@@ -1,8 +1,7 @@
 //! Each free function of sections and rows through its bound, and sections by their kind.
 use reencode_core::{Reencode, utils};
-use reencode_hooks::{Error, Renamer, RoundtripReencoder};
+use reencode_hooks::{Error, Renamer, RoundtripReencoder, Unmapped};
 use std::alloc::Global;
-use std::test::Fail;
 use wasm_leb::{NoMemory, ReadError};
 use wasm_read as r;
 use wasm_shapes::{SectionId, Space};
@@ -44,7 +43,7 @@ fn exports<R: Reencode>(
     Ok(())
 }
 
-/// The section `01 01 61 01 62 20 00` of imports, and two more rows of it.
+/// The section `01 01 61 01 62 20 00` of imports, and three more rows of it.
 fn imports<R: Reencode>(
     reencoder: &mut R,
     alloc: Global,
@@ -60,6 +59,7 @@ fn imports<R: Reencode>(
     };
     utils::parse_imports(reencoder, alloc, &mut imports, r::Imports::Single(import))?;
     utils::parse_import(reencoder, alloc, &mut imports, import)?;
+    reencoder.parse_import(alloc, &mut imports, import)?;
     module.section(&imports)?;
     Ok(())
 }
@@ -187,7 +187,7 @@ fn renamer(alloc: Global) -> Result<Renamer, NoMemory> {
 }
 
 #[test]
-fn functions_map_rows(rt: HostRuntime) -> Result<(), Fail> {
+fn functions_map_rows(rt: HostRuntime) -> Result<(), Error<Unmapped>> {
     let mut renamer = renamer(rt.alloc())?;
     let expected = [
         0x00, 0x61, 0x73, 0x6d, 0x01, 0x00, 0x00, 0x00, 0x01, 0x04, 0x01, 0x60, 0x00, 0x00, 0x03,
@@ -201,13 +201,13 @@ fn functions_map_rows(rt: HostRuntime) -> Result<(), Fail> {
 }
 
 #[test]
-fn functions_map_imports(rt: HostRuntime) -> Result<(), Fail> {
+fn functions_map_imports(rt: HostRuntime) -> Result<(), Error<Unmapped>> {
     let mut renamer = renamer(rt.alloc())?;
     let expected = [
-        0x00, 0x61, 0x73, 0x6d, 0x01, 0x00, 0x00, 0x00, 0x02, 0x11, 0x03, 0x01, 0x61, 0x01, 0x62,
-        0x20, 0x05, 0x00, 0x01, 0x63, 0x00, 0x05, 0x00, 0x01, 0x63, 0x00, 0x05, 0x04, 0x08, 0x02,
-        0x64, 0x05, 0x00, 0x01, 0x70, 0x00, 0x02, 0x05, 0x04, 0x01, 0x01, 0x01, 0x02, 0x0d, 0x03,
-        0x01, 0x00, 0x05,
+        0x00, 0x61, 0x73, 0x6d, 0x01, 0x00, 0x00, 0x00, 0x02, 0x16, 0x04, 0x01, 0x61, 0x01, 0x62,
+        0x20, 0x05, 0x00, 0x01, 0x63, 0x00, 0x05, 0x00, 0x01, 0x63, 0x00, 0x05, 0x00, 0x01, 0x63,
+        0x00, 0x05, 0x04, 0x08, 0x02, 0x64, 0x05, 0x00, 0x01, 0x70, 0x00, 0x02, 0x05, 0x04, 0x01,
+        0x01, 0x01, 0x02, 0x0d, 0x03, 0x01, 0x00, 0x05,
     ];
     let module = module_of_imports(&mut renamer, rt.alloc())?;
     assert_eq!(rt; module.as_slice(), expected.as_slice());
@@ -215,7 +215,7 @@ fn functions_map_imports(rt: HostRuntime) -> Result<(), Fail> {
 }
 
 #[test]
-fn functions_map_modules(rt: HostRuntime) -> Result<(), Fail> {
+fn functions_map_modules(rt: HostRuntime) -> Result<(), Error<Unmapped>> {
     let mut renamer = renamer(rt.alloc())?;
     let expected = [
         0x00, 0x61, 0x73, 0x6d, 0x01, 0x00, 0x00, 0x00, 0x03, 0x02, 0x01, 0x05,

@@ -2,7 +2,7 @@
 use examples::{NotBelow, TooMany, Widened, check_below, move_behind};
 use reencode_core::reencode_core;
 use reencode_hooks::Error;
-use std::test::Fail;
+use std::convert::Infallible;
 
 /// A module that adds two numbers: a type, a function, an export and its code.
 const ADDS: [u8; 39] = [
@@ -17,7 +17,7 @@ const EXPORTS: [u8; 15] = [
 ];
 
 #[test]
-fn functions_move(rt: HostRuntime) -> Result<(), Fail> {
+fn functions_move(rt: HostRuntime) -> Result<(), Error<TooMany>> {
     let mut moved = ADDS;
     moved[27] = 0x05;
     let bytes = move_behind(rt.alloc(), &ADDS, 5)?;
@@ -31,7 +31,7 @@ fn functions_move(rt: HostRuntime) -> Result<(), Fail> {
 }
 
 #[test]
-fn functions_are_checked(rt: HostRuntime) -> Result<(), Fail> {
+fn functions_are_checked(rt: HostRuntime) -> Result<(), Error<NotBelow>> {
     let bytes = check_below(rt.alloc(), &EXPORTS, 2)?;
     assert!(rt; bytes.as_slice() == EXPORTS.as_slice());
     let refused = match check_below(rt.alloc(), &EXPORTS, 1) {
@@ -43,7 +43,7 @@ fn functions_are_checked(rt: HostRuntime) -> Result<(), Fail> {
 }
 
 #[test]
-fn types_are_widened(rt: HostRuntime) -> Result<(), Fail> {
+fn types_are_widened(rt: HostRuntime) -> Result<(), Error<Infallible>> {
     let mut wide = ADDS;
     wide[13] = 0x7e;
     wide[14] = 0x7e;

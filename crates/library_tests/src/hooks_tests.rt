@@ -3,14 +3,13 @@ use reencode_hooks::{
     Asked, Error, ReencodeIndices, Renamer, RoundtripReencoder, Unmapped, frames_are_in_order,
     moments_are, utils, walk_is_passed, walk_is_run, walk_refuses, walk_stops, walk_visits,
 };
-use std::alloc::Global;
-use std::test::Fail;
+use std::alloc::{AllocError, Global};
 use wasm_leb::{Fault, Kind, NoMemory, ReadError};
 use wasm_shapes::{SectionId, Space};
 use wasm_write::{Module, WriteFault};
 
 #[test]
-fn errors_print(rt: HostRuntime) -> Result<(), Fail> {
+fn errors_print(rt: HostRuntime) -> Result<(), AllocError> {
     let refused = Unmapped {
         space: Space::Function,
         index: 0,
@@ -94,7 +93,7 @@ fn thousands(alloc: Global) -> Result<Renamer, NoMemory> {
 }
 
 #[test]
-fn hooks_answer(rt: HostRuntime) -> Result<(), Fail> {
+fn hooks_answer(rt: HostRuntime) -> Result<(), NoMemory> {
     let mut module = Module::new(rt.alloc(), 100)?;
     let mut same = RoundtripReencoder;
     assert_eq!(rt; asks_all(&mut same, &mut module).ok(), Some(511));
@@ -127,7 +126,7 @@ fn hooks_answer(rt: HostRuntime) -> Result<(), Fail> {
 }
 
 #[test]
-fn utils_keep(rt: HostRuntime) -> Result<(), Fail> {
+fn utils_keep(rt: HostRuntime) -> Result<(), NoMemory> {
     let mut module = Module::new(rt.alloc(), 100)?;
     let mut same = RoundtripReencoder;
     let answers = [

@@ -5,7 +5,7 @@ ghost use Rattle.std.specs.Prelude.{◌≡◌, ◌∷◌, [], IfOk};
 use reencode_hooks::{Asked, Error, Renamer, RoundtripReencoder};
 use reencode_items::{ReencodeItems, utils};
 use std::alloc::Global;
-use std::test::Fail;
+use std::convert::Infallible;
 use wasm_leb::{List, NoMemory, ReadError};
 use wasm_read as r;
 use wasm_shapes::{CALL, END, I32_CONST, Space};
@@ -79,7 +79,7 @@ fn types_by_functions<R: ReencodeItems>(of: &mut R) -> Result<[bool; 12], Error<
 }
 
 #[test]
-fn types(rt: HostRuntime) -> Result<(), Fail> {
+fn types(rt: HostRuntime) -> Result<(), NoMemory> {
     let mut renamer = renamer(rt.alloc())?;
     assert_eq!(rt; types_by_methods(&mut renamer).ok(), Some([true; 12]));
     assert_eq!(rt; types_by_functions(&mut renamer).ok(), Some([true; 12]));
@@ -177,7 +177,7 @@ fn lists_by_functions<R: ReencodeItems>(
 }
 
 #[test]
-fn lists(rt: HostRuntime) -> Result<(), Fail> {
+fn lists(rt: HostRuntime) -> Result<(), NoMemory> {
     let mut renamer = renamer(rt.alloc())?;
     assert_eq!(rt;
         lists_by_methods(&mut renamer, rt.alloc()).ok(),
@@ -279,7 +279,7 @@ fn externals_by_functions<R: ReencodeItems>(of: &mut R) -> Result<[bool; 8], Err
 }
 
 #[test]
-fn externals(rt: HostRuntime) -> Result<(), Fail> {
+fn externals(rt: HostRuntime) -> Result<(), NoMemory> {
     let mut renamer = renamer(rt.alloc())?;
     assert_eq!(rt; externals_by_methods(&mut renamer).ok(), Some([true; 11]));
     assert_eq!(rt; renamer.count(Asked::Of(Space::Type_)), 8);
@@ -483,7 +483,7 @@ fn operators_by_calls<R: ReencodeItems>(
 }
 
 #[test]
-fn operators(rt: HostRuntime) -> Result<(), Fail> {
+fn operators(rt: HostRuntime) -> Result<(), NoMemory> {
     let mut renamer = renamer(rt.alloc())?;
     assert_eq!(rt;
         operators_by_calls(&mut renamer, rt.alloc()).ok(),
@@ -498,7 +498,7 @@ fn operators(rt: HostRuntime) -> Result<(), Fail> {
 }
 
 #[test]
-fn operators_refused(rt: HostRuntime) -> Result<(), Fail> {
+fn operators_refused(rt: HostRuntime) -> Result<(), Error<Infallible>> {
     let body = r::FunctionBody {
         bytes: &[0x00, 0x0b, 0xff],
     };

@@ -17,6 +17,8 @@ mod override_tests;
 #[cfg(test)]
 mod read_tests;
 #[cfg(test)]
+mod section_hook_tests;
+#[cfg(test)]
 mod shapes_tests;
 #[cfg(test)]
 mod write_tests;

@@ -2,7 +2,6 @@
 use reencode_hooks::{Error, ReencodeIndices};
 use reencode_items::ReencodeItems;
 use std::convert::Infallible;
-use std::test::Fail;
 use wasm_leb::List;
 use wasm_read as r;
 use wasm_shapes::SectionId;
@@ -93,7 +92,7 @@ impl ReencodeItems for Widener {
 }
 
 #[test]
-fn overrides_are_called(rt: HostRuntime) -> Result<(), Fail> {
+fn overrides_are_called(rt: HostRuntime) -> Result<(), Error<Infallible>> {
     let mut types = List::with_capacity(rt.alloc(), 2)?;
     types.push(r::ValType::I32)?;
     types.push(r::ValType::F32)?;

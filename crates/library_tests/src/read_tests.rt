@@ -1,11 +1,10 @@
 //! What no bytes spell: operators that are put together, indices inside a group, and a call after the last.
-use std::test::Fail;
-use wasm_leb::{Fault, List, ReadError};
+use wasm_leb::{Fault, List, NoMemory, ReadError};
 use wasm_read::{FunctionSectionReader, Imm, Operator, UnpackedIndex, front_name};
 use wasm_shapes::{CALL, I32_ADD, I32_CONST, LOCAL_GET, Opcode, Space};
 
 #[test]
-fn kinds_of_operators(rt: HostRuntime) -> Result<(), Fail> {
+fn kinds_of_operators(rt: HostRuntime) -> Result<(), NoMemory> {
     let unknown = Opcode {
         prefix: 0,
         sub: 0xff,
@@ -46,7 +45,7 @@ fn fields(rt: HostRuntime) {
 
 /// A reader stands where it stood after its end and after a refusal.
 #[test]
-fn called_again(rt: HostRuntime) -> Result<(), Fail> {
+fn called_again(rt: HostRuntime) -> Result<(), Fault> {
     let unread = |at| Err(Fault::Read(ReadError { at }));
     for (body, answer) in [
         (&[0x00u8] as &[u8], Ok(None)),

@@ -1,12 +1,11 @@
 //! The table of operators, and the names and numbers of spaces and sections.
-use std::test::Fail;
 use wasm_shapes::{
     BLOCK, BR, CALL, CALL_INDIRECT, DROP, END, GLOBAL_GET, I32_ADD, I32_CONST, I32_LOAD, ImmKind,
     LOCAL_GET, NOP, Opcode, REF_FUNC, SectionId, Space, UNREACHABLE, row_of,
 };
 
 #[test]
-fn operators_in_force(rt: HostRuntime) -> Result<(), Fail> {
+fn operators_in_force(rt: HostRuntime) {
     // The numbers of the operators and the first of their immediates, by the public standard.
     for (opcode, byte, kind) in [
         (UNREACHABLE, 0x00, None),
@@ -25,7 +24,9 @@ fn operators_in_force(rt: HostRuntime) -> Result<(), Fail> {
         (REF_FUNC, 0xd2, Some(ImmKind::Index(Space::Function))),
     ] {
         assert_eq!(rt; opcode.sub, byte);
-        let kinds = row_of(opcode).ok_or("a row")?;
+        let Some(kinds) = row_of(opcode) else {
+            panic!(rt; "no row of {byte}");
+        };
         assert_eq!(rt; kinds.first().copied(), kind);
     }
     // No operator has these numbers.
@@ -42,7 +43,6 @@ fn operators_in_force(rt: HostRuntime) -> Result<(), Fail> {
     ] {
         assert!(rt; row_of(Opcode { prefix, sub }).is_none());
     }
-    Ok(())
 }
 
 #[test]

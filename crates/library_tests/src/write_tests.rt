@@ -2,7 +2,6 @@
 use reencode_hooks::Error;
 use std::alloc::Global;
 use std::convert::Infallible;
-use std::test::Fail;
 use wasm_leb::{List, NoMemory};
 use wasm_shapes::{CALL, END, I32_ADD, I32_CONST, LOCAL_GET, NOP, Opcode, Space};
 use wasm_write::{
@@ -112,7 +111,7 @@ fn adding_module(alloc: Global) -> Made<Module> {
 }
 
 #[test]
-fn module_that_adds(rt: HostRuntime) -> Result<(), Fail> {
+fn module_that_adds(rt: HostRuntime) -> Made<()> {
     let whole = [
         0x00u8, 0x61, 0x73, 0x6d, 0x01, 0x00, 0x00, 0x00, 0x01, 0x07, 0x01, 0x60, 0x02, 0x7f, 0x7f,
         0x01, 0x7f, 0x03, 0x02, 0x01, 0x00, 0x07, 0x05, 0x01, 0x01, 0x66, 0x00, 0x00, 0x0a, 0x09,
@@ -127,7 +126,7 @@ fn module_that_adds(rt: HostRuntime) -> Result<(), Fail> {
 }
 
 #[test]
-fn ceilings(rt: HostRuntime) -> Result<(), Fail> {
+fn ceilings(rt: HostRuntime) -> Made<()> {
     let body = adding(rt.alloc())?;
     let mut code = CodeSection::new(rt.alloc(), 6);
     assert_eq!(rt; code.function(&body), Err(WriteFault::TooLarge { size: 7 }));
@@ -143,7 +142,7 @@ fn ceilings(rt: HostRuntime) -> Result<(), Fail> {
     Ok(())
 }
 
-/// A start section, a data count section and a custom section.
+/// A start section, a data count section, a custom section and one of any id.
 fn given_module(alloc: Global) -> Made<Module> {
     let mut module = Module::new(alloc, u32::MAX)?;
     module.section(&StartSection {
@@ -153,6 +152,10 @@ fn given_module(alloc: Global) -> Made<Module> {
     module.section(&CustomSection {
         name: "x",
         contents: &[0xaa],
+    })?;
+    module.section(&RawSection {
+        id: 99,
+        contents: &[0xbb],
     })?;
     Ok(module)
 }
@@ -166,10 +169,10 @@ fn given_fields(alloc: Global) -> Made<Vec<u8>> {
 }
 
 #[test]
-fn given(rt: HostRuntime) -> Result<(), Fail> {
+fn given(rt: HostRuntime) -> Made<()> {
     let want = [
         0x00u8, 0x61, 0x73, 0x6d, 0x01, 0x00, 0x00, 0x00, 0x08, 0x02, 0xac, 0x02, 0x0c, 0x01, 0x02,
-        0x00, 0x03, 0x01, 0x78, 0xaa,
+        0x00, 0x03, 0x01, 0x78, 0xaa, 0x63, 0x01, 0xbb,
     ];
     assert_eq!(rt; given_module(rt.alloc())?.as_slice(), want.as_slice());
     let want = [0x01u8, 0x66, 0x04, 0xac, 0x02];
@@ -224,7 +227,7 @@ fn external_module(alloc: Global) -> Made<Module> {
 }
 
 #[test]
-fn external_types(rt: HostRuntime) -> Result<(), Fail> {
+fn external_types(rt: HostRuntime) -> Made<()> {
     let want = [
         0x00u8, 0x61, 0x73, 0x6d, 0x01, 0x00, 0x00, 0x00, 0x02, 0x06, 0x01, 0x01, 0x6d, 0x00, 0x20,
         0x01, 0x04, 0x09, 0x01, 0x63, 0x03, 0x04, 0x80, 0x80, 0x80, 0x80, 0x10, 0x05, 0x06, 0x01,
@@ -326,7 +329,7 @@ fn explicit_groups(alloc: Global) -> Made<Module> {
 }
 
 #[test]
-fn groups(rt: HostRuntime) -> Result<(), Fail> {
+fn groups(rt: HostRuntime) -> Made<()> {
     let want = [
         0x00u8, 0x61, 0x73, 0x6d, 0x01, 0x00, 0x00, 0x00, 0x01, 0x27, 0x05, 0x5f, 0x02, 0x77, 0x00,
         0x63, 0x03, 0x01, 0x5d, 0xc0, 0x00, 0x4f, 0x01, 0x07, 0x5d, 0x00, 0x50, 0x00, 0x65, 0x4c,
@@ -353,7 +356,7 @@ fn spelled(alloc: Global, opcode: Opcode, imm: Imm<'static>) -> Result<Vec<u8>, 
 }
 
 #[test]
-fn instructions(rt: HostRuntime) -> Result<(), Fail> {
+fn instructions(rt: HostRuntime) -> Made<()> {
     for (opcode, imm, want) in [
         (
             CALL,
@@ -371,8 +374,10 @@ fn instructions(rt: HostRuntime) -> Result<(), Fail> {
 }
 
 #[test]
-fn expressions(rt: HostRuntime) -> Result<(), Fail> {
-    let constant = with_imm(rt.alloc(), I32_CONST, Imm::S32(-65))?.ok_or("i32.const")?;
+fn expressions(rt: HostRuntime) -> Made<()> {
+    let Some(constant) = with_imm(rt.alloc(), I32_CONST, Imm::S32(-65))? else {
+        panic!(rt; "no i32.const");
+    };
     assert_eq!(rt; constant.opcode().sub, 0x41);
     assert_eq!(rt; constant.imms().len(), 1);
     if constant.opcode() != END {
