@@ -30,8 +30,7 @@ use Rattle.reencode_core.specs.Rows.{Asks, AcceptsRows, locals, onto_rows}
 use Rattle.reencode_core.specs.declared.direct.passing.Fresh.{Fresh}
 use Rattle.reencode_core.specs.declared.direct.passing.Next.{Next}
 use Rattle.reencode_core.specs.declared.direct.passing.Next.TheVariants as next
-use Rattle.reencode_core.specs.declared.direct.runs.Run.{Run}
-use Rattle.reencode_core.specs.Direct.{IsWithin, KeepsOperator, KeepsOperators, MakesOperator, PassesNext, PassesRun, RefusesOperator, StopsRun, imm_of}
+use Rattle.reencode_core.specs.Direct.{IsWithin, KeepsOperator, KeepsOperators, MakesOperator, PassesNext, PassesRun, RefusesOperator, Run, StopsRun, imm_of}
 use Rattle.reencode_core.proofs.BodyLoop.{ManyLeft, OperatorsDone, keeps_code, many_first, operators_more}
 use Rattle.reencode_core.proofs.EachBody.{BodyClauses, LocalsClauses, OperatorsKept}
 use Rattle.reencode_core.proofs.Group.{rows_then-both}
@@ -226,7 +225,7 @@ module _ {S E : Type 0} (i : Ghosts S E) {bytes : List ℕ} {s0 : S} (old : Code
   walked k = (made.default k).reading 0 l (rest_of start) begins
 
   -- an operator is refused behind a run
-  pub run_refused : {n : S} (e : Error E) → StopsRun (asks i) s (rest_of reader) e n → NeverWants {A = Run} i.sure (Err e) →
+  pub run_refused : {n : S} (e : Error E) → StopsRun (asks i) s (rest_of reader) e n → NeverWants {A = ℕ} i.sure (Err e) →
       (r : Result (Unit {0}) (Error E)) → IsErrAnd r (λ y. y ≡ e) → BodyClauses i bytes s0 old n old r
   run_refused {n = n} e p sure r q =
       let P : Result (Unit {0}) (Error E) → Type 0 = λ z. BodyClauses i bytes s0 old n old z in
@@ -261,9 +260,9 @@ module _ {S E : Type 0} (i : Ghosts S E) {bytes : List ℕ} {s0 : S} (old : Code
               subst M (sym o) (body_leaves_none begins (walked k) (operators_many (asks i) 0 (inv.default k 0) p.kept))
 
 -- a run of the bytes from a place on, by what is next
-pub run_is : {S E : Type 0} (asked : Asks S E) {s m : S} {bytes rest : List ℕ} (run : Run) (z : Next) → run.next ≡ z → bytes ≡ rest → PassesRun asked s bytes m run →
-    PassesRun asked s rest m (record { kept = run.kept; next = z })
-run_is asked {s = s} {m = m} {bytes = bytes} run z e same p =
-    let P : Next → Type 0 = λ y. PassesRun asked s bytes m (record { kept = run.kept; next = y }) in
-    let Q : List ℕ → Type 0 = λ b. PassesRun asked s b m (record { kept = run.kept; next = z }) in
+pub run_is : {S E : Type 0} (asked : Asks S E) {s m : S} {bytes rest : List ℕ} (n : ℕ) {y : Next} (z : Next) → y ≡ z → bytes ≡ rest →
+    PassesRun asked s bytes m (record { kept = n; next = y }) → PassesRun asked s rest m (record { kept = n; next = z })
+run_is asked {s = s} {m = m} {bytes = bytes} n z e same p =
+    let P : Next → Type 0 = λ y. PassesRun asked s bytes m (record { kept = n; next = y }) in
+    let Q : List ℕ → Type 0 = λ b. PassesRun asked s b m (record { kept = n; next = z }) in
     subst Q same (subst P e p)

@@ -27,7 +27,6 @@ use Rattle.reencode_core.specs.declared.direct.passing.Fresh.{Fresh}
 use Rattle.reencode_core.specs.declared.direct.passing.Fresh.TheVariants as fresh
 use Rattle.reencode_core.specs.declared.direct.passing.Next.{Next}
 use Rattle.reencode_core.specs.declared.direct.passing.Next.TheVariants as next
-use Rattle.reencode_core.specs.declared.direct.runs.Run.{Run}
 
 -- ---- classes of operators
 
@@ -172,6 +171,11 @@ pub record KeepsOperators {S E : Type 0} (asked : Asks S E) (s : S) (bytes : Lis
 abbrev pub IsWithin : ℕ → Next → ℕ → Type 0
 IsWithin n (next.Made op f k) len = (n + k ≤ len) × (0 < k)
 IsWithin n next.Other len = n ≤ len
+
+-- so many bytes of such operators, and what is done with the next one
+pub record Run : Type 0 where
+  pub kept : ℕ
+  pub next : Next
 
 -- A run of such operators, and what is done with the next one.
 pub record PassesRun {S E : Type 0} (asked : Asks S E) (s : S) (bytes : List ℕ) (m : S) (run : Run) : Type 0 where

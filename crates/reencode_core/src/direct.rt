@@ -15,7 +15,7 @@ mod passing;
 mod runs;
 
 use crate::direct::passing::{Fresh, Next};
-use crate::direct::runs::{Run, pass_run};
+use crate::direct::runs::pass_run;
 use crate::shared::new_function_with_parsed_locals;
 use reencode_hooks::Error;
 use reencode_items::ReencodeItems;
@@ -33,7 +33,7 @@ fn add(function: &mut w::Function, opcode: Opcode, fresh: Fresh) -> Result<(), w
     ensures wants { IfErr result (λ e. e ≡ write.NoMemory) }
 {
     match fresh {
-        Fresh::Index(space, index) => function.operator(opcode, &[w::Imm::Index(space, index)]),
+        Fresh::Index(space, index) => function.index_operator(opcode, space, index),
         Fresh::S32(number) => function.operator(opcode, &[w::Imm::S32(number)]),
         Fresh::Mem(arg) => function.operator(opcode, &[w::Imm::Mem(arg)]),
     }
@@ -62,7 +62,8 @@ pub fn parse_function_body<R: ReencodeItems>(
     let mut reader = func.operators()?;
     'operators: while !reader.eof() {
         let bytes = reader.rest();
-        let Run { kept, next } = pass_run(reencoder, bytes)?;
+        let mut next = Next::Other;
+        let kept = pass_run(reencoder, bytes, &mut next)?;
         function.spelled(&bytes[..kept])?;
         match next {
             Next::Made(opcode, fresh, count) => {

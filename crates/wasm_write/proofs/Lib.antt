@@ -1,5 +1,6 @@
 pub mod Holding
 pub mod RowSpelling
+pub mod ShortNumbers
 pub mod HoldingSections
 pub mod Items
 pub mod Fronts

@@ -1,24 +1,25 @@
 //! Functions.
-ghost use Rattle.std.specs.Prelude.{◌≡◌, ◌++◌, ◌-◌, ◌^◌, ◌<◌, [], length, map, true, take, vec_len, OnOk, OnErr, IfOk, IfErr};
+ghost use Rattle.std.specs.Prelude.{◌≡◌, ◌++◌, ◌∷◌, ◌-◌, ◌^◌, ◌<◌, [], length, map, true, take, vec_len, OnOk, OnErr, IfOk, IfErr};
 ghost use Rattle.wasm_shapes.specs.Tree.{normal};
 ghost use Rattle.wasm_shapes.specs.Spells.{Spells};
 ghost use Rattle.wasm_shapes.specs.Fits.{InRange};
 ghost use Rattle.wasm_write.specs.Faults.{IfTooLarge};
 ghost use Rattle.wasm_shapes.specs.Immediates.{HasKinds};
+ghost use Rattle.wasm_write.specs.declared.types.Imm.TheVariants as imm;
 ghost use Rattle.wasm_write.specs.Instructions.{imm_kind, instruction_tree, operator_tree};
 ghost use Rattle.wasm_shapes.specs.Module.{body as body_shape};
 ghost use Rattle.wasm_write.specs.Bodies.{HasOperators, HeldBody, HeldBody-prop, function_body, local_tree, with_operator, GainsOperators};
 
 use crate::fault::WriteFault;
 use crate::immediates::write_bytes;
-use crate::instructions::{Instruction, write_operator};
+use crate::instructions::{Instruction, write_index_operator, write_operator};
 use crate::types::{Imm, ValType};
 use crate::types_write::write_val_type;
 use crate::vectors::{InCode, ItemOf, write_list};
 use std::alloc::Global;
 use std::marker::Model;
 use wasm_leb::{List, NoMemory, write_u32};
-use wasm_shapes::Opcode;
+use wasm_shapes::{Opcode, Space};
 
 /// A function under construction (WebAssembly Core Specification 3.0, section 5.5.13).
 ///
@@ -120,6 +121,30 @@ impl Function {
     {
         let len = self.bytes.len();
         match write_operator(&mut self.bytes, opcode, imms) {
+            Ok(()) => Ok(()),
+            Err(NoMemory) => {
+                self.bytes.truncate(len);
+                Err(WriteFault::NoMemory)
+            }
+        }
+    }
+
+    /// Adds the operator of an opcode with one index, as `operator` does.
+    #[inline(always)]
+    pub fn index_operator(
+        &mut self,
+        opcode: Opcode,
+        space: Space,
+        index: u32,
+    ) -> Result<(), WriteFault>
+        requires { HasKinds opcode (imm_kind (imm.Index space index) ∷ []) }
+        ensures ok { OnOk result (self.new
+            ≡ with_operator self.old (operator_tree opcode (imm.Index space index ∷ []))) }
+        ensures err { OnErr result (self.new ≡ self.old) }
+        ensures wants { IfErr result (λ e. e ≡ WriteFault.NoMemory) }
+    {
+        let len = self.bytes.len();
+        match write_index_operator(&mut self.bytes, opcode, space, index) {
             Ok(()) => Ok(()),
             Err(NoMemory) => {
                 self.bytes.truncate(len);

@@ -1,5 +1,5 @@
 //! Instructions.
-ghost use Rattle.std.specs.Prelude.{◌≡◌, ◌++◌, ◌∷◌, ◌<◌, ◌↔◌, true, map, take, vec_len, All, IsSome, IfSome, IfNone, IsTrue, Some, None, if◌then◌else◌, OnOk, OnErr};
+ghost use Rattle.std.specs.Prelude.{[], ◌≡◌, ◌++◌, ◌∷◌, ◌<◌, ◌^◌, ◌↔◌, true, map, take, vec_len, All, IsSome, IfSome, IfNone, IsTrue, Some, None, if◌then◌else◌, OnOk, OnErr};
 ghost use Rattle.wasm_leb.specs.Leb.{leb};
 ghost use Rattle.wasm_shapes.specs.Immediates.{HasKinds};
 ghost use Rattle.wasm_shapes.specs.Operators.{code_of};
@@ -8,6 +8,7 @@ ghost use Rattle.wasm_shapes.specs.Shape.{Shape};
 ghost use Rattle.wasm_shapes.specs.Spells.{Spells};
 ghost use Rattle.wasm_shapes.specs.Fits.{CodeInRange, InRange};
 ghost use Rattle.wasm_shapes.specs.Types.{are_sixteen, is_core, is_counted};
+ghost use Rattle.wasm_write.specs.declared.types.Imm.TheVariants as imm;
 ghost use Rattle.wasm_write.specs.Instructions.{imm_kind, imms_tree, instruction_tree, operator_tree};
 
 use crate::immediates::write_imm;
@@ -186,6 +187,50 @@ pub(crate) fn write_operator(
         Ok(()) => write_imms(out, imms),
         Err(NoMemory) => Err(NoMemory),
     }
+}
+
+/// The same of an operator whose one immediate is an index. Where it takes two or three bytes, memory is asked for once.
+#[inline(always)]
+pub(crate) fn write_index_operator(
+    out: &mut Vec<u8>,
+    opcode: Opcode,
+    space: Space,
+    index: u32,
+) -> Result<(), NoMemory>
+    requires { HasKinds opcode (imm_kind (imm.Index space index) ∷ []) }
+    ensures ok { OnOk result
+        (out.new.items ≡ out.old.items
+        ++ normal (operator_tree opcode (imm.Index space index ∷ []))) }
+    ensures spells { OnOk result
+        (∥ Spells (Shape.op true) (normal (operator_tree opcode (imm.Index space index ∷ [])))
+        (operator_tree opcode (imm.Index space index ∷ [])) ∥₁) }
+    ensures err { OnErr result (take (vec_len out.old) out.new.items ≡ out.old.items) }
+{
+    if opcode.prefix == 0 && index < 1 << 14 {
+        write_short(out, opcode.sub as u8, index as u16)
+    } else {
+        write_operator(out, opcode, &[Imm::Index(space, index)])
+    }
+}
+
+/// Appends a byte and a number of one or two bytes, or nothing.
+#[inline(always)]
+fn write_short(out: &mut Vec<u8>, byte: u8, number: u16) -> Result<(), NoMemory>
+    requires { number < 2 ^ 14 }
+    ensures ok { OnOk result (out.new.items ≡ out.old.items ++ (byte ∷ leb number)) }
+    ensures err { OnErr result (take (vec_len out.old) out.new.items ≡ out.old.items) }
+{
+    let Ok(()) = out.reserve(3) else {
+        return Err(NoMemory);
+    };
+    out.push_reserved(byte);
+    if number < 128 {
+        out.push_reserved(number as u8);
+    } else {
+        out.push_reserved((number % 128 + 128) as u8);
+        out.push_reserved((number / 128) as u8);
+    }
+    Ok(())
 }
 
 /// Appends the number of an operator, or a part of it where memory is wanting.

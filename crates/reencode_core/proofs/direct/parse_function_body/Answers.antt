@@ -26,19 +26,19 @@ returns-in_err-kept g c =
 
 pub returns-in_err-spelled : goal.returns-in_err-spelled
 returns-in_err-spelled g c =
-    let run = run_is (asks g.R.ReencodeIndices) c.in_ok-kept.field-0 _ refl c.rest-bytes.ensures c.in_ok-kept.ensures.ok in
+    let run = run_is (asks g.R.ReencodeIndices) _ _ refl c.rest-bytes.ensures c.in_ok-kept.ensures.ok in
     run_not_added g.R.ReencodeIndices c.args.code.now c.in_ok-function.ensures c.in_ok-reader.ensures.ok.1 c.operators.invariant _ run _ c.in_err-spelled.ensures.wants _ c.from_residual-in_err-spelled.ensures.1
 
 -- ---- the next operator is made
 
 pub returns-in_err-add-in-Made : goal.returns-in_err-add-in-Made
 returns-in_err-add-in-Made g c =
-    let run = run_is (asks g.R.ReencodeIndices) c.in_ok-kept.field-0 _ refl c.rest-bytes.ensures c.in_ok-kept.ensures.ok in
+    let run = run_is (asks g.R.ReencodeIndices) _ _ refl c.rest-bytes.ensures c.in_ok-kept.ensures.ok in
     run_not_added g.R.ReencodeIndices c.args.code.now c.in_ok-function.ensures c.in_ok-reader.ensures.ok.1 c.operators.invariant _ run _ c.in_err-add-in-Made.ensures.wants _ c.from_residual-in_err-add-in-Made.ensures.1
 
 pub operators-preserved-in-Made : goal.operators-preserved-in-Made
 operators-preserved-in-Made g c =
-    let run = run_is (asks g.R.ReencodeIndices) c.in_ok-kept.field-0 (next.Made c.in-Made.opcode c.in-Made.fresh c.in-Made.count) c.in-Made.is c.rest-bytes.ensures c.in_ok-kept.ensures.ok in
+    let run = run_is (asks g.R.ReencodeIndices) _ (next.Made c.in-Made.opcode c.in-Made.fresh c.in-Made.count) c.in-Made.is c.rest-bytes.ensures c.in_ok-kept.ensures.ok in
     let gains = rw c.rest-bytes.ensures at c.in_ok-spelled.ensures.ok in
     run_made g.R.ReencodeIndices c.operators.invariant _ _ _ _ run gains c.in_ok-add-in-Made.ensures.ok c.pass.ensures.bytes c.pass.ensures.rest
 
@@ -48,7 +48,7 @@ pub returns-in_err-instruction-in-Other : goal.returns-in_err-instruction-in-Oth
 returns-in_err-instruction-in-Other g c =
     let i = g.R.ReencodeIndices in
     let found = c.in_ok-reader.ensures.ok in
-    let run = run_is (asks i) c.in_ok-kept.field-0 next.Other c.in-Other.is c.rest-bytes.ensures c.in_ok-kept.ensures.ok in
+    let run = run_is (asks i) _ next.Other c.in-Other.is c.rest-bytes.ensures c.in_ok-kept.ensures.ok in
     let gains = rw c.rest-bytes.ensures at c.in_ok-spelled.ensures.ok in
     let inv = run_passed i c.operators.invariant _ run gains c.pass-in-Other.ensures.bytes c.pass-in-Other.ensures.rest in
     let some = some_left c.eof-in-Other.result (rest_of c.pass-in-Other.new.self) c.eof-in-Other.ensures c.if-not-eof.true in
@@ -59,7 +59,7 @@ pub returns-in_err-instruction-in-Other-2 : goal.returns-in_err-instruction-in-O
 returns-in_err-instruction-in-Other-2 g c =
     let i = g.R.ReencodeIndices in
     let found = c.in_ok-reader.ensures.ok in
-    let run = run_is (asks i) c.in_ok-kept.field-0 next.Other c.in-Other.is c.rest-bytes.ensures c.in_ok-kept.ensures.ok in
+    let run = run_is (asks i) _ next.Other c.in-Other.is c.rest-bytes.ensures c.in_ok-kept.ensures.ok in
     let gains = rw c.rest-bytes.ensures at c.in_ok-spelled.ensures.ok in
     let inv = run_passed i c.operators.invariant _ run gains c.pass-in-Other.ensures.bytes c.pass-in-Other.ensures.rest in
     operator_not_added i c.args.code.now c.in_ok-function.ensures found.1 c.in_ok-reader.ensures.bytes inv instruction_tree c.in_ok-instruction-in-Other.instruction c.in_ok-instruction-in-Other.ensures.default _
@@ -69,7 +69,7 @@ pub operators-preserved-then-not-eof : goal.operators-preserved-then-not-eof
 operators-preserved-then-not-eof g c =
     let i = g.R.ReencodeIndices in
     let found = c.in_ok-reader.ensures.ok in
-    let run = run_is (asks i) c.in_ok-kept.field-0 next.Other c.in-Other.is c.rest-bytes.ensures c.in_ok-kept.ensures.ok in
+    let run = run_is (asks i) _ next.Other c.in-Other.is c.rest-bytes.ensures c.in_ok-kept.ensures.ok in
     let gains = rw c.rest-bytes.ensures at c.in_ok-spelled.ensures.ok in
     let inv = run_passed i c.operators.invariant _ run gains c.pass-in-Other.ensures.bytes c.pass-in-Other.ensures.rest in
     let given = c.in_ok-instruction-in-Other.ensures in
@@ -78,7 +78,7 @@ operators-preserved-then-not-eof g c =
 pub operators-preserved : goal.operators-preserved
 operators-preserved g c =
     let i = g.R.ReencodeIndices in
-    let run = run_is (asks i) c.in_ok-kept.field-0 next.Other c.in-Other.is c.rest-bytes.ensures c.in_ok-kept.ensures.ok in
+    let run = run_is (asks i) _ next.Other c.in-Other.is c.rest-bytes.ensures c.in_ok-kept.ensures.ok in
     let gains = rw c.rest-bytes.ensures at c.in_ok-spelled.ensures.ok in
     run_passed i c.operators.invariant _ run gains c.pass-in-Other.ensures.bytes c.pass-in-Other.ensures.rest
 
