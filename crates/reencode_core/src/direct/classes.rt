@@ -55,10 +55,20 @@ pub fn frequent_class(byte: u8) -> Option<Class>
     ensures alone { IfSome result (λ _. is_code (plain byte) ≡ true) }
 {
     match byte {
-        0x0b | 0x6a => Some(Class::Bare),
-        0x10 => Some(Class::Index(Space::Function)),
-        0x20 => Some(Class::Leaf(Leaf::Number)),
+        0x00 | 0x01 | 0x05 | 0x0b | 0x0f | 0x1a | 0x1b => Some(Class::Bare),
+        0x45..=0xc4 => Some(Class::Bare),
+        0x0c..=0x0d => Some(Class::Leaf(Leaf::Number)),
+        0x20..=0x22 => Some(Class::Leaf(Leaf::Number)),
+        0x10 | 0x12 | 0xd2 => Some(Class::Index(Space::Function)),
+        0x14 | 0x15 => Some(Class::Index(Space::Type_)),
+        0x23 | 0x24 => Some(Class::Index(Space::Global)),
+        0x25 | 0x26 => Some(Class::Index(Space::Table)),
+        0x28..=0x3e => Some(Class::Mem),
+        0x3f | 0x40 => Some(Class::Index(Space::Memory)),
         0x41 => Some(Class::S32),
+        0x42 => Some(Class::Leaf(Leaf::Long)),
+        0x43 => Some(Class::Leaf(Leaf::Raw(4))),
+        0x44 => Some(Class::Leaf(Leaf::Raw(8))),
         _ => None,
     }
 }
