@@ -31,7 +31,7 @@ pub inner_is : (c : Code) (u : Tree) → c ≢ plain 0x0b → Is (Shape.op true)
 inner_is c u other (Is.op k d) = let P : Option (List ImmKind) → Type 0 = λ o. Is (shape_of_row o) u in Is.op k (subst P (same_row c other) d)
 
 -- `end` is none of them
-no_end : {c : Code} {u : Tree} → Is (immediates false c) u → c ≢ plain 0x0b
+pub no_end : {c : Code} {u : Tree} → Is (immediates false c) u → c ≢ plain 0x0b
 no_end {c = c} {u = u} d e =
     let I : Code → Type 0 = λ z. Is (immediates false z) u in
     let never : Is Shape.none u = subst I e d in
