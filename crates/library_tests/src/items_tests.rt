@@ -509,3 +509,25 @@ fn operators_refused(rt: HostRuntime) -> Result<(), Error<Infallible>> {
     assert!(rt; matches!(none, Err(Error::ParseError(ReadError { at: 2 }))));
     Ok(())
 }
+
+/// The expression `ref.func 2`, as a method and as a function.
+fn expressions_by_calls<R: ReencodeItems>(
+    reencoder: &mut R,
+    alloc: Global,
+) -> Result<(), Error<R::Error>> {
+    let bytes = [0xd2, 0x02, 0x0b];
+    reencoder.const_expr(alloc, r::ConstExpr::new(&bytes)?)?;
+    utils::const_expr(reencoder, alloc, r::ConstExpr::new(&bytes)?)?;
+    Ok(())
+}
+
+#[test]
+fn expressions(rt: HostRuntime) -> Result<(), Fail> {
+    let mut renamer = renamer(rt.alloc())?;
+    assert_eq!(rt;
+        expressions_by_calls(&mut renamer, rt.alloc()).ok(),
+        Some(())
+    );
+    assert_eq!(rt; renamer.count(Asked::Of(Space::Function)), 2);
+    Ok(())
+}

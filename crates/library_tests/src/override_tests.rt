@@ -1,17 +1,29 @@
-//! A reencoder that overrides a method, and does not keep the defaults.
+//! A reencoder that overrides methods, and does not keep the defaults.
 use reencode_hooks::{Error, ReencodeIndices};
-use reencode_items::ReencodeItems;
+use reencode_items::{ReencodeItems, utils};
+use std::alloc::Global;
 use std::convert::Infallible;
-use wasm_leb::List;
+use wasm_leb::{List, ReadError};
 use wasm_read as r;
-use wasm_shapes::SectionId;
+use wasm_shapes::{END, SectionId};
 use wasm_write as w;
 
-/// Answers every index as it is, and writes every `i32` as an `i64`.
+/// What becomes of the operator that is read.
 #[derive(Clone, Copy)]
-struct Widener;
+enum Way {
+    /// It becomes `end`.
+    Ends,
+    /// It is mapped, and the operator behind it is passed by.
+    PassesBy,
+    /// It is refused.
+    Refuses,
+}
 
-impl ReencodeIndices for Widener {
+/// Answers every index as it is, writes every `i32` as an `i64`, and maps operators in a way of its own.
+#[derive(Clone, Copy)]
+struct Overrider(Way);
+
+impl ReencodeIndices for Overrider {
     ghost use Rattle.std.specs.Prelude.{true, false, Ok, refl, []};
     ghost use Rattle.reencode_hooks.specs.Hooks.{index_of, index_of-given};
 
@@ -79,7 +91,7 @@ impl ReencodeIndices for Widener {
     }
 }
 
-impl ReencodeItems for Widener {
+impl ReencodeItems for Overrider {
     fn val_type(&mut self, val_ty: r::ValType) -> Result<w::ValType, Error<Infallible>> {
         match val_ty {
             r::ValType::I32 | r::ValType::I64 => Ok(w::ValType::I64),
@@ -89,6 +101,26 @@ impl ReencodeItems for Widener {
             r::ValType::Ref(ty) => Ok(w::ValType::Ref(self.ref_type(ty)?)),
         }
     }
+
+    fn parse_instruction<'a>(
+        &mut self,
+        alloc: Global,
+        reader: &mut r::OperatorsReader<'a>,
+    ) -> Result<w::Instruction<'a>, Error<Infallible>> {
+        let operator = reader.read(alloc)?;
+        match self.0 {
+            Way::Ends => {
+                w::Instruction::new(END, List::new(alloc)).ok_or(
+                    Error::CanonicalizedHeapTypeReference,
+                )
+            }
+            Way::PassesBy => {
+                let _ = reader.read(alloc)?;
+                self.instruction(alloc, operator)
+            }
+            Way::Refuses => Err(Error::InvalidConstExpr),
+        }
+    }
 }
 
 #[test]
@@ -96,10 +128,28 @@ fn overrides_are_called(rt: HostRuntime) -> Result<(), Error<Infallible>> {
     let mut types = List::with_capacity(rt.alloc(), 2)?;
     types.push(r::ValType::I32)?;
     types.push(r::ValType::F32)?;
-    let types = Widener.val_types(rt.alloc(), types)?;
+    let types = Overrider(Way::Ends).val_types(rt.alloc(), types)?;
     assert_eq!(rt;
         types.as_slice(),
         [w::ValType::I64, w::ValType::F32].as_slice()
     );
     Ok(())
+}
+
+/// Whether the expression `i32.const 0` is refused as one with an `end` before its own, or without that.
+fn is_invalid(alloc: Global, way: Way) -> Result<bool, ReadError> {
+    let bytes = [0x41, 0x00, 0x0b];
+    let by_method = Overrider(way).const_expr(alloc, r::ConstExpr::new(&bytes)?);
+    let by_function = utils::const_expr(&mut Overrider(way), alloc, r::ConstExpr::new(&bytes)?);
+    Ok(
+        matches!(by_method, Err(Error::InvalidConstExpr))
+            && matches!(by_function, Err(Error::InvalidConstExpr)),
+    )
+}
+
+#[test]
+fn expressions_keep_their_end(rt: HostRuntime) {
+    assert_eq!(rt; is_invalid(rt.alloc(), Way::Ends), Ok(true));
+    assert_eq!(rt; is_invalid(rt.alloc(), Way::PassesBy), Ok(true));
+    assert_eq!(rt; is_invalid(rt.alloc(), Way::Refuses), Ok(true));
 }

@@ -4,3 +4,4 @@ pub mod Parts
 pub mod Composites
 pub mod Immediates
 pub mod Operators
+pub mod Expressions

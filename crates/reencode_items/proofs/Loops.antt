@@ -45,7 +45,7 @@ one_onto write made b (accepted u m) =
 one_onto write made b (refused e m) = refl
 
 -- the item at a place, in front of those behind it
-drop_at : {A : Type 0} (items slice : List A) (i : ℕ) (d : A) → slice ≡ items → i < length slice → drop i items ≡ get_or slice i d ∷ drop (i + 1) items
+pub drop_at : {A : Type 0} (items slice : List A) (i : ℕ) (d : A) → slice ≡ items → i < length slice → drop i items ≡ get_or slice i d ∷ drop (i + 1) items
 drop_at items slice i d e h = rw (← e) (rw add-one (drop-cons slice i d h))
 
 module _ {S E A B : Type 0} {asked : S → Visit → Step S (Error E) ℕ} {keeps : Bool} {read : A → Tree} {write : B → Tree} where
@@ -101,7 +101,7 @@ module _ {S E A B : Type 0} {asked : S → Visit → Step S (Error E) ℕ} {keep
   items_counted done e all some = rw (← e) (let so_far = done.counted in omega (arith, so_far, all, some))
 
   -- The item at the place was asked in part: it was refused, or it was accepted.
-  items_leave : {s0 s m : S} {items slice : List A} {i : ℕ} {made : List B} (d : A) →
+  pub items_leave : {s0 s m : S} {items slice : List A} {i : ℕ} {made : List B} (d : A) →
       ItemsDone asked keeps read write s0 items i s made → slice ≡ items → i < length slice → IsTrue keeps →
       Visited asked s (visits (read (get_or slice i d))) m → Visited asked s0 (visits (rows_tree (map read items))) m
   items_leave {s = s} {m = m} {items = items} {slice = slice} {i = i} d done e h k v =

@@ -312,9 +312,27 @@ macro_rules! parse_instruction {
     };
 }
 
+macro_rules! const_expr {
+    ($reencoder:ident, $alloc:ident, $const_expr:ident) => {
+        {
+            let mut mapped = w::ConstExpr::new($alloc);
+            let mut reader = $const_expr.get_operators_reader();
+            'operators: while !reader.is_end_then_eof() {
+                let instruction = $reencoder.parse_instruction($alloc, &mut reader)?;
+                if instruction.opcode() == END || reader.eof() {
+                    return Err(Error::InvalidConstExpr);
+                }
+                mapped.instruction(&instruction)?;
+            }
+            Ok(mapped)
+        }
+    };
+}
+
 pub(crate) use array_type;
 pub(crate) use block_type;
 pub(crate) use composite_type;
+pub(crate) use const_expr;
 pub(crate) use cont_type;
 pub(crate) use each_val_type;
 pub(crate) use entity_type;

@@ -1,10 +1,11 @@
 //! The items of a core module, re-encoded through a reencoder's hooks.
 ghost use Rattle.std.specs.Prelude.{◌≡◌, ℕ, IsTrue, IsSome, IfOk, length, map};
 ghost use Rattle.reencode_hooks.specs.Run.{Gives, LeavesVisited, NeverWants, accepted, ask};
+ghost use Rattle.wasm_read.specs.Expressions.{expr_tree};
 ghost use Rattle.wasm_read.specs.Immediates as immediates;
 ghost use Rattle.wasm_read.specs.Types as read;
 ghost use Rattle.wasm_shapes.specs.Tree.{Tree, visits};
-ghost use Rattle.wasm_shapes.specs.Types.{vector_tree};
+ghost use Rattle.wasm_shapes.specs.Types.{expression_of, vector_tree};
 ghost use Rattle.wasm_write.specs.Instructions as instructions;
 ghost use Rattle.wasm_write.specs.Rows as rows;
 ghost use Rattle.wasm_write.specs.Types as write;
@@ -16,6 +17,7 @@ use reencode_hooks::{Error, ReencodeIndices};
 use std::alloc::Global;
 use wasm_leb::List;
 use wasm_read as r;
+use wasm_shapes::END;
 use wasm_write as w;
 
 /// What a re-encoder does with each item. A default body asks the hook of each index of the item in the order of the
@@ -422,5 +424,24 @@ pub trait ReencodeItems: ReencodeIndices {
             → LeavesOperator (ask Self.reply Self.next) self.old reader.old self.new result }
     {
         bodies::parse_instruction!(self, alloc, reader)
+    }
+
+    /// A constant expression (section 5.4.13), each operator before its `end` by the method `parse_instruction`.
+    ///
+    /// `InvalidConstExpr` comes only where the defaults are not kept: exactly where, before the closing `end` alone is left,
+    /// `parse_instruction` answers an `end`, leaves nothing in the reader, or itself answers `InvalidConstExpr`.
+    fn const_expr(
+        &mut self,
+        alloc: Global,
+        const_expr: r::ConstExpr<'_>,
+    ) -> Result<w::ConstExpr, Error<Self::Error>>
+        ensures default { IsTrue Self.keeps_defaults
+            → Maps Self.reply Self.next self.old (expr_tree const_expr.entry) expression_of
+            self.new result }
+        ensures after_error { IsTrue Self.keeps_defaults → IsTrue Self.sure
+            → LeavesVisited (ask Self.reply Self.next) self.old
+            (visits (expr_tree const_expr.entry)) self.new result }
+    {
+        bodies::const_expr!(self, alloc, const_expr)
     }
 }

@@ -1,10 +1,11 @@
 //! The default bodies of `ReencodeItems`, as functions of any reencoder.
 ghost use Rattle.std.specs.Prelude.{◌≡◌, ℕ, IsTrue, IsSome, IfOk, length, map};
 ghost use Rattle.reencode_hooks.specs.Run.{LeavesVisited, NeverWants, ask};
+ghost use Rattle.wasm_read.specs.Expressions.{expr_tree};
 ghost use Rattle.wasm_read.specs.Immediates as immediates;
 ghost use Rattle.wasm_read.specs.Types as read;
 ghost use Rattle.wasm_shapes.specs.Tree.{Tree, visits};
-ghost use Rattle.wasm_shapes.specs.Types.{vector_tree};
+ghost use Rattle.wasm_shapes.specs.Types.{expression_of, vector_tree};
 ghost use Rattle.wasm_write.specs.Instructions as instructions;
 ghost use Rattle.wasm_write.specs.Rows as rows;
 ghost use Rattle.wasm_write.specs.Types as write;
@@ -17,6 +18,7 @@ use reencode_hooks::Error;
 use std::alloc::Global;
 use wasm_leb::List;
 use wasm_read as r;
+use wasm_shapes::END;
 use wasm_write as w;
 
 /// A heap type that names no type of the module (WebAssembly Core Specification 3.0, section 5.3.3).
@@ -454,4 +456,23 @@ pub fn parse_instruction<'a, T: ReencodeItems>(
         → LeavesOperator (ask T.reply T.next) reencoder.old reader.old reencoder.new result }
 {
     bodies::parse_instruction!(reencoder, alloc, reader)
+}
+
+/// A constant expression (section 5.4.13), each operator before its `end` by the method `parse_instruction`.
+///
+/// `InvalidConstExpr` comes only where the defaults are not kept: exactly where, before the closing `end` alone is left,
+/// `parse_instruction` answers an `end`, leaves nothing in the reader, or itself answers `InvalidConstExpr`.
+pub fn const_expr<T: ReencodeItems>(
+    reencoder: &mut T,
+    alloc: Global,
+    const_expr: r::ConstExpr<'_>,
+) -> Result<w::ConstExpr, Error<T::Error>>
+    ensures default { IsTrue T.keeps_defaults
+        → Maps T.reply T.next reencoder.old (expr_tree const_expr.entry) expression_of
+        reencoder.new result }
+    ensures after_error { IsTrue T.keeps_defaults → IsTrue T.sure
+        → LeavesVisited (ask T.reply T.next) reencoder.old (visits (expr_tree const_expr.entry))
+        reencoder.new result }
+{
+    bodies::const_expr!(reencoder, alloc, const_expr)
 }

@@ -77,6 +77,32 @@ all_core (k ∷ ks) e = let parts : (is_core_kind k ≡ true) × (list_all is_co
 pub kinds_core : (c : Code) (ks : List ImmKind) → kinds_among true c ≡ Some ks → AreCore ks
 kinds_core c ks e = all_core ks (kinds_pass is_core_kind refl c ks e)
 
+-- what begins here is some tree
+pub passed : {s : Shape} {t : Tree} {bytes left : List ℕ} → Begins s bytes t left → (u : Tree) × Begins s bytes u left
+passed {t = t} p = (t, p)
+
+-- the immediates of some kinds, by the first and the others
+module _ {kinds others : List ImmKind} {k : ImmKind} {bytes : List ℕ} (e : kinds ≡ k ∷ others) where
+  pub imms_passed : {middle left : List ℕ} → (t : Tree) × Begins (shape_of_kind k) bytes t middle → (t : Tree) × Begins (shape_of_kinds others) middle t left →
+      (t : Tree) × Begins (shape_of_kinds kinds) bytes t left
+  imms_passed {left = left} p q =
+      let B : List ImmKind → Type 0 = λ ks. (t : Tree) × Begins (shape_of_kinds ks) bytes t left in
+      subst B (sym e) (passed (begins_seq p.1 q.1))
+
+  pub no_first_imm : BeginsNone (shape_of_kind k) bytes → BeginsNone (shape_of_kinds kinds) bytes
+  no_first_imm none = let N : List ImmKind → Type 0 = λ ks. BeginsNone (shape_of_kinds ks) bytes in subst N (sym e) (none_seq_first none)
+
+  pub no_other_imms : {middle : List ℕ} → (t : Tree) × Begins (shape_of_kind k) bytes t middle → BeginsNone (shape_of_kinds others) middle →
+      BeginsNone (shape_of_kinds kinds) bytes
+  no_other_imms p none =
+      let N : List ImmKind → Type 0 = λ ks. BeginsNone (shape_of_kinds ks) bytes in
+      subst N (sym e) (none_seq_second (kind_sound k).0 (kind_sound k).1 p.1 none)
+
+pub no_imms_passed : {kinds : List ImmKind} {bytes : List ℕ} → kinds ≡ [] → (t : Tree) × Begins (shape_of_kinds kinds) bytes t bytes
+no_imms_passed {bytes = bytes} e =
+    let B : List ImmKind → Type 0 = λ ks. (t : Tree) × Begins (shape_of_kinds ks) bytes t bytes in
+    subst B (sym e) (passed begins_empty)
+
 -- ---- single kinds
 
 pub begins_zero : {b : ℕ} {bytes left : List ℕ} → bytes ≡ b ∷ left → b ≡ 0 → Begins (Shape.fixed 0) bytes (Tree.fixed 0) left

@@ -8,7 +8,7 @@ ghost use Rattle.wasm_read.specs.Immediates.{locals_tree};
 ghost use Rattle.wasm_read.specs.Operations.{rest_of, frame_row, body_tree};
 ghost use Rattle.wasm_read.specs.Reading.{ReadsNone, ReadsNoneOrWants};
 
-use crate::entries::{behind_locals, front_vec};
+use crate::entries::{behind_vec, front_vec};
 use crate::operators::OperatorsReader;
 use crate::payloads::front_sized;
 use crate::types::{FunctionBody, ValType};
@@ -57,7 +57,7 @@ impl<'a> FunctionBody<'a> {
             ReadsNone e 0 (BeginsNone (Shape.vec local_row) self.now.bytes.now)) }
     {
         let bytes = self.bytes;
-        match behind_locals(bytes) {
+        match behind_vec::<(u32, ValType)>(bytes) {
             Some(rest) => Ok(OperatorsReader::from_place(bytes, bytes.len() - rest.len())),
             None => Err(Fault::Read(ReadError { at: 0 })),
         }

@@ -34,6 +34,48 @@ pub trait Entry {
     ghost is_closed: { closed shape ≡ true };
 }
 
+/// What stands in a vector, and takes no memory.
+pub trait SmallEntry: Entry {
+    /// The entry at the front of some bytes, and the bytes behind it.
+    fn small(bytes: &[u8]) -> Option<(Self, &[u8])>
+        ensures some { IfSome result (λ r. Begins Self.shape bytes.now (Self.tree r.0) r.1.now) }
+        ensures none { IfNone result (BeginsNone Self.shape bytes.now) };
+}
+
+impl SmallEntry for u32 {
+    #[tactic(auto, using(wasm_shapes::proofs::Begins::begins_u32))]
+    fn small(bytes: &[u8]) -> Option<(u32, &[u8])> {
+        match front_u32(bytes) {
+            Some((index, rest)) => Some((index, rest)),
+            None => None,
+        }
+    }
+}
+
+impl SmallEntry for ValType {
+    fn small(bytes: &[u8]) -> Option<(ValType, &[u8])> {
+        front_val_type(bytes)
+    }
+}
+
+impl SmallEntry for (u32, ValType) {
+    fn small(bytes: &[u8]) -> Option<((u32, ValType), &[u8])> {
+        front_local(bytes)
+    }
+}
+
+impl SmallEntry for Catch {
+    fn small(bytes: &[u8]) -> Option<(Catch, &[u8])> {
+        front_catch(bytes)
+    }
+}
+
+impl SmallEntry for Handle {
+    fn small(bytes: &[u8]) -> Option<(Handle, &[u8])> {
+        front_handle(bytes)
+    }
+}
+
 /// An index that is no index of a space, as that of a label.
 impl Entry for u32 {
     ghost shape = { Shape.u32 };
@@ -299,19 +341,19 @@ pub fn front_vec<T: Entry + Drop>(
     Ok(Some((entries, rest)))
 }
 
-/// The bytes behind the vector of locals at the front of some bytes.
-pub fn behind_locals(bytes: &[u8]) -> Option<&[u8]>
+/// The bytes behind the vector of entries at the front of some bytes. It takes no memory.
+pub fn behind_vec<T: SmallEntry + Drop>(bytes: &[u8]) -> Option<&[u8]>
     ensures some { IfSome result (λ r.
-        (t : Tree) × Begins (Shape.vec local_row) bytes.now t r.now) }
-    ensures none { IfNone result (BeginsNone (Shape.vec local_row) bytes.now) }
+        (t : Tree) × Begins (Shape.vec T.shape) bytes.now t r.now) }
+    ensures none { IfNone result (BeginsNone (Shape.vec T.shape) bytes.now) }
 {
     let Some((count, start)) = front_u32(bytes) else {
         return None;
     };
     let mut rest = start;
     let mut left = count;
-    'locals: while left > 0 {
-        match front_local(rest) {
+    'entries: while left > 0 {
+        match T::small(rest) {
             Some((_, behind)) => {
                 rest = behind;
                 left -= 1;

@@ -9,8 +9,10 @@ ghost use Rattle.wasm_read.specs.Types.{heap_type_tree};
 ghost use Rattle.wasm_read.specs.Immediates.{block_type_tree, imm_tree, imms_tree, imm_kind, is_core};
 ghost use Rattle.wasm_read.specs.Operations.{BeginsCode, BeginsNoCode, is_core_kind, AreCore};
 
-use crate::entries::front_vec;
-use crate::types::{BlockType, HeapType, Ieee32, Ieee64, Imm, MemArg, RefType};
+use crate::entries::{behind_vec, front_vec};
+use crate::types::{
+    BlockType, Catch, Handle, HeapType, Ieee32, Ieee64, Imm, MemArg, RefType, ValType,
+};
 use crate::values::{front_heap_type, front_val_type};
 use std::alloc::Global;
 use wasm_leb::{List, NoMemory, front_byte, front_s32, front_s64, front_u32, front_u64};
@@ -537,4 +539,78 @@ pub fn front_imms<'a>(
         }
     }
     Ok(Some((imms, rest)))
+}
+
+/// The bytes behind what was read.
+macro_rules! behind {
+    ($read:expr) => {
+        match $read {
+            Some((_, rest)) => Some(rest),
+            None => None,
+        }
+    };
+}
+
+/// The bytes behind the immediate of a kind at the front of some bytes. It takes no memory.
+#[tactic(auto, using(crate::proofs::OfKinds::passed))]
+fn behind_imm(kind: ImmKind, bytes: &[u8]) -> Option<&[u8]>
+    requires { is_core_kind kind ≡ true }
+    ensures some { IfSome result (λ r.
+        (t : Tree) × Begins (shape_of_kind kind) bytes.now t r.now) }
+    ensures none { IfNone result (BeginsNone (shape_of_kind kind) bytes.now) }
+{
+    match kind {
+        ImmKind::Block => behind!(front_block(bytes)),
+        ImmKind::Label => behind!(front_label(bytes)),
+        ImmKind::Labels => behind_labels(bytes),
+        ImmKind::Index(space) => behind!(front_index(space, bytes)),
+        ImmKind::Local => behind!(front_local(bytes)),
+        ImmKind::Field => behind!(front_field(bytes)),
+        ImmKind::Size => behind!(front_size(bytes)),
+        ImmKind::Types => behind_vec::<ValType>(bytes),
+        ImmKind::Mem => behind!(front_mem(bytes)),
+        ImmKind::S32 => behind!(front_s32_imm(bytes)),
+        ImmKind::S64 => behind!(front_s64_imm(bytes)),
+        ImmKind::Four => behind!(front_four(bytes)),
+        ImmKind::Eight => behind!(front_eight(bytes)),
+        ImmKind::Sixteen => behind!(front_sixteen(bytes)),
+        ImmKind::Lanes => behind!(front_lanes(bytes)),
+        ImmKind::Lane => behind!(front_lane(bytes)),
+        ImmKind::Heap => behind!(front_heap(bytes)),
+        ImmKind::Catches => behind_vec::<Catch>(bytes),
+        ImmKind::Cast => behind!(front_cast(bytes)),
+        ImmKind::Handlers => behind_vec::<Handle>(bytes),
+        ImmKind::Zero => behind!(front_zero(bytes)),
+    }
+}
+
+/// The bytes behind the labels of a table of branches.
+fn behind_labels(bytes: &[u8]) -> Option<&[u8]>
+    ensures some { IfSome result (λ r.
+        (t : Tree) × Begins (shape_of_kind ImmKind.Labels) bytes.now t r.now) }
+    ensures none { IfNone result (BeginsNone (shape_of_kind ImmKind.Labels) bytes.now) }
+{
+    let Some(rest) = behind_vec::<u32>(bytes) else {
+        return None;
+    };
+    behind!(front_u32(rest))
+}
+
+/// The bytes behind immediates of some kinds at the front of some bytes. It takes no memory.
+pub fn behind_imms<'a>(kinds: &[ImmKind], bytes: &'a [u8]) -> Option<&'a [u8]>
+    requires { AreCore kinds.now }
+    ensures some { IfSome result (λ r.
+        (t : Tree) × Begins (shape_of_kinds kinds.now) bytes.now t r.now) }
+    ensures none { IfNone result (BeginsNone (shape_of_kinds kinds.now) bytes.now) }
+{
+    let Some((kind, others)) = first_kind(kinds) else {
+        return Some(bytes);
+    };
+    let Some(rest) = behind_imm(kind, bytes) else {
+        return None;
+    };
+    match behind_imms(others, rest) {
+        Some(rest) => Some(rest),
+        None => None,
+    }
 }

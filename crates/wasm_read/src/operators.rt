@@ -3,11 +3,12 @@ ghost use Rattle.std.specs.Prelude.{◌≡◌, ◌+◌, ◌<◌, ◌≤◌, ◌�
 ghost use Rattle.wasm_shapes.specs.Immediates.{HasKinds};
 ghost use Rattle.wasm_shapes.specs.Place.{Begins, BeginsNone};
 ghost use Rattle.wasm_shapes.specs.Shape.{Shape};
+ghost use Rattle.wasm_shapes.specs.Tree.{Tree};
 ghost use Rattle.wasm_read.specs.Operations.{rest_of};
 ghost use Rattle.wasm_read.specs.Reading.{ReadsNoneOrWants};
 ghost use Rattle.wasm_read.specs.Immediates.{imm_kind, is_counted, operation, operator_tree};
 
-use crate::immediates::{front_imms, front_opcode};
+use crate::immediates::{behind_imms, front_imms, front_opcode};
 use crate::types::Imm;
 use std::alloc::Global;
 use std::marker::Model;
@@ -187,6 +188,24 @@ fn front_operator<'a>(
         Ok(Some((imms, rest))) => Ok(Some((Operator { opcode, imms }, rest))),
         Ok(None) => Ok(None),
         Err(NoMemory) => Err(NoMemory),
+    }
+}
+
+/// The bytes behind the operator at the front of some bytes. It takes no memory.
+pub fn behind_operator(bytes: &[u8]) -> Option<&[u8]>
+    ensures some { IfSome result (λ r. (t : Tree) × Begins (Shape.op true) bytes.now t r.now) }
+    ensures shorter { IfSome result (λ r. length r.now < length bytes.now) }
+    ensures none { IfNone result (BeginsNone (Shape.op true) bytes.now) }
+{
+    let Some((opcode, rest)) = front_opcode(bytes) else {
+        return None;
+    };
+    let Some(kinds) = row_of(opcode) else {
+        return None;
+    };
+    match behind_imms(kinds, rest) {
+        Some(rest) => Some(rest),
+        None => None,
     }
 }
 

@@ -1,4 +1,5 @@
 pub mod Begins
+pub mod Expressions
 pub mod Frameless
 pub mod Framing
 pub mod Fronts

@@ -4,7 +4,7 @@ use Rattle.wasm_shapes.specs.declared.SectionId.{SectionId}
 use Rattle.wasm_shapes.specs.declared.SectionId.TheVariants as id
 use Rattle.wasm_shapes.specs.declared.Space.TheVariants as space
 use Rattle.wasm_shapes.specs.Tree.{Tree}
-use Rattle.wasm_shapes.specs.Shape.{Shape, Named, choice, lead, table_type, memory_type, tag_type, entity}
+use Rattle.wasm_shapes.specs.Shape.{Shape, Named, choice, lead, table_type, memory_type, global_type, tag_type, entity}
 use Rattle.wasm_shapes.specs.Spells.{Spells}
 use Rattle.wasm_shapes.specs.Place.{BeginsNone}
 use Rattle.wasm_shapes.specs.SectionTable.{Kind, of_body, framed_tree, shapes_of, place_in, body_in, item_of}
@@ -24,6 +24,14 @@ function_row = Shape.ix space.Type_
 -- a module's name, a name in it, and the type of what is imported
 abbrev pub import_row : Shape
 import_row = Shape.seq Shape.name (Shape.seq Shape.name entity)
+
+-- a table that starts with null references, or behind two bytes one that starts with the value of an expression
+abbrev pub table_row : Shape
+table_row = choice (table_type ∷ lead 0x40 (lead 0x00 (Shape.seq table_type (Shape.ref Named.expression))) ∷ [])
+
+-- a global and the expression of its first value
+abbrev pub global_row : Shape
+global_row = Shape.seq global_type (Shape.ref Named.expression)
 
 -- a name and what is exported under it
 abbrev pub export_row : Shape
@@ -57,6 +65,9 @@ tables = Shape.vec table_type
 
 abbrev pub memories : Shape
 memories = Shape.vec memory_type
+
+abbrev pub globals : Shape
+globals = Shape.vec global_row
 
 abbrev pub tags : Shape
 tags = Shape.vec tag_type

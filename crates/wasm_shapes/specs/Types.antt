@@ -1,7 +1,8 @@
 -- What the trees of a reader's types and of a writer's are made of, and what both say of immediates (WebAssembly Core
 -- Specification 3.0, sections 5.3 and 5.4). Nothing here names a type of either.
-use Rattle.std.specs.Prelude.{ℕ, ◌+◌, ◌^◌, Bool, true, false, nat_lt, nat_eq, List, [], ◌∷◌, length, Option, Some, None}
+use Rattle.std.specs.Prelude.{◌≡◌, ℕ, ◌+◌, ◌^◌, Bool, true, false, nat_lt, nat_eq, List, [], ◌∷◌, length, Option, Some, None}
 use Rattle.std.specs.Option.{is_some}
+use Rattle.std.proofs.Common.{refl, ap}
 use Rattle.wasm_shapes.specs.declared.Space.{Space}
 use Rattle.wasm_shapes.specs.declared.Space.TheVariants as space
 use Rattle.wasm_shapes.specs.Tree.{Tree}
@@ -25,6 +26,19 @@ rows_tree ts = rows_then ts Tree.nil
 -- the same behind their number
 abbrev pub vector_tree : List Tree → Tree
 vector_tree ts = Tree.vec (rows_tree ts)
+
+-- rows that are one tree are one list
+abbrev pub listed : Tree → List Tree
+listed (Tree.cons t u) = t ∷ listed u
+listed _ = []
+
+pub listed_rows : (rows : List Tree) → listed (rows_tree rows) ≡ rows
+listed_rows [] = refl
+listed_rows (t ∷ rows) = ap (λ (z : List Tree). t ∷ z) (listed_rows rows)
+
+-- an expression: its operators, and the byte of `end` behind them
+abbrev pub expression_of : List Tree → Tree
+expression_of operators = Tree.until 0x0b (rows_tree operators)
 
 -- ---- heap types and fields
 
@@ -123,6 +137,18 @@ tag_of i = led 0x00 (Tree.ix space.Type_ i)
 -- a function, by the index of its type
 abbrev pub function_tree : ℕ → Tree
 function_tree i = Tree.ix space.Type_ i
+
+-- a table that starts with null references
+abbrev pub null_table_of : Tree → Tree
+null_table_of table = Tree.row 0 table
+
+-- a table that starts with the value of an expression
+abbrev pub table_with_init_of : Tree → Tree → Tree
+table_with_init_of table init = Tree.row 1 (led 0x40 (led 0x00 (Tree.pair table init)))
+
+-- a global and the expression of its first value
+abbrev pub global_with_init_of : Tree → Tree → Tree
+global_with_init_of global init = Tree.pair global init
 
 -- a module's name, a name in it, and what is imported
 abbrev pub import_of : List ℕ → List ℕ → Tree → Tree

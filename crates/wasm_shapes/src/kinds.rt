@@ -4,7 +4,7 @@ ghost use Rattle.std.proofs.Common.{lit≤};
 ghost use Rattle.wasm_shapes.specs.declared.SectionId.{SectionId};
 ghost use Rattle.wasm_shapes.specs.declared.SectionId.TheVariants as id;
 ghost use Rattle.wasm_shapes.specs.Shape.{Shape, Named, closed, table_type, memory_type, tag_type};
-ghost use Rattle.wasm_shapes.specs.Module.{code_row, export_row, function_row, import_row};
+ghost use Rattle.wasm_shapes.specs.Module.{code_row, export_row, function_row, global_row, import_row};
 ghost use Rattle.wasm_shapes.specs.Sound.{sound};
 
 /// A kind of section whose body is a vector of rows.
@@ -124,6 +124,27 @@ impl SectionKind for Memories {
     ghost ID = { 5 };
 
     const ID: u8 = 5;
+
+    ghost is_sound = { refl };
+
+    ghost is_closed = { refl };
+
+    ghost rows_sound = { refl };
+
+    ghost small = { lit≤ tt };
+}
+
+/// A global section.
+pub struct Globals;
+
+impl SectionKind for Globals {
+    ghost kind = { id.Global };
+
+    ghost shape = { global_row };
+
+    ghost ID = { 6 };
+
+    const ID: u8 = 6;
 
     ghost is_sound = { refl };
 

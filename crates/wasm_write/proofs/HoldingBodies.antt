@@ -1,23 +1,21 @@
 -- Functions, code sections and constant expressions that are held, and one operator or row more.
 use Rattle.std.specs.Prelude.{IfErr}
-use Rattle.std.proofs.Common.{◌≡◌, ℕ, ◌-◌, ◌<◌, ◌≤◌, ◌^◌, ◌⊎◌, inr, Result, Ok, Err, List, [], ◌∷◌, ◌++◌, length, map, refl, sym, ap, ap₂, ◌∙◌, append-nil, append_assoc, subst, true, false, arith, ◌≢◌, ◌&&◌, Bool, nat_le, if◌then◌else◌, Option, Some, OnOk, OnErr}
-use Rattle.std.proofs.lemmas.Bool.{leb-true}
+use Rattle.std.proofs.Common.{◌≡◌, ℕ, ◌-◌, ◌<◌, ◌≤◌, ◌^◌, ◌⊎◌, inr, Result, Ok, Err, List, [], ◌∷◌, ◌++◌, length, map, refl, sym, ap, ap₂, ◌∙◌, append-nil, append_assoc, subst, true, false, ◌≢◌, OnOk, OnErr}
 use Rattle.std.specs.Coded.{Coded-set, coded_ℕ, coded_list}
 use mathlib.Core.Logic.{∥∥₁_elim, ∥∥₁_map, ∥∥₁_prop}
 use Rattle.wasm_leb.specs.Leb.{leb}
 use Rattle.wasm_leb.proofs.Shortest.{leb_spells}
 use Rattle.wasm_shapes.specs.Tree.{Tree, normal}
-use Rattle.wasm_shapes.specs.declared.ImmKind.{ImmKind}
-use Rattle.wasm_shapes.specs.Operators.{Code, plain, prefixed, code_of, kinds_among, look_up, plain_operators}
-use Rattle.wasm_shapes.specs.Shape.{Shape, shape_of_row}
+use Rattle.wasm_shapes.specs.Operators.{plain, code_of}
+use Rattle.wasm_shapes.specs.Shape.{Shape, Named}
 use Rattle.wasm_shapes.specs.Module.{local_row, body as body_shape, code_row}
 use Rattle.wasm_shapes.specs.Spells.{Is, Spelled, Spells}
 use Rattle.wasm_shapes.specs.Fits.{InRange}
-use Rattle.wasm_shapes.proofs.Lists.{both}
+use Rattle.wasm_shapes.proofs.Expressions.{inner_is}
 use Rattle.wasm_shapes.proofs.Frameless.{frameless_spells}
 use Rattle.wasm_shapes.proofs.ReadBack.{spelled_in_range, in_range_had}
 use Rattle.wasm_write.specs.declared.types.ValType.{ValType}
-use Rattle.wasm_shapes.specs.Types.{rows_tree, vector_tree}
+use Rattle.wasm_shapes.specs.Types.{rows_tree, vector_tree, expression_of}
 use Rattle.wasm_write.specs.declared.fault.WriteFault.{WriteFault}
 use Rattle.wasm_write.specs.declared.fault.WriteFault.TheVariants.{TooLarge, NoMemory}
 use Rattle.wasm_write.specs.Counts.{counts, IsTooLarge}
@@ -173,21 +171,6 @@ code_large (Err (TooLarge size)) f ceiling n p fits q =
 
 -- ---- a constant expression
 
--- an operator other than `end` has the same row in an expression
-same_row : (c : Code) → c ≢ plain 0x0b → kinds_among true c ≡ kinds_among false c
-same_row (plain b) other = go (nat_le 0x0b b && nat_le b 0x0b) refl
-  where
-    go : (q : Bool) → (nat_le 0x0b b && nat_le b 0x0b) ≡ q → (if q then Some [] else look_up plain_operators b) ≡ look_up plain_operators b
-    go true at =
-        let ends = both (nat_le 0x0b b) (nat_le b 0x0b) at in
-        let is : b ≡ 0x0b = omega (arith, leb-true 0x0b b ends.0, leb-true b 0x0b ends.1) in
-        absurd (other (ap plain is))
-    go false at = refl
-same_row (prefixed p n) other = refl
-
-inner_is : (c : Code) (u : Tree) → c ≢ plain 0x0b → Is (Shape.op true) (Tree.op c u) → Is (Shape.op false) (Tree.op c u)
-inner_is c u other (Is.op k d) = let P : Option (List ImmKind) → Type 0 = λ o. Is (shape_of_row o) u in Is.op k (subst P (same_row c other) d)
-
 inner_operator : (i : Parts) → code_of i.opcode ≢ plain 0x0b → Spells (Shape.op true) (normal (instruction_tree i)) (instruction_tree i) →
     Spells (Shape.op false) (normal (instruction_tree i)) (instruction_tree i)
 inner_operator i other p = record { shaped = inner_is (code_of i.opcode) (imms_tree i.imms) other p.shaped; spelled = p.spelled }
@@ -219,3 +202,19 @@ module _ {bytes : List ℕ} (h : HeldOperators bytes) where
   pub operators_same_is : {new : List ℕ} (k : HeldOperators new) → new ≡ bytes → held_operators new k ≡ held_operators bytes h
   unfolding held_operators
   operators_same_is {new} k e = HeldOperators-one new k (h.0, ∥∥₁_map h.1 (λ r. rw e r))
+
+  -- they stand before the byte of `end`
+  pub expression_normal : normal (expression_of (held_operators bytes h)) ≡ bytes ++ 0x0b ∷ []
+  unfolding held_operators
+  expression_normal =
+      ap (λ (z : List ℕ). z ++ 0x0b ∷ [])
+      (∥∥₁_elim h.1 (Coded-set (coded_list coded_ℕ) (normal (rows_tree h.0)) bytes) (λ r. r.normally))
+
+  pub expression_spells : ∥ Spells (Shape.ref Named.expression) (normal (expression_of (held_operators bytes h))) (expression_of (held_operators bytes h)) ∥₁
+  unfolding held_operators
+  expression_spells =
+      let P : List ℕ → Type 0 = λ z. Spelled (rows_tree h.0) z in
+      ∥∥₁_map h.1 (λ r. record {
+        shaped = Is.ref (Is.until r.shaped);
+        spelled = (normal (rows_tree h.0), refl, subst P (sym r.normally) r.spelled);
+      })

@@ -9,11 +9,11 @@ use Rattle.wasm_shapes.specs.TreeCode.{trees_code}
 use Rattle.wasm_shapes.specs.Shape.{Shape}
 use Rattle.wasm_shapes.specs.Module.{body as body_shape}
 use Rattle.wasm_shapes.specs.Sound.{sound}
-use Rattle.wasm_shapes.specs.Types.{rows_tree, vector_tree}
+use Rattle.wasm_shapes.specs.Types.{rows_tree, vector_tree, listed, listed_rows}
 use Rattle.wasm_shapes.specs.Spells.{Is, Spelled}
 use Rattle.wasm_shapes.proofs.Laws.{one_tree}
 use Rattle.wasm_write.specs.declared.types.ValType.{ValType}
-use Rattle.wasm_write.specs.Held.{AreHeld, rows_are_one, listed, listed_rows}
+use Rattle.wasm_write.specs.Held.{AreHeld, rows_are_one}
 use Rattle.wasm_write.specs.Types.{val_type_tree}
 
 -- ---- a function

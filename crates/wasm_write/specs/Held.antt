@@ -1,7 +1,7 @@
 -- The rows that some bytes spell.
-use Rattle.std.specs.Prelude.{◌≡◌, ℕ, List, [], ◌∷◌, length, true}
+use Rattle.std.specs.Prelude.{◌≡◌, ℕ, List, length, true}
 use Rattle.std.specs.Coded.{Coded-set}
-use Rattle.std.proofs.Common.{refl, sym, ap, ◌∙◌}
+use Rattle.std.proofs.Common.{sym, ap, ◌∙◌}
 use mathlib.Core.HLevel.{Σ_prop_path}
 use mathlib.Core.Logic.{∥∥₁_elim, ∥∥₁_prop}
 use Rattle.wasm_shapes.specs.Tree.{Tree, normal}
@@ -9,7 +9,7 @@ use Rattle.wasm_shapes.specs.TreeCode.{trees_code}
 use Rattle.wasm_shapes.specs.Shape.{Shape}
 use Rattle.wasm_shapes.specs.Sound.{sound}
 use Rattle.wasm_shapes.specs.Spells.{Is, Spelled, Spells}
-use Rattle.wasm_shapes.specs.Types.{rows_tree, vector_tree}
+use Rattle.wasm_shapes.specs.Types.{rows_tree, vector_tree, listed, listed_rows}
 use Rattle.wasm_shapes.proofs.Laws.{one_tree}
 
 -- The body of a section spells a vector of rows of a shape, and whatever other shape it has, as that of the rows in force.
@@ -28,15 +28,6 @@ pub record AreHeld (shape : Shape) (count : ℕ) (bytes : List ℕ) (rows : List
 -- there are such rows
 abbrev pub Held : Shape → ℕ → List ℕ → Type 0
 Held shape count bytes = (rows : List Tree) × ∥ AreHeld shape count bytes rows ∥₁
-
--- rows that are one tree are one list
-abbrev pub listed : Tree → List Tree
-listed (Tree.cons t u) = t ∷ listed u
-listed _ = []
-
-pub listed_rows : (rows : List Tree) → listed (rows_tree rows) ≡ rows
-listed_rows [] = refl
-listed_rows (t ∷ rows) = ap (λ (z : List Tree). t ∷ z) (listed_rows rows)
 
 -- where a shape passes the test, its rows are told apart by their bytes
 pub rows_are_one : {shape : Shape} {n m : ℕ} {bytes : List ℕ} {rows others : List Tree} → sound (Shape.many shape) ≡ true →

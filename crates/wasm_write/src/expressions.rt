@@ -1,10 +1,15 @@
 //! Constant expressions, as they are written.
-ghost use Rattle.std.specs.Prelude.{◌≡◌, ◌≢◌, ◌++◌, ◌∷◌, [], OnOk, OnErr};
+ghost use Rattle.std.specs.Prelude.{◌≡◌, ◌≢◌, ◌++◌, ◌∷◌, [], take, vec_len, OnOk, OnErr};
+ghost use Rattle.wasm_shapes.specs.Tree.{normal};
+ghost use Rattle.wasm_shapes.specs.Shape.{Shape, Named};
+ghost use Rattle.wasm_shapes.specs.Spells.{Spells};
+ghost use Rattle.wasm_shapes.specs.Types.{expression_of};
 ghost use Rattle.wasm_shapes.specs.Operators.{code_of, plain};
 ghost use Rattle.wasm_write.specs.Instructions.{instruction_tree};
 ghost use Rattle.wasm_write.specs.Bodies.{HeldOperators, HeldOperators-prop};
 
 use crate::instructions::Instruction;
+use crate::types_write::write_byte;
 use std::alloc::Global;
 use std::marker::Model;
 use wasm_leb::NoMemory;
@@ -55,6 +60,20 @@ impl ConstExpr {
                 self.bytes.truncate(len);
                 Err(NoMemory)
             }
+        }
+    }
+
+    /// Appends the operators and `end` behind them, or a part of that where memory is wanting.
+    pub(crate) fn encode(&self, out: &mut Vec<u8>) -> Result<(), NoMemory>
+        ensures ok { OnOk result
+            (out.new.items ≡ out.old.items ++ normal (expression_of self.now)) }
+        ensures spells { ∥ Spells (Shape.ref Named.expression) (normal (expression_of self.now))
+            (expression_of self.now) ∥₁ }
+        ensures err { OnErr result (take (vec_len out.old) out.new.items ≡ out.old.items) }
+    {
+        match out.extend_from_slice(&self.bytes) {
+            Ok(()) => write_byte(out, 0x0b),
+            Err(_) => Err(NoMemory),
         }
     }
 }
