@@ -1,4 +1,4 @@
-// A straight walk in C, to measure against: `walk WAY FUNCTIONS ROWS ROUNDS`. It makes the module that the program `bench`
+// A straight walk in C, to measure against: `walk WAY KIND FUNCTIONS ROWS ROUNDS`. It makes the module that the program `bench`
 // makes, decodes each number and operator, asks a hook through a pointer, and writes the shortest spelling. The ways: `make`,
 // which does not re-encode, `walk`, whose hook answers each index as it is, and `renamed`, whose hook answers 1000 for 3.
 #include <stdint.h>
@@ -107,12 +107,28 @@ static void walk_body(const uint8_t *p, const uint8_t *end, Buf *out, Hook h, St
         push(out, op);
         switch (op) {
         case 0x0b:
+        case 0x45:
         case 0x6a:
             break;
+        case 0x02:
+            if (p == end) abort();
+            push(out, *p++);
+            break;
+        case 0x28:
+        case 0x36: {
+            uint32_t align = read_u32(&p, end), memory = h(s, 0);
+            write_u32(out, memory ? align + 64 : align);
+            if (memory) write_u32(out, memory);
+            write_u32(out, read_u32(&p, end));
+            break;
+        }
         case 0x10:
             write_u32(out, h(s, read_u32(&p, end)));
             break;
+        case 0x0d:
         case 0x20:
+        case 0x21:
+        case 0x22:
             write_u32(out, read_u32(&p, end));
             break;
         case 0x41:
@@ -157,12 +173,16 @@ static void walk(const uint8_t *p, const uint8_t *end, Buf *out, Buf *section, B
     }
 }
 
-static Buf make(uint32_t functions, uint32_t rows) {
-    static const uint8_t row[14] = {0x20, 0, 0x41, 5, 0x6a, 0x20, 1, 0x6a, 0x41, 0xe8, 7, 0x6a, 0x10, 3};
+static Buf make(int mixed, uint32_t functions, uint32_t rows) {
+    static const uint8_t numbers[14] = {0x20, 0, 0x41, 5, 0x6a, 0x20, 1, 0x6a, 0x41, 0xe8, 7, 0x6a, 0x10, 3};
+    static const uint8_t mix[32] = {
+        2,    0x40, 0x20, 0, 0x28, 2, 0x10, 0x22, 1, 0x45, 0x0d, 0, 0x20, 1, 0x41, 0xe8,
+        7,    0x6a, 0x21, 2, 0x20, 0, 0x20, 2, 0x36, 2, 0x0c, 0x20, 2, 0x10, 3, 0x0b,
+    };
     static const uint8_t front[14] = {0, 0x61, 0x73, 0x6d, 1, 0, 0, 0, 1, 4, 1, 0x60, 0, 0};
     Buf body = {0}, types = {0}, code = {0}, out = {0};
     push(&body, 0);
-    for (uint32_t i = 0; i < rows; i++) append(&body, row, 14);
+    for (uint32_t i = 0; i < rows; i++) append(&body, mixed ? mix : numbers, mixed ? 32 : 14);
     push(&body, 0x0b);
     write_u32(&types, functions);
     write_u32(&code, functions);
@@ -182,11 +202,11 @@ static Buf make(uint32_t functions, uint32_t rows) {
 }
 
 int main(int argc, char **argv) {
-    if (argc != 5) return 2;
-    Buf in = make(atoi(argv[2]), atoi(argv[3]));
+    if (argc != 6) return 2;
+    Buf in = make(!strcmp(argv[2], "mixed"), atoi(argv[3]), atoi(argv[4]));
     uint64_t sum = 0;
     Hook volatile hook = strcmp(argv[1], "renamed") ? same : other;
-    for (int round = atoi(argv[4]); round > 0; round--) {
+    for (int round = atoi(argv[5]); round > 0; round--) {
         Buf out = {0}, section = {0}, body = {0};
         State s = {0};
         if (strcmp(argv[1], "make")) {

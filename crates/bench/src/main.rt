@@ -1,5 +1,6 @@
-//! Makes a module and re-encodes it: `bench WAY FUNCTIONS ROWS ROUNDS`. The module has so many functions, each of so many
-//! rows of eight operators, and is re-encoded so many times. It prints how many bytes came. The ways:
+//! Makes a module and re-encodes it: `bench WAY KIND FUNCTIONS ROWS ROUNDS`. The module has so many functions, each of so
+//! many rows of a kind, and is re-encoded so many times. It prints how many bytes came. A row of the kind `numbers` is eight
+//! operators, and one of the kind `mixed` is sixteen with blocks, branches, loads and stores among them. The ways:
 //!
 //! | | |
 //! |---|---|
@@ -27,6 +28,7 @@ use wasm_shapes::Space;
 #[derive(Drop)]
 struct Words {
     way: String,
+    mixed: bool,
     functions: u32,
     rows: u32,
     rounds: u32,
@@ -37,6 +39,14 @@ fn read_words(rt: &HostRuntime) -> io::Result<Option<Words>> {
     let mut words = env::args(rt)?.skip(1);
     let Some(way) = words.next() else {
         return Ok(None);
+    };
+    let Some(kind) = words.next() else {
+        return Ok(None);
+    };
+    let mixed = match kind.as_str() {
+        "mixed" => true,
+        "numbers" => false,
+        _ => return Ok(None),
     };
     let mut numbers = [0u32; 3];
     for number in &mut numbers {
@@ -51,6 +61,7 @@ fn read_words(rt: &HostRuntime) -> io::Result<Option<Words>> {
     let [functions, rows, rounds] = numbers;
     Ok(Some(Words {
         way,
+        mixed,
         functions,
         rows,
         rounds,
@@ -104,7 +115,7 @@ fn all(alloc: Global, words: &Words, module: &[u8]) -> Result<Option<usize>, NoM
 
 /// What is printed, where the words say it.
 fn said(alloc: Global, words: &Words) -> Result<Option<String>, AllocError> {
-    let Ok(module) = module(alloc, words.functions, words.rows) else {
+    let Ok(module) = module(alloc, words.mixed, words.functions, words.rows) else {
         return Err(AllocError);
     };
     if words.way.as_str() == "text" {

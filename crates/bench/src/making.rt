@@ -3,8 +3,14 @@ use std::alloc::Global;
 use wasm_leb::{NoMemory, write_u32};
 
 /// Eight operators in fourteen bytes: most numbers take one byte, one constant two. One is a call.
-const ROW: [u8; 14] = [
+const NUMBERS: [u8; 14] = [
     0x20, 0x00, 0x41, 0x05, 0x6a, 0x20, 0x01, 0x6a, 0x41, 0xe8, 0x07, 0x6a, 0x10, 0x03,
+];
+
+/// Sixteen operators in 32 bytes: a block round a load, a test with a branch, a sum, a store and a call.
+const MIXED: [u8; 32] = [
+    0x02, 0x40, 0x20, 0x00, 0x28, 0x02, 0x10, 0x22, 0x01, 0x45, 0x0d, 0x00, 0x20, 0x01, 0x41, 0xe8,
+    0x07, 0x6a, 0x21, 0x02, 0x20, 0x00, 0x20, 0x02, 0x36, 0x02, 0x0c, 0x20, 0x02, 0x10, 0x03, 0x0b,
 ];
 
 /// The function that is called.
@@ -31,24 +37,28 @@ fn add_sized(out: &mut Vec<u8>, bytes: &[u8]) -> Result<(), NoMemory> {
     add(out, bytes)
 }
 
-/// The body of a function: no locals, so many rows, and `end`.
-fn body(alloc: Global, rows: u32) -> Result<Vec<u8>, NoMemory> {
+/// The body of a function: no locals, so many rows of a kind, and `end`.
+fn body(alloc: Global, mixed: bool, rows: u32) -> Result<Vec<u8>, NoMemory> {
     let mut out = Vec::new(alloc);
     add(&mut out, &[0x00])?;
     for _ in 0..rows {
-        add(&mut out, &ROW)?;
+        if mixed {
+            add(&mut out, &MIXED)?;
+        } else {
+            add(&mut out, &NUMBERS)?;
+        }
     }
     add(&mut out, &[0x0b])?;
     Ok(out)
 }
 
-/// A module of so many functions, each of so many rows.
-pub fn module(alloc: Global, functions: u32, rows: u32) -> Result<Vec<u8>, NoMemory> {
+/// A module of so many functions, each of so many rows of a kind.
+pub fn module(alloc: Global, mixed: bool, functions: u32, rows: u32) -> Result<Vec<u8>, NoMemory> {
     let mut types = Vec::new(alloc);
     let mut code = Vec::new(alloc);
     write_u32(&mut types, functions)?;
     write_u32(&mut code, functions)?;
-    let body = body(alloc, rows)?;
+    let body = body(alloc, mixed, rows)?;
     for _ in 0..functions {
         add(&mut types, &[0x00])?;
         add_sized(&mut code, body.as_slice())?;

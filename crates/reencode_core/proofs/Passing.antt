@@ -14,7 +14,7 @@ use Rattle.wasm_shapes.specs.declared.Space.TheVariants as space
 use Rattle.wasm_shapes.specs.declared.Visit.{Visit}
 use Rattle.wasm_shapes.specs.declared.Visit.TheVariants.{Index}
 use Rattle.wasm_shapes.specs.Operators.{code_of, is_code, is_prefix, kinds_of, plain}
-use Rattle.wasm_shapes.specs.Shape.{Shape, shape_of_kind, shape_of_kinds, shape_of_row}
+use Rattle.wasm_shapes.specs.Shape.{Named, Shape, block_type, shape_of, shape_of_kind, shape_of_kinds, shape_of_row}
 use Rattle.wasm_shapes.specs.Tree.{Tree, code_bytes, normal}
 use Rattle.wasm_shapes.specs.Spells.{Is, Spelled}
 use Rattle.wasm_shapes.specs.Place.{Begins}
@@ -109,6 +109,41 @@ skips_raw n bytes within =
       unasked = tt;
     })
 
+-- a block of no type
+pub skips_no_type : {b : ℕ} {bytes rest : List ℕ} → bytes ≡ b ∷ rest → b ≡ 0x40 → SkipsLeaf block_type bytes rest
+skips_no_type {rest = rest} e same = record {
+  tree = Tree.row 0 (Tree.fixed 0x40);
+  begins = record { shaped = Is.first Is.fixed; spelled = refl; reads = e ∙ ap (λ (z : ℕ). z ∷ rest) same };
+  unasked = tt;
+}
+
+-- the types of numbers, by how far they stand before the last one
+number_is : (k b : ℕ) → b + k ≡ 0x7f → k < 5 → Is (shape_of Named.value) (Tree.row k (Tree.fixed b))
+number_is zero b e small = let P : ℕ → Type 0 = λ z. Is (shape_of Named.value) (Tree.row 0 (Tree.fixed z)) in let same : 0x7f ≡ b = omega arith in subst P same (Is.first Is.fixed)
+number_is (suc zero) b e small = let P : ℕ → Type 0 = λ z. Is (shape_of Named.value) (Tree.row 1 (Tree.fixed z)) in let same : 0x7e ≡ b = omega arith in subst P same (Is.later {k = 0} (Is.first Is.fixed))
+number_is (suc (suc zero)) b e small =
+    let P : ℕ → Type 0 = λ z. Is (shape_of Named.value) (Tree.row 2 (Tree.fixed z)) in let same : 0x7d ≡ b = omega arith in
+    subst P same (Is.later {k = 1} (Is.later {k = 0} (Is.first Is.fixed)))
+number_is (suc (suc (suc zero))) b e small =
+    let P : ℕ → Type 0 = λ z. Is (shape_of Named.value) (Tree.row 3 (Tree.fixed z)) in let same : 0x7c ≡ b = omega arith in
+    subst P same (Is.later {k = 2} (Is.later {k = 1} (Is.later {k = 0} (Is.first Is.fixed))))
+number_is (suc (suc (suc (suc zero)))) b e small =
+    let P : ℕ → Type 0 = λ z. Is (shape_of Named.value) (Tree.row 4 (Tree.fixed z)) in let same : 0x7b ≡ b = omega arith in
+    subst P same (Is.later {k = 3} (Is.later {k = 2} (Is.later {k = 1} (Is.later {k = 0} (Is.first Is.fixed)))))
+number_is (suc (suc (suc (suc (suc k))))) b e small = absurd (omega arith)
+
+-- a block of one number
+pub skips_number_type : (b : ℕ) {bytes rest : List ℕ} → bytes ≡ b ∷ rest → 0x7b ≤ b → b < 0x80 → SkipsLeaf block_type bytes rest
+skips_number_type b e least most = record {
+  tree = Tree.row 1 (Tree.row (0x7f - b) (Tree.fixed b));
+  begins = record {
+    shaped = Is.later {k = 0} (Is.first (Is.ref (number_is (0x7f - b) b (omega arith) (omega arith))));
+    spelled = refl;
+    reads = e;
+  };
+  unasked = tt;
+}
+
 -- ---- an operator
 
 module _ {bytes rest behind : List ℕ} {op : Opcode} {ks : List ImmKind} {t : Tree} (h : IsHead bytes op rest) (row : kinds_of op ≡ Some ks) (p : Begins (shape_of_kinds ks) rest t behind) where
@@ -185,6 +220,8 @@ unasked_walk asked s (Tree.u32 n) h c = refl
 unasked_walk asked s (Tree.s32 z) h c = refl
 unasked_walk asked s (Tree.s64 z) h c = refl
 unasked_walk asked s (Tree.raw bs) h c = refl
+unasked_walk asked s (Tree.fixed b) h c = refl
+unasked_walk asked s (Tree.row k t) h c = rw (unasked_walk asked s t h c) refl
 unasked_walk asked s _ h c = absurd h
 
 keeps_leaf : {S E : Type 0} (asked : Asks S E) (s : S) {bytes rest : List ℕ} {op : Opcode} {k : ImmKind} {a : Shape} {n : ℕ} → IsHead bytes op rest → kinds_of op ≡ Some (k ∷ []) →

@@ -4,7 +4,7 @@ use Rattle.wasm_shapes.specs.declared.ImmKind.{ImmKind}
 use Rattle.wasm_shapes.specs.declared.ImmKind.TheVariants as kind
 use Rattle.wasm_shapes.specs.declared.Opcode.{Opcode}
 use Rattle.wasm_shapes.specs.Operators.{code_of, is_code, kinds_of}
-use Rattle.wasm_shapes.specs.Shape.{Shape, shape_of_kind}
+use Rattle.wasm_shapes.specs.Shape.{Shape, block_type, shape_of_kind}
 use Rattle.wasm_shapes.specs.Tree.{Tree, code_bytes, normal}
 use Rattle.wasm_shapes.specs.Spells.{Is, Spelled, SpelledCode}
 use Rattle.wasm_shapes.specs.Place.{Begins}
@@ -35,6 +35,7 @@ abbrev pub leaf_shape : Leaf → Shape
 leaf_shape leaf.Number = Shape.u32
 leaf_shape leaf.Long = Shape.s64
 leaf_shape (leaf.Raw n) = Shape.bytes n
+leaf_shape leaf.Block = block_type
 
 -- an immediate of the kind, which stands alone, is of the class
 abbrev pub IsOfKind : ImmKind → Class → Type 0
@@ -115,12 +116,14 @@ Passes asked s bytes m next None = PassesNext asked s bytes m next
 
 -- ---- immediates that ask nothing
 
--- nothing is asked of these leaves
+-- nothing is asked of these leaves, nor of a row of them
 abbrev pub IsUnasked : Tree → Type 0
 IsUnasked (Tree.u32 n) = Unit {0}
 IsUnasked (Tree.s32 z) = Unit {0}
 IsUnasked (Tree.s64 z) = Unit {0}
 IsUnasked (Tree.raw bs) = Unit {0}
+IsUnasked (Tree.fixed b) = Unit {0}
+IsUnasked (Tree.row k t) = IsUnasked t
 IsUnasked _ = ⊥
 
 -- One stands at the front of some bytes in its normal spelling.

@@ -14,6 +14,8 @@ pub enum Leaf {
     Long,
     /// So many bytes.
     Raw(usize),
+    /// The type of a block, of one byte: none, or a type of numbers.
+    Block,
 }
 
 /// The immediates of an operator that has none or one.
@@ -57,6 +59,8 @@ pub fn frequent_class(byte: u8) -> Option<Class>
     match byte {
         0x00 | 0x01 | 0x05 | 0x0b | 0x0f | 0x1a | 0x1b => Some(Class::Bare),
         0x45..=0xc4 => Some(Class::Bare),
+        0x02..=0x04 => Some(Class::Leaf(Leaf::Block)),
+        0x06 => Some(Class::Leaf(Leaf::Block)),
         0x0c..=0x0d => Some(Class::Leaf(Leaf::Number)),
         0x20..=0x22 => Some(Class::Leaf(Leaf::Number)),
         0x10 | 0x12 | 0xd2 => Some(Class::Index(Space::Function)),
@@ -78,6 +82,7 @@ fn class_of_kind(kind: ImmKind) -> Option<Class>
     ensures { IfSome result (λ c. IsOfKind kind c) }
 {
     match kind {
+        ImmKind::Block => Some(Class::Leaf(Leaf::Block)),
         ImmKind::Label | ImmKind::Local | ImmKind::Field | ImmKind::Size => {
             Some(Class::Leaf(Leaf::Number))
         }

@@ -6,7 +6,7 @@ ghost use Rattle.wasm_leb.specs.Place.{BeginsNumber, BeginsSigned};
 ghost use Rattle.wasm_shapes.specs.declared.ImmKind.TheVariants as kind;
 ghost use Rattle.wasm_shapes.specs.declared.Visit.TheVariants.{Index};
 ghost use Rattle.wasm_shapes.specs.Place.{Begins};
-ghost use Rattle.wasm_shapes.specs.Shape.{Shape};
+ghost use Rattle.wasm_shapes.specs.Shape.{Shape, block_type};
 ghost use Rattle.wasm_shapes.specs.Tree.{Tree, normal};
 ghost use Rattle.wasm_shapes.specs.Types.{is_core};
 ghost use Rattle.wasm_write.specs.Instructions.{imm_kind, imm_tree};
@@ -156,6 +156,23 @@ fn skip_raw(bytes: &[u8], count: usize) -> Option<&[u8]>
     }
 }
 
+/// The bytes behind the type of a block that is one byte: none, or a type of numbers.
+#[inline(always)]
+fn skip_block(bytes: &[u8]) -> Option<&[u8]>
+    ensures { IfSome result (λ rest. SkipsLeaf block_type bytes.now rest.now) }
+{
+    let Some((first, rest)) = front_byte(bytes) else {
+        return None;
+    };
+    if first == 0x40 {
+        return Some(rest);
+    }
+    if first < 0x7b {
+        return None;
+    }
+    if first < 0x80 { Some(rest) } else { None }
+}
+
 /// The bytes behind a leaf that stands in its normal spelling.
 #[inline(always)]
 fn skip_leaf(leaf: Leaf, bytes: &[u8]) -> Option<&[u8]>
@@ -165,6 +182,7 @@ fn skip_leaf(leaf: Leaf, bytes: &[u8]) -> Option<&[u8]>
         Leaf::Number => skip_number(bytes),
         Leaf::Long => skip_long(bytes),
         Leaf::Raw(count) => skip_raw(bytes, count),
+        Leaf::Block => skip_block(bytes),
     }
 }
 

@@ -4,6 +4,12 @@ use Rattle.wasm_shapes.specs.declared.ImmKind.TheVariants as kind
 use Rattle.wasm_shapes.specs.Operators.{kinds_among, plain}
 use Rattle.reencode_core.proofs.direct.classes.frequent_class.Goals as goal
 
+pub returns-in-2-to-4-clause-class : goal.returns-in-2-to-4-clause-class
+returns-in-2-to-4-clause-class c = record { kind = kind.Block; row = search rules; is = refl }
+
+pub returns-in-6-clause-class : goal.returns-in-6-clause-class
+returns-in-6-clause-class c = record { kind = kind.Block; row = ap (λ (b : ℕ). kinds_among true (plain b)) c.in-6.is; is = refl }
+
 pub returns-in-12-to-13-clause-class : goal.returns-in-12-to-13-clause-class
 returns-in-12-to-13-clause-class c = record { kind = kind.Label; row = search rules; is = refl }
 
