@@ -6,7 +6,7 @@ use Rattle.wasm_shapes.specs.declared.Space.TheVariants as space
 use Rattle.wasm_shapes.specs.Tree.{Tree}
 use Rattle.wasm_shapes.specs.Shape.{Shape}
 use Rattle.wasm_shapes.specs.Place.{Begins}
-use Rattle.wasm_shapes.specs.Types.{behind_descriptor, behind_described, sub_type_of, group_of, table_of, memory_of, global_of, tag_of, import_of, item_of}
+use Rattle.wasm_shapes.specs.Types.{behind_descriptor, behind_described, sub_type_of, group_of, table_of, memory_of, global_of, global_with_init_of, tag_of, import_of, item_of}
 pub use Rattle.wasm_shapes.specs.Types.{no_reading, led, vector_tree, shared_tree, mutable_of, shared_composite_tree, flag, limits_flags, bounds_tree, paged_tree, limits_tree, global_flags, function_tree}
 use Rattle.wasm_read.specs.declared.types.UnpackedIndex.{UnpackedIndex}
 use Rattle.wasm_read.specs.declared.types.UnpackedIndex.TheVariants as unpacked
@@ -40,6 +40,8 @@ use Rattle.wasm_read.specs.declared.types.Imports.TheVariants as imported
 use Rattle.wasm_read.specs.declared.types.Table.{Table}
 use Rattle.wasm_read.specs.declared.types.TableInit.{TableInit}
 use Rattle.wasm_read.specs.declared.types.TableInit.TheVariants as init
+use Rattle.wasm_read.specs.declared.types.Global.{Global}
+use Rattle.wasm_read.specs.Expressions.{expr_tree}
 
 -- the index of the module
 abbrev pub module_index : UnpackedIndex → Option ℕ
@@ -220,6 +222,10 @@ table_parts (init.Expr e) ty = no_reading
 
 abbrev pub table_tree : Table → Tree
 table_tree row = table_parts row.init row.ty
+
+-- a global and the expression of its first value
+abbrev pub global_tree : Global → Tree
+global_tree row = global_with_init_of (global_type_tree row.ty) (expr_tree row.init_expr)
 
 -- what is exported, of a kind and by its index: an exact function stands for what a function stands for
 abbrev pub item_tree : ExternalKind → ℕ → Tree

@@ -1,14 +1,16 @@
 //! The types of what is imported, at the front of some bytes, and at a place of some bytes.
 ghost use Rattle.std.specs.Prelude.{◌≡◌, ◌<◌, ◌≤◌, length, drop, IfOk, IfErr, IfSome, IfNone, Bool};
 ghost use Rattle.std.specs.Option.{is_some};
-ghost use Rattle.wasm_shapes.specs.Module.{import_row};
+ghost use Rattle.wasm_shapes.specs.Module.{global_row, import_row};
 ghost use Rattle.wasm_shapes.specs.Place.{Begins, BeginsNone};
 ghost use Rattle.wasm_shapes.specs.Shape.{Shape, bounds, paged, table_type, memory_type, global_type, tag_type, entity};
-ghost use Rattle.wasm_read.specs.Types.{limits_flags, bounds_tree, paged_tree, table_type_tree, memory_type_tree, global_type_tree, tag_type_tree, entity_tree, table_tree, import_tree};
+ghost use Rattle.wasm_read.specs.Types.{limits_flags, bounds_tree, paged_tree, table_type_tree, memory_type_tree, global_type_tree, tag_type_tree, entity_tree, table_tree, global_tree, import_tree};
 
+use crate::expressions::front_expr;
 use crate::fields::{from_place, front_name};
 use crate::types::{
-    GlobalType, Import, Imports, MemoryType, Table, TableInit, TableType, TagKind, TagType, TypeRef,
+    Global, GlobalType, Import, Imports, MemoryType, Table, TableInit, TableType, TagKind, TagType,
+    TypeRef,
 };
 use crate::values::{front_ref_type, front_val_type};
 use wasm_leb::{ReadError, front_byte, front_u32, front_u64};
@@ -322,6 +324,20 @@ pub fn front_table(bytes: &[u8]) -> Option<(Table<'_>, &[u8])>
             },
             rest,
         )),
+        None => None,
+    }
+}
+
+/// The global at the front of some bytes with the expression of its first value, and the bytes behind it.
+pub fn front_global(bytes: &[u8]) -> Option<(Global<'_>, &[u8])>
+    ensures some { IfSome result (λ r. Begins global_row bytes.now (global_tree r.0) r.1.now) }
+    ensures none { IfNone result (BeginsNone global_row bytes.now) }
+{
+    let Some((ty, rest)) = front_global_type(bytes) else {
+        return None;
+    };
+    match front_expr(rest) {
+        Some((init_expr, rest)) => Some((Global { ty, init_expr }, rest)),
         None => None,
     }
 }

@@ -26,8 +26,9 @@ pub use operators::{Operator, OperatorsReader};
 pub use payloads::Payloads;
 pub use section_reader::{ReadRow, SectionReader};
 pub use sections::{
-    BodyFrames, CodeSectionReader, ExportSectionReader, FunctionSectionReader, ImportSectionReader,
-    MemorySectionReader, TableSectionReader, TagSectionReader, TypeSectionReader,
+    BodyFrames, CodeSectionReader, ExportSectionReader, FunctionSectionReader, GlobalSectionReader,
+    ImportSectionReader, MemorySectionReader, TableSectionReader, TagSectionReader,
+    TypeSectionReader,
 };
 pub use types::{
     AbstractHeapType, ArrayType, BlockType, Catch, CompositeInnerType, CompositeType, ContType,

@@ -1,13 +1,16 @@
 //! The readers of the sections of rows (WebAssembly Core Specification 3.0, section 5.5).
 ghost use Rattle.std.specs.Prelude.{true};
 ghost use Rattle.wasm_read.specs.Operations.{body_tree};
-ghost use Rattle.wasm_read.specs.Types.{group_tree, import_tree, function_tree, table_tree, memory_type_tree, tag_type_tree, export_tree, ExportKind};
+ghost use Rattle.wasm_read.specs.Types.{group_tree, import_tree, function_tree, table_tree, memory_type_tree, global_tree, tag_type_tree, export_tree, ExportKind};
 
 use crate::code::front_body;
-use crate::externals::{front_import, front_memory_type, front_table, front_tag_type};
+use crate::externals::{
+    front_global, front_import, front_memory_type, front_table, front_tag_type,
+};
 use crate::fields::{front_export, front_function};
 use crate::groups::front_group;
 use crate::section_reader::{ReadRow, SectionReader};
+use crate::types;
 use crate::types::{Export, FunctionBody, Imports, MemoryType, RecGroup, Table, TagType};
 use std::alloc::Global;
 use wasm_leb::NoMemory;
@@ -83,6 +86,23 @@ impl<'a> ReadRow<'a> for kinds::Memories {
     #[inline]
     fn front(_alloc: Global, bytes: &'a [u8]) -> Result<Option<(MemoryType, &'a [u8])>, NoMemory> {
         Ok(front_memory_type(bytes))
+    }
+}
+
+/// A reader of the rows of a global section (section 5.5.9).
+pub type GlobalSectionReader<'a> = SectionReader<'a, kinds::Globals>;
+
+impl<'a> ReadRow<'a> for kinds::Globals {
+    type Row = types::Global<'a>;
+
+    ghost tree = { global_tree };
+
+    #[inline]
+    fn front(
+        _alloc: Global,
+        bytes: &'a [u8],
+    ) -> Result<Option<(types::Global<'a>, &'a [u8])>, NoMemory> {
+        Ok(front_global(bytes))
     }
 }
 

@@ -95,7 +95,7 @@ global_row true false = refl
 global_row false true = refl
 global_row true true = refl
 
-global_type_is : (ty : GlobalType) → Is global_type (global_type_tree ty)
+pub global_type_is : (ty : GlobalType) → Is global_type (global_type_tree ty)
 global_type_is ty =
     let flags = global_flags ty.mutable ty.shared in
     let P : Shape → Type 0 = λ z. Is z (Tree.fixed flags) in

@@ -11,3 +11,4 @@ pub mod ImmsSoFar
 pub mod InstructionShapes
 pub mod HoldingBodies
 pub mod SmallCounts
+pub mod InitRows

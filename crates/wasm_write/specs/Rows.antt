@@ -3,13 +3,14 @@ use Rattle.std.specs.Prelude.{ℕ, List}
 use Rattle.wasm_shapes.specs.declared.Space.{Space}
 use Rattle.wasm_shapes.specs.declared.Space.TheVariants as space
 use Rattle.wasm_shapes.specs.Tree.{Tree}
-use Rattle.wasm_shapes.specs.Types.{import_of, item_of}
+use Rattle.wasm_shapes.specs.Types.{expression_of, global_with_init_of, import_of, item_of}
 use Rattle.wasm_write.specs.declared.types.ExportKind.{ExportKind}
 use Rattle.wasm_write.specs.declared.types.ExportKind.TheVariants as export
 use Rattle.wasm_write.specs.declared.types.Import.{Import}
 use Rattle.wasm_write.specs.declared.types.Imports.{Imports}
 use Rattle.wasm_write.specs.declared.types.Imports.TheVariants as imported
-use Rattle.wasm_write.specs.Types.{entity_tree}
+use Rattle.wasm_write.specs.declared.types.GlobalType.{GlobalType}
+use Rattle.wasm_write.specs.Types.{entity_tree, global_type_tree}
 
 -- ---- imports
 
@@ -19,6 +20,12 @@ single_tree row = import_of row.module.now row.name.now (entity_tree row.ty)
 
 abbrev pub import_tree : Imports → Tree
 import_tree (imported.Single row) = single_tree row
+
+-- ---- globals
+
+-- a global and the operators of the expression of its first value
+abbrev pub global_tree : GlobalType → List Tree → Tree
+global_tree ty init = global_with_init_of (global_type_tree ty) (expression_of init)
 
 -- ---- exports
 

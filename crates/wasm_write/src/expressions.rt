@@ -1,5 +1,5 @@
 //! Constant expressions, as they are written.
-ghost use Rattle.std.specs.Prelude.{◌≡◌, ◌≢◌, ◌++◌, ◌∷◌, [], take, vec_len, OnOk, OnErr};
+ghost use Rattle.std.specs.Prelude.{◌≡◌, ◌≢◌, ◌++◌, ◌∷◌, [], ◌+◌, length, take, vec_len, OnOk, OnErr};
 ghost use Rattle.wasm_shapes.specs.Tree.{normal};
 ghost use Rattle.wasm_shapes.specs.Shape.{Shape, Named};
 ghost use Rattle.wasm_shapes.specs.Spells.{Spells};
@@ -61,6 +61,15 @@ impl ConstExpr {
                 Err(NoMemory)
             }
         }
+    }
+
+    /// How many bytes its operators have. They and `end` have a spelling.
+    pub(crate) fn len(&self) -> usize
+        ensures len { result + 1 ≡ length (normal (expression_of self.now)) }
+        ensures spells { ∥ Spells (Shape.ref Named.expression) (normal (expression_of self.now))
+            (expression_of self.now) ∥₁ }
+    {
+        self.bytes.len()
     }
 
     /// Appends the operators and `end` behind them, or a part of that where memory is wanting.

@@ -1,11 +1,14 @@
 //! Rows of sections in their normal spelling.
 
-use crate::externals::{write_import, write_memory_type, write_table_type, write_tag_type};
+use crate::expressions::ConstExpr;
+use crate::externals::{
+    write_global_type, write_import, write_memory_type, write_table_type, write_tag_type,
+};
 use crate::fault::WriteFault;
 use crate::fields::{write_item, write_name};
 use crate::groups::write_group;
 use crate::row_section::RowOf;
-use crate::types::{Export, Imports, MemoryType, RecGroup, TableType, TagType};
+use crate::types::{Export, GlobalType, Imports, MemoryType, RecGroup, TableType, TagType};
 use wasm_leb::{NoMemory, write_u32};
 use wasm_shapes::kinds;
 
@@ -69,6 +72,31 @@ impl RowOf<kinds::Memories> for MemoryType {
     #[tactic(auto, using(crate::proofs::RowSpelling::memory_type_spelled))]
     fn write(&self, out: &mut Vec<u8>) -> Result<(), WriteFault> {
         match write_memory_type(out, *self) {
+            Ok(()) => Ok(()),
+            Err(NoMemory) => Err(WriteFault::NoMemory),
+        }
+    }
+}
+
+/// A global and the expression of its first value.
+#[derive(Drop)]
+pub(crate) struct Global<'a> {
+    pub(crate) ty: GlobalType,
+    pub(crate) init: &'a ConstExpr,
+}
+
+impl<'a> RowOf<kinds::Globals> for Global<'a> {
+    ghost use Rattle.wasm_write.specs.Rows.{global_tree};
+
+    ghost tree = { λ row. global_tree row.ty row.init.now };
+
+    #[tactic(auto, using(crate::proofs::InitRows::global_spelled))]
+    fn write(&self, out: &mut Vec<u8>) -> Result<(), WriteFault> {
+        match write_global_type(out, self.ty) {
+            Ok(()) => {}
+            Err(NoMemory) => return Err(WriteFault::NoMemory),
+        }
+        match self.init.encode(out) {
             Ok(()) => Ok(()),
             Err(NoMemory) => Err(WriteFault::NoMemory),
         }

@@ -4,12 +4,16 @@ ghost use Rattle.wasm_shapes.specs.Types.{function_tree};
 ghost use Rattle.wasm_shapes.specs.Fits.{InRange};
 ghost use Rattle.wasm_write.specs.Counts.{counts, IsTooLarge};
 ghost use Rattle.wasm_write.specs.Faults.{IfTooLarge};
-ghost use Rattle.wasm_write.specs.Rows.{import_tree, export_tree};
+ghost use Rattle.wasm_write.specs.Rows.{import_tree, global_tree, export_tree};
 ghost use Rattle.wasm_write.specs.Types.{group_tree, table_type_tree, memory_type_tree, tag_type_tree};
 
+use crate::expressions::ConstExpr;
 use crate::fault::WriteFault;
 use crate::row_section::RowSection;
-use crate::types::{Export, ExportKind, Imports, MemoryType, RecGroup, TableType, TagType};
+use crate::rows::Global;
+use crate::types::{
+    Export, ExportKind, GlobalType, Imports, MemoryType, RecGroup, TableType, TagType,
+};
 use wasm_shapes::kinds;
 
 /// A type section (WebAssembly Core Specification 3.0, section 5.5.4).
@@ -108,6 +112,27 @@ impl RowSection<kinds::Memories> {
             (λ size. (size ≡ length self.old + 1) × (2 ^ 32 - 1 < size))) }
     {
         self.add(&ty)
+    }
+}
+
+/// A global section (WebAssembly Core Specification 3.0, section 5.5.9).
+pub type GlobalSection = RowSection<kinds::Globals>;
+
+impl RowSection<kinds::Globals> {
+    /// Adds a global and the expression of its first value. A refusal changes nothing.
+    ///
+    /// `TooLarge` comes exactly where the number of rows would pass 2^32 - 1, with that number.
+    #[inline]
+    pub fn global(&mut self, ty: GlobalType, init: &ConstExpr) -> Result<(), WriteFault>
+        ensures ok { OnOk result (self.new ≡ self.old ++ global_tree ty init.now ∷ []) }
+        ensures fits { OnOk result (length self.old + 1 < 2 ^ 32) }
+        ensures err { OnErr result (self.new ≡ self.old) }
+        ensures large { IfErr result (λ e. IfTooLarge e
+            (λ size. (size ≡ length self.old + 1) × (2 ^ 32 - 1 < size))) }
+    {
+        // for what it says of the spelling of the expression
+        init.len();
+        self.add(&Global { ty, init })
     }
 }
 
