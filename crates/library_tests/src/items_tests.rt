@@ -335,7 +335,7 @@ fn parts_by_functions<R: ReencodeItems>(of: &mut R) -> Result<[bool; 7], Error<R
 }
 
 #[test]
-fn parts(rt: HostRuntime) -> Result<(), Fail> {
+fn parts(rt: HostRuntime) -> Result<(), NoMemory> {
     let mut renamer = renamer(rt.alloc())?;
     assert_eq!(rt; parts_by_methods(&mut renamer).ok(), Some([true; 7]));
     assert_eq!(rt; parts_by_functions(&mut renamer).ok(), Some([true; 7]));
@@ -416,7 +416,7 @@ fn immediates_by_types<R: ReencodeItems>(
 }
 
 #[test]
-fn immediates(rt: HostRuntime) -> Result<(), Fail> {
+fn immediates(rt: HostRuntime) -> Result<(), NoMemory> {
     let mut renamer = renamer(rt.alloc())?;
     assert_eq!(rt;
         immediates_by_parts(&mut renamer, rt.alloc()).ok(),
