@@ -367,11 +367,11 @@ fn immediates_by_parts<R: ReencodeItems>(
     let handlers = of.immediate(alloc, r::Imm::Handlers(one(alloc, HANDLE)?))?;
     let bits = of.immediate(alloc, r::Imm::Eight(r::Ieee64(7)))?;
     Ok([
-        matches!(access, w::Imm::Mem(access) if access == WRITTEN_ACCESS),
-        matches!(types, w::Imm::Types(types) if types.as_slice() == [w::ValType::Ref(WRITTEN)].as_slice()),
-        matches!(catches, w::Imm::Catches(catches) if catches.as_slice() == [WRITTEN_CATCH].as_slice()),
-        matches!(handlers, w::Imm::Handlers(handlers) if handlers.as_slice() == [WRITTEN_HANDLE].as_slice()),
-        matches!(bits, w::Imm::Eight(bits) if bits == w::Ieee64(7)),
+        matches!(&access, w::Imm::Mem(access) if *access == WRITTEN_ACCESS),
+        matches!(&types, w::Imm::Types(types) if types.as_slice() == [w::ValType::Ref(WRITTEN)].as_slice()),
+        matches!(&catches, w::Imm::Catches(catches) if catches.as_slice() == [WRITTEN_CATCH].as_slice()),
+        matches!(&handlers, w::Imm::Handlers(handlers) if handlers.as_slice() == [WRITTEN_HANDLE].as_slice()),
+        matches!(&bits, w::Imm::Eight(bits) if *bits == w::Ieee64(7)),
     ])
 }
 
@@ -398,10 +398,10 @@ fn immediates_by_types<R: ReencodeItems>(
     };
     let labels = of.immediate(alloc, labels)?;
     Ok([
-        matches!(block, w::Imm::Block(w::BlockType::FunctionType(11))),
-        matches!(heap, w::Imm::Heap(w::HeapType::Concrete(11))),
+        matches!(&block, w::Imm::Block(w::BlockType::FunctionType(11))),
+        matches!(&heap, w::Imm::Heap(w::HeapType::Concrete(11))),
         matches!(
-            cast,
+            &cast,
             w::Imm::Cast {
                 label: 1,
                 from: WRITTEN,
@@ -411,7 +411,7 @@ fn immediates_by_types<R: ReencodeItems>(
                 }
             }
         ),
-        matches!(labels, w::Imm::Labels { targets, default: 1 } if targets.as_slice() == [3].as_slice()),
+        matches!(&labels, w::Imm::Labels { targets, default: 1 } if targets.as_slice() == [3].as_slice()),
     ])
 }
 
