@@ -3,8 +3,8 @@ use Rattle.std.specs.Prelude.{◌≡◌, ℕ, List, [], ◌∷◌, ◌++◌, tru
 use Rattle.wasm_shapes.specs.declared.SectionId.{SectionId}
 use Rattle.wasm_shapes.specs.declared.SectionId.TheVariants as id
 use Rattle.wasm_shapes.specs.declared.Space.TheVariants as space
-use Rattle.wasm_shapes.specs.Tree.{Tree}
-use Rattle.wasm_shapes.specs.Shape.{Shape, Named, choice, lead, table_type, memory_type, global_type, tag_type, entity}
+use Rattle.wasm_shapes.specs.Tree.{Tree, Listed}
+use Rattle.wasm_shapes.specs.Shape.{Shape, Named, choice, lead, reference, table_type, memory_type, global_type, tag_type, entity}
 use Rattle.wasm_shapes.specs.Spells.{Spells}
 use Rattle.wasm_shapes.specs.Place.{BeginsNone}
 use Rattle.wasm_shapes.specs.SectionTable.{Kind, of_body, framed_tree, shapes_of, place_in, body_in, item_of}
@@ -36,6 +36,31 @@ global_row = Shape.seq global_type (Shape.ref Named.expression)
 -- a name and what is exported under it
 abbrev pub export_row : Shape
 export_row = Shape.seq Shape.name (Shape.ref Named.item)
+
+-- ---- element segments: the flag, a u32 number, says which row it is
+
+-- functions by their indices
+abbrev pub element_functions : Shape
+element_functions = Shape.vec (Shape.ix space.Function)
+
+-- expressions, each of which gives an element
+abbrev pub element_expressions : Shape
+element_expressions = Shape.vec (Shape.ref Named.expression)
+
+-- The flags 0 and 2 place functions in a table, and 4 and 6 expressions; 1 and 5 are passive, and 3 and 7 declared. Behind 1
+-- and 3 stands the kind byte, and behind 5 and 7 the type of the expressions, which are visited before it.
+abbrev pub element_row : Shape
+element_row = choice (
+    Shape.active Listed.functions (Shape.ref Named.expression) reference element_functions ∷
+    Shape.seq (Shape.flag 1) (lead 0x00 element_functions) ∷
+    Shape.seq (Shape.flag 3) (lead 0x00 element_functions) ∷
+    Shape.active Listed.expressions (Shape.ref Named.expression) reference element_expressions ∷
+    Shape.seq (Shape.flag 5) (Shape.swap reference element_expressions) ∷
+    Shape.seq (Shape.flag 7) (Shape.swap reference element_expressions) ∷ [])
+
+-- A data segment that is placed in a memory (the flags 0 and 2), or a passive one (1).
+abbrev pub data_row : Shape
+data_row = choice (Shape.placed (Shape.ref Named.expression) Shape.content ∷ Shape.seq (Shape.flag 1) Shape.content ∷ [])
 
 -- so many locals of a type
 abbrev pub local_row : Shape
@@ -75,8 +100,22 @@ tags = Shape.vec tag_type
 abbrev pub exports : Shape
 exports = Shape.vec export_row
 
+-- the function that starts the module
+abbrev pub start : Shape
+start = Shape.ix space.Function
+
+abbrev pub elements : Shape
+elements = Shape.vec element_row
+
 abbrev pub code : Shape
 code = Shape.vec code_row
+
+abbrev pub segments : Shape
+segments = Shape.vec data_row
+
+-- the number of data segments
+abbrev pub data_count : Shape
+data_count = Shape.ix space.DataCount
 
 -- ---- sections
 

@@ -4,7 +4,7 @@ ghost use Rattle.std.proofs.Common.{lit≤};
 ghost use Rattle.wasm_shapes.specs.declared.SectionId.{SectionId};
 ghost use Rattle.wasm_shapes.specs.declared.SectionId.TheVariants as id;
 ghost use Rattle.wasm_shapes.specs.Shape.{Shape, Named, closed, table_type, memory_type, tag_type};
-ghost use Rattle.wasm_shapes.specs.Module.{code_row, export_row, function_row, global_row, import_row};
+ghost use Rattle.wasm_shapes.specs.Module.{code_row, data_row, element_row, export_row, function_row, global_row, import_row};
 ghost use Rattle.wasm_shapes.specs.Sound.{sound};
 
 /// A kind of section whose body is a vector of rows.
@@ -176,6 +176,27 @@ impl SectionKind for Exports {
     ghost small = { lit≤ tt };
 }
 
+/// An element section.
+pub struct Elements;
+
+impl SectionKind for Elements {
+    ghost kind = { id.Element };
+
+    ghost shape = { element_row };
+
+    ghost ID = { 9 };
+
+    const ID: u8 = 9;
+
+    ghost is_sound = { refl };
+
+    ghost is_closed = { refl };
+
+    ghost rows_sound = { refl };
+
+    ghost small = { lit≤ tt };
+}
+
 /// A code section.
 pub struct Code;
 
@@ -187,6 +208,27 @@ impl SectionKind for Code {
     ghost ID = { 10 };
 
     const ID: u8 = 10;
+
+    ghost is_sound = { refl };
+
+    ghost is_closed = { refl };
+
+    ghost rows_sound = { refl };
+
+    ghost small = { lit≤ tt };
+}
+
+/// A data section.
+pub struct Segments;
+
+impl SectionKind for Segments {
+    ghost kind = { id.Data };
+
+    ghost shape = { data_row };
+
+    ghost ID = { 11 };
+
+    const ID: u8 = 11;
 
     ghost is_sound = { refl };
 
