@@ -11,13 +11,15 @@ use Rattle.wasm_shapes.specs.Tree.{Tree, kind, normal, visits, visits_from}
 use Rattle.wasm_shapes.specs.Spells.{Is, Spelled, Spells}
 use Rattle.wasm_shapes.specs.Place.{Begins, BeginsNone}
 use Rattle.wasm_shapes.specs.Rows.{rows_then}
+use Rattle.wasm_shapes.specs.CodeSize.{InvalidCodeSize}
 use Rattle.wasm_shapes.specs.Module.{core_header, component_header, section, sections, frame, alsos, tree_of, CoreReading, FaultAt}
 use Rattle.wasm_shapes.proofs.Unique.{unique}
 use Rattle.wasm_shapes.proofs.Begins.{none_at_end}
 use Rattle.wasm_shapes.proofs.SectionTable.{none_section}
 use Rattle.wasm_shapes.specs.SectionTable.{number}
 use Rattle.wasm_read.specs.Frames.{numbered_frame, NoCoreHeader}
-use Rattle.wasm_read.specs.Reading.{ReadsNone}
+use Rattle.wasm_read.specs.Payloads.{NoFrame}
+use Rattle.wasm_read.proofs.CodeSize.{code_size_some, code_size_other}
 use Rattle.wasm_write.specs.Sections.{Sections, SectionRow, section_row, section_bytes, sections_bytes}
 use Rattle.reencode_hooks.specs.declared.error.Error.{Error}
 use Rattle.reencode_hooks.specs.declared.error.Error.TheVariants.{CanonicalizedHeapTypeReference, InvalidConstExpr, InvalidCodeSectionSize, UnexpectedNonCoreModuleSection, UnexpectedNonComponentSection, UnsupportedCoreTypeInComponent, ParseError, UserError, TooLarge, NoMemory}
@@ -382,30 +384,47 @@ module _ {S E : Type 0} (asked : Asks S E) where
         cause (TooLarge x) h p q = before_fault (TooLarge x) (λ t r. h t r (λ c. cc)) q
         cause _ h p q = absurd p
 
-    -- no section begins, though bytes are left, as further visits showed
-    fault_behind : {s' : S} {new' : Sections} (at : ℕ) → BeginsNone section rest → rest ≢ [] → at ≡ length bytes - length rest → Further asked s s' →
-        GivesCore asked bytes (s0, old) (s', new') (Err (ParseError (record { at = at })))
-    fault_behind {s' = s'} {new' = new'} at none some place further = record {
-      reading = λ t r. absurd (go t (read_ahead t r));
-      readable = tt;
-      cause = inr (d.read, rest, record { front = record { text = d.text; spells = d.spells; stands = reads ∙ ap (λ (z : List ℕ). core_header ++ z) d.stands; ends = none }; some = some }, place, d.made, last, s, d.accepts, further);
-    }
+    -- no section begins, though bytes are left: there is no reading
+    no_reading : BeginsNone section rest → rest ≢ [] → (t : Tree) → CoreReading bytes t → ⊥
+    no_reading none some t r = go (read_ahead t r)
       where
-        go : (t : Tree) → Ahead d.read rest t [] → ⊥
-        go t (same f empty) = some empty
-        go t (more u v left f b) = none.none b.text left u b.spells b.reads
+        go : Ahead d.read rest t [] → ⊥
+        go (same f empty) = some empty
+        go (more u v left f b) = none.none b.text left u b.spells b.reads
+
+    fault_here : BeginsNone section rest → rest ≢ [] → FaultAt bytes d.read rest
+    fault_here none some = record {
+      front = record { text = d.text; spells = d.spells; stands = reads ∙ ap (λ (z : List ℕ). core_header ++ z) d.stands; ends = none };
+      some = some;
+    }
+
+    -- and so an error at the place, as further visits showed
+    fault_behind : {s' : S} {new' : Sections} (at : ℕ) → BeginsNone section rest → rest ≢ [] → (InvalidCodeSize rest → ⊥) → at ≡ length bytes - length rest → Further asked s s' →
+        GivesCore asked bytes (s0, old) (s', new') (Err (ParseError (record { at = at })))
+    fault_behind {s' = s'} {new' = new'} at none some other place further = record {
+      reading = λ t r. absurd (no_reading none some t r);
+      readable = tt;
+      cause = inr (d.read, rest, fault_here none some, other, place, d.made, last, s, d.accepts, further);
+    }
 
     -- no section begins
-    pub no_section : {new' : Sections} (at : ℕ) → BeginsNone section rest → rest ≢ [] → at ≡ length bytes - length rest →
+    pub no_section : {new' : Sections} (at : ℕ) → BeginsNone section rest → rest ≢ [] → (InvalidCodeSize rest → ⊥) → at ≡ length bytes - length rest →
         GivesCore asked bytes (s0, old) (s, new') (Err (ParseError (record { at = at })))
-    no_section at none some place = fault_behind at none some place (further_none asked s)
+    no_section at none some other place = fault_behind at none some other place (further_none asked s)
 
     -- no frame begins
-    pub no_frame : {new' : Sections} (f : Fault) (at : ℕ) → ReadsNone f at (BeginsNone frame rest × (rest ≢ [])) → at ≡ length bytes - length rest →
+    pub no_frame : {new' : Sections} (f : Fault) (at : ℕ) → NoFrame f rest at → at ≡ length bytes - length rest →
         GivesCore asked bytes (s0, old) (s, new') (Err (error_of_fault f))
-    no_frame (fault.Read x) at h place = no_section x.at (none_section h.1.0) h.1.1 (h.0 ∙ place)
+    no_frame (fault.Read x) at h place = no_section x.at (none_section h.1) h.2 h.3 (h.0 ∙ place)
+    no_frame fault.CodeSize at h place =
+        let none = none_section h.0 in
+        let some = code_size_some h.1 in
+        record {
+          reading = λ t r. absurd (no_reading none some t r);
+          readable = tt;
+          cause = (d.read, rest, fault_here none some, h.1, d.made, last, d.accepts);
+        }
     no_frame (fault.Header k) at h place = absurd h
-    no_frame fault.CodeSize at h place = absurd h
     no_frame fault.NoMemory at h place = absurd h
 
     -- the error of the hook before a section
@@ -452,7 +471,7 @@ module _ {S E : Type 0} (asked : Asks S E) where
 
         go : (w : Error E) → GivesSection asked k body (n, mid) (s', new') (Err w) → GivesCore asked bytes (s0, old) (s', new') (Err (placed_at w at))
         go (ParseError x) g =
-            fault_behind at (section_none k there g.unreadable.0) (some_begun there) place
+            fault_behind at (section_none k there g.unreadable.0) (some_begun there) (code_size_other there) place
             (further_then asked s n s' (further_one asked s n (Section last (Some k)) 0 hook.0) (within x.at g.unreadable))
         go (UserError x) g = section_refused k (UserError x) there (stops (UserError x) g) tt (inside (UserError x) g)
         go (TooLarge x) g = section_refused k (TooLarge x) there (stops (TooLarge x) g) tt (inside (TooLarge x) g)

@@ -2,13 +2,14 @@
 use Rattle.std.proofs.Common.{◌≡◌, ◌≢◌, ◌-◌, ℕ, List, [], length, Option, Some, None, Result, Ok, Err, IsErrAnd, IsTrue, refl, sym, ap, ◌∙◌, subst}
 use Rattle.wasm_leb.specs.declared.fault.Fault.{Fault}
 use Rattle.wasm_shapes.specs.declared.SectionId.{SectionId}
-use Rattle.wasm_shapes.specs.Tree.{visits}
+use Rattle.wasm_shapes.specs.Tree.{Tree, visits}
 use Rattle.wasm_shapes.specs.Place.{Begins, BeginsNone}
 use Rattle.wasm_shapes.specs.Module.{section, frame, CoreReading}
 use Rattle.wasm_shapes.specs.SectionTable.{number}
 use Rattle.wasm_read.specs.Frames.{numbered_frame, sections_place, HeaderRead, NoCoreHeader}
 use Rattle.wasm_read.specs.Frames as read
-use Rattle.wasm_read.specs.Reading.{ReadsNone}
+use Rattle.wasm_read.specs.Payloads.{NoFrame}
+use Rattle.wasm_read.proofs.CodeSize.{code_size_other}
 use Rattle.wasm_write.specs.Sections.{Sections}
 use Rattle.reencode_hooks.specs.declared.error.Error.{Error}
 use Rattle.reencode_hooks.specs.declared.error.Error.TheVariants.{ParseError}
@@ -22,7 +23,7 @@ use Rattle.reencode_core.specs.Sections.{KeepsModule}
 use Rattle.reencode_core.specs.Core.{GivesCore}
 use Rattle.reencode_core.specs.Leaves.{LeavesReading}
 use Rattle.reencode_core.proofs.CoreLoop.{SectionsDone, core_leaves_hook, core_leaves_inside, core_leaves_none, end_given, end_left, header_wrong, hook_err, hook_kept, hook_ok, hook_refused, hook_usual, no_frame, no_section, section_err, sections_begin, sections_more}
-use Rattle.reencode_core.proofs.Known.{keeps_same, keeps_more, hook_keeps}
+use Rattle.reencode_core.proofs.Known.{keeps_same, keeps_more, hook_keeps, some_begun}
 use Rattle.reencode_core.proofs.MappedSection.{SectionClauses}
 use Rattle.reencode_core.proofs.OneRow.{answers, asks}
 
@@ -67,8 +68,7 @@ module _ {S E : Type 0} (i : Ghosts S E) where
     counted e = e ∙ ap (λ (n : ℕ). n - length reader.rest) (inv.len ∙ header.len)
 
     -- no frame begins
-    pub core_unframed : (f : Fault) → ReadsNone f (sections_place reader) (BeginsNone frame reader.rest × (reader.rest ≢ [])) →
-        (r : Result (Unit {0}) (Error E)) → IsErrAnd r (λ y. y ≡ error_of_fault f) → CoreClauses i bytes s0 old s new r
+    pub core_unframed : (f : Fault) → NoFrame f reader.rest (sections_place reader) → (r : Result (Unit {0}) (Error E)) → IsErrAnd r (λ y. y ≡ error_of_fault f) → CoreClauses i bytes s0 old s new r
     core_unframed f none r q =
         let P : Result (Unit {0}) (Error E) → Type 0 = λ z. CoreClauses i bytes s0 old s new z in
         subst P (answers r q) (record {
@@ -78,11 +78,11 @@ module _ {S E : Type 0} (i : Ghosts S E) where
         })
 
     -- a frame begins, and no section
-    pub core_unknown : (at : ℕ) → BeginsNone section reader.rest → reader.rest ≢ [] → at ≡ sections_place reader →
+    pub core_unknown : {t : Tree} {left : List ℕ} (at : ℕ) → BeginsNone section reader.rest → Begins frame reader.rest t left → at ≡ sections_place reader →
         CoreClauses i bytes s0 old s new (Err (ParseError (record { at = at })))
-    core_unknown at none some place = record {
+    core_unknown at none framed place = record {
       kept = inv.kept;
-      default = λ k n. no_section (asks i) header.stands (inv.default k n) at none some (counted place);
+      default = λ k n. no_section (asks i) header.stands (inv.default k n) at none (some_begun framed) (code_size_other framed) (counted place);
       after_error = λ k n sure. core_leaves_none (asks i) header.stands (inv.default k n);
     }
 

@@ -4,13 +4,14 @@ use Rattle.wasm_shapes.specs.declared.SectionId.{SectionId}
 use Rattle.wasm_shapes.specs.declared.Visit.TheVariants.{Section}
 use Rattle.wasm_shapes.specs.Tree.{Tree, normal}
 use Rattle.wasm_shapes.specs.Spells.{Spells}
+use Rattle.wasm_shapes.specs.CodeSize.{InvalidCodeSize}
 use Rattle.wasm_shapes.specs.Module.{core_header, component_header, core_module, alsos, frame, FaultAt, CoreReading}
 use Rattle.wasm_shapes.specs.Place.{Begins}
 use Rattle.wasm_shapes.specs.SectionTable.{number}
 use Rattle.wasm_read.specs.Frames.{numbered_frame}
 use Rattle.wasm_write.specs.Sections.{Sections, SectionRow, sections_bytes}
 use Rattle.reencode_hooks.specs.declared.error.Error.{Error}
-use Rattle.reencode_hooks.specs.declared.error.Error.TheVariants.{UnexpectedNonCoreModuleSection, ParseError, UserError, TooLarge, NoMemory}
+use Rattle.reencode_hooks.specs.declared.error.Error.TheVariants.{InvalidCodeSectionSize, UnexpectedNonCoreModuleSection, ParseError, UserError, TooLarge, NoMemory}
 use Rattle.reencode_hooks.specs.Run.{Step, accepted, refused, and_then}
 use Rattle.reencode_hooks.specs.Walk.{walk, walk_from, announced}
 use Rattle.reencode_hooks.specs.Hooks.{Gains}
@@ -74,13 +75,21 @@ RefusedIn asked c s before e m = (others : Tree) → walk asked c s (alsos befor
 abbrev pub NonCore : {S : Type 0} → List ℕ → S → S → Type 0
 NonCore bytes s m = (rest : List ℕ) × (bytes ≡ component_header ++ rest) × (m ≡ s)
 
--- Neither header stands there, the place is 0 and nothing was asked; or the place is the first where no section begins, and
--- all sections before it were accepted; further visits may follow, of a section that is read in part.
+-- Neither header stands there, the place is 0 and nothing was asked; or the place is the first where no section begins, no size of
+-- a code section is at fault there, and all sections before it were accepted; further visits may follow, of a section that is read
+-- in part.
 abbrev pub FaultThere : {S E : Type 0} → Asks S E → ℕ → List ℕ → S → S → ℕ → Type 0
 FaultThere {S} asked c bytes s m at =
     (NoHeader bytes × (at ≡ 0) × (m ≡ s))
-    ⊎ ((before : List Tree) × (rest : List ℕ) × FaultAt bytes before rest × (at ≡ length bytes - length rest)
+    ⊎ ((before : List Tree) × (rest : List ℕ) × FaultAt bytes before rest × ¬ InvalidCodeSize rest × (at ≡ length bytes - length rest)
     × (made : List Tree) × (last : Option SectionId) × (n : S) × AcceptsSections asked c s before made last n × Further asked n m)
+
+-- At the first place where no section begins the size of a code section is at fault; all sections before it were accepted, and
+-- nothing further was asked.
+abbrev pub CodeSizeThere : {S E : Type 0} → Asks S E → ℕ → List ℕ → S → S → Type 0
+CodeSizeThere asked c bytes s m =
+    (before : List Tree) × (rest : List ℕ) × FaultAt bytes before rest × InvalidCodeSize rest
+    × (made : List Tree) × (last : Option SectionId) × AcceptsSections asked c s before made last m
 
 -- A section that has no reading stands there in its frame. The section hook before it is refused; or that is accepted, and a
 -- row of the section is refused.
@@ -102,6 +111,7 @@ BeforeFault {S} asked c bytes s m e =
 
 -- why an error comes; no error comes of which nothing is said here
 abbrev pub IsCause : {S E : Type 0} → Asks S E → ℕ → List ℕ → S → S → Error E → Type 0
+IsCause asked c bytes s m InvalidCodeSectionSize = CodeSizeThere asked c bytes s m
 IsCause asked c bytes s m UnexpectedNonCoreModuleSection = NonCore bytes s m
 IsCause asked c bytes s m (ParseError e) = FaultThere asked c bytes s m e.at
 IsCause asked c bytes s m (UserError e) = BeforeFault asked c bytes s m (UserError e)

@@ -4,7 +4,7 @@ use Rattle.std.specs.Prelude.{Contains}
 use Rattle.std.proofs.lemmas.List.{append-nil}
 use Rattle.reencode_tool.specs.declared.answer.Answer.{Answer}
 use Rattle.reencode_tool.specs.declared.answer.Answer.TheVariants.{Printed, NoMemory, Usage, ReadFault, WriteFault, ParseError, Refused, CodeSectionSize, NonCoreModule, NonComponent, TooLarge, TooLong, NotHexadecimal}
-use Rattle.reencode_tool.specs.Answer.{Ends, HasComponent, HasNoDigits, HasNoReading, IsDecided, Stops, IsDecidedBy, Made, Outside, message, most_bytes, plain_words, status_of, text_of}
+use Rattle.reencode_tool.specs.Answer.{Ends, HasCodeSize, HasComponent, HasNoDigits, HasNoReading, IsDecided, Stops, IsDecidedBy, Made, Outside, message, most_bytes, plain_words, status_of, text_of}
 use Rattle.reencode_tool.specs.Hexadecimal.{binary}
 use Rattle.reencode_tool.specs.Outside.{GaveAll, Rose, TookMore}
 use Rattle.reencode_tool.specs.Plain.{IsRefused}
@@ -56,6 +56,21 @@ is_parse_error NonComponent status s e = absurd (omega arith)
 is_parse_error (TooLarge size ceiling) status s e = absurd (omega arith)
 is_parse_error TooLong status s e = absurd (omega arith)
 is_parse_error NotHexadecimal status s e = absurd (omega arith)
+
+pub is_code_size : (answer : Answer) (status : ℕ) → status ≡ status_of answer → status ≡ 7 → answer ≡ CodeSectionSize
+is_code_size Printed status s e = absurd (omega arith)
+is_code_size NoMemory status s e = absurd (omega arith)
+is_code_size Usage status s e = absurd (omega arith)
+is_code_size ReadFault status s e = absurd (omega arith)
+is_code_size WriteFault status s e = absurd (omega arith)
+is_code_size (ParseError at) status s e = absurd (omega arith)
+is_code_size (Refused u) status s e = absurd (omega arith)
+is_code_size CodeSectionSize status s e = refl
+is_code_size NonCoreModule status s e = absurd (omega arith)
+is_code_size NonComponent status s e = absurd (omega arith)
+is_code_size (TooLarge size ceiling) status s e = absurd (omega arith)
+is_code_size TooLong status s e = absurd (omega arith)
+is_code_size NotHexadecimal status s e = absurd (omega arith)
 
 pub is_component : (answer : Answer) (status : ℕ) → status ≡ status_of answer → status ≡ 8 → answer ≡ NonCoreModule
 is_component Printed status s e = absurd (omega arith)
@@ -117,7 +132,7 @@ message_of ReadFault words o status s h n m = ap message (sym s)
 message_of WriteFault words o status s h n m = ap message (sym s)
 message_of (ParseError at) words o status s h n m = absurd (m s)
 message_of (Refused u) words o status s h n m = absurd h.1
-message_of CodeSectionSize words o status s h n m = absurd h.1
+message_of CodeSectionSize words o status s h n m = ap message (sym s)
 message_of NonCoreModule words o status s h n m = ap message (sym s)
 message_of NonComponent words o status s h n m = absurd h.1
 message_of (TooLarge size ceiling) words o status s h n m = absurd h.1
@@ -131,6 +146,7 @@ pub stops_of : (answer : Answer) (faults_old faults_new : ℕ) {left_old left_ne
     → binary text ≡ Some bytes → IsRefused bytes answer → Stops answer faults_old faults_new left_old left_new
 stops_of NoMemory faults_old faults_new text bytes gave digits h = tt
 stops_of (ParseError at) faults_old faults_new text bytes gave digits h = record { text = text; bytes = bytes; gave = gave; digits = digits; none = h }
+stops_of CodeSectionSize faults_old faults_new text bytes gave digits h = record { text = text; bytes = bytes; gave = gave; digits = digits; size = h }
 stops_of NonCoreModule faults_old faults_new text bytes gave digits h = record { text = text; bytes = bytes; gave = gave; digits = digits; component = h }
 stops_of (TooLarge size ceiling) faults_old faults_new text bytes gave digits h =
     let within : length text ≤ most_bytes = gave.within in
@@ -168,7 +184,16 @@ decided_component (Some told) new status s h =
     let e = told_text most_bytes (Some told) new h.text told h.gave refl in
     record {
       long = λ more. absurd (not_long told h.text e h.gave.within more);
-      short = λ _. rw (ap binary e ∙ h.digits) (inr (inr (inl (s, h.component))));
+      short = λ _. rw (ap binary e ∙ h.digits) (inr (inr (inr (inl (s, h.component)))));
+    }
+
+decided_code_size : (old new : Option (List ℕ)) (status : ℕ) → status ≡ 7 → HasCodeSize old new → IsDecided old status
+decided_code_size None new status s h = tt
+decided_code_size (Some told) new status s h =
+    let e = told_text most_bytes (Some told) new h.text told h.gave refl in
+    record {
+      long = λ more. absurd (not_long told h.text e h.gave.within more);
+      short = λ _. rw (ap binary e ∙ h.digits) (inr (inr (inl (s, h.size))));
     }
 
 decided_parse_error : (old new : Option (List ℕ)) (status at : ℕ) → status ≡ 5 → HasNoReading old new at → IsDecided old status
@@ -204,7 +229,7 @@ decided_too_long (Some told) new status s h =
 
 decided_by_no_memory : (bytes : Option (List ℕ)) (status : ℕ) → status ≡ 1 → IsDecidedBy bytes status
 decided_by_no_memory None status s = inr s
-decided_by_no_memory (Some bytes) status s = inr (inr (inr s))
+decided_by_no_memory (Some bytes) status s = inr (inr (inr (inr s)))
 
 decided_no_memory : (old : Option (List ℕ)) (status : ℕ) → status ≡ 1 → IsDecided old status
 decided_no_memory None status s = tt
@@ -221,7 +246,7 @@ decided_of ReadFault words o status s h w r k = absurd (r h.1)
 decided_of WriteFault words o status s h w r k = absurd (k h.2)
 decided_of (ParseError at) words o status s h w r k = decided_parse_error o.left_old o.left_new status at s h.1
 decided_of (Refused u) words o status s h w r k = absurd h.1
-decided_of CodeSectionSize words o status s h w r k = absurd h.1
+decided_of CodeSectionSize words o status s h w r k = decided_code_size o.left_old o.left_new status s h.1
 decided_of NonCoreModule words o status s h w r k = decided_component o.left_old o.left_new status s h.1
 decided_of NonComponent words o status s h w r k = absurd h.1
 decided_of (TooLarge size ceiling) words o status s h w r k = absurd h.1
@@ -231,7 +256,7 @@ decided_of NotHexadecimal words o status s h w r k = decided_not_hexadecimal o.l
 -- ---- which status comes
 
 pub status_among : (answer : Answer) (words : List (List ℕ)) (o : Outside) (status : ℕ) → status ≡ status_of answer → Ends answer words o
-    → Contains (0 ∷ 1 ∷ 2 ∷ 3 ∷ 4 ∷ 5 ∷ 8 ∷ 13 ∷ 14 ∷ []) status
+    → Contains (0 ∷ 1 ∷ 2 ∷ 3 ∷ 4 ∷ 5 ∷ 7 ∷ 8 ∷ 13 ∷ 14 ∷ []) status
 status_among Printed words o status s h = (0, lit< tt, sym s)
 status_among NoMemory words o status s h = (1, lit< tt, sym s)
 status_among Usage words o status s h = (2, lit< tt, sym s)
@@ -239,9 +264,9 @@ status_among ReadFault words o status s h = (3, lit< tt, sym s)
 status_among WriteFault words o status s h = (4, lit< tt, sym s)
 status_among (ParseError at) words o status s h = (5, lit< tt, sym s)
 status_among (Refused u) words o status s h = absurd h.1
-status_among CodeSectionSize words o status s h = absurd h.1
-status_among NonCoreModule words o status s h = (6, lit< tt, sym s)
+status_among CodeSectionSize words o status s h = (6, lit< tt, sym s)
+status_among NonCoreModule words o status s h = (7, lit< tt, sym s)
 status_among NonComponent words o status s h = absurd h.1
 status_among (TooLarge size ceiling) words o status s h = absurd h.1
-status_among TooLong words o status s h = (7, lit< tt, sym s)
-status_among NotHexadecimal words o status s h = (8, lit< tt, sym s)
+status_among TooLong words o status s h = (8, lit< tt, sym s)
+status_among NotHexadecimal words o status s h = (9, lit< tt, sym s)

@@ -9,10 +9,10 @@ use Rattle.reencode_hooks.specs.declared.asked.Unmapped.{Unmapped}
 use Rattle.reencode_hooks.specs.declared.error.Error.{Error}
 use Rattle.reencode_hooks.specs.declared.error.Error.TheVariants as error
 use Rattle.reencode_hooks.specs.Renamings.{Renaming, no_renaming}
-use Rattle.reencode_core.specs.Core.{GivesBytes, FaultThere}
+use Rattle.reencode_core.specs.Core.{GivesBytes, FaultThere, CodeSizeThere}
 use Rattle.reencode_tool.specs.Counts.{counted, raised, visit_place}
 use Rattle.reencode_tool.specs.declared.answer.Answer.{Answer}
-use Rattle.reencode_tool.specs.Plain.{IsPlain, IsRefused, IsRefusedAt, IsComponent}
+use Rattle.reencode_tool.specs.Plain.{IsPlain, IsRefused, IsRefusedAt, IsCodeSize, IsComponent}
 use Rattle.reencode_tool.specs.Answer.{EndsAs, HasStatus}
 use Rattle.reencode_tool.proofs.Blank.{asks, blank_new, walk_is, counts_after, only_large, Large}
 use Rattle.reencode_tool.proofs.Refusals.{refusal_is_large}
@@ -43,6 +43,7 @@ plain_counts p = ap length p.asked ∙ length-counted (replicate 19 0) (visits p
 
 -- why an error comes; no error comes of which nothing is said here
 abbrev pub Why : List ℕ → Error Unmapped → Type 0
+Why bytes error.InvalidCodeSectionSize = IsCodeSize bytes
 Why bytes error.UnexpectedNonCoreModuleSection = IsComponent bytes
 Why bytes (error.ParseError e) = IsRefusedAt bytes e.at
 Why bytes (error.TooLarge size) = 2 ^ 32 - 1 < length bytes
@@ -64,8 +65,11 @@ fault_place c (inl p) none = record {
 fault_place c {bytes = bytes} (inr p) none = record {
   none = none;
   other = λ h. let never : core_header ++ (p.2.front.text ++ p.1) ≡ component_header ++ h.0 = sym p.2.front.stands ∙ h.1 in cc;
-  place = inr (p.0, p.1, p.2, p.3);
+  place = inr (p.0, p.1, p.2, p.3, p.4);
 }
+
+code_size : (c : ℕ) {bytes : List ℕ} {m : Renaming} → CodeSizeThere asks c bytes no_renaming m → ((t : Tree) → CoreReading bytes t → ⊥) → IsCodeSize bytes
+code_size c p none = record { none = none; before = p.0; rest = p.1; fault = p.2; size = p.3 }
 
 too_long : (bytes : List ℕ) → ((length bytes ≤ 2 ^ 32 - 1) → ⊥) → 2 ^ 32 - 1 < length bytes
 too_long bytes h = go (nat_lt (2 ^ 32 - 1) (length bytes)) refl
@@ -75,6 +79,10 @@ too_long bytes h = go (nat_lt (2 ^ 32 - 1) (length bytes)) refl
     go false e = absurd (h (ltb-false (2 ^ 32 - 1) (length bytes) e))
 
 pub why_given : {A : Type 0} (bytes : List ℕ) (m : Renaming) (e : Error Unmapped) (view : A → List ℕ) → GivesBytes asks (2 ^ 32 - 1) bytes no_renaming m (Err e) view → Why bytes e
+why_given bytes m error.InvalidCodeSectionSize view h =
+    code_size (2 ^ 32 - 1) h.cause (λ t r.
+    let large = reading_large (λ same. cc) h t r in
+    let never : ◌≡◌ {A = Error Unmapped} error.InvalidCodeSectionSize (error.TooLarge large.size) = large.is in cc)
 why_given bytes m error.UnexpectedNonCoreModuleSection view h = (h.cause.0, h.cause.1)
 why_given bytes m (error.ParseError e) view h =
     fault_place (2 ^ 32 - 1) h.cause (λ t r.
@@ -97,6 +105,7 @@ has_status bytes error.UnsupportedCoreTypeInComponent h = absurd h
 has_status bytes _ h = tt
 
 pub refused_as : (bytes : List ℕ) (ceiling : ℕ) (e : Error Unmapped) (answer : Answer) → Why bytes e → EndsAs ceiling e answer → IsRefused bytes answer
+refused_as bytes ceiling error.InvalidCodeSectionSize answer h f = rw f h
 refused_as bytes ceiling error.UnexpectedNonCoreModuleSection answer h f = rw f h
 refused_as bytes ceiling (error.ParseError e) answer h f = rw f h
 refused_as bytes ceiling (error.TooLarge size) answer h f = rw f h

@@ -9,7 +9,7 @@ use Rattle.reencode_hooks.specs.Renamings.{unmapped_text}
 use Rattle.reencode_tool.specs.Outside.{Rose, WhereTold, followed, GaveAll, TookMore, TookFront}
 use Rattle.reencode_tool.specs.Hexadecimal.{binary}
 use Rattle.reencode_tool.specs.Report.{report}
-use Rattle.reencode_tool.specs.Plain.{IsPlain, IsRefusedAt, IsComponent}
+use Rattle.reencode_tool.specs.Plain.{IsPlain, IsRefusedAt, IsCodeSize, IsComponent}
 
 -- the words that are accepted
 abbrev pub plain_words : List (List ℕ)
@@ -41,6 +41,14 @@ pub record HasNoReading (left_old left_new : Option (List ℕ)) (at : ℕ) : Typ
   pub digits : binary text ≡ Some bytes
   pub none : IsRefusedAt bytes at
 
+-- The source was read to its end, its text is hexadecimal, and its bytes have no reading, for the size of a code section.
+pub record HasCodeSize (left_old left_new : Option (List ℕ)) : Type 0 where
+  pub text : List ℕ
+  pub bytes : List ℕ
+  pub gave : GaveAll most_bytes left_old left_new text
+  pub digits : binary text ≡ Some bytes
+  pub size : IsCodeSize bytes
+
 -- The source was read to its end, its text is hexadecimal, and its bytes begin with the header of a component.
 pub record HasComponent (left_old left_new : Option (List ℕ)) : Type 0 where
   pub text : List ℕ
@@ -60,6 +68,7 @@ abbrev pub Stops : Answer → (faults_old faults_new : ℕ) (left_old left_new :
 Stops NoMemory faults_old faults_new left_old left_new = Unit {0}
 Stops ReadFault faults_old faults_new left_old left_new = Rose faults_old faults_new
 Stops (ParseError at) faults_old faults_new left_old left_new = HasNoReading left_old left_new at
+Stops CodeSectionSize faults_old faults_new left_old left_new = HasCodeSize left_old left_new
 Stops NonCoreModule faults_old faults_new left_old left_new = HasComponent left_old left_new
 Stops TooLong faults_old faults_new left_old left_new = TookMore most_bytes left_old left_new
 Stops NotHexadecimal faults_old faults_new left_old left_new = HasNoDigits left_old left_new
@@ -162,6 +171,7 @@ IsDecidedBy None status = (status ≡ 14) ⊎ (status ≡ 1)
 IsDecidedBy (Some bytes) status =
     ((status ≡ 0) × ((output : List ℕ) × (counts : List ℕ) × IsPlain bytes output counts))
     ⊎ ((status ≡ 5) × ((at : ℕ) × IsRefusedAt bytes at))
+    ⊎ ((status ≡ 7) × IsCodeSize bytes)
     ⊎ ((status ≡ 8) × IsComponent bytes)
     ⊎ (status ≡ 1)
 

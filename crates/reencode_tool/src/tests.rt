@@ -116,7 +116,7 @@ fn try_case(rt: &impl Abort, alloc: Global, case: &Case) -> Result<(), Fail> {
 }
 
 /// How a run ends.
-static CASES: [Case<'static>; 14] = [
+static CASES: [Case<'static>; 16] = [
     Case {
         words: &["rename"],
         status: 2,
@@ -198,6 +198,18 @@ static CASES: [Case<'static>; 14] = [
     Case {
         text: b"0061736d01000000 03020101 0303010000",
         err: b"parse error at 12\n",
+        ..NO_HEADER
+    },
+    // The size of a code section passes the end: with a number behind it, and with none.
+    Case {
+        text: b"0061736d01000000 0a0901",
+        status: 7,
+        err: b"invalid code section size\n",
+        ..USUAL
+    },
+    Case {
+        text: b"0061736d01000000 0a09",
+        err: b"parse error at 8\n",
         ..NO_HEADER
     },
 ];

@@ -1,7 +1,7 @@
 //! The top call.
 ghost use Rattle.std.specs.Prelude.{ℕ, List, [], ◌∷◌, ◌<◌, ◌==◌, Contains, decimal, ◌≡◌, ◌≢◌, ◌≤◌, ◌++◌, ◌↔◌, codes, map, length, string_bytes, vec_len, IsTrue, OnOk, OnErr};
 ghost use Rattle.hex.specs.Hex.{encode_lower};
-ghost use Rattle.reencode_tool.specs.Answer.{Ends, HasComponent, HasNoDigits, HasNoReading, IsDecided, Made, Says, message, most_bytes, plain_words, report_of, text_of};
+ghost use Rattle.reencode_tool.specs.Answer.{Ends, HasCodeSize, HasComponent, HasNoDigits, HasNoReading, IsDecided, Made, Says, message, most_bytes, plain_words, report_of, text_of};
 ghost use Rattle.reencode_tool.specs.Outside.{Rose, TookFront, TookMore, WhereTold, followed};
 
 use crate::answer::Answer;
@@ -134,7 +134,8 @@ fn tell<D: Sink>(answer: Answer, err: &mut D)
 /// | 2 | the words are not accepted |
 /// | 3 | the input could not be read |
 /// | 4 | the output could not be written |
-/// | 5 | the input's bytes have no reading |
+/// | 5 | the input's bytes have no reading, in any other case than 7 |
+/// | 7 | the input's bytes have no reading, for a code section whose size passes their end |
 /// | 8 | the input's bytes begin with the header of a component |
 /// | 13 | the input has more than 67,108,864 bytes |
 /// | 14 | the input is not pairs of hexadecimal digits |
@@ -164,11 +165,12 @@ pub fn run<F: Shelf, S: Source, K: Sink, D: Sink>(
     ensures front { result ≡ 4 → (made : Made (S.left input.old) (S.left input.new))
         × TookFront (K.held out.old) (K.held out.new) (report_of made) }
 
-    // Status 5, 8, 13 and 14 come only by what the source gave.
+    // Status 5, 7, 8, 13 and 14 come only by what the source gave.
     ensures parse_error { result ≡ 5
         → (at : ℕ) × HasNoReading (S.left input.old) (S.left input.new) at
         × Says (D.faults err.old) (D.faults err.new) (D.held err.old) (D.held err.new)
         (codes "parse error at " ++ decimal at ++ codes "\n") }
+    ensures code_size { result ≡ 7 → HasCodeSize (S.left input.old) (S.left input.new) }
     ensures component { result ≡ 8 → HasComponent (S.left input.old) (S.left input.new) }
     ensures too_long { result ≡ 13 → TookMore most_bytes (S.left input.old) (S.left input.new) }
     ensures not_hexadecimal { result ≡ 14 → HasNoDigits (S.left input.old) (S.left input.new) }
@@ -180,7 +182,7 @@ pub fn run<F: Shelf, S: Source, K: Sink, D: Sink>(
         → IsDecided (S.left input.old) result }
 
     // No other status comes, and with each but 0 and 4 the sink is as it was.
-    ensures statuses { Contains (0 ∷ 1 ∷ 2 ∷ 3 ∷ 4 ∷ 5 ∷ 8 ∷ 13 ∷ 14 ∷ []) result }
+    ensures statuses { Contains (0 ∷ 1 ∷ 2 ∷ 3 ∷ 4 ∷ 5 ∷ 7 ∷ 8 ∷ 13 ∷ 14 ∷ []) result }
     ensures untouched { result ≢ 0 → result ≢ 4 → out.new ≡ out.old }
 
     // Each status but 0 has its message.

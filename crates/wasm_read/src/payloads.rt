@@ -5,7 +5,8 @@ ghost use Rattle.wasm_shapes.specs.Module.{frame};
 ghost use Rattle.wasm_shapes.specs.Place.{Begins, BeginsNone};
 ghost use Rattle.wasm_shapes.specs.Shape.{Shape};
 ghost use Rattle.wasm_shapes.specs.Tree.{Tree};
-ghost use Rattle.wasm_read.specs.Frames.{section_number, numbered_frame, frame_tree, payload_at, IsUnknown, sections_place, HeaderRead, NoCoreHeader, NoFrame};
+ghost use Rattle.wasm_read.specs.Frames.{section_number, numbered_frame, frame_tree, payload_at, IsUnknown, sections_place, HeaderRead, NoCoreHeader};
+ghost use Rattle.wasm_read.specs.Payloads.{NoFrame};
 
 use crate::fields::front_name;
 use crate::types::{CustomSection, Payload};

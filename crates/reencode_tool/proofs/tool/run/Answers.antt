@@ -1,7 +1,7 @@
 use Rattle.std.proofs.Common.{◌≡◌, ap, ◌∙◌}
 use Rattle.reencode_tool.specs.declared.answer.Answer.TheVariants.{Printed, ParseError}
 use Rattle.reencode_tool.specs.Answer.{status_of}
-use Rattle.reencode_tool.proofs.AnswerLemmas.{decided_of, is_component, is_parse_error, is_printed, is_usage, message_of, status_among, usage_of, words_of}
+use Rattle.reencode_tool.proofs.AnswerLemmas.{decided_of, is_code_size, is_component, is_parse_error, is_printed, is_usage, message_of, status_among, usage_of, words_of}
 use Rattle.reencode_tool.proofs.tool.run.Goals as goal
 
 pub returns-clause-printed : goal.returns-clause-printed
@@ -35,6 +35,11 @@ returns-clause-says g c n m =
 
 pub returns-clause-accepted : goal.returns-clause-accepted
 returns-clause-accepted g c = words_of _ _ _ _ c.status.ensures c.reencode-answer.ensures.ends
+
+pub returns-clause-code_size : goal.returns-clause-code_size
+returns-clause-code_size g c e =
+    let ends = rw (is_code_size _ _ c.status.ensures e) at c.reencode-answer.ensures.ends in
+    ends.1
 
 pub returns-clause-component : goal.returns-clause-component
 returns-clause-component g c e =

@@ -1,6 +1,6 @@
 use Rattle.std.proofs.Common.{refl}
 use Rattle.reencode_core.proofs.EachSection.{core_headless, core_unframed, core_unknown, core_hook_refused, core_more, core_section_refused, core_ended, sections_begun}
-use Rattle.reencode_core.proofs.Known.{none_custom, none_unknown, some_begun}
+use Rattle.reencode_core.proofs.Known.{none_custom, none_unknown}
 use Rattle.reencode_core.proofs.reencode.Reencode.parse_core_module.Goals as goal
 
 pub returns-in_err-payloads : goal.returns-in_err-payloads
@@ -40,7 +40,7 @@ returns-in-Some-Custom g c =
     let keeps = g.met.Self.ReencodeIndices.adds_ok in
     let frame = rw (c.in-Some-Custom.is, c.in-Some-Custom.field-0-is) at c.in_ok-id.ensures.some in
     let at = rw (c.in-Some-Custom.is, c.in-Some-Custom.field-0-is) at c.in_ok-id.ensures.at in
-    core_unknown g.Self.ReencodeIndices keeps c.in_ok-payloads.ensures.ok c.sections.invariant _ (none_custom _ _ frame) (some_begun frame) at
+    core_unknown g.Self.ReencodeIndices keeps c.in_ok-payloads.ensures.ok c.sections.invariant _ (none_custom _ _ frame) frame at
 
 pub returns-in-Some-Unknown : goal.returns-in-Some-Unknown
 returns-in-Some-Unknown g c =
@@ -48,7 +48,7 @@ returns-in-Some-Unknown g c =
     let frame = rw (c.in-Some-Unknown.is, c.in-Some-Unknown.field-0-is) at c.in_ok-id.ensures.some in
     let at = rw (c.in-Some-Unknown.is, c.in-Some-Unknown.field-0-is) at c.in_ok-id.ensures.at in
     let unknown = rw (c.in-Some-Unknown.is, c.in-Some-Unknown.field-0-is) at c.in_ok-id.ensures.unknown in
-    core_unknown g.Self.ReencodeIndices keeps c.in_ok-payloads.ensures.ok c.sections.invariant _ (none_unknown _ _ unknown frame) (some_begun frame) at
+    core_unknown g.Self.ReencodeIndices keeps c.in_ok-payloads.ensures.ok c.sections.invariant _ (none_unknown _ _ unknown frame) frame at
 
 pub returns-in-None : goal.returns-in-None
 returns-in-None g c =
