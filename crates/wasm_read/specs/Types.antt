@@ -6,7 +6,7 @@ use Rattle.wasm_shapes.specs.declared.Space.TheVariants as space
 use Rattle.wasm_shapes.specs.Tree.{Tree}
 use Rattle.wasm_shapes.specs.Shape.{Shape}
 use Rattle.wasm_shapes.specs.Place.{Begins}
-use Rattle.wasm_shapes.specs.Types.{behind_descriptor, behind_described, sub_type_of, group_of, table_of, memory_of, global_of, global_with_init_of, tag_of, import_of, item_of}
+use Rattle.wasm_shapes.specs.Types.{behind_descriptor, behind_described, sub_type_of, group_of, table_of, memory_of, global_of, null_table_of, table_with_init_of, global_with_init_of, tag_of, import_of, item_of}
 pub use Rattle.wasm_shapes.specs.Types.{no_reading, led, vector_tree, shared_tree, mutable_of, shared_composite_tree, flag, limits_flags, bounds_tree, paged_tree, limits_tree, global_flags, function_tree}
 use Rattle.wasm_read.specs.declared.types.UnpackedIndex.{UnpackedIndex}
 use Rattle.wasm_read.specs.declared.types.UnpackedIndex.TheVariants as unpacked
@@ -215,10 +215,10 @@ entity_tree (entity.Tag ty) = Tree.row 4 (led 0x04 (tag_type_tree ty))
 abbrev pub import_tree : Imports → Tree
 import_tree (imported.Single row) = import_of row.module.now row.name.now (entity_tree row.ty)
 
--- A table that starts with null references. One that starts with the value of an expression has no table yet.
+-- a table that starts with null references, or with the value of an expression
 abbrev pub table_parts : TableInit → TableType → Tree
-table_parts init.RefNull ty = table_type_tree ty
-table_parts (init.Expr e) ty = no_reading
+table_parts init.RefNull ty = null_table_of (table_type_tree ty)
+table_parts (init.Expr e) ty = table_with_init_of (table_type_tree ty) (expr_tree e)
 
 abbrev pub table_tree : Table → Tree
 table_tree row = table_parts row.init row.ty

@@ -61,7 +61,7 @@ impl<'a> ReadRow<'a> for kinds::Functions {
     }
 }
 
-/// A reader of the rows of a table section: tables that start with null references (section 5.5.7).
+/// A reader of the rows of a table section (section 5.5.7).
 pub type TableSectionReader<'a> = SectionReader<'a, kinds::Tables>;
 
 impl<'a> ReadRow<'a> for kinds::Tables {
