@@ -3,14 +3,15 @@ use Rattle.std.specs.Prelude.{ℕ, List}
 use Rattle.wasm_shapes.specs.declared.Space.{Space}
 use Rattle.wasm_shapes.specs.declared.Space.TheVariants as space
 use Rattle.wasm_shapes.specs.Tree.{Tree}
-use Rattle.wasm_shapes.specs.Types.{expression_of, global_with_init_of, import_of, item_of}
+use Rattle.wasm_shapes.specs.Types.{expression_of, null_table_of, table_with_init_of, global_with_init_of, import_of, item_of}
 use Rattle.wasm_write.specs.declared.types.ExportKind.{ExportKind}
 use Rattle.wasm_write.specs.declared.types.ExportKind.TheVariants as export
 use Rattle.wasm_write.specs.declared.types.Import.{Import}
 use Rattle.wasm_write.specs.declared.types.Imports.{Imports}
 use Rattle.wasm_write.specs.declared.types.Imports.TheVariants as imported
+use Rattle.wasm_write.specs.declared.types.TableType.{TableType}
 use Rattle.wasm_write.specs.declared.types.GlobalType.{GlobalType}
-use Rattle.wasm_write.specs.Types.{entity_tree, global_type_tree}
+use Rattle.wasm_write.specs.Types.{entity_tree, table_type_tree, global_type_tree}
 
 -- ---- imports
 
@@ -21,7 +22,15 @@ single_tree row = import_of row.module.now row.name.now (entity_tree row.ty)
 abbrev pub import_tree : Imports → Tree
 import_tree (imported.Single row) = single_tree row
 
--- ---- globals
+-- ---- tables and globals
+
+-- a table that starts with null references
+abbrev pub null_table_tree : TableType → Tree
+null_table_tree ty = null_table_of (table_type_tree ty)
+
+-- a table and the operators of the expression of its first value
+abbrev pub table_with_init_tree : TableType → List Tree → Tree
+table_with_init_tree ty init = table_with_init_of (table_type_tree ty) (expression_of init)
 
 -- a global and the operators of the expression of its first value
 abbrev pub global_tree : GlobalType → List Tree → Tree
