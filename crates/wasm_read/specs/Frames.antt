@@ -1,11 +1,13 @@
 -- The frames of sections: what a payload stands for, and what the reader of payloads promises.
-use Rattle.std.specs.Prelude.{◌≡◌, ◌≢◌, ℕ, ◌-◌, ◌≤◌, List, ◌++◌, length}
+use Rattle.std.specs.Prelude.{◌≡◌, ◌≢◌, ℕ, ◌-◌, ◌≤◌, List, [], ◌++◌, length}
 use Rattle.wasm_leb.specs.declared.fault.Fault.{Fault}
 use Rattle.wasm_leb.specs.declared.fault.Fault.TheVariants as fault
 use Rattle.wasm_leb.specs.declared.fault.Kind.TheVariants as kind
 use Rattle.wasm_shapes.specs.declared.SectionId.{SectionId}
 use Rattle.wasm_shapes.specs.Tree.{Tree}
-use Rattle.wasm_shapes.specs.Module.{core_header, component_header}
+use Rattle.wasm_shapes.specs.Place.{BeginsNone}
+use Rattle.wasm_shapes.specs.CodeSize.{InvalidCodeSize}
+use Rattle.wasm_shapes.specs.Module.{core_header, component_header, frame}
 use Rattle.wasm_shapes.specs.SectionTable.{number}
 use Rattle.wasm_read.specs.declared.types.Payload.{Payload}
 use Rattle.wasm_read.specs.declared.types.Payload.TheVariants as payload
@@ -57,3 +59,10 @@ abbrev pub NoCoreHeader : Fault → List ℕ → Type 0
 NoCoreHeader (fault.Header kind.Component) bytes = (rest : List ℕ) × (bytes ≡ component_header ++ rest)
 NoCoreHeader (fault.Read e) bytes = (e.at ≡ 0) × ((rest : List ℕ) → (bytes ≢ core_header ++ rest) × (bytes ≢ component_header ++ rest))
 NoCoreHeader _ bytes = ⊥
+
+-- No frame begins where bytes are left: the size of a code section passes their end; or, in any other case, the error holds
+-- the place.
+abbrev pub NoFrame : Fault → List ℕ → ℕ → Type 0
+NoFrame fault.CodeSize bytes at = BeginsNone frame bytes × InvalidCodeSize bytes
+NoFrame (fault.Read e) bytes at = (e.at ≡ at) × BeginsNone frame bytes × (bytes ≢ []) × ¬ InvalidCodeSize bytes
+NoFrame _ bytes at = ⊥

@@ -1,11 +1,11 @@
 //! The sections of a module, frame by frame (WebAssembly Core Specification 3.0, sections 5.5.2 and 5.5.17).
-ghost use Rattle.std.specs.Prelude.{◌≡◌, ◌≢◌, ◌≤◌, ◌<◌, ◌⊎◌, [], IfOk, IfErr, IfSome, IfNone};
+ghost use Rattle.std.specs.Prelude.{◌≡◌, ◌≤◌, ◌<◌, ◌⊎◌, ◌↔◌, [], IfOk, IfErr, IfSome, IfNone, IsTrue};
+ghost use Rattle.wasm_shapes.specs.CodeSize.{InvalidCodeSize};
 ghost use Rattle.wasm_shapes.specs.Module.{frame};
 ghost use Rattle.wasm_shapes.specs.Place.{Begins, BeginsNone};
 ghost use Rattle.wasm_shapes.specs.Shape.{Shape};
 ghost use Rattle.wasm_shapes.specs.Tree.{Tree};
-ghost use Rattle.wasm_read.specs.Frames.{section_number, numbered_frame, frame_tree, payload_at, IsUnknown, sections_place, HeaderRead, NoCoreHeader};
-ghost use Rattle.wasm_read.specs.Reading.{ReadsNone};
+ghost use Rattle.wasm_read.specs.Frames.{section_number, numbered_frame, frame_tree, payload_at, IsUnknown, sections_place, HeaderRead, NoCoreHeader, NoFrame};
 
 use crate::fields::front_name;
 use crate::types::{CustomSection, Payload};
@@ -59,17 +59,16 @@ impl<'a> Payloads<'a> {
     /// The frame of the next section, or none at the end.
     ///
     /// The error comes exactly where no frame begins: there is none of an id of 128 or more, and one of the id 0 has a
-    /// body that begins with a name. It holds the place where the frame is due, counted from the first byte of the
-    /// header, and leaves the reader where it stood. No memory is taken.
+    /// body that begins with a name. It is `CodeSize` exactly where a code section states a size past the end and a u32 can
+    /// be read after that size; else it is `Read` and holds the place where the frame is due, counted from the first byte
+    /// of the header. It leaves the reader where it stood. No memory is taken.
     pub fn next(&mut self) -> Result<Option<Payload<'a>>, Fault>
         ensures some { IfOk result (λ o. IfSome o (λ p.
             Begins frame self.old.rest (frame_tree p) self.new.rest)) }
         ensures at { IfOk result (λ o. IfSome o (λ p. payload_at p ≡ sections_place self.old)) }
         ensures unknown { IfOk result (λ o. IfSome o (λ p. IsUnknown p)) }
         ensures ended { IfOk result (λ o. IfNone o ((self.old.rest ≡ []) × (self.new ≡ self.old))) }
-        ensures err { IfErr result (λ e.
-            ReadsNone e (sections_place self.old)
-            (BeginsNone frame self.old.rest × (self.old.rest ≢ []))) }
+        ensures err { IfErr result (λ e. NoFrame e self.old.rest (sections_place self.old)) }
         ensures stays { IfErr result (λ _. self.new ≡ self.old) }
         ensures len { self.new.len ≡ self.old.len }
     {
@@ -82,8 +81,28 @@ impl<'a> Payloads<'a> {
                 self.rest = rest;
                 Ok(Some(payload))
             }
+            None if has_invalid_code_size(self.rest) => Err(Fault::CodeSize),
             None => Err(Fault::Read(ReadError { at })),
         }
+    }
+}
+
+/// Whether some bytes begin with a code section whose size passes their end, and the number behind it can be read.
+fn has_invalid_code_size(bytes: &[u8]) -> bool
+    ensures { IsTrue result ↔ InvalidCodeSize bytes.now }
+{
+    let Some((0x0a, rest)) = front_byte(bytes) else {
+        return false;
+    };
+    let Some((size, body)) = front_u32(rest) else {
+        return false;
+    };
+    if body.len() >= size as usize {
+        return false;
+    }
+    match front_u32(body) {
+        Some(_) => true,
+        None => false,
     }
 }
 

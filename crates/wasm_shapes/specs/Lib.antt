@@ -1,3 +1,4 @@
+pub mod CodeSize
 pub mod Fits
 pub mod Immediates
 pub mod SectionTable
