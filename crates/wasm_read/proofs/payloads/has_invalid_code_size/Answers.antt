@@ -1,4 +1,4 @@
-use Rattle.std.proofs.Common.{◌≡◌, ◌≤◌, ℕ, length, arith, refl}
+use Rattle.std.proofs.Common.{◌≤◌, length, arith, refl}
 use Rattle.wasm_shapes.proofs.Begins.{at_byte}
 use Rattle.wasm_read.proofs.Framed.{code_size_is}
 use Rattle.wasm_read.proofs.payloads.has_invalid_code_size.Goals as goal
