@@ -1,5 +1,6 @@
 pub mod Accesses
 pub mod Codes
+pub mod ElementFlags
 pub mod HeldExpressions
 pub mod Framed
 pub mod Items

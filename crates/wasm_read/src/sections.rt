@@ -1,9 +1,10 @@
 //! The readers of the sections of rows (WebAssembly Core Specification 3.0, section 5.5).
 ghost use Rattle.std.specs.Prelude.{true};
 ghost use Rattle.wasm_read.specs.Operations.{body_tree};
-ghost use Rattle.wasm_read.specs.Types.{group_tree, import_tree, function_tree, table_tree, memory_type_tree, global_tree, tag_type_tree, export_tree, ExportKind};
+ghost use Rattle.wasm_read.specs.Types.{group_tree, import_tree, function_tree, table_tree, memory_type_tree, global_tree, tag_type_tree, export_tree, element_tree, ExportKind};
 
 use crate::code::front_body;
+use crate::elements::front_element;
 use crate::externals::{
     front_global, front_import, front_memory_type, front_table, front_tag_type,
 };
@@ -11,7 +12,7 @@ use crate::fields::{front_export, front_function};
 use crate::groups::front_group;
 use crate::section_reader::{ReadRow, SectionReader};
 use crate::types;
-use crate::types::{Export, FunctionBody, Imports, MemoryType, RecGroup, Table, TagType};
+use crate::types::{Element, Export, FunctionBody, Imports, MemoryType, RecGroup, Table, TagType};
 use std::alloc::Global;
 use wasm_leb::NoMemory;
 use wasm_shapes::kinds;
@@ -133,6 +134,22 @@ impl<'a> ReadRow<'a> for kinds::Exports {
     #[inline]
     fn front(_alloc: Global, bytes: &'a [u8]) -> Result<Option<(Export<'a>, &'a [u8])>, NoMemory> {
         Ok(front_export(bytes))
+    }
+}
+
+/// A reader of the rows of an element section (section 5.5.12). A row takes memory, for what it lists.
+pub type ElementSectionReader<'a> = SectionReader<'a, kinds::Elements>;
+
+impl<'a> ReadRow<'a> for kinds::Elements {
+    type Row = Element<'a>;
+
+    ghost tree = { element_tree };
+
+    ghost takes_memory = { true };
+
+    #[inline]
+    fn front(alloc: Global, bytes: &'a [u8]) -> Result<Option<(Element<'a>, &'a [u8])>, NoMemory> {
+        front_element(alloc, bytes)
     }
 }
 
