@@ -6,7 +6,7 @@ use Rattle.wasm_shapes.specs.declared.Space.TheVariants as space
 use Rattle.wasm_shapes.specs.Tree.{Tree}
 use Rattle.wasm_shapes.specs.Shape.{Shape}
 use Rattle.wasm_shapes.specs.Place.{Begins}
-use Rattle.wasm_shapes.specs.Types.{behind_descriptor, behind_described, sub_type_of, group_of, table_of, memory_of, global_of, global_with_init_of, tag_of, import_of, item_of}
+use Rattle.wasm_shapes.specs.Types.{behind_descriptor, behind_described, sub_type_of, group_of, table_of, memory_of, global_of, global_with_init_of, tag_of, import_of, item_of, active_data_of, passive_data_tree}
 pub use Rattle.wasm_shapes.specs.Types.{no_reading, led, vector_tree, shared_tree, mutable_of, shared_composite_tree, flag, limits_flags, bounds_tree, paged_tree, limits_tree, global_flags, function_tree}
 use Rattle.wasm_read.specs.declared.types.UnpackedIndex.{UnpackedIndex}
 use Rattle.wasm_read.specs.declared.types.UnpackedIndex.TheVariants as unpacked
@@ -41,6 +41,9 @@ use Rattle.wasm_read.specs.declared.types.Table.{Table}
 use Rattle.wasm_read.specs.declared.types.TableInit.{TableInit}
 use Rattle.wasm_read.specs.declared.types.TableInit.TheVariants as init
 use Rattle.wasm_read.specs.declared.types.Global.{Global}
+use Rattle.wasm_read.specs.declared.types.DataKind.{DataKind}
+use Rattle.wasm_read.specs.declared.types.DataKind.TheVariants as segment
+use Rattle.wasm_read.specs.declared.types.Data.{Data}
 use Rattle.wasm_read.specs.Expressions.{expr_tree}
 
 -- the index of the module
@@ -257,3 +260,11 @@ pub record ExportKind (bytes : List ℕ) (row : Export) : Type 0 where
   pub rest : List ℕ
   pub named : Begins Shape.name bytes (Tree.name row.name.now) rest
   pub says : SaysKind row.kind rest
+
+-- a data segment: placed in a memory, or passive
+abbrev pub data_parts : DataKind → List ℕ → Tree
+data_parts (segment.Active memory offset) bytes = active_data_of memory (expr_tree offset) bytes
+data_parts segment.Passive bytes = passive_data_tree bytes
+
+abbrev pub data_tree : Data → Tree
+data_tree row = data_parts row.kind row.contents.now

@@ -163,6 +163,14 @@ item_of space.Global i = Tree.row 3 (led 0x03 (Tree.ix space.Global i))
 item_of space.Tag i = Tree.row 4 (led 0x04 (Tree.ix space.Tag i))
 item_of _ i = no_reading
 
+-- a data segment that is placed in a memory, where an expression says
+abbrev pub active_data_of : ℕ → Tree → List ℕ → Tree
+active_data_of memory offset bytes = Tree.row 0 (Tree.placed memory offset (Tree.content bytes))
+
+-- a passive data segment, of its bytes alone
+abbrev pub passive_data_tree : List ℕ → Tree
+passive_data_tree bytes = Tree.row 1 (Tree.pair (Tree.flag 1) (Tree.content bytes))
+
 -- ---- immediates
 
 -- the spaces of core modules

@@ -3,7 +3,8 @@ use Rattle.std.specs.Prelude.{ℕ, List}
 use Rattle.wasm_shapes.specs.declared.Space.{Space}
 use Rattle.wasm_shapes.specs.declared.Space.TheVariants as space
 use Rattle.wasm_shapes.specs.Tree.{Tree}
-use Rattle.wasm_shapes.specs.Types.{expression_of, global_with_init_of, import_of, item_of}
+use Rattle.wasm_shapes.specs.Types.{expression_of, global_with_init_of, import_of, item_of, active_data_of}
+pub use Rattle.wasm_shapes.specs.Types.{passive_data_tree}
 use Rattle.wasm_write.specs.declared.types.ExportKind.{ExportKind}
 use Rattle.wasm_write.specs.declared.types.ExportKind.TheVariants as export
 use Rattle.wasm_write.specs.declared.types.Import.{Import}
@@ -44,6 +45,12 @@ item_tree kind i = item_of (exported_space kind) i
 -- a name and what is exported under it
 abbrev pub export_tree : List ℕ → ExportKind → ℕ → Tree
 export_tree name kind i = Tree.pair (Tree.name name) (item_tree kind i)
+
+-- ---- data
+
+-- a data segment that is placed in a memory, at the operators of its offset
+abbrev pub active_data_tree : ℕ → List Tree → List ℕ → Tree
+active_data_tree memory offset bytes = active_data_of memory (expression_of offset) bytes
 
 -- ---- sections that are no rows
 
