@@ -11,3 +11,4 @@ pub mod Missing
 pub mod HeapTypes
 pub mod Limits
 pub mod TypeRows
+pub mod DataSegments

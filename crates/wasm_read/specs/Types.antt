@@ -6,7 +6,7 @@ use Rattle.wasm_shapes.specs.declared.Space.TheVariants as space
 use Rattle.wasm_shapes.specs.Tree.{Tree}
 use Rattle.wasm_shapes.specs.Shape.{Shape}
 use Rattle.wasm_shapes.specs.Place.{Begins}
-use Rattle.wasm_shapes.specs.Types.{behind_descriptor, behind_described, sub_type_of, group_of, table_of, memory_of, global_of, null_table_of, table_with_init_of, global_with_init_of, tag_of, import_of, item_of, Items, items_of, passive_of, declared_of, active_of}
+use Rattle.wasm_shapes.specs.Types.{behind_descriptor, behind_described, sub_type_of, group_of, table_of, memory_of, global_of, null_table_of, table_with_init_of, global_with_init_of, tag_of, import_of, item_of, Items, items_of, passive_of, declared_of, active_of, active_data_of, passive_data_tree}
 pub use Rattle.wasm_shapes.specs.Types.{no_reading, led, vector_tree, shared_tree, mutable_of, shared_composite_tree, flag, limits_flags, bounds_tree, paged_tree, limits_tree, global_flags, function_tree}
 use Rattle.wasm_read.specs.declared.types.UnpackedIndex.{UnpackedIndex}
 use Rattle.wasm_read.specs.declared.types.UnpackedIndex.TheVariants as unpacked
@@ -46,6 +46,9 @@ use Rattle.wasm_read.specs.declared.types.ElementItems.TheVariants as items
 use Rattle.wasm_read.specs.declared.types.ElementKind.{ElementKind}
 use Rattle.wasm_read.specs.declared.types.ElementKind.TheVariants as element
 use Rattle.wasm_read.specs.declared.types.Element.{Element}
+use Rattle.wasm_read.specs.declared.types.DataKind.{DataKind}
+use Rattle.wasm_read.specs.declared.types.DataKind.TheVariants as segment
+use Rattle.wasm_read.specs.declared.types.Data.{Data}
 use Rattle.wasm_read.specs.Expressions.{expr_tree}
 
 -- the index of the module
@@ -291,3 +294,11 @@ element_parts element.Declared row = declared_of row
 
 abbrev pub element_tree : Element → Tree
 element_tree row = element_parts row.kind (listed_items row.items)
+
+-- a data segment: placed in a memory, or passive
+abbrev pub data_parts : DataKind → List ℕ → Tree
+data_parts (segment.Active memory offset) bytes = active_data_of memory (expr_tree offset) bytes
+data_parts segment.Passive bytes = passive_data_tree bytes
+
+abbrev pub data_tree : Data → Tree
+data_tree row = data_parts row.kind row.contents.now

@@ -2,6 +2,7 @@
 #![tactic(auto)]
 
 mod code;
+mod data_segments;
 mod elements;
 mod entries;
 mod expressions;
@@ -27,7 +28,7 @@ pub use operators::{Operator, OperatorsReader};
 pub use payloads::Payloads;
 pub use section_reader::{ReadRow, SectionReader};
 pub use sections::{
-    BodyFrames, CodeSectionReader, ElementSectionReader, ExportSectionReader,
+    BodyFrames, CodeSectionReader, DataSectionReader, ElementSectionReader, ExportSectionReader,
     FunctionSectionReader, GlobalSectionReader, ImportSectionReader, MemorySectionReader,
     TableSectionReader, TagSectionReader, TypeSectionReader,
 };

@@ -1,9 +1,10 @@
 //! The readers of the sections of rows (WebAssembly Core Specification 3.0, section 5.5).
 ghost use Rattle.std.specs.Prelude.{true};
 ghost use Rattle.wasm_read.specs.Operations.{body_tree};
-ghost use Rattle.wasm_read.specs.Types.{group_tree, import_tree, function_tree, table_tree, memory_type_tree, global_tree, tag_type_tree, export_tree, element_tree, ExportKind};
+ghost use Rattle.wasm_read.specs.Types.{group_tree, import_tree, function_tree, table_tree, memory_type_tree, global_tree, tag_type_tree, export_tree, element_tree, ExportKind, data_tree};
 
 use crate::code::front_body;
+use crate::data_segments::front_data;
 use crate::elements::front_element;
 use crate::externals::{
     front_global, front_import, front_memory_type, front_table, front_tag_type,
@@ -12,7 +13,9 @@ use crate::fields::{front_export, front_function};
 use crate::groups::front_group;
 use crate::section_reader::{ReadRow, SectionReader};
 use crate::types;
-use crate::types::{Element, Export, FunctionBody, Imports, MemoryType, RecGroup, Table, TagType};
+use crate::types::{
+    Data, Element, Export, FunctionBody, Imports, MemoryType, RecGroup, Table, TagType,
+};
 use std::alloc::Global;
 use wasm_leb::NoMemory;
 use wasm_shapes::kinds;
@@ -195,5 +198,19 @@ impl<'a> ReadRow<'a> for BodyFrames {
         bytes: &'a [u8],
     ) -> Result<Option<(FunctionBody<'a>, &'a [u8])>, NoMemory> {
         Ok(front_body(bytes))
+    }
+}
+
+/// A reader of the rows of a data section (section 5.5.14). Their bytes are borrowed.
+pub type DataSectionReader<'a> = SectionReader<'a, kinds::Segments>;
+
+impl<'a> ReadRow<'a> for kinds::Segments {
+    type Row = Data<'a>;
+
+    ghost tree = { data_tree };
+
+    #[inline]
+    fn front(_alloc: Global, bytes: &'a [u8]) -> Result<Option<(Data<'a>, &'a [u8])>, NoMemory> {
+        Ok(front_data(bytes))
     }
 }

@@ -201,6 +201,14 @@ active_of None offset (Items.expressions true ty es) = Tree.row 3 (Tree.left Lis
 active_of None offset (Items.expressions false ty es) = Tree.row 3 (Tree.aimed Listed.expressions 0 offset (typed_expressions ty es))
 active_of (Some i) offset (Items.expressions funcref ty es) = Tree.row 3 (Tree.aimed Listed.expressions i offset (typed_expressions ty es))
 
+-- a data segment that is placed in a memory, where an expression says
+abbrev pub active_data_of : ℕ → Tree → List ℕ → Tree
+active_data_of memory offset bytes = Tree.row 0 (Tree.placed memory offset (Tree.content bytes))
+
+-- a passive data segment, of its bytes alone
+abbrev pub passive_data_tree : List ℕ → Tree
+passive_data_tree bytes = Tree.row 1 (Tree.pair (Tree.flag 1) (Tree.content bytes))
+
 -- ---- immediates
 
 -- the spaces of core modules

@@ -3,7 +3,8 @@ use Rattle.std.specs.Prelude.{ℕ, Bool, true, false, ◌&&◌, List, length, ma
 use Rattle.wasm_shapes.specs.declared.Space.{Space}
 use Rattle.wasm_shapes.specs.declared.Space.TheVariants as space
 use Rattle.wasm_shapes.specs.Tree.{Tree}
-use Rattle.wasm_shapes.specs.Types.{expression_of, null_table_of, table_with_init_of, global_with_init_of, import_of, item_of, Items, items_of, passive_of, declared_of, active_of}
+use Rattle.wasm_shapes.specs.Types.{expression_of, null_table_of, table_with_init_of, global_with_init_of, import_of, item_of, Items, items_of, passive_of, declared_of, active_of, active_data_of}
+pub use Rattle.wasm_shapes.specs.Types.{passive_data_tree}
 use Rattle.wasm_write.specs.declared.types.ExportKind.{ExportKind}
 use Rattle.wasm_write.specs.declared.types.ExportKind.TheVariants as export
 use Rattle.wasm_write.specs.declared.types.Import.{Import}
@@ -94,6 +95,12 @@ passive_tree row = passive_of (listed_items row)
 
 abbrev pub declared_tree : Elements → Tree
 declared_tree row = declared_of (listed_items row)
+
+-- ---- data
+
+-- a data segment that is placed in a memory, at the operators of its offset
+abbrev pub active_data_tree : ℕ → List Tree → List ℕ → Tree
+active_data_tree memory offset bytes = active_data_of memory (expression_of offset) bytes
 
 -- ---- sections that are no rows
 
