@@ -1,6 +1,7 @@
 pub mod Accesses
 pub mod Codes
 pub mod CodeSize
+pub mod ElementFlags
 pub mod HeldExpressions
 pub mod Framed
 pub mod Items
@@ -11,3 +12,4 @@ pub mod Missing
 pub mod HeapTypes
 pub mod Limits
 pub mod TypeRows
+pub mod DataSegments

@@ -1,12 +1,12 @@
 -- The trees that the types and rows of a core module stand for, as they are read (WebAssembly Core Specification 3.0,
 -- section 5.3). An index inside a recursion group stands for a leaf that no shape has.
-use Rattle.std.specs.Prelude.{◌≡◌, ℕ, Bool, true, false, List, ◌∷◌, map, Option, Some, None}
+use Rattle.std.specs.Prelude.{◌≡◌, ℕ, Bool, true, false, ◌&&◌, List, ◌∷◌, map, Option, Some, None}
 use Rattle.std.specs.Option.{option_map}
 use Rattle.wasm_shapes.specs.declared.Space.TheVariants as space
 use Rattle.wasm_shapes.specs.Tree.{Tree}
 use Rattle.wasm_shapes.specs.Shape.{Shape}
 use Rattle.wasm_shapes.specs.Place.{Begins}
-use Rattle.wasm_shapes.specs.Types.{behind_descriptor, behind_described, sub_type_of, group_of, table_of, memory_of, global_of, global_with_init_of, tag_of, import_of, item_of}
+use Rattle.wasm_shapes.specs.Types.{behind_descriptor, behind_described, sub_type_of, group_of, table_of, memory_of, global_of, null_table_of, table_with_init_of, global_with_init_of, tag_of, import_of, item_of, Items, items_of, passive_of, declared_of, active_of, active_data_of, passive_data_tree}
 pub use Rattle.wasm_shapes.specs.Types.{no_reading, led, vector_tree, shared_tree, mutable_of, shared_composite_tree, flag, limits_flags, bounds_tree, paged_tree, limits_tree, global_flags, function_tree}
 use Rattle.wasm_read.specs.declared.types.UnpackedIndex.{UnpackedIndex}
 use Rattle.wasm_read.specs.declared.types.UnpackedIndex.TheVariants as unpacked
@@ -41,6 +41,14 @@ use Rattle.wasm_read.specs.declared.types.Table.{Table}
 use Rattle.wasm_read.specs.declared.types.TableInit.{TableInit}
 use Rattle.wasm_read.specs.declared.types.TableInit.TheVariants as init
 use Rattle.wasm_read.specs.declared.types.Global.{Global}
+use Rattle.wasm_read.specs.declared.types.ElementItems.{ElementItems}
+use Rattle.wasm_read.specs.declared.types.ElementItems.TheVariants as items
+use Rattle.wasm_read.specs.declared.types.ElementKind.{ElementKind}
+use Rattle.wasm_read.specs.declared.types.ElementKind.TheVariants as element
+use Rattle.wasm_read.specs.declared.types.Element.{Element}
+use Rattle.wasm_read.specs.declared.types.DataKind.{DataKind}
+use Rattle.wasm_read.specs.declared.types.DataKind.TheVariants as segment
+use Rattle.wasm_read.specs.declared.types.Data.{Data}
 use Rattle.wasm_read.specs.Expressions.{expr_tree}
 
 -- the index of the module
@@ -102,6 +110,11 @@ abbrev pub heap_type_tree : HeapType → Tree
 heap_type_tree (heap.Abstract shared ty) = shared_tree shared (abstract_tree ty)
 heap_type_tree (heap.Exact i) = Tree.row 2 (led 0x62 (type_index i))
 heap_type_tree (heap.Concrete i) = Tree.row 3 (signed_index i)
+
+-- any function
+abbrev pub are_functions : HeapType → Bool
+are_functions (heap.Abstract false abstract.Func) = true
+are_functions _ = false
 
 -- ---- reference and value types
 
@@ -215,10 +228,10 @@ entity_tree (entity.Tag ty) = Tree.row 4 (led 0x04 (tag_type_tree ty))
 abbrev pub import_tree : Imports → Tree
 import_tree (imported.Single row) = import_of row.module.now row.name.now (entity_tree row.ty)
 
--- A table that starts with null references. One that starts with the value of an expression has no table yet.
+-- a table that starts with null references, or with the value of an expression
 abbrev pub table_parts : TableInit → TableType → Tree
-table_parts init.RefNull ty = table_type_tree ty
-table_parts (init.Expr e) ty = no_reading
+table_parts init.RefNull ty = null_table_of (table_type_tree ty)
+table_parts (init.Expr e) ty = table_with_init_of (table_type_tree ty) (expr_tree e)
 
 abbrev pub table_tree : Table → Tree
 table_tree row = table_parts row.init row.ty
@@ -257,3 +270,35 @@ pub record ExportKind (bytes : List ℕ) (row : Export) : Type 0 where
   pub rest : List ℕ
   pub named : Begins Shape.name bytes (Tree.name row.name.now) rest
   pub says : SaysKind row.kind rest
+
+-- ---- element segments
+
+-- whether a type is that of references to functions that may be null
+abbrev pub is_funcref : RefType → Bool
+is_funcref ty = ty.nullable && are_functions ty.heap_type
+
+-- what a segment lists
+abbrev pub listed_items : ElementItems → Items
+listed_items (items.Functions is) = Items.functions is
+listed_items (items.Expressions ty es) = Items.expressions (is_funcref ty) (ref_type_tree ty) (map expr_tree es)
+
+-- functions behind their number, or expressions behind their type and their number
+abbrev pub element_items_tree : ElementItems → Tree
+element_items_tree row = items_of (listed_items row)
+
+-- by its kind
+abbrev pub element_parts : ElementKind → Items → Tree
+element_parts (element.Active table offset) row = active_of table (expr_tree offset) row
+element_parts element.Passive row = passive_of row
+element_parts element.Declared row = declared_of row
+
+abbrev pub element_tree : Element → Tree
+element_tree row = element_parts row.kind (listed_items row.items)
+
+-- a data segment: placed in a memory, or passive
+abbrev pub data_parts : DataKind → List ℕ → Tree
+data_parts (segment.Active memory offset) bytes = active_data_of memory (expr_tree offset) bytes
+data_parts segment.Passive bytes = passive_data_tree bytes
+
+abbrev pub data_tree : Data → Tree
+data_tree row = data_parts row.kind row.contents.now

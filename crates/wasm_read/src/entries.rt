@@ -20,12 +20,6 @@ pub trait Entry {
 
     ghost tree: { Self → Tree };
 
-    /// The entry at the front of some bytes, and the bytes behind it.
-    fn front(alloc: Global, bytes: &[u8]) -> Result<Option<(Self, &[u8])>, NoMemory>
-        ensures some { IfOk result (λ o. IfSome o (λ r.
-            Begins shape bytes.now (tree r.0) r.1.now)) }
-        ensures none { IfOk result (λ o. IfNone o (BeginsNone shape bytes.now)) };
-
     /// How many entries can stand in so many bytes.
     fn most(bytes: usize) -> usize;
 
@@ -34,17 +28,26 @@ pub trait Entry {
     ghost is_closed: { closed shape ≡ true };
 }
 
-/// What stands in a vector, and takes no memory.
-pub trait SmallEntry: Entry {
+/// What stands in a vector and can be read.
+pub trait ReadEntry<'a>: Entry {
     /// The entry at the front of some bytes, and the bytes behind it.
-    fn small(bytes: &[u8]) -> Option<(Self, &[u8])>
+    fn front(alloc: Global, bytes: &'a [u8]) -> Result<Option<(Self, &'a [u8])>, NoMemory>
+        ensures some { IfOk result (λ o. IfSome o (λ r.
+            Begins Self.shape bytes.now (Self.tree r.0) r.1.now)) }
+        ensures none { IfOk result (λ o. IfNone o (BeginsNone Self.shape bytes.now)) };
+}
+
+/// What stands in a vector and can be read, and takes no memory.
+pub trait SmallEntry<'a>: Entry {
+    /// The entry at the front of some bytes, and the bytes behind it.
+    fn small(bytes: &'a [u8]) -> Option<(Self, &'a [u8])>
         ensures some { IfSome result (λ r. Begins Self.shape bytes.now (Self.tree r.0) r.1.now) }
         ensures none { IfNone result (BeginsNone Self.shape bytes.now) };
 }
 
-impl SmallEntry for u32 {
+impl<'a> SmallEntry<'a> for u32 {
     #[tactic(auto, using(wasm_shapes::proofs::Begins::begins_u32))]
-    fn small(bytes: &[u8]) -> Option<(u32, &[u8])> {
+    fn small(bytes: &'a [u8]) -> Option<(u32, &'a [u8])> {
         match front_u32(bytes) {
             Some((index, rest)) => Some((index, rest)),
             None => None,
@@ -52,26 +55,26 @@ impl SmallEntry for u32 {
     }
 }
 
-impl SmallEntry for ValType {
-    fn small(bytes: &[u8]) -> Option<(ValType, &[u8])> {
+impl<'a> SmallEntry<'a> for ValType {
+    fn small(bytes: &'a [u8]) -> Option<(ValType, &'a [u8])> {
         front_val_type(bytes)
     }
 }
 
-impl SmallEntry for (u32, ValType) {
-    fn small(bytes: &[u8]) -> Option<((u32, ValType), &[u8])> {
+impl<'a> SmallEntry<'a> for (u32, ValType) {
+    fn small(bytes: &'a [u8]) -> Option<((u32, ValType), &'a [u8])> {
         front_local(bytes)
     }
 }
 
-impl SmallEntry for Catch {
-    fn small(bytes: &[u8]) -> Option<(Catch, &[u8])> {
+impl<'a> SmallEntry<'a> for Catch {
+    fn small(bytes: &'a [u8]) -> Option<(Catch, &'a [u8])> {
         front_catch(bytes)
     }
 }
 
-impl SmallEntry for Handle {
-    fn small(bytes: &[u8]) -> Option<(Handle, &[u8])> {
+impl<'a> SmallEntry<'a> for Handle {
+    fn small(bytes: &'a [u8]) -> Option<(Handle, &'a [u8])> {
         front_handle(bytes)
     }
 }
@@ -86,16 +89,18 @@ impl Entry for u32 {
 
     ghost is_closed = { refl };
 
+    fn most(bytes: usize) -> usize {
+        bytes
+    }
+}
+
+impl<'a> ReadEntry<'a> for u32 {
     #[inline]
-    fn front(_alloc: Global, bytes: &[u8]) -> Result<Option<(u32, &[u8])>, NoMemory> {
+    fn front(_alloc: Global, bytes: &'a [u8]) -> Result<Option<(u32, &'a [u8])>, NoMemory> {
         match front_u32(bytes) {
             Some((index, rest)) => Ok(Some((index, rest))),
             None => Ok(None),
         }
-    }
-
-    fn most(bytes: usize) -> usize {
-        bytes
     }
 }
 
@@ -108,13 +113,15 @@ impl Entry for ValType {
 
     ghost is_closed = { refl };
 
-    #[inline]
-    fn front(_alloc: Global, bytes: &[u8]) -> Result<Option<(ValType, &[u8])>, NoMemory> {
-        Ok(front_val_type(bytes))
-    }
-
     fn most(bytes: usize) -> usize {
         bytes
+    }
+}
+
+impl<'a> ReadEntry<'a> for ValType {
+    #[inline]
+    fn front(_alloc: Global, bytes: &'a [u8]) -> Result<Option<(ValType, &'a [u8])>, NoMemory> {
+        Ok(front_val_type(bytes))
     }
 }
 
@@ -127,13 +134,15 @@ impl Entry for FieldType {
 
     ghost is_closed = { refl };
 
-    #[inline]
-    fn front(_alloc: Global, bytes: &[u8]) -> Result<Option<(FieldType, &[u8])>, NoMemory> {
-        Ok(front_field_type(bytes))
-    }
-
     fn most(bytes: usize) -> usize {
         bytes / 2
+    }
+}
+
+impl<'a> ReadEntry<'a> for FieldType {
+    #[inline]
+    fn front(_alloc: Global, bytes: &'a [u8]) -> Result<Option<(FieldType, &'a [u8])>, NoMemory> {
+        Ok(front_field_type(bytes))
     }
 }
 
@@ -152,16 +161,21 @@ impl Entry for UnpackedIndex {
 
     ghost is_closed = { refl };
 
+    fn most(bytes: usize) -> usize {
+        bytes
+    }
+}
+
+impl<'a> ReadEntry<'a> for UnpackedIndex {
     #[inline]
-    fn front(_alloc: Global, bytes: &[u8]) -> Result<Option<(UnpackedIndex, &[u8])>, NoMemory> {
+    fn front(
+        _alloc: Global,
+        bytes: &'a [u8],
+    ) -> Result<Option<(UnpackedIndex, &'a [u8])>, NoMemory> {
         match front_u32(bytes) {
             Some((index, rest)) => Ok(Some((UnpackedIndex::Module(index), rest))),
             None => Ok(None),
         }
-    }
-
-    fn most(bytes: usize) -> usize {
-        bytes
     }
 }
 
@@ -175,13 +189,18 @@ impl Entry for (u32, ValType) {
 
     ghost is_closed = { refl };
 
-    #[inline]
-    fn front(_alloc: Global, bytes: &[u8]) -> Result<Option<((u32, ValType), &[u8])>, NoMemory> {
-        Ok(front_local(bytes))
-    }
-
     fn most(bytes: usize) -> usize {
         bytes / 2
+    }
+}
+
+impl<'a> ReadEntry<'a> for (u32, ValType) {
+    #[inline]
+    fn front(
+        _alloc: Global,
+        bytes: &'a [u8],
+    ) -> Result<Option<((u32, ValType), &'a [u8])>, NoMemory> {
+        Ok(front_local(bytes))
     }
 }
 
@@ -194,13 +213,15 @@ impl Entry for Catch {
 
     ghost is_closed = { refl };
 
-    #[inline]
-    fn front(_alloc: Global, bytes: &[u8]) -> Result<Option<(Catch, &[u8])>, NoMemory> {
-        Ok(front_catch(bytes))
-    }
-
     fn most(bytes: usize) -> usize {
         bytes / 2
+    }
+}
+
+impl<'a> ReadEntry<'a> for Catch {
+    #[inline]
+    fn front(_alloc: Global, bytes: &'a [u8]) -> Result<Option<(Catch, &'a [u8])>, NoMemory> {
+        Ok(front_catch(bytes))
     }
 }
 
@@ -213,13 +234,15 @@ impl Entry for Handle {
 
     ghost is_closed = { refl };
 
-    #[inline]
-    fn front(_alloc: Global, bytes: &[u8]) -> Result<Option<(Handle, &[u8])>, NoMemory> {
-        Ok(front_handle(bytes))
-    }
-
     fn most(bytes: usize) -> usize {
         bytes / 2
+    }
+}
+
+impl<'a> ReadEntry<'a> for Handle {
+    #[inline]
+    fn front(_alloc: Global, bytes: &'a [u8]) -> Result<Option<(Handle, &'a [u8])>, NoMemory> {
+        Ok(front_handle(bytes))
     }
 }
 
@@ -305,10 +328,10 @@ fn front_tag_and_label(bytes: &[u8]) -> Option<(u32, u32, &[u8])>
 
 /// The vector of entries at the front of some bytes, and the bytes behind it. Memory is taken for no more entries than
 /// the bytes can hold.
-pub fn front_vec<T: Entry + Drop>(
+pub fn front_vec<'a, T: ReadEntry<'a> + Drop>(
     alloc: Global,
-    bytes: &[u8],
-) -> Result<Option<(List<T>, &[u8])>, NoMemory>
+    bytes: &'a [u8],
+) -> Result<Option<(List<T>, &'a [u8])>, NoMemory>
     ensures some { IfOk result (λ o. IfSome o (λ r.
         Begins (Shape.vec T.shape) bytes.now (vector_tree (map T.tree r.0)) r.1.now)) }
     ensures counted { IfOk result (λ o. IfSome o (λ r. length r.0 < 2 ^ 32)) }
@@ -342,7 +365,7 @@ pub fn front_vec<T: Entry + Drop>(
 }
 
 /// The bytes behind the vector of entries at the front of some bytes. It takes no memory.
-pub fn behind_vec<T: SmallEntry + Drop>(bytes: &[u8]) -> Option<&[u8]>
+pub fn behind_vec<'a, T: SmallEntry<'a> + Drop>(bytes: &'a [u8]) -> Option<&'a [u8]>
     ensures some { IfSome result (λ r.
         (t : Tree) × Begins (Shape.vec T.shape) bytes.now t r.now) }
     ensures none { IfNone result (BeginsNone (Shape.vec T.shape) bytes.now) }

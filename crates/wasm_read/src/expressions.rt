@@ -4,9 +4,11 @@ ghost use Rattle.wasm_shapes.specs.Place.{Begins, BeginsNone};
 ghost use Rattle.wasm_shapes.specs.Shape.{Shape, Named};
 ghost use Rattle.wasm_read.specs.Expressions.{HeldExpression, HeldExpression-prop, SpellsExpression, NoExpression, expr_tree};
 
+use crate::entries::{Entry, ReadEntry};
 use crate::operators::{OperatorsReader, behind_operator};
+use std::alloc::Global;
 use std::marker::Model;
-use wasm_leb::{ReadError, front_byte};
+use wasm_leb::{NoMemory, ReadError, front_byte};
 
 /// A constant expression, as the bytes that spell it (WebAssembly Core Specification 3.0, section 5.4.13).
 ///
@@ -75,4 +77,31 @@ pub fn front_expr(bytes: &[u8]) -> Option<(ConstExpr<'_>, &[u8])>
         }
     }
     None
+}
+
+/// An expression of an element segment.
+impl<'a> Entry for ConstExpr<'a> {
+    ghost use Rattle.std.specs.Prelude.{refl};
+
+    ghost shape = { Shape.ref Named.expression };
+
+    ghost tree = { expr_tree };
+
+    ghost is_sound = { refl };
+
+    ghost is_closed = { refl };
+
+    fn most(bytes: usize) -> usize {
+        bytes
+    }
+}
+
+impl<'a> ReadEntry<'a> for ConstExpr<'a> {
+    #[inline]
+    fn front(
+        _alloc: Global,
+        bytes: &'a [u8],
+    ) -> Result<Option<(ConstExpr<'a>, &'a [u8])>, NoMemory> {
+        Ok(front_expr(bytes))
+    }
 }

@@ -1,7 +1,7 @@
 //! The types of what is imported, at the front of some bytes, and at a place of some bytes.
 ghost use Rattle.std.specs.Prelude.{◌≡◌, ◌<◌, ◌≤◌, length, drop, IfOk, IfErr, IfSome, IfNone, Bool};
 ghost use Rattle.std.specs.Option.{is_some};
-ghost use Rattle.wasm_shapes.specs.Module.{global_row, import_row};
+ghost use Rattle.wasm_shapes.specs.Module.{global_row, import_row, table_row};
 ghost use Rattle.wasm_shapes.specs.Place.{Begins, BeginsNone};
 ghost use Rattle.wasm_shapes.specs.Shape.{Shape, bounds, paged, table_type, memory_type, global_type, tag_type, entity};
 ghost use Rattle.wasm_read.specs.Types.{limits_flags, bounds_tree, paged_tree, table_type_tree, memory_type_tree, global_type_tree, tag_type_tree, entity_tree, table_tree, global_tree, import_tree};
@@ -311,16 +311,41 @@ pub fn front_import(bytes: &[u8]) -> Option<(Imports<'_>, &[u8])>
     }
 }
 
-/// The table at the front of some bytes that starts with null references, and the bytes behind it.
+/// The table at the front of some bytes, and the bytes behind it. Behind two bytes stands one that starts with the value of
+/// an expression; the others start with null references.
 pub fn front_table(bytes: &[u8]) -> Option<(Table<'_>, &[u8])>
-    ensures some { IfSome result (λ r. Begins table_type bytes.now (table_tree r.0) r.1.now) }
-    ensures none { IfNone result (BeginsNone table_type bytes.now) }
+    ensures some { IfSome result (λ r. Begins table_row bytes.now (table_tree r.0) r.1.now) }
+    ensures none { IfNone result (BeginsNone table_row bytes.now) }
 {
-    match front_table_type(bytes) {
-        Some((ty, rest)) => Some((
+    let Some((first, rest)) = front_byte(bytes) else {
+        return None;
+    };
+    if first != 0x40 {
+        return match front_table_type(bytes) {
+            Some((ty, rest)) => Some((
+                Table {
+                    ty,
+                    init: TableInit::RefNull,
+                },
+                rest,
+            )),
+            None => None,
+        };
+    }
+    let Some((second, rest)) = front_byte(rest) else {
+        return None;
+    };
+    if second != 0x00 {
+        return None;
+    }
+    let Some((ty, rest)) = front_table_type(rest) else {
+        return None;
+    };
+    match front_expr(rest) {
+        Some((expr, rest)) => Some((
             Table {
                 ty,
-                init: TableInit::RefNull,
+                init: TableInit::Expr(expr),
             },
             rest,
         )),

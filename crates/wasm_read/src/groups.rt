@@ -6,7 +6,7 @@ ghost use Rattle.wasm_shapes.specs.Shape.{Shape, Named, choice, values, inner_ro
 ghost use Rattle.wasm_read.specs.Reading.{ReadsNoneOrWants};
 ghost use Rattle.wasm_read.specs.Types.{val_types_tree, func_type_tree, inner_tree, described_tree, describing_tree, composite_tree, supertypes_tree, sub_type_tree, group_tree};
 
-use crate::entries::{Entry, front_vec};
+use crate::entries::{Entry, ReadEntry, front_vec};
 use crate::fields::from_place;
 use crate::types::{
     ArrayType, CompositeInnerType, CompositeType, ContType, FuncType, RecGroup, StructType,
@@ -268,13 +268,15 @@ impl Entry for SubType {
 
     ghost is_closed = { refl };
 
-    #[inline]
-    fn front(alloc: Global, bytes: &[u8]) -> Result<Option<(SubType, &[u8])>, NoMemory> {
-        front_sub_type(alloc, bytes)
-    }
-
     fn most(bytes: usize) -> usize {
         bytes / 2
+    }
+}
+
+impl<'a> ReadEntry<'a> for SubType {
+    #[inline]
+    fn front(alloc: Global, bytes: &'a [u8]) -> Result<Option<(SubType, &'a [u8])>, NoMemory> {
+        front_sub_type(alloc, bytes)
     }
 }
 

@@ -2,6 +2,8 @@
 #![tactic(auto)]
 
 mod code;
+mod data_segments;
+mod elements;
 mod entries;
 mod expressions;
 mod externals;
@@ -26,9 +28,9 @@ pub use operators::{Operator, OperatorsReader};
 pub use payloads::Payloads;
 pub use section_reader::{ReadRow, SectionReader};
 pub use sections::{
-    BodyFrames, CodeSectionReader, ExportSectionReader, FunctionSectionReader, GlobalSectionReader,
-    ImportSectionReader, MemorySectionReader, TableSectionReader, TagSectionReader,
-    TypeSectionReader,
+    BodyFrames, CodeSectionReader, DataSectionReader, ElementSectionReader, ExportSectionReader,
+    FunctionSectionReader, GlobalSectionReader, ImportSectionReader, MemorySectionReader,
+    TableSectionReader, TagSectionReader, TypeSectionReader,
 };
 pub use types::{
     AbstractHeapType, ArrayType, BlockType, Catch, CompositeInnerType, CompositeType, ContType,

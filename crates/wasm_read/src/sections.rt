@@ -1,9 +1,11 @@
 //! The readers of the sections of rows (WebAssembly Core Specification 3.0, section 5.5).
 ghost use Rattle.std.specs.Prelude.{true};
 ghost use Rattle.wasm_read.specs.Operations.{body_tree};
-ghost use Rattle.wasm_read.specs.Types.{group_tree, import_tree, function_tree, table_tree, memory_type_tree, global_tree, tag_type_tree, export_tree, ExportKind};
+ghost use Rattle.wasm_read.specs.Types.{group_tree, import_tree, function_tree, table_tree, memory_type_tree, global_tree, tag_type_tree, export_tree, element_tree, ExportKind, data_tree};
 
 use crate::code::front_body;
+use crate::data_segments::front_data;
+use crate::elements::front_element;
 use crate::externals::{
     front_global, front_import, front_memory_type, front_table, front_tag_type,
 };
@@ -11,7 +13,9 @@ use crate::fields::{front_export, front_function};
 use crate::groups::front_group;
 use crate::section_reader::{ReadRow, SectionReader};
 use crate::types;
-use crate::types::{Export, FunctionBody, Imports, MemoryType, RecGroup, Table, TagType};
+use crate::types::{
+    Data, Element, Export, FunctionBody, Imports, MemoryType, RecGroup, Table, TagType,
+};
 use std::alloc::Global;
 use wasm_leb::NoMemory;
 use wasm_shapes::kinds;
@@ -61,7 +65,7 @@ impl<'a> ReadRow<'a> for kinds::Functions {
     }
 }
 
-/// A reader of the rows of a table section: tables that start with null references (section 5.5.7).
+/// A reader of the rows of a table section (section 5.5.7).
 pub type TableSectionReader<'a> = SectionReader<'a, kinds::Tables>;
 
 impl<'a> ReadRow<'a> for kinds::Tables {
@@ -136,6 +140,22 @@ impl<'a> ReadRow<'a> for kinds::Exports {
     }
 }
 
+/// A reader of the rows of an element section (section 5.5.12). A row takes memory, for what it lists.
+pub type ElementSectionReader<'a> = SectionReader<'a, kinds::Elements>;
+
+impl<'a> ReadRow<'a> for kinds::Elements {
+    type Row = Element<'a>;
+
+    ghost tree = { element_tree };
+
+    ghost takes_memory = { true };
+
+    #[inline]
+    fn front(alloc: Global, bytes: &'a [u8]) -> Result<Option<(Element<'a>, &'a [u8])>, NoMemory> {
+        front_element(alloc, bytes)
+    }
+}
+
 /// The frames of the bodies of functions, of whose contents nothing is said: the rows of a code section as they are
 /// read.
 pub struct BodyFrames;
@@ -178,5 +198,19 @@ impl<'a> ReadRow<'a> for BodyFrames {
         bytes: &'a [u8],
     ) -> Result<Option<(FunctionBody<'a>, &'a [u8])>, NoMemory> {
         Ok(front_body(bytes))
+    }
+}
+
+/// A reader of the rows of a data section (section 5.5.14). Their bytes are borrowed.
+pub type DataSectionReader<'a> = SectionReader<'a, kinds::Segments>;
+
+impl<'a> ReadRow<'a> for kinds::Segments {
+    type Row = Data<'a>;
+
+    ghost tree = { data_tree };
+
+    #[inline]
+    fn front(_alloc: Global, bytes: &'a [u8]) -> Result<Option<(Data<'a>, &'a [u8])>, NoMemory> {
+        Ok(front_data(bytes))
     }
 }

@@ -86,7 +86,7 @@ abbrev pub functions : Shape
 functions = Shape.vec function_row
 
 abbrev pub tables : Shape
-tables = Shape.vec table_type
+tables = Shape.vec table_row
 
 abbrev pub memories : Shape
 memories = Shape.vec memory_type
@@ -123,7 +123,9 @@ data_count = Shape.ix space.DataCount
 abbrev pub in_force : List Kind
 in_force =
     of_body id.Type_ types ∷ of_body id.Import imports ∷ of_body id.Function functions ∷ of_body id.Table tables ∷
-    of_body id.Memory memories ∷ of_body id.Export exports ∷ of_body id.Code code ∷ of_body id.Tag tags ∷ []
+    of_body id.Memory memories ∷ of_body id.Global globals ∷ of_body id.Export exports ∷ of_body id.Start start ∷
+    of_body id.Element elements ∷ of_body id.Code code ∷ of_body id.Data segments ∷ of_body id.DataCount data_count ∷
+    of_body id.Tag tags ∷ []
 
 abbrev pub section : Shape
 section = choice (shapes_of in_force)

@@ -1,11 +1,11 @@
 -- What the trees of a reader's types and of a writer's are made of, and what both say of immediates (WebAssembly Core
 -- Specification 3.0, sections 5.3 and 5.4). Nothing here names a type of either.
-use Rattle.std.specs.Prelude.{◌≡◌, ℕ, ◌+◌, ◌^◌, Bool, true, false, nat_lt, nat_eq, List, [], ◌∷◌, length, Option, Some, None}
+use Rattle.std.specs.Prelude.{◌≡◌, ℕ, ◌+◌, ◌^◌, Bool, true, false, nat_lt, nat_eq, List, [], ◌∷◌, length, map, Option, Some, None}
 use Rattle.std.specs.Option.{is_some}
 use Rattle.std.proofs.Common.{refl, ap}
 use Rattle.wasm_shapes.specs.declared.Space.{Space}
 use Rattle.wasm_shapes.specs.declared.Space.TheVariants as space
-use Rattle.wasm_shapes.specs.Tree.{Tree}
+use Rattle.wasm_shapes.specs.Tree.{Tree, Listed}
 use Rattle.wasm_shapes.specs.Shape.{Shape, choice, lead}
 use Rattle.wasm_shapes.specs.Rows.{rows_then}
 
@@ -162,6 +162,52 @@ item_of space.Memory i = Tree.row 2 (led 0x02 (Tree.ix space.Memory i))
 item_of space.Global i = Tree.row 3 (led 0x03 (Tree.ix space.Global i))
 item_of space.Tag i = Tree.row 4 (led 0x04 (Tree.ix space.Tag i))
 item_of _ i = no_reading
+
+-- ---- element segments
+
+-- What one lists: functions by their indices, or expressions with their type, and whether this type is the one that the
+-- flag 4 stands for, a reference to functions that may be null.
+pub data Items : Type 0 where
+  functions : List ℕ → Items
+  expressions : Bool → Tree → List Tree → Items
+
+abbrev pub function_index_tree : ℕ → Tree
+function_index_tree i = Tree.ix space.Function i
+
+-- expressions behind their type, which is visited after them
+abbrev pub typed_expressions : Tree → List Tree → Tree
+typed_expressions ty es = Tree.swap ty (vector_tree es)
+
+abbrev pub items_of : Items → Tree
+items_of (Items.functions is) = vector_tree (map function_index_tree is)
+items_of (Items.expressions funcref ty es) = typed_expressions ty es
+
+-- those that are copied to a table by instructions alone
+abbrev pub passive_of : Items → Tree
+passive_of (Items.functions is) = Tree.row 1 (Tree.pair (Tree.flag 1) (led 0x00 (items_of (Items.functions is))))
+passive_of (Items.expressions funcref ty es) = Tree.row 4 (Tree.pair (Tree.flag 5) (items_of (Items.expressions funcref ty es)))
+
+-- those whose functions may be referred to
+abbrev pub declared_of : Items → Tree
+declared_of (Items.functions is) = Tree.row 2 (Tree.pair (Tree.flag 3) (led 0x00 (items_of (Items.functions is))))
+declared_of (Items.expressions funcref ty es) = Tree.row 5 (Tree.pair (Tree.flag 7) (items_of (Items.expressions funcref ty es)))
+
+-- Those that are copied to a table at an offset. A table that is left out is the table 0, which is written where the
+-- expressions are of a type that no flag stands for.
+abbrev pub active_of : Option ℕ → Tree → Items → Tree
+active_of None offset (Items.functions is) = Tree.row 0 (Tree.left Listed.functions offset (items_of (Items.functions is)))
+active_of (Some i) offset (Items.functions is) = Tree.row 0 (Tree.aimed Listed.functions i offset (items_of (Items.functions is)))
+active_of None offset (Items.expressions true ty es) = Tree.row 3 (Tree.left Listed.expressions offset (vector_tree es))
+active_of None offset (Items.expressions false ty es) = Tree.row 3 (Tree.aimed Listed.expressions 0 offset (typed_expressions ty es))
+active_of (Some i) offset (Items.expressions funcref ty es) = Tree.row 3 (Tree.aimed Listed.expressions i offset (typed_expressions ty es))
+
+-- a data segment that is placed in a memory, where an expression says
+abbrev pub active_data_of : ℕ → Tree → List ℕ → Tree
+active_data_of memory offset bytes = Tree.row 0 (Tree.placed memory offset (Tree.content bytes))
+
+-- a passive data segment, of its bytes alone
+abbrev pub passive_data_tree : List ℕ → Tree
+passive_data_tree bytes = Tree.row 1 (Tree.pair (Tree.flag 1) (Tree.content bytes))
 
 -- ---- immediates
 

@@ -3,8 +3,8 @@ ghost use Rattle.std.specs.Prelude.{◌≡◌, ◌≤◌, ℕ, true, refl};
 ghost use Rattle.std.proofs.Common.{lit≤};
 ghost use Rattle.wasm_shapes.specs.declared.SectionId.{SectionId};
 ghost use Rattle.wasm_shapes.specs.declared.SectionId.TheVariants as id;
-ghost use Rattle.wasm_shapes.specs.Shape.{Shape, Named, closed, table_type, memory_type, tag_type};
-ghost use Rattle.wasm_shapes.specs.Module.{code_row, data_row, element_row, export_row, function_row, global_row, import_row};
+ghost use Rattle.wasm_shapes.specs.Shape.{Shape, Named, closed, memory_type, tag_type};
+ghost use Rattle.wasm_shapes.specs.Module.{code_row, data_row, element_row, export_row, function_row, global_row, import_row, table_row};
 ghost use Rattle.wasm_shapes.specs.Sound.{sound};
 
 /// A kind of section whose body is a vector of rows.
@@ -98,7 +98,7 @@ pub struct Tables;
 impl SectionKind for Tables {
     ghost kind = { id.Table };
 
-    ghost shape = { table_type };
+    ghost shape = { table_row };
 
     ghost ID = { 4 };
 

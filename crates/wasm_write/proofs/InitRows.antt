@@ -1,13 +1,13 @@
 -- Rows that hold the expression of a first value.
 use Rattle.std.specs.Prelude.{IfErr}
-use Rattle.std.proofs.Common.{◌≡◌, ℕ, ◌-◌, ◌<◌, ◌^◌, List, [], ◌∷◌, ◌++◌, All, Bool, true, false, Result, Ok, Err, refl, ap, subst, sym}
+use Rattle.std.proofs.Common.{◌≡◌, ℕ, ◌-◌, ◌<◌, ◌^◌, List, [], ◌∷◌, ◌++◌, All, Bool, true, false, Result, Ok, Err, Option, Some, None, refl, ap, ap₂, subst, sym}
 use mathlib.Core.Logic.{∥∥₁_map}
 use Rattle.wasm_shapes.specs.Tree.{Tree, normal}
-use Rattle.wasm_shapes.specs.Shape.{Shape, Named, global_type}
+use Rattle.wasm_shapes.specs.Shape.{Shape, Named, lead, table_type, global_type}
 use Rattle.wasm_shapes.specs.Spells.{Is, Spells}
 use Rattle.wasm_shapes.specs.Fits.{InRange}
-use Rattle.wasm_shapes.specs.Module.{global_row}
-use Rattle.wasm_shapes.specs.Types.{expression_of}
+use Rattle.wasm_shapes.specs.Module.{table_row, global_row}
+use Rattle.wasm_shapes.specs.Types.{expression_of, led, bounds_tree}
 use Rattle.wasm_shapes.proofs.Frameless.{frameless_spells}
 use Rattle.wasm_shapes.proofs.ReadBack.{spelled_in_range, in_range_had}
 use Rattle.wasm_write.specs.declared.types.AbstractHeapType.{AbstractHeapType}
@@ -16,15 +16,16 @@ use Rattle.wasm_write.specs.declared.types.HeapType.{HeapType}
 use Rattle.wasm_write.specs.declared.types.HeapType.TheVariants as heap
 use Rattle.wasm_write.specs.declared.types.ValType.{ValType}
 use Rattle.wasm_write.specs.declared.types.ValType.TheVariants as value
+use Rattle.wasm_write.specs.declared.types.TableType.{TableType}
 use Rattle.wasm_write.specs.declared.types.GlobalType.{GlobalType}
 use Rattle.wasm_write.specs.declared.fault.WriteFault.{WriteFault}
 use Rattle.wasm_write.specs.declared.fault.WriteFault.TheVariants.{TooLarge, NoMemory}
 use Rattle.wasm_write.specs.Counts.{counts, IsTooLarge}
 use Rattle.wasm_write.specs.Faults.{IfTooLarge}
-use Rattle.wasm_write.specs.Types.{abstract_tree, heap_type_tree, reference_parts, val_type_tree, global_type_tree}
-use Rattle.wasm_write.specs.Rows.{global_tree}
+use Rattle.wasm_write.specs.Types.{abstract_tree, heap_type_tree, reference_parts, val_type_tree, table_type_tree, global_type_tree}
+use Rattle.wasm_write.specs.Rows.{table_with_init_tree, global_tree}
 use Rattle.wasm_write.proofs.SmallCounts.{IsSmall, counts_small, last_is_large}
-use Rattle.wasm_write.proofs.ExternalShapes.{global_type_is}
+use Rattle.wasm_write.proofs.ExternalShapes.{table_type_is, global_type_is}
 
 -- ---- types have no counts
 
@@ -53,6 +54,14 @@ value_counts value.F64 = refl
 value_counts value.V128 = refl
 value_counts (value.Ref ty) = reference_counts ty.nullable ty.heap_type
 
+bounds_counts : (minimum : ℕ) (maximum : Option ℕ) → counts (bounds_tree minimum maximum) ≡ []
+bounds_counts minimum None = refl
+bounds_counts minimum (Some maximum) = refl
+
+table_counts : (ty : TableType) → counts (table_type_tree ty) ≡ []
+table_counts ty =
+    ap₂ (λ (y z : List ℕ). y ++ z) (reference_counts ty.element_type.nullable ty.element_type.heap_type) (bounds_counts ty.minimum ty.maximum)
+
 global_counts : (ty : GlobalType) → counts (global_type_tree ty) ≡ []
 global_counts ty = ap (λ (z : List ℕ). z ++ []) (value_counts ty.val_type)
 
@@ -73,6 +82,23 @@ init_spells : {a : Shape} {t e : Tree} → Spells a (normal t) t → ∥ Spells 
     ∥ Spells (Shape.seq a (Shape.ref Named.expression)) (normal (Tree.pair t e)) (Tree.pair t e) ∥₁
 init_spells {t = t} {e = e} s p =
     ∥∥₁_map p (λ q. record { shaped = Is.seq s.shaped q.shaped; spelled = (normal t, normal e, refl, s.spelled, q.spelled) })
+
+-- the same behind a byte, and as a row of a choice
+led_spells : {b : ℕ} {s : Shape} {t : Tree} → Spells s (normal t) t → Spells (lead b s) (normal (led b t)) (led b t)
+led_spells {b = b} {t = t} p = record { shaped = Is.seq Is.fixed p.shaped; spelled = (b ∷ [], normal t, refl, refl, p.spelled) }
+
+pub table_with_init_spelled : (ty : TableType) (init : List Tree) → InRange (table_type_tree ty) →
+    ∥ Spells (Shape.ref Named.expression) (normal (expression_of init)) (expression_of init) ∥₁ →
+    ∥ Spells table_row (normal (table_with_init_tree ty init)) (table_with_init_tree ty init) ∥₁
+table_with_init_spelled ty init r p =
+    ∥∥₁_map (init_spells (frameless_spells table_type refl (table_type_is ty) r) p) (λ s.
+    let behind = led_spells {b = 0x40} (led_spells {b = 0x00} s) in
+    record { shaped = Is.later {k = 0} (Is.first behind.shaped); spelled = behind.spelled })
+
+pub table_with_init_large : {A : Type 0} (r : Result A WriteFault) (ty : TableType) (init : List Tree) (n : ℕ) →
+    ∥ Spells (Shape.ref Named.expression) (normal (expression_of init)) (expression_of init) ∥₁ →
+    IfErr r (λ f. IfTooLarge f (IsTooLarge (counts (table_with_init_tree ty init) ++ n ∷ []))) → IfErr r (λ f. IfTooLarge f (λ size. (size ≡ n) × (2 ^ 32 - 1 < size)))
+table_with_init_large r ty init n p q = init_large r (table_type_tree ty) (expression_of init) n (table_counts ty) p q
 
 pub global_spelled : (ty : GlobalType) (init : List Tree) → InRange (global_type_tree ty) →
     ∥ Spells (Shape.ref Named.expression) (normal (expression_of init)) (expression_of init) ∥₁ →

@@ -1,10 +1,10 @@
 -- The normal spelling of a row that is in range spells it.
 use Rattle.std.proofs.Common.{ℕ, ◌<◌, ◌^◌, List, refl}
 use Rattle.wasm_shapes.specs.Tree.{Tree, normal}
-use Rattle.wasm_shapes.specs.Shape.{Shape, Named, table_type, memory_type, tag_type}
+use Rattle.wasm_shapes.specs.Shape.{Shape, Named, memory_type, tag_type}
 use Rattle.wasm_shapes.specs.Spells.{Is, Spells}
 use Rattle.wasm_shapes.specs.Fits.{InRange}
-use Rattle.wasm_shapes.specs.Module.{import_row, function_row, export_row}
+use Rattle.wasm_shapes.specs.Module.{import_row, function_row, table_row, export_row}
 use Rattle.wasm_shapes.specs.Types.{function_tree}
 use Rattle.wasm_shapes.proofs.Frameless.{frameless_spells}
 use Rattle.wasm_write.specs.declared.types.RecGroup.{RecGroup}
@@ -15,7 +15,7 @@ use Rattle.wasm_write.specs.declared.types.Imports.{Imports}
 use Rattle.wasm_write.specs.declared.types.ExportKind.{ExportKind}
 use Rattle.wasm_write.specs.declared.types.ExportKind.TheVariants as export
 use Rattle.wasm_write.specs.Types.{group_tree, table_type_tree, memory_type_tree, tag_type_tree}
-use Rattle.wasm_write.specs.Rows.{import_tree, item_tree, export_tree}
+use Rattle.wasm_write.specs.Rows.{import_tree, null_table_tree, item_tree, export_tree}
 use Rattle.wasm_write.proofs.TypeShapes.{group_is}
 use Rattle.wasm_write.proofs.ExternalShapes.{table_type_is, memory_type_is, tag_type_is, import_is}
 
@@ -32,8 +32,8 @@ import_spelled row r = ∣ frameless_spells import_row refl (import_is row) r �
 pub function_spelled : (i : ℕ) → i < 2 ^ 32 → SpelledAs function_row (function_tree i)
 function_spelled i small = ∣ frameless_spells function_row refl Is.ix small ∣₁
 
-pub table_type_spelled : (ty : TableType) → InRange (table_type_tree ty) → SpelledAs table_type (table_type_tree ty)
-table_type_spelled ty r = ∣ frameless_spells table_type refl (table_type_is ty) r ∣₁
+pub null_table_spelled : (ty : TableType) → InRange (table_type_tree ty) → SpelledAs table_row (null_table_tree ty)
+null_table_spelled ty r = ∣ frameless_spells table_row refl (Is.first (table_type_is ty)) r ∣₁
 
 pub memory_type_spelled : (ty : MemoryType) → InRange (memory_type_tree ty) → SpelledAs memory_type (memory_type_tree ty)
 memory_type_spelled ty r = ∣ frameless_spells memory_type refl (memory_type_is ty) r ∣₁

@@ -1,16 +1,24 @@
 -- The trees that rows of sections stand for.
-use Rattle.std.specs.Prelude.{ℕ, List}
+use Rattle.std.specs.Prelude.{ℕ, Bool, true, false, ◌&&◌, List, length, map, Option}
 use Rattle.wasm_shapes.specs.declared.Space.{Space}
 use Rattle.wasm_shapes.specs.declared.Space.TheVariants as space
 use Rattle.wasm_shapes.specs.Tree.{Tree}
-use Rattle.wasm_shapes.specs.Types.{expression_of, global_with_init_of, import_of, item_of}
+use Rattle.wasm_shapes.specs.Types.{expression_of, null_table_of, table_with_init_of, global_with_init_of, import_of, item_of, Items, items_of, passive_of, declared_of, active_of, active_data_of}
+pub use Rattle.wasm_shapes.specs.Types.{passive_data_tree}
 use Rattle.wasm_write.specs.declared.types.ExportKind.{ExportKind}
 use Rattle.wasm_write.specs.declared.types.ExportKind.TheVariants as export
 use Rattle.wasm_write.specs.declared.types.Import.{Import}
 use Rattle.wasm_write.specs.declared.types.Imports.{Imports}
 use Rattle.wasm_write.specs.declared.types.Imports.TheVariants as imported
+use Rattle.wasm_write.specs.declared.types.TableType.{TableType}
 use Rattle.wasm_write.specs.declared.types.GlobalType.{GlobalType}
-use Rattle.wasm_write.specs.Types.{entity_tree, global_type_tree}
+use Rattle.wasm_write.specs.Types.{entity_tree, table_type_tree, global_type_tree, ref_type_tree}
+use Rattle.wasm_write.specs.declared.types.AbstractHeapType.TheVariants as abstract
+use Rattle.wasm_write.specs.declared.types.HeapType.{HeapType}
+use Rattle.wasm_write.specs.declared.types.HeapType.TheVariants as heap
+use Rattle.wasm_write.specs.declared.types.RefType.{RefType}
+use Rattle.wasm_write.specs.declared.types.Elements.{Elements}
+use Rattle.wasm_write.specs.declared.types.Elements.TheVariants as elements
 
 -- ---- imports
 
@@ -21,7 +29,15 @@ single_tree row = import_of row.module.now row.name.now (entity_tree row.ty)
 abbrev pub import_tree : Imports → Tree
 import_tree (imported.Single row) = single_tree row
 
--- ---- globals
+-- ---- tables and globals
+
+-- a table that starts with null references
+abbrev pub null_table_tree : TableType → Tree
+null_table_tree ty = null_table_of (table_type_tree ty)
+
+-- a table and the operators of the expression of its first value
+abbrev pub table_with_init_tree : TableType → List Tree → Tree
+table_with_init_tree ty init = table_with_init_of (table_type_tree ty) (expression_of init)
 
 -- a global and the operators of the expression of its first value
 abbrev pub global_tree : GlobalType → List Tree → Tree
@@ -44,6 +60,47 @@ item_tree kind i = item_of (exported_space kind) i
 -- a name and what is exported under it
 abbrev pub export_tree : List ℕ → ExportKind → ℕ → Tree
 export_tree name kind i = Tree.pair (Tree.name name) (item_tree kind i)
+
+-- ---- element segments
+
+-- any function
+abbrev pub are_functions : HeapType → Bool
+are_functions (heap.Abstract false abstract.Func) = true
+are_functions _ = false
+
+-- whether a type is that of references to functions that may be null
+abbrev pub is_funcref : RefType → Bool
+is_funcref ty = ty.nullable && are_functions ty.heap_type
+
+-- what a segment lists; the expressions are seen as lists of their operators
+abbrev pub listed_items : Elements → Items
+listed_items (elements.Functions is) = Items.functions is
+listed_items (elements.Expressions ty es) = Items.expressions (is_funcref ty) (ref_type_tree ty) (map expression_of es)
+
+-- functions behind their number, or expressions behind their type and their number
+abbrev pub elements_tree : Elements → Tree
+elements_tree row = items_of (listed_items row)
+
+-- how many functions or expressions
+abbrev pub elements_len : Elements → ℕ
+elements_len (elements.Functions is) = length is
+elements_len (elements.Expressions ty es) = length es
+
+-- a segment that is copied to a table, which may be left out, at an offset, by its operators
+abbrev pub active_tree : Option ℕ → List Tree → Elements → Tree
+active_tree table offset row = active_of table (expression_of offset) (listed_items row)
+
+abbrev pub passive_tree : Elements → Tree
+passive_tree row = passive_of (listed_items row)
+
+abbrev pub declared_tree : Elements → Tree
+declared_tree row = declared_of (listed_items row)
+
+-- ---- data
+
+-- a data segment that is placed in a memory, at the operators of its offset
+abbrev pub active_data_tree : ℕ → List Tree → List ℕ → Tree
+active_data_tree memory offset bytes = active_data_of memory (expression_of offset) bytes
 
 -- ---- sections that are no rows
 

@@ -51,13 +51,42 @@ impl RowOf<kinds::Functions> for u32 {
 }
 
 impl RowOf<kinds::Tables> for TableType {
-    ghost use Rattle.wasm_write.specs.Types.{table_type_tree};
+    ghost use Rattle.wasm_write.specs.Rows.{null_table_tree};
 
-    ghost tree = { table_type_tree };
+    ghost tree = { null_table_tree };
 
-    #[tactic(auto, using(crate::proofs::RowSpelling::table_type_spelled))]
+    #[tactic(auto, using(crate::proofs::RowSpelling::null_table_spelled))]
     fn write(&self, out: &mut Vec<u8>) -> Result<(), WriteFault> {
         match write_table_type(out, *self) {
+            Ok(()) => Ok(()),
+            Err(NoMemory) => Err(WriteFault::NoMemory),
+        }
+    }
+}
+
+/// A table and the expression of its first value.
+#[derive(Drop)]
+pub(crate) struct TableWithInit<'a> {
+    pub(crate) ty: TableType,
+    pub(crate) init: &'a ConstExpr,
+}
+
+impl<'a> RowOf<kinds::Tables> for TableWithInit<'a> {
+    ghost use Rattle.wasm_write.specs.Rows.{table_with_init_tree};
+
+    ghost tree = { λ row. table_with_init_tree row.ty row.init.now };
+
+    #[tactic(auto, using(crate::proofs::InitRows::table_with_init_spelled))]
+    fn write(&self, out: &mut Vec<u8>) -> Result<(), WriteFault> {
+        match out.extend_from_slice(&[0x40, 0x00]) {
+            Ok(()) => {}
+            Err(_) => return Err(WriteFault::NoMemory),
+        }
+        match write_table_type(out, self.ty) {
+            Ok(()) => {}
+            Err(NoMemory) => return Err(WriteFault::NoMemory),
+        }
+        match self.init.encode(out) {
             Ok(()) => Ok(()),
             Err(NoMemory) => Err(WriteFault::NoMemory),
         }

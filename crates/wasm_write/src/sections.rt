@@ -4,13 +4,13 @@ ghost use Rattle.wasm_shapes.specs.Types.{function_tree};
 ghost use Rattle.wasm_shapes.specs.Fits.{InRange};
 ghost use Rattle.wasm_write.specs.Counts.{counts, IsTooLarge};
 ghost use Rattle.wasm_write.specs.Faults.{IfTooLarge};
-ghost use Rattle.wasm_write.specs.Rows.{import_tree, global_tree, export_tree};
-ghost use Rattle.wasm_write.specs.Types.{group_tree, table_type_tree, memory_type_tree, tag_type_tree};
+ghost use Rattle.wasm_write.specs.Rows.{import_tree, null_table_tree, table_with_init_tree, global_tree, export_tree};
+ghost use Rattle.wasm_write.specs.Types.{group_tree, memory_type_tree, tag_type_tree};
 
 use crate::expressions::ConstExpr;
 use crate::fault::WriteFault;
 use crate::row_section::RowSection;
-use crate::rows::Global;
+use crate::rows::{Global, TableWithInit};
 use crate::types::{
     Export, ExportKind, GlobalType, Imports, MemoryType, RecGroup, TableType, TagType,
 };
@@ -77,7 +77,7 @@ impl RowSection<kinds::Functions> {
     }
 }
 
-/// A table section (WebAssembly Core Specification 3.0, section 5.5.7): tables that start with null references.
+/// A table section (WebAssembly Core Specification 3.0, section 5.5.7).
 pub type TableSection = RowSection<kinds::Tables>;
 
 impl RowSection<kinds::Tables> {
@@ -86,13 +86,29 @@ impl RowSection<kinds::Tables> {
     /// `TooLarge` comes exactly where the number of rows would pass 2^32 - 1, with that number.
     #[inline]
     pub fn table(&mut self, ty: TableType) -> Result<(), WriteFault>
-        ensures ok { OnOk result (self.new ≡ self.old ++ table_type_tree ty ∷ []) }
+        ensures ok { OnOk result (self.new ≡ self.old ++ null_table_tree ty ∷ []) }
         ensures fits { OnOk result (length self.old + 1 < 2 ^ 32) }
         ensures err { OnErr result (self.new ≡ self.old) }
         ensures large { IfErr result (λ e. IfTooLarge e
             (λ size. (size ≡ length self.old + 1) × (2 ^ 32 - 1 < size))) }
     {
         self.add(&ty)
+    }
+
+    /// Adds a table that starts with the value of an expression. A refusal changes nothing.
+    ///
+    /// `TooLarge` comes exactly where the number of rows would pass 2^32 - 1, with that number.
+    #[inline]
+    pub fn table_with_init(&mut self, ty: TableType, init: &ConstExpr) -> Result<(), WriteFault>
+        ensures ok { OnOk result (self.new ≡ self.old ++ table_with_init_tree ty init.now ∷ []) }
+        ensures fits { OnOk result (length self.old + 1 < 2 ^ 32) }
+        ensures err { OnErr result (self.new ≡ self.old) }
+        ensures large { IfErr result (λ e. IfTooLarge e
+            (λ size. (size ≡ length self.old + 1) × (2 ^ 32 - 1 < size))) }
+    {
+        // for what it says of the spelling of the expression
+        init.len();
+        self.add(&TableWithInit { ty, init })
     }
 }
 
