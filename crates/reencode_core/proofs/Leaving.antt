@@ -15,6 +15,10 @@ use Rattle.wasm_shapes.proofs.Rows.{rows_first}
 use Rattle.wasm_read.specs.declared.types.SubType as r
 use Rattle.wasm_read.specs.declared.types.ValType.{ValType}
 use Rattle.wasm_read.specs.declared.types.Export.{Export}
+use Rattle.wasm_read.specs.declared.types.TableType.{TableType}
+use Rattle.wasm_read.specs.declared.types.TableInit.{TableInit}
+use Rattle.wasm_read.specs.declared.types.TableInit.TheVariants as init
+use Rattle.wasm_read.specs.Expressions.{expr_tree}
 use Rattle.wasm_read.specs.Immediates as read_code
 use Rattle.wasm_read.specs.Operations.{Reading, rest_of, frame_row}
 use Rattle.wasm_read.specs.Reading.{Standing, CountRead, RowRead}
@@ -105,6 +109,13 @@ module _ {S E : Type 0} {asked : Asks S E} where
           let P : Tree → Type 0 = λ z. Visited asked s (visits z) m in
           let row : Visited asked s (visits f.0) m = subst P (sym g.1) (leaves g.0 g.2) in
           subst P (sym f.3) (first_visited (visits f.1) row)
+
+  -- ---- a table
+
+  -- its type was asked in part
+  pub table_leaves : {s m : S} (ty : TableType) (starts : TableInit) → Visited asked s (visits (read.table_type_tree ty)) m → Visited asked s (visits (read.table_parts starts ty)) m
+  table_leaves ty init.RefNull v = v
+  table_leaves ty (init.Expr e) v = first_visited (visits (expr_tree e)) v
 
   -- ---- an export
 

@@ -80,6 +80,12 @@ macro_rules! parse_section {
                 let mapped = $reencoder.parse_memory_section($alloc, &mut memories, rows);
                 add_section($module, mapped, &memories)
             }
+            SectionId::Global => {
+                let rows = r::GlobalSectionReader::new($body)?;
+                let mut globals = w::GlobalSection::new($alloc);
+                let mapped = $reencoder.parse_global_section($alloc, &mut globals, rows);
+                add_section($module, mapped, &globals)
+            }
             SectionId::Export => {
                 let rows = r::ExportSectionReader::new($body)?;
                 let mut exports = w::ExportSection::new($alloc);

@@ -9,7 +9,7 @@ ghost use Rattle.wasm_read.specs.Types as read;
 ghost use Rattle.wasm_write.specs.Types as write;
 ghost use Rattle.reencode_hooks.specs.Run.{LeavesVisited, ask};
 ghost use Rattle.reencode_items.specs.Maps.{Maps};
-ghost use Rattle.reencode_core.specs.Rows.{KeepsFront, GivesRow, GivesRows, GivesTable, LeavesTable};
+ghost use Rattle.reencode_core.specs.Rows.{KeepsFront, GivesRow, GivesRows};
 ghost use Rattle.reencode_core.specs.Bodies.{KeepsCode, GivesLocals, GivesBody};
 ghost use Rattle.reencode_core.specs.Sections.{KeepsModule, ReadsAs, GivesSection};
 ghost use Rattle.reencode_core.specs.Core.{GivesCore, GivesBytes};
@@ -156,8 +156,7 @@ pub trait Reencode: ReencodeItems {
         bodies::each_row!(section, alloc, row => self.parse_table(alloc, tables, row))
     }
 
-    /// Maps a table that starts with null references by `table_type`, and adds it. One that starts with the value of an
-    /// expression has no reading yet, and is refused as bytes without one are.
+    /// Maps a table by `table_type`, and the expression of its first value by `const_expr` where it has one, and adds it.
     fn parse_table(
         &mut self,
         alloc: Global,
@@ -166,13 +165,13 @@ pub trait Reencode: ReencodeItems {
     ) -> Result<(), Error<Self::Error>>
         ensures kept { KeepsFront tables.old tables.new }
         ensures default { IsTrue Self.keeps_defaults → (c : ℕ)
-            → GivesTable (ask Self.reply Self.next) c (self.old, tables.old) table.entry.ty
-            table.entry.init (self.new, tables.new) result }
+            → GivesRow (ask Self.reply Self.next) c (self.old, tables.old)
+            (read.table_tree table.entry) (self.new, tables.new) result }
         ensures after_error { IsTrue Self.keeps_defaults → IsTrue Self.sure
-            → LeavesTable (ask Self.reply Self.next) self.old table.entry.ty table.entry.init
-            self.new result }
+            → LeavesVisited (ask Self.reply Self.next) self.old
+            (visits (read.table_tree table.entry)) self.new result }
     {
-        shared::parse_table(self, tables, table)
+        shared::parse_table(self, alloc, tables, table)
     }
 
     /// Maps the rows that the reader still has, each by `memory_type`, and adds each row once it is mapped.
@@ -191,6 +190,42 @@ pub trait Reencode: ReencodeItems {
             self.old self.new result }
     {
         mapped::map_section(self, alloc, memories, section)
+    }
+
+    /// Maps the rows that the reader still has, each by `parse_global`.
+    fn parse_global_section(
+        &mut self,
+        alloc: Global,
+        globals: &mut w::GlobalSection,
+        section: r::GlobalSectionReader<'_>,
+    ) -> Result<(), Error<Self::Error>>
+        ensures kept { KeepsFront globals.old globals.new }
+        ensures default { IsTrue Self.keeps_defaults → (c : ℕ)
+            → GivesRows (ask Self.reply Self.next) c (row_of kinds.Global) section.entry
+            (self.old, globals.old) (self.new, globals.new) result }
+        ensures after_error { IsTrue Self.keeps_defaults → IsTrue Self.sure
+            → LeavesReading (RowsOf (row_of kinds.Global) section.entry) (ask Self.reply Self.next)
+            self.old self.new result }
+    {
+        bodies::each_row!(section, alloc, row => self.parse_global(alloc, globals, row))
+    }
+
+    /// Maps a global by `global_type`, the expression of its first value by `const_expr`, and adds it.
+    fn parse_global(
+        &mut self,
+        alloc: Global,
+        globals: &mut w::GlobalSection,
+        global: r::Global<'_>,
+    ) -> Result<(), Error<Self::Error>>
+        ensures kept { KeepsFront globals.old globals.new }
+        ensures default { IsTrue Self.keeps_defaults → (c : ℕ)
+            → GivesRow (ask Self.reply Self.next) c (self.old, globals.old)
+            (read.global_tree global.entry) (self.new, globals.new) result }
+        ensures after_error { IsTrue Self.keeps_defaults → IsTrue Self.sure
+            → LeavesVisited (ask Self.reply Self.next) self.old
+            (visits (read.global_tree global.entry)) self.new result }
+    {
+        shared::parse_global(self, alloc, globals, global)
     }
 
     /// Maps the rows that the reader still has, each by `tag_type`, and adds each row once it is mapped.

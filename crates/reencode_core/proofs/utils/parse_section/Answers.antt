@@ -33,6 +33,12 @@ returns-in_err-rows-in-Memory g c = section_unread g.T.ReencodeIndices c.in-Memo
 pub returns-in_ok-rows-in-Memory : goal.returns-in_ok-rows-in-Memory
 returns-in_ok-rows-in-Memory g c = section_done g.T.ReencodeIndices c.in-Memory.is refl _ _ c.new-memories.ensures c.in_ok-rows-in-Memory.ensures.ok c.parse_memory_section-mapped.ensures c.add_section-in-Memory.ensures
 
+pub returns-in_err-rows-in-Global : goal.returns-in_err-rows-in-Global
+returns-in_err-rows-in-Global g c = section_unread g.T.ReencodeIndices c.in-Global.is refl _ c.in_err-rows-in-Global.ensures.err _ c.from_residual-in_err-rows-in-Global.ensures.1
+
+pub returns-in_ok-rows-in-Global : goal.returns-in_ok-rows-in-Global
+returns-in_ok-rows-in-Global g c = section_done g.T.ReencodeIndices c.in-Global.is refl _ _ c.new-globals.ensures c.in_ok-rows-in-Global.ensures.ok c.parse_global_section-mapped.ensures c.add_section-in-Global.ensures
+
 pub returns-in_err-rows-in-Export : goal.returns-in_err-rows-in-Export
 returns-in_err-rows-in-Export g c = section_unread g.T.ReencodeIndices c.in-Export.is refl _ c.in_err-rows-in-Export.ensures.err _ c.from_residual-in_err-rows-in-Export.ensures.1
 
@@ -54,4 +60,4 @@ returns-in_ok-rows-in-Tag g c = section_done g.T.ReencodeIndices c.in-Tag.is ref
 pub returns-in_default : goal.returns-in_default
 returns-in_default g c =
     let o = c.in_default in
-    section_unknown g.T.ReencodeIndices (not_in_force _ (o.not-Type_, (o.not-Import, (o.not-Function, (o.not-Table, (o.not-Memory, (o.not-Export, (o.not-Code, (o.not-Tag, tt)))))))))
+    section_unknown g.T.ReencodeIndices (not_in_force _ (o.not-Type_, (o.not-Import, (o.not-Function, (o.not-Table, (o.not-Memory, (o.not-Global, (o.not-Export, (o.not-Code, (o.not-Tag, tt))))))))))
