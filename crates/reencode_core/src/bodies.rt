@@ -92,11 +92,21 @@ macro_rules! parse_section {
                 let mapped = $reencoder.parse_export_section($alloc, &mut exports, rows);
                 add_section($module, mapped, &exports)
             }
+            SectionId::Start => {
+                let item = one_item($body)?;
+                let function_index = $reencoder.start_section(item)?;
+                add_section($module, Ok(()), &w::StartSection { function_index })
+            }
             SectionId::Code => {
                 let rows = r::CodeSectionReader::new($body)?;
                 let mut code = w::CodeSection::new($alloc, $module.ceiling());
                 let mapped = $reencoder.parse_code_section($alloc, &mut code, rows);
                 add_section($module, mapped, &code)
+            }
+            SectionId::DataCount => {
+                let item = one_item($body)?;
+                let count = $reencoder.data_count(item)?;
+                add_section($module, Ok(()), &w::DataCountSection { count })
             }
             SectionId::Tag => {
                 let rows = r::TagSectionReader::new($body)?;

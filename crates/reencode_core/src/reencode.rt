@@ -6,8 +6,9 @@ ghost use Rattle.wasm_shapes.specs.Spells.{Spells};
 ghost use Rattle.wasm_shapes.specs.Tree.{visits};
 ghost use Rattle.wasm_read.specs.declared.types.Imports.TheVariants as imported;
 ghost use Rattle.wasm_read.specs.Types as read;
+ghost use Rattle.wasm_write.specs.Rows.{start_tree};
 ghost use Rattle.wasm_write.specs.Types as write;
-ghost use Rattle.reencode_hooks.specs.Run.{LeavesVisited, ask};
+ghost use Rattle.reencode_hooks.specs.Run.{LeavesVisited, NeverWants, ask};
 ghost use Rattle.reencode_items.specs.Maps.{Maps};
 ghost use Rattle.reencode_core.specs.Rows.{KeepsFront, GivesRow, GivesRows};
 ghost use Rattle.reencode_core.specs.Bodies.{KeepsCode, GivesLocals, GivesBody};
@@ -16,7 +17,7 @@ ghost use Rattle.reencode_core.specs.Core.{GivesCore, GivesBytes};
 ghost use Rattle.reencode_core.specs.Leaves.{BodyOf, LeavesReading, LocalsOf, RowsOf};
 
 use crate::errors::placed;
-use crate::sections::add_section;
+use crate::sections::{add_section, one_item};
 use crate::{bodies, mapped, shared};
 use reencode_hooks::Error;
 use reencode_items::ReencodeItems;
@@ -279,6 +280,16 @@ pub trait Reencode: ReencodeItems {
             (visits (read.export_tree export.entry)) self.new result }
     {
         shared::parse_export(self, exports, export)
+    }
+
+    /// The index of the function that starts the module, by `function_index` (WebAssembly Core Specification 3.0, section
+    /// 5.5.11). Memory is never wanting where no hook wants any.
+    fn start_section(&mut self, start: u32) -> Result<u32, Error<Self::Error>>
+        ensures default { IsTrue Self.keeps_defaults
+            → Maps Self.reply Self.next self.old (start_tree start) start_tree self.new result }
+        ensures sure { IsTrue Self.keeps_defaults → NeverWants Self.sure result }
+    {
+        self.function_index(start)
     }
 
     /// Maps the rows that the reader still has, each by `parse_function_body`. A `ParseError` holds the place of the row in

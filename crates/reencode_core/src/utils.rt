@@ -16,7 +16,7 @@ ghost use Rattle.reencode_core.specs.Leaves.{BodyOf, LeavesReading, LocalsOf, Ro
 
 use crate::errors::placed;
 use crate::reencode::Reencode;
-use crate::sections::add_section;
+use crate::sections::{add_section, one_item};
 use crate::{bodies, mapped, shared};
 use reencode_hooks::Error;
 use std::alloc::Global;
