@@ -69,22 +69,32 @@ fn add_end(text: &mut String, operators: &OperatorsReader<'_>) -> Result<(), All
     }
 }
 
+/// Adds operators up to the first refusal.
+pub fn add_operators(
+    alloc: Global,
+    text: &mut String,
+    operators: OperatorsReader<'_>,
+) -> Result<(), AllocError> {
+    let mut operators = operators;
+    'operators: for _ in 0..u64::MAX {
+        add_word(text, "|")?;
+        add_end(text, &operators)?;
+        match operators.read(alloc) {
+            Ok(operator) => add_operator(text, operator)?,
+            Err(fault) => {
+                add_refusal(alloc, text, fault)?;
+                break 'operators;
+            }
+        }
+    }
+    Ok(())
+}
+
 /// The locals of a body, and its operators up to the first refusal.
 pub fn body(alloc: Global, bytes: &[u8]) -> Result<String, Stop> {
     let body = FunctionBody { bytes };
     let mut text = String::new(alloc);
     add(&mut text, &body.locals(alloc)?.as_slice())?;
-    let mut operators = body.operators()?;
-    'operators: for _ in 0..u64::MAX {
-        add_word(&mut text, "|")?;
-        add_end(&mut text, &operators)?;
-        match operators.read(alloc) {
-            Ok(operator) => add_operator(&mut text, operator)?,
-            Err(fault) => {
-                add_refusal(alloc, &mut text, fault)?;
-                break 'operators;
-            }
-        }
-    }
+    add_operators(alloc, &mut text, body.operators()?)?;
     Ok(text)
 }

@@ -1,10 +1,10 @@
 //! The parts of a module.
-use crate::bodies::body;
+use crate::bodies::{add_operators, body};
 use crate::groups::group;
 use crate::numbers::found;
 use crate::stop::Stop;
 use std::alloc::Global;
-use wasm_read::{front_name, read_item, read_name, read_type_ref, read_val_type};
+use wasm_read::{ConstExpr, front_name, read_item, read_name, read_type_ref, read_val_type};
 
 /// What a reader of a part of a module gives.
 pub fn answer(alloc: Global, call: &str, bytes: &[u8], at: usize) -> Result<Option<String>, Stop> {
@@ -27,6 +27,15 @@ pub fn answer(alloc: Global, call: &str, bytes: &[u8], at: usize) -> Result<Opti
         }
         "read_group" => Ok(Some(group(alloc, bytes, at)?)),
         "body" => Ok(Some(body(alloc, bytes)?)),
+        "expression" => {
+            let mut text = String::new(alloc);
+            add_operators(
+                alloc,
+                &mut text,
+                ConstExpr::new(bytes)?.get_operators_reader(),
+            )?;
+            Ok(Some(text))
+        }
         _ => Ok(None),
     }
 }

@@ -1,12 +1,13 @@
 //! The frames of a module, and the rows of sections.
+use crate::bodies::add_operators;
 use crate::groups::add_group;
 use crate::stop::Stop;
 use crate::text::{add, add_bytes, add_place, add_refusal, add_word};
 use std::alloc::{AllocError, Global};
 use wasm_read::{
-    CodeSectionReader, ExportSectionReader, FunctionSectionReader, ImportSectionReader,
-    MemorySectionReader, Payload, Payloads, Table, TableInit, TableSectionReader, TagSectionReader,
-    TypeSectionReader,
+    CodeSectionReader, ExportSectionReader, FunctionSectionReader, GlobalSectionReader,
+    ImportSectionReader, MemorySectionReader, Payload, Payloads, Table, TableInit,
+    TableSectionReader, TagSectionReader, TypeSectionReader,
 };
 
 /// Adds the place and the bytes of a frame.
@@ -58,22 +59,35 @@ fn payloads(alloc: Global, bytes: &[u8]) -> Result<String, Stop> {
 }
 
 /// Adds a table and what it starts with.
-fn add_table(text: &mut String, table: &Table<'_>) -> Result<(), AllocError> {
+fn add_table(alloc: Global, text: &mut String, table: &Table<'_>) -> Result<(), AllocError> {
     add(text, &table.ty)?;
-    match table.init {
+    match &table.init {
         TableInit::RefNull => Ok(()),
-        TableInit::Expr(_) => add_word(text, "with an expression"),
+        TableInit::Expr(expr) => add_operators(alloc, text, expr.get_operators_reader()),
     }
+}
+
+/// Adds a global and what it starts with.
+fn add_global(
+    alloc: Global,
+    text: &mut String,
+    global: &wasm_read::Global<'_>,
+) -> Result<(), AllocError> {
+    add(text, &global.ty)?;
+    add_operators(alloc, text, global.init_expr.get_operators_reader())
 }
 
 /// The rows of a section with the place after each, up to the end or the first refusal.
 macro_rules! rows {
-    ($alloc:ident, $reader:ident, $bytes:ident, $add:ident) => {{
+    ($alloc:ident, $reader:ident, $bytes:ident, $text:ident, $row:ident => $step:expr) => {{
         let mut rows = $reader::new($bytes)?;
         let mut text = String::new($alloc);
         'rows: for _ in 0..u64::MAX {
             match rows.next_row($alloc) {
-                Ok(Some(row)) => $add(&mut text, &row)?,
+                Ok(Some(row)) => {
+                    let ($text, $row) = (&mut text, &row);
+                    $step?;
+                }
                 Ok(None) => {
                     add_word(&mut text, "end")?;
                     break 'rows;
@@ -94,14 +108,18 @@ macro_rules! rows {
 pub fn answer(alloc: Global, call: &str, bytes: &[u8]) -> Result<Option<String>, Stop> {
     match call {
         "payloads" => Ok(Some(payloads(alloc, bytes)?)),
-        "types" => rows!(alloc, TypeSectionReader, bytes, add_group),
-        "imports" => rows!(alloc, ImportSectionReader, bytes, add),
-        "functions" => rows!(alloc, FunctionSectionReader, bytes, add),
-        "tables" => rows!(alloc, TableSectionReader, bytes, add_table),
-        "memories" => rows!(alloc, MemorySectionReader, bytes, add),
-        "tags" => rows!(alloc, TagSectionReader, bytes, add),
-        "exports" => rows!(alloc, ExportSectionReader, bytes, add),
-        "code" => rows!(alloc, CodeSectionReader, bytes, add),
+        "types" => rows!(alloc, TypeSectionReader, bytes, text, row => add_group(text, row)),
+        "imports" => rows!(alloc, ImportSectionReader, bytes, text, row => add(text, row)),
+        "functions" => rows!(alloc, FunctionSectionReader, bytes, text, row => add(text, row)),
+        "tables" =>
+            rows!(alloc, TableSectionReader, bytes, text, row => add_table(alloc, text, row)),
+        "memories" => rows!(alloc, MemorySectionReader, bytes, text, row => add(text, row)),
+        "globals" => {
+            rows!(alloc, GlobalSectionReader, bytes, text, row => add_global(alloc, text, row))
+        }
+        "exports" => rows!(alloc, ExportSectionReader, bytes, text, row => add(text, row)),
+        "code" => rows!(alloc, CodeSectionReader, bytes, text, row => add(text, row)),
+        "tags" => rows!(alloc, TagSectionReader, bytes, text, row => add(text, row)),
         _ => Ok(None),
     }
 }

@@ -64,7 +64,15 @@ fn imports<R: Reencode>(
     Ok(())
 }
 
-/// The section `01 64 00 00 01` of tables, and another row of it.
+const FUNCREF: r::RefType = r::RefType {
+    nullable: true,
+    heap_type: r::HeapType::Abstract {
+        shared: false,
+        ty: r::AbstractHeapType::Func,
+    },
+};
+
+/// The section `01 64 00 00 01` of tables, and another row of it, which starts with the value of an expression.
 fn tables<R: Reencode>(
     reencoder: &mut R,
     alloc: Global,
@@ -75,19 +83,13 @@ fn tables<R: Reencode>(
     utils::parse_table_section(reencoder, alloc, &mut tables, rows)?;
     let table = r::Table {
         ty: r::TableType {
-            element_type: r::RefType {
-                nullable: true,
-                heap_type: r::HeapType::Abstract {
-                    shared: false,
-                    ty: r::AbstractHeapType::Func,
-                },
-            },
+            element_type: FUNCREF,
             table64: false,
             initial: 2,
             maximum: None,
             shared: false,
         },
-        init: r::TableInit::RefNull,
+        init: r::TableInit::Expr(r::ConstExpr::new(&[0xd2, 0x00, 0x0b])?),
     };
     utils::parse_table(reencoder, alloc, &mut tables, table)?;
     module.section(&tables)?;
@@ -109,6 +111,27 @@ fn memories_and_tags<R: Reencode>(
     utils::parse_tag_section(reencoder, alloc, &mut tags, rows)?;
     module.section(&tags)?;
     Ok(())
+}
+
+/// The section `01 70 00 d0 70 0b` of globals, and another row of it.
+fn globals<R: Reencode>(
+    reencoder: &mut R,
+    alloc: Global,
+    module: &mut w::Module,
+) -> Result<(), Error<R::Error>> {
+    let mut globals = w::GlobalSection::new(alloc);
+    let rows = r::GlobalSectionReader::new(&[0x01, 0x70, 0x00, 0xd0, 0x70, 0x0b])?;
+    utils::parse_global_section(reencoder, alloc, &mut globals, rows)?;
+    let global = r::Global {
+        ty: r::GlobalType {
+            content_type: r::ValType::Ref(FUNCREF),
+            mutable: true,
+            shared: false,
+        },
+        init_expr: r::ConstExpr::new(&[0xd2, 0x00, 0x0b])?,
+    };
+    utils::parse_global(reencoder, alloc, &mut globals, global)?;
+    Ok(module.section(&globals)?)
 }
 
 /// The section `01 04 00 10 00 0b` of code, and another row of it.
@@ -160,6 +183,7 @@ fn module_of_imports<R: Reencode>(
     imports(reencoder, alloc, &mut module)?;
     tables(reencoder, alloc, &mut module)?;
     memories_and_tags(reencoder, alloc, &mut module)?;
+    globals(reencoder, alloc, &mut module)?;
     Ok(module)
 }
 
@@ -206,8 +230,9 @@ fn functions_map_imports(rt: HostRuntime) -> Result<(), Error<Unmapped>> {
     let expected = [
         0x00, 0x61, 0x73, 0x6d, 0x01, 0x00, 0x00, 0x00, 0x02, 0x16, 0x04, 0x01, 0x61, 0x01, 0x62,
         0x20, 0x05, 0x00, 0x01, 0x63, 0x00, 0x05, 0x00, 0x01, 0x63, 0x00, 0x05, 0x00, 0x01, 0x63,
-        0x00, 0x05, 0x04, 0x08, 0x02, 0x64, 0x05, 0x00, 0x01, 0x70, 0x00, 0x02, 0x05, 0x04, 0x01,
-        0x01, 0x01, 0x02, 0x0d, 0x03, 0x01, 0x00, 0x05,
+        0x00, 0x05, 0x04, 0x0d, 0x02, 0x64, 0x05, 0x00, 0x01, 0x40, 0x00, 0x70, 0x00, 0x02, 0xd2,
+        0x07, 0x0b, 0x05, 0x04, 0x01, 0x01, 0x01, 0x02, 0x0d, 0x03, 0x01, 0x00, 0x05, 0x06, 0x0b,
+        0x02, 0x70, 0x00, 0xd0, 0x70, 0x0b, 0x70, 0x01, 0xd2, 0x07, 0x0b,
     ];
     let module = module_of_imports(&mut renamer, rt.alloc())?;
     assert_eq!(rt; module.as_slice(), expected.as_slice());

@@ -196,7 +196,7 @@ const MEMORY: MemoryType = MemoryType {
     page_size_log2: Some(0),
 };
 
-/// An import, and a table.
+/// An import, and two tables, of which the second starts with the value of an expression.
 fn add_imports(alloc: Global, module: &mut Module) -> Made<()> {
     let mut imports = ImportSection::new(alloc);
     imports.imports(&Imports::Single(Import {
@@ -207,10 +207,11 @@ fn add_imports(alloc: Global, module: &mut Module) -> Made<()> {
     module.section(&imports)?;
     let mut tables = TableSection::new(alloc);
     tables.table(TABLE)?;
+    tables.table_with_init(TABLE, &ConstExpr::new(alloc))?;
     Ok(module.section(&tables)?)
 }
 
-/// An import, a table, a memory and a tag.
+/// An import, two tables, a memory and a tag.
 fn external_module(alloc: Global) -> Made<Module> {
     let mut module = Module::new(alloc, u32::MAX)?;
     add_imports(alloc, &mut module)?;
@@ -230,8 +231,9 @@ fn external_module(alloc: Global) -> Made<Module> {
 fn external_types(rt: HostRuntime) -> Made<()> {
     let want = [
         0x00u8, 0x61, 0x73, 0x6d, 0x01, 0x00, 0x00, 0x00, 0x02, 0x06, 0x01, 0x01, 0x6d, 0x00, 0x20,
-        0x01, 0x04, 0x09, 0x01, 0x63, 0x03, 0x04, 0x80, 0x80, 0x80, 0x80, 0x10, 0x05, 0x06, 0x01,
-        0x0b, 0x01, 0xc8, 0x01, 0x00, 0x0d, 0x04, 0x01, 0x00, 0x80, 0x01,
+        0x01, 0x04, 0x14, 0x02, 0x63, 0x03, 0x04, 0x80, 0x80, 0x80, 0x80, 0x10, 0x40, 0x00, 0x63,
+        0x03, 0x04, 0x80, 0x80, 0x80, 0x80, 0x10, 0x0b, 0x05, 0x06, 0x01, 0x0b, 0x01, 0xc8, 0x01,
+        0x00, 0x0d, 0x04, 0x01, 0x00, 0x80, 0x01,
     ];
     assert_eq!(rt; external_module(rt.alloc())?.as_slice(), want.as_slice());
     Ok(())

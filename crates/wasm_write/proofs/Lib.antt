@@ -12,3 +12,4 @@ pub mod InstructionShapes
 pub mod HoldingBodies
 pub mod SmallCounts
 pub mod InitRows
+pub mod DataRows

@@ -34,8 +34,8 @@ pub use names::{IndirectNameMap, NameMap};
 pub use row_section::{RowOf, RowSection};
 pub use section::Section;
 pub use sections::{
-    ExportSection, FunctionSection, GlobalSection, ImportSection, MemorySection, TableSection,
-    TagSection, TypeSection,
+    DataSection, ExportSection, FunctionSection, GlobalSection, ImportSection, MemorySection,
+    TableSection, TagSection, TypeSection,
 };
 pub use types::{
     AbstractHeapType, ArrayType, BlockType, Catch, CompositeInnerType, CompositeType, ContType,
