@@ -84,4 +84,4 @@ returns-in_ok-rows-in-Tag g c = section_done g.Self.ReencodeIndices c.in-Tag.is 
 pub returns-in_default : goal.returns-in_default
 returns-in_default g c =
     let o = c.in_default in
-    section_unknown g.Self.ReencodeIndices (not_in_force _ (o.not-Type_, (o.not-Import, (o.not-Function, (o.not-Table, (o.not-Memory, (o.not-Global, (o.not-Export, (o.not-Code, (o.not-Tag, tt))))))))))
+    section_unknown g.Self.ReencodeIndices (not_in_force _ (o.not-Type_, (o.not-Import, (o.not-Function, (o.not-Table, (o.not-Memory, (o.not-Global, (o.not-Export, (o.not-Start, (o.not-Element, (o.not-Code, (o.not-Data, (o.not-DataCount, (o.not-Tag, tt))))))))))))))
