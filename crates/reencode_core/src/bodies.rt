@@ -14,6 +14,34 @@ macro_rules! each_row {
 
 pub(crate) use each_row;
 
+macro_rules! parse_element {
+    ($reencoder:ident, $alloc:ident, $elements:ident, $element:ident) => {{
+        let items = $reencoder.element_items($alloc, $element.items)?;
+        match $element.kind {
+            r::ElementKind::Active {
+                table_index,
+                offset_expr,
+            } => {
+                let answer = $reencoder.table_index(shared::asked_table(table_index))?;
+                let offset = $reencoder.const_expr($alloc, offset_expr)?;
+                let table = shared::answered_table(table_index, answer);
+                $elements.active(table, &offset, &items)?;
+                Ok(())
+            }
+            r::ElementKind::Passive => {
+                $elements.passive(&items)?;
+                Ok(())
+            }
+            r::ElementKind::Declared => {
+                $elements.declared(&items)?;
+                Ok(())
+            }
+        }
+    }};
+}
+
+pub(crate) use parse_element;
+
 macro_rules! parse_code_section {
     ($reencoder:ident, $alloc:ident, $code:ident, $section:ident) => {{
         let mut rows = $section;
@@ -96,6 +124,12 @@ macro_rules! parse_section {
                 let item = one_item($body)?;
                 let function_index = $reencoder.start_section(item)?;
                 add_section($module, Ok(()), &w::StartSection { function_index })
+            }
+            SectionId::Element => {
+                let rows = r::ElementSectionReader::new($body)?;
+                let mut elements = w::ElementSection::new($alloc);
+                let mapped = $reencoder.parse_element_section($alloc, &mut elements, rows);
+                add_section($module, mapped, &elements)
             }
             SectionId::Code => {
                 let rows = r::CodeSectionReader::new($body)?;

@@ -7,6 +7,7 @@ ghost use Rattle.wasm_shapes.specs.Tree.{visits};
 ghost use Rattle.wasm_read.specs.declared.types.Imports.TheVariants as imported;
 ghost use Rattle.wasm_read.specs.Types as read;
 ghost use Rattle.wasm_write.specs.Rows.{start_tree};
+ghost use Rattle.wasm_write.specs.Rows.{elements_tree};
 ghost use Rattle.wasm_write.specs.Types as write;
 ghost use Rattle.reencode_hooks.specs.Run.{LeavesVisited, NeverWants, ask};
 ghost use Rattle.reencode_items.specs.Maps.{Maps};
@@ -290,6 +291,61 @@ pub trait Reencode: ReencodeItems {
         ensures sure { IsTrue Self.keeps_defaults → NeverWants Self.sure result }
     {
         self.function_index(start)
+    }
+
+    /// Maps the rows that the reader still has, each by `parse_element`.
+    fn parse_element_section(
+        &mut self,
+        alloc: Global,
+        elements: &mut w::ElementSection,
+        section: r::ElementSectionReader<'_>,
+    ) -> Result<(), Error<Self::Error>>
+        ensures kept { KeepsFront elements.old elements.new }
+        ensures default { IsTrue Self.keeps_defaults → (c : ℕ)
+            → GivesRows (ask Self.reply Self.next) c (row_of kinds.Element) section.entry
+            (self.old, elements.old) (self.new, elements.new) result }
+        ensures after_error { IsTrue Self.keeps_defaults → IsTrue Self.sure
+            → LeavesReading (RowsOf (row_of kinds.Element) section.entry) (ask Self.reply Self.next)
+            self.old self.new result }
+    {
+        bodies::each_row!(section, alloc, row => self.parse_element(alloc, elements, row))
+    }
+
+    /// Maps an element segment, and adds it: what it lists by `element_items`, then its table by `table_index` and its
+    /// offset by `const_expr`. A table that is left out is asked for as the first one, and stays left out where the answer
+    /// is 0.
+    fn parse_element(
+        &mut self,
+        alloc: Global,
+        elements: &mut w::ElementSection,
+        element: r::Element<'_>,
+    ) -> Result<(), Error<Self::Error>>
+        ensures kept { KeepsFront elements.old elements.new }
+        ensures default { IsTrue Self.keeps_defaults → (c : ℕ)
+            → GivesRow (ask Self.reply Self.next) c (self.old, elements.old)
+            (read.element_tree element.entry) (self.new, elements.new) result }
+        ensures after_error { IsTrue Self.keeps_defaults → IsTrue Self.sure
+            → LeavesVisited (ask Self.reply Self.next) self.old
+            (visits (read.element_tree element.entry)) self.new result }
+    {
+        bodies::parse_element!(self, alloc, elements, element)
+    }
+
+    /// Maps what an element segment lists: functions each by `function_index`, or expressions each by `const_expr` and
+    /// then their type by `ref_type`.
+    fn element_items(
+        &mut self,
+        alloc: Global,
+        items: r::ElementItems<'_>,
+    ) -> Result<w::Elements, Error<Self::Error>>
+        ensures default { IsTrue Self.keeps_defaults
+            → Maps Self.reply Self.next self.old (read.element_items_tree items.entry)
+            elements_tree self.new result }
+        ensures after_error { IsTrue Self.keeps_defaults → IsTrue Self.sure
+            → LeavesVisited (ask Self.reply Self.next) self.old
+            (visits (read.element_items_tree items.entry)) self.new result }
+    {
+        shared::element_items(self, alloc, items)
     }
 
     /// Maps the rows that the reader still has, each by `parse_function_body`. A `ParseError` holds the place of the row in

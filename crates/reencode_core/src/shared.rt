@@ -5,6 +5,7 @@ ghost use Rattle.wasm_shapes.specs.Module.{CoreReading, row_of};
 ghost use Rattle.wasm_shapes.specs.Tree.{visits};
 ghost use Rattle.wasm_read.specs.declared.types.Imports.TheVariants as imported;
 ghost use Rattle.wasm_read.specs.Types as read;
+ghost use Rattle.wasm_write.specs.Rows.{elements_tree};
 ghost use Rattle.wasm_write.specs.Types as write;
 ghost use Rattle.reencode_hooks.specs.Run.{LeavesVisited, ask};
 ghost use Rattle.reencode_items.specs.Maps.{Maps};
@@ -12,9 +13,11 @@ ghost use Rattle.reencode_core.specs.Rows.{KeepsFront, GivesRow, GivesRows};
 ghost use Rattle.reencode_core.specs.Bodies.{KeepsCode, GivesLocals, GivesBody};
 ghost use Rattle.reencode_core.specs.Sections.{KeepsModule, ReadsAs, GivesSection};
 ghost use Rattle.reencode_core.specs.Core.{GivesCore};
+ghost use Rattle.reencode_core.specs.Elements.{answered_table, asked_table};
 ghost use Rattle.reencode_core.specs.Leaves.{BodyOf, LeavesReading, LocalsOf, RowsOf};
 
 use crate::imports::single;
+use crate::lists::map_items;
 use reencode_hooks::Error;
 use reencode_items::ReencodeItems;
 use std::alloc::Global;
@@ -172,6 +175,55 @@ pub(crate) fn parse_data<T: ReencodeItems>(
             segments.passive(contents)?;
             Ok(())
         }
+    }
+}
+
+/// Maps what an element segment lists: functions each by `function_index`, or expressions each by `const_expr` and then
+/// their type by `ref_type`.
+pub(crate) fn element_items<T: ReencodeItems>(
+    reencoder: &mut T,
+    alloc: Global,
+    items: r::ElementItems<'_>,
+) -> Result<w::Elements, Error<T::Error>>
+    ensures default { IsTrue T.keeps_defaults
+        → Maps T.reply T.next reencoder.old (read.element_items_tree items.entry) elements_tree
+        reencoder.new result }
+    ensures after_error { IsTrue T.keeps_defaults → IsTrue T.sure
+        → LeavesVisited (ask T.reply T.next) reencoder.old
+        (visits (read.element_items_tree items.entry)) reencoder.new result }
+{
+    match items {
+        r::ElementItems::Functions(functions) => {
+            let functions = map_items(reencoder, alloc, functions)?;
+            Ok(w::Elements::Functions(functions))
+        }
+        r::ElementItems::Expressions(ty, expressions) => {
+            let expressions = map_items(reencoder, alloc, expressions)?;
+            let ty = reencoder.ref_type(ty)?;
+            Ok(w::Elements::Expressions(ty, expressions))
+        }
+    }
+}
+
+/// The table that is asked for where an element segment goes: the first, where it is left out.
+#[inline]
+pub(crate) fn asked_table(table_index: Option<u32>) -> u32
+    ensures { result ≡ asked_table table_index }
+{
+    match table_index {
+        Some(index) => index,
+        None => 0,
+    }
+}
+
+/// The table of an element segment by its answer: one that was left out and is answered 0 stays left out.
+#[inline]
+pub(crate) fn answered_table(table_index: Option<u32>, answer: u32) -> Option<u32>
+    ensures { result ≡ answered_table table_index answer }
+{
+    match table_index {
+        None => { if answer == 0 { None } else { Some(answer) } }
+        Some(_) => Some(answer),
     }
 }
 

@@ -5,6 +5,7 @@ ghost use Rattle.wasm_shapes.specs.Module.{CoreReading, row_of};
 ghost use Rattle.wasm_shapes.specs.Tree.{visits};
 ghost use Rattle.wasm_read.specs.declared.types.Imports.TheVariants as imported;
 ghost use Rattle.wasm_read.specs.Types as read;
+ghost use Rattle.wasm_write.specs.Rows.{elements_tree};
 ghost use Rattle.wasm_write.specs.Types as write;
 ghost use Rattle.reencode_hooks.specs.Run.{LeavesVisited, ask};
 ghost use Rattle.reencode_items.specs.Maps.{Maps};
@@ -272,6 +273,61 @@ pub fn parse_export<T: Reencode>(
         reencoder.new result }
 {
     shared::parse_export(reencoder, exports, export)
+}
+
+/// Maps the rows that the reader still has, each by `parse_element`.
+pub fn parse_element_section<T: Reencode>(
+    reencoder: &mut T,
+    alloc: Global,
+    elements: &mut w::ElementSection,
+    section: r::ElementSectionReader<'_>,
+) -> Result<(), Error<T::Error>>
+    ensures kept { KeepsFront elements.old elements.new }
+    ensures default { IsTrue T.keeps_defaults → (c : ℕ)
+        → GivesRows (ask T.reply T.next) c (row_of kinds.Element) section.entry
+        (reencoder.old, elements.old) (reencoder.new, elements.new) result }
+    ensures after_error { IsTrue T.keeps_defaults → IsTrue T.sure
+        → LeavesReading (RowsOf (row_of kinds.Element) section.entry) (ask T.reply T.next)
+        reencoder.old reencoder.new result }
+{
+    bodies::each_row!(section, alloc, row => reencoder.parse_element(alloc, elements, row))
+}
+
+/// Maps an element segment, and adds it: what it lists by `element_items`, then its table by `table_index` and its
+/// offset by `const_expr`. A table that is left out is asked for as the first one, and stays left out where the answer
+/// is 0.
+pub fn parse_element<T: Reencode>(
+    reencoder: &mut T,
+    alloc: Global,
+    elements: &mut w::ElementSection,
+    element: r::Element<'_>,
+) -> Result<(), Error<T::Error>>
+    ensures kept { KeepsFront elements.old elements.new }
+    ensures default { IsTrue T.keeps_defaults → (c : ℕ)
+        → GivesRow (ask T.reply T.next) c (reencoder.old, elements.old)
+        (read.element_tree element.entry) (reencoder.new, elements.new) result }
+    ensures after_error { IsTrue T.keeps_defaults → IsTrue T.sure
+        → LeavesVisited (ask T.reply T.next) reencoder.old
+        (visits (read.element_tree element.entry)) reencoder.new result }
+{
+    bodies::parse_element!(reencoder, alloc, elements, element)
+}
+
+/// Maps what an element segment lists: functions each by `function_index`, or expressions each by `const_expr` and
+/// then their type by `ref_type`.
+pub fn element_items<T: Reencode>(
+    reencoder: &mut T,
+    alloc: Global,
+    items: r::ElementItems<'_>,
+) -> Result<w::Elements, Error<T::Error>>
+    ensures default { IsTrue T.keeps_defaults
+        → Maps T.reply T.next reencoder.old (read.element_items_tree items.entry)
+        elements_tree reencoder.new result }
+    ensures after_error { IsTrue T.keeps_defaults → IsTrue T.sure
+        → LeavesVisited (ask T.reply T.next) reencoder.old
+        (visits (read.element_items_tree items.entry)) reencoder.new result }
+{
+    shared::element_items(reencoder, alloc, items)
 }
 
 /// Maps the rows that the reader still has, each by `parse_function_body`. A `ParseError` holds the place of the row in

@@ -54,6 +54,12 @@ returns-in_err-function_index-in-Start g c = item_refused g.T.ReencodeIndices c.
 pub returns-in_ok-function_index-in-Start : goal.returns-in_ok-function_index-in-Start
 returns-in_ok-function_index-in-Start g c = item_done g.T.ReencodeIndices c.in-Start.is refl c.in_ok-item-in-Start.ensures.ok _ c.in_ok-function_index-in-Start.ensures c.add_section-in-Start.ensures
 
+pub returns-in_err-rows-in-Element : goal.returns-in_err-rows-in-Element
+returns-in_err-rows-in-Element g c = section_unread g.T.ReencodeIndices c.in-Element.is refl _ c.in_err-rows-in-Element.ensures.err _ c.from_residual-in_err-rows-in-Element.ensures.1
+
+pub returns-in_ok-rows-in-Element : goal.returns-in_ok-rows-in-Element
+returns-in_ok-rows-in-Element g c = section_done g.T.ReencodeIndices c.in-Element.is refl _ _ c.new-elements.ensures c.in_ok-rows-in-Element.ensures.ok c.parse_element_section-mapped.ensures c.add_section-in-Element.ensures
+
 pub returns-in_err-rows-in-Code : goal.returns-in_err-rows-in-Code
 returns-in_err-rows-in-Code g c = section_unread g.T.ReencodeIndices c.in-Code.is refl _ c.in_err-rows-in-Code.ensures.err _ c.from_residual-in_err-rows-in-Code.ensures.1
 
