@@ -6,9 +6,11 @@ pub mod Items
 pub mod Fronts
 pub mod TypeShapes
 pub mod Subtypes
+pub mod ElementRows
 pub mod ExternalShapes
 pub mod ImmsSoFar
 pub mod InstructionShapes
 pub mod HoldingBodies
 pub mod SmallCounts
 pub mod InitRows
+pub mod DataRows

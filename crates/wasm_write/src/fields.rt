@@ -26,6 +26,26 @@ pub(crate) fn write_behind(out: &mut Vec<u8>, number: u32, bytes: &[u8]) -> Resu
     }
 }
 
+/// Appends bytes behind their length, or a part of that where it is refused.
+///
+/// `TooLarge` comes exactly where there are more than 2^32 - 1 bytes, with their number.
+pub(crate) fn write_content(out: &mut Vec<u8>, bytes: &[u8]) -> Result<(), WriteFault>
+    ensures ok { OnOk result (out.new.items ≡ out.old.items ++ normal (Tree.content bytes.now)) }
+    ensures fits { OnOk result (length bytes.now < 2 ^ 32) }
+    ensures err { OnErr result (take (vec_len out.old) out.new.items ≡ out.old.items) }
+    ensures large { IfErr result (λ e. IfTooLarge e
+        (λ size. (size ≡ length bytes.now) × (2 ^ 32 - 1 < size))) }
+{
+    let size = bytes.len();
+    if size > u32::MAX as usize {
+        return Err(WriteFault::TooLarge { size: size as u64 });
+    }
+    match write_behind(out, size as u32, bytes) {
+        Ok(()) => Ok(()),
+        Err(NoMemory) => Err(WriteFault::NoMemory),
+    }
+}
+
 /// Appends a name behind its length (WebAssembly Core Specification 3.0, section 5.2.4). A refusal leaves what stood in
 /// `out` before.
 ///
@@ -38,14 +58,7 @@ pub fn write_name(out: &mut Vec<u8>, name: &str) -> Result<(), WriteFault>
     ensures large { IfErr result (λ e. IfTooLarge e
         (λ size. (size ≡ length name.now) × (2 ^ 32 - 1 < size))) }
 {
-    let size = name.len();
-    if size > u32::MAX as usize {
-        return Err(WriteFault::TooLarge { size: size as u64 });
-    }
-    match write_behind(out, size as u32, name.as_bytes()) {
-        Ok(()) => Ok(()),
-        Err(NoMemory) => Err(WriteFault::NoMemory),
-    }
+    write_content(out, name.as_bytes())
 }
 
 /// Appends what is exported, by its kind and its index (WebAssembly Core Specification 3.0, section 5.5.10). A refusal

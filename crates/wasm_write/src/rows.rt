@@ -1,11 +1,13 @@
 //! Rows of sections in their normal spelling.
+ghost use Rattle.std.specs.Prelude.{◌≡◌, ◌++◌, take, vec_len, OnOk, OnErr};
+ghost use Rattle.wasm_shapes.specs.Tree.{placed_bytes};
 
 use crate::expressions::ConstExpr;
 use crate::externals::{
     write_global_type, write_import, write_memory_type, write_table_type, write_tag_type,
 };
 use crate::fault::WriteFault;
-use crate::fields::{write_item, write_name};
+use crate::fields::{write_content, write_item, write_name};
 use crate::groups::write_group;
 use crate::row_section::RowOf;
 use crate::types::{Export, GlobalType, Imports, MemoryType, RecGroup, TableType, TagType};
@@ -147,6 +149,69 @@ impl<'a> RowOf<kinds::Exports> for Export<'a> {
             Ok(()) => Ok(()),
             Err(NoMemory) => Err(WriteFault::NoMemory),
         }
+    }
+}
+
+/// A data segment that is placed in a memory.
+#[derive(Drop)]
+pub(crate) struct ActiveData<'a> {
+    pub(crate) memory: u32,
+    pub(crate) offset: &'a ConstExpr,
+    pub(crate) bytes: &'a [u8],
+}
+
+/// Appends the flag of an active data segment and its memory, which is left out where it is 0, or a part of them where
+/// memory is wanting.
+fn write_place(out: &mut Vec<u8>, memory: u32) -> Result<(), NoMemory>
+    ensures ok { OnOk result (out.new.items ≡ out.old.items ++ placed_bytes memory) }
+    ensures err { OnErr result (take (vec_len out.old) out.new.items ≡ out.old.items) }
+{
+    if memory == 0 {
+        return write_u32(out, 0);
+    }
+    match write_u32(out, 2) {
+        Ok(()) => write_u32(out, memory),
+        Err(NoMemory) => Err(NoMemory),
+    }
+}
+
+impl<'a> RowOf<kinds::Segments> for ActiveData<'a> {
+    ghost use Rattle.wasm_write.specs.Rows.{active_data_tree};
+
+    ghost tree = { λ row. active_data_tree row.memory row.offset.now row.bytes.now };
+
+    #[tactic(auto, using(crate::proofs::DataRows::active_spelled, crate::proofs::DataRows::active_large))]
+    fn write(&self, out: &mut Vec<u8>) -> Result<(), WriteFault> {
+        match write_place(out, self.memory) {
+            Ok(()) => {}
+            Err(NoMemory) => return Err(WriteFault::NoMemory),
+        }
+        match self.offset.encode(out) {
+            Ok(()) => {}
+            Err(NoMemory) => return Err(WriteFault::NoMemory),
+        }
+        write_content(out, self.bytes)
+    }
+}
+
+/// A passive data segment.
+#[derive(Drop)]
+pub(crate) struct PassiveData<'a> {
+    pub(crate) bytes: &'a [u8],
+}
+
+impl<'a> RowOf<kinds::Segments> for PassiveData<'a> {
+    ghost use Rattle.wasm_write.specs.Rows.{passive_data_tree};
+
+    ghost tree = { λ row. passive_data_tree row.bytes.now };
+
+    #[tactic(auto, using(crate::proofs::DataRows::passive_spelled))]
+    fn write(&self, out: &mut Vec<u8>) -> Result<(), WriteFault> {
+        match write_u32(out, 1) {
+            Ok(()) => {}
+            Err(NoMemory) => return Err(WriteFault::NoMemory),
+        }
+        write_content(out, self.bytes)
     }
 }
 
