@@ -8,6 +8,7 @@ pub mod OneSection
 pub mod CoreLoop
 pub mod WholeBytes
 pub mod OneRow
+pub mod DataRow
 pub mod Group
 pub mod ElementWalks
 pub mod BodyLoop

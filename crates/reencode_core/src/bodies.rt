@@ -137,6 +137,13 @@ macro_rules! parse_section {
                 let mapped = $reencoder.parse_code_section($alloc, &mut code, rows);
                 add_section($module, mapped, &code)
             }
+            SectionId::Data => {
+                let rows = r::DataSectionReader::new($body)?;
+                let mut segments =
+                    w::DataSection::with_room($alloc, $module, rows.place(), $body.len());
+                let mapped = $reencoder.parse_data_section($alloc, &mut segments, rows);
+                take_section($module, mapped, segments)
+            }
             SectionId::DataCount => {
                 let item = one_item($body)?;
                 let count = $reencoder.data_count(item)?;

@@ -18,7 +18,7 @@ ghost use Rattle.reencode_core.specs.Core.{GivesCore, GivesBytes};
 ghost use Rattle.reencode_core.specs.Leaves.{BodyOf, LeavesReading, LocalsOf, RowsOf};
 
 use crate::errors::placed;
-use crate::sections::{add_section, one_item};
+use crate::sections::{add_section, one_item, take_section};
 use crate::{bodies, mapped, shared};
 use reencode_hooks::Error;
 use reencode_items::ReencodeItems;
@@ -400,6 +400,43 @@ pub trait Reencode: ReencodeItems {
             self.new result }
     {
         shared::new_function_with_parsed_locals(self, alloc, func)
+    }
+
+    /// Maps the rows that the reader still has, each by `parse_data`.
+    fn parse_data_section(
+        &mut self,
+        alloc: Global,
+        segments: &mut w::DataSection,
+        section: r::DataSectionReader<'_>,
+    ) -> Result<(), Error<Self::Error>>
+        ensures kept { KeepsFront segments.old segments.new }
+        ensures default { IsTrue Self.keeps_defaults → (c : ℕ)
+            → GivesRows (ask Self.reply Self.next) c (row_of kinds.Data) section.entry
+            (self.old, segments.old) (self.new, segments.new) result }
+        ensures after_error { IsTrue Self.keeps_defaults → IsTrue Self.sure
+            → LeavesReading (RowsOf (row_of kinds.Data) section.entry) (ask Self.reply Self.next)
+            self.old self.new result }
+    {
+        bodies::each_row!(section, alloc, row => self.parse_data(alloc, segments, row))
+    }
+
+    /// Maps a data segment and adds it. The memory of an active one is mapped by `memory_index`, and then its offset by
+    /// `const_expr`.
+    fn parse_data(
+        &mut self,
+        alloc: Global,
+        segments: &mut w::DataSection,
+        datum: r::Data<'_>,
+    ) -> Result<(), Error<Self::Error>>
+        ensures kept { KeepsFront segments.old segments.new }
+        ensures default { IsTrue Self.keeps_defaults → (c : ℕ)
+            → GivesRow (ask Self.reply Self.next) c (self.old, segments.old)
+            (read.data_tree datum.entry) (self.new, segments.new) result }
+        ensures after_error { IsTrue Self.keeps_defaults → IsTrue Self.sure
+            → LeavesVisited (ask Self.reply Self.next) self.old
+            (visits (read.data_tree datum.entry)) self.new result }
+    {
+        shared::parse_data(self, alloc, segments, datum)
     }
 
     /// Maps the body of a section of a kind by the methods of that kind, and adds the section. It calls no section hook.

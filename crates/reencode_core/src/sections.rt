@@ -1,12 +1,15 @@
 //! Sections that are one item, and sections as they are added to a module.
 ghost use Rattle.std.specs.Prelude.{IfOk, IfErr};
 ghost use Rattle.wasm_leb.specs.Leb.{IsUnsigned};
+ghost use Rattle.wasm_shapes.specs.Tree.{normal};
+ghost use Rattle.wasm_shapes.specs.Types.{vector_tree};
 ghost use Rattle.wasm_write.specs.Sections.{section_row};
 ghost use Rattle.reencode_core.specs.Sections.{AddsMapped, NoItem};
 
 use reencode_hooks::Error;
 use wasm_leb::{ReadError, front_u32};
-use wasm_write::{Module, Section};
+use wasm_write::{Module, Section, RowSection};
+use wasm_shapes::kinds::SectionKind;
 
 /// The one item that fills the body of a section. The error holds the place where it is due and none begins, or where bytes
 /// are left behind it.
@@ -34,5 +37,19 @@ pub(crate) fn add_section<S: Section, E>(
 {
     mapped?;
     module.section(section)?;
+    Ok(())
+}
+
+/// Adds a section of rows that were mapped, and takes over its memory. Where they were refused, that is the answer.
+pub(crate) fn take_section<K: SectionKind, E>(
+    module: &mut Module,
+    mapped: Result<(), Error<E>>,
+    section: RowSection<K>,
+) -> Result<(), Error<E>>
+    ensures { AddsMapped (section_row K.ID (normal (vector_tree section))) «module».old mapped
+        «module».new result }
+{
+    mapped?;
+    module.take(section)?;
     Ok(())
 }

@@ -17,7 +17,7 @@ ghost use Rattle.reencode_core.specs.Leaves.{BodyOf, LeavesReading, LocalsOf, Ro
 
 use crate::errors::placed;
 use crate::reencode::Reencode;
-use crate::sections::{add_section, one_item};
+use crate::sections::{add_section, one_item, take_section};
 use crate::{bodies, mapped, shared};
 use reencode_hooks::Error;
 use std::alloc::Global;
@@ -382,6 +382,43 @@ pub fn new_function_with_parsed_locals<T: Reencode>(
         reencoder.new result }
 {
     shared::new_function_with_parsed_locals(reencoder, alloc, func)
+}
+
+/// Maps the rows that the reader still has, each by `parse_data`.
+pub fn parse_data_section<T: Reencode>(
+    reencoder: &mut T,
+    alloc: Global,
+    segments: &mut w::DataSection,
+    section: r::DataSectionReader<'_>,
+) -> Result<(), Error<T::Error>>
+    ensures kept { KeepsFront segments.old segments.new }
+    ensures default { IsTrue T.keeps_defaults → (c : ℕ)
+        → GivesRows (ask T.reply T.next) c (row_of kinds.Data) section.entry
+        (reencoder.old, segments.old) (reencoder.new, segments.new) result }
+    ensures after_error { IsTrue T.keeps_defaults → IsTrue T.sure
+        → LeavesReading (RowsOf (row_of kinds.Data) section.entry) (ask T.reply T.next)
+        reencoder.old reencoder.new result }
+{
+    bodies::each_row!(section, alloc, row => reencoder.parse_data(alloc, segments, row))
+}
+
+/// Maps a data segment and adds it. The memory of an active one is mapped by `memory_index`, and then its offset by
+/// `const_expr`.
+pub fn parse_data<T: Reencode>(
+    reencoder: &mut T,
+    alloc: Global,
+    segments: &mut w::DataSection,
+    datum: r::Data<'_>,
+) -> Result<(), Error<T::Error>>
+    ensures kept { KeepsFront segments.old segments.new }
+    ensures default { IsTrue T.keeps_defaults → (c : ℕ)
+        → GivesRow (ask T.reply T.next) c (reencoder.old, segments.old)
+        (read.data_tree datum.entry) (reencoder.new, segments.new) result }
+    ensures after_error { IsTrue T.keeps_defaults → IsTrue T.sure
+        → LeavesVisited (ask T.reply T.next) reencoder.old
+        (visits (read.data_tree datum.entry)) reencoder.new result }
+{
+    shared::parse_data(reencoder, alloc, segments, datum)
 }
 
 /// Maps the body of a section of a kind by the methods of that kind, and adds the section. It calls no section hook.

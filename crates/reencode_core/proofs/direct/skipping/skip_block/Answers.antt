@@ -1,5 +1,5 @@
 use Rattle.reencode_core.proofs.Passing.{skips_no_type, skips_number_type}
-use Rattle.reencode_core.proofs.direct.passing.skip_block.Goals as goal
+use Rattle.reencode_core.proofs.direct.skipping.skip_block.Goals as goal
 
 pub returns-then-first-eq64 : goal.returns-then-first-eq64
 returns-then-first-eq64 c = skips_no_type c.in-Some.ensures.some c.if-first-eq64.true
