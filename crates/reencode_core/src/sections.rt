@@ -8,8 +8,8 @@ ghost use Rattle.reencode_core.specs.Sections.{AddsMapped, NoItem};
 
 use reencode_hooks::Error;
 use wasm_leb::{ReadError, front_u32};
-use wasm_write::{Module, Section, RowSection};
 use wasm_shapes::kinds::SectionKind;
+use wasm_write::{Module, RowSection, Section};
 
 /// The one item that fills the body of a section. The error holds the place where it is due and none begins, or where bytes
 /// are left behind it.
