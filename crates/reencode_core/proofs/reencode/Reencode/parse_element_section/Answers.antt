@@ -1,6 +1,5 @@
 use Rattle.std.proofs.Common.{refl}
 use Rattle.reencode_core.proofs.EachRow.{rows_begun, rows_ended, rows_stuck, rows_added, rows_refused_at}
-use Rattle.reencode_core.proofs.RowLoop.{none_or_wants}
 use Rattle.reencode_core.proofs.reencode.Reencode.parse_element_section.Goals as goal
 
 pub rows-init : goal.rows-init
@@ -12,7 +11,7 @@ rows-preserved g c =
     rows_added g.Self.ReencodeIndices c.rows.invariant refl refl row c.in_ok-parse_element.ensures
 
 pub returns-in_err-row : goal.returns-in_err-row
-returns-in_err-row g c = rows_stuck g.Self.ReencodeIndices c.rows.invariant _ (none_or_wants _ _ _ c.in_err-row.ensures.err) _ c.from_residual.ensures.1
+returns-in_err-row g c = rows_stuck g.Self.ReencodeIndices c.rows.invariant _ c.in_err-row.ensures.err _ c.from_residual.ensures.1
 
 pub returns-in_err-parse_element : goal.returns-in_err-parse_element
 returns-in_err-parse_element g c =
