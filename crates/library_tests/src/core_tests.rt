@@ -1,5 +1,5 @@
 //! Each free function of sections and rows through its bound, and sections by their kind.
-use reencode_core::{Reencode, utils};
+use reencode_core::{Reencode, fault_tells, utils};
 use reencode_hooks::{Error, Renamer, RoundtripReencoder, Unmapped};
 use std::alloc::Global;
 use wasm_leb::{NoMemory, ReadError};
@@ -286,4 +286,5 @@ fn sections_by_kind(rt: HostRuntime) {
         sections_after(&mut RoundtripReencoder, rt.alloc()).ok(),
         Some((2, true))
     );
+    fault_tells(&RoundtripReencoder);
 }

@@ -5,6 +5,7 @@ pub mod RowLoop
 pub mod EachRow
 pub mod OneSection
 pub mod CoreLoop
+pub mod Faults
 pub mod WholeBytes
 pub mod OneRow
 pub mod Group

@@ -5,6 +5,7 @@ mod bodies;
 pub mod direct;
 mod errors;
 mod imports;
+mod laws;
 mod mapped;
 mod plain;
 mod reencode;
@@ -13,5 +14,6 @@ mod sections;
 mod shared;
 pub mod utils;
 
+pub use laws::fault_tells;
 pub use reencode::{Reencode, reencode_core};
 pub use rule::reencode_by_rule;
