@@ -5,9 +5,9 @@ use crate::stop::Stop;
 use crate::text::{add, add_bytes, add_place, add_refusal, add_word};
 use std::alloc::{AllocError, Global};
 use wasm_read::{
-    CodeSectionReader, ExportSectionReader, FunctionSectionReader, GlobalSectionReader,
-    ImportSectionReader, MemorySectionReader, Payload, Payloads, Table, TableInit,
-    TableSectionReader, TagSectionReader, TypeSectionReader,
+    CodeSectionReader, Data, DataKind, DataSectionReader, ExportSectionReader,
+    FunctionSectionReader, GlobalSectionReader, ImportSectionReader, MemorySectionReader, Payload,
+    Payloads, Table, TableInit, TableSectionReader, TagSectionReader, TypeSectionReader,
 };
 
 /// Adds the place and the bytes of a frame.
@@ -77,6 +77,22 @@ fn add_global(
     add_operators(alloc, text, global.init_expr.get_operators_reader())
 }
 
+/// Adds a data segment: where it is placed, and its bytes.
+fn add_data(alloc: Global, text: &mut String, data_: &Data<'_>) -> Result<(), AllocError> {
+    match &data_.kind {
+        DataKind::Active {
+            memory_index,
+            offset_expr,
+        } => {
+            add_word(text, "memory")?;
+            add(text, memory_index)?;
+            add_operators(alloc, text, offset_expr.get_operators_reader())?;
+        }
+        DataKind::Passive => add_word(text, "passive")?,
+    }
+    add_bytes(alloc, text, data_.contents)
+}
+
 /// The rows of a section with the place after each, up to the end or the first refusal.
 macro_rules! rows {
     ($alloc:ident, $reader:ident, $bytes:ident, $text:ident, $row:ident => $step:expr) => {{
@@ -117,6 +133,8 @@ pub fn answer(alloc: Global, call: &str, bytes: &[u8]) -> Result<Option<String>,
         "globals" => {
             rows!(alloc, GlobalSectionReader, bytes, text, row => add_global(alloc, text, row))
         }
+        "segments" =>
+            rows!(alloc, DataSectionReader, bytes, text, row => add_data(alloc, text, row)),
         "exports" => rows!(alloc, ExportSectionReader, bytes, text, row => add(text, row)),
         "code" => rows!(alloc, CodeSectionReader, bytes, text, row => add(text, row)),
         "tags" => rows!(alloc, TagSectionReader, bytes, text, row => add(text, row)),

@@ -239,6 +239,51 @@ fn functions_map_imports(rt: HostRuntime) -> Result<(), Error<Unmapped>> {
     Ok(())
 }
 
+/// The section `02 00 d2 00 0b 01 aa 01 00` of data segments, and another row of it.
+fn segments<R: Reencode>(
+    reencoder: &mut R,
+    alloc: Global,
+    module: &mut w::Module,
+) -> Result<(), Error<R::Error>> {
+    let body = [0x02, 0x00, 0xd2, 0x00, 0x0b, 0x01, 0xaa, 0x01, 0x00];
+    let rows = r::DataSectionReader::new(&body)?;
+    let mut segments = w::DataSection::with_room(alloc, module, rows.place(), body.len());
+    utils::parse_data_section(reencoder, alloc, &mut segments, rows)?;
+    let segment = r::Data {
+        kind: r::DataKind::Active {
+            memory_index: 3,
+            offset_expr: r::ConstExpr::new(&[0x41, 0x01, 0x0b])?,
+        },
+        contents: &[0xbb, 0xcc],
+    };
+    utils::parse_data(reencoder, alloc, &mut segments, segment)?;
+    Ok(module.take(segments)?)
+}
+
+/// A module with a section of data segments.
+fn module_of_segments<R: Reencode>(
+    reencoder: &mut R,
+    alloc: Global,
+) -> Result<w::Module, Error<R::Error>> {
+    let mut module = w::Module::new(alloc, u32::MAX)?;
+    segments(reencoder, alloc, &mut module)?;
+    Ok(module)
+}
+
+#[test]
+fn functions_map_segments(rt: HostRuntime) -> Result<(), Error<Unmapped>> {
+    let mut renamer = renamer(rt.alloc())?;
+    renamer.set(Space::Memory, 0, 2)?;
+    renamer.set(Space::Memory, 3, 0)?;
+    let expected = [
+        0x00, 0x61, 0x73, 0x6d, 0x01, 0x00, 0x00, 0x00, 0x0b, 0x11, 0x03, 0x02, 0x02, 0xd2, 0x07,
+        0x0b, 0x01, 0xaa, 0x01, 0x00, 0x00, 0x41, 0x01, 0x0b, 0x02, 0xbb, 0xcc,
+    ];
+    let module = module_of_segments(&mut renamer, rt.alloc())?;
+    assert_eq!(rt; module.as_slice(), expected.as_slice());
+    Ok(())
+}
+
 #[test]
 fn functions_map_modules(rt: HostRuntime) -> Result<(), Error<Unmapped>> {
     let mut renamer = renamer(rt.alloc())?;
@@ -275,7 +320,7 @@ where
     let body = [0x01, 0x07, 0x00, 0x20, 0x00, 0x20, 0x01, 0x6a, 0x0b];
     sections_of_a_kind(reencoder, alloc, &mut module, SectionId::Code, &body)?;
     let count = module.len();
-    let none = sections_of_a_kind(reencoder, alloc, &mut module, SectionId::Start, &[0x00]);
+    let none = sections_of_a_kind(reencoder, alloc, &mut module, SectionId::Start, &[]);
     let is_refused = matches!(none, Err(Error::ParseError(ReadError { at: 0 })));
     Ok((count, is_refused && module.len() == count))
 }
@@ -287,4 +332,31 @@ fn sections_by_kind(rt: HostRuntime) {
         Some((2, true))
     );
     fault_tells(&RoundtripReencoder);
+}
+
+/// The sections `08 01 00` of a start function and `0c 01 02` of a data count, each by the free function and by the method,
+/// and the start function by itself.
+fn sections_of_one_item<R: Reencode>(
+    reencoder: &mut R,
+    alloc: Global,
+) -> Result<(w::Module, u32), Error<R::Error>> {
+    let mut module = w::Module::new(alloc, u32::MAX)?;
+    sections_of_a_kind(reencoder, alloc, &mut module, SectionId::Start, &[0x00])?;
+    sections_of_a_kind(reencoder, alloc, &mut module, SectionId::DataCount, &[0x02])?;
+    let start = reencoder.start_section(0)?;
+    Ok((module, start))
+}
+
+#[test]
+fn sections_are_one_item(rt: HostRuntime) -> Result<(), Error<Unmapped>> {
+    let mut renamer = renamer(rt.alloc())?;
+    renamer.set(Space::DataCount, 2, 128)?;
+    let expected = [
+        0x00, 0x61, 0x73, 0x6d, 0x01, 0x00, 0x00, 0x00, 0x08, 0x01, 0x07, 0x08, 0x01, 0x07, 0x0c,
+        0x02, 0x80, 0x01, 0x0c, 0x02, 0x80, 0x01,
+    ];
+    let (module, start) = sections_of_one_item(&mut renamer, rt.alloc())?;
+    assert_eq!(rt; module.as_slice(), expected.as_slice());
+    assert_eq!(rt; start, 7);
+    Ok(())
 }

@@ -6,11 +6,11 @@ use wasm_leb::{List, NoMemory};
 use wasm_shapes::{CALL, END, I32_ADD, I32_CONST, LOCAL_GET, NOP, Opcode, Space};
 use wasm_write::{
     ArrayType, CodeSection, CompositeInnerType, CompositeType, ConstExpr, ContType, CustomSection,
-    DataCountSection, EntityType, ExportKind, ExportSection, FieldType, FuncType, Function,
-    FunctionSection, HeapType, Imm, Import, ImportSection, Imports, Instruction, MemorySection,
-    MemoryType, Module, RawSection, RecGroup, RefType, StartSection, StorageType, StructType,
-    SubType, TableSection, TableType, TagKind, TagSection, TagType, TypeSection, ValType,
-    WriteFault, write_item, write_name,
+    DataCountSection, DataSection, EntityType, ExportKind, ExportSection, FieldType, FuncType,
+    Function, FunctionSection, HeapType, Imm, Import, ImportSection, Imports, Instruction,
+    MemorySection, MemoryType, Module, RawSection, RecGroup, RefType, StartSection, StorageType,
+    StructType, SubType, TableSection, TableType, TagKind, TagSection, TagType, TypeSection,
+    ValType, WriteFault, write_item, write_name,
 };
 
 const REFERENCE: RefType = RefType {
@@ -236,6 +236,53 @@ fn external_types(rt: HostRuntime) -> Made<()> {
         0x00, 0x0d, 0x04, 0x01, 0x00, 0x80, 0x01,
     ];
     assert_eq!(rt; external_module(rt.alloc())?.as_slice(), want.as_slice());
+    Ok(())
+}
+
+/// Adds an active segment and a passive one.
+fn add_segments(alloc: Global, segments: &mut DataSection) -> Made<()> {
+    segments.active(200, &ConstExpr::new(alloc), &[0xaa, 0xbb])?;
+    Ok(segments.passive(&[])?)
+}
+
+/// A module that takes a section of segments, which was made for a body of so many bytes behind so many.
+fn taken(alloc: Global, counted: usize, len: usize) -> Made<Module> {
+    let mut module = Module::new(alloc, u32::MAX)?;
+    let mut segments = DataSection::with_room(alloc, &module, counted, len);
+    add_segments(alloc, &mut segments)?;
+    module.take(segments)?;
+    Ok(module)
+}
+
+/// A module to which a section of segments was added, and its answer where it takes another.
+fn too_large(alloc: Global) -> Made<(Module, Result<(), WriteFault>)> {
+    let mut module = Module::new(alloc, 10)?;
+    let mut segments = DataSection::new(alloc);
+    add_segments(alloc, &mut segments)?;
+    module.section(&segments)?;
+    segments.passive(&[])?;
+    let answer = module.take(segments);
+    Ok((module, answer))
+}
+
+/// The section is the same, whether it takes its memory over or not.
+#[test]
+fn segments(rt: HostRuntime) -> Made<()> {
+    let want = [
+        0x00u8, 0x61, 0x73, 0x6d, 0x01, 0x00, 0x00, 0x00, 0x0b, 0x0a, 0x02, 0x02, 0xc8, 0x01, 0x0b,
+        0x02, 0xaa, 0xbb, 0x01, 0x00,
+    ];
+    for (counted, len) in [(1, 10), (2, 10), (1, 9), (1, 200), (0, 0)] {
+        let module = taken(rt.alloc(), counted, len)?;
+        assert_eq!(rt;
+            module.as_slice(),
+            want.as_slice(),
+            "of {counted} and {len}"
+        );
+    }
+    let (module, answer) = too_large(rt.alloc())?;
+    assert_eq!(rt; module.as_slice(), want.as_slice());
+    assert!(rt; matches!(answer, Err(WriteFault::TooLarge { size: 12 })));
     Ok(())
 }
 

@@ -2,13 +2,16 @@ pub mod Usual
 pub mod Known
 pub mod Counts
 pub mod RowLoop
+pub mod EachItem
 pub mod EachRow
 pub mod OneSection
 pub mod CoreLoop
 pub mod Faults
 pub mod WholeBytes
 pub mod OneRow
+pub mod DataRow
 pub mod Group
+pub mod ElementWalks
 pub mod BodyLoop
 pub mod Locals
 pub mod WholeBody

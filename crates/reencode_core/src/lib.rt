@@ -6,6 +6,7 @@ pub mod direct;
 mod errors;
 mod imports;
 mod laws;
+mod lists;
 mod mapped;
 mod plain;
 mod reencode;

@@ -1,6 +1,6 @@
 -- Data segments, as rows.
 use Rattle.std.specs.Prelude.{IfErr}
-use Rattle.std.proofs.Common.{◌≡◌, ℕ, ◌+◌, ◌-◌, ◌<◌, ◌^◌, List, [], ◌∷◌, ◌++◌, length, All, ◌⊎◌, Result, Ok, Err, refl, arith, inl, inr}
+use Rattle.std.proofs.Common.{◌≡◌, ℕ, ◌-◌, ◌<◌, ◌^◌, List, [], ◌∷◌, ◌++◌, length, All, ◌⊎◌, Result, Ok, Err, refl, arith, inl, inr}
 use Rattle.std.proofs.lemmas.List.Elements.{Contains-append_cases}
 use mathlib.Core.Logic.{∥∥₁_map}
 use Rattle.wasm_shapes.specs.Tree.{Tree, normal}

@@ -1,5 +1,7 @@
 -- Rows that are held, and one more.
-use Rattle.std.proofs.Common.{◌≡◌, ℕ, suc, ◌+◌, ◌<◌, ◌^◌, List, [], ◌∷◌, ◌++◌, length, refl, sym, ap, ap₂, ◌∙◌, append-nil, append_assoc, subst, true, length-append, Result, Ok, Err, OnOk}
+use Rattle.std.proofs.Common.{◌≡◌, ℕ, suc, ◌+◌, ◌<◌, ◌≤◌, ◌^◌, List, [], ◌∷◌, ◌++◌, length, refl, sym, ap, ap₂, ◌∙◌, append-nil, append_assoc, subst, true, length-append, drop, take, arith, Result, Ok, Err, OnOk}
+use Rattle.std.proofs.lemmas.List.{drop-append-le}
+use Rattle.std.proofs.Math.Seq.{take-append_seam}
 use Rattle.std.specs.Coded.{Coded-set, coded_ℕ, coded_list}
 use mathlib.Core.Logic.{∥∥₁_elim, ∥∥₁_map, ∥∥₁_prop}
 use Rattle.wasm_leb.specs.Leb.{leb}
@@ -94,6 +96,23 @@ module _ {s : Shape} {n : ℕ} {bytes : List ℕ} (h : Held s n bytes) where
   pub held_same_is : {new : List ℕ} → sound (Shape.many s) ≡ true → (k : Held s n new) → new ≡ bytes → held_rows s n new k ≡ held_rows s n bytes h
   unfolding held_rows
   held_same_is {new} passes k e = Held-one s passes n new k (h.0, ∥∥₁_map h.1 (λ r. rw e r))
+
+-- ---- behind some room
+
+module _ {front : ℕ} (bytes text : List ℕ) {new : List ℕ} (room : front ≤ length bytes) (e : new ≡ bytes ++ text) where
+  pub room_grown : front ≤ length new
+  room_grown = omega (arith, ap length e, length-append bytes text)
+
+  pub behind_grown : drop front new ≡ drop front bytes ++ text
+  behind_grown = ap (drop front) e ∙ drop-append-le front bytes text room
+
+-- a number was appended, and rows behind it
+pub behind_number : (old number rows : List ℕ) {out new body : List ℕ} → out ≡ old ++ number → new ≡ out ++ rows → body ≡ number ++ rows → new ≡ old ++ body
+behind_number old number rows e f g = f ∙ ap (λ (z : List ℕ). z ++ rows) e ∙ append_assoc old number rows ∙ ap (λ (z : List ℕ). old ++ z) (sym g)
+
+-- so many bytes, and nothing behind them
+pub all_taken : (xs ys : List ℕ) {n : ℕ} → length xs ≡ n → take n (xs ++ ys) ≡ xs
+all_taken xs ys e = rw (← e) (take-append_seam xs ys)
 
 -- what holds anyway holds of an Ok
 pub OnOk-of : {A E : Type 0} {P : Type 0} (r : Result A E) → P → OnOk r P

@@ -1,14 +1,18 @@
 //! A core module under construction.
 ghost use Rattle.std.specs.Prelude.{◌≡◌, ◌++◌, ◌<◌, ◌≤◌, [], length, take, slice_range, vec_len, OnOk, OnErr, IfOk, IfErr};
 ghost use Rattle.std.specs.List.{remove_range};
+ghost use Rattle.wasm_shapes.specs.Tree.{normal};
+ghost use Rattle.wasm_shapes.specs.Types.{vector_tree};
 ghost use Rattle.wasm_write.specs.Faults.{IfTooLarge};
 ghost use Rattle.wasm_write.specs.Sections.{section_row, with_section, section_bytes, module_bytes, HeldSections, HeldSections-prop};
 
 use crate::fault::WriteFault;
+use crate::row_section::RowSection;
 use crate::section::Section;
 use std::alloc::Global;
 use std::marker::Model;
-use wasm_leb::{NoMemory, write_u32};
+use wasm_leb::{NoMemory, len_u32, write_u32};
+use wasm_shapes::kinds::SectionKind;
 
 /// A core module under construction (WebAssembly Core Specification 3.0, section 5.5.17).
 ///
@@ -88,6 +92,42 @@ impl Module {
         }
     }
 
+    /// Adds a section of rows at the end, as `section` does, and takes its memory over where that spares a copy of the rows:
+    /// see `RowSection::with_room`. A refusal changes nothing.
+    ///
+    /// `TooLarge` comes exactly where the body is longer than the ceiling, with its length.
+    pub fn take<K: SectionKind>(&mut self, section: RowSection<K>) -> Result<(), WriteFault>
+        ensures ok { OnOk result
+            (self.new ≡ with_section self.old (section_row K.ID (normal (vector_tree section)))) }
+        ensures fits { OnOk result (length (normal (vector_tree section)) ≤ self.old.ceiling) }
+        ensures err { OnErr result (self.new ≡ self.old) }
+        ensures large { IfErr result (λ e. IfTooLarge e
+            (λ size. (size ≡ length (normal (vector_tree section))) × (self.old.ceiling < size))) }
+    {
+        let len = self.bytes.len();
+        match write_taken(&mut self.bytes, section, self.ceiling) {
+            Ok(()) => {
+                self.count += 1;
+                Ok(())
+            }
+            Err(fault) => {
+                self.bytes.truncate(len);
+                Err(fault)
+            }
+        }
+    }
+
+    /// How many bytes stand in front of the rows of a section that is added at the end, if its body has `len` bytes of which
+    /// the first `counted` are the number of the rows; or 0 where the body is no longer than the module.
+    pub(crate) fn len_before(&self, counted: usize, len: usize) -> usize {
+        let held = self.bytes.len();
+        if len <= held || len > u32::MAX as usize {
+            return 0;
+        }
+        held.saturating_add(1 + len_u32(len as u32))
+            .saturating_add(counted)
+    }
+
     /// The header and the sections: the bytes that `finish` gives.
     pub fn as_slice(&self) -> &[u8]
         ensures { result.now ≡ module_bytes self.now.sections }
@@ -134,6 +174,38 @@ fn write_section<S: Section>(out: &mut Vec<u8>, section: &S, ceiling: u32) -> Re
     }
     move_behind(out.as_mut_slice(), start, end);
     Ok(())
+}
+
+/// Appends the id, the length and the body of a section of rows, or a part of them where that is refused.
+fn write_taken<K: SectionKind>(
+    out: &mut Vec<u8>,
+    section: RowSection<K>,
+    ceiling: u32,
+) -> Result<(), WriteFault>
+    ensures ok { OnOk result
+        (out.new.items ≡ out.old.items
+        ++ section_bytes (section_row K.ID (normal (vector_tree section)))) }
+    ensures fits { OnOk result (length (normal (vector_tree section)) ≤ ceiling) }
+    ensures err { OnErr result (take (vec_len out.old) out.new.items ≡ out.old.items) }
+    ensures large { IfErr result (λ e. IfTooLarge e
+        (λ size. (size ≡ length (normal (vector_tree section))) × (ceiling < size))) }
+{
+    let size = section.body_len() as u64;
+    if size > u64::from(ceiling) {
+        return Err(WriteFault::TooLarge { size });
+    }
+    match out.push(K::ID) {
+        Ok(()) => {}
+        Err(_) => return Err(WriteFault::NoMemory),
+    }
+    match write_u32(out, size as u32) {
+        Ok(()) => {}
+        Err(NoMemory) => return Err(WriteFault::NoMemory),
+    }
+    match section.move_to(out) {
+        Ok(()) => Ok(()),
+        Err(NoMemory) => Err(WriteFault::NoMemory),
+    }
 }
 
 /// Moves the bytes between two places behind all others.

@@ -1,5 +1,5 @@
 //! Sections of rows.
-ghost use Rattle.std.specs.Prelude.{◌≡◌, ◌++◌, ◌∷◌, ◌+◌, ◌^◌, ◌<◌, [], length, take, vec_len, OnOk, OnErr, IfErr};
+ghost use Rattle.std.specs.Prelude.{◌≡◌, ◌++◌, ◌∷◌, ◌+◌, ◌^◌, ◌<◌, ◌≤◌, [], length, take, drop, vec_len, IfOk, OnOk, OnErr, IfErr};
 ghost use Rattle.wasm_shapes.specs.Tree.{Tree, normal};
 ghost use Rattle.wasm_shapes.specs.Types.{vector_tree};
 ghost use Rattle.wasm_shapes.specs.Spells.{Spells};
@@ -10,10 +10,11 @@ ghost use Rattle.wasm_write.specs.Held.{BodySpells, Held, Held-prop};
 
 use crate::fault::WriteFault;
 use crate::fields::write_behind;
+use crate::module::Module;
 use crate::section::Section;
-use std::alloc::Global;
+use std::alloc::{AllocError, Global};
 use std::marker::{Model, PhantomData};
-use wasm_leb::NoMemory;
+use wasm_leb::{NoMemory, len_u32, write_u32};
 use wasm_shapes::kinds::SectionKind;
 
 /// A row of a section of this kind.
@@ -38,13 +39,16 @@ pub trait RowOf<K: SectionKind> {
 #[derive(Drop)]
 pub struct RowSection<K: SectionKind> {
     count: u32,
+    // so many bytes in front of the rows are room for what a module has in front of them
+    front: usize,
     bytes: Vec<u8>,
     kind: PhantomData<K>,
-    ghost held: { Held K.shape count bytes.items } by { Held-prop K.shape K.rows_sound count bytes.items },
+    ghost room: { front ≤ length bytes.items },
+    ghost held: { Held K.shape count (drop front bytes.items) } by { Held-prop K.shape K.rows_sound count (drop front bytes.items) },
 }
 
 impl<K: SectionKind> Model for RowSection<K> {
-    ghost use Rattle.std.specs.Prelude.{List};
+    ghost use Rattle.std.specs.Prelude.{List, drop};
     ghost use Rattle.wasm_shapes.specs.Tree.{Tree};
     ghost use Rattle.wasm_shapes.specs.TreeCode.{trees_code};
     ghost use Rattle.wasm_write.specs.Held.{held_rows};
@@ -53,7 +57,7 @@ impl<K: SectionKind> Model for RowSection<K> {
 
     ghost coded = { trees_code };
 
-    ghost view = { λ s. held_rows K.shape s.count s.bytes.items s.held };
+    ghost view = { λ s. held_rows K.shape s.count (drop s.front s.bytes.items) s.held };
 }
 
 impl<K: SectionKind> RowSection<K> {
@@ -64,8 +68,28 @@ impl<K: SectionKind> RowSection<K> {
     {
         RowSection {
             count: 0,
+            front: 0,
             bytes: Vec::new(alloc),
             kind: PhantomData,
+        }
+    }
+
+    /// A section without rows, with room for a body of `len` bytes of which the first `counted` are the number of the rows.
+    /// It takes memory for them at once, or later where that is wanting.
+    ///
+    /// Where the body comes out so, and is longer than the module is now, `Module::take` copies no row.
+    pub fn with_room(alloc: Global, module: &Module, counted: usize, len: usize) -> Self
+        ensures { result ≡ [] }
+    {
+        let front = module.len_before(counted, len);
+        match room(alloc, front, len) {
+            Ok(bytes) => RowSection {
+                count: 0,
+                front,
+                bytes,
+                kind: PhantomData,
+            },
+            Err(_) => RowSection::new(alloc),
         }
     }
 
@@ -101,6 +125,63 @@ impl<K: SectionKind> RowSection<K> {
     }
 }
 
+/// The bytes behind so many.
+fn behind(bytes: &[u8], front: usize) -> &[u8]
+    requires { front ≤ length bytes.now }
+    ensures { result.now ≡ drop front bytes.now }
+{
+    &bytes[front..]
+}
+
+/// Copies bytes over the first of others.
+fn put_in_front(bytes: &mut [u8], head: &[u8])
+    requires { length head.now ≤ length bytes.old }
+    ensures { bytes.new ≡ head.now ++ drop (length head.now) bytes.old }
+{
+    bytes[..head.len()].copy_from_slice(head);
+}
+
+/// So many bytes, and room for so many more.
+fn room(alloc: Global, front: usize, more: usize) -> Result<Vec<u8>, AllocError>
+    ensures { IfOk result (λ bytes. length bytes.items ≡ front) }
+{
+    let mut bytes = Vec::with_capacity(alloc, front.saturating_add(more))?;
+    bytes.resize(front, 0)?;
+    Ok(bytes)
+}
+
+impl<K: SectionKind> RowSection<K> {
+    /// How many bytes the body has.
+    pub(crate) fn body_len(&self) -> usize
+        ensures { result ≡ length (normal (vector_tree self.now)) }
+    {
+        len_u32(self.count) + behind(&self.bytes, self.front).len()
+    }
+
+    /// Appends the body. Where what stands in front of its rows then has the length of the room that they have in front of
+    /// them, it is copied there, and the memory of the section is that of `out` from then on.
+    pub(crate) fn move_to(self, out: &mut Vec<u8>) -> Result<(), NoMemory>
+        ensures ok { OnOk result (out.new.items ≡ out.old.items ++ normal (vector_tree self)) }
+        ensures err { OnErr result (take (vec_len out.old) out.new.items ≡ out.old.items) }
+    {
+        match write_u32(out, self.count) {
+            Ok(()) => {}
+            Err(NoMemory) => return Err(NoMemory),
+        }
+        let front = self.front;
+        let mut bytes = self.bytes;
+        if out.len() == front {
+            put_in_front(bytes.as_mut_slice(), out);
+            *out = bytes;
+            return Ok(());
+        }
+        match out.extend_from_slice(behind(&bytes, front)) {
+            Ok(()) => Ok(()),
+            Err(_) => Err(NoMemory),
+        }
+    }
+}
+
 impl<K: SectionKind> Section for RowSection<K> {
     ghost number = { λ _. K.ID };
 
@@ -118,6 +199,6 @@ impl<K: SectionKind> Section for RowSection<K> {
         ensures err { OnErr result (take (vec_len out.old) out.new.items ≡ out.old.items) }
         ensures spells { OnOk result (BodySpells K.shape self.now) }
     {
-        write_behind(out, self.count, &self.bytes)
+        write_behind(out, self.count, behind(&self.bytes, self.front))
     }
 }

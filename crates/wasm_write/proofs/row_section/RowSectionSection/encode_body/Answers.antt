@@ -3,7 +3,7 @@ use Rattle.wasm_write.proofs.Holding.{held_normal, held_spells, OnOk-of}
 use Rattle.wasm_write.proofs.row_section.RowSectionSection.encode_body.Goals as goal
 
 pub returns-clause-ok : goal.returns-clause-ok
-returns-clause-ok g c = rw (← c.self.view_is, held_normal c.self.inside.held, ← c.deref.ensures.value) c.write_behind.ensures.ok
+returns-clause-ok g c = rw (← c.self.view_is, held_normal c.self.inside.held, ← c.deref.ensures.value, ← c.behind.ensures) c.write_behind.ensures.ok
 
 pub returns-clause-spells : goal.returns-clause-spells
 returns-clause-spells g c =
