@@ -6,11 +6,11 @@ use wasm_leb::{List, NoMemory};
 use wasm_shapes::{CALL, END, I32_ADD, I32_CONST, LOCAL_GET, NOP, Opcode, Space};
 use wasm_write::{
     ArrayType, CodeSection, CompositeInnerType, CompositeType, ConstExpr, ContType, CustomSection,
-    DataCountSection, EntityType, ExportKind, ExportSection, FieldType, FuncType, Function,
-    FunctionSection, HeapType, Imm, Import, ImportSection, Imports, Instruction, MemorySection,
-    MemoryType, Module, RawSection, RecGroup, RefType, StartSection, StorageType, StructType,
-    SubType, TableSection, TableType, TagKind, TagSection, TagType, TypeSection, ValType,
-    WriteFault, write_item, write_name,
+    DataCountSection, DataSection, ElementSection, Elements, EntityType, ExportKind, ExportSection,
+    FieldType, FuncType, Function, FunctionSection, HeapType, Imm, Import, ImportSection, Imports,
+    Instruction, MemorySection, MemoryType, Module, RawSection, RecGroup, RefType, Section,
+    StartSection, StorageType, StructType, SubType, TableSection, TableType, TagKind, TagSection,
+    TagType, TypeSection, ValType, WriteFault, write_item, write_name,
 };
 
 const REFERENCE: RefType = RefType {
@@ -239,6 +239,53 @@ fn external_types(rt: HostRuntime) -> Made<()> {
     Ok(())
 }
 
+/// Adds an active segment and a passive one.
+fn add_segments(alloc: Global, segments: &mut DataSection) -> Made<()> {
+    segments.active(200, &ConstExpr::new(alloc), &[0xaa, 0xbb])?;
+    Ok(segments.passive(&[])?)
+}
+
+/// A module that takes a section of segments, which was made for a body of so many bytes behind so many.
+fn taken(alloc: Global, counted: usize, len: usize) -> Made<Module> {
+    let mut module = Module::new(alloc, u32::MAX)?;
+    let mut segments = DataSection::with_room(alloc, &module, counted, len);
+    add_segments(alloc, &mut segments)?;
+    module.take(segments)?;
+    Ok(module)
+}
+
+/// A module to which a section of segments was added, and its answer where it takes another.
+fn too_large(alloc: Global) -> Made<(Module, Result<(), WriteFault>)> {
+    let mut module = Module::new(alloc, 10)?;
+    let mut segments = DataSection::new(alloc);
+    add_segments(alloc, &mut segments)?;
+    module.section(&segments)?;
+    segments.passive(&[])?;
+    let answer = module.take(segments);
+    Ok((module, answer))
+}
+
+/// The section is the same, whether it takes its memory over or not.
+#[test]
+fn segments(rt: HostRuntime) -> Made<()> {
+    let want = [
+        0x00u8, 0x61, 0x73, 0x6d, 0x01, 0x00, 0x00, 0x00, 0x0b, 0x0a, 0x02, 0x02, 0xc8, 0x01, 0x0b,
+        0x02, 0xaa, 0xbb, 0x01, 0x00,
+    ];
+    for (counted, len) in [(1, 10), (2, 10), (1, 9), (1, 200), (0, 0)] {
+        let module = taken(rt.alloc(), counted, len)?;
+        assert_eq!(rt;
+            module.as_slice(),
+            want.as_slice(),
+            "of {counted} and {len}"
+        );
+    }
+    let (module, answer) = too_large(rt.alloc())?;
+    assert_eq!(rt; module.as_slice(), want.as_slice());
+    assert!(rt; matches!(answer, Err(WriteFault::TooLarge { size: 12 })));
+    Ok(())
+}
+
 /// A structure of two fields.
 fn structure(alloc: Global) -> Result<SubType, NoMemory> {
     let short = FieldType {
@@ -386,5 +433,44 @@ fn expressions(rt: HostRuntime) -> Made<()> {
         let mut expression = ConstExpr::new(rt.alloc());
         expression.instruction(&constant)?;
     }
+    Ok(())
+}
+
+/// `i32.const 1`.
+fn offset(alloc: Global) -> Result<ConstExpr, NoMemory> {
+    let mut expression = ConstExpr::new(alloc);
+    if let Some(constant) = with_imm(alloc, I32_CONST, Imm::S32(1))? {
+        if constant.opcode() != END {
+            expression.instruction(&constant)?;
+        }
+    }
+    Ok(expression)
+}
+
+/// Segments of one function, and of no expressions of a type of the module.
+fn element_rows(alloc: Global, elements: &mut ElementSection) -> Made<()> {
+    let offset = offset(alloc)?;
+    let functions = Elements::Functions(list_of(alloc, &[1])?);
+    elements.active(None, &offset, &functions)?;
+    elements.active(Some(0), &offset, &functions)?;
+    elements.passive(&functions)?;
+    let expressions = Elements::Expressions(REFERENCE, List::new(alloc));
+    elements.active(None, &offset, &expressions)?;
+    elements.declared(&expressions)?;
+    Ok(())
+}
+
+#[test]
+fn element_segments(rt: HostRuntime) -> Made<()> {
+    let want = [
+        0x05, 0x00, 0x41, 0x01, 0x0b, 0x01, 0x01, 0x02, 0x00, 0x41, 0x01, 0x0b, 0x00, 0x01, 0x01,
+        0x01, 0x00, 0x01, 0x01, 0x06, 0x00, 0x41, 0x01, 0x0b, 0x63, 0x03, 0x00, 0x07, 0x63, 0x03,
+        0x00,
+    ];
+    let mut elements = ElementSection::new(rt.alloc());
+    element_rows(rt.alloc(), &mut elements)?;
+    let mut out = Vec::new(rt.alloc());
+    elements.encode_body(&mut out)?;
+    assert_eq!(rt; out.as_slice(), want.as_slice());
     Ok(())
 }

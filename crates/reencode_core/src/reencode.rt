@@ -32,7 +32,8 @@ use wasm_write as w;
 ///
 /// The clauses `default` and `after_error` of each method hold where the reencoder keeps the defaults. `after_error` says
 /// that, where it is sure too, every error leaves the state after a front part of the visits of what was to be read, want
-/// of memory too.
+/// of memory too. `start_section` takes no memory, and has `sure` in its place: memory is never wanting where no hook wants
+/// any.
 pub trait Reencode: ReencodeItems {
     /// Maps the rows that the reader still has, each by `parse_recursive_type_group`, and adds each row once it is mapped.
     fn parse_type_section(
@@ -284,7 +285,7 @@ pub trait Reencode: ReencodeItems {
     }
 
     /// The index of the function that starts the module, by `function_index` (WebAssembly Core Specification 3.0, section
-    /// 5.5.11). Memory is never wanting where no hook wants any.
+    /// 5.5.11).
     fn start_section(&mut self, start: u32) -> Result<u32, Error<Self::Error>>
         ensures default { IsTrue Self.keeps_defaults
             → Maps Self.reply Self.next self.old (start_tree start) start_tree self.new result }

@@ -144,6 +144,40 @@ pub(crate) fn parse_export<T: ReencodeItems>(
     Ok(())
 }
 
+/// Maps a data segment and adds it. The memory of an active one is mapped by `memory_index`, and then its offset by
+/// `const_expr`.
+pub(crate) fn parse_data<T: ReencodeItems>(
+    reencoder: &mut T,
+    alloc: Global,
+    segments: &mut w::DataSection,
+    datum: r::Data<'_>,
+) -> Result<(), Error<T::Error>>
+    ensures kept { KeepsFront segments.old segments.new }
+    ensures default { IsTrue T.keeps_defaults → (c : ℕ)
+        → GivesRow (ask T.reply T.next) c (reencoder.old, segments.old)
+        (read.data_tree datum.entry) (reencoder.new, segments.new) result }
+    ensures after_error { IsTrue T.keeps_defaults → IsTrue T.sure
+        → LeavesVisited (ask T.reply T.next) reencoder.old (visits (read.data_tree datum.entry))
+        reencoder.new result }
+{
+    let r::Data { kind, contents } = datum;
+    match kind {
+        r::DataKind::Active {
+            memory_index,
+            offset_expr,
+        } => {
+            let memory = reencoder.memory_index(memory_index)?;
+            let offset = reencoder.const_expr(alloc, offset_expr)?;
+            segments.active(memory, &offset, contents)?;
+            Ok(())
+        }
+        r::DataKind::Passive => {
+            segments.passive(contents)?;
+            Ok(())
+        }
+    }
+}
+
 /// Maps what an element segment lists: functions each by `function_index`, or expressions each by `const_expr` and then
 /// their type by `ref_type`.
 pub(crate) fn element_items<T: ReencodeItems>(
@@ -190,40 +224,6 @@ pub(crate) fn answered_table(table_index: Option<u32>, answer: u32) -> Option<u3
     match table_index {
         None => { if answer == 0 { None } else { Some(answer) } }
         Some(_) => Some(answer),
-    }
-}
-
-/// Maps a data segment and adds it. The memory of an active one is mapped by `memory_index`, and then its offset by
-/// `const_expr`.
-pub(crate) fn parse_data<T: ReencodeItems>(
-    reencoder: &mut T,
-    alloc: Global,
-    segments: &mut w::DataSection,
-    datum: r::Data<'_>,
-) -> Result<(), Error<T::Error>>
-    ensures kept { KeepsFront segments.old segments.new }
-    ensures default { IsTrue T.keeps_defaults → (c : ℕ)
-        → GivesRow (ask T.reply T.next) c (reencoder.old, segments.old)
-        (read.data_tree datum.entry) (reencoder.new, segments.new) result }
-    ensures after_error { IsTrue T.keeps_defaults → IsTrue T.sure
-        → LeavesVisited (ask T.reply T.next) reencoder.old (visits (read.data_tree datum.entry))
-        reencoder.new result }
-{
-    let r::Data { kind, contents } = datum;
-    match kind {
-        r::DataKind::Active {
-            memory_index,
-            offset_expr,
-        } => {
-            let memory = reencoder.memory_index(memory_index)?;
-            let offset = reencoder.const_expr(alloc, offset_expr)?;
-            segments.active(memory, &offset, contents)?;
-            Ok(())
-        }
-        r::DataKind::Passive => {
-            segments.passive(contents)?;
-            Ok(())
-        }
     }
 }
 
