@@ -6,6 +6,7 @@
 //! |---|---|
 //! | `text` | the module is printed as hexadecimal digits, and not re-encoded |
 //! | `make` | it is made, and not re-encoded |
+//! | `read` | its operators are read with their immediates, and not mapped: it prints how many of both there are |
 //! | `default` | by a reencoder that overrides nothing |
 //! | `roundtrip` | by `RoundtripReencoder` |
 //! | `renamer` | by `Renamer`, without entries |
@@ -13,8 +14,10 @@
 #![tactic(auto)]
 
 mod making;
+mod reading;
 
 use crate::making::module;
+use crate::reading::operators_len;
 use default_renamer::DefaultRenamer;
 use reencode_core::{Reencode, reencode_core};
 use reencode_hooks::{Renamer, RoundtripReencoder};
@@ -90,6 +93,7 @@ fn renaming(alloc: Global) -> Result<Renamer, NoMemory> {
 fn once(alloc: Global, way: &str, module: &[u8]) -> Result<Option<usize>, NoMemory> {
     match way {
         "make" => Ok(Some(module.len())),
+        "read" => Ok(Some(operators_len(alloc, module).unwrap_or(0))),
         "default" => {
             let renamer = Renamer::new(alloc);
             Ok(Some(len_of(alloc, &mut DefaultRenamer { renamer }, module)))

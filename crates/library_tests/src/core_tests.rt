@@ -320,7 +320,7 @@ where
     let body = [0x01, 0x07, 0x00, 0x20, 0x00, 0x20, 0x01, 0x6a, 0x0b];
     sections_of_a_kind(reencoder, alloc, &mut module, SectionId::Code, &body)?;
     let count = module.len();
-    let none = sections_of_a_kind(reencoder, alloc, &mut module, SectionId::Start, &[0x00]);
+    let none = sections_of_a_kind(reencoder, alloc, &mut module, SectionId::Start, &[]);
     let is_refused = matches!(none, Err(Error::ParseError(ReadError { at: 0 })));
     Ok((count, is_refused && module.len() == count))
 }
@@ -331,4 +331,31 @@ fn sections_by_kind(rt: HostRuntime) {
         sections_after(&mut RoundtripReencoder, rt.alloc()).ok(),
         Some((2, true))
     );
+}
+
+/// The sections `08 01 00` of a start function and `0c 01 02` of a data count, each by the free function and by the method,
+/// and the start function by itself.
+fn sections_of_one_item<R: Reencode>(
+    reencoder: &mut R,
+    alloc: Global,
+) -> Result<(w::Module, u32), Error<R::Error>> {
+    let mut module = w::Module::new(alloc, u32::MAX)?;
+    sections_of_a_kind(reencoder, alloc, &mut module, SectionId::Start, &[0x00])?;
+    sections_of_a_kind(reencoder, alloc, &mut module, SectionId::DataCount, &[0x02])?;
+    let start = reencoder.start_section(0)?;
+    Ok((module, start))
+}
+
+#[test]
+fn sections_are_one_item(rt: HostRuntime) -> Result<(), Error<Unmapped>> {
+    let mut renamer = renamer(rt.alloc())?;
+    renamer.set(Space::DataCount, 2, 128)?;
+    let expected = [
+        0x00, 0x61, 0x73, 0x6d, 0x01, 0x00, 0x00, 0x00, 0x08, 0x01, 0x07, 0x08, 0x01, 0x07, 0x0c,
+        0x02, 0x80, 0x01, 0x0c, 0x02, 0x80, 0x01,
+    ];
+    let (module, start) = sections_of_one_item(&mut renamer, rt.alloc())?;
+    assert_eq!(rt; module.as_slice(), expected.as_slice());
+    assert_eq!(rt; start, 7);
+    Ok(())
 }

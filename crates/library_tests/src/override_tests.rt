@@ -1,4 +1,5 @@
 //! A reencoder that overrides methods, and does not keep the defaults.
+use reencode_core::{Reencode, reencode_core};
 use reencode_hooks::{Error, ReencodeIndices};
 use reencode_items::{ReencodeItems, utils};
 use std::alloc::Global;
@@ -19,7 +20,8 @@ enum Way {
     Refuses,
 }
 
-/// Answers every index as it is, writes every `i32` as an `i64`, and maps operators in a way of its own.
+/// Answers every index as it is, writes every `i32` as an `i64`, starts with function 9, and maps operators in a way of its
+/// own.
 #[derive(Clone, Copy)]
 struct Overrider(Way);
 
@@ -123,6 +125,12 @@ impl ReencodeItems for Overrider {
     }
 }
 
+impl Reencode for Overrider {
+    fn start_section(&mut self, _start: u32) -> Result<u32, Error<Infallible>> {
+        Ok(9)
+    }
+}
+
 #[test]
 fn overrides_are_called(rt: HostRuntime) -> Result<(), Error<Infallible>> {
     let mut types = List::with_capacity(rt.alloc(), 2)?;
@@ -152,4 +160,17 @@ fn expressions_keep_their_end(rt: HostRuntime) {
     assert_eq!(rt; is_invalid(rt.alloc(), Way::Ends), Ok(true));
     assert_eq!(rt; is_invalid(rt.alloc(), Way::PassesBy), Ok(true));
     assert_eq!(rt; is_invalid(rt.alloc(), Way::Refuses), Ok(true));
+}
+
+#[test]
+fn start_functions_are_overridden(rt: HostRuntime) -> Result<(), Error<Infallible>> {
+    let bytes = [
+        0x00, 0x61, 0x73, 0x6d, 0x01, 0x00, 0x00, 0x00, 0x08, 0x01, 0x00, 0x0c, 0x01, 0x00,
+    ];
+    let expected = [
+        0x00, 0x61, 0x73, 0x6d, 0x01, 0x00, 0x00, 0x00, 0x08, 0x01, 0x09, 0x0c, 0x01, 0x00,
+    ];
+    let given = reencode_core(rt.alloc(), &mut Overrider(Way::Ends), &bytes, u32::MAX)?;
+    assert_eq!(rt; given.as_slice(), expected.as_slice());
+    Ok(())
 }

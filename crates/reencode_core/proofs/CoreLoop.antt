@@ -464,7 +464,8 @@ module _ {S E : Type 0} (asked : Asks S E) where
         -- the visits before a fault inside it
         within : (at : ℕ) → BodyFault asked mid.ceiling k body n s' at → Further asked n s'
         within at (_, inl q) = let P : S → Type 0 = λ z. Further asked n z in subst P (sym q.2) (further_none asked n)
-        within at (_, inr q) =
+        within at (_, inr (inr q)) = let P : S → Type 0 = λ z. Further asked n z in subst P (sym q.3) (further_none asked n)
+        within at (_, inr (inl q)) =
             let f = q.fault in
             let walked : walk asked mid.ceiling n (rows_then f.read Tree.nil) ≡ accepted (rows_then f.made Tree.nil) f.state = f.accepts Tree.nil in
             further_then asked n f.state s' (walk_further asked mid.ceiling n f.state (rows_then f.read Tree.nil) (rows_then f.made Tree.nil) walked) f.further

@@ -1,7 +1,9 @@
 -- The state that the calls leave, after a front part of the visits of what is read.
-use Rattle.std.proofs.Common.{◌≡◌, ℕ, suc, List, [], ◌∷◌, ◌++◌, length, map, Bool, true, false, Result, Ok, refl, sym, ap, ◌∙◌, append_assoc, append-nil, arith, subst, ◌⊎◌, inl, inr}
+use Rattle.std.proofs.Common.{◌≡◌, ℕ, suc, List, [], ◌∷◌, ◌++◌, length, map, Bool, true, false, Result, refl, sym, ap, ◌∙◌, append_assoc, append-nil, arith, subst, ◌⊎◌, inl, inr}
 use Rattle.std.proofs.lemmas.List.{map-append}
+use Rattle.wasm_leb.specs.Leb.{IsUnsigned}
 use Rattle.wasm_shapes.specs.declared.SectionId.{SectionId}
+use Rattle.wasm_shapes.specs.declared.Space.{Space}
 use Rattle.wasm_shapes.specs.declared.Visit.{Visit}
 use Rattle.wasm_shapes.specs.Tree.{Tree, visits}
 use Rattle.wasm_shapes.specs.Shape.{Shape, closed}
@@ -15,6 +17,10 @@ use Rattle.wasm_shapes.proofs.Rows.{rows_first}
 use Rattle.wasm_read.specs.declared.types.SubType as r
 use Rattle.wasm_read.specs.declared.types.ValType.{ValType}
 use Rattle.wasm_read.specs.declared.types.Export.{Export}
+use Rattle.wasm_read.specs.declared.types.TableType.{TableType}
+use Rattle.wasm_read.specs.declared.types.TableInit.{TableInit}
+use Rattle.wasm_read.specs.declared.types.TableInit.TheVariants as init
+use Rattle.wasm_read.specs.Expressions.{expr_tree}
 use Rattle.wasm_read.specs.Immediates as read_code
 use Rattle.wasm_read.specs.Operations.{Reading, rest_of, frame_row}
 use Rattle.wasm_read.specs.Reading.{Standing, CountRead, RowRead}
@@ -26,14 +32,14 @@ use Rattle.reencode_hooks.specs.Run.{Step, accepted, refused, Visited}
 use Rattle.reencode_hooks.specs.Walk.{walk}
 use Rattle.reencode_items.specs.Maps.{VisitedOperator}
 use Rattle.reencode_items.proofs.Leaving.{accepted_visited, first_visited, none_visited, second_visited, visited_left}
-use Rattle.reencode_core.specs.Rows.{Asks, GivesRows, locals}
-use Rattle.reencode_core.specs.Sections.{HasRows, ReadsAs}
+use Rattle.reencode_core.specs.Rows.{Asks, locals}
+use Rattle.reencode_core.specs.Sections.{HasItem, HasRows, ReadsAs}
 use Rattle.reencode_core.specs.Leaves.{BodyOf, LeavesReading, LocalsOf, RowsOf}
 use Rattle.reencode_core.proofs.Known.{section_visits}
 use Rattle.reencode_core.proofs.RowLoop.{RowsDone, first_of}
 use Rattle.reencode_core.proofs.Group.{ItemsDone, rows_then-both}
 use Rattle.reencode_core.proofs.BodyLoop.{ManyLeft, OperatorsDone, body_is, in_frame, many_first, same_locals}
-use Rattle.reencode_core.proofs.OneSection.{rows_read}
+use Rattle.reencode_core.proofs.OneSection.{BodyMade, rows_read, same_item}
 
 -- rows, and others behind them
 visits_behind : (ts : List Tree) (u : Tree) → visits (rows_then ts u) ≡ visits (rows_then ts Tree.nil) ++ visits u
@@ -105,6 +111,13 @@ module _ {S E : Type 0} {asked : Asks S E} where
           let P : Tree → Type 0 = λ z. Visited asked s (visits z) m in
           let row : Visited asked s (visits f.0) m = subst P (sym g.1) (leaves g.0 g.2) in
           subst P (sym f.3) (first_visited (visits f.1) row)
+
+  -- ---- a table
+
+  -- its type was asked in part
+  pub table_leaves : {s m : S} (ty : TableType) (starts : TableInit) → Visited asked s (visits (read.table_type_tree ty)) m → Visited asked s (visits (read.table_parts starts ty)) m
+  table_leaves ty init.RefNull v = v
+  table_leaves ty (init.Expr e) v = first_visited (visits (expr_tree e)) v
 
   -- ---- an export
 
@@ -197,10 +210,19 @@ module _ {S E : Type 0} {asked : Asks S E} where
       let Q : List Visit → Type 0 = λ z. Visited asked s z m in
       subst P (sym v.1) (subst Q (sym (section_visits k (Tree.vec v.0))) (leaves v.0 v.2))
 
-  -- all rows were accepted
-  pub section_leaves_all : {c : ℕ} {s m : S} {old new : List Tree} (k : SectionId) (known : HasRows k) {bytes : List ℕ} {reader : Standing} → CountRead bytes reader →
-      GivesRows asked c (row_of k) reader (s, old) (m, new) (Ok tt) → Leaves (ReadsAs k bytes) asked s m
-  section_leaves_all {c = c} k known there g = section_leaves k known there (λ rows r. accepted_visited c rows (g.reading rows r).1)
+  -- its body was accepted
+  pub section_leaves_all : {c : ℕ} {s m : S} {bytes : List ℕ} {made : Tree} (k : SectionId) → BodyMade asked k bytes c s m made → Leaves (ReadsAs k bytes) asked s m
+  section_leaves_all {c = c} {s = s} {m = m} k b = λ t r.
+      let v = b.becomes t r in
+      let P : Tree → Type 0 = λ z. Visited asked s (visits z) m in
+      let Q : List Visit → Type 0 = λ z. Visited asked s z m in
+      subst P (sym v.1) (subst Q (sym (section_visits k v.0)) (accepted_visited c v.0 v.2))
+
+  -- its one item was asked
+  pub section_leaves_item : {s m : S} {bytes : List ℕ} {n : ℕ} (k : SectionId) {space : Space} (one : HasItem k space) → IsUnsigned 32 bytes n →
+      Visited asked s (visits (Tree.ix space n)) m → Leaves (ReadsAs k bytes) asked s m
+  section_leaves_item {s = s} {m = m} k one filled v = λ t r.
+      let P : Tree → Type 0 = λ z. Visited asked s (visits z) m in subst P (sym (same_item asked k one filled t r)) v
 
   -- ---- the bytes
 

@@ -2,6 +2,7 @@ pub mod Usual
 pub mod Known
 pub mod Counts
 pub mod RowLoop
+pub mod EachItem
 pub mod EachRow
 pub mod OneSection
 pub mod CoreLoop
@@ -9,6 +10,7 @@ pub mod WholeBytes
 pub mod OneRow
 pub mod DataRow
 pub mod Group
+pub mod ElementWalks
 pub mod BodyLoop
 pub mod Locals
 pub mod WholeBody

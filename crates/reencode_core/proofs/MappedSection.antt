@@ -1,9 +1,13 @@
 -- A section whose rows were mapped, as it is added to a module.
-use Rattle.std.proofs.Common.{◌≡◌, ℕ, List, [], ◌∷◌, Result, Ok, Err, IsErrAnd, IsTrue, refl, sym, ap, ◌∙◌, subst}
+use Rattle.std.proofs.Common.{◌≡◌, ◌≢◌, ℕ, List, [], ◌∷◌, None, Result, Ok, Err, IsErrAnd, IsTrue, refl, sym, ap, ◌∙◌, subst}
 use Rattle.wasm_leb.specs.declared.fault.Fault.{Fault}
+use Rattle.wasm_leb.specs.declared.fault.ReadError.{ReadError}
+use Rattle.wasm_leb.specs.Leb.{IsUnsigned}
 use Rattle.wasm_leb.specs.Place.{BeginsNoNumber}
 use Rattle.wasm_shapes.specs.declared.SectionId.{SectionId}
 use Rattle.wasm_shapes.specs.declared.SectionId.TheVariants as id
+use Rattle.wasm_shapes.specs.declared.Space.{Space}
+use Rattle.wasm_shapes.specs.declared.Visit.TheVariants.{Index}
 use Rattle.wasm_shapes.specs.Tree.{Tree, normal, visits}
 use Rattle.wasm_shapes.specs.Shape.{Shape}
 use Rattle.wasm_shapes.specs.Module.{body_of, row_of}
@@ -13,20 +17,25 @@ use Rattle.wasm_write.specs.Bodies.{CodeRows}
 use Rattle.wasm_shapes.specs.Types.{vector_tree}
 use Rattle.wasm_write.specs.Sections.{Sections, section_row}
 use Rattle.reencode_hooks.specs.declared.error.Error.{Error}
-use Rattle.reencode_hooks.specs.declared.error.Error.TheVariants.{ParseError}
+use Rattle.reencode_hooks.specs.declared.error.Error.TheVariants.{NoMemory, ParseError}
 use Rattle.reencode_hooks.specs.declared.indices.ReencodeIndices.{Ghosts}
-use Rattle.reencode_hooks.specs.Errors.{error_of_fault}
+use Rattle.reencode_hooks.specs.Errors.{error_of_fault, error_of_write}
+use Rattle.reencode_hooks.specs.Hooks.{Replies}
+use Rattle.reencode_hooks.specs.Run.{NeverWants, refused}
+use Rattle.reencode_hooks.specs.Walk.{walk}
 use Rattle.reencode_items.proofs.Leaving.{none_visited}
+use Rattle.reencode_core.specs.Errors.{IfParse}
 use Rattle.reencode_core.specs.Rows.{GivesRows}
-use Rattle.reencode_core.specs.Sections.{AddsMapped, GivesSection, HasRows, KeepsModule, ReadsAs}
+use Rattle.reencode_core.specs.Sections.{AddsMapped, GivesSection, HasItem, HasRows, KeepsModule, NoItem, ReadsAs}
 use Rattle.reencode_core.specs.Leaves.{LeavesReading, RowsOf}
 use Rattle.reencode_core.proofs.EachBody.{CodeClauses}
 use Rattle.reencode_core.proofs.EachRow.{RowsClauses}
 use Rattle.reencode_core.proofs.Known.{keeps_same}
-use Rattle.reencode_core.proofs.Leaving.{section_leaves, section_leaves_all}
-use Rattle.reencode_core.proofs.OneRow.{answers, asks}
+use Rattle.reencode_core.proofs.Leaving.{Leaves, section_leaves, section_leaves_all, section_leaves_item}
+use Rattle.reencode_core.proofs.OneRow.{MapsIf, answers, asks, index_maps, sure_left}
+use Rattle.reencode_core.proofs.OneSection.{BodyMade, gives_none, item_made, item_missing, item_stops, rows_made, rows_stop, section_given, section_not_given, section_uncounted}
 use Rattle.reencode_core.proofs.RowLoop.{at_ceiling}
-use Rattle.reencode_core.proofs.OneSection.{gives_none, rows_stop, section_given, section_not_given, section_uncounted}
+use Rattle.reencode_core.proofs.Usual.{stops_usual, usual_walk}
 
 -- the clauses of the call that maps a section
 abbrev pub SectionClauses : {S E : Type 0} → Ghosts S E → SectionId → List ℕ → S → Sections → S → Sections → Result (Unit {0}) (Error E) → Type 0
@@ -37,6 +46,19 @@ SectionClauses i kind body s old m new result =
       after_error : IsTrue i.keeps_defaults → IsTrue i.sure → LeavesReading (ReadsAs kind body) (asks i) s m result;
     }
 
+-- the clauses of the call that maps a section's one item
+abbrev pub ItemClauses : {S E : Type 0} → Ghosts S E → Space → S → ℕ → S → Result ℕ (Error E) → Type 0
+ItemClauses i space s n m result =
+    record {
+      default : MapsIf i s (Tree.ix space n) (Tree.ix space) m result;
+      sure : IsTrue i.keeps_defaults → NeverWants i.sure result;
+    }
+
+-- the clauses of a hook are such
+pub hook_item : {S E : Type 0} (i : Ghosts S E) (space : Space) (s m : S) (n : ℕ) (r : Result ℕ (Error E)) →
+    record { answer : Replies i.reply i.next s m (Index space n) r; sure : NeverWants i.sure r } → ItemClauses i space s n m r
+hook_item i space s m n r hook = record { default = index_maps i s m space n r hook.answer; sure = λ keeps. hook.sure }
+
 keeps_none : {old new : Sections} → new ≡ old → KeepsModule old new
 keeps_none {old = old} e = let P : Sections → Type 0 = λ z. KeepsModule old z in subst P (sym e) (keeps_same old)
 
@@ -45,56 +67,76 @@ module _ {S E : Type 0} (i : Ghosts S E) {kind : SectionId} {body : List ℕ} {s
   pub section_unknown : body_of kind ≡ Shape.none → SectionClauses i kind body s old s old (Err (ParseError (record { at = 0 })))
   section_unknown none = record { kept = keeps_same old; default = λ k. gives_none (asks i) kind s body old none; after_error = λ k sure t reads. none_visited s (visits t) }
 
-  module _ {k : SectionId} (same : kind ≡ k) (known : HasRows k) where
-    -- the count of the rows is missing
-    pub section_unread : (f : Fault) → ReadsNone f 0 (BeginsNoNumber 128 32 32 body) → (r : Result (Unit {0}) (Error E)) → IsErrAnd r (λ y. y ≡ error_of_fault f) →
-        SectionClauses i kind body s old s old r
-    section_unread f none r q =
-        let P : SectionId → Type 0 = λ z. SectionClauses i z body s old s old (Err (error_of_fault f)) in
-        let Q : Result (Unit {0}) (Error E) → Type 0 = λ z. SectionClauses i kind body s old s old z in
-        subst Q (answers r q) (subst P (sym same) (record {
-          kept = keeps_same old;
-          default = λ keeps. section_uncounted (asks i) k known s body old f none;
-          after_error = λ keeps sure t reads. none_visited s (visits t);
-        }))
+  module _ {k : SectionId} (same : kind ≡ k) where
+    -- of a kind that is known
+    of_kind : {m : S} {new : Sections} {r : Result (Unit {0}) (Error E)} → SectionClauses i k body s old m new r → SectionClauses i kind body s old m new r
+    of_kind {m = m} {new = new} {r = r} clauses = let P : SectionId → Type 0 = λ z. SectionClauses i z body s old m new r in subst P (sym same) clauses
 
-    section_mapped : {reader : Standing} {start made : List Tree} {m : S} {new : Sections} (mapped r : Result (Unit {0}) (Error E)) → start ≡ [] → CountRead body reader →
-        (IsTrue i.keeps_defaults → GivesRows (asks i) old.ceiling (row_of k) reader (s, start) (m, made) mapped) →
-        (IsTrue i.keeps_defaults → IsTrue i.sure → LeavesReading (RowsOf (row_of k) reader) (asks i) s m mapped) →
-        AddsMapped (section_row (number k) (normal (vector_tree made))) old mapped new r → SectionClauses i kind body s old m new r
-    section_mapped {reader = reader} {start = start} {made = made} {m = m} {new = new} mapped r empty there gives leaves adds =
-        let P : SectionId → Type 0 = λ z. SectionClauses i z body s old m new r in subst P (sym same) (go mapped r gives leaves adds)
-      where
-        unchanged : (e : Error E) → new ≡ old → GivesSection (asks i) k body (s, old) (m, old) (Err e) → GivesSection (asks i) k body (s, old) (m, new) (Err e)
-        unchanged e h g = let P : Sections → Type 0 = λ z. GivesSection (asks i) k body (s, old) (m, z) (Err e) in subst P (sym h) g
+    -- an error, with which nothing was added
+    stopped : {m : S} {new : Sections} (e : Error E) → new ≡ old → (IsTrue i.keeps_defaults → GivesSection (asks i) k body (s, old) (m, old) (Err e)) →
+        (IsTrue i.keeps_defaults → IsTrue i.sure → Leaves (ReadsAs k body) (asks i) s m) → (r : Result (Unit {0}) (Error E)) → Err e ≡ r → SectionClauses i kind body s old m new r
+    stopped {m = m} {new = new} e unchanged gives leaves r answer =
+        let P : Result (Unit {0}) (Error E) → Type 0 = λ z. SectionClauses i kind body s old m new z in
+        let Q : Sections → Type 0 = λ z. GivesSection (asks i) k body (s, old) (m, z) (Err e) in
+        subst P answer (of_kind (record { kept = keeps_none unchanged; default = λ keeps. subst Q (sym unchanged) (gives keeps); after_error = leaves }))
 
-        go : (mapped r : Result (Unit {0}) (Error E)) → (IsTrue i.keeps_defaults → GivesRows (asks i) old.ceiling (row_of k) reader (s, start) (m, made) mapped) →
-            (IsTrue i.keeps_defaults → IsTrue i.sure → LeavesReading (RowsOf (row_of k) reader) (asks i) s m mapped) →
-            AddsMapped (section_row (number k) (normal (vector_tree made))) old mapped new r → SectionClauses i k body s old m new r
-        go (Err e) r gives leaves adds =
-            let P : Result (Unit {0}) (Error E) → Type 0 = λ z. SectionClauses i k body s old m new z in
-            subst P (sym adds.0) (record {
-              kept = keeps_none adds.1;
-              default = λ keeps. unchanged e adds.1 (rows_stop (asks i) k known s m body reader start made old e empty there (gives keeps));
-              after_error = λ keeps sure. section_leaves k known there (leaves keeps sure);
-            })
-        go (Ok u) (Ok v) gives leaves adds = record {
-          kept = (section_row (number k) (normal (vector_tree made)) ∷ [], adds.0);
-          default = λ keeps. section_given (asks i) k known s m body reader start made old new empty there (gives keeps) adds.0 adds.1;
-          after_error = λ keeps sure t reads. tt;
-        }
-        go (Ok u) (Err e) gives leaves adds =
-            let P : Error E → Type 0 = λ z. SectionClauses i k body s old m new (Err z) in
-            subst P (sym adds.2) (record {
-              kept = keeps_none adds.0;
-              default = λ keeps. unchanged _ adds.0 (section_not_given (asks i) k known s m body reader start made old adds.1 empty there (gives keeps) adds.3);
-              after_error = λ keeps sure. section_leaves_all k known there (gives keeps);
-            })
+    -- the body was accepted: the section is added, or it is too large
+    section_added : {made : Tree} {m : S} {new : Sections} (r : Result (Unit {0}) (Error E)) → (IsTrue i.keeps_defaults → BodyMade (asks i) k body old.ceiling s m made) →
+        AddsMapped {E = E} (section_row (number k) (normal made)) old (Ok tt) new r → SectionClauses i kind body s old m new r
+    section_added {made = made} {m = m} {new = new} (Ok v) accepted adds = of_kind (record {
+      kept = (section_row (number k) (normal made) ∷ [], adds.0);
+      default = λ keeps. section_given (asks i) k s m body made old (accepted keeps) new adds.0 adds.1;
+      after_error = λ keeps sure t reads. tt;
+    })
+    section_added {made = made} {m = m} (Err e) accepted adds =
+        stopped (error_of_write adds.1) adds.0 (λ keeps. section_not_given (asks i) k s m body made old (accepted keeps) adds.1 adds.3)
+        (λ keeps sure. section_leaves_all k (accepted keeps)) (Err e) (ap (λ (x : Error E). Err x) (sym adds.2))
 
-    -- its rows were mapped, or refused
-    pub section_done : {reader : Standing} {start made : List Tree} {m : S} {new : Sections} (mapped r : Result (Unit {0}) (Error E)) → start ≡ [] → CountRead body reader →
-        RowsClauses i (row_of k) reader s start m made mapped → AddsMapped (section_row (number k) (normal (vector_tree made))) old mapped new r → SectionClauses i kind body s old m new r
-    section_done mapped r empty there rows adds = section_mapped mapped r empty there (λ keeps. rows.default keeps old.ceiling) rows.after_error adds
+    -- ---- rows
+
+    module _ (known : HasRows k) where
+      -- the count of the rows is missing
+      pub section_unread : (f : Fault) → ReadsNone f 0 (BeginsNoNumber 128 32 32 body) → (r : Result (Unit {0}) (Error E)) → IsErrAnd r (λ y. y ≡ error_of_fault f) →
+          SectionClauses i kind body s old s old r
+      section_unread f none r q =
+          stopped (error_of_fault f) refl (λ keeps. section_uncounted (asks i) k known s body old f none) (λ keeps sure t reads. none_visited s (visits t)) r (answers r q)
+
+      section_mapped : {reader : Standing} {start made : List Tree} {m : S} {new : Sections} (mapped r : Result (Unit {0}) (Error E)) → start ≡ [] → CountRead body reader →
+          (IsTrue i.keeps_defaults → GivesRows (asks i) old.ceiling (row_of k) reader (s, start) (m, made) mapped) →
+          (IsTrue i.keeps_defaults → IsTrue i.sure → LeavesReading (RowsOf (row_of k) reader) (asks i) s m mapped) →
+          AddsMapped (section_row (number k) (normal (vector_tree made))) old mapped new r → SectionClauses i kind body s old m new r
+      section_mapped {reader = reader} {start = start} {made = made} {m = m} (Err e) r empty there gives leaves adds =
+          stopped e adds.1 (λ keeps. rows_stop (asks i) k known s m body reader start made old e empty there (gives keeps))
+          (λ keeps sure. section_leaves k known there (leaves keeps sure)) r (sym adds.0)
+      section_mapped (Ok u) r empty there gives leaves adds = section_added r (λ keeps. rows_made (asks i) k known empty there (gives keeps)) adds
+
+      -- its rows were mapped, or refused
+      pub section_done : {reader : Standing} {start made : List Tree} {m : S} {new : Sections} (mapped r : Result (Unit {0}) (Error E)) → start ≡ [] → CountRead body reader →
+          RowsClauses i (row_of k) reader s start m made mapped → AddsMapped (section_row (number k) (normal (vector_tree made))) old mapped new r → SectionClauses i kind body s old m new r
+      section_done mapped r empty there rows adds = section_mapped mapped r empty there (λ keeps. rows.default keeps old.ceiling) rows.after_error adds
+
+    -- ---- one item
+
+    module _ {space : Space} (one : HasItem k space) where
+      -- it is missing, or bytes are left behind it
+      pub item_unread : (e : ReadError) → NoItem body e.at → (r : Result (Unit {0}) (Error E)) → IsErrAnd r (λ y. y ≡ ParseError e) → SectionClauses i kind body s old s old r
+      item_unread e none r q = stopped (ParseError e) refl (λ keeps. item_missing (asks i) k one s body old e none) (λ keeps sure t reads. none_visited s (visits t)) r (answers r q)
+
+      module _ {n : ℕ} {m : S} (filled : IsUnsigned 32 body n) where
+        -- it is refused
+        pub item_refused : (e : Error E) → ItemClauses i space s n m (Err e) → (r : Result (Unit {0}) (Error E)) → IsErrAnd r (λ y. y ≡ e) → SectionClauses i kind body s old m old r
+        item_refused e asked r q =
+            let maps = λ (keeps : IsTrue i.keeps_defaults). asked.default keeps old.ceiling in
+            stopped e refl (λ keeps. item_stops (asks i) k one s m body n old e filled (maps keeps) (usual (maps keeps)))
+            (λ keeps sure. section_leaves_item k one filled (sure_left i (Tree.ix space n) (Tree.ix space) s m e asked.default asked.sure keeps sure)) r (answers r q)
+          where
+            usual : (e ≢ NoMemory → walk (asks i) old.ceiling s (Tree.ix space n) ≡ refused e m) → IfParse e (λ at. ⊥)
+            usual stops = stops_usual (λ at. ⊥) _ e m (usual_walk i.reply i.next old.ceiling None s (Tree.ix space n) body filled) stops
+
+        -- it was answered, and the section is added
+        pub item_done : {j : ℕ} {new : Sections} (r : Result (Unit {0}) (Error E)) → ItemClauses i space s n m (Ok j) →
+            AddsMapped {E = E} (section_row (number k) (normal (Tree.ix space j))) old (Ok tt) new r → SectionClauses i kind body s old m new r
+        item_done r asked adds = section_added r (λ keeps. item_made (asks i) k one filled (asked.default keeps old.ceiling)) adds
 
   -- the same of its bodies
   pub code_done : {c : ℕ} {reader : Standing} {start made : CodeRows} {m : S} {new : Sections} (mapped r : Result (Unit {0}) (Error E)) → kind ≡ id.Code →

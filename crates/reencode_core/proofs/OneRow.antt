@@ -6,22 +6,22 @@ use Rattle.std.proofs.lemmas.Result.{err_from_is_err_and}
 use Rattle.wasm_shapes.specs.declared.Space.{Space}
 use Rattle.wasm_shapes.specs.declared.Visit.TheVariants.{Index}
 use Rattle.wasm_shapes.specs.Tree.{Tree, visits}
-use Rattle.wasm_shapes.specs.Shape.{table_type}
-use Rattle.wasm_shapes.specs.Spells.{Is}
+use Rattle.wasm_shapes.specs.Types.{led, expression_of}
 use Rattle.wasm_read.specs.declared.types.Export.{Export}
 use Rattle.wasm_read.specs.declared.types.Import.{Import}
 use Rattle.wasm_read.specs.declared.types.Imports.TheVariants as imported
 use Rattle.wasm_read.specs.declared.types.TableType.{TableType}
-use Rattle.wasm_read.specs.declared.types.TableInit.{TableInit}
 use Rattle.wasm_read.specs.declared.types.TableInit.TheVariants as init
+use Rattle.wasm_read.specs.Expressions.{Expression, expr_tree}
 use Rattle.wasm_read.specs.Types as read
 use Rattle.wasm_write.specs.declared.fault.WriteFault.{WriteFault}
 use Rattle.wasm_write.specs.declared.fault.WriteFault.TheVariants as fault
 use Rattle.wasm_write.specs.declared.types.EntityType.{EntityType}
+use Rattle.wasm_write.specs.declared.types.TableType as made
 use Rattle.wasm_write.specs.declared.types.ExportKind.{ExportKind}
 use Rattle.wasm_write.specs.Faults.{IfTooLarge}
 use Rattle.wasm_write.specs.Counts.{counts, IsTooLarge}
-use Rattle.wasm_write.specs.Rows.{item_tree, export_tree}
+use Rattle.wasm_write.specs.Rows.{null_table_tree, table_with_init_tree, item_tree, export_tree}
 use Rattle.wasm_write.specs.Types as write
 use Rattle.reencode_hooks.specs.declared.error.Error.{Error}
 use Rattle.reencode_hooks.specs.declared.error.Error.TheVariants.{NoMemory}
@@ -118,12 +118,39 @@ pub import_maps : {S E : Type 0} (i : Ghosts S E) (s m : S) (row : Import) (r : 
 import_maps i s m row (Ok x) maps = λ k c. rw (maps k c) refl
 import_maps i s m row (Err e) maps = λ k c other. rw (maps k c other) refl
 
--- ---- tables
+-- ---- a type, and the expression of a first value
 
--- a table that was read starts with null references
-pub table_starts : (ty : TableType) (i : TableInit) → Is table_type (read.table_parts i ty) → i ≡ init.RefNull
-table_starts ty init.RefNull d = refl
-table_starts ty (init.Expr e) d = elim d [ ]
+-- a row of a choice, and what stands behind a byte
+module _ {S E B : Type 0} (i : Ghosts S E) (s m : S) (t : Tree) (view : B → Tree) where
+  in_row : (j : ℕ) (r : Result B (Error E)) → MapsIf i s t view m r → MapsIf i s (Tree.row j t) (λ b. Tree.row j (view b)) m r
+  in_row j (Ok b) maps = λ k c. rw (maps k c) refl
+  in_row j (Err e) maps = λ k c other. rw (maps k c other) refl
+
+  behind_byte : (x : ℕ) (r : Result B (Error E)) → MapsIf i s t view m r → MapsIf i s (led x t) (λ b. led x (view b)) m r
+  behind_byte x (Ok b) maps = λ k c. rw (maps k c) refl
+  behind_byte x (Err e) maps = λ k c other. rw (maps k c other) refl
+
+-- two parts, of which the first was accepted
+pub second_mapped : {S E A B : Type 0} (i : Ghosts S E) (s n m : S) (t u : Tree) (front : A → Tree) (behind : B → Tree) (a : A) (r : Result B (Error E)) →
+    MapsIf i s t front n (Ok a) → MapsIf i n u behind m r → MapsIf i s (Tree.pair t u) (λ (b : B). Tree.pair (front a) (behind b)) m r
+second_mapped i s n m t u front behind a (Ok b) first maps = λ k c. rw (first k c, maps k c) refl
+second_mapped i s n m t u front behind a (Err e) first maps = λ k c other. rw (first k c, maps k c other) refl
+
+-- a table that starts with null references, and one that starts with the value of an expression
+pub null_table_mapped : {S E : Type 0} (i : Ghosts S E) (s m : S) (ty : TableType) (r : Result made.TableType (Error E)) → MapsIf i s (read.table_type_tree ty) write.table_type_tree m r →
+    MapsIf i s (read.table_parts init.RefNull ty) null_table_tree m r
+null_table_mapped i s m ty r maps = in_row i s m (read.table_type_tree ty) write.table_type_tree 0 r maps
+
+pub table_mapped : {S E : Type 0} (i : Ghosts S E) (s n m : S) (ty : TableType) (e : Expression) (made : made.TableType) (r : Result (List Tree) (Error E)) →
+    MapsIf i s (read.table_type_tree ty) write.table_type_tree n (Ok made) → MapsIf i n (expr_tree e) expression_of m r →
+    MapsIf i s (read.table_parts (init.Expr e) ty) (table_with_init_tree made) m r
+table_mapped i s n m ty e made r first maps =
+    let parts : Tree = Tree.pair (read.table_type_tree ty) (expr_tree e) in
+    let view : List Tree → Tree = λ b. Tree.pair (write.table_type_tree made) (expression_of b) in
+    in_row i s m (led 0x40 (led 0x00 parts)) (λ b. led 0x40 (led 0x00 (view b))) 1 r
+    (behind_byte i s m (led 0x00 parts) (λ b. led 0x00 (view b)) 0x40 r
+    (behind_byte i s m parts view 0x00 r
+    (second_mapped i s n m (read.table_type_tree ty) (expr_tree e) write.table_type_tree expression_of made r first maps)))
 
 -- ---- exports
 

@@ -1,12 +1,17 @@
--- A section, from its rows.
-use Rattle.std.proofs.Common.{◌≡◌, ◌≢◌, ℕ, suc, ◌+◌, ◌-◌, ◌<◌, ◌≤◌, ◌^◌, List, [], ◌∷◌, ◌++◌, length, Ok, Err, refl, sym, ap, ◌∙◌, arith, subst, inl, inr, ◌⊎◌}
+-- A section, from its rows or its one item.
+use Rattle.std.proofs.Common.{◌≡◌, ◌≢◌, ℕ, suc, ◌+◌, ◌-◌, ◌<◌, ◌≤◌, ◌^◌, List, [], ◌∷◌, ◌++◌, length, Ok, Err, refl, sym, ap, ◌∙◌, append-nil, arith, subst, inl, inr, ◌⊎◌}
+use Rattle.std.proofs.lemmas.List.{append_cancel_left}
+use Rattle.wasm_leb.specs.declared.fault.ReadError.{ReadError}
 use Rattle.wasm_leb.specs.declared.fault.Fault.{Fault}
 use Rattle.wasm_leb.specs.declared.fault.Fault.TheVariants as fault
+use Rattle.wasm_leb.specs.Leb.{IsUnsigned}
 use Rattle.wasm_leb.specs.Place.{BeginsNoNumber}
+use Rattle.wasm_leb.proofs.Unique.{unsigned_unique}
 use Rattle.wasm_shapes.specs.declared.SectionId.{SectionId}
+use Rattle.wasm_shapes.specs.declared.Space.{Space}
 use Rattle.wasm_shapes.specs.Tree.{Tree, count, normal}
 use Rattle.wasm_shapes.specs.Shape.{Shape}
-use Rattle.wasm_shapes.specs.Spells.{Is, Spells}
+use Rattle.wasm_shapes.specs.Spells.{Is, Spelled, Spells}
 use Rattle.wasm_shapes.specs.Rows.{RowsLeft, rows_then}
 use Rattle.wasm_shapes.proofs.Rows.{vec_spelled, vec_counted}
 use Rattle.wasm_read.specs.Reading.{Standing, CountRead, ReadsNone}
@@ -24,9 +29,47 @@ use Rattle.reencode_hooks.specs.Run.{Step, accepted, refused}
 use Rattle.reencode_hooks.specs.Walk.{walk}
 use Rattle.reencode_core.specs.Errors.{IfParse}
 use Rattle.reencode_core.specs.Rows.{Asks, onto_rows, AcceptedHooks, TooMany, RefusesFirst, StopsRows, GivesRows}
-use Rattle.reencode_core.specs.Sections.{HasRows, ReadsAs, BodyFault, GivesSection}
+use Rattle.reencode_core.specs.Sections.{HasItem, HasRows, LeftBehind, NoItem, ReadsAs, RowsFaultIn, BodyFault, GivesSection}
 use Rattle.reencode_core.proofs.Usual.{IfParse-map, IfRefused-map, unless_wanting, fault_unrefused, write_usual}
 use Rattle.reencode_core.proofs.Known.{vec_is, section_spelled, section_refuses, section_fits, section_large}
+
+-- ---- a body that is accepted
+
+-- The body has a reading, and of each the tree is accepted and becomes this.
+pub record BodyMade {S E : Type 0} (asked : Asks S E) (k : SectionId) (body : List ℕ) (c : ℕ) (s m : S) (made : Tree) : Type 0 where
+  pub reading : (t : Tree) × ReadsAs k body t
+  pub becomes : (t : Tree) → ReadsAs k body t → (u : Tree) × (t ≡ tree_of k u) × (walk asked c s u ≡ accepted made m)
+
+module _ {S E : Type 0} (asked : Asks S E) (k : SectionId) (s m : S) (body : List ℕ) (made : Tree) (old : Sections) (b : BodyMade asked k body old.ceiling s m made) where
+  pub section_given : (new : Sections) → new ≡ with_section old (section_row (number k) (normal made)) → length (normal made) ≤ old.ceiling →
+      GivesSection asked k body (s, old) (m, new) (Ok tt)
+  section_given new gains fits = record {
+    reading = λ t r.
+        let v = b.becomes t r in
+        (tree_of k made, normal made, rw v.1 (section_fits k asked old.ceiling s m v.0 made v.2 fits), gains, section_spelled k made);
+    readable = b.reading;
+    unreadable = tt;
+    refusal = tt;
+  }
+
+  pub section_not_given : (w : WriteFault) → IfTooLarge w (λ size. (size ≡ length (normal made)) × (old.ceiling < size)) →
+      GivesSection asked k body (s, old) (m, old) (Err (error_of_write w))
+  section_not_given w large = record {
+    reading = λ t r. let v = b.becomes t r in (refl, rw v.1 (stops w large v.0 v.2));
+    readable = tt;
+    unreadable = write_usual E _ w;
+    refusal = unless_wanting (error_of_write w) (λ other. inl b.reading);
+  }
+    where
+      stops : (w : WriteFault) → IfTooLarge w (λ size. (size ≡ length (normal made)) × (old.ceiling < size)) → (u : Tree) →
+          walk asked old.ceiling s u ≡ accepted made m → error_of_write {E = E} w ≢ NoMemory → walk asked old.ceiling s (tree_of k u) ≡ refused (error_of_write w) m
+      stops (write.TooLarge size) q u h other =
+          let same : size ≡ length (normal made) = q.0 in
+          let above : old.ceiling < length (normal made) = let p : old.ceiling < size = q.1 in omega arith in
+          section_large k asked old.ceiling s m u made h above ∙ ap (λ (n : ℕ). refused (TooLarge n) m) (sym same)
+      stops write.NoMemory q u h other = absurd (other refl)
+
+-- ---- rows
 
 -- so many rows stand in front of others
 rows_count : (ts : List Tree) (u : Tree) → count (rows_then ts u) ≡ length ts + count u
@@ -107,61 +150,82 @@ module _ {S E : Type 0} (asked : Asks S E) (k : SectionId) (known : HasRows k) w
             let v = rows_read there t r in
             (refl, λ other. rw v.1 (section_refuses k asked old.ceiling s m (Tree.vec v.0) e (vec_refused v.0 (rows_stopped old.ceiling reader.left s m v.0 rows e v.2.counted there.counted.1.fits (g.reading v.0 v.2) other))));
         readable = tt;
-        unreadable = IfParse-map e (λ at f. ((λ t r. let v = rows_read there t r in f.none.none v.0 v.2), inr (record { has_rows = known; reader = reader; made = rows; counted = there; fault = f }))) g.unreadable;
+        unreadable = IfParse-map e (λ at f. ((λ t r. let v = rows_read there t r in f.none.none v.0 v.2), inr (inl (record { has_rows = known; reader = reader; made = rows; counted = there; fault = f })))) g.unreadable;
         refusal = IfRefused-map e (λ f. inr (record { reader = reader; made = rows; counted = there; stops = f })) g.refusal;
       }
     where
       vec_refused : (u : Tree) → walk asked old.ceiling s u ≡ refused e m → walk asked old.ceiling s (Tree.vec u) ≡ refused e m
       vec_refused u h = rw h refl
 
-  -- ---- the rows were added
+  -- ---- the rows were accepted
 
   vec_accepted : (c : ℕ) (s m : S) (u v : Tree) → walk asked c s u ≡ accepted v m → walk asked c s (Tree.vec u) ≡ accepted (Tree.vec v) m
   vec_accepted c s m u v h = rw h refl
 
-  -- the body that was made
-  body_made : (c : ℕ) (s m : S) (reader : Standing) (start made : List Tree) → start ≡ [] → GivesRows asked c (row_of k) reader (s, start) (m, made) (Ok tt) →
-      (rows : Tree) → RowsLeft (row_of k) reader.left reader.rest rows → walk asked c s (Tree.vec rows) ≡ accepted (vector_tree made) m
-  body_made c s m reader start made empty g rows r =
-      let q = g.reading rows r in
-      let same : made ≡ q.0 = q.2 ∙ ap (λ (z : List Tree). z ++ q.0) empty in
-      vec_accepted c s m rows (rows_then made Tree.nil) (q.1 ∙ ap (λ (z : List Tree). accepted (rows_then z Tree.nil) m) (sym same))
-
-  pub section_given : (s m : S) (body : List ℕ) (reader : Standing) (start made : List Tree) (old new : Sections) → start ≡ [] → CountRead body reader →
-      GivesRows asked old.ceiling (row_of k) reader (s, start) (m, made) (Ok tt) →
-      new ≡ with_section old (section_row (number k) (normal (vector_tree made))) → length (normal (vector_tree made)) ≤ old.ceiling →
-      GivesSection asked k body (s, old) (m, new) (Ok tt)
-  section_given s m body reader start made old new empty there g gains fits = record {
-    reading = λ t r.
+  pub rows_made : {c : ℕ} {s m : S} {body : List ℕ} {reader : Standing} {start made : List Tree} → start ≡ [] → CountRead body reader →
+      GivesRows asked c (row_of k) reader (s, start) (m, made) (Ok tt) → BodyMade asked k body c s m (vector_tree made)
+  rows_made {c = c} {s = s} {m = m} {made = made} empty there g = record {
+    reading = section_read there g.readable.0 g.readable.1;
+    becomes = λ t r.
         let v = rows_read there t r in
-        let done = body_made old.ceiling s m reader start made empty g v.0 v.2 in
-        (tree_of k (vector_tree made), normal (vector_tree made), rw v.1 (section_fits k asked old.ceiling s m (Tree.vec v.0) (vector_tree made) done fits), gains, section_spelled k (vector_tree made));
-    readable = section_read there g.readable.0 g.readable.1;
-    unreadable = tt;
-    refusal = tt;
+        let q = g.reading v.0 v.2 in
+        let same : made ≡ q.0 = q.2 ∙ ap (λ (z : List Tree). z ++ q.0) empty in
+        (Tree.vec v.0, v.1, vec_accepted c s m v.0 (rows_then made Tree.nil) (q.1 ∙ ap (λ (z : List Tree). accepted (rows_then z Tree.nil) m) (sym same)));
   }
 
-  pub section_not_given : (s m : S) (body : List ℕ) (reader : Standing) (start made : List Tree) (old : Sections) (w : WriteFault) → start ≡ [] → CountRead body reader →
-      GivesRows asked old.ceiling (row_of k) reader (s, start) (m, made) (Ok tt) →
-      IfTooLarge w (λ size. (size ≡ length (normal (vector_tree made))) × (old.ceiling < size)) →
-      GivesSection asked k body (s, old) (m, old) (Err (error_of_write w))
-  section_not_given s m body reader start made old w empty there g large = record {
-    reading = λ t r.
-        let v = rows_read there t r in
-        let done = body_made old.ceiling s m reader start made empty g v.0 v.2 in
-        (refl, rw v.1 (stops w large (Tree.vec v.0) done));
-    readable = tt;
-    unreadable = write_usual E _ w;
-    refusal = unless_wanting (error_of_write w) (λ other. inl (section_read there g.readable.0 g.readable.1));
-  }
+-- ---- one item
+
+module _ {S E : Type 0} (asked : Asks S E) (k : SectionId) {space : Space} (one : HasItem k space) where
+  -- the one reading of a body that the item fills
+  item_read : {body : List ℕ} {n : ℕ} → IsUnsigned 32 body n → ReadsAs k body (tree_of k (Tree.ix space n))
+  item_read {body = body} {n = n} filled =
+      let P : Shape → Type 0 = λ z. Spells z body (Tree.ix space n) in (Tree.ix space n, refl, subst P (sym one) (record { shaped = Is.ix; spelled = filled }))
+
+  item_is : {body : List ℕ} (t : Tree) → ReadsAs k body t → (n : ℕ) × (t ≡ tree_of k (Tree.ix space n)) × IsUnsigned 32 body n
+  item_is {body = body} t r =
+      let P : Shape → Type 0 = λ z. Spells z body r.0 in
+      let p = subst P one r.2 in
+      let u = go r.0 p.shaped p.spelled in (u.0, r.1 ∙ ap (tree_of k) u.1, u.2)
     where
-      stops : (w : WriteFault) → IfTooLarge w (λ size. (size ≡ length (normal (vector_tree made))) × (old.ceiling < size)) → (u : Tree) →
-          walk asked old.ceiling s u ≡ accepted (vector_tree made) m → error_of_write {E = E} w ≢ NoMemory → walk asked old.ceiling s (tree_of k u) ≡ refused (error_of_write w) m
-      stops (write.TooLarge size) q u h other =
-          let same : size ≡ length (normal (vector_tree made)) = q.0 in
-          let above : old.ceiling < length (normal (vector_tree made)) = let p : old.ceiling < size = q.1 in omega arith in
-          section_large k asked old.ceiling s m u (vector_tree made) h above ∙ ap (λ (n : ℕ). refused (TooLarge n) m) (sym same)
-      stops write.NoMemory q u h other = absurd (other refl)
+      go : (u : Tree) → Is (Shape.ix space) u → Spelled u body → (n : ℕ) × (u ≡ Tree.ix space n) × IsUnsigned 32 body n
+      go u (Is.ix {i = i}) p = (i, refl, p)
+
+  pub same_item : {body : List ℕ} {n : ℕ} → IsUnsigned 32 body n → (t : Tree) → ReadsAs k body t → t ≡ tree_of k (Tree.ix space n)
+  same_item {body = body} filled t r =
+      let v = item_is t r in v.1 ∙ ap (λ (i : ℕ). tree_of k (Tree.ix space i)) (unsigned_unique [] [] v.2 filled refl).1
+
+  no_item : {body : List ℕ} {at : ℕ} → NoItem body at → (t : Tree) → ReadsAs k body t → ⊥
+  no_item {body = body} (inl h) t r = let v = item_is t r in h.1 body [] v.0 v.2 (sym (append-nil body))
+  no_item {body = body} (inr h) t r =
+      let v = item_is t r in
+      let text : List ℕ = h.begins.0 in
+      let both_ways : text ++ h.rest ≡ body ++ [] = sym h.begins.2 ∙ sym (append-nil body) in
+      let same : text ≡ body = (unsigned_unique h.rest [] h.begins.1 v.2 both_ways).0 in
+      h.some (append_cancel_left text h.rest [] (both_ways ∙ ap (λ (z : List ℕ). z ++ []) (sym same)))
+
+  -- it is missing, or bytes are left behind it
+  pub item_missing : (s : S) (body : List ℕ) (old : Sections) (e : ReadError) → NoItem body e.at → GivesSection asked k body (s, old) (s, old) (Err (ParseError e))
+  item_missing s body old e none = record { reading = λ t r. absurd (no_item none t r); readable = tt; unreadable = (no_item none, place none); refusal = tt }
+    where
+      place : NoItem body e.at →
+          ((e.at ≡ 0) × (BeginsNoNumber 128 32 32 body ⊎ (body_of k ≡ Shape.none)) × (s ≡ s)) ⊎ RowsFaultIn asked old.ceiling k body s s e.at
+          ⊎ ((space : Space) × HasItem k space × LeftBehind body e.at × (s ≡ s))
+      place (inl h) = inl (h.0, inl h.1, refl)
+      place (inr h) = inr (inr (space, one, h, refl))
+
+  -- it was refused
+  pub item_stops : (s m : S) (body : List ℕ) (n : ℕ) (old : Sections) (e : Error E) → IsUnsigned 32 body n →
+      (e ≢ NoMemory → walk asked old.ceiling s (Tree.ix space n) ≡ refused e m) → IfParse e (λ at. ⊥) → GivesSection asked k body (s, old) (m, old) (Err e)
+  item_stops s m body n old e filled stops usual = record {
+    reading = λ t r. (refl, λ other. rw (same_item filled t r) (section_refuses k asked old.ceiling s m (Tree.ix space n) e (stops other)));
+    readable = tt;
+    unreadable = IfParse-map e (λ at never. absurd never) usual;
+    refusal = unless_wanting e (λ other. inl (tree_of k (Tree.ix space n), item_read filled));
+  }
+
+  -- it was accepted
+  pub item_made : {c : ℕ} {s m : S} {body : List ℕ} {n : ℕ} {made : Tree} → IsUnsigned 32 body n → walk asked c s (Tree.ix space n) ≡ accepted made m → BodyMade asked k body c s m made
+  item_made {n = n} filled h = record { reading = (tree_of k (Tree.ix space n), item_read filled); becomes = λ t r. (Tree.ix space n, same_item filled t r, h) }
 
 -- ---- a kind that is not in force
 

@@ -1,11 +1,13 @@
 -- One operator that is passed by, made anew or refused.
-use Rattle.std.proofs.Common.{◌≡◌, ◌≢◌, ◌≤◌, ◌+◌, ◌-◌, zero, suc, ℕ, ℤ, List, [], ◌∷◌, ◌++◌, length, length-append, Bool, true, false, not, Option, Some, None, Result, Ok, Err, refl, sym, ap, ◌∙◌, ◌<◌, drop, take, append-nil, append_assoc, subst, arith, inl}
+use Rattle.std.proofs.Common.{◌≡◌, ◌≢◌, ◌≤◌, ◌+◌, ◌-◌, zero, suc, ℕ, ℤ, List, [], ◌∷◌, ◌++◌, length, length-append, get_or, Bool, true, false, if◌then◌else◌, Bor, IfNone, IfSome, Option, Some, None, Result, Ok, Err, refl, sym, ap, ◌∙◌, ◌<◌, drop, take, append-nil, append_assoc, subst, arith, inl}
 use Rattle.std.proofs.lemmas.Bool.{lt-ltb}
 use Rattle.std.proofs.Math.Seq.{take-length}
 use Rattle.std.proofs.lemmas.List.{append_cancel_right, length-drop, length-take-le, take-append-drop}
-use Rattle.wasm_leb.specs.Leb.{leb, shortest, shortest_signed}
+use Rattle.wasm_leb.specs.Leb.{leb, one_byte_signed, shortest, shortest_signed}
 use Rattle.wasm_leb.specs.Place.{BeginsNumber, BeginsSigned}
+use Rattle.wasm_leb.proofs.Full.{one_byte_shortest_signed}
 use Rattle.wasm_leb.proofs.Shortest.{leb_spells}
+use Rattle.wasm_leb.proofs.Signed.{signed_one}
 use Rattle.wasm_shapes.specs.declared.ImmKind.{ImmKind}
 use Rattle.wasm_shapes.specs.declared.ImmKind.TheVariants as kind
 use Rattle.wasm_shapes.specs.declared.Opcode.{Opcode}
@@ -13,12 +15,13 @@ use Rattle.wasm_shapes.specs.declared.Space.{Space}
 use Rattle.wasm_shapes.specs.declared.Space.TheVariants as space
 use Rattle.wasm_shapes.specs.declared.Visit.{Visit}
 use Rattle.wasm_shapes.specs.declared.Visit.TheVariants.{Index}
-use Rattle.wasm_shapes.specs.Operators.{code_of, is_code, is_prefix, kinds_of, plain}
+use Rattle.wasm_shapes.specs.Operators.{code_of, is_code, is_prefix, kinds_of, look_up, one_byte_operators, plain}
+use Rattle.wasm_shapes.proofs.TableRows.{code_is}
 use Rattle.wasm_shapes.specs.Shape.{Named, Shape, block_type, shape_of, shape_of_kind, shape_of_kinds, shape_of_row}
 use Rattle.wasm_shapes.specs.Tree.{Tree, code_bytes, normal}
 use Rattle.wasm_shapes.specs.Spells.{Is, Spelled}
 use Rattle.wasm_shapes.specs.Place.{Begins}
-use Rattle.wasm_shapes.proofs.Begins.{begins_empty, begins_s64, begins_seq, begins_u32}
+use Rattle.wasm_shapes.proofs.Begins.{begins_empty, begins_s32, begins_s64, begins_seq, begins_u32}
 use Rattle.wasm_shapes.specs.Types.{is_core}
 use Rattle.wasm_write.specs.declared.types.Imm.{Imm}
 use Rattle.wasm_shapes.specs.Immediates.{AreOfRow}
@@ -32,13 +35,70 @@ use Rattle.reencode_hooks.specs.Walk.{walk}
 use Rattle.reencode_core.specs.Rows.{Asks}
 use Rattle.reencode_core.specs.declared.direct.classes.Class.{Class}
 use Rattle.reencode_core.specs.declared.direct.classes.Class.TheVariants as class
-use Rattle.reencode_core.specs.declared.direct.classes.Leaf.{Leaf}
 use Rattle.reencode_core.specs.declared.direct.passing.Next.{Next}
 use Rattle.reencode_core.specs.declared.direct.passing.Next.TheVariants as next
-use Rattle.reencode_core.specs.Direct.{BeginsNormal, HasClass, HasOne, IsHead, IsUnasked, KeepsLeaf, KeepsOperator, MakesOperator, OperatorThere, Passes, PassesLeaf, PassesNext, PassesS32, RefusesOperator, SkipsLeaf, imm_of, leaf_shape}
+use Rattle.reencode_core.specs.Direct.{BeginsNormal, HasClass, HasOne, IsHead, IsOfKind, IsUnasked, KeepsOperator, MakesOperator, OperatorThere, PassesNext, PassesS32, RefusesOperator, SkipsClass, SkipsLeaf, SkipsOperator, class_of, class_of_kind, class_of_row, classes_from, imm_of}
 
 pub class_at : {c d : Class} (op : Opcode) → c ≡ d → HasClass op c → HasClass op d
 class_at op same h = let P : Class → Type 0 = λ z. HasClass op z in subst P same h
+
+-- ---- the classes of operators
+
+kind_is_index : (s : Space) (b : Bool) → is_core s ≡ b → IsOfKind (kind.Index s) (if b then class.Index s else class.Other)
+kind_is_index s true e = (refl, e)
+kind_is_index s false e = tt
+
+kind_is : (k : ImmKind) → IsOfKind k (class_of_kind k)
+kind_is kind.Block = refl
+kind_is kind.Label = refl
+kind_is kind.Local = refl
+kind_is kind.Field = refl
+kind_is kind.Size = refl
+kind_is kind.S32 = refl
+kind_is kind.S64 = refl
+kind_is kind.Four = refl
+kind_is kind.Eight = refl
+kind_is kind.Sixteen = refl
+kind_is kind.Lanes = refl
+kind_is kind.Mem = refl
+kind_is (kind.Index s) = kind_is_index s (is_core s) refl
+kind_is _ = tt
+
+one_of_class : (op : Opcode) (k : ImmKind) (c : Class) → kinds_of op ≡ Some (k ∷ []) → IsOfKind k c → HasClass op c
+one_of_class op k class.Bare row is = absurd is
+one_of_class op k class.Other row is = tt
+one_of_class op k class.Number row is = record { kind = k; row = row; is = is }
+one_of_class op k class.Long row is = record { kind = k; row = row; is = is }
+one_of_class op k (class.Raw n) row is = record { kind = k; row = row; is = is }
+one_of_class op k class.Block row is = record { kind = k; row = row; is = is }
+one_of_class op k class.S32 row is = record { kind = k; row = row; is = is }
+one_of_class op k (class.Index s) row is = record { kind = k; row = row; is = is }
+one_of_class op k class.Mem row is = record { kind = k; row = row; is = is }
+
+pub has_class : (op : Opcode) {c : Class} → c ≡ class_of op → HasClass op c
+has_class op e = class_at op (sym e) (go (kinds_of op) refl)
+  where
+    go : (o : Option (List ImmKind)) → kinds_of op ≡ o → HasClass op (class_of_row o)
+    go None row = tt
+    go (Some []) row = row
+    go (Some (k ∷ [])) row = one_of_class op k (class_of_kind k) row (kind_is k)
+    go (Some (k ∷ l ∷ ks)) row = tt
+
+class_from : (from : ℕ) (cs : List Class) (d : Class) → cs ≡ classes_from from (length cs) → (n : ℕ) → n < length cs → get_or cs n d ≡ class_of_row (look_up (one_byte_operators true) (from + n))
+unfolding classes_from
+class_from from [] d e n h = absurd (omega arith)
+class_from from (c ∷ cs) d e zero h =
+    let head : c ≡ class_of_row (look_up (one_byte_operators true) from) = cc in
+    let same : from ≡ from + 0 = omega arith in
+    head ∙ ap (λ (n : ℕ). class_of_row (look_up (one_byte_operators true) n)) same
+class_from from (c ∷ cs) d e (suc n) h =
+    let others : cs ≡ classes_from (suc from) (length cs) = cc in
+    let same : suc from + n ≡ from + suc n = omega arith in
+    class_from (suc from) cs d others n (omega arith) ∙ ap (λ (n : ℕ). class_of_row (look_up (one_byte_operators true) n)) same
+
+-- what a list of the classes has at a number
+pub class_here : {cs : List Class} (d : Class) (n : ℕ) → cs ≡ classes_from 0 (length cs) → n < length cs → get_or cs n d ≡ class_of (record { prefix = 0; sub = n })
+class_here {cs = cs} d n e h = let same : 0 + n ≡ n = omega arith in class_from 0 cs d e n h ∙ ap (λ (n : ℕ). class_of_row (look_up (one_byte_operators true) n)) same
 
 -- ---- the number of an operator
 
@@ -46,19 +106,27 @@ class_at op same h = let P : Class → Type 0 = λ z. HasClass op z in subst P s
 pub plain_head : {b : ℕ} {bytes rest : List ℕ} → is_code (plain b) ≡ true → bytes ≡ b ∷ rest → IsHead bytes (record { prefix = 0; sub = b }) rest
 plain_head valid e = record { valid = valid; spelled = refl; reads = e }
 
-not_alone : (b : ℕ) → false ≡ is_code (plain b) → is_prefix b ≡ true
-not_alone b e = go (is_prefix b) e
+-- what has a row is a number of an operator
+pub has_row : (op : Opcode) (c : Class) → c ≡ class_of op → (c ≡ class.Other → ⊥) → is_code (code_of op) ≡ true
+has_row op c e other = go (kinds_of op) refl e
   where
-    go : (p : Bool) → false ≡ not p → p ≡ true
-    go true f = refl
-    go false f = absurd cc
+    go : (o : Option (List ImmKind)) → kinds_of op ≡ o → c ≡ class_of_row o → is_code (code_of op) ≡ true
+    go None row same = absurd (other same)
+    go (Some ks) row same = code_is (code_of op) ks row
+
+pub plain_of_class : (b : ℕ) (c : Class) {bytes rest : List ℕ} {op : Opcode} → op ≡ record { prefix = 0; sub = b } → c ≡ class_of (record { prefix = 0; sub = b }) → (c ≡ class.Other → ⊥) → bytes ≡ b ∷ rest →
+    IsHead bytes op rest × HasClass op c
+plain_of_class b c {bytes = bytes} {rest = rest} is same other e =
+    let plain_op : Opcode = record { prefix = 0; sub = b } in
+    let P : Opcode → Type 0 = λ o. IsHead bytes o rest × HasClass o c in
+    subst P (sym is) (plain_head (has_row plain_op c same other) e, has_class plain_op same)
 
 -- a prefix and a number in its shortest spelling
-pub prefixed_head : (p : ℕ) {n : ℕ} {bytes middle rest : List ℕ} → false ≡ is_code (plain p) → bytes ≡ p ∷ middle → BeginsNumber 128 32 32 middle n rest → middle ≡ leb n ++ rest →
+pub prefixed_head : (p : ℕ) {n : ℕ} {bytes middle rest : List ℕ} → is_prefix p ≡ true → bytes ≡ p ∷ middle → BeginsNumber 128 32 32 middle n rest → middle ≡ leb n ++ rest →
     IsHead bytes (record { prefix = p; sub = n }) rest
-prefixed_head zero alone e there f = let never : is_prefix 0 ≡ true = not_alone 0 alone in absurd cc
-prefixed_head (suc p) {n = n} alone e there f = record {
-  valid = not_alone (suc p) alone;
+prefixed_head zero valid e there f = absurd cc
+prefixed_head (suc p) {n = n} valid e there f = record {
+  valid = valid;
   spelled = (leb n, refl, leb_spells n there.1.fits);
   reads = e ∙ ap (λ (z : List ℕ). suc p ∷ z) f;
 }
@@ -92,6 +160,37 @@ begins_normally {t = t} p = record { text = normal t; spells = record { shaped =
 
 pub skips_number : {n : ℕ} {bytes rest : List ℕ} → BeginsNumber 128 32 32 bytes n rest → bytes ≡ leb n ++ rest → SkipsLeaf Shape.u32 bytes rest
 skips_number {n = n} p e = record { tree = Tree.u32 n; begins = normally (begins_u32 p) e; unasked = tt }
+
+-- a number of one byte has its shortest spelling
+pub short_number : (n : ℕ) {b : ℕ} {bytes left : List ℕ} → bytes ≡ b ∷ left → b < 128 → n ≡ b → bytes ≡ leb n ++ left
+unfolding shortest
+short_number n {b = b} {left = left} e small same =
+    let P : ℕ → Type 0 = λ z. b ∷ left ≡ leb z ++ left in
+    e ∙ subst P (sym same) (rw (lt-ltb b 128 small) refl)
+
+signed_short : (bits : ℕ) {b : ℕ} {bytes left : List ℕ} → 7 ≤ bits → bits ≤ 64 → bytes ≡ b ∷ left → b < 128 → bytes ≡ shortest_signed (one_byte_signed b) ++ left
+signed_short bits {b = b} {left = left} wide few e small =
+    let p : BeginsSigned bits (b ∷ left) (one_byte_signed b) left = signed_one wide refl small refl in
+    let one : p.0 ≡ b ∷ [] = append_cancel_right p.0 (b ∷ []) left (sym p.2) in
+    let short : length p.0 < 2 = rw one (omega arith) in
+    e ∙ p.2 ∙ ap (λ (z : List ℕ). z ++ left) (one_byte_shortest_signed (one_byte_signed b) few p.1 short)
+
+pub skips_short_s32 : {b : ℕ} {bytes left : List ℕ} → bytes ≡ b ∷ left → b < 128 → SkipsLeaf Shape.s32 bytes left
+skips_short_s32 {b = b} e small = record {
+  tree = Tree.s32 (one_byte_signed b);
+  begins = normally (begins_s32 (one_byte_signed b) (signed_one (omega arith) e small refl)) (signed_short 32 (omega arith) (omega arith) e small);
+  unasked = tt;
+}
+
+pub skips_short_s64 : {b : ℕ} {bytes left : List ℕ} → bytes ≡ b ∷ left → b < 128 → SkipsLeaf Shape.s64 bytes left
+skips_short_s64 {b = b} e small = record {
+  tree = Tree.s64 (one_byte_signed b);
+  begins = normally (begins_s64 (one_byte_signed b) (signed_one (omega arith) e small refl)) (signed_short 64 (omega arith) (omega arith) e small);
+  unasked = tt;
+}
+
+pub skips_s32 : (z : ℤ) {bytes rest : List ℕ} → BeginsSigned 32 bytes z rest → bytes ≡ shortest_signed z ++ rest → SkipsLeaf Shape.s32 bytes rest
+skips_s32 z p e = record { tree = Tree.s32 z; begins = normally (begins_s32 z p) e; unasked = tt }
 
 pub skips_long : (z : ℤ) {bytes rest : List ℕ} → BeginsSigned 64 bytes z rest → bytes ≡ shortest_signed z ++ rest → SkipsLeaf Shape.s64 bytes rest
 skips_long z p e = record { tree = Tree.s64 z; begins = normally (begins_s64 z p) e; unasked = tt }
@@ -168,34 +267,26 @@ module _ {bytes rest behind : List ℕ} {op : Opcode} {ks : List ImmKind} {t : T
     counted = before_others bytes (code_bytes (code_of op) ++ p.text) behind whole_begins.reads;
   }
 
--- it has no immediate
-pub keeps_bare : {S E : Type 0} (asked : Asks S E) (s : S) {bytes rest : List ℕ} {op : Opcode} → IsHead bytes op rest → kinds_of op ≡ Some [] →
-    KeepsOperator asked s bytes (length bytes - length rest) s
-keeps_bare asked s {rest = rest} {op = op} h row =
-    let none : Begins Shape.empty rest Tree.empty rest = record { text = []; spells = record { shaped = Is.empty; spelled = refl }; reads = refl } in
-    record {
-      there = whole_there h row none;
-      normally = refl;
-      walks = λ c. refl;
-    }
-
 abbrev one_begins : (k : ImmKind) {u : Tree} {rest behind : List ℕ} → Begins (shape_of_kind k) rest u behind → Begins (shape_of_kinds (k ∷ [])) rest (Tree.pair u Tree.empty) behind
 one_begins k p = begins_seq p begins_empty
 
+abbrev one_normally : (k : ImmKind) {u : Tree} {rest behind : List ℕ} → BeginsNormal (shape_of_kind k) rest u behind →
+    BeginsNormal (shape_of_kinds (k ∷ [])) rest (Tree.pair u Tree.empty) behind
+one_normally k {u = u} {behind = behind} p = record {
+  shaped = Is.seq p.shaped Is.empty;
+  spelled = (normal u, [], refl, p.spelled, refl);
+  reads = p.reads ∙ ap (λ (z : List ℕ). z ++ behind) (sym (append-nil (normal u)));
+}
+
 -- it has one immediate
 module _ {S E : Type 0} (asked : Asks S E) (s m : S) {bytes rest behind : List ℕ} {op : Opcode} {k : ImmKind} {u : Tree} (h : IsHead bytes op rest) (row : kinds_of op ≡ Some (k ∷ [])) where
-  pub keeps_one : BeginsNormal (shape_of_kind k) rest u behind → ((c : ℕ) → walk asked c s u ≡ accepted u m) → KeepsOperator asked s bytes (length bytes - length behind) m
-  keeps_one p walks =
-      let whole : BeginsNormal (shape_of_kinds (k ∷ [])) rest (Tree.pair u Tree.empty) behind = record {
-        shaped = Is.seq p.shaped Is.empty;
-        spelled = (normal u, [], refl, p.spelled, refl);
-        reads = p.reads ∙ ap (λ (z : List ℕ). z ++ behind) (sym (append-nil (normal u)));
-      } in
-      record {
-        there = whole_there h row (begins_normally whole);
-        normally = refl;
-        walks = λ c. rw (walks c) refl;
-      }
+  pub keeps_one : BeginsNormal (shape_of_kind k) rest u behind → ((c : ℕ) → walk asked c s u ≡ accepted u m) → KeepsOperator asked s bytes behind m
+  keeps_one p walks = record {
+    operator = Tree.op (code_of op) (Tree.pair u Tree.empty);
+    begins = whole_begins h row (begins_normally (one_normally k p));
+    normally = refl;
+    walks = λ c. rw (walks c) refl;
+  }
 
   pub makes_one : Begins (shape_of_kind k) rest u behind → (imm : Imm) → imm_kind imm ≡ Some k → ((c : ℕ) → walk asked c s u ≡ accepted (imm_tree imm) m) →
       MakesOperator asked s bytes (length bytes - length behind) op imm m
@@ -213,7 +304,7 @@ module _ {S E : Type 0} (asked : Asks S E) (s m : S) {bytes rest behind : List �
     refuses = λ c other. rw (walks c other) refl;
   }
 
--- ---- immediates that ask nothing
+-- ---- operators that ask nothing
 
 unasked_walk : {S E : Type 0} (asked : Asks S E) (s : S) (t : Tree) → IsUnasked t → (c : ℕ) → walk asked c s t ≡ accepted t s
 unasked_walk asked s (Tree.u32 n) h c = refl
@@ -221,34 +312,75 @@ unasked_walk asked s (Tree.s32 z) h c = refl
 unasked_walk asked s (Tree.s64 z) h c = refl
 unasked_walk asked s (Tree.raw bs) h c = refl
 unasked_walk asked s (Tree.fixed b) h c = refl
+unasked_walk asked s Tree.empty h c = refl
 unasked_walk asked s (Tree.row k t) h c = rw (unasked_walk asked s t h c) refl
+unasked_walk asked s (Tree.pair t u) h c = rw (unasked_walk asked s t h.0 c, unasked_walk asked s u h.1 c) refl
+unasked_walk asked s (Tree.op k t) h c = rw (unasked_walk asked s t h c) refl
 unasked_walk asked s _ h c = absurd h
 
-keeps_leaf : {S E : Type 0} (asked : Asks S E) (s : S) {bytes rest : List ℕ} {op : Opcode} {k : ImmKind} {a : Shape} {n : ℕ} → IsHead bytes op rest → kinds_of op ≡ Some (k ∷ []) →
-    shape_of_kind k ≡ a → KeepsLeaf a bytes rest n → KeepsOperator asked s bytes n s
-keeps_leaf asked s {bytes = bytes} {rest = rest} h row same p =
-    let q = p.skips in
-    let B : Shape → Type 0 = λ z. BeginsNormal z rest q.tree p.left in
-    let K : ℕ → Type 0 = λ z. KeepsOperator asked s bytes z s in
-    subst K (sym p.counted) (keeps_one asked s s h row (subst B (sym same) q.begins) (unasked_walk asked s q.tree q.unasked))
+-- nothing is asked, so the operator stays for every reencoder
+pub skips_keeps : {S E : Type 0} (asked : Asks S E) (s : S) {bytes left : List ℕ} → SkipsOperator bytes left → KeepsOperator asked s bytes left s
+skips_keeps asked s p = record { operator = p.operator; begins = p.begins; normally = p.normally; walks = unasked_walk asked s p.operator p.unasked }
 
-pub leaf_passes : {S E : Type 0} (asked : Asks S E) (s : S) {bytes rest : List ℕ} {op : Opcode} {l : Leaf} (next : Next) (kept : Option ℕ) → IsHead bytes op rest →
-    HasOne op (class.Leaf l) → PassesLeaf (leaf_shape l) bytes rest next kept → Passes asked s bytes s next kept
-leaf_passes asked s next (Some n) h one p = keeps_leaf asked s h one.row one.is p
-leaf_passes asked s {bytes = bytes} next None h one p = let P : Next → Type 0 = λ z. PassesNext asked s bytes s z in subst P (sym p) refl
+skips_bare : {bytes rest : List ℕ} {op : Opcode} → IsHead bytes op rest → kinds_of op ≡ Some [] → SkipsOperator bytes rest
+skips_bare {rest = rest} {op = op} h row =
+    let none : Begins Shape.empty rest Tree.empty rest = record { text = []; spells = record { shaped = Is.empty; spelled = refl }; reads = refl } in
+    record { operator = Tree.op (code_of op) Tree.empty; begins = whole_begins h row none; normally = refl; unasked = tt }
+
+skips_leaf : {bytes rest left : List ℕ} {op : Opcode} {k : ImmKind} {a : Shape} → IsHead bytes op rest → kinds_of op ≡ Some (k ∷ []) → shape_of_kind k ≡ a → SkipsLeaf a rest left →
+    SkipsOperator bytes left
+skips_leaf {rest = rest} {left = left} {op = op} {k = k} h row same q =
+    let B : Shape → Type 0 = λ z. BeginsNormal z rest q.tree left in
+    record {
+      operator = Tree.op (code_of op) (Tree.pair q.tree Tree.empty);
+      begins = whole_begins h row (begins_normally (one_normally k (subst B (sym same) q.begins)));
+      normally = refl;
+      unasked = (q.unasked, tt);
+    }
 
 abbrev pub s32_row : {op : Opcode} → HasOne op class.S32 → kinds_of op ≡ Some (kind.S32 ∷ [])
 s32_row one = one.row ∙ ap (λ (z : ImmKind). Some (z ∷ [])) one.is
 
-pub s32_passes : {S E : Type 0} (asked : Asks S E) (s : S) {bytes rest : List ℕ} {op : Opcode} (next : Next) (kept : Option ℕ) → IsHead bytes op rest → HasOne op class.S32 →
-    PassesS32 op bytes rest next kept → Passes asked s bytes s next kept
-s32_passes asked s next (Some n) h one p = keeps_leaf asked s h (s32_row one) refl p
-s32_passes asked s {bytes = bytes} (next.Made o f n) None h one p =
+-- an operator of a class
+pub skips_class : (c : Class) {bytes rest left : List ℕ} {op : Opcode} → IsHead bytes op rest → HasClass op c → SkipsClass c rest left → SkipsOperator bytes left
+skips_class class.Bare {bytes = bytes} h one q = let P : List ℕ → Type 0 = λ z. SkipsOperator bytes z in subst P q (skips_bare h one)
+skips_class class.Number h one q = skips_leaf h one.row one.is q
+skips_class class.Long h one q = skips_leaf h one.row one.is q
+skips_class (class.Raw n) h one q = skips_leaf h one.row one.is q
+skips_class class.Block h one q = skips_leaf h one.row one.is q
+skips_class class.S32 h one q = skips_leaf h (s32_row one) refl q
+skips_class (class.Index s) h one q = absurd q
+skips_class class.Mem h one q = absurd q
+skips_class class.Other h one q = absurd q
+
+-- an operator of one byte of a class
+pub skips_plain : (b : ℕ) (c : Class) {bytes rest left : List ℕ} → bytes ≡ b ∷ rest → c ≡ class_of (record { prefix = 0; sub = b }) → SkipsClass c rest left → SkipsOperator bytes left
+skips_plain b c {rest = rest} {left = left} e same q =
+    let op : Opcode = record { prefix = 0; sub = b } in
+    let other : c ≡ class.Other → ⊥ = λ (f : c ≡ class.Other). let P : Class → Type 0 = λ z. SkipsClass z rest left in subst P f q in
+    skips_class c (plain_head (has_row op c same other) e) (has_class op same) q
+
+pub some_skips_plain : (b : ℕ) (c : Class) {bytes rest : List ℕ} → bytes ≡ b ∷ rest → c ≡ class_of (record { prefix = 0; sub = b }) → (kept : Option (Bor (List ℕ))) →
+    IfSome kept (λ left. SkipsClass c rest left.now) → IfSome kept (λ left. SkipsOperator bytes left.now)
+some_skips_plain b c e same (Some left) q = skips_plain b c e same q
+some_skips_plain b c e same None q = tt
+
+-- ---- a number with sign that is written anew
+
+pub s32_kept : {S E : Type 0} (asked : Asks S E) (s : S) {bytes rest : List ℕ} {op : Opcode} → IsHead bytes op rest → HasOne op class.S32 → (kept : Option (Bor (List ℕ))) →
+    IfSome kept (λ left. SkipsLeaf Shape.s32 rest left.now) → IfSome kept (λ left. KeepsOperator asked s bytes left.now s)
+s32_kept asked s h one (Some left) q = skips_keeps asked s (skips_leaf h (s32_row one) refl q)
+s32_kept asked s h one None q = tt
+
+pub s32_next : {S E : Type 0} (asked : Asks S E) (s : S) {bytes rest : List ℕ} {op : Opcode} → IsHead bytes op rest → HasOne op class.S32 → (kept : Option (Bor (List ℕ))) (next : Next) →
+    IfNone kept (PassesS32 op bytes rest next) → IfNone kept (PassesNext asked s bytes s next)
+s32_next asked s h one (Some left) next q = tt
+s32_next asked s h one None next.Other q = refl
+s32_next asked s {bytes = bytes} h one None (next.Made o f n) p =
     let q = p.1 in
     let M : ℕ → Type 0 = λ z. MakesOperator asked s bytes z o (imm_of f) s in
     let O : Opcode → Type 0 = λ z. MakesOperator asked s bytes (length bytes - length q.left) z (imm_of f) s in
     subst M (sym q.counted) (subst O (sym p.0) (makes_one asked s s h (s32_row one) q.begins (imm_of f) q.kind (λ c. ap (λ (t : Tree). accepted t s) (sym q.tree))))
-s32_passes asked s next.Other None h one p = refl
 
 -- ---- an index
 

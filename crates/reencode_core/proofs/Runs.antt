@@ -41,42 +41,40 @@ use Rattle.reencode_core.proofs.WholeBody.{body_wants, operator_refused}
 
 -- ---- a run of operators
 
-pub no_run : {S E : Type 0} (asked : Asks S E) (s : S) (bytes : List ℕ) → KeepsOperators asked s bytes 0 s
+pub no_run : {S E : Type 0} (asked : Asks S E) (s : S) (bytes : List ℕ) → KeepsOperators asked s bytes bytes s
 no_run asked s bytes = record {
   operators = [];
   text = [];
-  left = bytes;
   reads = refl;
-  counted = refl;
   are = record { shaped = Is.nil; spelled = refl; normally = refl };
   walks = λ c others. onto_nothing asked (walk asked c s others);
 }
 
--- what stands behind so many bytes
-pub run_left : {S E : Type 0} {asked : Asks S E} {s m : S} {bytes : List ℕ} {n : ℕ} (d : KeepsOperators asked s bytes n m) → drop n bytes ≡ d.left
-run_left {bytes = bytes} {n = n} d = rw (d.reads, sym d.counted) (drop-append_seam d.text d.left)
+module _ {S E : Type 0} {asked : Asks S E} {s m : S} {bytes left : List ℕ} (n : ℕ) (d : KeepsOperators asked s bytes left m) (counted : length d.text ≡ n) where
+  -- what stands behind so many bytes
+  pub run_left : drop n bytes ≡ left
+  run_left = rw (d.reads, sym counted) (drop-append_seam d.text left)
 
-pub run_taken : {S E : Type 0} {asked : Asks S E} {s m : S} {bytes : List ℕ} {n : ℕ} (d : KeepsOperators asked s bytes n m) → take n bytes ≡ d.text
-run_taken {bytes = bytes} {n = n} d = rw (d.reads, sym d.counted) (take-append_seam d.text d.left)
+  pub run_taken : take n bytes ≡ d.text
+  run_taken = rw (d.reads, sym counted) (take-append_seam d.text left)
 
-pub run_within : {S E : Type 0} {asked : Asks S E} {s m : S} {bytes : List ℕ} {n : ℕ} → KeepsOperators asked s bytes n m → n ≤ length bytes
-run_within {bytes = bytes} {n = n} d =
-    let long : length bytes ≡ length d.text + length d.left = ap length d.reads ∙ length-append d.text d.left in
-    let counted : length d.text ≡ n = d.counted in
-    omega arith
+-- how many bytes they are
+run_counted : {S E : Type 0} {asked : Asks S E} {s m : S} {bytes left : List ℕ} (d : KeepsOperators asked s bytes left m) → length bytes ≡ length d.text + length left
+run_counted {left = left} d = ap length d.reads ∙ length-append d.text left
 
-pub run_more : {S E : Type 0} (asked : Asks S E) {s0 s m : S} {bytes rest : List ℕ} {n k : ℕ} → KeepsOperators asked s0 bytes n s → rest ≡ drop n bytes →
-    KeepsOperator asked s rest k m → KeepsOperators asked s0 bytes (n + k) m
-run_more {E = E} asked {s0 = s0} {s = s} {m = m} {bytes = bytes} {rest = rest} {n = n} {k = k} d here q =
-    let t = q.there.operator in
-    let b = q.there.begins in
-    let left : d.left ≡ b.text ++ q.there.left = sym (run_left d) ∙ sym here ∙ b.reads in
+-- fewer bytes stand behind an operator
+pub fewer_behind : {S E : Type 0} {asked : Asks S E} {s m : S} {bytes left : List ℕ} → KeepsOperator asked s bytes left m → length left < length bytes
+fewer_behind q = fewer_left refl q.begins
+
+pub run_more : {S E : Type 0} (asked : Asks S E) {s0 s m : S} {bytes rest left : List ℕ} → KeepsOperators asked s0 bytes rest s → KeepsOperator asked s rest left m →
+    KeepsOperators asked s0 bytes left m
+run_more {E = E} asked {s = s} {m = m} {left = left} d q =
+    let t = q.operator in
+    let b = q.begins in
     record {
       operators = d.operators ++ t ∷ [];
       text = d.text ++ b.text;
-      left = q.there.left;
-      reads = d.reads ∙ ap (λ (z : List ℕ). d.text ++ z) left ∙ sym (append_assoc d.text b.text q.there.left);
-      counted = length-append d.text b.text ∙ ap₂ (λ (y z : ℕ). y + z) d.counted q.there.counted;
+      reads = d.reads ∙ ap (λ (z : List ℕ). d.text ++ z) b.reads ∙ sym (append_assoc d.text b.text left);
       are = record {
         shaped = snoc_is d.operators d.are.shaped b.spells.shaped;
         spelled = snoc_spelled d.operators t d.text b.text d.are.spelled b.spells.spelled;
@@ -89,31 +87,32 @@ run_more {E = E} asked {s0 = s0} {s = s} {m = m} {bytes = bytes} {rest = rest} {
     }
 
 -- the next operator does not stay
-pub run_ends : {S E : Type 0} (asked : Asks S E) {s0 s m : S} {bytes rest : List ℕ} (n : ℕ) (next : Next) → KeepsOperators asked s0 bytes n s → rest ≡ drop n bytes →
-    PassesNext asked s rest m next → PassesRun asked s0 bytes m (record { kept = n; next = next })
-run_ends asked {s = s} {m = m} n next d here q =
-    let P : List ℕ → Type 0 = λ z. PassesNext asked s z m next in
-    record { mid = s; kept = d; onward = subst P (here ∙ run_left d) q }
+pub run_ends : {S E : Type 0} (asked : Asks S E) {s0 s m : S} {bytes rest : List ℕ} (next : Next) → KeepsOperators asked s0 bytes rest s → PassesNext asked s rest m next →
+    PassesRun asked s0 bytes m (record { kept = length bytes - length rest; next = next })
+run_ends asked {s = s} {bytes = bytes} {rest = rest} next d q =
+    let long : length bytes ≡ length d.text + length rest = run_counted d in
+    record { mid = s; left = rest; kept = d; counted = omega arith; onward = q }
 
 -- the next operator is refused
-pub run_stops : {S E : Type 0} (asked : Asks S E) {s0 s m : S} {bytes rest : List ℕ} (e : Error E) (n : ℕ) → KeepsOperators asked s0 bytes n s → rest ≡ drop n bytes →
-    RefusesOperator asked s rest e m → StopsRun asked s0 bytes e m
-run_stops asked {s = s} {m = m} e n d here q =
-    let P : List ℕ → Type 0 = λ z. RefusesOperator asked s z e m in
-    record { mid = s; count = n; kept = d; stops = subst P (here ∙ run_left d) q }
+pub run_stops : {S E : Type 0} (asked : Asks S E) {s0 s m : S} {bytes rest : List ℕ} (e : Error E) → KeepsOperators asked s0 bytes rest s → RefusesOperator asked s rest e m →
+    StopsRun asked s0 bytes e m
+run_stops asked {s = s} {rest = rest} e d q = record { mid = s; left = rest; kept = d; stops = q }
 
 -- where the next operator stands
 pub next_within : {S E : Type 0} {asked : Asks S E} {s m : S} {bytes : List ℕ} (n : ℕ) (next : Next) → PassesRun asked s bytes m (record { kept = n; next = next }) →
     IsWithin n next (length bytes)
-next_within n next.Other p = run_within p.kept
+next_within {bytes = bytes} n next.Other p =
+    let long : length bytes ≡ length p.kept.text + length p.left = run_counted p.kept in
+    let first : length p.kept.text ≡ n = p.counted in
+    omega arith
 next_within {bytes = bytes} n (next.Made op f k) p =
     let q = p.onward in
     let b = q.there.begins in
-    let long : length bytes ≡ length p.kept.text + length p.kept.left = ap length p.kept.reads ∙ length-append p.kept.text p.kept.left in
-    let behind : length p.kept.left ≡ length b.text + length q.there.left = ap length b.reads ∙ length-append b.text q.there.left in
-    let first : length p.kept.text ≡ n = p.kept.counted in
+    let long : length bytes ≡ length p.kept.text + length p.left = run_counted p.kept in
+    let behind : length p.left ≡ length b.text + length q.there.left = ap length b.reads ∙ length-append b.text q.there.left in
+    let first : length p.kept.text ≡ n = p.counted in
     let second : length b.text ≡ k = q.there.counted in
-    let fewer : length q.there.left < length p.kept.left = fewer_left refl b in
+    let fewer : length q.there.left < length p.left = fewer_left refl b in
     (omega arith, omega arith)
 
 -- ---- the body
@@ -134,31 +133,32 @@ onto_onto xs ys (accepted u m) = ap (λ (t : Tree). accepted t m) (sym (rows_the
 onto_onto xs ys (refused e m) = refl
 
 module _ {S E : Type 0} (asked : Asks S E) (c : ℕ) where
-  pub operators_many : {start rest : List ℕ} {s0 s m : S} {made : List Tree} {n : ℕ} → OperatorsDone asked c start s0 rest s made → (k : KeepsOperators asked s rest n m) →
-      OperatorsDone asked c start s0 k.left m (made ++ k.operators)
-  operators_many {rest = rest} {m = m} {made = made} d k = record {
+  pub operators_many : {start rest left : List ℕ} {s0 s m : S} {made : List Tree} → OperatorsDone asked c start s0 rest s made → (k : KeepsOperators asked s rest left m) →
+      OperatorsDone asked c start s0 left m (made ++ k.operators)
+  operators_many {rest = rest} {left = left} {m = m} {made = made} d k = record {
     read = d.read ++ k.operators;
     before = record {
       text = d.before.text ++ k.text;
       shaped = many_is d.read k.operators d.before.shaped k.are.shaped;
       spelled = many_spelled d.read k.operators d.before.text k.text d.before.spelled k.are.spelled;
-      stands = d.before.stands ∙ ap (λ (z : List ℕ). d.before.text ++ z) k.reads ∙ sym (append_assoc d.before.text k.text k.left);
+      stands = d.before.stands ∙ ap (λ (z : List ℕ). d.before.text ++ z) k.reads ∙ sym (append_assoc d.before.text k.text left);
     };
     back = λ t r.
         let b = d.back t r in
-        let f = many_front k.operators k.text k.left rest k.are.shaped k.are.spelled k.reads b.0 b.2 in
+        let f = many_front k.operators k.text left rest k.are.shaped k.are.spelled k.reads b.0 b.2 in
         (f.0, b.1 ∙ ap (rows_then d.read) f.1 ∙ sym (rows_then-both d.read k.operators f.0), f.2);
     accepts = λ others.
         rw (rows_then-both d.read k.operators others)
         (d.accepts (rows_then k.operators others) ∙ ap (λ (r : Step _ (Error E) Tree). onto_rows made r) (k.walks c others) ∙ onto_onto made k.operators (walk asked c m others));
   }
 
--- the bytes that were added
-pub run_added : {S E : Type 0} {asked : Asks S E} {s m : S} {bytes : List ℕ} {n : ℕ} (k : KeepsOperators asked s bytes n m) → AreOperators (take n bytes) k.operators
-run_added k = let P : List ℕ → Type 0 = λ z. AreOperators z k.operators in subst P (sym (run_taken k)) k.are
+module _ {S E : Type 0} {asked : Asks S E} {s m : S} {bytes : List ℕ} {n : ℕ} {next : Next} (p : PassesRun asked s bytes m (record { kept = n; next = next })) where
+  -- the bytes that were added
+  pub run_added : AreOperators (take n bytes) p.kept.operators
+  run_added = let P : List ℕ → Type 0 = λ z. AreOperators z p.kept.operators in subst P (sym (run_taken n p.kept p.counted)) p.kept.are
 
-pub run_has : {S E : Type 0} {asked : Asks S E} {s m : S} {bytes : List ℕ} {n : ℕ} → KeepsOperators asked s bytes n m → HasOperators (take n bytes)
-run_has k = (k.operators, run_added k)
+  pub run_has : HasOperators (take n bytes)
+  run_has = (p.kept.operators, run_added)
 
 module _ {S E : Type 0} (asked : Asks S E) (c : ℕ) {start rest behind : List ℕ} {s0 s m : S} {n : ℕ} (f f' : Body) (d : OperatorsDone asked c start s0 rest s f.operators) where
   -- the next operator is made
@@ -169,11 +169,11 @@ module _ {S E : Type 0} (asked : Asks S E) (c : ℕ) {start rest behind : List �
       let b = q.there.begins in
       let ops = f.operators ++ p.kept.operators in
       let all = operators_more asked c (operators_many asked c d p.kept) b (q.walks c) in
-      let left : drop k p.kept.left ≡ q.there.left = rw (b.reads, sym q.there.counted) (drop-append_seam b.text q.there.left) in
-      let here : behind ≡ q.there.left = e ∙ sym (drop-drop k n rest) ∙ ap (drop k) (run_left p.kept) ∙ left in
+      let left : drop k p.left ≡ q.there.left = rw (b.reads, sym q.there.counted) (drop-append_seam b.text q.there.left) in
+      let here : behind ≡ q.there.left = e ∙ sym (drop-drop k n rest) ∙ ap (drop k) (run_left n p.kept p.counted) ∙ left in
       let P : List ℕ → Type 0 = λ z. OperatorsDone asked c start s0 z m f2.operators in
       let Q : List Tree → Type 0 = λ z. OperatorsDone asked c start s0 q.there.left m z in
-      let first : f' ≡ with_operators f p.kept.operators = gains p.kept.operators (run_added p.kept) in
+      let first : f' ≡ with_operators f p.kept.operators = gains p.kept.operators (run_added p) in
       let whole : f2.operators ≡ ops ++ operator_tree op (imm_of i ∷ []) ∷ [] =
       ap Body.operators adds ∙ ap (λ (z : Body). z.operators ++ operator_tree op (imm_of i ∷ []) ∷ []) first in
       subst P (sym here) (subst Q (sym whole) all)
@@ -183,11 +183,11 @@ module _ {S E : Type 0} (asked : Asks S E) (c : ℕ) {start rest behind : List �
       OperatorsDone asked c start s0 behind m f'.operators
   body_passed p gains e =
       let all = operators_many asked c d p.kept in
-      let first : f' ≡ with_operators f p.kept.operators = gains p.kept.operators (run_added p.kept) in
-      let here : behind ≡ p.kept.left = e ∙ run_left p.kept in
+      let first : f' ≡ with_operators f p.kept.operators = gains p.kept.operators (run_added p) in
+      let here : behind ≡ p.left = e ∙ run_left n p.kept p.counted in
       let P : List ℕ → Type 0 = λ z. OperatorsDone asked c start s0 z m f'.operators in
-      let Q : List Tree → Type 0 = λ z. OperatorsDone asked c start s0 p.kept.left m z in
-      let R : S → Type 0 = λ z. OperatorsDone asked c start s0 p.kept.left z (f.operators ++ p.kept.operators) in
+      let Q : List Tree → Type 0 = λ z. OperatorsDone asked c start s0 p.left m z in
+      let R : S → Type 0 = λ z. OperatorsDone asked c start s0 p.left z (f.operators ++ p.kept.operators) in
       subst P (sym here) (subst Q (sym (ap Body.operators first)) (subst R (sym p.onward) all))
 
 -- the locals are as they were
@@ -203,7 +203,7 @@ module _ {S E : Type 0} (i : Ghosts S E) {m : S} {f0 : Body} {start reader behin
       rest_of behind ≡ drop (count + len) (rest_of reader) → OperatorsKept i start m f0 behind n f2
   run_made {f2 = f2} op fresh count len p gains adds same e = record {
     bytes = same ∙ inv.bytes;
-    same_locals = ap Body.locals adds ∙ gains_locals f f1 (run_has p.kept) gains ∙ inv.same_locals;
+    same_locals = ap Body.locals adds ∙ gains_locals f f1 (run_has p) gains ∙ inv.same_locals;
     default = λ k c. body_made (asks i) c f f1 (inv.default k c) op fresh len f2 p gains adds e;
   }
 
@@ -212,7 +212,7 @@ module _ {S E : Type 0} (i : Ghosts S E) {m : S} {f0 : Body} {start reader behin
       behind.bytes ≡ reader.bytes → rest_of behind ≡ drop count (rest_of reader) → OperatorsKept i start m f0 behind n f1
   run_passed count p gains same e = record {
     bytes = same ∙ inv.bytes;
-    same_locals = gains_locals f f1 (run_has p.kept) gains ∙ inv.same_locals;
+    same_locals = gains_locals f f1 (run_has p) gains ∙ inv.same_locals;
     default = λ k c. body_passed (asks i) c f f1 (inv.default k c) p gains e;
   }
 
@@ -252,7 +252,7 @@ module _ {S E : Type 0} (i : Ghosts S E) {bytes : List ℕ} {s0 : S} (old : Code
       leaves : (run : Run) → PassesRun (asks i) s (rest_of reader) n run → IsTrue i.keeps_defaults → Leaves (BodyOf bytes) (asks i) s0 n
       leaves run p k = go run.next p.onward
         where
-          go : (z : Next) → PassesNext (asks i) p.mid p.kept.left n z → Leaves (BodyOf bytes) (asks i) s0 n
+          go : (z : Next) → PassesNext (asks i) p.mid p.left n z → Leaves (BodyOf bytes) (asks i) s0 n
           go (next.Made op fresh len) o =
               body_leaves_next begins (walked k) (operators_many (asks i) 0 (inv.default k 0) p.kept) o.there.begins (accepted_visited 0 o.there.operator (o.walks 0))
           go next.Other o =

@@ -1,9 +1,9 @@
 -- Operators that are passed by, and those that change.
-use Rattle.std.specs.Prelude.{◌≡◌, ◌≢◌, ◌<◌, ◌≤◌, ◌+◌, ◌-◌, ℕ, ℤ, List, [], ◌∷◌, ◌++◌, length, true, Option, Some, None}
+use Rattle.std.specs.Prelude.{◌≡◌, ◌≢◌, ◌<◌, ◌≤◌, ◌+◌, ◌-◌, ℕ, zero, suc, ℤ, List, [], ◌∷◌, ◌++◌, length, true, if◌then◌else◌, Option, Some, None}
 use Rattle.wasm_shapes.specs.declared.ImmKind.{ImmKind}
 use Rattle.wasm_shapes.specs.declared.ImmKind.TheVariants as kind
 use Rattle.wasm_shapes.specs.declared.Opcode.{Opcode}
-use Rattle.wasm_shapes.specs.Operators.{code_of, is_code, kinds_of}
+use Rattle.wasm_shapes.specs.Operators.{code_of, is_code, kinds_of, look_up, one_byte_operators}
 use Rattle.wasm_shapes.specs.Shape.{Shape, block_type, shape_of_kind}
 use Rattle.wasm_shapes.specs.Tree.{Tree, code_bytes, normal}
 use Rattle.wasm_shapes.specs.Spells.{Is, Spelled, SpelledCode}
@@ -21,8 +21,6 @@ use Rattle.reencode_hooks.specs.Walk.{walk}
 use Rattle.reencode_core.specs.Rows.{Asks, AcceptsRows}
 use Rattle.reencode_core.specs.declared.direct.classes.Class.{Class}
 use Rattle.reencode_core.specs.declared.direct.classes.Class.TheVariants as class
-use Rattle.reencode_core.specs.declared.direct.classes.Leaf.{Leaf}
-use Rattle.reencode_core.specs.declared.direct.classes.Leaf.TheVariants as leaf
 use Rattle.reencode_core.specs.declared.direct.passing.Fresh.{Fresh}
 use Rattle.reencode_core.specs.declared.direct.passing.Fresh.TheVariants as fresh
 use Rattle.reencode_core.specs.declared.direct.passing.Next.{Next}
@@ -30,20 +28,50 @@ use Rattle.reencode_core.specs.declared.direct.passing.Next.TheVariants as next
 
 -- ---- classes of operators
 
--- the shape of a leaf that asks nothing
-abbrev pub leaf_shape : Leaf → Shape
-leaf_shape leaf.Number = Shape.u32
-leaf_shape leaf.Long = Shape.s64
-leaf_shape (leaf.Raw n) = Shape.bytes n
-leaf_shape leaf.Block = block_type
+-- the class of an immediate that stands alone
+abbrev pub class_of_kind : ImmKind → Class
+class_of_kind kind.Block = class.Block
+class_of_kind kind.Label = class.Number
+class_of_kind kind.Local = class.Number
+class_of_kind kind.Field = class.Number
+class_of_kind kind.Size = class.Number
+class_of_kind kind.S32 = class.S32
+class_of_kind kind.S64 = class.Long
+class_of_kind kind.Four = class.Raw 4
+class_of_kind kind.Eight = class.Raw 8
+class_of_kind kind.Sixteen = class.Raw 16
+class_of_kind kind.Lanes = class.Raw 16
+class_of_kind kind.Mem = class.Mem
+class_of_kind (kind.Index s) = if is_core s then class.Index s else class.Other
+class_of_kind _ = class.Other
+
+-- the class of a row of immediates
+abbrev pub class_of_row : Option (List ImmKind) → Class
+class_of_row None = class.Other
+class_of_row (Some []) = class.Bare
+class_of_row (Some (k ∷ [])) = class_of_kind k
+class_of_row (Some (k ∷ l ∷ ks)) = class.Other
+
+-- the class of an operator
+abbrev pub class_of : Opcode → Class
+class_of op = class_of_row (kinds_of op)
+
+-- the classes of so many operators of one byte, from one number on
+unfoldable pub classes_from : ℕ → ℕ → List Class
+classes_from from zero = []
+classes_from from (suc n) = class_of_row (look_up (one_byte_operators true) from) ∷ classes_from (suc from) n
 
 -- an immediate of the kind, which stands alone, is of the class
 abbrev pub IsOfKind : ImmKind → Class → Type 0
 IsOfKind k class.Bare = ⊥
-IsOfKind k (class.Leaf l) = shape_of_kind k ≡ leaf_shape l
+IsOfKind k class.Number = shape_of_kind k ≡ Shape.u32
+IsOfKind k class.Long = shape_of_kind k ≡ Shape.s64
+IsOfKind k (class.Raw n) = shape_of_kind k ≡ Shape.bytes n
+IsOfKind k class.Block = shape_of_kind k ≡ block_type
 IsOfKind k class.S32 = k ≡ kind.S32
 IsOfKind k (class.Index s) = (k ≡ kind.Index s) × (is_core s ≡ true)
 IsOfKind k class.Mem = k ≡ kind.Mem
+IsOfKind k class.Other = Unit {0}
 
 -- the operator has one immediate, of a class
 pub record HasOne (op : Opcode) (c : Class) : Type 0 where
@@ -54,6 +82,7 @@ pub record HasOne (op : Opcode) (c : Class) : Type 0 where
 -- the operator has no immediate, or one of a class
 abbrev pub HasClass : Opcode → Class → Type 0
 HasClass op class.Bare = kinds_of op ≡ Some []
+HasClass op class.Other = Unit {0}
 HasClass op c = HasOne op c
 
 -- ---- what stands at the front of some bytes
@@ -85,11 +114,12 @@ imm_of (fresh.Index s i) = imm.Index s i
 imm_of (fresh.S32 z) = imm.S32 z
 imm_of (fresh.Mem m) = imm.Mem m
 
--- It stands in its normal spelling, and is mapped to itself.
-pub record KeepsOperator {S E : Type 0} (asked : Asks S E) (s : S) (bytes : List ℕ) (n : ℕ) (m : S) : Type 0 where
-  pub there : OperatorThere bytes n
-  pub normally : there.begins.text ≡ normal there.operator
-  pub walks : (c : ℕ) → walk asked c s there.operator ≡ accepted there.operator m
+-- It stands in its normal spelling with these bytes behind it, and is mapped to itself.
+pub record KeepsOperator {S E : Type 0} (asked : Asks S E) (s : S) (bytes left : List ℕ) (m : S) : Type 0 where
+  pub operator : Tree
+  pub begins : Begins (Shape.op true) bytes operator left
+  pub normally : begins.text ≡ normal operator
+  pub walks : (c : ℕ) → walk asked c s operator ≡ accepted operator m
 
 -- It is mapped to the operator of an opcode and an immediate.
 pub record MakesOperator {S E : Type 0} (asked : Asks S E) (s : S) (bytes : List ℕ) (n : ℕ) (op : Opcode) (imm : Imm) (m : S) : Type 0 where
@@ -109,21 +139,19 @@ abbrev pub PassesNext : {S E : Type 0} → Asks S E → S → List ℕ → S →
 PassesNext asked s bytes m (next.Made op f n) = MakesOperator asked s bytes n op (imm_of f) m
 PassesNext asked s bytes m next.Other = m ≡ s
 
--- what is done with the operator at the front of some bytes: so many stay as they stand, or none do
-abbrev pub Passes : {S E : Type 0} → Asks S E → S → List ℕ → S → Next → Option ℕ → Type 0
-Passes asked s bytes m _ (Some n) = KeepsOperator asked s bytes n m
-Passes asked s bytes m next None = PassesNext asked s bytes m next
-
 -- ---- immediates that ask nothing
 
--- nothing is asked of these leaves, nor of a row of them
+-- nothing is asked of these
 abbrev pub IsUnasked : Tree → Type 0
 IsUnasked (Tree.u32 n) = Unit {0}
 IsUnasked (Tree.s32 z) = Unit {0}
 IsUnasked (Tree.s64 z) = Unit {0}
 IsUnasked (Tree.raw bs) = Unit {0}
 IsUnasked (Tree.fixed b) = Unit {0}
+IsUnasked Tree.empty = Unit {0}
 IsUnasked (Tree.row k t) = IsUnasked t
+IsUnasked (Tree.pair t u) = IsUnasked t × IsUnasked u
+IsUnasked (Tree.op k t) = IsUnasked t
 IsUnasked _ = ⊥
 
 -- One stands at the front of some bytes in its normal spelling.
@@ -132,13 +160,24 @@ pub record SkipsLeaf (shape : Shape) (bytes left : List ℕ) : Type 0 where
   pub begins : BeginsNormal shape bytes tree left
   pub unasked : IsUnasked tree
 
--- One stands behind an operator's number in its normal spelling, and the operator takes so many bytes.
-pub record KeepsLeaf (shape : Shape) (bytes rest : List ℕ) (n : ℕ) : Type 0 where
-  pub left : List ℕ
-  pub skips : SkipsLeaf shape rest left
-  pub counted : n ≡ length bytes - length left
+-- One of a class does, or none where the class has none.
+abbrev pub SkipsClass : Class → List ℕ → List ℕ → Type 0
+SkipsClass class.Bare bytes left = bytes ≡ left
+SkipsClass class.Number bytes left = SkipsLeaf Shape.u32 bytes left
+SkipsClass class.Long bytes left = SkipsLeaf Shape.s64 bytes left
+SkipsClass (class.Raw n) bytes left = SkipsLeaf (Shape.bytes n) bytes left
+SkipsClass class.Block bytes left = SkipsLeaf block_type bytes left
+SkipsClass class.S32 bytes left = SkipsLeaf Shape.s32 bytes left
+SkipsClass _ bytes left = ⊥
 
--- A number of 32 bits with sign stands behind it, and is written anew.
+-- An operator of which nothing is asked stands there in its normal spelling.
+pub record SkipsOperator (bytes left : List ℕ) : Type 0 where
+  pub operator : Tree
+  pub begins : Begins (Shape.op true) bytes operator left
+  pub normally : begins.text ≡ normal operator
+  pub unasked : IsUnasked operator
+
+-- A number of 32 bits with sign stands behind an operator's number, and is written anew.
 pub record MakesS32 (bytes rest : List ℕ) (made : Fresh) (n : ℕ) : Type 0 where
   pub number : ℤ
   pub left : List ℕ
@@ -147,26 +186,19 @@ pub record MakesS32 (bytes rest : List ℕ) (made : Fresh) (n : ℕ) : Type 0 wh
   pub tree : imm_tree (imm_of made) ≡ Tree.s32 number
   pub kind : imm_kind (imm_of made) ≡ Some kind.S32
 
--- the leaf is kept, or nothing was done
-abbrev pub PassesLeaf : Shape → List ℕ → List ℕ → Next → Option ℕ → Type 0
-PassesLeaf shape bytes rest _ (Some n) = KeepsLeaf shape bytes rest n
-PassesLeaf shape bytes rest n None = n ≡ next.Other
-
--- the number is kept or written anew, or nothing was done
-abbrev pub PassesS32 : Opcode → List ℕ → List ℕ → Next → Option ℕ → Type 0
-PassesS32 op bytes rest _ (Some n) = KeepsLeaf Shape.s32 bytes rest n
-PassesS32 op bytes rest (next.Made o f n) None = (o ≡ op) × MakesS32 bytes rest f n
-PassesS32 op bytes rest next.Other None = Unit {0}
+-- the number is written anew, or nothing was done
+abbrev pub PassesS32 : Opcode → List ℕ → List ℕ → Next → Type 0
+PassesS32 op bytes rest (next.Made o f n) = (o ≡ op) × MakesS32 bytes rest f n
+PassesS32 op bytes rest next.Other = Unit {0}
 
 -- ---- runs
 
--- Operators stand at the front of some bytes, in so many, in their normal spelling, and each is mapped to itself.
-pub record KeepsOperators {S E : Type 0} (asked : Asks S E) (s : S) (bytes : List ℕ) (n : ℕ) (m : S) : Type 0 where
+-- Operators stand at the front of some bytes in their normal spelling, with these bytes behind them, and each is mapped to
+-- itself.
+pub record KeepsOperators {S E : Type 0} (asked : Asks S E) (s : S) (bytes left : List ℕ) (m : S) : Type 0 where
   pub operators : List Tree
   pub text : List ℕ
-  pub left : List ℕ
   pub reads : bytes ≡ text ++ left
-  pub counted : length text ≡ n
   pub are : AreOperators text operators
   pub walks : (c : ℕ) → AcceptsRows asked c s operators operators m
 
@@ -180,15 +212,17 @@ pub record Run : Type 0 where
   pub kept : ℕ
   pub next : Next
 
--- A run of such operators, and what is done with the next one.
+-- A run of such operators in so many bytes, and what is done with the next one.
 pub record PassesRun {S E : Type 0} (asked : Asks S E) (s : S) (bytes : List ℕ) (m : S) (run : Run) : Type 0 where
   pub mid : S
-  pub kept : KeepsOperators asked s bytes run.kept mid
-  pub onward : PassesNext asked mid kept.left m run.next
+  pub left : List ℕ
+  pub kept : KeepsOperators asked s bytes left mid
+  pub counted : length kept.text ≡ run.kept
+  pub onward : PassesNext asked mid left m run.next
 
 -- A run of such operators, and the next one is refused.
 pub record StopsRun {S E : Type 0} (asked : Asks S E) (s : S) (bytes : List ℕ) (e : Error E) (m : S) : Type 0 where
   pub mid : S
-  pub count : ℕ
-  pub kept : KeepsOperators asked s bytes count mid
-  pub stops : RefusesOperator asked mid kept.left e m
+  pub left : List ℕ
+  pub kept : KeepsOperators asked s bytes left mid
+  pub stops : RefusesOperator asked mid left e m

@@ -1,4 +1,5 @@
 pub mod Direct
+pub mod Elements
 pub mod Errors
 pub mod Rows
 pub mod Bodies

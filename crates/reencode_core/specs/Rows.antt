@@ -7,16 +7,12 @@ use Rattle.wasm_shapes.specs.Spells.{Is, Spelled}
 use Rattle.wasm_shapes.specs.Place.{Begins, BeginsNone}
 use Rattle.wasm_shapes.specs.Rows.{RowsLeft, NoRows, rows_then}
 use Rattle.wasm_shapes.specs.Module.{local_row, code_row}
-use Rattle.wasm_read.specs.declared.types.TableType.{TableType}
-use Rattle.wasm_read.specs.declared.types.TableInit.{TableInit}
-use Rattle.wasm_read.specs.declared.types.TableInit.TheVariants as init
 use Rattle.wasm_read.specs.Operations.{frame_row}
 use Rattle.wasm_read.specs.Reading.{Standing}
-use Rattle.wasm_read.specs.Types.{table_type_tree}
 use Rattle.wasm_write.specs.Counts.{counts, IsTooLarge}
 use Rattle.reencode_hooks.specs.declared.error.Error.{Error}
-use Rattle.reencode_hooks.specs.declared.error.Error.TheVariants.{ParseError, TooLarge, NoMemory}
-use Rattle.reencode_hooks.specs.Run.{Step, accepted, refused, and_then, run, LeavesVisited}
+use Rattle.reencode_hooks.specs.declared.error.Error.TheVariants.{TooLarge, NoMemory}
+use Rattle.reencode_hooks.specs.Run.{Step, accepted, refused, and_then, run}
 use Rattle.reencode_hooks.specs.Walk.{walk}
 use Rattle.reencode_core.specs.Errors.{IfParse, IfRefused}
 
@@ -90,18 +86,6 @@ GivesRow asked c before t after (Ok _) = (u : Tree) × (walk asked c before.0 t 
 GivesRow asked c before t after (Err e) =
     (after.1 ≡ before.1)
     × (e ≢ NoMemory → (walk asked c before.0 t ≡ refused e after.0) ⊎ TooLargeMade asked before.0 t (length before.1) e after.0)
-
--- A table that starts with null references is mapped as a row. One that starts with the value of an expression has no format
--- yet: it is refused at its front, nothing is asked, and nothing is added.
-abbrev pub GivesTable : {S E : Type 0} → Asks S E → ℕ → S × List Tree → TableType → TableInit → S × List Tree → Result (Unit {0}) (Error E) → Type 0
-GivesTable asked c before ty init.RefNull after result = GivesRow asked c before (table_type_tree ty) after result
-GivesTable {E = E} asked c before ty (init.Expr _) after result =
-    (after.1 ≡ before.1) × (after.0 ≡ before.0) × (result ≡ Err (ParseError (record { at = 0 })))
-
--- what an error of it leaves
-abbrev pub LeavesTable : {S E : Type 0} → Asks S E → S → TableType → TableInit → S → Result (Unit {0}) (Error E) → Type 0
-LeavesTable asked s ty init.RefNull m result = LeavesVisited asked s (visits (table_type_tree ty)) m result
-LeavesTable asked s ty (init.Expr _) m result = m ≡ s
 
 -- ---- bytes that are no rows
 

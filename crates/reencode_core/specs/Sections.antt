@@ -1,7 +1,8 @@
 -- What the call that maps one section gives.
-use Rattle.std.specs.Prelude.{◌≡◌, ◌≢◌, ◌≤◌, ◌<◌, ◌⊎◌, ℕ, List, [], length, Result, Ok, Err, IfOk, IfErr}
-use Rattle.wasm_leb.specs.Place.{BeginsNoNumber}
+use Rattle.std.specs.Prelude.{◌≡◌, ◌≢◌, ◌≤◌, ◌<◌, ◌-◌, ◌⊎◌, ℕ, List, [], length, Result, Ok, Err, IfOk, IfErr}
+use Rattle.wasm_leb.specs.Place.{BeginsNumber, BeginsNoNumber}
 use Rattle.wasm_shapes.specs.declared.SectionId.{SectionId}
+use Rattle.wasm_shapes.specs.declared.Space.{Space}
 use Rattle.wasm_shapes.specs.Shape.{Shape}
 use Rattle.wasm_shapes.specs.Tree.{Tree, normal}
 use Rattle.wasm_shapes.specs.Spells.{Spells}
@@ -32,6 +33,10 @@ ReadsAs kind body t = (u : Tree) × (t ≡ tree_of kind u) × Spells (body_of ki
 abbrev pub HasRows : SectionId → Type 0
 HasRows kind = body_of kind ≡ Shape.vec (row_of kind)
 
+-- they are one item each, an index of this space
+abbrev pub HasItem : SectionId → Space → Type 0
+HasItem kind space = body_of kind ≡ Shape.ix space
+
 -- A section whose rows were mapped was added, or it is too large, or memory is wanting; where its rows were refused, that is
 -- the answer.
 abbrev pub AddsMapped : {E : Type 0} → SectionRow → Sections → Result (Unit {0}) (Error E) → Sections → Result (Unit {0}) (Error E) → Type 0
@@ -57,12 +62,25 @@ pub record RowsFaultIn {S E : Type 0} (asked : Asks S E) (c : ℕ) (kind : Secti
   pub counted : CountRead body reader
   pub fault : RowsFault asked c (row_of kind) reader (s, []) (m, made) at
 
--- The body is none of its kind: at its front the count of the rows is due and none begins, or no body of the kind is in force;
--- or the fault stands in its rows.
+-- One number stands there, and bytes are left behind it, from this place on.
+pub record LeftBehind (body : List ℕ) (at : ℕ) : Type 0 where
+  pub item : ℕ
+  pub rest : List ℕ
+  pub begins : BeginsNumber 128 32 32 body item rest
+  pub some : rest ≢ []
+  pub place : at ≡ length body - length rest
+
+-- At the front the one item is due and none begins; or it stands there, and bytes are left behind it.
+abbrev pub NoItem : List ℕ → ℕ → Type 0
+NoItem body at = ((at ≡ 0) × BeginsNoNumber 128 32 32 body) ⊎ LeftBehind body at
+
+-- The body is none of its kind: at its front the count of the rows or the one item is due and none begins, or no body of the
+-- kind is in force; or the fault stands in its rows; or bytes are left behind its one item.
 abbrev pub BodyFault : {S E : Type 0} → Asks S E → ℕ → SectionId → List ℕ → S → S → ℕ → Type 0
 BodyFault asked c kind body s m at =
     ((t : Tree) → ReadsAs kind body t → ⊥)
-    × (((at ≡ 0) × (BeginsNoNumber 128 32 32 body ⊎ (body_of kind ≡ Shape.none)) × (m ≡ s)) ⊎ RowsFaultIn asked c kind body s m at)
+    × (((at ≡ 0) × (BeginsNoNumber 128 32 32 body ⊎ (body_of kind ≡ Shape.none)) × (m ≡ s)) ⊎ RowsFaultIn asked c kind body s m at
+    ⊎ ((space : Space) × HasItem kind space × LeftBehind body at × (m ≡ s)))
 
 -- The count of the rows stands there, rows behind it were accepted, and the next one is refused.
 pub record StopsSection {S E : Type 0} (asked : Asks S E) (c : ℕ) (kind : SectionId) (body : List ℕ) (s : S) (e : Error E) (m : S) : Type 0 where

@@ -14,6 +14,34 @@ macro_rules! each_row {
 
 pub(crate) use each_row;
 
+macro_rules! parse_element {
+    ($reencoder:ident, $alloc:ident, $elements:ident, $element:ident) => {{
+        let items = $reencoder.element_items($alloc, $element.items)?;
+        match $element.kind {
+            r::ElementKind::Active {
+                table_index,
+                offset_expr,
+            } => {
+                let answer = $reencoder.table_index(shared::asked_table(table_index))?;
+                let offset = $reencoder.const_expr($alloc, offset_expr)?;
+                let table = shared::answered_table(table_index, answer);
+                $elements.active(table, &offset, &items)?;
+                Ok(())
+            }
+            r::ElementKind::Passive => {
+                $elements.passive(&items)?;
+                Ok(())
+            }
+            r::ElementKind::Declared => {
+                $elements.declared(&items)?;
+                Ok(())
+            }
+        }
+    }};
+}
+
+pub(crate) use parse_element;
+
 macro_rules! parse_code_section {
     ($reencoder:ident, $alloc:ident, $code:ident, $section:ident) => {{
         let mut rows = $section;
@@ -80,11 +108,28 @@ macro_rules! parse_section {
                 let mapped = $reencoder.parse_memory_section($alloc, &mut memories, rows);
                 add_section($module, mapped, &memories)
             }
+            SectionId::Global => {
+                let rows = r::GlobalSectionReader::new($body)?;
+                let mut globals = w::GlobalSection::new($alloc);
+                let mapped = $reencoder.parse_global_section($alloc, &mut globals, rows);
+                add_section($module, mapped, &globals)
+            }
             SectionId::Export => {
                 let rows = r::ExportSectionReader::new($body)?;
                 let mut exports = w::ExportSection::new($alloc);
                 let mapped = $reencoder.parse_export_section($alloc, &mut exports, rows);
                 add_section($module, mapped, &exports)
+            }
+            SectionId::Start => {
+                let item = one_item($body)?;
+                let function_index = $reencoder.start_section(item)?;
+                add_section($module, Ok(()), &w::StartSection { function_index })
+            }
+            SectionId::Element => {
+                let rows = r::ElementSectionReader::new($body)?;
+                let mut elements = w::ElementSection::new($alloc);
+                let mapped = $reencoder.parse_element_section($alloc, &mut elements, rows);
+                add_section($module, mapped, &elements)
             }
             SectionId::Code => {
                 let rows = r::CodeSectionReader::new($body)?;
@@ -98,6 +143,11 @@ macro_rules! parse_section {
                     w::DataSection::with_room($alloc, $module, rows.place(), $body.len());
                 let mapped = $reencoder.parse_data_section($alloc, &mut segments, rows);
                 take_section($module, mapped, segments)
+            }
+            SectionId::DataCount => {
+                let item = one_item($body)?;
+                let count = $reencoder.data_count(item)?;
+                add_section($module, Ok(()), &w::DataCountSection { count })
             }
             SectionId::Tag => {
                 let rows = r::TagSectionReader::new($body)?;

@@ -11,8 +11,10 @@ ghost use Rattle.reencode_core.specs.Direct.{imm_of};
 ghost use Rattle.reencode_core.specs.Leaves.{BodyOf, LeavesReading};
 
 mod classes;
+mod fronts;
 mod passing;
 mod runs;
+mod skipping;
 
 use crate::direct::passing::{Fresh, Next};
 use crate::direct::runs::pass_run;

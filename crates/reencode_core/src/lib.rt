@@ -5,6 +5,7 @@ mod bodies;
 pub mod direct;
 mod errors;
 mod imports;
+mod lists;
 mod mapped;
 mod plain;
 mod reencode;

@@ -6,17 +6,19 @@ ghost use Rattle.wasm_shapes.specs.Spells.{Spells};
 ghost use Rattle.wasm_shapes.specs.Tree.{visits};
 ghost use Rattle.wasm_read.specs.declared.types.Imports.TheVariants as imported;
 ghost use Rattle.wasm_read.specs.Types as read;
+ghost use Rattle.wasm_write.specs.Rows.{start_tree};
+ghost use Rattle.wasm_write.specs.Rows.{elements_tree};
 ghost use Rattle.wasm_write.specs.Types as write;
-ghost use Rattle.reencode_hooks.specs.Run.{LeavesVisited, ask};
+ghost use Rattle.reencode_hooks.specs.Run.{LeavesVisited, NeverWants, ask};
 ghost use Rattle.reencode_items.specs.Maps.{Maps};
-ghost use Rattle.reencode_core.specs.Rows.{KeepsFront, GivesRow, GivesRows, GivesTable, LeavesTable};
+ghost use Rattle.reencode_core.specs.Rows.{KeepsFront, GivesRow, GivesRows};
 ghost use Rattle.reencode_core.specs.Bodies.{KeepsCode, GivesLocals, GivesBody};
 ghost use Rattle.reencode_core.specs.Sections.{KeepsModule, ReadsAs, GivesSection};
 ghost use Rattle.reencode_core.specs.Core.{GivesCore, GivesBytes};
 ghost use Rattle.reencode_core.specs.Leaves.{BodyOf, LeavesReading, LocalsOf, RowsOf};
 
 use crate::errors::placed;
-use crate::sections::{add_section, take_section};
+use crate::sections::{add_section, one_item, take_section};
 use crate::{bodies, mapped, shared};
 use reencode_hooks::Error;
 use reencode_items::ReencodeItems;
@@ -30,7 +32,8 @@ use wasm_write as w;
 ///
 /// The clauses `default` and `after_error` of each method hold where the reencoder keeps the defaults. `after_error` says
 /// that, where it is sure too, every error leaves the state after a front part of the visits of what was to be read, want
-/// of memory too.
+/// of memory too. `start_section` takes no memory, and has `sure` in its place: memory is never wanting where no hook wants
+/// any.
 pub trait Reencode: ReencodeItems {
     /// Maps the rows that the reader still has, each by `parse_recursive_type_group`, and adds each row once it is mapped.
     fn parse_type_section(
@@ -156,8 +159,7 @@ pub trait Reencode: ReencodeItems {
         bodies::each_row!(section, alloc, row => self.parse_table(alloc, tables, row))
     }
 
-    /// Maps a table that starts with null references by `table_type`, and adds it. One that starts with the value of an
-    /// expression has no reading yet, and is refused as bytes without one are.
+    /// Maps a table by `table_type`, and the expression of its first value by `const_expr` where it has one, and adds it.
     fn parse_table(
         &mut self,
         alloc: Global,
@@ -166,13 +168,13 @@ pub trait Reencode: ReencodeItems {
     ) -> Result<(), Error<Self::Error>>
         ensures kept { KeepsFront tables.old tables.new }
         ensures default { IsTrue Self.keeps_defaults → (c : ℕ)
-            → GivesTable (ask Self.reply Self.next) c (self.old, tables.old) table.entry.ty
-            table.entry.init (self.new, tables.new) result }
+            → GivesRow (ask Self.reply Self.next) c (self.old, tables.old)
+            (read.table_tree table.entry) (self.new, tables.new) result }
         ensures after_error { IsTrue Self.keeps_defaults → IsTrue Self.sure
-            → LeavesTable (ask Self.reply Self.next) self.old table.entry.ty table.entry.init
-            self.new result }
+            → LeavesVisited (ask Self.reply Self.next) self.old
+            (visits (read.table_tree table.entry)) self.new result }
     {
-        shared::parse_table(self, tables, table)
+        shared::parse_table(self, alloc, tables, table)
     }
 
     /// Maps the rows that the reader still has, each by `memory_type`, and adds each row once it is mapped.
@@ -191,6 +193,42 @@ pub trait Reencode: ReencodeItems {
             self.old self.new result }
     {
         mapped::map_section(self, alloc, memories, section)
+    }
+
+    /// Maps the rows that the reader still has, each by `parse_global`.
+    fn parse_global_section(
+        &mut self,
+        alloc: Global,
+        globals: &mut w::GlobalSection,
+        section: r::GlobalSectionReader<'_>,
+    ) -> Result<(), Error<Self::Error>>
+        ensures kept { KeepsFront globals.old globals.new }
+        ensures default { IsTrue Self.keeps_defaults → (c : ℕ)
+            → GivesRows (ask Self.reply Self.next) c (row_of kinds.Global) section.entry
+            (self.old, globals.old) (self.new, globals.new) result }
+        ensures after_error { IsTrue Self.keeps_defaults → IsTrue Self.sure
+            → LeavesReading (RowsOf (row_of kinds.Global) section.entry) (ask Self.reply Self.next)
+            self.old self.new result }
+    {
+        bodies::each_row!(section, alloc, row => self.parse_global(alloc, globals, row))
+    }
+
+    /// Maps a global by `global_type`, the expression of its first value by `const_expr`, and adds it.
+    fn parse_global(
+        &mut self,
+        alloc: Global,
+        globals: &mut w::GlobalSection,
+        global: r::Global<'_>,
+    ) -> Result<(), Error<Self::Error>>
+        ensures kept { KeepsFront globals.old globals.new }
+        ensures default { IsTrue Self.keeps_defaults → (c : ℕ)
+            → GivesRow (ask Self.reply Self.next) c (self.old, globals.old)
+            (read.global_tree global.entry) (self.new, globals.new) result }
+        ensures after_error { IsTrue Self.keeps_defaults → IsTrue Self.sure
+            → LeavesVisited (ask Self.reply Self.next) self.old
+            (visits (read.global_tree global.entry)) self.new result }
+    {
+        shared::parse_global(self, alloc, globals, global)
     }
 
     /// Maps the rows that the reader still has, each by `tag_type`, and adds each row once it is mapped.
@@ -244,6 +282,71 @@ pub trait Reencode: ReencodeItems {
             (visits (read.export_tree export.entry)) self.new result }
     {
         shared::parse_export(self, exports, export)
+    }
+
+    /// The index of the function that starts the module, by `function_index` (WebAssembly Core Specification 3.0, section
+    /// 5.5.11).
+    fn start_section(&mut self, start: u32) -> Result<u32, Error<Self::Error>>
+        ensures default { IsTrue Self.keeps_defaults
+            → Maps Self.reply Self.next self.old (start_tree start) start_tree self.new result }
+        ensures sure { IsTrue Self.keeps_defaults → NeverWants Self.sure result }
+    {
+        self.function_index(start)
+    }
+
+    /// Maps the rows that the reader still has, each by `parse_element`.
+    fn parse_element_section(
+        &mut self,
+        alloc: Global,
+        elements: &mut w::ElementSection,
+        section: r::ElementSectionReader<'_>,
+    ) -> Result<(), Error<Self::Error>>
+        ensures kept { KeepsFront elements.old elements.new }
+        ensures default { IsTrue Self.keeps_defaults → (c : ℕ)
+            → GivesRows (ask Self.reply Self.next) c (row_of kinds.Element) section.entry
+            (self.old, elements.old) (self.new, elements.new) result }
+        ensures after_error { IsTrue Self.keeps_defaults → IsTrue Self.sure
+            → LeavesReading (RowsOf (row_of kinds.Element) section.entry) (ask Self.reply Self.next)
+            self.old self.new result }
+    {
+        bodies::each_row!(section, alloc, row => self.parse_element(alloc, elements, row))
+    }
+
+    /// Maps an element segment, and adds it: what it lists by `element_items`, then its table by `table_index` and its
+    /// offset by `const_expr`. A table that is left out is asked for as the first one, and stays left out where the answer
+    /// is 0.
+    fn parse_element(
+        &mut self,
+        alloc: Global,
+        elements: &mut w::ElementSection,
+        element: r::Element<'_>,
+    ) -> Result<(), Error<Self::Error>>
+        ensures kept { KeepsFront elements.old elements.new }
+        ensures default { IsTrue Self.keeps_defaults → (c : ℕ)
+            → GivesRow (ask Self.reply Self.next) c (self.old, elements.old)
+            (read.element_tree element.entry) (self.new, elements.new) result }
+        ensures after_error { IsTrue Self.keeps_defaults → IsTrue Self.sure
+            → LeavesVisited (ask Self.reply Self.next) self.old
+            (visits (read.element_tree element.entry)) self.new result }
+    {
+        bodies::parse_element!(self, alloc, elements, element)
+    }
+
+    /// Maps what an element segment lists: functions each by `function_index`, or expressions each by `const_expr` and
+    /// then their type by `ref_type`.
+    fn element_items(
+        &mut self,
+        alloc: Global,
+        items: r::ElementItems<'_>,
+    ) -> Result<w::Elements, Error<Self::Error>>
+        ensures default { IsTrue Self.keeps_defaults
+            → Maps Self.reply Self.next self.old (read.element_items_tree items.entry)
+            elements_tree self.new result }
+        ensures after_error { IsTrue Self.keeps_defaults → IsTrue Self.sure
+            → LeavesVisited (ask Self.reply Self.next) self.old
+            (visits (read.element_items_tree items.entry)) self.new result }
+    {
+        shared::element_items(self, alloc, items)
     }
 
     /// Maps the rows that the reader still has, each by `parse_function_body`. A `ParseError` holds the place of the row in

@@ -5,10 +5,11 @@ ghost use Rattle.wasm_shapes.specs.Module.{CoreReading, row_of};
 ghost use Rattle.wasm_shapes.specs.Tree.{visits};
 ghost use Rattle.wasm_read.specs.declared.types.Imports.TheVariants as imported;
 ghost use Rattle.wasm_read.specs.Types as read;
+ghost use Rattle.wasm_write.specs.Rows.{elements_tree};
 ghost use Rattle.wasm_write.specs.Types as write;
 ghost use Rattle.reencode_hooks.specs.Run.{LeavesVisited, ask};
 ghost use Rattle.reencode_items.specs.Maps.{Maps};
-ghost use Rattle.reencode_core.specs.Rows.{KeepsFront, GivesRow, GivesRows, GivesTable, LeavesTable};
+ghost use Rattle.reencode_core.specs.Rows.{KeepsFront, GivesRow, GivesRows};
 ghost use Rattle.reencode_core.specs.Bodies.{KeepsCode, GivesLocals, GivesBody};
 ghost use Rattle.reencode_core.specs.Sections.{KeepsModule, ReadsAs, GivesSection};
 ghost use Rattle.reencode_core.specs.Core.{GivesCore};
@@ -16,7 +17,7 @@ ghost use Rattle.reencode_core.specs.Leaves.{BodyOf, LeavesReading, LocalsOf, Ro
 
 use crate::errors::placed;
 use crate::reencode::Reencode;
-use crate::sections::{add_section, take_section};
+use crate::sections::{add_section, one_item, take_section};
 use crate::{bodies, mapped, shared};
 use reencode_hooks::Error;
 use std::alloc::Global;
@@ -149,8 +150,7 @@ pub fn parse_table_section<T: Reencode>(
     bodies::each_row!(section, alloc, row => reencoder.parse_table(alloc, tables, row))
 }
 
-/// Maps a table that starts with null references by `table_type`, and adds it. One that starts with the value of an
-/// expression has no reading yet, and is refused as bytes without one are.
+/// Maps a table by `table_type`, and the expression of its first value by `const_expr` where it has one, and adds it.
 pub fn parse_table<T: Reencode>(
     reencoder: &mut T,
     alloc: Global,
@@ -159,13 +159,13 @@ pub fn parse_table<T: Reencode>(
 ) -> Result<(), Error<T::Error>>
     ensures kept { KeepsFront tables.old tables.new }
     ensures default { IsTrue T.keeps_defaults → (c : ℕ)
-        → GivesTable (ask T.reply T.next) c (reencoder.old, tables.old) table.entry.ty
-        table.entry.init (reencoder.new, tables.new) result }
+        → GivesRow (ask T.reply T.next) c (reencoder.old, tables.old)
+        (read.table_tree table.entry) (reencoder.new, tables.new) result }
     ensures after_error { IsTrue T.keeps_defaults → IsTrue T.sure
-        → LeavesTable (ask T.reply T.next) reencoder.old table.entry.ty table.entry.init
+        → LeavesVisited (ask T.reply T.next) reencoder.old (visits (read.table_tree table.entry))
         reencoder.new result }
 {
-    shared::parse_table(reencoder, tables, table)
+    shared::parse_table(reencoder, alloc, tables, table)
 }
 
 /// Maps the rows that the reader still has, each by `memory_type`, and adds each row once it is mapped.
@@ -184,6 +184,42 @@ pub fn parse_memory_section<T: Reencode>(
         reencoder.old reencoder.new result }
 {
     mapped::map_section(reencoder, alloc, memories, section)
+}
+
+/// Maps the rows that the reader still has, each by `parse_global`.
+pub fn parse_global_section<T: Reencode>(
+    reencoder: &mut T,
+    alloc: Global,
+    globals: &mut w::GlobalSection,
+    section: r::GlobalSectionReader<'_>,
+) -> Result<(), Error<T::Error>>
+    ensures kept { KeepsFront globals.old globals.new }
+    ensures default { IsTrue T.keeps_defaults → (c : ℕ)
+        → GivesRows (ask T.reply T.next) c (row_of kinds.Global) section.entry
+        (reencoder.old, globals.old) (reencoder.new, globals.new) result }
+    ensures after_error { IsTrue T.keeps_defaults → IsTrue T.sure
+        → LeavesReading (RowsOf (row_of kinds.Global) section.entry) (ask T.reply T.next)
+        reencoder.old reencoder.new result }
+{
+    bodies::each_row!(section, alloc, row => reencoder.parse_global(alloc, globals, row))
+}
+
+/// Maps a global by `global_type`, the expression of its first value by `const_expr`, and adds it.
+pub fn parse_global<T: Reencode>(
+    reencoder: &mut T,
+    alloc: Global,
+    globals: &mut w::GlobalSection,
+    global: r::Global<'_>,
+) -> Result<(), Error<T::Error>>
+    ensures kept { KeepsFront globals.old globals.new }
+    ensures default { IsTrue T.keeps_defaults → (c : ℕ)
+        → GivesRow (ask T.reply T.next) c (reencoder.old, globals.old)
+        (read.global_tree global.entry) (reencoder.new, globals.new) result }
+    ensures after_error { IsTrue T.keeps_defaults → IsTrue T.sure
+        → LeavesVisited (ask T.reply T.next) reencoder.old (visits (read.global_tree global.entry))
+        reencoder.new result }
+{
+    shared::parse_global(reencoder, alloc, globals, global)
 }
 
 /// Maps the rows that the reader still has, each by `tag_type`, and adds each row once it is mapped.
@@ -237,6 +273,61 @@ pub fn parse_export<T: Reencode>(
         reencoder.new result }
 {
     shared::parse_export(reencoder, exports, export)
+}
+
+/// Maps the rows that the reader still has, each by `parse_element`.
+pub fn parse_element_section<T: Reencode>(
+    reencoder: &mut T,
+    alloc: Global,
+    elements: &mut w::ElementSection,
+    section: r::ElementSectionReader<'_>,
+) -> Result<(), Error<T::Error>>
+    ensures kept { KeepsFront elements.old elements.new }
+    ensures default { IsTrue T.keeps_defaults → (c : ℕ)
+        → GivesRows (ask T.reply T.next) c (row_of kinds.Element) section.entry
+        (reencoder.old, elements.old) (reencoder.new, elements.new) result }
+    ensures after_error { IsTrue T.keeps_defaults → IsTrue T.sure
+        → LeavesReading (RowsOf (row_of kinds.Element) section.entry) (ask T.reply T.next)
+        reencoder.old reencoder.new result }
+{
+    bodies::each_row!(section, alloc, row => reencoder.parse_element(alloc, elements, row))
+}
+
+/// Maps an element segment, and adds it: what it lists by `element_items`, then its table by `table_index` and its
+/// offset by `const_expr`. A table that is left out is asked for as the first one, and stays left out where the answer
+/// is 0.
+pub fn parse_element<T: Reencode>(
+    reencoder: &mut T,
+    alloc: Global,
+    elements: &mut w::ElementSection,
+    element: r::Element<'_>,
+) -> Result<(), Error<T::Error>>
+    ensures kept { KeepsFront elements.old elements.new }
+    ensures default { IsTrue T.keeps_defaults → (c : ℕ)
+        → GivesRow (ask T.reply T.next) c (reencoder.old, elements.old)
+        (read.element_tree element.entry) (reencoder.new, elements.new) result }
+    ensures after_error { IsTrue T.keeps_defaults → IsTrue T.sure
+        → LeavesVisited (ask T.reply T.next) reencoder.old
+        (visits (read.element_tree element.entry)) reencoder.new result }
+{
+    bodies::parse_element!(reencoder, alloc, elements, element)
+}
+
+/// Maps what an element segment lists: functions each by `function_index`, or expressions each by `const_expr` and
+/// then their type by `ref_type`.
+pub fn element_items<T: Reencode>(
+    reencoder: &mut T,
+    alloc: Global,
+    items: r::ElementItems<'_>,
+) -> Result<w::Elements, Error<T::Error>>
+    ensures default { IsTrue T.keeps_defaults
+        → Maps T.reply T.next reencoder.old (read.element_items_tree items.entry)
+        elements_tree reencoder.new result }
+    ensures after_error { IsTrue T.keeps_defaults → IsTrue T.sure
+        → LeavesVisited (ask T.reply T.next) reencoder.old
+        (visits (read.element_items_tree items.entry)) reencoder.new result }
+{
+    shared::element_items(reencoder, alloc, items)
 }
 
 /// Maps the rows that the reader still has, each by `parse_function_body`. A `ParseError` holds the place of the row in

@@ -11,7 +11,7 @@ use Rattle.wasm_shapes.specs.Shape.{Shape, Named, choice, lead, listing, referen
 use Rattle.wasm_shapes.specs.Spells.{Is, Spelled}
 use Rattle.wasm_shapes.specs.Place.{Begins, BeginsNone}
 use Rattle.wasm_shapes.specs.Module.{element_row, element_functions, element_expressions}
-use Rattle.wasm_shapes.specs.Types.{led, rows_tree, vector_tree, function_index_tree, typed_expressions}
+use Rattle.wasm_shapes.specs.Types.{led, rows_tree, vector_tree, function_index_tree}
 use Rattle.wasm_shapes.proofs.Begins.{begins_row, begins_seq, begins_flag, row_at, none_or, none_row}
 
 -- ---- functions: numbers and indices of a space are spelled alike

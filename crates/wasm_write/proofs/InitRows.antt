@@ -39,7 +39,7 @@ heap_counts (heap.Abstract true ty) = abstract_counts ty
 heap_counts (heap.Exact i) = refl
 heap_counts (heap.Concrete i) = refl
 
-reference_counts : (nullable : Bool) (ty : HeapType) → counts (reference_parts nullable ty) ≡ []
+pub reference_counts : (nullable : Bool) (ty : HeapType) → counts (reference_parts nullable ty) ≡ []
 reference_counts false ty = heap_counts ty
 reference_counts true (heap.Abstract false ty) = abstract_counts ty
 reference_counts true (heap.Abstract true ty) = abstract_counts ty
@@ -109,3 +109,8 @@ pub global_large : {A : Type 0} (r : Result A WriteFault) (ty : GlobalType) (ini
     ∥ Spells (Shape.ref Named.expression) (normal (expression_of init)) (expression_of init) ∥₁ →
     IfErr r (λ f. IfTooLarge f (IsTooLarge (counts (global_tree ty init) ++ n ∷ []))) → IfErr r (λ f. IfTooLarge f (λ size. (size ≡ n) × (2 ^ 32 - 1 < size)))
 global_large r ty init n p q = init_large r (global_type_tree ty) (expression_of init) n (global_counts ty) p q
+
+-- what has a spelling is in range
+pub expression_in_range : (operators : List Tree) → ∥ Spells (Shape.ref Named.expression) (normal (expression_of operators)) (expression_of operators) ∥₁ →
+    InRange (expression_of operators)
+expression_in_range operators p = in_range_had (expression_of operators) (∥∥₁_map p (λ s. spelled_in_range (expression_of operators) (normal (expression_of operators)) s.spelled))

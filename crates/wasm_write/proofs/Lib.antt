@@ -6,6 +6,7 @@ pub mod Items
 pub mod Fronts
 pub mod TypeShapes
 pub mod Subtypes
+pub mod ElementRows
 pub mod ExternalShapes
 pub mod ImmsSoFar
 pub mod InstructionShapes

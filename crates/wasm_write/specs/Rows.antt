@@ -1,10 +1,12 @@
 -- The trees that rows of sections stand for.
-use Rattle.std.specs.Prelude.{ℕ, Bool, true, false, ◌&&◌, List, length, map, Option}
+use Rattle.std.specs.Prelude.{ℕ, Bool, true, false, ◌&&◌, List, length, map, Option, All}
 use Rattle.wasm_shapes.specs.declared.Space.{Space}
 use Rattle.wasm_shapes.specs.declared.Space.TheVariants as space
-use Rattle.wasm_shapes.specs.Tree.{Tree}
+use Rattle.wasm_shapes.specs.Tree.{Tree, normal}
 use Rattle.wasm_shapes.specs.Types.{expression_of, null_table_of, table_with_init_of, global_with_init_of, import_of, item_of, Items, items_of, passive_of, declared_of, active_of, active_data_of}
 pub use Rattle.wasm_shapes.specs.Types.{passive_data_tree}
+use Rattle.wasm_shapes.specs.Shape.{Shape, Named}
+use Rattle.wasm_shapes.specs.Spells.{Spells}
 use Rattle.wasm_write.specs.declared.types.ExportKind.{ExportKind}
 use Rattle.wasm_write.specs.declared.types.ExportKind.TheVariants as export
 use Rattle.wasm_write.specs.declared.types.Import.{Import}
@@ -101,6 +103,20 @@ declared_tree row = declared_of (listed_items row)
 -- a data segment that is placed in a memory, at the operators of its offset
 abbrev pub active_data_tree : ℕ → List Tree → List ℕ → Tree
 active_data_tree memory offset bytes = active_data_of memory (expression_of offset) bytes
+
+-- one that goes to no table: declared or passive
+abbrev pub unplaced_tree : Bool → Elements → Tree
+unplaced_tree false row = passive_tree row
+unplaced_tree true row = declared_tree row
+
+-- the operators of an expression have a spelling with `end` behind them
+abbrev pub HasSpelling : List Tree → Type 0
+HasSpelling operators = ∥ Spells (Shape.ref Named.expression) (normal (expression_of operators)) (expression_of operators) ∥₁
+
+-- each expression has one
+abbrev pub HaveSpellings : Elements → Type 0
+HaveSpellings (elements.Functions is) = Unit {0}
+HaveSpellings (elements.Expressions ty es) = All HasSpelling es
 
 -- ---- sections that are no rows
 

@@ -3,6 +3,7 @@
 
 mod bodies;
 mod code;
+mod elements;
 mod expressions;
 mod externals;
 mod fault;
@@ -34,8 +35,8 @@ pub use names::{IndirectNameMap, NameMap};
 pub use row_section::{RowOf, RowSection};
 pub use section::Section;
 pub use sections::{
-    DataSection, ExportSection, FunctionSection, GlobalSection, ImportSection, MemorySection,
-    TableSection, TagSection, TypeSection,
+    DataSection, ElementSection, ExportSection, FunctionSection, GlobalSection, ImportSection,
+    MemorySection, TableSection, TagSection, TypeSection,
 };
 pub use types::{
     AbstractHeapType, ArrayType, BlockType, Catch, CompositeInnerType, CompositeType, ContType,

@@ -4,15 +4,16 @@ ghost use Rattle.wasm_shapes.specs.Types.{function_tree};
 ghost use Rattle.wasm_shapes.specs.Fits.{InRange};
 ghost use Rattle.wasm_write.specs.Counts.{counts, IsTooLarge};
 ghost use Rattle.wasm_write.specs.Faults.{IfTooLarge};
-ghost use Rattle.wasm_write.specs.Rows.{import_tree, null_table_tree, table_with_init_tree, global_tree, export_tree, active_data_tree, passive_data_tree};
+ghost use Rattle.wasm_write.specs.Rows.{import_tree, null_table_tree, table_with_init_tree, global_tree, export_tree, active_data_tree, passive_data_tree, elements_len, active_tree, passive_tree, declared_tree};
 ghost use Rattle.wasm_write.specs.Types.{group_tree, memory_type_tree, tag_type_tree};
 
+use crate::elements::{Active, Unplaced};
 use crate::expressions::ConstExpr;
 use crate::fault::WriteFault;
 use crate::row_section::RowSection;
 use crate::rows::{ActiveData, Global, PassiveData, TableWithInit};
 use crate::types::{
-    Export, ExportKind, GlobalType, Imports, MemoryType, RecGroup, TableType, TagType,
+    Elements, Export, ExportKind, GlobalType, Imports, MemoryType, RecGroup, TableType, TagType,
 };
 use wasm_shapes::kinds;
 
@@ -169,6 +170,85 @@ impl RowSection<kinds::Exports> {
             ((size ≡ length name.now) ⊎ (size ≡ length self.old + 1)) × (2 ^ 32 - 1 < size))) }
     {
         self.add(&Export { name, kind, index })
+    }
+}
+
+/// An element section (WebAssembly Core Specification 3.0, section 5.5.12).
+pub type ElementSection = RowSection<kinds::Elements>;
+
+impl RowSection<kinds::Elements> {
+    /// Adds a segment that is copied to a table at an offset. A table that is left out is the table 0; it is written where
+    /// the segment holds expressions of another type than that of references to functions that may be null. A refusal
+    /// changes nothing.
+    ///
+    /// `TooLarge` comes exactly where the number of functions or expressions is above 2^32 - 1, or the number of rows would
+    /// be, with that number.
+    #[inline]
+    pub fn active(
+        &mut self,
+        table: Option<u32>,
+        offset: &ConstExpr,
+        elements: &Elements,
+    ) -> Result<(), WriteFault>
+        ensures ok { OnOk result
+            (self.new ≡ self.old ++ active_tree table offset.now elements.now ∷ []) }
+        ensures fits { OnOk result
+            ((elements_len elements.now < 2 ^ 32) × (length self.old + 1 < 2 ^ 32)) }
+        ensures err { OnErr result (self.new ≡ self.old) }
+        ensures large { IfErr result (λ e. IfTooLarge e (λ size.
+            ((size ≡ elements_len elements.now) ⊎ (size ≡ length self.old + 1))
+            × (2 ^ 32 - 1 < size))) }
+    {
+        // for what they say of the spellings of the expressions
+        offset.len();
+        elements.have_spellings();
+        self.add(&Active {
+            table,
+            offset,
+            elements,
+        })
+    }
+
+    /// Adds a segment that is copied to a table by instructions alone. A refusal changes nothing.
+    ///
+    /// `TooLarge` comes exactly where the number of functions or expressions is above 2^32 - 1, or the number of rows would
+    /// be, with that number.
+    #[inline]
+    pub fn passive(&mut self, elements: &Elements) -> Result<(), WriteFault>
+        ensures ok { OnOk result (self.new ≡ self.old ++ passive_tree elements.now ∷ []) }
+        ensures fits { OnOk result
+            ((elements_len elements.now < 2 ^ 32) × (length self.old + 1 < 2 ^ 32)) }
+        ensures err { OnErr result (self.new ≡ self.old) }
+        ensures large { IfErr result (λ e. IfTooLarge e (λ size.
+            ((size ≡ elements_len elements.now) ⊎ (size ≡ length self.old + 1))
+            × (2 ^ 32 - 1 < size))) }
+    {
+        elements.have_spellings();
+        self.add(&Unplaced {
+            declared: false,
+            elements,
+        })
+    }
+
+    /// Adds a segment that is never copied, whose functions may be referred to. A refusal changes nothing.
+    ///
+    /// `TooLarge` comes exactly where the number of functions or expressions is above 2^32 - 1, or the number of rows would
+    /// be, with that number.
+    #[inline]
+    pub fn declared(&mut self, elements: &Elements) -> Result<(), WriteFault>
+        ensures ok { OnOk result (self.new ≡ self.old ++ declared_tree elements.now ∷ []) }
+        ensures fits { OnOk result
+            ((elements_len elements.now < 2 ^ 32) × (length self.old + 1 < 2 ^ 32)) }
+        ensures err { OnErr result (self.new ≡ self.old) }
+        ensures large { IfErr result (λ e. IfTooLarge e (λ size.
+            ((size ≡ elements_len elements.now) ⊎ (size ≡ length self.old + 1))
+            × (2 ^ 32 - 1 < size))) }
+    {
+        elements.have_spellings();
+        self.add(&Unplaced {
+            declared: true,
+            elements,
+        })
     }
 }
 

@@ -1,25 +1,22 @@
-//! What is to be done with one operator. It stays as it stands, and so many bytes of it are answered; or none are, and `next`
+//! What is to be done with one operator. It stays as it stands, and the bytes behind it are answered; or none are, and `next`
 //! says what is to be done: what stays needs no memory beside a register.
-ghost use Rattle.std.specs.Prelude.{◌≡◌, ◌<◌, ◌≤◌, ◌++◌, ◌∷◌, IfErr, IfOk, IfSome, IsTrue, Some, length, true};
-ghost use Rattle.wasm_leb.specs.Leb.{leb, shortest_signed};
-ghost use Rattle.wasm_leb.specs.Place.{BeginsNumber, BeginsSigned};
+ghost use Rattle.std.specs.Prelude.{◌≡◌, ◌<◌, ◌≤◌, ◌∷◌, IfErr, IfNone, IfOk, IfSome, Some, length, true};
 ghost use Rattle.wasm_shapes.specs.declared.ImmKind.TheVariants as kind;
 ghost use Rattle.wasm_shapes.specs.declared.Visit.TheVariants.{Index};
-ghost use Rattle.wasm_shapes.specs.Place.{Begins};
-ghost use Rattle.wasm_shapes.specs.Shape.{Shape, block_type};
-ghost use Rattle.wasm_shapes.specs.Tree.{Tree, normal};
+ghost use Rattle.wasm_shapes.specs.Shape.{Shape};
+ghost use Rattle.wasm_shapes.specs.Tree.{Tree};
 ghost use Rattle.wasm_shapes.specs.Types.{is_core};
 ghost use Rattle.wasm_write.specs.Instructions.{imm_kind, imm_tree};
 ghost use Rattle.reencode_hooks.specs.Hooks.{Replies};
 ghost use Rattle.reencode_hooks.specs.Run.{NeverWants, ask};
 ghost use Rattle.reencode_core.specs.declared.direct.classes.Class.TheVariants as class;
-ghost use Rattle.reencode_core.specs.Direct.{HasClass, HasOne, IsHead, Passes, PassesLeaf, PassesS32, RefusesOperator, SkipsLeaf, imm_of, leaf_shape};
+ghost use Rattle.reencode_core.specs.Direct.{HasClass, HasOne, IsHead, KeepsOperator, PassesNext, PassesS32, RefusesOperator, SkipsLeaf, imm_of};
 
-use crate::direct::classes::{Class, Leaf, class_by_row, frequent_class, one_byte, stands_alone};
+use crate::direct::classes::{Class, class_by_row, class_of_byte, is_prefix, one_byte};
+use crate::direct::fronts::{front_access, front_number, front_signed};
+use crate::direct::skipping::skip_class;
 use reencode_hooks::{Error, ReencodeIndices};
-use wasm_leb::{
-    front_byte, front_s32, front_s64, front_u32, front_u64, is_shortest, is_shortest_signed,
-};
+use wasm_leb::front_byte;
 use wasm_shapes::{Opcode, Space};
 use wasm_write as w;
 
@@ -40,184 +37,21 @@ pub enum Next {
     Other,
 }
 
-// ---- immediates at the front of some bytes
-
-/// A number of 32 bits without sign, whether it stands in its shortest spelling, and the bytes behind it.
-#[inline(always)]
-fn front_number(bytes: &[u8]) -> Option<(u32, bool, &[u8])>
-    ensures begins { IfSome result (λ r. BeginsNumber 128 32 32 bytes.now r.0 r.2.now) }
-    ensures short { IfSome result (λ r. IsTrue r.1 → bytes.now ≡ leb r.0 ++ r.2.now) }
-{
-    match front_u32(bytes) {
-        Some((number, rest)) => {
-            let short = is_shortest(&bytes[..bytes.len() - rest.len()]);
-            Some((number, short, rest))
-        }
-        None => None,
-    }
-}
-
-/// The same of a number with sign.
-#[inline(always)]
-fn front_signed(bytes: &[u8]) -> Option<(i32, bool, &[u8])>
-    ensures begins { IfSome result (λ r. BeginsSigned 32 bytes.now r.0 r.2.now) }
-    ensures short { IfSome result (λ r. IsTrue r.1 → bytes.now ≡ shortest_signed r.0 ++ r.2.now) }
-{
-    match front_s32(bytes) {
-        Some((number, rest)) => {
-            let short = is_shortest_signed(&bytes[..bytes.len() - rest.len()]);
-            Some((number, short, rest))
-        }
-        None => None,
-    }
-}
-
-/// The same of a number of 64 bits with sign.
-#[inline(always)]
-fn front_long(bytes: &[u8]) -> Option<(i64, bool, &[u8])>
-    ensures begins { IfSome result (λ r. BeginsSigned 64 bytes.now r.0 r.2.now) }
-    ensures short { IfSome result (λ r. IsTrue r.1 → bytes.now ≡ shortest_signed r.0 ++ r.2.now) }
-{
-    match front_s64(bytes) {
-        Some((number, rest)) => {
-            let short = is_shortest_signed(&bytes[..bytes.len() - rest.len()]);
-            Some((number, short, rest))
-        }
-        None => None,
-    }
-}
-
-/// The same of an offset.
-#[inline(always)]
-fn front_offset(bytes: &[u8]) -> Option<(u64, bool, &[u8])>
-    ensures begins { IfSome result (λ r. BeginsNumber 128 64 64 bytes.now r.0 r.2.now) }
-    ensures short { IfSome result (λ r. IsTrue r.1 → bytes.now ≡ leb r.0 ++ r.2.now) }
-{
-    match front_u64(bytes) {
-        Some((number, rest)) => {
-            let short = is_shortest(&bytes[..bytes.len() - rest.len()]);
-            Some((number, short, rest))
-        }
-        None => None,
-    }
-}
-
-/// A memory access that leaves its memory out: its alignment, its offset, whether it stands in its normal spelling, and the
-/// bytes behind it. None says nothing.
-#[inline(always)]
-fn front_access(bytes: &[u8]) -> Option<(u8, u64, bool, &[u8])>
-    ensures begins { IfSome result (λ r. Begins Shape.mem bytes.now (Tree.mem r.0 0 r.1) r.3.now) }
-    ensures short { IfSome result
-        (λ r. IsTrue r.2 → bytes.now ≡ normal (Tree.mem r.0 0 r.1) ++ r.3.now) }
-    ensures small { IfSome result (λ r. r.0 < 64) }
-{
-    match front_byte(bytes) {
-        Some((align, middle)) if align < 64 => match front_offset(middle) {
-            Some((offset, short, rest)) => Some((align, offset, short, rest)),
-            None => None,
-        },
-        _ => None,
-    }
-}
-
-// ---- immediates that ask nothing
-
-/// The bytes behind a number of 32 bits without sign that stands in its normal spelling.
-#[inline(always)]
-fn skip_number(bytes: &[u8]) -> Option<&[u8]>
-    ensures { IfSome result (λ rest. SkipsLeaf Shape.u32 bytes.now rest.now) }
-{
-    match front_number(bytes) {
-        Some((_, true, rest)) => Some(rest),
-        _ => None,
-    }
-}
-
-/// The bytes behind a number of 64 bits with sign that stands in its normal spelling.
-#[inline(always)]
-fn skip_long(bytes: &[u8]) -> Option<&[u8]>
-    ensures { IfSome result (λ rest. SkipsLeaf Shape.s64 bytes.now rest.now) }
-{
-    match front_long(bytes) {
-        Some((_, true, rest)) => Some(rest),
-        _ => None,
-    }
-}
-
-/// The bytes behind so many, which stand in their normal spelling always.
-#[inline(always)]
-fn skip_raw(bytes: &[u8], count: usize) -> Option<&[u8]>
-    ensures { IfSome result (λ rest. SkipsLeaf (Shape.bytes count) bytes.now rest.now) }
-{
-    if bytes.len() < count {
-        None
-    } else {
-        Some(&bytes[count..])
-    }
-}
-
-/// The bytes behind the type of a block that is one byte: none, or a type of numbers.
-#[inline(always)]
-fn skip_block(bytes: &[u8]) -> Option<&[u8]>
-    ensures { IfSome result (λ rest. SkipsLeaf block_type bytes.now rest.now) }
-{
-    let Some((first, rest)) = front_byte(bytes) else {
-        return None;
-    };
-    if first == 0x40 {
-        return Some(rest);
-    }
-    if first < 0x7b {
-        return None;
-    }
-    if first < 0x80 { Some(rest) } else { None }
-}
-
-/// The bytes behind a leaf that stands in its normal spelling.
-#[inline(always)]
-fn skip_leaf(leaf: Leaf, bytes: &[u8]) -> Option<&[u8]>
-    ensures { IfSome result (λ rest. SkipsLeaf (leaf_shape leaf) bytes.now rest.now) }
-{
-    match leaf {
-        Leaf::Number => skip_number(bytes),
-        Leaf::Long => skip_long(bytes),
-        Leaf::Raw(count) => skip_raw(bytes, count),
-        Leaf::Block => skip_block(bytes),
-    }
-}
-
-// ---- one function a class
-
-/// An immediate that asks nothing.
-#[inline(always)]
-fn pass_leaf(leaf: Leaf, bytes: &[u8], rest: &[u8], next: &mut Next) -> Option<usize>
-    requires { length rest.now ≤ length bytes.now }
-    ensures { PassesLeaf (leaf_shape leaf) bytes.now rest.now next.new result }
-{
-    match skip_leaf(leaf, rest) {
-        Some(behind) => Some(bytes.len() - behind.len()),
-        None => {
-            *next = Next::Other;
-            None
-        }
-    }
-}
-
 /// A number of 32 bits with sign.
 #[inline(always)]
-fn pass_s32(opcode: Opcode, bytes: &[u8], rest: &[u8], next: &mut Next) -> Option<usize>
+fn pass_s32<'a>(opcode: Opcode, bytes: &[u8], rest: &'a [u8], next: &mut Next) -> Option<&'a [u8]>
     requires { length rest.now ≤ length bytes.now }
-    ensures { PassesS32 opcode bytes.now rest.now next.new result }
+    ensures kept { IfSome result (λ left. SkipsLeaf Shape.s32 rest.now left.now) }
+    ensures next { IfNone result (PassesS32 opcode bytes.now rest.now next.new) }
 {
     let Some((number, short, behind)) = front_signed(rest) else {
         *next = Next::Other;
         return None;
     };
-    let count = bytes.len() - behind.len();
     if short {
-        return Some(count);
+        return Some(behind);
     }
-    *next = Next::Made(opcode, Fresh::S32(number), count);
+    *next = Next::Made(opcode, Fresh::S32(number), bytes.len() - behind.len());
     None
 }
 
@@ -247,18 +81,20 @@ fn ask_index<R: ReencodeIndices>(
 
 /// An index of a space of core modules.
 #[inline(always)]
-fn pass_index<R: ReencodeIndices>(
+fn pass_index<'a, R: ReencodeIndices>(
     reencoder: &mut R,
     opcode: Opcode,
     space: Space,
     bytes: &[u8],
-    rest: &[u8],
+    rest: &'a [u8],
     next: &mut Next,
-) -> Result<Option<usize>, Error<R::Error>>
+) -> Result<Option<&'a [u8]>, Error<R::Error>>
     requires head { IsHead bytes.now opcode rest.now }
     requires one { HasOne opcode (class.Index space) }
-    ensures ok { IfOk result
-        (Passes (ask R.reply R.next) reencoder.old bytes.now reencoder.new next.new) }
+    ensures kept { IfOk result (λ o. IfSome o (λ left.
+        KeepsOperator (ask R.reply R.next) reencoder.old bytes.now left.now reencoder.new)) }
+    ensures next { IfOk result (λ o. IfNone o
+        (PassesNext (ask R.reply R.next) reencoder.old bytes.now reencoder.new next.new)) }
     ensures err { IfErr result
         (λ e. RefusesOperator (ask R.reply R.next) reencoder.old bytes.now e reencoder.new) }
     ensures sure { NeverWants R.sure result }
@@ -269,10 +105,10 @@ fn pass_index<R: ReencodeIndices>(
     };
     match ask_index(reencoder, space, index) {
         Ok(answer) => {
-            let count = bytes.len() - behind.len();
             if answer == index && short {
-                return Ok(Some(count));
+                return Ok(Some(behind));
             }
+            let count = bytes.len() - behind.len();
             *next = Next::Made(opcode, Fresh::Index(space, answer), count);
             Ok(None)
         }
@@ -296,17 +132,19 @@ fn fresh_access(align: u8, memory: u32, offset: u64) -> Fresh
 
 /// A memory access. One that writes its memory is left to others before anything is asked.
 #[inline(always)]
-fn pass_access<R: ReencodeIndices>(
+fn pass_access<'a, R: ReencodeIndices>(
     reencoder: &mut R,
     opcode: Opcode,
     bytes: &[u8],
-    rest: &[u8],
+    rest: &'a [u8],
     next: &mut Next,
-) -> Result<Option<usize>, Error<R::Error>>
+) -> Result<Option<&'a [u8]>, Error<R::Error>>
     requires head { IsHead bytes.now opcode rest.now }
     requires one { HasOne opcode class.Mem }
-    ensures ok { IfOk result
-        (Passes (ask R.reply R.next) reencoder.old bytes.now reencoder.new next.new) }
+    ensures kept { IfOk result (λ o. IfSome o (λ left.
+        KeepsOperator (ask R.reply R.next) reencoder.old bytes.now left.now reencoder.new)) }
+    ensures next { IfOk result (λ o. IfNone o
+        (PassesNext (ask R.reply R.next) reencoder.old bytes.now reencoder.new next.new)) }
     ensures err { IfErr result
         (λ e. RefusesOperator (ask R.reply R.next) reencoder.old bytes.now e reencoder.new) }
     ensures sure { NeverWants R.sure result }
@@ -317,10 +155,10 @@ fn pass_access<R: ReencodeIndices>(
     };
     match reencoder.memory_index(0) {
         Ok(memory) => {
-            let count = bytes.len() - behind.len();
             if memory == 0 && short {
-                return Ok(Some(count));
+                return Ok(Some(behind));
             }
+            let count = bytes.len() - behind.len();
             *next = Next::Made(opcode, fresh_access(align, memory, offset), count);
             Ok(None)
         }
@@ -330,79 +168,61 @@ fn pass_access<R: ReencodeIndices>(
 
 /// An operator of a class, whose immediates stand behind its number.
 #[inline(always)]
-fn pass_class<R: ReencodeIndices>(
+fn pass_class<'a, R: ReencodeIndices>(
     reencoder: &mut R,
     opcode: Opcode,
     class: Class,
     bytes: &[u8],
-    rest: &[u8],
+    rest: &'a [u8],
     next: &mut Next,
-) -> Result<Option<usize>, Error<R::Error>>
+) -> Result<Option<&'a [u8]>, Error<R::Error>>
     requires head { IsHead bytes.now opcode rest.now }
     requires class { HasClass opcode class }
-    ensures ok { IfOk result
-        (Passes (ask R.reply R.next) reencoder.old bytes.now reencoder.new next.new) }
+    ensures kept { IfOk result (λ o. IfSome o (λ left.
+        KeepsOperator (ask R.reply R.next) reencoder.old bytes.now left.now reencoder.new)) }
+    ensures next { IfOk result (λ o. IfNone o
+        (PassesNext (ask R.reply R.next) reencoder.old bytes.now reencoder.new next.new)) }
     ensures err { IfErr result
         (λ e. RefusesOperator (ask R.reply R.next) reencoder.old bytes.now e reencoder.new) }
     ensures sure { NeverWants R.sure result }
 {
     match class {
-        Class::Bare => Ok(Some(bytes.len() - rest.len())),
-        Class::Leaf(leaf) => Ok(pass_leaf(leaf, bytes, rest, next)),
         Class::S32 => Ok(pass_s32(opcode, bytes, rest, next)),
         Class::Index(space) => pass_index(reencoder, opcode, space, bytes, rest, next),
         Class::Mem => pass_access(reencoder, opcode, bytes, rest, next),
-    }
-}
-
-/// An operator, by its row.
-#[inline(never)]
-fn pass_by_row<R: ReencodeIndices>(
-    reencoder: &mut R,
-    opcode: Opcode,
-    bytes: &[u8],
-    rest: &[u8],
-    next: &mut Next,
-) -> Result<Option<usize>, Error<R::Error>>
-    requires { IsHead bytes.now opcode rest.now }
-    ensures ok { IfOk result
-        (Passes (ask R.reply R.next) reencoder.old bytes.now reencoder.new next.new) }
-    ensures err { IfErr result
-        (λ e. RefusesOperator (ask R.reply R.next) reencoder.old bytes.now e reencoder.new) }
-    ensures sure { NeverWants R.sure result }
-{
-    match class_by_row(opcode) {
-        Some(class) => pass_class(reencoder, opcode, class, bytes, rest, next),
-        None => {
+        _ => {
             *next = Next::Other;
             Ok(None)
         }
     }
 }
 
-/// An operator that begins with this byte and is not among the frequent ones.
+/// An operator behind a prefix.
 #[inline(never)]
-fn pass_rare<R: ReencodeIndices>(
+fn pass_prefixed<'a, R: ReencodeIndices>(
     reencoder: &mut R,
-    first: u8,
+    prefix: u8,
     bytes: &[u8],
-    rest: &[u8],
+    rest: &'a [u8],
     next: &mut Next,
-) -> Result<Option<usize>, Error<R::Error>>
-    requires { bytes.now ≡ first ∷ rest.now }
-    ensures ok { IfOk result
-        (Passes (ask R.reply R.next) reencoder.old bytes.now reencoder.new next.new) }
+) -> Result<Option<&'a [u8]>, Error<R::Error>>
+    requires { bytes.now ≡ prefix ∷ rest.now }
+    ensures kept { IfOk result (λ o. IfSome o (λ left.
+        KeepsOperator (ask R.reply R.next) reencoder.old bytes.now left.now reencoder.new)) }
+    ensures next { IfOk result (λ o. IfNone o
+        (PassesNext (ask R.reply R.next) reencoder.old bytes.now reencoder.new next.new)) }
     ensures err { IfErr result
         (λ e. RefusesOperator (ask R.reply R.next) reencoder.old bytes.now e reencoder.new) }
     ensures sure { NeverWants R.sure result }
 {
-    if stands_alone(first) {
-        return pass_by_row(reencoder, one_byte(first), bytes, rest, next);
-    }
     match front_number(rest) {
-        Some((sub, true, behind)) => {
-            let opcode = Opcode { prefix: first, sub };
-            pass_by_row(reencoder, opcode, bytes, behind, next)
+        Some((sub, true, behind)) if is_prefix(prefix) => {
+            let opcode = Opcode { prefix, sub };
+            let class = class_by_row(opcode);
+            match skip_class(class, behind) {
+                Some(left) => Ok(Some(left)),
+                None => pass_class(reencoder, opcode, class, bytes, behind, next),
+            }
         }
         _ => {
             *next = Next::Other;
@@ -413,13 +233,15 @@ fn pass_rare<R: ReencodeIndices>(
 
 /// The operator at the front of some bytes.
 #[inline(always)]
-pub fn pass_operator<R: ReencodeIndices>(
+pub fn pass_operator<'a, R: ReencodeIndices>(
     reencoder: &mut R,
-    bytes: &[u8],
+    bytes: &'a [u8],
     next: &mut Next,
-) -> Result<Option<usize>, Error<R::Error>>
-    ensures ok { IfOk result
-        (Passes (ask R.reply R.next) reencoder.old bytes.now reencoder.new next.new) }
+) -> Result<Option<&'a [u8]>, Error<R::Error>>
+    ensures kept { IfOk result (λ o. IfSome o (λ left.
+        KeepsOperator (ask R.reply R.next) reencoder.old bytes.now left.now reencoder.new)) }
+    ensures next { IfOk result (λ o. IfNone o
+        (PassesNext (ask R.reply R.next) reencoder.old bytes.now reencoder.new next.new)) }
     ensures err { IfErr result
         (λ e. RefusesOperator (ask R.reply R.next) reencoder.old bytes.now e reencoder.new) }
     ensures sure { NeverWants R.sure result }
@@ -428,8 +250,8 @@ pub fn pass_operator<R: ReencodeIndices>(
         *next = Next::Other;
         return Ok(None);
     };
-    match frequent_class(first) {
-        Some(class) => pass_class(reencoder, one_byte(first), class, bytes, rest, next),
-        None => pass_rare(reencoder, first, bytes, rest, next),
+    match class_of_byte(first) {
+        Class::Other => pass_prefixed(reencoder, first, bytes, rest, next),
+        class => pass_class(reencoder, one_byte(first), class, bytes, rest, next),
     }
 }

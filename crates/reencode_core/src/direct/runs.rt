@@ -4,6 +4,7 @@ ghost use Rattle.reencode_hooks.specs.Run.{NeverWants, ask};
 ghost use Rattle.reencode_core.specs.Direct.{IsWithin, PassesRun, StopsRun};
 
 use crate::direct::passing::{Next, pass_operator};
+use crate::direct::skipping::skip_operator;
 use reencode_hooks::{Error, ReencodeIndices};
 
 /// Passes the operators at the front of some bytes that do not change: so many bytes of them. What is to be done with the
@@ -20,11 +21,14 @@ pub fn pass_run<R: ReencodeIndices>(
         (λ e. StopsRun (ask R.reply R.next) reencoder.old bytes.now e reencoder.new) }
     ensures sure { NeverWants R.sure result }
 {
-    let mut kept = 0;
+    let mut rest = bytes;
     'run: loop {
-        match pass_operator(reencoder, &bytes[kept..], next) {
-            Ok(Some(count)) => kept += count,
-            Ok(None) => return Ok(kept),
+        'skip: while let Some(behind) = skip_operator(rest) {
+            rest = behind;
+        }
+        match pass_operator(reencoder, rest, next) {
+            Ok(Some(behind)) => rest = behind,
+            Ok(None) => return Ok(bytes.len() - rest.len()),
             Err(e) => return Err(e),
         }
     }

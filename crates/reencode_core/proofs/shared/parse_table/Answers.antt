@@ -1,25 +1,43 @@
-use Rattle.std.proofs.Common.{refl}
-use Rattle.std.proofs.Math.Seq.{take-length}
+use Rattle.std.proofs.Common.{Ok}
+use Rattle.wasm_read.specs.declared.types.TableInit.TheVariants as init
 use Rattle.wasm_read.specs.Types as read
 use Rattle.wasm_write.specs.Types as write
-use Rattle.reencode_core.proofs.OneRow.{one_too_many, row_mapped, row_unmapped, row_not_added, sure_left}
+use Rattle.wasm_write.specs.Rows.{null_table_tree, table_with_init_tree}
+use Rattle.reencode_items.proofs.Leaving.{second_visited, sure_visited, visited_left}
+use Rattle.reencode_core.proofs.Leaving.{table_leaves}
+use Rattle.reencode_core.proofs.OneRow.{null_table_mapped, one_too_many, row_not_added, table_mapped}
 use Rattle.reencode_core.proofs.shared.parse_table.Goals as goal
 
-pub returns-in_err-ty-in-RefNull : goal.returns-in_err-ty-in-RefNull
-returns-in_err-ty-in-RefNull g c =
+pub returns-in_err-ty-clause-after_error : goal.returns-in_err-ty-clause-after_error
+returns-in_err-ty-clause-after_error g c =
     let i = g.T.ReencodeIndices in
-    let gone = c.in_err-ty-in-RefNull.ensures in
-    rw c.in-RefNull.is (row_unmapped i (read.table_type_tree c.args.table.ty) write.table_type_tree _ _ _ gone.default (sure_left i (read.table_type_tree c.args.table.ty) write.table_type_tree _ _ _ gone.default gone.sure) refl _ c.from_residual.ensures.1)
+    let ty = c.args.table.ty in
+    let gone = c.in_err-ty.ensures in
+    λ k sure. visited_left _ (table_leaves ty c.args.table.init (sure_visited i.reply i.next (read.table_type_tree ty) write.table_type_tree _ (gone.default k) (gone.sure k) sure))
 
 pub returns-in_err-table-in-RefNull : goal.returns-in_err-table-in-RefNull
 returns-in_err-table-in-RefNull g c =
+    let i = g.T.ReencodeIndices in
+    let ty = c.args.table.ty in
+    let made = c.in_ok-ty.ty in
     let gone = c.in_err-table-in-RefNull.ensures in
-    rw c.in-RefNull.is (row_not_added g.T.ReencodeIndices (read.table_type_tree c.args.table.ty) write.table_type_tree _ _ c.in_ok-ty-in-RefNull.ty _ c.in_ok-ty-in-RefNull.ensures.default gone.err (one_too_many (write.table_type_tree c.in_ok-ty-in-RefNull.ty) _ _ gone.large) _
+    rw c.in-RefNull.is (row_not_added i (read.table_parts init.RefNull ty) null_table_tree _ _ made _ (null_table_mapped i _ _ ty (Ok made) c.in_ok-ty.ensures.default) gone.err (one_too_many (null_table_tree made) _ _ gone.large) _
     c.from_residual-in_err-table-in-RefNull.ensures.1)
 
-pub returns-in_ok-table-in-RefNull : goal.returns-in_ok-table-in-RefNull
-returns-in_ok-table-in-RefNull g c =
-    rw c.in-RefNull.is (row_mapped g.T.ReencodeIndices (read.table_type_tree c.args.table.ty) write.table_type_tree _ _ c.in_ok-ty-in-RefNull.ty c.in_ok-ty-in-RefNull.ensures.default c.in_ok-table-in-RefNull.ensures.ok)
+pub returns-in_err-init-in-Expr-clause-after_error : goal.returns-in_err-init-in-Expr-clause-after_error
+returns-in_err-init-in-Expr-clause-after_error g c =
+    let left = rw c.in-Expr.is at c.in_err-init-in-Expr.ensures.after_error in
+    rw c.in-Expr.is (λ k sure. visited_left _ (second_visited 0 (read.table_type_tree c.args.table.ty) (c.in_ok-ty.ensures.default k 0) (left k sure)))
 
-pub returns-in-Expr : goal.returns-in-Expr
-returns-in-Expr g c = rw c.in-Expr.is (record { kept = take-length _; default = λ k n. (refl, refl, refl); after_error = λ k sure. refl })
+pub returns-in_err-table_with_init-in-Expr : goal.returns-in_err-table_with_init-in-Expr
+returns-in_err-table_with_init-in-Expr g c =
+    let i = g.T.ReencodeIndices in
+    let ty = c.args.table.ty in
+    let made = c.in_ok-ty.ty in
+    let expr = c.in-Expr.expr in
+    let value = c.in_ok-init-in-Expr.init in
+    let gone = c.in_err-table_with_init-in-Expr.ensures in
+    let maps = rw c.in-Expr.is at c.in_ok-init-in-Expr.ensures.default in
+    rw c.in-Expr.is (row_not_added i (read.table_parts (init.Expr expr) ty) (table_with_init_tree made) _ _ value _
+    (table_mapped i _ _ _ ty expr made (Ok value) c.in_ok-ty.ensures.default maps) gone.err (one_too_many (table_with_init_tree made value) _ _ gone.large) _
+    c.from_residual-in_err-table_with_init-in-Expr.ensures.1)

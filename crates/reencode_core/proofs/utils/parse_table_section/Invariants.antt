@@ -1,10 +1,10 @@
-use Rattle.wasm_shapes.specs.Shape.{table_type}
+use Rattle.wasm_shapes.specs.Module.{table_row}
 use Rattle.reencode_core.proofs.EachRow.{RowsKept}
 use Rattle.reencode_core.proofs.utils.parse_table_section.Given as goal
 
 -- the rows so far are walked and added
 abbrev pub invariant-rows : goal.invariant-rows
-invariant-rows g l = RowsKept g.T.ReencodeIndices table_type l.initial.rows l.initial.reencoder l.initial.tables l.rows l.reencoder l.tables
+invariant-rows g l = RowsKept g.T.ReencodeIndices table_row l.initial.rows l.initial.reencoder l.initial.tables l.rows l.reencoder l.tables
 
 abbrev pub decreases-rows : goal.decreases-rows
 decreases-rows g l = l.rows.left

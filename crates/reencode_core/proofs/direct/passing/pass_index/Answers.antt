@@ -2,14 +2,14 @@ use Rattle.wasm_shapes.proofs.Begins.{begins_ix}
 use Rattle.reencode_core.proofs.Passing.{index_kept, index_kind_core, index_made, index_refused, index_row, keeps_one, makes_one, normally, refuses_one}
 use Rattle.reencode_core.proofs.direct.passing.pass_index.Goals as goal
 
-pub returns-then-short-clause-ok : goal.returns-then-short-clause-ok
-returns-then-short-clause-ok g c =
+pub returns-then-short-clause-kept : goal.returns-then-short-clause-kept
+returns-then-short-clause-kept g c =
     let i = g.R.ReencodeIndices in
     keeps_one _ _ _ c.requires.head (index_row c.requires.one) (normally (begins_ix c.in-Some.ensures.begins) (c.in-Some.ensures.short c.if-short.true))
     (index_kept i.reply i.next _ _ _ _ _ c.in-Ok.ensures.answer c.if-answer-index.true)
 
-pub returns-else-answer-index-clause-ok : goal.returns-else-answer-index-clause-ok
-returns-else-answer-index-clause-ok g c =
+pub returns-else-answer-index-clause-next : goal.returns-else-answer-index-clause-next
+returns-else-answer-index-clause-next g c =
     let i = g.R.ReencodeIndices in
     makes_one _ _ _ c.requires.head (index_row c.requires.one) (begins_ix c.in-Some.ensures.begins) _ (index_kind_core c.args.space c.in-Ok.answer c.requires.one.is.1)
     (index_made i.reply i.next _ _ _ _ _ c.in-Ok.ensures.answer)

@@ -3,22 +3,14 @@ use mir.Val.{SFits}
 use Rattle.std.proofs.lemmas.Int.{to_z-of_z}
 use Rattle.wasm_shapes.specs.Tree.{Tree}
 use Rattle.wasm_shapes.proofs.Begins.{begins_s32}
-use Rattle.reencode_core.proofs.Passing.{normally}
+use Rattle.reencode_core.proofs.Passing.{skips_s32}
 use Rattle.reencode_core.proofs.direct.passing.pass_s32.Goals as goal
 
-pub returns-then-short : goal.returns-then-short
-returns-then-short c = record {
-  left = c.in-Some.behind.now;
-  skips = record {
-    tree = Tree.s32 c.in-Some.number;
-    begins = normally (begins_s32 c.in-Some.number c.in-Some.ensures.begins) (c.in-Some.ensures.short c.if-short.true);
-    unasked = tt;
-  };
-  counted = refl;
-}
+pub returns-then-short-clause-kept : goal.returns-then-short-clause-kept
+returns-then-short-clause-kept c = skips_s32 c.in-Some.number c.in-Some.ensures.begins (c.in-Some.ensures.short c.if-short.true)
 
-pub returns : goal.returns
-returns c =
+pub returns-clause-next : goal.returns-clause-next
+returns-clause-next c =
     let fits : SFits w32 c.in-Some.number = search rules in (
       refl,
       record {

@@ -1,0 +1,10 @@
+use Rattle.wasm_shapes.specs.Module.{element_row}
+use Rattle.reencode_core.proofs.EachRow.{RowsKept}
+use Rattle.reencode_core.proofs.reencode.Reencode.parse_element_section.Given as goal
+
+-- the rows so far are walked and added
+abbrev pub invariant-rows : goal.invariant-rows
+invariant-rows g l = RowsKept g.Self.ReencodeIndices element_row l.initial.rows l.initial.self l.initial.elements l.rows l.self l.elements
+
+abbrev pub decreases-rows : goal.decreases-rows
+decreases-rows g l = l.rows.left

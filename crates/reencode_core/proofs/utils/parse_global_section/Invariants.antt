@@ -1,0 +1,10 @@
+use Rattle.wasm_shapes.specs.Module.{global_row}
+use Rattle.reencode_core.proofs.EachRow.{RowsKept}
+use Rattle.reencode_core.proofs.utils.parse_global_section.Given as goal
+
+-- the rows so far are walked and added
+abbrev pub invariant-rows : goal.invariant-rows
+invariant-rows g l = RowsKept g.T.ReencodeIndices global_row l.initial.rows l.initial.reencoder l.initial.globals l.rows l.reencoder l.globals
+
+abbrev pub decreases-rows : goal.decreases-rows
+decreases-rows g l = l.rows.left
