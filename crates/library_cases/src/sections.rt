@@ -5,9 +5,10 @@ use crate::stop::Stop;
 use crate::text::{add, add_bytes, add_place, add_refusal, add_word};
 use std::alloc::{AllocError, Global};
 use wasm_read::{
-    CodeSectionReader, Data, DataKind, DataSectionReader, ExportSectionReader,
-    FunctionSectionReader, GlobalSectionReader, ImportSectionReader, MemorySectionReader, Payload,
-    Payloads, Table, TableInit, TableSectionReader, TagSectionReader, TypeSectionReader,
+    CodeSectionReader, Data, DataKind, DataSectionReader, Element, ElementItems, ElementKind,
+    ElementSectionReader, ExportSectionReader, FunctionSectionReader, GlobalSectionReader,
+    ImportSectionReader, MemorySectionReader, Payload, Payloads, Table, TableInit,
+    TableSectionReader, TagSectionReader, TypeSectionReader,
 };
 
 /// Adds the place and the bytes of a frame.
@@ -77,6 +78,32 @@ fn add_global(
     add_operators(alloc, text, global.init_expr.get_operators_reader())
 }
 
+/// Adds an element segment: where it is placed, and what it lists.
+fn add_element(alloc: Global, text: &mut String, element: &Element<'_>) -> Result<(), AllocError> {
+    match &element.kind {
+        ElementKind::Active {
+            table_index,
+            offset_expr,
+        } => {
+            add_word(text, "table")?;
+            add(text, table_index)?;
+            add_operators(alloc, text, offset_expr.get_operators_reader())?;
+        }
+        ElementKind::Passive => add_word(text, "passive")?,
+        ElementKind::Declared => add_word(text, "declared")?,
+    }
+    match &element.items {
+        ElementItems::Functions(functions) => add(text, functions),
+        ElementItems::Expressions(ty, expressions) => {
+            add(text, ty)?;
+            for expr in expressions.as_slice() {
+                add_operators(alloc, text, expr.get_operators_reader())?;
+            }
+            Ok(())
+        }
+    }
+}
+
 /// Adds a data segment: where it is placed, and its bytes.
 fn add_data(alloc: Global, text: &mut String, data_: &Data<'_>) -> Result<(), AllocError> {
     match &data_.kind {
@@ -120,6 +147,23 @@ macro_rules! rows {
     }};
 }
 
+/// What the reader of a section whose rows hold expressions gives.
+fn with_expressions(alloc: Global, call: &str, bytes: &[u8]) -> Result<Option<String>, Stop> {
+    match call {
+        "tables" =>
+            rows!(alloc, TableSectionReader, bytes, text, row => add_table(alloc, text, row)),
+        "globals" => {
+            rows!(alloc, GlobalSectionReader, bytes, text, row => add_global(alloc, text, row))
+        }
+        "elements" => {
+            rows!(alloc, ElementSectionReader, bytes, text, row => add_element(alloc, text, row))
+        }
+        "segments" =>
+            rows!(alloc, DataSectionReader, bytes, text, row => add_data(alloc, text, row)),
+        _ => Ok(None),
+    }
+}
+
 /// What the reader of a section gives.
 pub fn answer(alloc: Global, call: &str, bytes: &[u8]) -> Result<Option<String>, Stop> {
     match call {
@@ -127,17 +171,10 @@ pub fn answer(alloc: Global, call: &str, bytes: &[u8]) -> Result<Option<String>,
         "types" => rows!(alloc, TypeSectionReader, bytes, text, row => add_group(text, row)),
         "imports" => rows!(alloc, ImportSectionReader, bytes, text, row => add(text, row)),
         "functions" => rows!(alloc, FunctionSectionReader, bytes, text, row => add(text, row)),
-        "tables" =>
-            rows!(alloc, TableSectionReader, bytes, text, row => add_table(alloc, text, row)),
         "memories" => rows!(alloc, MemorySectionReader, bytes, text, row => add(text, row)),
-        "globals" => {
-            rows!(alloc, GlobalSectionReader, bytes, text, row => add_global(alloc, text, row))
-        }
-        "segments" =>
-            rows!(alloc, DataSectionReader, bytes, text, row => add_data(alloc, text, row)),
         "exports" => rows!(alloc, ExportSectionReader, bytes, text, row => add(text, row)),
         "code" => rows!(alloc, CodeSectionReader, bytes, text, row => add(text, row)),
         "tags" => rows!(alloc, TagSectionReader, bytes, text, row => add(text, row)),
-        _ => Ok(None),
+        _ => with_expressions(alloc, call, bytes),
     }
 }

@@ -1,8 +1,8 @@
 //! Each free function of sections and rows through its bound, and sections by their kind.
-use reencode_core::{Reencode, utils};
+use reencode_core::{Reencode, fault_tells, utils};
 use reencode_hooks::{Error, Renamer, RoundtripReencoder, Unmapped};
 use std::alloc::Global;
-use wasm_leb::{NoMemory, ReadError};
+use wasm_leb::{List, NoMemory, ReadError};
 use wasm_read as r;
 use wasm_shapes::{SectionId, Space};
 use wasm_write as w;
@@ -132,6 +132,52 @@ fn globals<R: Reencode>(
     };
     utils::parse_global(reencoder, alloc, &mut globals, global)?;
     Ok(module.section(&globals)?)
+}
+
+/// The section `01 00 41 00 0b 01 00` of elements, and another row of it.
+fn element_rows<R: Reencode>(
+    reencoder: &mut R,
+    alloc: Global,
+    elements: &mut w::ElementSection,
+) -> Result<(), Error<R::Error>> {
+    let rows = r::ElementSectionReader::new(&[0x01, 0x00, 0x41, 0x00, 0x0b, 0x01, 0x00])?;
+    utils::parse_element_section(reencoder, alloc, elements, rows)?;
+    let mut functions = List::with_capacity(alloc, 1)?;
+    functions.push(0)?;
+    let element = r::Element {
+        kind: r::ElementKind::Active {
+            table_index: Some(3),
+            offset_expr: r::ConstExpr::new(&[0x41, 0x00, 0x0b])?,
+        },
+        items: r::ElementItems::Functions(functions),
+    };
+    utils::parse_element(reencoder, alloc, elements, element)
+}
+
+/// The expression `d2 00 0b`, as the only one of a segment.
+fn element_items<R: Reencode>(
+    reencoder: &mut R,
+    alloc: Global,
+) -> Result<w::Elements, Error<R::Error>> {
+    let mut expressions = List::with_capacity(alloc, 1)?;
+    expressions.push(r::ConstExpr::new(&[0xd2, 0x00, 0x0b])?)?;
+    let items = r::ElementItems::Expressions(FUNCREF, expressions);
+    utils::element_items(reencoder, alloc, items)
+}
+
+/// These rows, and two of that expression.
+fn module_of_elements<R: Reencode>(
+    reencoder: &mut R,
+    alloc: Global,
+) -> Result<w::Module, Error<R::Error>> {
+    let mut module = w::Module::new(alloc, u32::MAX)?;
+    let mut elements = w::ElementSection::new(alloc);
+    element_rows(reencoder, alloc, &mut elements)?;
+    let items = element_items(reencoder, alloc)?;
+    elements.passive(&items)?;
+    elements.declared(&items)?;
+    module.section(&elements)?;
+    Ok(module)
 }
 
 /// The section `01 04 00 10 00 0b` of code, and another row of it.
@@ -285,6 +331,20 @@ fn functions_map_segments(rt: HostRuntime) -> Result<(), Error<Unmapped>> {
 }
 
 #[test]
+fn functions_map_elements(rt: HostRuntime) -> Result<(), Error<Unmapped>> {
+    let mut renamer = renamer(rt.alloc())?;
+    renamer.set(Space::Table, 0, 9)?;
+    let expected = [
+        0x00, 0x61, 0x73, 0x6d, 0x01, 0x00, 0x00, 0x00, 0x09, 0x1d, 0x04, 0x02, 0x09, 0x41, 0x00,
+        0x0b, 0x00, 0x01, 0x07, 0x02, 0x03, 0x41, 0x00, 0x0b, 0x00, 0x01, 0x07, 0x05, 0x70, 0x01,
+        0xd2, 0x07, 0x0b, 0x07, 0x70, 0x01, 0xd2, 0x07, 0x0b,
+    ];
+    let module = module_of_elements(&mut renamer, rt.alloc())?;
+    assert_eq!(rt; module.as_slice(), expected.as_slice());
+    Ok(())
+}
+
+#[test]
 fn functions_map_modules(rt: HostRuntime) -> Result<(), Error<Unmapped>> {
     let mut renamer = renamer(rt.alloc())?;
     let expected = [
@@ -331,6 +391,7 @@ fn sections_by_kind(rt: HostRuntime) {
         sections_after(&mut RoundtripReencoder, rt.alloc()).ok(),
         Some((2, true))
     );
+    fault_tells(&RoundtripReencoder);
 }
 
 /// The sections `08 01 00` of a start function and `0c 01 02` of a data count, each by the free function and by the method,

@@ -6,11 +6,11 @@ use wasm_leb::{List, NoMemory};
 use wasm_shapes::{CALL, END, I32_ADD, I32_CONST, LOCAL_GET, NOP, Opcode, Space};
 use wasm_write::{
     ArrayType, CodeSection, CompositeInnerType, CompositeType, ConstExpr, ContType, CustomSection,
-    DataCountSection, DataSection, EntityType, ExportKind, ExportSection, FieldType, FuncType,
-    Function, FunctionSection, HeapType, Imm, Import, ImportSection, Imports, Instruction,
-    MemorySection, MemoryType, Module, RawSection, RecGroup, RefType, StartSection, StorageType,
-    StructType, SubType, TableSection, TableType, TagKind, TagSection, TagType, TypeSection,
-    ValType, WriteFault, write_item, write_name,
+    DataCountSection, DataSection, ElementSection, Elements, EntityType, ExportKind, ExportSection,
+    FieldType, FuncType, Function, FunctionSection, HeapType, Imm, Import, ImportSection, Imports,
+    Instruction, MemorySection, MemoryType, Module, RawSection, RecGroup, RefType, Section,
+    StartSection, StorageType, StructType, SubType, TableSection, TableType, TagKind, TagSection,
+    TagType, TypeSection, ValType, WriteFault, write_item, write_name,
 };
 
 const REFERENCE: RefType = RefType {
@@ -433,5 +433,44 @@ fn expressions(rt: HostRuntime) -> Made<()> {
         let mut expression = ConstExpr::new(rt.alloc());
         expression.instruction(&constant)?;
     }
+    Ok(())
+}
+
+/// `i32.const 1`.
+fn offset(alloc: Global) -> Result<ConstExpr, NoMemory> {
+    let mut expression = ConstExpr::new(alloc);
+    if let Some(constant) = with_imm(alloc, I32_CONST, Imm::S32(1))? {
+        if constant.opcode() != END {
+            expression.instruction(&constant)?;
+        }
+    }
+    Ok(expression)
+}
+
+/// Segments of one function, and of no expressions of a type of the module.
+fn element_rows(alloc: Global, elements: &mut ElementSection) -> Made<()> {
+    let offset = offset(alloc)?;
+    let functions = Elements::Functions(list_of(alloc, &[1])?);
+    elements.active(None, &offset, &functions)?;
+    elements.active(Some(0), &offset, &functions)?;
+    elements.passive(&functions)?;
+    let expressions = Elements::Expressions(REFERENCE, List::new(alloc));
+    elements.active(None, &offset, &expressions)?;
+    elements.declared(&expressions)?;
+    Ok(())
+}
+
+#[test]
+fn element_segments(rt: HostRuntime) -> Made<()> {
+    let want = [
+        0x05, 0x00, 0x41, 0x01, 0x0b, 0x01, 0x01, 0x02, 0x00, 0x41, 0x01, 0x0b, 0x00, 0x01, 0x01,
+        0x01, 0x00, 0x01, 0x01, 0x06, 0x00, 0x41, 0x01, 0x0b, 0x63, 0x03, 0x00, 0x07, 0x63, 0x03,
+        0x00,
+    ];
+    let mut elements = ElementSection::new(rt.alloc());
+    element_rows(rt.alloc(), &mut elements)?;
+    let mut out = Vec::new(rt.alloc());
+    elements.encode_body(&mut out)?;
+    assert_eq!(rt; out.as_slice(), want.as_slice());
     Ok(())
 }

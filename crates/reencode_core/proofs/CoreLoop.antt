@@ -79,7 +79,7 @@ ahead_cons : {ts : List Tree} {rest rest' : List ℕ} {t u : Tree} → Ahead ts 
 ahead_cons {t = t} (same e r) = same (ap (λ (v : Tree). Tree.also t v) e) r
 ahead_cons {t = t} (more v w left e b) = more v w left (ap (λ (z : Tree). Tree.also t z) e) b
 
-ahead : (before : List Tree) (start text rest text' rest' : List ℕ) (all : Tree) → Spells sections text (alsos before Tree.finish) → start ≡ text ++ rest →
+pub ahead : (before : List Tree) (start text rest text' rest' : List ℕ) (all : Tree) → Spells sections text (alsos before Tree.finish) → start ≡ text ++ rest →
     Spells sections text' all → start ≡ text' ++ rest' → BeginsNone section rest' → Ahead before rest all rest'
 ahead [] start text rest text' rest' all p e q f none = go all q.shaped q.spelled
   where
@@ -119,7 +119,7 @@ ahead (t ∷ ts) start text rest text' rest' all p e q f none =
             let P : Tree → Type 0 = λ w. Ahead (t ∷ ts) rest (Tree.also w u) rest' in
             subst P agree.1 (ahead_cons next)
 
-none_behind : BeginsNone section []
+pub none_behind : BeginsNone section []
 none_behind = none_at_end refl
 
 -- ---- the spelling of sections

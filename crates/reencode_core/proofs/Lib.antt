@@ -6,6 +6,7 @@ pub mod EachItem
 pub mod EachRow
 pub mod OneSection
 pub mod CoreLoop
+pub mod Faults
 pub mod WholeBytes
 pub mod OneRow
 pub mod DataRow

@@ -5,5 +5,6 @@ pub mod Rows
 pub mod Bodies
 pub mod Sections
 pub mod Core
+pub mod Faults
 pub mod Leaves
 pub mod Rules

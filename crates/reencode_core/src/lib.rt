@@ -5,6 +5,7 @@ mod bodies;
 pub mod direct;
 mod errors;
 mod imports;
+mod laws;
 mod lists;
 mod mapped;
 mod plain;
@@ -14,5 +15,6 @@ mod sections;
 mod shared;
 pub mod utils;
 
+pub use laws::fault_tells;
 pub use reencode::{Reencode, reencode_core};
 pub use rule::reencode_by_rule;

@@ -1,0 +1,25 @@
+-- The law of faults: what a module's bytes that have no reading come to.
+use Rattle.std.specs.Prelude.{◌≡◌, ◌-◌, ℕ, List, length}
+use Rattle.wasm_shapes.specs.Tree.{Tree}
+use Rattle.wasm_shapes.specs.CodeSize.{InvalidCodeSize}
+use Rattle.wasm_shapes.specs.Module.{FaultAt, NoCoreReading}
+use Rattle.reencode_hooks.specs.declared.error.Error.{Error}
+use Rattle.reencode_hooks.specs.declared.error.Error.TheVariants.{InvalidCodeSectionSize, ParseError, UserError, TooLarge, NoMemory}
+use Rattle.reencode_core.specs.Rows.{Asks}
+use Rattle.reencode_core.specs.Core.{RefusedIn, IsCause}
+
+-- The errors where these bytes are left at the first place where no section begins: the place, or where a code section states a
+-- size past the end, that; a refusal, or a size that is too large, which is then one of the sections before; or want of memory.
+abbrev pub FaultGives : {S E : Type 0} → Asks S E → ℕ → List ℕ → S → S → List Tree → List ℕ → Error E → Type 0
+FaultGives asked c bytes s m before rest InvalidCodeSectionSize = InvalidCodeSize rest
+FaultGives asked c bytes s m before rest (ParseError e) = ¬ InvalidCodeSize rest × (e.at ≡ length bytes - length rest)
+FaultGives asked c bytes s m before rest (UserError x) = InvalidCodeSize rest → RefusedIn asked c s before (UserError x) m
+FaultGives asked c bytes s m before rest (TooLarge size) = InvalidCodeSize rest → RefusedIn asked c s before (TooLarge size) m
+FaultGives asked c bytes s m before rest NoMemory = Unit {0}
+FaultGives asked c bytes s m before rest _ = ⊥
+
+-- bytes with a fault have no reading, and the fault says which error comes
+pub record FaultTells {S E : Type 0} (asked : Asks S E) : Type 0 where
+  pub none : (bytes : List ℕ) (before : List Tree) (rest : List ℕ) → FaultAt bytes before rest → NoCoreReading bytes
+  pub told : (c : ℕ) (bytes : List ℕ) (s m : S) (e : Error E) → IsCause asked c bytes s m e → (before : List Tree) (rest : List ℕ) → FaultAt bytes before rest →
+      FaultGives asked c bytes s m before rest e
