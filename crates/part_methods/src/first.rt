@@ -1,4 +1,4 @@
-//! What methods of section bodies, of sections and of parts of items ask.
+//! The kind in which modules, sections, immediates and the types of tables, globals, functions, structures and arrays ask.
 use crate::noter::{Made, Noter, noted};
 use reencode_core::Reencode;
 use reencode_hooks::RoundtripReencoder;
@@ -9,7 +9,7 @@ use wasm_read as r;
 use wasm_shapes::SectionId;
 use wasm_write as w;
 
-/// Overrides what a module asks, what sections ask, and every second method on the way from an operator or a type down.
+/// Overrides a section's body, its rows, the parts of immediates, and every second method from a whole type down.
 #[derive(Drop)]
 pub struct First;
 

@@ -1,4 +1,7 @@
-//! A reencoder that notes what it is asked.
+//! A reencoder that notes what it is asked, in three kinds.
+//!
+//! That a method asks another is seen where the first has its default body and the second is overridden. So each method that
+//! asks others has its default body in one kind, and there all that it asks is overridden.
 ghost use Rattle.std.specs.Prelude.{◌≡◌};
 
 use reencode_hooks::{Error, ReencodeIndices};

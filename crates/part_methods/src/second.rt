@@ -1,4 +1,4 @@
-//! What methods of rows, of bodies and of whole items ask.
+//! The kind in which bodies of sections, rows, operators, composite types and values ask.
 use crate::noter::{Made, Noter, noted};
 use reencode_core::Reencode;
 use reencode_hooks::RoundtripReencoder;
@@ -7,7 +7,7 @@ use std::alloc::Global;
 use wasm_read as r;
 use wasm_write as w;
 
-/// Overrides what a section's body asks, what rows ask, and the other methods on the way from an operator or a type down.
+/// Overrides sections, what rows and composite types hold, and every other second method from there down.
 #[derive(Drop)]
 pub struct Second;
 

@@ -1,4 +1,4 @@
-//! What is left.
+//! The kind in which imports, references, block types, lists of types and constant expressions ask.
 use crate::noter::{Made, Noter, noted};
 use reencode_hooks::{Error, RoundtripReencoder};
 use reencode_items::ReencodeItems;
@@ -21,7 +21,7 @@ pub enum Way {
     Refuses,
 }
 
-/// Overrides what imports, constant expressions, references and block types ask, and maps operators in a way of its own.
+/// Overrides what these hold, and maps operators in a way of its own.
 #[derive(Drop)]
 pub struct Third(pub Way);
 
