@@ -13,11 +13,7 @@ mod items_tests;
 #[cfg(test)]
 mod leb_tests;
 #[cfg(test)]
-mod override_tests;
-#[cfg(test)]
 mod read_tests;
-#[cfg(test)]
-mod section_hook_tests;
 #[cfg(test)]
 mod shapes_tests;
 #[cfg(test)]

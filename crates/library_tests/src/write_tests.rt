@@ -3,14 +3,16 @@ use reencode_hooks::Error;
 use std::alloc::Global;
 use std::convert::Infallible;
 use wasm_leb::{List, NoMemory};
+use wasm_read::GlobalSectionReader;
 use wasm_shapes::{CALL, END, I32_ADD, I32_CONST, LOCAL_GET, NOP, Opcode, Space};
 use wasm_write::{
     ArrayType, CodeSection, CompositeInnerType, CompositeType, ConstExpr, ContType, CustomSection,
     DataCountSection, DataSection, ElementSection, Elements, EntityType, ExportKind, ExportSection,
-    FieldType, FuncType, Function, FunctionSection, HeapType, Imm, Import, ImportSection, Imports,
-    Instruction, MemorySection, MemoryType, Module, RawSection, RecGroup, RefType, Section,
-    StartSection, StorageType, StructType, SubType, TableSection, TableType, TagKind, TagSection,
-    TagType, TypeSection, ValType, WriteFault, write_item, write_name,
+    FieldType, FuncType, Function, FunctionSection, GlobalSection, GlobalType, HeapType, Imm,
+    Import, ImportSection, Imports, Instruction, MemorySection, MemoryType, Module, RawSection,
+    RecGroup, RefType, Section, StartSection, StorageType, StructType, SubType, TableSection,
+    TableType, TagKind, TagSection, TagType, TypeSection, ValType, WriteFault, write_item,
+    write_name,
 };
 
 const REFERENCE: RefType = RefType {
@@ -422,6 +424,22 @@ fn instructions(rt: HostRuntime) -> Made<()> {
     Ok(())
 }
 
+/// A section of a global that begins with the value of an operator, which is no `end`, and `end`.
+fn add_global(alloc: Global, module: &mut Module, operator: &Instruction<'_>) -> Made<()> {
+    let mut init = ConstExpr::new(alloc);
+    if operator.opcode() != END {
+        init.instruction(operator)?;
+    }
+    let ty = GlobalType {
+        val_type: ValType::I32,
+        mutable: true,
+        shared: false,
+    };
+    let mut globals = GlobalSection::new(alloc);
+    globals.global(ty, &init)?;
+    Ok(module.section(&globals)?)
+}
+
 #[test]
 fn expressions(rt: HostRuntime) -> Made<()> {
     let Some(constant) = with_imm(rt.alloc(), I32_CONST, Imm::S32(-65))? else {
@@ -429,10 +447,19 @@ fn expressions(rt: HostRuntime) -> Made<()> {
     };
     assert_eq!(rt; constant.opcode().sub, 0x41);
     assert_eq!(rt; constant.imms().len(), 1);
-    if constant.opcode() != END {
-        let mut expression = ConstExpr::new(rt.alloc());
-        expression.instruction(&constant)?;
-    }
+    let mut module = Module::new(rt.alloc(), u32::MAX)?;
+    add_global(rt.alloc(), &mut module, &constant)?;
+    let want = [
+        0x00, 0x61, 0x73, 0x6d, 0x01, 0x00, 0x00, 0x00, 0x06, 0x07, 0x01, 0x7f, 0x01, 0x41, 0xbf,
+        0x7f, 0x0b,
+    ];
+    assert_eq!(rt; module.as_slice(), want.as_slice());
+    let mut rows = GlobalSectionReader::new(&want[10..])?;
+    let Some(global) = rows.next_row(rt.alloc())? else {
+        panic!(rt; "no global");
+    };
+    assert_eq!(rt; global.ty.mutable, true);
+    assert_eq!(rt; rows.place(), 7);
     Ok(())
 }
 

@@ -1,0 +1,167 @@
+//! A reencoder that notes what it is asked, in three kinds.
+//!
+//! That a method asks another is seen where the first has its default body and the second is overridden. So each method that
+//! asks others has its default body in one kind, and there all that it asks is overridden.
+ghost use Rattle.std.specs.Prelude.{◌≡◌};
+
+use reencode_hooks::{Error, ReencodeIndices};
+use std::alloc::Global;
+use std::convert::Infallible;
+use std::fmt::Write;
+use std::marker::Model;
+use wasm_shapes::SectionId;
+use wasm_write::Module;
+
+pub type Made<T> = Result<T, Error<Infallible>>;
+
+/// Notes each hook that is asked, and each method that its kind overrides, and answers as the reencoder that changes nothing.
+#[derive(Drop)]
+pub struct Noter<K> {
+    notes: String,
+    pub kind: K,
+}
+
+// What it noted is no part of what its answers depend on.
+impl<K> Model for Noter<K> {
+    ghost use Rattle.std.specs.Prelude.{ℕ};
+
+    ghost Value = { ℕ };
+
+    ghost view = { λ _. 0 };
+}
+
+impl<K> Noter<K> {
+    pub fn new(alloc: Global, kind: K) -> Noter<K> {
+        Noter {
+            notes: String::new(alloc),
+            kind,
+        }
+    }
+
+    /// Notes a word. One that finds no memory is missing.
+    pub fn note(&mut self, word: &str)
+        ensures { self.new ≡ self.old }
+    {
+        let _ = self.notes.push_str(" ");
+        let _ = self.notes.push_str(word);
+    }
+
+    /// Begins the line of a call.
+    pub fn begin(&mut self, call: &str)
+        ensures { self.new ≡ self.old }
+    {
+        if !self.notes.is_empty() {
+            let _ = self.notes.push_str("\n");
+        }
+        let _ = self.notes.push_str(call);
+        let _ = self.notes.push_str(":");
+    }
+
+    /// All lines.
+    pub fn lines(&self) -> &str {
+        self.notes.as_str()
+    }
+}
+
+/// Notes a method, and answers as the reencoder that changes nothing.
+macro_rules! noted {
+    ($noter:ident, $method:ident($($arg:expr),*)) => {{
+        $noter.note(stringify!($method));
+        RoundtripReencoder.$method($($arg),*)
+    }};
+}
+
+pub(crate) use noted;
+
+/// The line of a call: what the method asks, and what its function asks.
+macro_rules! both {
+    ($noter:ident, $method:ident($($arg:expr),*)) => {
+        $noter.begin(stringify!($method));
+        $noter.$method($($arg),*)?;
+        $noter.note("|");
+        utils::$method($noter, $($arg),*)?;
+    };
+}
+
+pub(crate) use both;
+
+impl<K> ReencodeIndices for Noter<K> {
+    ghost use Rattle.std.specs.Prelude.{true, false, Ok, refl, []};
+    ghost use Rattle.reencode_hooks.specs.Hooks.{index_of, index_of-given};
+
+    type Error = Infallible;
+
+    ghost reply = { λ _ visit. Ok (index_of visit) };
+
+    ghost next = { λ s _. s };
+
+    ghost adds = { λ _ _ _. [] };
+
+    ghost keeps_defaults = { false };
+
+    ghost adds_nothing = { true };
+
+    ghost sure = { true };
+
+    ghost answers_ok = { λ _ visit h. index_of-given visit h };
+
+    ghost adds_ok = { λ _ _ _ _. refl };
+
+    fn data_index(&mut self, index: u32) -> Made<u32> {
+        self.note("data_index");
+        Ok(index)
+    }
+
+    fn element_index(&mut self, index: u32) -> Made<u32> {
+        self.note("element_index");
+        Ok(index)
+    }
+
+    fn function_index(&mut self, index: u32) -> Made<u32> {
+        self.note("function_index");
+        Ok(index)
+    }
+
+    fn global_index(&mut self, index: u32) -> Made<u32> {
+        self.note("global_index");
+        Ok(index)
+    }
+
+    fn memory_index(&mut self, index: u32) -> Made<u32> {
+        self.note("memory_index");
+        Ok(index)
+    }
+
+    fn table_index(&mut self, index: u32) -> Made<u32> {
+        self.note("table_index");
+        Ok(index)
+    }
+
+    fn tag_index(&mut self, index: u32) -> Made<u32> {
+        self.note("tag_index");
+        Ok(index)
+    }
+
+    fn type_index(&mut self, index: u32) -> Made<u32> {
+        self.note("type_index");
+        Ok(index)
+    }
+
+    fn data_count(&mut self, count: u32) -> Made<u32> {
+        self.note("data_count");
+        Ok(count)
+    }
+
+    fn intersperse_section_hook(
+        &mut self,
+        _module: &mut Module,
+        after: Option<SectionId>,
+        before: Option<SectionId>,
+    ) -> Made<()> {
+        let _ = write!(
+            self.notes,
+            " intersperse_section_hook({after:?}, {before:?})"
+        );
+        Ok(())
+    }
+}

@@ -1,0 +1,151 @@
+//! What the methods of modules, sections and rows ask.
+use crate::first::First;
+use crate::noter::{Made, Noter, both};
+use crate::second::Second;
+use crate::values as v;
+use reencode_core::{Reencode, utils};
+use std::alloc::Global;
+use wasm_read as r;
+use wasm_read::SectionReader;
+use wasm_shapes::SectionId;
+use wasm_write as w;
+use wasm_write::RowSection;
+
+/// Two types of functions.
+const TYPES: [u8; 7] = [0x02, 0x60, 0x00, 0x00, 0x60, 0x00, 0x00];
+
+/// A recursive group of two.
+const GROUP: [u8; 8] = [0x4e, 0x02, 0x60, 0x00, 0x00, 0x60, 0x00, 0x00];
+
+/// The function `a.b` of type 0.
+const IMPORTS: [u8; 7] = [0x01, 0x01, 0x61, 0x01, 0x62, 0x00, 0x00];
+
+/// A function of type 0.
+const FUNCTIONS: [u8; 2] = [0x01, 0x00];
+
+/// A table of functions, of length 0.
+const TABLES: [u8; 4] = [0x01, 0x70, 0x00, 0x00];
+
+/// A memory of length 0.
+const MEMORIES: [u8; 3] = [0x01, 0x00, 0x00];
+
+/// A tag of type 0.
+const TAGS: [u8; 3] = [0x01, 0x00, 0x00];
+
+/// The function 0 as `a`.
+const EXPORTS: [u8; 5] = [0x01, 0x01, 0x61, 0x00, 0x00];
+
+/// A body without locals or operators but `end`.
+const CODE: [u8; 4] = [0x01, 0x02, 0x00, 0x0b];
+
+/// The header of a core module alone.
+const HEADER: [u8; 8] = [0x00, 0x61, 0x73, 0x6d, 0x01, 0x00, 0x00, 0x00];
+
+/// Sections of types and of code.
+const MODULE: [u8; 23] = [
+    0x00, 0x61, 0x73, 0x6d, 0x01, 0x00, 0x00, 0x00, 0x01, 0x07, 0x02, 0x60, 0x00, 0x00, 0x60, 0x00,
+    0x00, 0x0a, 0x04, 0x01, 0x02, 0x00, 0x0b,
+];
+
+/// The line of the method of a section.
+macro_rules! section {
+    ($noter:ident, $alloc:ident, $method:ident($body:ident)) => {
+        both!($noter, $method($alloc, &mut RowSection::new($alloc), SectionReader::new(&$body)?))
+    };
+}
+
+/// Modules.
+pub fn modules(of: &mut Noter<First>, alloc: Global) -> Made<()> {
+    let mut module = w::Module::new(alloc, u32::MAX)?;
+    both!(of, parse_core_module(alloc, &mut module, &HEADER));
+    both!(of, parse_core_module(alloc, &mut module, &MODULE));
+    Ok(())
+}
+
+/// Sections.
+pub fn sections(of: &mut Noter<First>, alloc: Global) -> Made<()> {
+    section!(of, alloc, parse_type_section(TYPES));
+    section!(of, alloc, parse_import_section(IMPORTS));
+    section!(of, alloc, parse_function_section(FUNCTIONS));
+    section!(of, alloc, parse_table_section(TABLES));
+    section!(of, alloc, parse_memory_section(MEMORIES));
+    section!(of, alloc, parse_export_section(EXPORTS));
+    section!(of, alloc, parse_tag_section(TAGS));
+    Ok(())
+}
+
+/// What stands in two sections.
+pub fn parts(of: &mut Noter<First>, alloc: Global) -> Made<()> {
+    both!(
+        of,
+        parse_import(alloc, &mut RowSection::new(alloc), v::IMPORT)
+    );
+    let mut code = w::CodeSection::new(alloc, u32::MAX);
+    both!(
+        of,
+        parse_code_section(alloc, &mut code, SectionReader::new(&CODE)?)
+    );
+    both!(of, new_function_with_parsed_locals(alloc, &v::BODY));
+    Ok(())
+}
+
+/// Bodies of sections.
+pub fn bodies(of: &mut Noter<Second>, alloc: Global) -> Made<()> {
+    let mut module = w::Module::new(alloc, u32::MAX)?;
+    both!(
+        of,
+        parse_section(alloc, &mut module, SectionId::Type_, &TYPES)
+    );
+    both!(
+        of,
+        parse_section(alloc, &mut module, SectionId::Import, &IMPORTS)
+    );
+    both!(
+        of,
+        parse_section(alloc, &mut module, SectionId::Function, &FUNCTIONS)
+    );
+    both!(
+        of,
+        parse_section(alloc, &mut module, SectionId::Table, &TABLES)
+    );
+    both!(
+        of,
+        parse_section(alloc, &mut module, SectionId::Memory, &MEMORIES)
+    );
+    both!(
+        of,
+        parse_section(alloc, &mut module, SectionId::Export, &EXPORTS)
+    );
+    both!(
+        of,
+        parse_section(alloc, &mut module, SectionId::Code, &CODE)
+    );
+    both!(of, parse_section(alloc, &mut module, SectionId::Tag, &TAGS));
+    Ok(())
+}
+
+/// Rows.
+pub fn rows(of: &mut Noter<Second>, alloc: Global) -> Made<()> {
+    both!(
+        of,
+        parse_recursive_type_group(alloc, r::read_group(alloc, &GROUP, 0)?.0)
+    );
+    both!(
+        of,
+        parse_imports(
+            alloc,
+            &mut RowSection::new(alloc),
+            r::Imports::Single(v::IMPORT)
+        )
+    );
+    both!(
+        of,
+        parse_table(alloc, &mut RowSection::new(alloc), v::table())
+    );
+    both!(of, parse_export(&mut RowSection::new(alloc), v::EXPORT));
+    both!(
+        of,
+        parse_function_body(alloc, &mut w::CodeSection::new(alloc, u32::MAX), v::BODY)
+    );
+    Ok(())
+}

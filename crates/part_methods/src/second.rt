@@ -1,0 +1,182 @@
+//! The kind in which bodies of sections, rows, operators, composite types and values ask.
+use crate::noter::{Made, Noter, noted};
+use reencode_core::Reencode;
+use reencode_hooks::RoundtripReencoder;
+use reencode_items::ReencodeItems;
+use std::alloc::Global;
+use wasm_read as r;
+use wasm_write as w;
+
+/// Overrides sections, what rows and composite types hold, and every other second method from there down.
+#[derive(Drop)]
+pub struct Second;
+
+impl ReencodeItems for Noter<Second> {
+    fn entity_type(&mut self, ty: r::TypeRef) -> Made<w::EntityType> {
+        noted!(self, entity_type(ty))
+    }
+
+    fn table_type(&mut self, ty: r::TableType) -> Made<w::TableType> {
+        noted!(self, table_type(ty))
+    }
+
+    fn sub_type(&mut self, alloc: Global, ty: r::SubType) -> Made<w::SubType> {
+        noted!(self, sub_type(alloc, ty))
+    }
+
+    fn func_type(&mut self, alloc: Global, ty: r::FuncType) -> Made<w::FuncType> {
+        noted!(self, func_type(alloc, ty))
+    }
+
+    fn array_type(&mut self, ty: r::ArrayType) -> Made<w::ArrayType> {
+        noted!(self, array_type(ty))
+    }
+
+    fn struct_type(&mut self, alloc: Global, ty: r::StructType) -> Made<w::StructType> {
+        noted!(self, struct_type(alloc, ty))
+    }
+
+    fn cont_type(&mut self, ty: r::ContType) -> Made<w::ContType> {
+        noted!(self, cont_type(ty))
+    }
+
+    fn type_index_unpacked(&mut self, ty: r::UnpackedIndex) -> Made<u32> {
+        noted!(self, type_index_unpacked(ty))
+    }
+
+    fn storage_type(&mut self, ty: r::StorageType) -> Made<w::StorageType> {
+        noted!(self, storage_type(ty))
+    }
+
+    fn ref_type(&mut self, ty: r::RefType) -> Made<w::RefType> {
+        noted!(self, ref_type(ty))
+    }
+
+    fn abstract_heap_type(&mut self, value: r::AbstractHeapType) -> Made<w::AbstractHeapType> {
+        noted!(self, abstract_heap_type(value))
+    }
+
+    fn tag_kind(&mut self, kind: r::TagKind) -> Made<w::TagKind> {
+        noted!(self, tag_kind(kind))
+    }
+
+    fn export_kind(&mut self, kind: r::ExternalKind) -> Made<w::ExportKind> {
+        noted!(self, export_kind(kind))
+    }
+
+    fn external_index(&mut self, kind: r::ExternalKind, index: u32) -> Made<u32> {
+        noted!(self, external_index(kind, index))
+    }
+
+    fn immediate<'a>(&mut self, alloc: Global, imm: r::Imm<'a>) -> Made<w::Imm<'a>> {
+        noted!(self, immediate(alloc, imm))
+    }
+
+    fn parse_instruction<'a>(
+        &mut self,
+        alloc: Global,
+        reader: &mut r::OperatorsReader<'a>,
+    ) -> Made<w::Instruction<'a>> {
+        noted!(self, parse_instruction(alloc, reader))
+    }
+}
+
+impl Reencode for Noter<Second> {
+    fn parse_type_section(
+        &mut self,
+        _alloc: Global,
+        _sink: &mut w::TypeSection,
+        _rows: r::TypeSectionReader<'_>,
+    ) -> Made<()> {
+        self.note("parse_type_section");
+        Ok(())
+    }
+
+    fn parse_import_section(
+        &mut self,
+        _alloc: Global,
+        _sink: &mut w::ImportSection,
+        _rows: r::ImportSectionReader<'_>,
+    ) -> Made<()> {
+        self.note("parse_import_section");
+        Ok(())
+    }
+
+    fn parse_function_section(
+        &mut self,
+        _alloc: Global,
+        _sink: &mut w::FunctionSection,
+        _rows: r::FunctionSectionReader<'_>,
+    ) -> Made<()> {
+        self.note("parse_function_section");
+        Ok(())
+    }
+
+    fn parse_table_section(
+        &mut self,
+        _alloc: Global,
+        _sink: &mut w::TableSection,
+        _rows: r::TableSectionReader<'_>,
+    ) -> Made<()> {
+        self.note("parse_table_section");
+        Ok(())
+    }
+
+    fn parse_memory_section(
+        &mut self,
+        _alloc: Global,
+        _sink: &mut w::MemorySection,
+        _rows: r::MemorySectionReader<'_>,
+    ) -> Made<()> {
+        self.note("parse_memory_section");
+        Ok(())
+    }
+
+    fn parse_tag_section(
+        &mut self,
+        _alloc: Global,
+        _sink: &mut w::TagSection,
+        _rows: r::TagSectionReader<'_>,
+    ) -> Made<()> {
+        self.note("parse_tag_section");
+        Ok(())
+    }
+
+    fn parse_export_section(
+        &mut self,
+        _alloc: Global,
+        _sink: &mut w::ExportSection,
+        _rows: r::ExportSectionReader<'_>,
+    ) -> Made<()> {
+        self.note("parse_export_section");
+        Ok(())
+    }
+
+    fn parse_code_section(
+        &mut self,
+        _alloc: Global,
+        _sink: &mut w::CodeSection,
+        _rows: r::CodeSectionReader<'_>,
+    ) -> Made<()> {
+        self.note("parse_code_section");
+        Ok(())
+    }
+
+    fn parse_import(
+        &mut self,
+        _alloc: Global,
+        _sink: &mut w::ImportSection,
+        _row: r::Import<'_>,
+    ) -> Made<()> {
+        self.note("parse_import");
+        Ok(())
+    }
+
+    fn new_function_with_parsed_locals(
+        &mut self,
+        alloc: Global,
+        func: &r::FunctionBody<'_>,
+    ) -> Made<w::Function> {
+        noted!(self, new_function_with_parsed_locals(alloc, func))
+    }
+}

@@ -1,0 +1,150 @@
+//! The values that are mapped, one of each composite kind.
+ghost use Rattle.std.specs.Prelude.{◌≡◌, ◌∷◌, [], IfOk};
+
+use reencode_hooks::Error;
+use std::alloc::Global;
+use std::convert::Infallible;
+use wasm_leb::{List, NoMemory};
+use wasm_read as r;
+use wasm_shapes::{CALL, Space};
+
+pub const INDEX: r::UnpackedIndex = r::UnpackedIndex::Module(0);
+
+pub const HEAP: r::HeapType = r::HeapType::Abstract {
+    shared: false,
+    ty: r::AbstractHeapType::Func,
+};
+
+pub const REFERENCE: r::RefType = r::RefType {
+    nullable: true,
+    heap_type: HEAP,
+};
+
+pub const VALUE: r::ValType = r::ValType::Ref(REFERENCE);
+
+pub const FIELD: r::FieldType = r::FieldType {
+    element_type: r::StorageType::Val(VALUE),
+    mutable: true,
+};
+
+pub const TABLE: r::TableType = r::TableType {
+    element_type: REFERENCE,
+    table64: false,
+    initial: 0,
+    maximum: None,
+    shared: false,
+};
+
+pub const MEMORY: r::MemoryType = r::MemoryType {
+    memory64: false,
+    shared: false,
+    initial: 0,
+    maximum: None,
+    page_size_log2: None,
+};
+
+pub const GLOBAL: r::GlobalType = r::GlobalType {
+    content_type: VALUE,
+    mutable: false,
+    shared: false,
+};
+
+pub const TAG: r::TagType = r::TagType {
+    kind: r::TagKind::Exception,
+    func_type_idx: 0,
+};
+
+pub const ARRAY: r::ArrayType = r::ArrayType(FIELD);
+
+pub const CONTINUATION: r::ContType = r::ContType(INDEX);
+
+/// A list of one item.
+pub fn one<T: Drop>(alloc: Global, item: T) -> Result<List<T>, NoMemory>
+    ensures { IfOk result (λ items. items ≡ item ∷ []) }
+{
+    let mut items = List::with_capacity(alloc, 1)?;
+    items.push(item)?;
+    Ok(items)
+}
+
+/// A function with a parameter and a result.
+pub fn function(alloc: Global) -> Result<r::FuncType, NoMemory> {
+    Ok(r::FuncType {
+        params: one(alloc, VALUE)?,
+        results: one(alloc, VALUE)?,
+    })
+}
+
+/// A structure with a field.
+pub fn structure(alloc: Global) -> Result<r::StructType, NoMemory> {
+    Ok(r::StructType {
+        fields: one(alloc, FIELD)?,
+    })
+}
+
+/// A composite type that describes a type and is described by one.
+pub fn composite(inner: r::CompositeInnerType) -> r::CompositeType {
+    r::CompositeType {
+        inner,
+        shared: false,
+        descriptor_idx: Some(INDEX),
+        describes_idx: Some(INDEX),
+    }
+}
+
+/// A continuation with a supertype.
+pub fn sub_type(alloc: Global) -> Result<r::SubType, NoMemory> {
+    Ok(r::SubType {
+        is_final: false,
+        supertype_idxs: one(alloc, INDEX)?,
+        composite_type: composite(r::CompositeInnerType::Cont(CONTINUATION)),
+    })
+}
+
+/// The operator `call 0`.
+pub fn call<'a>(alloc: Global) -> Result<r::Operator<'a>, Error<Infallible>> {
+    r::Operator::new(CALL, one(alloc, r::Imm::Index(Space::Function, 0))?).ok_or(
+        Error::InvalidConstExpr,
+    )
+}
+
+pub const ACCESS: r::MemArg = r::MemArg {
+    align: 0,
+    memory: 0,
+    offset: 0,
+};
+
+pub const CATCH: r::Catch = r::Catch::One { tag: 0, label: 0 };
+
+pub const HANDLE: r::Handle = r::Handle::OnSwitch { tag: 0 };
+
+pub const CAST: r::Imm<'_> = r::Imm::Cast {
+    label: 0,
+    from: REFERENCE,
+    to: REFERENCE,
+};
+
+pub const IMPORT: r::Import<'_> = r::Import {
+    module: "a",
+    name: "b",
+    ty: r::TypeRef::Func(0),
+};
+
+pub const EXPORT: r::Export<'_> = r::Export {
+    name: "a",
+    kind: r::ExternalKind::Func,
+    index: 0,
+};
+
+/// A body with a local and the operators `call 0` and `end`.
+pub const BODY: r::FunctionBody<'_> = r::FunctionBody {
+    bytes: &[0x01, 0x01, 0x7f, 0x10, 0x00, 0x0b],
+};
+
+/// A table that starts with null references.
+pub fn table<'a>() -> r::Table<'a> {
+    r::Table {
+        ty: TABLE,
+        init: r::TableInit::RefNull,
+    }
+}
