@@ -77,6 +77,10 @@ impl ReencodeItems for Noter<First> {
     fn instruction<'a>(&mut self, alloc: Global, arg: r::Operator<'a>) -> Made<w::Instruction<'a>> {
         noted!(self, instruction(alloc, arg))
     }
+
+    fn const_expr(&mut self, alloc: Global, expr: r::ConstExpr<'_>) -> Made<w::ConstExpr> {
+        noted!(self, const_expr(alloc, expr))
+    }
 }
 
 impl Reencode for Noter<First> {
@@ -119,8 +123,38 @@ impl Reencode for Noter<First> {
         Ok(())
     }
 
+    fn parse_global(
+        &mut self,
+        _alloc: Global,
+        _sink: &mut w::GlobalSection,
+        _row: r::Global<'_>,
+    ) -> Made<()> {
+        self.note("parse_global");
+        Ok(())
+    }
+
     fn parse_export(&mut self, _sink: &mut w::ExportSection, _row: r::Export<'_>) -> Made<()> {
         self.note("parse_export");
+        Ok(())
+    }
+
+    fn parse_element(
+        &mut self,
+        _alloc: Global,
+        _sink: &mut w::ElementSection,
+        _row: r::Element<'_>,
+    ) -> Made<()> {
+        self.note("parse_element");
+        Ok(())
+    }
+
+    fn parse_data(
+        &mut self,
+        _alloc: Global,
+        _sink: &mut w::DataSection,
+        _row: r::Data<'_>,
+    ) -> Made<()> {
+        self.note("parse_data");
         Ok(())
     }
 

@@ -29,6 +29,18 @@ const TABLES: [u8; 4] = [0x01, 0x70, 0x00, 0x00];
 /// A memory of length 0.
 const MEMORIES: [u8; 3] = [0x01, 0x00, 0x00];
 
+/// A global with the value of an expression.
+const GLOBALS: [u8; 6] = [0x01, 0x7f, 0x00, 0x41, 0x00, 0x0b];
+
+/// The index of a function, or a count.
+const ITEM: [u8; 1] = [0x00];
+
+/// The function 0 at an offset in a table that is left out.
+const ELEMENTS: [u8; 7] = [0x01, 0x00, 0x41, 0x00, 0x0b, 0x01, 0x00];
+
+/// No bytes at an offset in a memory.
+const SEGMENTS: [u8; 6] = [0x01, 0x00, 0x41, 0x00, 0x0b, 0x00];
+
 /// A tag of type 0.
 const TAGS: [u8; 3] = [0x01, 0x00, 0x00];
 
@@ -69,7 +81,10 @@ pub fn sections(of: &mut Noter<First>, alloc: Global) -> Made<()> {
     section!(of, alloc, parse_function_section(FUNCTIONS));
     section!(of, alloc, parse_table_section(TABLES));
     section!(of, alloc, parse_memory_section(MEMORIES));
+    section!(of, alloc, parse_global_section(GLOBALS));
     section!(of, alloc, parse_export_section(EXPORTS));
+    section!(of, alloc, parse_element_section(ELEMENTS));
+    section!(of, alloc, parse_data_section(SEGMENTS));
     section!(of, alloc, parse_tag_section(TAGS));
     Ok(())
 }
@@ -86,6 +101,10 @@ pub fn parts(of: &mut Noter<First>, alloc: Global) -> Made<()> {
         parse_code_section(alloc, &mut code, SectionReader::new(&CODE)?)
     );
     both!(of, new_function_with_parsed_locals(alloc, &v::BODY));
+    of.begin("start_section");
+    of.start_section(0)?;
+    both!(of, element_items(alloc, v::functions(alloc)?));
+    both!(of, element_items(alloc, v::expressions(alloc)?));
     Ok(())
 }
 
@@ -114,11 +133,31 @@ pub fn bodies(of: &mut Noter<Second>, alloc: Global) -> Made<()> {
     );
     both!(
         of,
+        parse_section(alloc, &mut module, SectionId::Global, &GLOBALS)
+    );
+    both!(
+        of,
         parse_section(alloc, &mut module, SectionId::Export, &EXPORTS)
     );
     both!(
         of,
+        parse_section(alloc, &mut module, SectionId::Start, &ITEM)
+    );
+    both!(
+        of,
+        parse_section(alloc, &mut module, SectionId::Element, &ELEMENTS)
+    );
+    both!(
+        of,
         parse_section(alloc, &mut module, SectionId::Code, &CODE)
+    );
+    both!(
+        of,
+        parse_section(alloc, &mut module, SectionId::Data, &SEGMENTS)
+    );
+    both!(
+        of,
+        parse_section(alloc, &mut module, SectionId::DataCount, &ITEM)
     );
     both!(of, parse_section(alloc, &mut module, SectionId::Tag, &TAGS));
     Ok(())
@@ -142,7 +181,23 @@ pub fn rows(of: &mut Noter<Second>, alloc: Global) -> Made<()> {
         of,
         parse_table(alloc, &mut RowSection::new(alloc), v::table())
     );
+    both!(
+        of,
+        parse_table(alloc, &mut RowSection::new(alloc), v::table_with_value()?)
+    );
+    both!(
+        of,
+        parse_global(alloc, &mut RowSection::new(alloc), v::global()?)
+    );
     both!(of, parse_export(&mut RowSection::new(alloc), v::EXPORT));
+    both!(
+        of,
+        parse_element(alloc, &mut RowSection::new(alloc), v::element(alloc)?)
+    );
+    both!(
+        of,
+        parse_data(alloc, &mut RowSection::new(alloc), v::data_segment()?)
+    );
     both!(
         of,
         parse_function_body(alloc, &mut w::CodeSection::new(alloc, u32::MAX), v::BODY)

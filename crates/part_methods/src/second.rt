@@ -20,6 +20,14 @@ impl ReencodeItems for Noter<Second> {
         noted!(self, table_type(ty))
     }
 
+    fn global_type(&mut self, ty: r::GlobalType) -> Made<w::GlobalType> {
+        noted!(self, global_type(ty))
+    }
+
+    fn const_expr(&mut self, alloc: Global, expr: r::ConstExpr<'_>) -> Made<w::ConstExpr> {
+        noted!(self, const_expr(alloc, expr))
+    }
+
     fn sub_type(&mut self, alloc: Global, ty: r::SubType) -> Made<w::SubType> {
         noted!(self, sub_type(alloc, ty))
     }
@@ -130,6 +138,44 @@ impl Reencode for Noter<Second> {
     ) -> Made<()> {
         self.note("parse_memory_section");
         Ok(())
+    }
+
+    fn parse_global_section(
+        &mut self,
+        _alloc: Global,
+        _sink: &mut w::GlobalSection,
+        _rows: r::GlobalSectionReader<'_>,
+    ) -> Made<()> {
+        self.note("parse_global_section");
+        Ok(())
+    }
+
+    fn parse_element_section(
+        &mut self,
+        _alloc: Global,
+        _sink: &mut w::ElementSection,
+        _rows: r::ElementSectionReader<'_>,
+    ) -> Made<()> {
+        self.note("parse_element_section");
+        Ok(())
+    }
+
+    fn parse_data_section(
+        &mut self,
+        _alloc: Global,
+        _sink: &mut w::DataSection,
+        _rows: r::DataSectionReader<'_>,
+    ) -> Made<()> {
+        self.note("parse_data_section");
+        Ok(())
+    }
+
+    fn start_section(&mut self, start: u32) -> Made<u32> {
+        noted!(self, start_section(start))
+    }
+
+    fn element_items(&mut self, alloc: Global, items: r::ElementItems<'_>) -> Made<w::Elements> {
+        noted!(self, element_items(alloc, items))
     }
 
     fn parse_tag_section(

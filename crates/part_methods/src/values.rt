@@ -4,7 +4,7 @@ ghost use Rattle.std.specs.Prelude.{◌≡◌, ◌∷◌, [], IfOk};
 use reencode_hooks::Error;
 use std::alloc::Global;
 use std::convert::Infallible;
-use wasm_leb::{List, NoMemory};
+use wasm_leb::{List, NoMemory, ReadError};
 use wasm_read as r;
 use wasm_shapes::{CALL, Space};
 
@@ -147,4 +147,57 @@ pub fn table<'a>() -> r::Table<'a> {
         ty: TABLE,
         init: r::TableInit::RefNull,
     }
+}
+
+/// The expression `i32.const 0`.
+pub fn expression<'a>() -> Result<r::ConstExpr<'a>, ReadError> {
+    r::ConstExpr::new(&[0x41, 0x00, 0x0b])
+}
+
+/// A table that starts with the value of an expression.
+pub fn table_with_value<'a>() -> Result<r::Table<'a>, ReadError> {
+    Ok(r::Table {
+        ty: TABLE,
+        init: r::TableInit::Expr(expression()?),
+    })
+}
+
+/// A global.
+pub fn global<'a>() -> Result<r::Global<'a>, ReadError> {
+    Ok(r::Global {
+        ty: GLOBAL,
+        init_expr: expression()?,
+    })
+}
+
+/// One function.
+pub fn functions<'a>(alloc: Global) -> Result<r::ElementItems<'a>, NoMemory> {
+    Ok(r::ElementItems::Functions(one(alloc, 0)?))
+}
+
+/// One expression.
+pub fn expressions<'a>(alloc: Global) -> Result<r::ElementItems<'a>, Error<Infallible>> {
+    Ok(r::ElementItems::Expressions(REFERENCE, one(alloc, expression()?)?))
+}
+
+/// A function at an offset in a table that is left out.
+pub fn element<'a>(alloc: Global) -> Result<r::Element<'a>, Error<Infallible>> {
+    Ok(r::Element {
+        kind: r::ElementKind::Active {
+            table_index: None,
+            offset_expr: expression()?,
+        },
+        items: functions(alloc)?,
+    })
+}
+
+/// No bytes at an offset in memory 0.
+pub fn data_segment<'a>() -> Result<r::Data<'a>, ReadError> {
+    Ok(r::Data {
+        kind: r::DataKind::Active {
+            memory_index: 0,
+            offset_expr: expression()?,
+        },
+        contents: &[],
+    })
 }
