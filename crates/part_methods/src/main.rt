@@ -30,6 +30,7 @@ fn by_parts(alloc: Global, of: &mut Noter<First>) -> Made<()> {
 fn by_wholes(alloc: Global, of: &mut Noter<Second>) -> Made<()> {
     rows::bodies(of, alloc)?;
     rows::rows(of, alloc)?;
+    rows::imports(of, alloc)?;
     items::composites(of, alloc)?;
     items::parts(of, alloc)
 }

@@ -204,3 +204,10 @@ pub fn rows(of: &mut Noter<Second>, alloc: Global) -> Made<()> {
     );
     Ok(())
 }
+
+/// A section of imports by its function, which asks for no import alone.
+pub fn imports(of: &mut Noter<Second>, alloc: Global) -> Made<()> {
+    let rows = SectionReader::new(&IMPORTS)?;
+    of.begin("parse_import_section");
+    utils::parse_import_section(of, alloc, &mut RowSection::new(alloc), rows)
+}

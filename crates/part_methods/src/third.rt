@@ -55,9 +55,9 @@ impl ReencodeItems for Noter<Third> {
         alloc: Global,
         reader: &mut r::OperatorsReader<'a>,
     ) -> Made<w::Instruction<'a>> {
-        let instruction = noted!(self, parse_instruction(alloc, reader));
+        let instruction = noted!(self, parse_instruction(alloc, reader))?;
         match self.kind.0 {
-            Way::Maps => instruction,
+            Way::Maps => Ok(instruction),
             Way::Ends => {
                 w::Instruction::new(END, List::new(alloc)).ok_or(
                     Error::CanonicalizedHeapTypeReference,
@@ -65,7 +65,7 @@ impl ReencodeItems for Noter<Third> {
             }
             Way::PassesBy => {
                 let _ = reader.read(alloc)?;
-                instruction
+                Ok(instruction)
             }
             Way::Refuses => Err(Error::InvalidConstExpr),
         }
