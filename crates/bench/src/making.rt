@@ -76,13 +76,18 @@ fn body(alloc: Global, mixed: bool, rows: u32) -> Result<Vec<u8>, NoMemory> {
     Ok(out)
 }
 
-/// A segment of so many functions or bytes, in whose row a number is below the limit.
-fn segment(alloc: Global, limit: u32, rows: u32) -> Result<Vec<u8>, NoMemory> {
+/// A segment of so many functions, whose indices take one byte, or of so many bytes.
+fn segment(alloc: Global, functions: bool, rows: u32) -> Result<Vec<u8>, NoMemory> {
     let mut out = Vec::new(alloc);
     add(&mut out, &PLACE)?;
     write_u32(&mut out, rows)?;
     for row in 0..rows {
-        add(&mut out, &[(row % limit) as u8])?;
+        let byte = if functions {
+            (row % 128) as u8
+        } else {
+            (row % 256) as u8
+        };
+        add(&mut out, &[byte])?;
     }
     Ok(out)
 }
@@ -119,11 +124,11 @@ pub fn module(alloc: Global, kind: Kind, functions: u32, rows: u32) -> Result<Ve
             module_of(alloc, 0x06, times.saturating_mul(4), &GLOBALS, times)
         }
         Kind::Elements => {
-            let segment = segment(alloc, 128, rows)?;
+            let segment = segment(alloc, true, rows)?;
             module_of(alloc, 0x09, functions, segment.as_slice(), functions)
         }
         Kind::Data => {
-            let segment = segment(alloc, 256, rows)?;
+            let segment = segment(alloc, false, rows)?;
             module_of(alloc, 0x0b, functions, segment.as_slice(), functions)
         }
     }
