@@ -1,6 +1,8 @@
 //! Makes a module and re-encodes it: `bench WAY KIND FUNCTIONS ROWS ROUNDS`. The module has so many functions, each of so
 //! many rows of a kind, and is re-encoded so many times. It prints how many bytes came. A row of the kind `numbers` is eight
-//! operators, and one of the kind `mixed` is sixteen with blocks, branches, loads and stores among them. The ways:
+//! operators, and one of the kind `mixed` is sixteen with blocks, branches, loads and stores among them. Three kinds have no
+//! functions: a row of `globals` is four globals, and `elements` and `data` have so many segments, each of so many functions
+//! or bytes. The ways:
 //!
 //! | | |
 //! |---|---|
@@ -16,7 +18,7 @@
 mod making;
 mod reading;
 
-use crate::making::module;
+use crate::making::{Kind, module};
 use crate::reading::operators_len;
 use default_renamer::DefaultRenamer;
 use reencode_core::{Reencode, reencode_core};
@@ -31,7 +33,7 @@ use wasm_shapes::Space;
 #[derive(Drop)]
 struct Words {
     way: String,
-    mixed: bool,
+    kind: Kind,
     functions: u32,
     rows: u32,
     rounds: u32,
@@ -46,9 +48,12 @@ fn read_words(rt: &HostRuntime) -> io::Result<Option<Words>> {
     let Some(kind) = words.next() else {
         return Ok(None);
     };
-    let mixed = match kind.as_str() {
-        "mixed" => true,
-        "numbers" => false,
+    let kind = match kind.as_str() {
+        "mixed" => Kind::Mixed,
+        "numbers" => Kind::Numbers,
+        "globals" => Kind::Globals,
+        "elements" => Kind::Elements,
+        "data" => Kind::Data,
         _ => return Ok(None),
     };
     let mut numbers = [0u32; 3];
@@ -64,7 +69,7 @@ fn read_words(rt: &HostRuntime) -> io::Result<Option<Words>> {
     let [functions, rows, rounds] = numbers;
     Ok(Some(Words {
         way,
-        mixed,
+        kind,
         functions,
         rows,
         rounds,
@@ -119,7 +124,7 @@ fn all(alloc: Global, words: &Words, module: &[u8]) -> Result<Option<usize>, NoM
 
 /// What is printed, where the words say it.
 fn said(alloc: Global, words: &Words) -> Result<Option<String>, AllocError> {
-    let Ok(module) = module(alloc, words.mixed, words.functions, words.rows) else {
+    let Ok(module) = module(alloc, words.kind, words.functions, words.rows) else {
         return Err(AllocError);
     };
     if words.way.as_str() == "text" {
