@@ -21,7 +21,10 @@ use std::io;
 fn by_parts(alloc: Global, of: &mut Noter<First>) -> Made<()> {
     rows::modules(of, alloc)?;
     rows::sections(of, alloc)?;
+    rows::more_sections(of, alloc)?;
+    rows::last_sections(of, alloc)?;
     rows::parts(of, alloc)?;
+    rows::items(of, alloc)?;
     items::types(of, alloc)?;
     items::immediates(of, alloc)
 }
@@ -29,7 +32,10 @@ fn by_parts(alloc: Global, of: &mut Noter<First>) -> Made<()> {
 /// What is asked where wholes are overridden.
 fn by_wholes(alloc: Global, of: &mut Noter<Second>) -> Made<()> {
     rows::bodies(of, alloc)?;
+    rows::more_bodies(of, alloc)?;
+    rows::last_bodies(of, alloc)?;
     rows::rows(of, alloc)?;
+    rows::more_rows(of, alloc)?;
     rows::imports(of, alloc)?;
     items::composites(of, alloc)?;
     items::parts(of, alloc)

@@ -80,10 +80,20 @@ pub fn sections(of: &mut Noter<First>, alloc: Global) -> Made<()> {
     section!(of, alloc, parse_import_section(IMPORTS));
     section!(of, alloc, parse_function_section(FUNCTIONS));
     section!(of, alloc, parse_table_section(TABLES));
+    Ok(())
+}
+
+/// More sections.
+pub fn more_sections(of: &mut Noter<First>, alloc: Global) -> Made<()> {
     section!(of, alloc, parse_memory_section(MEMORIES));
     section!(of, alloc, parse_global_section(GLOBALS));
     section!(of, alloc, parse_export_section(EXPORTS));
     section!(of, alloc, parse_element_section(ELEMENTS));
+    Ok(())
+}
+
+/// The last sections.
+pub fn last_sections(of: &mut Noter<First>, alloc: Global) -> Made<()> {
     section!(of, alloc, parse_data_section(SEGMENTS));
     section!(of, alloc, parse_tag_section(TAGS));
     Ok(())
@@ -101,6 +111,11 @@ pub fn parts(of: &mut Noter<First>, alloc: Global) -> Made<()> {
         parse_code_section(alloc, &mut code, SectionReader::new(&CODE)?)
     );
     both!(of, new_function_with_parsed_locals(alloc, &v::BODY));
+    Ok(())
+}
+
+/// What start and element sections hold.
+pub fn items(of: &mut Noter<First>, alloc: Global) -> Made<()> {
     of.begin("start_section");
     of.start_section(0)?;
     both!(of, element_items(alloc, v::functions(alloc)?));
@@ -131,6 +146,12 @@ pub fn bodies(of: &mut Noter<Second>, alloc: Global) -> Made<()> {
         of,
         parse_section(alloc, &mut module, SectionId::Memory, &MEMORIES)
     );
+    Ok(())
+}
+
+/// More bodies of sections.
+pub fn more_bodies(of: &mut Noter<Second>, alloc: Global) -> Made<()> {
+    let mut module = w::Module::new(alloc, u32::MAX)?;
     both!(
         of,
         parse_section(alloc, &mut module, SectionId::Global, &GLOBALS)
@@ -147,6 +168,12 @@ pub fn bodies(of: &mut Noter<Second>, alloc: Global) -> Made<()> {
         of,
         parse_section(alloc, &mut module, SectionId::Element, &ELEMENTS)
     );
+    Ok(())
+}
+
+/// The last bodies of sections.
+pub fn last_bodies(of: &mut Noter<Second>, alloc: Global) -> Made<()> {
+    let mut module = w::Module::new(alloc, u32::MAX)?;
     both!(
         of,
         parse_section(alloc, &mut module, SectionId::Code, &CODE)
@@ -185,6 +212,11 @@ pub fn rows(of: &mut Noter<Second>, alloc: Global) -> Made<()> {
         of,
         parse_table(alloc, &mut RowSection::new(alloc), v::table_with_value()?)
     );
+    Ok(())
+}
+
+/// More rows.
+pub fn more_rows(of: &mut Noter<Second>, alloc: Global) -> Made<()> {
     both!(
         of,
         parse_global(alloc, &mut RowSection::new(alloc), v::global()?)
