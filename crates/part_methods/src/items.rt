@@ -18,6 +18,11 @@ pub fn types(of: &mut Noter<First>, alloc: Global) -> Made<()> {
     both!(of, func_type(alloc, v::function(alloc)?));
     both!(of, struct_type(alloc, v::structure(alloc)?));
     both!(of, array_type(v::ARRAY));
+    Ok(())
+}
+
+/// More types that hold others.
+pub fn more_types(of: &mut Noter<First>) -> Made<()> {
     both!(of, cont_type(v::CONTINUATION));
     both!(of, storage_type(r::StorageType::Val(v::VALUE)));
     both!(of, table_type(v::TABLE));
@@ -25,15 +30,25 @@ pub fn types(of: &mut Noter<First>, alloc: Global) -> Made<()> {
     Ok(())
 }
 
-/// Immediates, and the operator at the front of a body.
+/// Immediates.
 pub fn immediates(of: &mut Noter<First>, alloc: Global) -> Made<()> {
     both!(of, immediate(alloc, Imm::Block(r::BlockType::Empty)));
     both!(of, immediate(alloc, Imm::Types(v::one(alloc, v::VALUE)?)));
     both!(of, immediate(alloc, Imm::Mem(v::ACCESS)));
+    Ok(())
+}
+
+/// More immediates.
+pub fn more_immediates(of: &mut Noter<First>, alloc: Global) -> Made<()> {
     both!(of, immediate(alloc, Imm::Four(r::Ieee32(0))));
     both!(of, immediate(alloc, Imm::Eight(r::Ieee64(0))));
     both!(of, immediate(alloc, Imm::Heap(v::HEAP)));
     both!(of, immediate(alloc, Imm::Catches(v::one(alloc, v::CATCH)?)));
+    Ok(())
+}
+
+/// The last immediates, and the operator at the front of a body.
+pub fn last_immediates(of: &mut Noter<First>, alloc: Global) -> Made<()> {
     both!(of, immediate(alloc, v::CAST));
     both!(
         of,

@@ -26,7 +26,10 @@ fn by_parts(alloc: Global, of: &mut Noter<First>) -> Made<()> {
     rows::parts(of, alloc)?;
     rows::items(of, alloc)?;
     items::types(of, alloc)?;
-    items::immediates(of, alloc)
+    items::more_types(of)?;
+    items::immediates(of, alloc)?;
+    items::more_immediates(of, alloc)?;
+    items::last_immediates(of, alloc)
 }
 
 /// What is asked where wholes are overridden.
