@@ -32,7 +32,7 @@ begins_alike_other {c = c} e = record { text = c ∷ []; spells = record { shape
 
 -- ---- rows among others
 
-among : (rows others : List Shape) {t : Tree} → Is (choice rows) t → Is (choice (rows_and rows others)) t
+pub among : (rows others : List Shape) {t : Tree} → Is (choice rows) t → Is (choice (rows_and rows others)) t
 among [] others d = elim d [ ]
 among (s ∷ rows) others (Is.first d) = Is.first d
 among (s ∷ rows) others (Is.later d) = Is.later (among rows others d)

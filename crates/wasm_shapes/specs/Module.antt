@@ -1,13 +1,14 @@
 -- The core module: its shape, and the trees of its sections (WebAssembly Core Specification 3.0, section 5.5).
-use Rattle.std.specs.Prelude.{◌≡◌, ℕ, List, [], ◌∷◌, ◌++◌, true}
+use Rattle.std.specs.Prelude.{◌≡◌, ◌≢◌, ◌⊎◌, ℕ, ◌≤◌, List, [], ◌∷◌, ◌++◌, codes, true}
+use Rattle.wasm_shapes.specs.declared.Space.{Space}
 use Rattle.wasm_shapes.specs.declared.SectionId.{SectionId}
 use Rattle.wasm_shapes.specs.declared.SectionId.TheVariants as id
 use Rattle.wasm_shapes.specs.declared.Space.TheVariants as space
 use Rattle.wasm_shapes.specs.Tree.{Tree, Listed}
-use Rattle.wasm_shapes.specs.Shape.{Shape, Named, choice, lead, reference, table_type, memory_type, global_type, tag_type, entity}
+use Rattle.wasm_shapes.specs.Shape.{Shape, Named, choice, lead, rows_and, reference, table_type, memory_type, global_type, tag_type, entity}
 use Rattle.wasm_shapes.specs.Spells.{Spells}
 use Rattle.wasm_shapes.specs.Place.{BeginsNone}
-use Rattle.wasm_shapes.specs.SectionTable.{Kind, of_body, framed_tree, shapes_of, place_in, body_in, item_of}
+use Rattle.wasm_shapes.specs.SectionTable.{Kind, number, of_body, framed_tree, shapes_of, place_in, body_in, item_of}
 
 abbrev pub core_header : List ℕ
 core_header = 0x00 ∷ 0x61 ∷ 0x73 ∷ 0x6d ∷ 0x01 ∷ 0x00 ∷ 0x00 ∷ 0x00 ∷ []
@@ -127,8 +128,67 @@ in_force =
     of_body id.Element elements ∷ of_body id.Code code ∷ of_body id.Data segments ∷ of_body id.DataCount data_count ∷
     of_body id.Tag tags ∷ []
 
+-- ---- names, custom sections, and sections of other ids
+
+-- an index that is not asked for, and its name
+abbrev pub plain_naming : Shape
+plain_naming = Shape.seq Shape.u32 Shape.name
+
+-- names by an index of a space
+abbrev pub naming_row : Space → Shape
+naming_row s = Shape.seq (Shape.ix s) Shape.name
+
+-- by an index of a space, and then by another, that is not asked for
+abbrev pub indirect_row : Space → Shape
+indirect_row s = Shape.seq (Shape.ix s) (Shape.vec plain_naming)
+
+-- a name subsection of an id
+abbrev pub subsection : ℕ → Shape → Shape
+subsection id body = lead id (Shape.sized body)
+
+-- The subsections of a name section. A row's number is the id, but that the last row is that of all other ids.
+abbrev pub name_rows : List Shape
+name_rows =
+    subsection 0 Shape.name ∷
+    subsection 1 (Shape.vec (naming_row space.Function)) ∷
+    subsection 2 (Shape.vec (indirect_row space.Function)) ∷
+    subsection 3 (Shape.vec (indirect_row space.Function)) ∷
+    subsection 4 (Shape.vec (naming_row space.Type_)) ∷
+    subsection 5 (Shape.vec (naming_row space.Table)) ∷
+    subsection 6 (Shape.vec (naming_row space.Memory)) ∷
+    subsection 7 (Shape.vec (naming_row space.Global)) ∷
+    subsection 8 (Shape.vec (naming_row space.Element)) ∷
+    subsection 9 (Shape.vec (naming_row space.Data)) ∷
+    subsection 10 (Shape.vec (indirect_row space.Type_)) ∷
+    subsection 11 (Shape.vec (naming_row space.Tag)) ∷
+    Shape.seq (Shape.within 12 255) (Shape.sized Shape.rest) ∷ []
+
+abbrev pub name_subsection : Shape
+name_subsection = choice name_rows
+
+-- the contents of a name section (section 7.4.1)
+abbrev pub names : Shape
+names = Shape.many name_subsection
+
+-- the name of the sections whose contents these are
+abbrev pub names_name : List ℕ
+names_name = codes "name"
+
+-- the body of a custom section
+abbrev pub custom : Shape
+custom = Shape.by_name names_name names
+
+abbrev pub custom_section : Shape
+custom_section = lead 0 (Shape.sized custom)
+
+-- a section of an id that no kind has, by its bytes
+abbrev pub unknown_section : Shape
+unknown_section = Shape.seq (Shape.within 14 127) (Shape.sized Shape.rest)
+
+-- ---- all sections
+
 abbrev pub section : Shape
-section = choice (shapes_of in_force)
+section = choice (rows_and (shapes_of in_force) (custom_section ∷ unknown_section ∷ []))
 
 abbrev pub sections : Shape
 sections = Shape.sections section
@@ -144,6 +204,13 @@ row_of k = item_of (body_of k)
 -- a section by its kind and its body
 abbrev pub tree_of : SectionId → Tree → Tree
 tree_of k body = Tree.row (place_in in_force k) (framed_tree k body)
+
+-- a custom section by its body, and a section of another id by its bytes
+abbrev pub custom_tree_of : Tree → Tree
+custom_tree_of body = Tree.row 13 (Tree.pair (Tree.fixed 0) (Tree.sized body))
+
+abbrev pub unknown_tree_of : ℕ → List ℕ → Tree
+unknown_tree_of id contents = Tree.row 14 (Tree.pair (Tree.byte id) (Tree.sized (Tree.raw contents)))
 
 -- sections, and others behind them
 abbrev pub alsos : List Tree → Tree → Tree
@@ -184,6 +251,28 @@ abbrev pub frame : Shape
 frame = choice (
     lead 0 (Shape.sized (Shape.seq Shape.name Shape.rest)) ∷
     Shape.seq (Shape.within 1 127) (Shape.sized Shape.rest) ∷ [])
+
+-- a frame of an id other than 0, whose body is these bytes
+abbrev pub numbered_frame : ℕ → List ℕ → Tree
+numbered_frame id body = Tree.row 1 (Tree.pair (Tree.byte id) (Tree.sized (Tree.raw body)))
+
+-- a frame of the id 0, whose body is a name and these bytes
+abbrev pub custom_frame : List ℕ → List ℕ → Tree
+custom_frame name contents = Tree.row 0 (Tree.pair (Tree.fixed 0) (Tree.sized (Tree.pair (Tree.name name) (Tree.raw contents))))
+
+-- what the contents of a custom section of this name are read as: of a name section, its subsections; else they are themselves
+abbrev pub ReadsContents : List ℕ → List ℕ → Tree → Type 0
+ReadsContents name contents u = ((name ≡ names_name) × Spells names contents u) ⊎ ((name ≢ names_name) × (u ≡ Tree.raw contents))
+
+-- the tree is what a custom section is read as
+abbrev pub ReadsCustom : List ℕ → List ℕ → Tree → Type 0
+ReadsCustom name contents t = (u : Tree) × (t ≡ custom_tree_of (Tree.pair (Tree.name name) u)) × ReadsContents name contents u
+
+-- A section and the frame that it stands in: of a known kind, a custom one, or one of another id.
+pub data InFrame : Tree → Tree → Type 0 where
+  of_kind : (k : SectionId) (u : Tree) (body : List ℕ) → 1 ≤ number k → Spells (body_of k) body u → InFrame (tree_of k u) (numbered_frame (number k) body)
+  of_custom : (name contents : List ℕ) (u : Tree) → ReadsContents name contents u → InFrame (custom_tree_of (Tree.pair (Tree.name name) u)) (custom_frame name contents)
+  of_unknown : (id : ℕ) (contents : List ℕ) → 14 ≤ id → id ≤ 127 → InFrame (unknown_tree_of id contents) (numbered_frame id contents)
 
 -- The front of some bytes: the sections that stand behind the header side by side, up to the first place where none begins.
 pub record Front (bytes : List ℕ) (before : List Tree) (rest : List ℕ) : Type 0 where
