@@ -6,6 +6,7 @@ use Rattle.wasm_leb.specs.declared.fault.Kind.TheVariants as kind
 use Rattle.wasm_shapes.specs.declared.SectionId.{SectionId}
 use Rattle.wasm_shapes.specs.Tree.{Tree}
 use Rattle.wasm_shapes.specs.Module.{core_header, component_header}
+pub use Rattle.wasm_shapes.specs.Module.{numbered_frame, custom_frame}
 use Rattle.wasm_shapes.specs.SectionTable.{number}
 use Rattle.wasm_read.specs.declared.types.Payload.{Payload}
 use Rattle.wasm_read.specs.declared.types.Payload.TheVariants as payload
@@ -13,14 +14,6 @@ use Rattle.wasm_read.specs.declared.types.Payload.TheVariants as payload
 -- the id of the sections of a kind
 abbrev pub section_number : SectionId → ℕ
 section_number k = number k
-
--- an id other than 0, and a body of which nothing is said
-abbrev pub numbered_frame : ℕ → List ℕ → Tree
-numbered_frame id body = Tree.row 1 (Tree.pair (Tree.byte id) (Tree.sized (Tree.raw body)))
-
--- the id 0, and a body that begins with a name
-abbrev pub custom_frame : List ℕ → List ℕ → Tree
-custom_frame name contents = Tree.row 0 (Tree.pair (Tree.fixed 0) (Tree.sized (Tree.pair (Tree.name name) (Tree.raw contents))))
 
 abbrev pub frame_tree : Payload → Tree
 frame_tree (payload.Section id at body) = numbered_frame (section_number id) body.now

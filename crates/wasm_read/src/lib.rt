@@ -23,7 +23,7 @@ pub use expressions::ConstExpr;
 pub use externals::read_type_ref;
 pub use fields::{front_name, read_item, read_name};
 pub use groups::read_group;
-pub use names::{IndirectNameMap, NameMap};
+pub use names::{IndirectNameMap, NameMap, NameSectionReader};
 pub use operators::{Operator, OperatorsReader};
 pub use payloads::Payloads;
 pub use section_reader::{ReadRow, SectionReader};

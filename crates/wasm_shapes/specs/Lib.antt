@@ -5,6 +5,7 @@ pub mod SectionTable
 pub mod Laws
 pub mod Module
 pub mod Names
+pub mod Namings
 pub mod OperatorRows
 pub mod Operators
 pub mod Own
