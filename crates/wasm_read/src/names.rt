@@ -1,18 +1,15 @@
-//! Maps from indices to names, and name sections (WebAssembly Core Specification 3.0, section 7.4.1).
+//! Maps from indices to names (WebAssembly Core Specification 3.0, section 7.4.1).
 ghost use Rattle.std.specs.Prelude.{◌≡◌, [], Some, None, IfOk, IfErr, IfSome, IfNone, length};
 ghost use Rattle.wasm_leb.specs.Place.{BeginsNumber, BeginsNoNumber};
 ghost use Rattle.wasm_shapes.specs.Module.{plain_naming};
 ghost use Rattle.wasm_shapes.specs.Namings.{entry_tree, plain_indirect};
 ghost use Rattle.wasm_shapes.specs.Place.{Begins, BeginsNone};
-ghost use Rattle.wasm_read.specs.Names.{whole_map, map_place, Due, EntryRead, IndirectRead, EntryMissing, EntriesEnded, names_place, NameRead, NameMissing};
-ghost use Rattle.wasm_read.specs.Reading.{ReadsNone};
+ghost use Rattle.wasm_read.specs.Names.{whole_map, map_place, Due, EntryRead, IndirectRead, EntryMissing, EntriesEnded};
 
 use crate::fields::front_name;
-use crate::payloads::front_sized;
-use crate::types::{IndirectNaming, Name, Naming};
-use std::alloc::Global;
+use crate::types::{IndirectNaming, Naming};
 use std::marker::Model;
-use wasm_leb::{Fault, ReadError, front_byte, front_u32};
+use wasm_leb::{ReadError, front_u32};
 
 /// A map from indices to names, as the bytes that spell it: it is read entry by entry.
 ///
@@ -150,56 +147,5 @@ impl<'a> IndirectNameMap<'a> {
         ensures stays { IfErr result (λ _. self.new ≡ self.old) }
     {
         Err(ReadError { at: 0 })
-    }
-}
-
-/// A reader of the subsections of a name section, which fill its body.
-#[derive(Drop)]
-pub struct NameSectionReader<'a> {
-    rest: &'a [u8],
-    len: usize,
-}
-
-impl<'a> Model for NameSectionReader<'a> {
-    ghost use Rattle.wasm_read.specs.Names.{NamesStanding};
-
-    ghost Value = { NamesStanding };
-
-    ghost view = { λ reader. record { rest = reader.rest.now; len = reader.len } };
-}
-
-impl<'a> NameSectionReader<'a> {
-    /// A reader of the contents behind the section's name. They have no count, so nothing is refused.
-    pub fn new(body: &'a [u8]) -> Result<Self, Fault>
-        ensures ok { IfOk result (λ reader.
-            reader ≡ record { rest = body.now; len = length body.now }) }
-        ensures err { IfErr result (λ _. ⊥) }
-    {
-        Ok(NameSectionReader {
-            rest: body,
-            len: body.len(),
-        })
-    }
-
-    /// The place in the body where it stands.
-    pub fn place(&self) -> usize
-        ensures { result ≡ names_place self.now }
-    {
-        self.len.saturating_sub(self.rest.len())
-    }
-
-    /// The next subsection, or none where the body is filled. Of a map nothing is read. No memory is taken.
-    ///
-    /// The error is `Read` exactly where no subsection's frame begins, or one of the id 0 whose body is no name. It holds that
-    /// place, and leaves the reader where it stood.
-    pub fn next_row(&mut self, alloc: Global) -> Result<Option<Name<'a>>, Fault>
-        ensures row { IfOk result (λ o. IfSome o (λ name. NameRead self.old name self.new)) }
-        ensures ended { IfOk result (λ o. IfNone o
-            ((self.old.rest ≡ []) × (self.new ≡ self.old))) }
-        ensures err { IfErr result (λ e.
-            ReadsNone e (names_place self.old) (NameMissing self.old)) }
-        ensures stays { IfErr result (λ _. self.new ≡ self.old) }
-    {
-        Err(Fault::Read(ReadError { at: self.place() }))
     }
 }
