@@ -3,6 +3,7 @@ pub mod Counts
 pub mod Faults
 pub mod Held
 pub mod Instructions
+pub mod Names
 pub mod Rows
 pub mod Sections
 pub mod Types
