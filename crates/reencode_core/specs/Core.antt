@@ -17,6 +17,7 @@ use Rattle.reencode_hooks.specs.Walk.{walk, walk_from, announced}
 use Rattle.reencode_hooks.specs.Hooks.{Gains}
 use Rattle.reencode_core.specs.Rows.{Asks, Further}
 use Rattle.reencode_core.specs.Sections.{StopsSection}
+use Rattle.reencode_core.specs.Names.{StopsInNames}
 
 -- ---- sections one behind another
 
@@ -107,7 +108,8 @@ abbrev pub BeforeFault : {S E : Type 0} → Asks S E → ℕ → List ℕ → S 
 BeforeFault {S} asked c bytes s m e =
     ((rest : List ℕ) × (bytes ≡ core_header ++ rest))
     × ((before : List Tree) (rest : List ℕ) → FaultAt bytes before rest → RefusedIn asked c s before e m
-    ⊎ ((made : List Tree) × (last : Option SectionId) × (n : S) × AcceptsSections asked c s before made last n × StopsInside asked c rest last n e m))
+    ⊎ ((made : List Tree) × (last : Option SectionId) × (n : S) × AcceptsSections asked c s before made last n
+    × (StopsInside asked c rest last n e m ⊎ StopsInNames asked c rest n e m)))
 
 -- why an error comes; no error comes of which nothing is said here
 abbrev pub IsCause : {S E : Type 0} → Asks S E → ℕ → List ℕ → S → S → Error E → Type 0

@@ -4,6 +4,8 @@ pub mod Errors
 pub mod Rows
 pub mod Bodies
 pub mod Sections
+pub mod NameMaps
+pub mod Names
 pub mod Core
 pub mod Faults
 pub mod Leaves

@@ -122,18 +122,22 @@ pub record RowsFault {S E : Type 0} (asked : Asks S E) (c : ℕ) (row : Shape) (
 abbrev pub locals : Shape
 locals = Shape.vec local_row
 
--- Operators stand there and were accepted, and the next one stands whole and is refused.
-pub record StopsOperators {S E : Type 0} (asked : Asks S E) (c : ℕ) (start : List ℕ) (s : S) (e : Error E) (m : S) : Type 0 where
+-- Items of a shape stand there and were accepted, and the next one stands whole and is refused.
+pub record StopsEach {S E : Type 0} (asked : Asks S E) (c : ℕ) (item : Shape) (start : List ℕ) (s : S) (e : Error E) (m : S) : Type 0 where
   pub read : List Tree
   pub rest : List ℕ
   pub made : List Tree
   pub state : S
-  pub before : RowsBefore (Shape.op true) start read rest
+  pub before : RowsBefore item start read rest
   pub accepts : AcceptsRows asked c s read made state
-  pub operator : Tree
+  pub next : Tree
   pub left : List ℕ
-  pub begins : Begins (Shape.op true) rest operator left
-  pub refuses : walk asked c state operator ≡ refused e m
+  pub begins : Begins item rest next left
+  pub refuses : walk asked c state next ≡ refused e m
+
+-- the same of operators
+abbrev pub StopsOperators : {S E : Type 0} → Asks S E → ℕ → List ℕ → S → Error E → S → Type 0
+StopsOperators asked c start s e m = StopsEach asked c (Shape.op true) start s e m
 
 -- The locals that a body begins with are refused; or they are accepted, and an operator behind them is refused.
 abbrev pub StopsBody : {S E : Type 0} → Asks S E → ℕ → List ℕ → S → Error E → S → Type 0

@@ -45,13 +45,17 @@ AddsMapped row old (Ok _) new (Ok _) = (new ≡ with_section old row) × (length
 AddsMapped row old (Ok _) new (Err e) =
     (new ≡ old) × (w : WriteFault) × (e ≡ error_of_write w) × IfTooLarge w (λ size. (size ≡ length row.body) × (old.ceiling < size))
 
--- The section became another, which was added, or it was refused, and nothing was added.
-abbrev pub GivesOne : {S E : Type 0} → Asks S E → SectionId → S × Sections → Tree → S × Sections → Result (Unit {0}) (Error E) → Type 0
-GivesOne asked kind before t after (Ok _) =
+-- The section became another of an id, which was added, or it was refused, and nothing was added.
+abbrev pub GivesAdded : {S E : Type 0} → Asks S E → ℕ → S × Sections → Tree → S × Sections → Result (Unit {0}) (Error E) → Type 0
+GivesAdded asked id before t after (Ok _) =
     (u : Tree) × (body : List ℕ) × (walk asked before.1.ceiling before.0 t ≡ accepted u after.0)
-    × (after.1 ≡ with_section before.1 (section_row (number kind) body)) × (section_bytes (section_row (number kind) body) ≡ normal u)
-GivesOne asked kind before t after (Err e) =
+    × (after.1 ≡ with_section before.1 (section_row id body)) × (section_bytes (section_row id body) ≡ normal u)
+GivesAdded asked id before t after (Err e) =
     (after.1 ≡ before.1) × (e ≢ NoMemory → walk asked before.1.ceiling before.0 t ≡ refused e after.0)
+
+-- the same of the id of a kind
+abbrev pub GivesOne : {S E : Type 0} → Asks S E → SectionId → S × Sections → Tree → S × Sections → Result (Unit {0}) (Error E) → Type 0
+GivesOne asked kind before t after result = GivesAdded asked (number kind) before t after result
 
 -- The count of the rows stands there. At this place a row is due and none begins, or bytes are left behind the last row, and
 -- all rows before it were accepted.

@@ -8,6 +8,7 @@ mod imports;
 mod laws;
 mod lists;
 mod mapped;
+mod names;
 mod plain;
 mod reencode;
 mod rule;
@@ -16,5 +17,6 @@ mod shared;
 pub mod utils;
 
 pub use laws::fault_tells;
+pub use names::{indirect_name_map, map_indirect_names, map_names, name_map};
 pub use reencode::{Reencode, reencode_core};
 pub use rule::reencode_by_rule;

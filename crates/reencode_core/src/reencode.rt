@@ -1,10 +1,11 @@
 //! What a re-encoder does with each section.
-ghost use Rattle.std.specs.Prelude.{◌≡◌, IsTrue, ℕ};
+ghost use Rattle.std.specs.Prelude.{◌≡◌, ◌≤◌, IfErr, IsTrue, [], ℕ};
 ghost use Rattle.wasm_shapes.specs.declared.SectionId.TheVariants as kinds;
-ghost use Rattle.wasm_shapes.specs.Module.{CoreReading, core_module, row_of};
+ghost use Rattle.wasm_shapes.specs.Module.{CoreReading, ReadsCustom, core_module, row_of, unknown_tree_of};
 ghost use Rattle.wasm_shapes.specs.Spells.{Spells};
 ghost use Rattle.wasm_shapes.specs.Tree.{visits};
 ghost use Rattle.wasm_read.specs.declared.types.Imports.TheVariants as imported;
+ghost use Rattle.wasm_read.specs.Subsections.{IsRaw, ReadsName};
 ghost use Rattle.wasm_read.specs.Types as read;
 ghost use Rattle.wasm_write.specs.Rows.{start_tree};
 ghost use Rattle.wasm_write.specs.Rows.{elements_tree};
@@ -13,7 +14,9 @@ ghost use Rattle.reencode_hooks.specs.Run.{LeavesVisited, NeverWants, ask};
 ghost use Rattle.reencode_items.specs.Maps.{Maps};
 ghost use Rattle.reencode_core.specs.Rows.{KeepsFront, GivesRow, GivesRows};
 ghost use Rattle.reencode_core.specs.Bodies.{KeepsCode, GivesLocals, GivesBody};
-ghost use Rattle.reencode_core.specs.Sections.{KeepsModule, ReadsAs, GivesSection};
+ghost use Rattle.reencode_core.specs.Sections.{KeepsModule, ReadsAs, GivesAdded, GivesSection};
+ghost use Rattle.reencode_core.specs.Errors.{IfParse};
+ghost use Rattle.reencode_core.specs.Names.{GivesCustom, GivesNames, GivesSubsection, SubsectionsLeft};
 ghost use Rattle.reencode_core.specs.Core.{GivesCore, GivesBytes};
 ghost use Rattle.reencode_core.specs.Leaves.{BodyOf, LeavesReading, LocalsOf, RowsOf};
 
@@ -457,6 +460,98 @@ pub trait Reencode: ReencodeItems {
             self.old self.new result }
     {
         bodies::parse_section!(self, alloc, module, id, body)
+    }
+
+    /// A custom section as it is, whatever its name.
+    fn custom_section<'a>(
+        &mut self,
+        section: r::CustomSection<'a>,
+    ) -> Result<w::CustomSection<'a>, Error<Self::Error>>
+        ensures default { IsTrue Self.keeps_defaults
+            → Maps Self.reply Self.next self.old (read.custom_tree section.entry)
+            write.custom_section_tree self.new result }
+        ensures sure { IsTrue Self.keeps_defaults → NeverWants Self.sure result }
+    {
+        Ok(w::CustomSection {
+            name: section.name,
+            contents: section.contents,
+        })
+    }
+
+    /// Maps a custom section and adds it: one named `name` by `custom_name_section`, and any other by `custom_section`. It calls
+    /// no section hook. The place of a `ParseError` is in the contents behind the name.
+    fn parse_custom_section(
+        &mut self,
+        alloc: Global,
+        module: &mut w::Module,
+        section: r::CustomSection<'_>,
+    ) -> Result<(), Error<Self::Error>>
+        ensures kept { KeepsModule «module».old «module».new }
+        ensures default { IsTrue Self.keeps_defaults
+            → GivesCustom (ask Self.reply Self.next) section.entry.name.now section.entry.contents.now
+            (self.old, «module».old) (self.new, «module».new) result }
+        ensures after_error { IsTrue Self.keeps_defaults → IsTrue Self.sure
+            → LeavesReading (ReadsCustom section.entry.name.now section.entry.contents.now)
+            (ask Self.reply Self.next) self.old self.new result }
+    {
+        Err(Error::NoMemory)
+    }
+
+    /// Adds a section of an id that no kind has, by its bytes. It calls no section hook.
+    fn parse_unknown_section(
+        &mut self,
+        module: &mut w::Module,
+        id: u8,
+        contents: &[u8],
+    ) -> Result<(), Error<Self::Error>>
+        requires { id ≤ 127 }
+        ensures kept { KeepsModule «module».old «module».new }
+        ensures default { IsTrue Self.keeps_defaults
+            → GivesAdded (ask Self.reply Self.next) id (self.old, «module».old)
+            (unknown_tree_of id contents.now) (self.new, «module».new) result }
+        ensures after_error { IsTrue Self.keeps_defaults → IsTrue Self.sure
+            → LeavesVisited (ask Self.reply Self.next) self.old [] self.new result }
+        ensures usual { IsTrue Self.keeps_defaults → IfErr result (λ e. IfParse e (λ _. ⊥)) }
+    {
+        Err(Error::NoMemory)
+    }
+
+    /// Maps the subsections that the reader still has, each by `parse_custom_name_subsection`. No subsection that is written may
+    /// be longer than the ceiling. A `ParseError` holds the place of the subsection in fault.
+    fn custom_name_section(
+        &mut self,
+        alloc: Global,
+        section: r::NameSectionReader<'_>,
+        ceiling: u32,
+    ) -> Result<w::NameSection, Error<Self::Error>>
+        ensures default { IsTrue Self.keeps_defaults
+            → GivesNames (ask Self.reply Self.next) ceiling section.entry self.old self.new result
+            (λ names. names) }
+        ensures after_error { IsTrue Self.keeps_defaults → IsTrue Self.sure
+            → LeavesReading (SubsectionsLeft section.entry) (ask Self.reply Self.next)
+            self.old self.new result }
+    {
+        Err(Error::NoMemory)
+    }
+
+    /// Maps a name subsection and adds it. The indices of a map are mapped by the method of their space; of an indirect map the
+    /// outer indices alone are mapped.
+    fn parse_custom_name_subsection(
+        &mut self,
+        alloc: Global,
+        names: &mut w::NameSection,
+        section: r::Name<'_>,
+    ) -> Result<(), Error<Self::Error>>
+        requires { IsRaw section.entry }
+        ensures kept { KeepsCode names.old names.new }
+        ensures default { IsTrue Self.keeps_defaults
+            → GivesSubsection (ask Self.reply Self.next) section.entry (self.old, names.old)
+            (self.new, names.new) result }
+        ensures after_error { IsTrue Self.keeps_defaults → IsTrue Self.sure
+            → LeavesReading (ReadsName section.entry) (ask Self.reply Self.next)
+            self.old self.new result }
+    {
+        Err(Error::NoMemory)
     }
 
     /// Reads a module and adds what its sections become. The section hook is called before each section and at the end.

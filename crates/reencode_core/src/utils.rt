@@ -1,9 +1,10 @@
 //! The default bodies of `Reencode`, as functions of any reencoder.
-ghost use Rattle.std.specs.Prelude.{◌≡◌, IsTrue, ℕ};
+ghost use Rattle.std.specs.Prelude.{◌≡◌, ◌≤◌, IfErr, IsTrue, [], ℕ};
 ghost use Rattle.wasm_shapes.specs.declared.SectionId.TheVariants as kinds;
-ghost use Rattle.wasm_shapes.specs.Module.{CoreReading, row_of};
+ghost use Rattle.wasm_shapes.specs.Module.{CoreReading, ReadsCustom, row_of, unknown_tree_of};
 ghost use Rattle.wasm_shapes.specs.Tree.{visits};
 ghost use Rattle.wasm_read.specs.declared.types.Imports.TheVariants as imported;
+ghost use Rattle.wasm_read.specs.Subsections.{IsRaw, ReadsName};
 ghost use Rattle.wasm_read.specs.Types as read;
 ghost use Rattle.wasm_write.specs.Rows.{elements_tree};
 ghost use Rattle.wasm_write.specs.Types as write;
@@ -11,7 +12,9 @@ ghost use Rattle.reencode_hooks.specs.Run.{LeavesVisited, ask};
 ghost use Rattle.reencode_items.specs.Maps.{Maps};
 ghost use Rattle.reencode_core.specs.Rows.{KeepsFront, GivesRow, GivesRows};
 ghost use Rattle.reencode_core.specs.Bodies.{KeepsCode, GivesLocals, GivesBody};
-ghost use Rattle.reencode_core.specs.Sections.{KeepsModule, ReadsAs, GivesSection};
+ghost use Rattle.reencode_core.specs.Sections.{KeepsModule, ReadsAs, GivesAdded, GivesSection};
+ghost use Rattle.reencode_core.specs.Errors.{IfParse};
+ghost use Rattle.reencode_core.specs.Names.{GivesCustom, GivesNames, GivesSubsection, SubsectionsLeft};
 ghost use Rattle.reencode_core.specs.Core.{GivesCore};
 ghost use Rattle.reencode_core.specs.Leaves.{BodyOf, LeavesReading, LocalsOf, RowsOf};
 
@@ -438,6 +441,96 @@ pub fn parse_section<T: Reencode>(
         reencoder.old reencoder.new result }
 {
     bodies::parse_section!(reencoder, alloc, module, id, body)
+}
+
+/// A custom section as it is, whatever its name.
+pub fn custom_section<'a, T: Reencode>(
+    reencoder: &mut T,
+    section: r::CustomSection<'a>,
+) -> w::CustomSection<'a>
+    ensures is { write.custom_section_tree result ≡ read.custom_tree section.entry }
+    ensures state { reencoder.new ≡ reencoder.old }
+{
+    w::CustomSection {
+        name: section.name,
+        contents: section.contents,
+    }
+}
+
+/// Maps a custom section and adds it: one named `name` by `custom_name_section`, and any other by `custom_section`. It calls
+/// no section hook. The place of a `ParseError` is in the contents behind the name.
+pub fn parse_custom_section<T: Reencode>(
+    reencoder: &mut T,
+    alloc: Global,
+    module: &mut w::Module,
+    section: r::CustomSection<'_>,
+) -> Result<(), Error<T::Error>>
+    ensures kept { KeepsModule «module».old «module».new }
+    ensures default { IsTrue T.keeps_defaults
+        → GivesCustom (ask T.reply T.next) section.entry.name.now section.entry.contents.now
+        (reencoder.old, «module».old) (reencoder.new, «module».new) result }
+    ensures after_error { IsTrue T.keeps_defaults → IsTrue T.sure
+        → LeavesReading (ReadsCustom section.entry.name.now section.entry.contents.now)
+        (ask T.reply T.next) reencoder.old reencoder.new result }
+{
+    Err(Error::NoMemory)
+}
+
+/// Adds a section of an id that no kind has, by its bytes. It calls no section hook.
+pub fn parse_unknown_section<T: Reencode>(
+    reencoder: &mut T,
+    module: &mut w::Module,
+    id: u8,
+    contents: &[u8],
+) -> Result<(), Error<T::Error>>
+    requires { id ≤ 127 }
+    ensures kept { KeepsModule «module».old «module».new }
+    ensures default { IsTrue T.keeps_defaults
+        → GivesAdded (ask T.reply T.next) id (reencoder.old, «module».old)
+        (unknown_tree_of id contents.now) (reencoder.new, «module».new) result }
+    ensures after_error { IsTrue T.keeps_defaults → IsTrue T.sure
+        → LeavesVisited (ask T.reply T.next) reencoder.old [] reencoder.new result }
+    ensures usual { IsTrue T.keeps_defaults → IfErr result (λ e. IfParse e (λ _. ⊥)) }
+{
+    Err(Error::NoMemory)
+}
+
+/// Maps the subsections that the reader still has, each by `parse_custom_name_subsection`. No subsection that is written may
+/// be longer than the ceiling. A `ParseError` holds the place of the subsection in fault.
+pub fn custom_name_section<T: Reencode>(
+    reencoder: &mut T,
+    alloc: Global,
+    section: r::NameSectionReader<'_>,
+    ceiling: u32,
+) -> Result<w::NameSection, Error<T::Error>>
+    ensures default { IsTrue T.keeps_defaults
+        → GivesNames (ask T.reply T.next) ceiling section.entry reencoder.old reencoder.new result
+        (λ names. names) }
+    ensures after_error { IsTrue T.keeps_defaults → IsTrue T.sure
+        → LeavesReading (SubsectionsLeft section.entry) (ask T.reply T.next)
+        reencoder.old reencoder.new result }
+{
+    Err(Error::NoMemory)
+}
+
+/// Maps a name subsection and adds it. The indices of a map are mapped by the method of their space; of an indirect map the
+/// outer indices alone are mapped.
+pub fn parse_custom_name_subsection<T: Reencode>(
+    reencoder: &mut T,
+    alloc: Global,
+    names: &mut w::NameSection,
+    section: r::Name<'_>,
+) -> Result<(), Error<T::Error>>
+    requires { IsRaw section.entry }
+    ensures kept { KeepsCode names.old names.new }
+    ensures default { IsTrue T.keeps_defaults
+        → GivesSubsection (ask T.reply T.next) section.entry (reencoder.old, names.old)
+        (reencoder.new, names.new) result }
+    ensures after_error { IsTrue T.keeps_defaults → IsTrue T.sure
+        → LeavesReading (ReadsName section.entry) (ask T.reply T.next)
+        reencoder.old reencoder.new result }
+{
+    Err(Error::NoMemory)
 }
 
 /// Reads a module and adds what its sections become. The section hook is called before each section and at the end.

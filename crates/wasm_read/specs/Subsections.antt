@@ -52,6 +52,11 @@ ReadsContent (Content.raw id c) t = t ≡ raw_names_tree id c
 abbrev pub ReadsName : Name → Tree → Type 0
 ReadsName n t = ReadsContent (content_of n) t
 
+-- the id of what is raw is that of no other subsection
+abbrev pub IsRaw : Name → Type 0
+IsRaw (name.Unknown id c) = 12 ≤ id
+IsRaw _ = Unit {0}
+
 -- these are the id and the body of what holds the content
 abbrev pub Holds : ℕ → List ℕ → Content → Type 0
 Holds id body (Content.text n) = (id ≡ 0) × Spells Shape.name body (Tree.name n)

@@ -8,6 +8,7 @@ use Rattle.wasm_shapes.specs.Shape.{Shape}
 use Rattle.wasm_shapes.specs.Place.{Begins}
 use Rattle.wasm_shapes.specs.Types.{behind_descriptor, behind_described, sub_type_of, group_of, table_of, memory_of, global_of, null_table_of, table_with_init_of, global_with_init_of, tag_of, import_of, item_of, Items, items_of, passive_of, declared_of, active_of, active_data_of, passive_data_tree}
 pub use Rattle.wasm_shapes.specs.Types.{no_reading, led, vector_tree, shared_tree, mutable_of, shared_composite_tree, flag, limits_flags, bounds_tree, paged_tree, limits_tree, global_flags, function_tree}
+use Rattle.wasm_read.specs.declared.types.CustomSection.{CustomSection}
 use Rattle.wasm_read.specs.declared.types.UnpackedIndex.{UnpackedIndex}
 use Rattle.wasm_read.specs.declared.types.UnpackedIndex.TheVariants as unpacked
 use Rattle.wasm_read.specs.declared.types.AbstractHeapType.{AbstractHeapType}
@@ -302,3 +303,9 @@ data_parts segment.Passive bytes = passive_data_tree bytes
 
 abbrev pub data_tree : Data → Tree
 data_tree row = data_parts row.kind row.contents.now
+
+-- ---- custom sections
+
+-- a custom section as it is, whatever its name: its name and its contents
+abbrev pub custom_tree : CustomSection → Tree
+custom_tree section = Tree.pair (Tree.name section.name.now) (Tree.raw section.contents.now)

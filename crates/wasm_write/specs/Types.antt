@@ -4,6 +4,7 @@ use Rattle.std.specs.Prelude.{ℕ, Bool, true, false, List, map, Option, option_
 use Rattle.wasm_shapes.specs.declared.Space.TheVariants as space
 use Rattle.wasm_shapes.specs.Tree.{Tree}
 use Rattle.wasm_shapes.specs.Types.{led, vector_tree, shared_tree, mutable_of, behind_descriptor, behind_described, shared_composite_tree, sub_type_of, group_of, table_of, memory_of, global_of, tag_of}
+use Rattle.wasm_write.specs.declared.types.CustomSection.{CustomSection}
 use Rattle.wasm_write.specs.declared.types.AbstractHeapType.{AbstractHeapType}
 use Rattle.wasm_write.specs.declared.types.AbstractHeapType.TheVariants as abstract
 use Rattle.wasm_write.specs.declared.types.HeapType.{HeapType}
@@ -156,3 +157,9 @@ entity_tree (entity.Memory ty) = Tree.row 2 (led 0x02 (memory_type_tree ty))
 entity_tree (entity.Global ty) = Tree.row 3 (led 0x03 (global_type_tree ty))
 entity_tree (entity.Tag ty) = Tree.row 4 (led 0x04 (tag_type_tree ty))
 entity_tree (entity.FunctionExact i) = Tree.row 5 (led 0x20 (type_index i))
+
+-- ---- custom sections
+
+-- a custom section as it is, whatever its name: its name and its contents
+abbrev pub custom_section_tree : CustomSection → Tree
+custom_section_tree section = Tree.pair (Tree.name section.name.now) (Tree.raw section.contents.now)

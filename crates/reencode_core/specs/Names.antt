@@ -1,0 +1,159 @@
+-- What the calls that map name sections, custom sections and sections of other ids give.
+use Rattle.std.specs.Prelude.{◌≡◌, ◌≢◌, ◌-◌, ◌⊎◌, ◌<◌, ℕ, List, [], ◌∷◌, ◌++◌, length, get_or, Result, Ok, Err, IfOk, IfErr}
+use Rattle.wasm_leb.specs.Place.{BeginsNumber}
+use Rattle.wasm_shapes.specs.Shape.{Shape}
+use Rattle.wasm_shapes.specs.Tree.{Tree}
+use Rattle.wasm_shapes.specs.Spells.{Spells}
+use Rattle.wasm_shapes.specs.Place.{Begins, BeginsNone}
+use Rattle.wasm_shapes.specs.Types.{rows_tree}
+use Rattle.wasm_shapes.specs.Module.{name_rows, name_subsection, names, names_name, subsection, frame, custom_frame, ReadsCustom}
+use Rattle.wasm_read.specs.declared.types.Name.{Name}
+use Rattle.wasm_read.specs.Names.{NamesStanding}
+use Rattle.wasm_read.specs.Subsections.{ReadsName, content_of, Content, subsection_frame, subsection_frame_tree}
+use Rattle.wasm_read.specs.Names.{MapStanding, Due}
+use Rattle.wasm_write.specs.Bodies.{CodeRows, with_row}
+use Rattle.wasm_write.specs.Counts.{counts, IsTooLarge}
+use Rattle.wasm_write.specs.Sections.{Sections, section_row, section_bytes, with_section}
+use Rattle.reencode_hooks.specs.declared.error.Error.{Error}
+use Rattle.reencode_hooks.specs.declared.error.Error.TheVariants.{TooLarge, NoMemory}
+use Rattle.reencode_hooks.specs.Run.{accepted, refused}
+use Rattle.reencode_hooks.specs.Walk.{walk}
+use Rattle.reencode_core.specs.Errors.{IfParse, IfRefused}
+use Rattle.reencode_core.specs.Rows.{Asks, AcceptsRows, AcceptedHooks, RowsBefore, Further, StopsEach}
+use Rattle.reencode_core.specs.Sections.{GivesAdded}
+
+-- ---- one subsection
+
+-- the rows of the map in a subsection of an id
+abbrev pub MapRow : ℕ → Shape → Type 0
+MapRow id row = get_or name_rows id Shape.none ≡ subsection id (Shape.vec row)
+
+-- In what a map still has entries stand and were accepted, and the next one, which is due, stands whole and is refused.
+pub record StopsMap {S E : Type 0} (asked : Asks S E) (c id : ℕ) (m : MapStanding) (s : S) (e : Error E) (m' : S) : Type 0 where
+  pub row : Shape
+  pub is_row : MapRow id row
+  pub count : ℕ
+  pub start : List ℕ
+  pub due : Due m count start
+  pub stops : StopsEach asked c row start s e m'
+  pub more : length stops.read < count
+
+-- the content's map, if it has one
+abbrev pub StopsContent : {S E : Type 0} → Asks S E → ℕ → Content → S → Error E → S → Type 0
+StopsContent asked c (Content.direct id _ m) s e n = StopsMap asked c id m s e n
+StopsContent asked c (Content.indirect id _ m) s e n = StopsMap asked c id m s e n
+StopsContent asked c _ s e n = ⊥
+
+-- a length in what the subsection became is too large
+abbrev pub TooLargeIn : {E : Type 0} → Error E → Tree → Type 0
+TooLargeIn (TooLarge size) u = IsTooLarge (counts u) size
+TooLargeIn _ u = ⊥
+
+-- all visits are accepted, and a length in what the subsection became is too large
+pub record TooLargeNames {S E : Type 0} (asked : Asks S E) (s : S) (t : Tree) (e : Error E) (m : S) : Type 0 where
+  pub accepts : AcceptedHooks asked s t m
+  pub large : TooLargeIn e accepts.made
+
+-- The subsection became another, which was added, or it was refused, and nothing was added.
+abbrev pub GivesNaming : {S E : Type 0} → Asks S E → S × CodeRows → Tree → S × CodeRows → Result (Unit {0}) (Error E) → Type 0
+GivesNaming asked before t after (Ok _) = (u : Tree) × (walk asked before.1.ceiling before.0 t ≡ accepted u after.0) × (after.1 ≡ with_row before.1 u)
+GivesNaming asked before t after (Err e) =
+    (after.1 ≡ before.1)
+    × (e ≢ NoMemory → (walk asked before.1.ceiling before.0 t ≡ refused e after.0) ⊎ TooLargeNames asked before.0 t e after.0)
+
+pub record GivesSubsection {S E : Type 0} (asked : Asks S E) (n : Name) (before after : S × CodeRows) (result : Result (Unit {0}) (Error E)) : Type 0 where
+  pub reading : (t : Tree) → ReadsName n t → GivesNaming asked before t after result
+  pub readable : IfOk result (λ _. (t : Tree) × ReadsName n t)
+  pub unreadable : IfErr result (λ e. IfParse e (λ at. ((t : Tree) → ReadsName n t → ⊥) × (after.1 ≡ before.1) × Further asked before.0 after.0))
+  pub refusal : IfErr result (λ e.
+      IfRefused e (((t : Tree) × ReadsName n t) ⊎ ((after.1 ≡ before.1) × StopsContent asked before.1.ceiling (content_of n) before.0 e after.0)))
+
+-- ---- a name section
+
+-- the subsections that a reader has still to read
+abbrev pub SubsectionsLeft : NamesStanding → Tree → Type 0
+SubsectionsLeft reader rows = Spells names reader.rest rows
+
+-- At this place a subsection is due and none begins. All subsections before it were accepted; further visits may follow, of one
+-- that is read in part.
+pub record SubsectionsFault {S E : Type 0} (asked : Asks S E) (c : ℕ) (reader : NamesStanding) (s m : S) (at : ℕ) : Type 0 where
+  pub none : (rows : Tree) → SubsectionsLeft reader rows → ⊥
+  pub read : List Tree
+  pub rest : List ℕ
+  pub made : List Tree
+  pub state : S
+  pub front : RowsBefore name_subsection reader.rest read rest
+  pub some : rest ≢ []
+  pub missing : BeginsNone name_subsection rest
+  pub place : at ≡ reader.len - length rest
+  pub accepts : AcceptsRows asked c s read made state
+  pub further : Further asked state m
+
+-- A subsection stands whole there, and it is refused.
+pub record RefusesSubsection {S E : Type 0} (asked : Asks S E) (c : ℕ) (bytes : List ℕ) (s : S) (e : Error E) (m : S) : Type 0 where
+  pub tree : Tree
+  pub left : List ℕ
+  pub begins : Begins name_subsection bytes tree left
+  pub refusal : walk asked c s tree ≡ refused e m
+
+-- The frame of a subsection stands there, and an entry of its map is refused.
+pub record RefusesEntry {S E : Type 0} (asked : Asks S E) (bytes : List ℕ) (c : ℕ) (s : S) (e : Error E) (m : S) : Type 0 where
+  pub id : ℕ
+  pub body : List ℕ
+  pub left : List ℕ
+  pub begins : Begins subsection_frame bytes (subsection_frame_tree id body) left
+  pub row : Shape
+  pub is_row : MapRow id row
+  pub count : ℕ
+  pub start : List ℕ
+  pub counted : BeginsNumber 128 32 32 body count start
+  pub stops : StopsEach asked c row start s e m
+  pub more : length stops.read < count
+
+-- Subsections stand there and were accepted, and the next one is refused.
+pub record StopsNames {S E : Type 0} (asked : Asks S E) (c : ℕ) (reader : NamesStanding) (s : S) (e : Error E) (m : S) : Type 0 where
+  pub read : List Tree
+  pub rest : List ℕ
+  pub made : List Tree
+  pub state : S
+  pub front : RowsBefore name_subsection reader.rest read rest
+  pub accepts : AcceptsRows asked c s read made state
+  pub refuses : RefusesSubsection asked c rest state e m ⊎ RefusesEntry asked rest c state e m
+
+-- The subsections became others, which are the answer, or one of them was refused.
+abbrev pub GivesSubsections : {S E A : Type 0} → Asks S E → ℕ → S → Tree → S → Result A (Error E) → (A → CodeRows) → Type 0
+GivesSubsections asked c s rows m (Ok a) view =
+    (made : List Tree) × (walk asked c s rows ≡ accepted (rows_tree made) m) × (view a ≡ record { ceiling = c; rows = made })
+GivesSubsections asked c s rows m (Err e) view = e ≢ NoMemory → walk asked c s rows ≡ refused e m
+
+pub record GivesNames {S E A : Type 0} (asked : Asks S E) (c : ℕ) (reader : NamesStanding) (s m : S) (result : Result A (Error E)) (view : A → CodeRows) : Type 0 where
+  pub reading : (rows : Tree) → SubsectionsLeft reader rows → GivesSubsections asked c s rows m result view
+  pub readable : IfOk result (λ _. (rows : Tree) × SubsectionsLeft reader rows)
+  pub unreadable : IfErr result (λ e. IfParse e (SubsectionsFault asked c reader s m))
+  pub refusal : IfErr result (λ e. IfRefused e (((rows : Tree) × SubsectionsLeft reader rows) ⊎ StopsNames asked c reader s e m))
+
+-- ---- a custom section
+
+-- the contents of a section, of which nothing was read
+abbrev pub contents_standing : List ℕ → NamesStanding
+contents_standing contents = record { rest = contents; len = length contents }
+
+-- it is named `name`, and an entry of its names is refused
+abbrev pub StopsCustom : {S E : Type 0} → Asks S E → ℕ → List ℕ → List ℕ → S → Error E → S → Type 0
+StopsCustom asked c name contents s e m = (name ≡ names_name) × StopsNames asked c (contents_standing contents) s e m
+
+pub record GivesCustom {S E : Type 0} (asked : Asks S E) (name contents : List ℕ) (before after : S × Sections) (result : Result (Unit {0}) (Error E)) : Type 0 where
+  pub reading : (t : Tree) → ReadsCustom name contents t → GivesAdded asked 0 before t after result
+  pub readable : IfOk result (λ _. (t : Tree) × ReadsCustom name contents t)
+  pub unreadable : IfErr result (λ e. IfParse e (λ at.
+      ((t : Tree) → ReadsCustom name contents t → ⊥) × (name ≡ names_name)
+      × SubsectionsFault asked before.1.ceiling (contents_standing contents) before.0 after.0 at))
+  pub refusal : IfErr result (λ e.
+      IfRefused e (((t : Tree) × ReadsCustom name contents t) ⊎ StopsCustom asked before.1.ceiling name contents before.0 e after.0))
+
+-- A custom section that has no reading stands there in its frame, and an entry of its names is refused.
+pub record StopsInNames {S E : Type 0} (asked : Asks S E) (c : ℕ) (bytes : List ℕ) (s : S) (e : Error E) (m : S) : Type 0 where
+  pub contents : List ℕ
+  pub left : List ℕ
+  pub framed : Begins frame bytes (custom_frame names_name contents) left
+  pub stops : StopsNames asked c (contents_standing contents) s e m
