@@ -18,7 +18,7 @@ use Rattle.wasm_shapes.proofs.Begins.{begins_u32, begins_seq}
 use Rattle.wasm_shapes.proofs.Rows.{rows_end, rows_cons, rows_first, no_row, no_rows_behind, vec_spelled}
 use Rattle.wasm_read.proofs.DataSegments.{one_number}
 use Rattle.wasm_read.proofs.Placed.{takes_bytes}
-use Rattle.wasm_read.specs.Names.{MapStanding, whole_map, Due, DueFrom, EntriesLeft, IndirectBegins, EntryRead, EntryMissing, EntriesEnded}
+use Rattle.wasm_read.specs.Names.{MapStanding, whole_map, Due, DueFrom, EntriesLeft, NamesLeft, IndirectLeft, IndirectBegins, EntryRead, EntryMissing, EntriesEnded}
 
 -- ---- what is due
 
@@ -139,6 +139,10 @@ entries_one (x ∷ es) (f ∷ fs) e =
     let same : x ≡ f = ap₂ entry i n in
     ap₂ (λ (z : Entry) (zs : List Entry). z ∷ zs) same (entries_one es fs tails)
 
+-- rows are of one list
+pub lists_one : (ts us : List Tree) → rows_tree ts ≡ rows_tree us → ts ≡ us
+lists_one ts us e = sym (listed_rows ts) ∙ ap listed e ∙ listed_rows us
+
 pub outers_one : (os ps : List Outer) → outers_trees os ≡ outers_trees ps → os ≡ ps
 outers_one [] [] e = refl
 outers_one [] (p ∷ ps) e = absurd cc
@@ -150,7 +154,7 @@ outers_one (o ∷ os) (p ∷ ps) e =
     let maps : vector_tree (entries_trees o.names) ≡ vector_tree (entries_trees p.names) = cc in
     let i : o.index ≡ p.index = cc in
     let rows : rows_tree (entries_trees o.names) ≡ rows_tree (entries_trees p.names) = cc in
-    let lists : entries_trees o.names ≡ entries_trees p.names = sym (listed_rows (entries_trees o.names)) ∙ ap listed rows ∙ listed_rows (entries_trees p.names) in
+    let lists = lists_one (entries_trees o.names) (entries_trees p.names) rows in
     let outer : ℕ → List Entry → Outer = λ j ns. record { index = j; names = ns } in
     let same : o ≡ p = ap₂ outer i (entries_one o.names p.names lists) in
     ap₂ (λ (z : Outer) (zs : List Outer). z ∷ zs) same (outers_one os ps tails)
@@ -174,12 +178,44 @@ outers_are (Is.cons {u = u} (Is.seq (Is.u32 {n = i}) (Is.vec d)) d') =
 pub entries_of : (ts : List Tree) → Is (Shape.many plain_naming) (rows_tree ts) → (es : List Entry) × (ts ≡ entries_trees es)
 entries_of ts d =
     let es = entries_are d in
-    (es.0, sym (listed_rows ts) ∙ ap listed es.1 ∙ listed_rows (entries_trees es.0))
+    (es.0, lists_one ts (entries_trees es.0) es.1)
 
 pub outers_of : (ts : List Tree) → Is (Shape.many plain_indirect) (rows_tree ts) → (os : List Outer) × (ts ≡ outers_trees os)
 outers_of ts d =
     let os = outers_are d in
-    (os.0, sym (listed_rows ts) ∙ ap listed os.1 ∙ listed_rows (outers_trees os.0))
+    (os.0, lists_one ts (outers_trees os.0) os.1)
+
+-- A map of names by the values of its entries: the first is the one that was read, nothing is left at the end, and there is
+-- one list.
+pub names_less : {m n : MapStanding} {e : Entry} {all : List Entry} → EntryRead plain_naming m (entry_tree e) n → NamesLeft m all →
+    (es : List Entry) × (all ≡ e ∷ es) × NamesLeft n es
+names_less {n = n} {e = e} {all = all} r w =
+    let p = left_less refl refl r w in
+    let es = entries_are p.2.rows_left.shaped in
+    let rows : rows_tree (entries_trees all) ≡ rows_tree (entries_trees (e ∷ es.0)) = p.1 ∙ ap (λ (z : Tree). Tree.cons (entry_tree e) z) es.1 in
+    let L : Tree → Type 0 = λ z. EntriesLeft plain_naming n z in
+    (es.0, entries_one all (e ∷ es.0) (lists_one _ _ rows), subst L es.1 p.2)
+
+pub names_ended : {m : MapStanding} (all : List Entry) → EntriesEnded m → NamesLeft m all → all ≡ []
+names_ended all r w = entries_one all [] (lists_one _ _ (left_ended r w))
+
+pub names_one : {m : MapStanding} (es fs : List Entry) → NamesLeft m es → NamesLeft m fs → es ≡ fs
+names_one es fs w v = entries_one es fs (lists_one _ _ (left_one refl refl w v))
+
+pub outers_less : {m n : MapStanding} {o : Outer} {all : List Outer} → EntryRead plain_indirect m (outer_tree o) n → IndirectLeft m all →
+    (os : List Outer) × (all ≡ o ∷ os) × IndirectLeft n os
+outers_less {n = n} {o = o} {all = all} r w =
+    let p = left_less refl refl r w in
+    let os = outers_are p.2.rows_left.shaped in
+    let rows : rows_tree (outers_trees all) ≡ rows_tree (outers_trees (o ∷ os.0)) = p.1 ∙ ap (λ (z : Tree). Tree.cons (outer_tree o) z) os.1 in
+    let L : Tree → Type 0 = λ z. EntriesLeft plain_indirect n z in
+    (os.0, outers_one all (o ∷ os.0) (lists_one _ _ rows), subst L os.1 p.2)
+
+pub outers_ended : {m : MapStanding} (all : List Outer) → EntriesEnded m → IndirectLeft m all → all ≡ []
+outers_ended all r w = outers_one all [] (lists_one _ _ (left_ended r w))
+
+pub outers_left_one : {m : MapStanding} (os ps : List Outer) → IndirectLeft m os → IndirectLeft m ps → os ≡ ps
+outers_left_one os ps w v = outers_one os ps (lists_one _ _ (left_one refl refl w v))
 
 -- ---- indices that are asked for
 
