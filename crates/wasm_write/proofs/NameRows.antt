@@ -1,11 +1,11 @@
 -- The rows of maps of names, and of name sections.
-use Rattle.std.proofs.Common.{◌≡◌, ℕ, zero, suc, ◌<◌, ◌≤◌, ◌^◌, List, [], ◌∷◌, ◌++◌, length, map, refl, sym, ap, ap₂, ◌∙◌, true, subst, arith, IsUtf8}
+use Rattle.std.proofs.Common.{◌≡◌, ℕ, ◌<◌, ◌≤◌, ◌^◌, List, [], ◌∷◌, ◌++◌, length, map, refl, sym, ap, ap₂, ◌∙◌, true, subst, arith, IsUtf8}
 use Rattle.std.specs.Coded.{Coded-set, coded_ℕ, coded_list}
 use mathlib.Core.Logic.{∥∥₁_elim, ∥∥₁_map, ∥∥₁_prop}
 use Rattle.wasm_leb.specs.Leb.{leb, IsUnsigned}
 use Rattle.wasm_leb.proofs.Shortest.{leb_spells}
 use Rattle.wasm_shapes.specs.declared.Space.{Space}
-use Rattle.wasm_shapes.specs.Tree.{Tree, count, normal}
+use Rattle.wasm_shapes.specs.Tree.{Tree, normal}
 use Rattle.wasm_shapes.specs.Shape.{Shape}
 use Rattle.wasm_shapes.specs.Spells.{Is, Spelled, Spells}
 use Rattle.wasm_shapes.specs.Fits.{InRange}
@@ -14,6 +14,7 @@ use Rattle.wasm_shapes.specs.Types.{rows_tree, vector_tree, led}
 use Rattle.wasm_shapes.specs.Module.{plain_naming, name_subsection, names_name, subsection}
 use Rattle.wasm_shapes.specs.Namings.{entry_tree, asked_in, module_name_tree, names_tree, raw_names_tree}
 use Rattle.wasm_shapes.proofs.Begins.{row_at, row_is}
+use Rattle.wasm_shapes.proofs.Namings.{asked}
 use Rattle.wasm_shapes.proofs.Frameless.{frameless_spells}
 use Rattle.wasm_write.specs.Bodies.{CodeRows, with_row}
 use Rattle.wasm_write.specs.Held.{AreHeld, BodySpells}
@@ -37,35 +38,6 @@ indirect_spelled i names small p =
       shaped = Is.seq Is.u32 q.shaped;
       spelled = (leb i, normal (vector_tree names), refl, leb_spells i small, q.spelled);
     })
-
--- ---- the indices asked for in a space
-
--- an entry, and the same whose index is asked for
-record AskedOne (s : Space) (behind : Shape) (t : Tree) : Type 0 where
-  shaped : Is (Shape.seq (Shape.ix s) behind) (asked_in s t)
-  spelled : (x : List ℕ) → Spelled t x → Spelled (asked_in s t) x
-  normally : normal (asked_in s t) ≡ normal t
-
-asked_one : (s : Space) {behind : Shape} {t : Tree} → Is (Shape.seq Shape.u32 behind) t → AskedOne s behind t
-asked_one s (Is.seq Is.u32 d) = record { shaped = Is.seq Is.ix d; spelled = λ x p. p; normally = refl }
-
--- the same of a list of them
-record Asked (s : Space) (behind : Shape) (rows : List Tree) : Type 0 where
-  shaped : Is (Shape.many (Shape.seq (Shape.ix s) behind)) (rows_tree (map (asked_in s) rows))
-  spelled : (x : List ℕ) → Spelled (rows_tree rows) x → Spelled (rows_tree (map (asked_in s) rows)) x
-  normally : normal (rows_tree (map (asked_in s) rows)) ≡ normal (rows_tree rows)
-  counted : count (rows_tree (map (asked_in s) rows)) ≡ count (rows_tree rows)
-
-asked : (s : Space) (behind : Shape) (rows : List Tree) → Is (Shape.many (Shape.seq Shape.u32 behind)) (rows_tree rows) → Asked s behind rows
-asked s behind [] d = record { shaped = Is.nil; spelled = λ x p. p; normally = refl; counted = refl }
-asked s behind (t ∷ rows) (Is.cons d d') =
-    let one = asked_one s d in
-    let rest = asked s behind rows d' in record {
-      shaped = Is.cons one.shaped rest.shaped;
-      spelled = λ x p. (p.0, p.1, p.2, one.spelled p.0 p.3, rest.spelled p.1 p.4);
-      normally = ap₂ (λ (y z : List ℕ). y ++ z) one.normally rest.normally;
-      counted = ap suc rest.counted;
-    }
 
 -- ---- a map of names as a subsection
 

@@ -131,16 +131,6 @@ impl<K: MapKind> Entries<K> {
     {
         (self.count, &self.bytes)
     }
-
-    /// Appends the number of the entries and the entries, or a part of them where memory is wanting.
-    fn encode(&self, out: &mut Vec<u8>) -> Result<(), NoMemory>
-        ensures ok { OnOk result (out.new.items ≡ out.old.items ++ normal (vector_tree self.now)) }
-        ensures err { OnErr result (take (vec_len out.old) out.new.items ≡ out.old.items) }
-        ensures spells { BodySpells (Shape.seq Shape.u32 K.named) self.now }
-    {
-        let (count, bytes) = self.as_parts();
-        write_behind(out, count, bytes)
-    }
 }
 
 /// A map from indices to names. Contracts see it as the list of its entries.
@@ -219,7 +209,8 @@ impl NameMap {
         ensures err { OnErr result (take (vec_len out.old) out.new.items ≡ out.old.items) }
         ensures spells { BodySpells plain_naming self.now }
     {
-        self.entries.encode(out)
+        let (count, bytes) = self.entries.as_parts();
+        write_behind(out, count, bytes)
     }
 }
 
@@ -290,13 +281,5 @@ impl IndirectNameMap {
             (IsTooLarge ((length self.old + 1) ∷ []))) }
     {
         self.entries.append(&IndirectNaming { index, names })
-    }
-
-    /// Appends the number of the entries and the entries. A refusal leaves what stood in `out` before.
-    pub fn encode(&self, out: &mut Vec<u8>) -> Result<(), NoMemory>
-        ensures ok { OnOk result (out.new.items ≡ out.old.items ++ normal (vector_tree self.now)) }
-        ensures err { OnErr result (take (vec_len out.old) out.new.items ≡ out.old.items) }
-    {
-        self.entries.encode(out)
     }
 }

@@ -1,5 +1,5 @@
-use Rattle.std.proofs.Common.{◌≡◌, ◌<◌, ◌^◌, ◌++◌, length, ◌∙◌, arith}
-use Rattle.wasm_write.specs.Names.{behind, subsection_bytes, HasSubsection}
+use Rattle.std.proofs.Common.{◌<◌, ◌^◌, length, ◌∙◌, arith}
+use Rattle.wasm_write.specs.Names.{behind}
 use Rattle.wasm_write.proofs.NameRows.{subsections_grown, subsections_grown_is, subsections_same_is}
 use Rattle.wasm_write.proofs.name_section.NameSection.add.Goals as goal
 
