@@ -5,6 +5,7 @@ pub mod RowLoop
 pub mod EachItem
 pub mod EachRow
 pub mod OneSection
+pub mod Framed
 pub mod CoreLoop
 pub mod Faults
 pub mod WholeBytes
