@@ -21,8 +21,8 @@ returns-in_err-intersperse_section_hook-in-Some-Section g c =
     core_hook_refused g.Self.ReencodeIndices keeps c.in_ok-payloads.ensures.ok c.sections.invariant c.in-Some-Section.id _ frame
     c.in_err-intersperse_section_hook-in-Some-Section.ensures _ c.from_residual-in_err-intersperse_section_hook-in-Some-Section.ensures.1
 
-pub sections-preserved-in-Some-Section : goal.sections-preserved-in-Some-Section
-sections-preserved-in-Some-Section g c =
+pub sections-preserved-in-Ok : goal.sections-preserved-in-Ok
+sections-preserved-in-Ok g c =
     let keeps = g.met.Self.ReencodeIndices.adds_ok in
     let frame = rw (c.in-Some-Section.is, c.in-Some-Section.field-0-is) at c.in_ok-id.ensures.some in
     core_more g.Self.ReencodeIndices keeps c.in_ok-payloads.ensures.ok c.sections.invariant refl c.in_ok-id.ensures.len
@@ -36,37 +36,37 @@ returns-in-Err g c =
     core_section_refused g.Self.ReencodeIndices keeps c.in_ok-payloads.ensures.ok c.sections.invariant c.in-Err.e c.in-Some-Section.at
     (kind_called g.Self.ReencodeIndices keeps c.in_ok-payloads.ensures.ok c.sections.invariant c.in-Some-Section.id frame c.in_ok-intersperse_section_hook-in-Some-Section.ensures c.in-Err.ensures) at _ c.placed.ensures
 
-pub sections-preserved-in-Some-Custom : goal.sections-preserved-in-Some-Custom
-sections-preserved-in-Some-Custom g c =
+pub sections-preserved-in-Ok-parse_custom_section : goal.sections-preserved-in-Ok-parse_custom_section
+sections-preserved-in-Ok-parse_custom_section g c =
     let keeps = g.met.Self.ReencodeIndices.adds_ok in
     let frame = rw (c.in-Some-Custom.is, c.in-Some-Custom.field-0-is) at c.in_ok-id.ensures.some in
     core_more g.Self.ReencodeIndices keeps c.in_ok-payloads.ensures.ok c.sections.invariant refl c.in_ok-id.ensures.len
-    (custom_called g.Self.ReencodeIndices keeps c.in_ok-payloads.ensures.ok c.sections.invariant frame c.in-Ok-in-Some-Custom.ensures)
+    (custom_called g.Self.ReencodeIndices keeps c.in_ok-payloads.ensures.ok c.sections.invariant frame c.in-Ok-parse_custom_section.ensures)
 
-pub returns-in-Err-in-Some-Custom : goal.returns-in-Err-in-Some-Custom
-returns-in-Err-in-Some-Custom g c =
+pub returns-in-Err-parse_custom_section : goal.returns-in-Err-parse_custom_section
+returns-in-Err-parse_custom_section g c =
     let keeps = g.met.Self.ReencodeIndices.adds_ok in
     let frame = rw (c.in-Some-Custom.is, c.in-Some-Custom.field-0-is) at c.in_ok-id.ensures.some in
     let at = rw (c.in-Some-Custom.is, c.in-Some-Custom.field-0-is) at c.in_ok-id.ensures.at in
-    core_section_refused g.Self.ReencodeIndices keeps c.in_ok-payloads.ensures.ok c.sections.invariant c.in-Err-in-Some-Custom.e c.in-Some-Custom.at
-    (custom_called g.Self.ReencodeIndices keeps c.in_ok-payloads.ensures.ok c.sections.invariant frame c.in-Err-in-Some-Custom.ensures) at _ c.placed-in-Some-Custom.ensures
+    core_section_refused g.Self.ReencodeIndices keeps c.in_ok-payloads.ensures.ok c.sections.invariant c.in-Err-parse_custom_section.e c.in-Some-Custom.at
+    (custom_called g.Self.ReencodeIndices keeps c.in_ok-payloads.ensures.ok c.sections.invariant frame c.in-Err-parse_custom_section.ensures) at _ c.placed-in-Err-parse_custom_section.ensures
 
-pub sections-preserved-in-Some-Unknown : goal.sections-preserved-in-Some-Unknown
-sections-preserved-in-Some-Unknown g c =
+pub sections-preserved : goal.sections-preserved
+sections-preserved g c =
     let keeps = g.met.Self.ReencodeIndices.adds_ok in
     let frame = rw (c.in-Some-Unknown.is, c.in-Some-Unknown.field-0-is) at c.in_ok-id.ensures.some in
     let low = rw (c.in-Some-Unknown.is, c.in-Some-Unknown.field-0-is) at c.in_ok-id.ensures.unknown in
     core_more g.Self.ReencodeIndices keeps c.in_ok-payloads.ensures.ok c.sections.invariant refl c.in_ok-id.ensures.len
-    (unknown_called g.Self.ReencodeIndices keeps c.in_ok-payloads.ensures.ok c.sections.invariant low frame c.in-Ok-in-Some-Unknown.ensures)
+    (unknown_called g.Self.ReencodeIndices keeps c.in_ok-payloads.ensures.ok c.sections.invariant low frame c.in-Ok-parse_unknown_section.ensures)
 
-pub returns-in-Err-in-Some-Unknown : goal.returns-in-Err-in-Some-Unknown
-returns-in-Err-in-Some-Unknown g c =
+pub returns-in-Err-parse_unknown_section : goal.returns-in-Err-parse_unknown_section
+returns-in-Err-parse_unknown_section g c =
     let keeps = g.met.Self.ReencodeIndices.adds_ok in
     let frame = rw (c.in-Some-Unknown.is, c.in-Some-Unknown.field-0-is) at c.in_ok-id.ensures.some in
     let at = rw (c.in-Some-Unknown.is, c.in-Some-Unknown.field-0-is) at c.in_ok-id.ensures.at in
     let low = rw (c.in-Some-Unknown.is, c.in-Some-Unknown.field-0-is) at c.in_ok-id.ensures.unknown in
-    core_section_refused g.Self.ReencodeIndices keeps c.in_ok-payloads.ensures.ok c.sections.invariant c.in-Err-in-Some-Unknown.e c.in-Some-Unknown.at
-    (unknown_called g.Self.ReencodeIndices keeps c.in_ok-payloads.ensures.ok c.sections.invariant low frame c.in-Err-in-Some-Unknown.ensures) at _ c.placed-in-Some-Unknown.ensures
+    core_section_refused g.Self.ReencodeIndices keeps c.in_ok-payloads.ensures.ok c.sections.invariant c.in-Err-parse_unknown_section.e c.in-Some-Unknown.at
+    (unknown_called g.Self.ReencodeIndices keeps c.in_ok-payloads.ensures.ok c.sections.invariant low frame c.in-Err-parse_unknown_section.ensures) at _ c.placed-in-Err-parse_unknown_section.ensures
 
 pub parse_unknown_section-requires : goal.parse_unknown_section-requires
 parse_unknown_section-requires g c = (frame_id (rw (c.in-Some-Unknown.is, c.in-Some-Unknown.field-0-is) at c.in_ok-id.ensures.some)).1
