@@ -70,7 +70,7 @@ begins_passive f p =
 -- ---- none
 
 -- a number at the front has one value, and these are behind it
-one_number : {m n : ℕ} {bytes a b : List ℕ} → BeginsNumber 128 32 32 bytes m a → BeginsNumber 128 32 32 bytes n b → (m ≡ n) × (a ≡ b)
+pub one_number : {m n : ℕ} {bytes a b : List ℕ} → BeginsNumber 128 32 32 bytes m a → BeginsNumber 128 32 32 bytes n b → (m ≡ n) × (a ≡ b)
 one_number {a = a} {b = b} p q =
     let both_ways : p.0 ++ a ≡ q.0 ++ b = sym p.2 ∙ q.2 in
     let same = unsigned_unique a b p.1 q.1 both_ways in

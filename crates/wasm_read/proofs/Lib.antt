@@ -13,3 +13,5 @@ pub mod HeapTypes
 pub mod Limits
 pub mod TypeRows
 pub mod DataSegments
+pub mod NameMaps
+pub mod Subsections

@@ -17,7 +17,7 @@ placed {rest = rest} bytes at e p =
     let here : drop at bytes ≡ p.text ++ rest = sym e ∙ p.reads in
     rw (left_at bytes p.text rest at here) (begins_here (sym e) p)
 
-takes_bytes : {s : Shape} {t : Tree} (text : List ℕ) → nullable s ≡ false → Spells s text t → 0 < length text
+pub takes_bytes : {s : Shape} {t : Tree} (text : List ℕ) → nullable s ≡ false → Spells s text t → 0 < length text
 takes_bytes {s = s} [] fills p = let empty : nullable s ≡ true = nullable_sound p.shaped [] p.spelled refl in absurd cc
 takes_bytes (b ∷ text) fills p = omega arith
 

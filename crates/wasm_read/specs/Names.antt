@@ -55,6 +55,14 @@ pub record EntryRead (row : Shape) (old : MapStanding) (tree : Tree) (new : MapS
   pub counts : new.left ≡ Some left
   pub len : new.len ≡ old.len
 
+-- An entry begins there, and its names are this map, of which nothing was read.
+pub record IndirectBegins (bytes : List ℕ) (index : ℕ) (names : MapStanding) (behind : List ℕ) : Type 0 where
+  pub entries : List Entry
+  pub body : List ℕ
+  pub fresh : names ≡ whole_map body
+  pub whole : NamesLeft names entries
+  pub begins : Begins plain_indirect bytes (outer_tree (record { index = index; names = entries })) behind
+
 -- An entry was read, and its names are this map, of which nothing was read.
 pub record IndirectRead (old : MapStanding) (index : ℕ) (names : MapStanding) (new : MapStanding) : Type 0 where
   pub entries : List Entry

@@ -1,5 +1,5 @@
 -- What the reader of name sections promises.
-use Rattle.std.specs.Prelude.{◌≡◌, ◌≢◌, ◌⊎◌, ℕ, ◌-◌, ◌≤◌, List, [], length}
+use Rattle.std.specs.Prelude.{◌≡◌, ◌≢◌, ◌⊎◌, ℕ, ◌≤◌, List, []}
 use Rattle.wasm_shapes.specs.declared.Space.{Space}
 use Rattle.wasm_shapes.specs.declared.Space.TheVariants as space
 use Rattle.wasm_shapes.specs.Tree.{Tree}
@@ -64,6 +64,13 @@ Holds id body (Content.direct j s m) = (id ≡ j) × (m ≡ whole_map body)
 Holds id body (Content.indirect j s m) = (id ≡ j) × (m ≡ whole_map body)
 Holds id body (Content.raw j c) = (id ≡ j) × (12 ≤ j) × (c ≡ body)
 
+-- A subsection's frame begins there, and these bytes are left behind it.
+pub record NameBegins (bytes : List ℕ) (n : Name) (behind : List ℕ) : Type 0 where
+  pub id : ℕ
+  pub body : List ℕ
+  pub begins : Begins subsection_frame bytes (subsection_frame_tree id body) behind
+  pub holds : Holds id body (content_of n)
+
 -- The frame of a subsection was read, and the reader stands behind it.
 pub record NameRead (old : NamesStanding) (n : Name) (new : NamesStanding) : Type 0 where
   pub id : ℕ
@@ -72,9 +79,14 @@ pub record NameRead (old : NamesStanding) (n : Name) (new : NamesStanding) : Typ
   pub holds : Holds id body (content_of n)
   pub len : new.len ≡ old.len
 
--- No frame begins there, or one of the id 0 whose body is no name; and so no subsection begins.
+-- no frame begins there, or one of the id 0 whose body is no name
+abbrev pub NoSubsection : List ℕ → Type 0
+NoSubsection bytes =
+    BeginsNone subsection_frame bytes
+    ⊎ ((body left : List ℕ) × Begins subsection_frame bytes (subsection_frame_tree 0 body) left × ((t : Tree) → Spells Shape.name body t → ⊥))
+
+-- Neither stands where bytes are left; and so no subsection begins.
 pub record NameMissing (old : NamesStanding) : Type 0 where
   pub some : old.rest ≢ []
-  pub here : BeginsNone subsection_frame old.rest
-      ⊎ ((body left : List ℕ) × Begins subsection_frame old.rest (subsection_frame_tree 0 body) left × ((t : Tree) → Spells Shape.name body t → ⊥))
+  pub here : NoSubsection old.rest
   pub none : BeginsNone name_subsection old.rest

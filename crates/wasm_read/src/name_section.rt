@@ -1,9 +1,13 @@
 //! Name sections (WebAssembly Core Specification 3.0, section 7.4.1).
 ghost use Rattle.std.specs.Prelude.{◌≡◌, [], IfOk, IfErr, IfSome, IfNone, length};
+ghost use Rattle.wasm_shapes.specs.Shape.{Shape};
+ghost use Rattle.wasm_shapes.specs.Spells.{Spells};
+ghost use Rattle.wasm_shapes.specs.Tree.{Tree};
 ghost use Rattle.wasm_read.specs.Names.{names_place};
-ghost use Rattle.wasm_read.specs.Subsections.{NameRead, NameMissing};
+ghost use Rattle.wasm_read.specs.Subsections.{content_of, Holds, NameBegins, NoSubsection, NameRead, NameMissing};
 ghost use Rattle.wasm_read.specs.Reading.{ReadsNone};
 
+use crate::fields::front_name;
 use crate::names::{IndirectNameMap, NameMap};
 use crate::payloads::front_sized;
 use crate::types::Name;
@@ -24,6 +28,61 @@ impl<'a> Model for NameSectionReader<'a> {
     ghost Value = { NamesStanding };
 
     ghost view = { λ reader. record { rest = reader.rest.now; len = reader.len } };
+}
+
+/// The name that fills some bytes.
+fn whole_name(bytes: &[u8]) -> Option<&str>
+    ensures some { IfSome result (λ name. Spells Shape.name bytes.now (Tree.name name.now)) }
+    ensures none { IfNone result ((t : Tree) → Spells Shape.name bytes.now t → ⊥) }
+{
+    match front_name(bytes) {
+        Some((name, [])) => Some(name),
+        Some(_) => None,
+        None => None,
+    }
+}
+
+/// What the body of a subsection of an id is; none exactly where the id is 0 and the body is no name.
+fn name_of(id: u8, body: &[u8]) -> Option<Name<'_>>
+    ensures some { IfSome result (λ name. Holds id body.now (content_of name)) }
+    ensures none { IfNone result
+        ((id ≡ 0) × ((t : Tree) → Spells Shape.name body.now t → ⊥)) }
+{
+    match id {
+        0 => match whole_name(body) {
+            Some(name) => Some(Name::Module { name }),
+            None => None,
+        },
+        1 => Some(Name::Function(NameMap::new(body))),
+        2 => Some(Name::Local(IndirectNameMap::new(body))),
+        3 => Some(Name::Label(IndirectNameMap::new(body))),
+        4 => Some(Name::Type_(NameMap::new(body))),
+        5 => Some(Name::Table(NameMap::new(body))),
+        6 => Some(Name::Memory(NameMap::new(body))),
+        7 => Some(Name::Global(NameMap::new(body))),
+        8 => Some(Name::Element(NameMap::new(body))),
+        9 => Some(Name::Data(NameMap::new(body))),
+        10 => Some(Name::Field(IndirectNameMap::new(body))),
+        11 => Some(Name::Tag(NameMap::new(body))),
+        _ => Some(Name::Unknown { id, contents: body }),
+    }
+}
+
+/// The subsection at the front of some bytes, and the bytes behind it.
+fn front_subsection(bytes: &[u8]) -> Option<(Name<'_>, &[u8])>
+    ensures some { IfSome result (λ r. NameBegins bytes.now r.0 r.1.now) }
+    ensures none { IfNone result (NoSubsection bytes.now) }
+{
+    let Some((id, rest)) = front_byte(bytes) else {
+        return None;
+    };
+    let Some((body, rest)) = front_sized(rest) else {
+        return None;
+    };
+    match name_of(id, body) {
+        Some(name) => Some((name, rest)),
+        None => None,
+    }
 }
 
 impl<'a> NameSectionReader<'a> {
@@ -58,6 +117,15 @@ impl<'a> NameSectionReader<'a> {
             ReadsNone e (names_place self.old) (NameMissing self.old)) }
         ensures stays { IfErr result (λ _. self.new ≡ self.old) }
     {
-        Err(Fault::Read(ReadError { at: self.place() }))
+        if self.rest.is_empty() {
+            return Ok(None);
+        }
+        match front_subsection(self.rest) {
+            Some((name, rest)) => {
+                self.rest = rest;
+                Ok(Some(name))
+            }
+            None => Err(Fault::Read(ReadError { at: self.place() })),
+        }
     }
 }
