@@ -45,7 +45,7 @@ row_at (Shape.or a b) zero = a
 row_at (Shape.or a b) (suc k) = row_at b k
 row_at _ k = Shape.none
 
-row_is : (s : Shape) (k : ℕ) {t : Tree} → Is (row_at s k) t → Is s (Tree.row k t)
+pub row_is : (s : Shape) (k : ℕ) {t : Tree} → Is (row_at s k) t → Is s (Tree.row k t)
 row_is (Shape.or a b) zero d = Is.first d
 row_is (Shape.or a b) (suc k) d = Is.later (row_is b k d)
 row_is _ k d = elim d [ ]

@@ -6,6 +6,7 @@ pub mod Fronts
 pub mod SectionTable
 pub mod Laws
 pub mod Lists
+pub mod Namings
 pub mod OperatorRows
 pub mod Operations
 pub mod OwnAnswers

@@ -14,3 +14,4 @@ pub mod HoldingBodies
 pub mod SmallCounts
 pub mod InitRows
 pub mod DataRows
+pub mod NameRows

@@ -1,21 +1,28 @@
 //! Name sections, as they are written (WebAssembly Core Specification 3.0, section 7.4.1).
-ghost use Rattle.std.specs.Prelude.{◌≡◌, ◌++◌, ◌-◌, ◌^◌, ◌<◌, ◌≤◌, ◌⊎◌, [], refl, length, take, vec_len, OnOk, OnErr, IfErr};
+ghost use Rattle.std.specs.Prelude.{◌≡◌, ◌++◌, ◌∷◌, ◌-◌, ◌^◌, ◌<◌, ◌≤◌, ◌⊎◌, [], refl, length, take, vec_len, OnOk, OnErr, IfErr};
 ghost use Rattle.std.proofs.Common.{lit≤};
+ghost use Rattle.wasm_leb.specs.Leb.{leb};
 ghost use Rattle.wasm_shapes.specs.declared.Space.TheVariants as space;
 ghost use Rattle.wasm_shapes.specs.Tree.{Tree, normal};
+ghost use Rattle.wasm_shapes.specs.Shape.{Shape};
 ghost use Rattle.wasm_shapes.specs.Types.{vector_tree};
-ghost use Rattle.wasm_shapes.specs.Module.{name_subsection};
+ghost use Rattle.wasm_shapes.specs.Module.{name_subsection, subsection};
 ghost use Rattle.wasm_shapes.specs.Namings.{module_name_tree, names_tree, raw_names_tree};
+ghost use Rattle.wasm_shapes.proofs.Begins.{row_at};
 ghost use Rattle.wasm_write.specs.Bodies.{with_row};
 ghost use Rattle.wasm_write.specs.Faults.{IfTooLarge};
-ghost use Rattle.wasm_write.specs.Names.{HeldMany, HeldMany-prop, PassesCeiling, name_section_tree, NamesSpell};
+ghost use Rattle.wasm_write.specs.Names.{HeldMany, HeldMany-prop, PassesCeiling, name_section_tree, NamesSpell, behind, HasSubsection, GainsSubsection};
 
 use crate::fault::WriteFault;
-use crate::names::{IndirectNameMap, NameMap};
+use crate::fields::write_behind;
+use crate::immediates::write_bytes;
+use crate::names::{Entries, IndirectNameMap, MapKind, NameMap};
 use crate::section::Section;
+use crate::types_write::write_byte;
 use std::alloc::Global;
 use std::marker::Model;
-use wasm_leb::NoMemory;
+use wasm_leb::{NoMemory, len_u32, write_u32};
+use wasm_shapes::Space;
 
 /// A name section: a custom section of the name `name`.
 ///
@@ -37,6 +44,88 @@ impl Model for NameSection {
     ghost coded = { code_rows_code };
 
     ghost view = { λ s. record { ceiling = s.ceiling; rows = held_many name_subsection s.bytes.items s.held } };
+}
+
+/// Appends a subsection: its id, its length, and its body, which is bytes behind a number, if there is one. Where memory is
+/// wanting it is a part of that.
+fn write_subsection(
+    out: &mut Vec<u8>,
+    id: u8,
+    size: u32,
+    number: Option<u32>,
+    bytes: &[u8],
+) -> Result<(), NoMemory>
+    ensures ok { OnOk result
+        (out.new.items ≡ out.old.items ++ (id ∷ (leb size ++ behind number bytes.now))) }
+    ensures err { OnErr result (take (vec_len out.old) out.new.items ≡ out.old.items) }
+{
+    match write_byte(out, id) {
+        Ok(()) => {}
+        Err(NoMemory) => return Err(NoMemory),
+    }
+    match write_u32(out, size) {
+        Ok(()) => {}
+        Err(NoMemory) => return Err(NoMemory),
+    }
+    match number {
+        Some(n) => write_behind(out, n, bytes),
+        None => write_bytes(out, bytes),
+    }
+}
+
+/// How many bytes a number and others behind it are.
+fn len_behind(number: Option<u32>, bytes: &[u8]) -> usize
+    ensures { result ≡ length (behind number bytes.now) }
+{
+    match number {
+        Some(n) => len_u32(n) + bytes.len(),
+        None => bytes.len(),
+    }
+}
+
+impl NameSection {
+    /// Adds a subsection whose body is these bytes behind a number, if there is one. A refusal changes nothing.
+    fn add(&mut self, id: u8, number: Option<u32>, bytes: &[u8]) -> Result<(), WriteFault>
+        requires { HasSubsection id (behind number bytes.now) }
+        ensures ok { OnOk result
+            (GainsSubsection self.old id (behind number bytes.now) self.new) }
+        ensures fits { OnOk result (length (behind number bytes.now) ≤ self.old.ceiling) }
+        ensures err { OnErr result (self.new ≡ self.old) }
+        ensures large { IfErr result (λ e. IfTooLarge e (λ size.
+            (size ≡ length (behind number bytes.now)) × (self.old.ceiling < size))) }
+    {
+        let size = len_behind(number, bytes) as u64;
+        if size > u64::from(self.ceiling) {
+            return Err(WriteFault::TooLarge { size });
+        }
+        let len = self.bytes.len();
+        match write_subsection(&mut self.bytes, id, size as u32, number, bytes) {
+            Ok(()) => Ok(()),
+            Err(NoMemory) => {
+                self.bytes.truncate(len);
+                Err(WriteFault::NoMemory)
+            }
+        }
+    }
+
+    /// Adds a map whose indices are those of a space.
+    fn add_map<K: MapKind>(
+        &mut self,
+        id: u8,
+        space: Space,
+        map: &Entries<K>,
+    ) -> Result<(), WriteFault>
+        requires { row_at name_subsection id
+            ≡ subsection id (Shape.vec (Shape.seq (Shape.ix space) K.named)) }
+        ensures ok { OnOk result (self.new ≡ with_row self.old (names_tree id space map.now)) }
+        ensures fits { OnOk result (length (normal (vector_tree map.now)) ≤ self.old.ceiling) }
+        ensures err { OnErr result (self.new ≡ self.old) }
+        ensures large { IfErr result (λ e. IfTooLarge e
+            (PassesCeiling self.old.ceiling (vector_tree map.now))) }
+    {
+        let (count, bytes) = map.as_parts();
+        self.add(id, Some(count), bytes)
+    }
 }
 
 impl NameSection {
@@ -62,7 +151,11 @@ impl NameSection {
             ((size ≡ length name.now) × (2 ^ 32 - 1 < size))
             ⊎ PassesCeiling self.old.ceiling (Tree.name name.now) size)) }
     {
-        Err(WriteFault::NoMemory)
+        let size = name.len();
+        if size > u32::MAX as usize {
+            return Err(WriteFault::TooLarge { size: size as u64 });
+        }
+        self.add(0, Some(size as u32), name.as_bytes())
     }
 
     /// Adds the names of functions. A refusal changes nothing: see `module`.
@@ -74,7 +167,7 @@ impl NameSection {
         ensures large { IfErr result (λ e. IfTooLarge e
             (PassesCeiling self.old.ceiling (vector_tree map.now))) }
     {
-        Err(WriteFault::NoMemory)
+        self.add_map(1, Space::Function, &map.entries)
     }
 
     /// Adds the names of types. A refusal changes nothing: see `module`.
@@ -86,7 +179,7 @@ impl NameSection {
         ensures large { IfErr result (λ e. IfTooLarge e
             (PassesCeiling self.old.ceiling (vector_tree map.now))) }
     {
-        Err(WriteFault::NoMemory)
+        self.add_map(4, Space::Type_, &map.entries)
     }
 
     /// Adds the names of tables. A refusal changes nothing: see `module`.
@@ -98,7 +191,7 @@ impl NameSection {
         ensures large { IfErr result (λ e. IfTooLarge e
             (PassesCeiling self.old.ceiling (vector_tree map.now))) }
     {
-        Err(WriteFault::NoMemory)
+        self.add_map(5, Space::Table, &map.entries)
     }
 
     /// Adds the names of memories. A refusal changes nothing: see `module`.
@@ -110,7 +203,7 @@ impl NameSection {
         ensures large { IfErr result (λ e. IfTooLarge e
             (PassesCeiling self.old.ceiling (vector_tree map.now))) }
     {
-        Err(WriteFault::NoMemory)
+        self.add_map(6, Space::Memory, &map.entries)
     }
 
     /// Adds the names of globals. A refusal changes nothing: see `module`.
@@ -122,7 +215,7 @@ impl NameSection {
         ensures large { IfErr result (λ e. IfTooLarge e
             (PassesCeiling self.old.ceiling (vector_tree map.now))) }
     {
-        Err(WriteFault::NoMemory)
+        self.add_map(7, Space::Global, &map.entries)
     }
 
     /// Adds the names of element segments. A refusal changes nothing: see `module`.
@@ -134,7 +227,7 @@ impl NameSection {
         ensures large { IfErr result (λ e. IfTooLarge e
             (PassesCeiling self.old.ceiling (vector_tree map.now))) }
     {
-        Err(WriteFault::NoMemory)
+        self.add_map(8, Space::Element, &map.entries)
     }
 
     /// Adds the names of data segments. A refusal changes nothing: see `module`.
@@ -146,7 +239,7 @@ impl NameSection {
         ensures large { IfErr result (λ e. IfTooLarge e
             (PassesCeiling self.old.ceiling (vector_tree map.now))) }
     {
-        Err(WriteFault::NoMemory)
+        self.add_map(9, Space::Data, &map.entries)
     }
 
     /// Adds the names of tags. A refusal changes nothing: see `module`.
@@ -158,7 +251,7 @@ impl NameSection {
         ensures large { IfErr result (λ e. IfTooLarge e
             (PassesCeiling self.old.ceiling (vector_tree map.now))) }
     {
-        Err(WriteFault::NoMemory)
+        self.add_map(11, Space::Tag, &map.entries)
     }
 
     /// Adds the names of locals, by their functions. A refusal changes nothing: see `module`.
@@ -170,7 +263,7 @@ impl NameSection {
         ensures large { IfErr result (λ e. IfTooLarge e
             (PassesCeiling self.old.ceiling (vector_tree map.now))) }
     {
-        Err(WriteFault::NoMemory)
+        self.add_map(2, Space::Function, &map.entries)
     }
 
     /// Adds the names of labels, by their functions. A refusal changes nothing: see `module`.
@@ -182,7 +275,7 @@ impl NameSection {
         ensures large { IfErr result (λ e. IfTooLarge e
             (PassesCeiling self.old.ceiling (vector_tree map.now))) }
     {
-        Err(WriteFault::NoMemory)
+        self.add_map(3, Space::Function, &map.entries)
     }
 
     /// Adds the names of fields, by their types. A refusal changes nothing: see `module`.
@@ -194,7 +287,7 @@ impl NameSection {
         ensures large { IfErr result (λ e. IfTooLarge e
             (PassesCeiling self.old.ceiling (vector_tree map.now))) }
     {
-        Err(WriteFault::NoMemory)
+        self.add_map(10, Space::Type_, &map.entries)
     }
 
     /// Adds a subsection of an id from 12 on, by its bytes. A refusal changes nothing: see `module`.
@@ -206,7 +299,7 @@ impl NameSection {
         ensures large { IfErr result (λ e. IfTooLarge e
             (PassesCeiling self.old.ceiling (Tree.raw contents.now))) }
     {
-        Err(WriteFault::NoMemory)
+        self.add(id, None, contents)
     }
 }
 
@@ -228,6 +321,13 @@ impl Section for NameSection {
         ensures err { OnErr result (take (vec_len out.old) out.new.items ≡ out.old.items) }
         ensures spells { OnOk result (NamesSpell self.now.rows) }
     {
-        Err(NoMemory)
+        match write_behind(out, 4, b"name") {
+            Ok(()) => {}
+            Err(NoMemory) => return Err(NoMemory),
+        }
+        match write_bytes(out, &self.bytes) {
+            Ok(()) => Ok(()),
+            Err(NoMemory) => Err(NoMemory),
+        }
     }
 }
