@@ -2,6 +2,8 @@ pub mod Usual
 pub mod Known
 pub mod Counts
 pub mod RowLoop
+pub mod NameWalks
+pub mod NameCalls
 pub mod EachItem
 pub mod EachRow
 pub mod OneSection
