@@ -25,3 +25,8 @@ pub mod EachSection
 pub mod EachBody
 pub mod Passing
 pub mod Runs
+pub mod ManyLoop
+pub mod InFrame
+pub mod NamesLoop
+pub mod CustomSection
+pub mod Subsections
