@@ -3,8 +3,10 @@
 
 mod behind;
 mod below;
+mod stripper;
 mod widened;
 
 pub use behind::{Behind, TooMany, move_behind};
 pub use below::{Below, NotBelow, check_below};
+pub use stripper::{Stripper, strip};
 pub use widened::Widened;

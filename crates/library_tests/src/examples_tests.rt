@@ -1,5 +1,5 @@
 //! The examples, run.
-use examples::{NotBelow, TooMany, Widened, check_below, move_behind};
+use examples::{NotBelow, TooMany, Widened, check_below, move_behind, strip};
 use reencode_core::reencode_core;
 use reencode_hooks::Error;
 use std::convert::Infallible;
@@ -50,5 +50,23 @@ fn types_are_widened(rt: HostRuntime) -> Result<(), Error<Infallible>> {
     wide[16] = 0x7e;
     let bytes = reencode_core(rt.alloc(), &mut Widened, &ADDS, u32::MAX)?;
     assert!(rt; bytes.as_slice() == wide.as_slice());
+    Ok(())
+}
+
+/// A module of a custom section `x`, a start section and a name section.
+const NAMED: [u8; 29] = [
+    0x00, 0x61, 0x73, 0x6d, 0x01, 0x00, 0x00, 0x00, 0x00, 0x03, 0x01, 0x78, 0xff, 0x08, 0x01, 0x00,
+    0x00, 0x0b, 0x04, 0x6e, 0x61, 0x6d, 0x65, 0x01, 0x04, 0x01, 0x00, 0x01, 0x66,
+];
+
+#[test]
+fn names_are_stripped(rt: HostRuntime) -> Result<(), Error<Infallible>> {
+    let bytes = strip(rt.alloc(), &NAMED, false)?;
+    assert!(rt; bytes.as_slice() == &NAMED[..16]);
+    let bytes = strip(rt.alloc(), &NAMED, true)?;
+    let bare = [
+        0x00, 0x61, 0x73, 0x6d, 0x01, 0x00, 0x00, 0x00, 0x08, 0x01, 0x00,
+    ];
+    assert!(rt; bytes.as_slice() == bare.as_slice());
     Ok(())
 }

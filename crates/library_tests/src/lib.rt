@@ -13,6 +13,8 @@ mod items_tests;
 #[cfg(test)]
 mod leb_tests;
 #[cfg(test)]
+mod names_tests;
+#[cfg(test)]
 mod read_tests;
 #[cfg(test)]
 mod shapes_tests;

@@ -95,6 +95,36 @@ impl Reencode for Noter<First> {
         Ok(())
     }
 
+    fn parse_custom_section(
+        &mut self,
+        _alloc: Global,
+        _module: &mut w::Module,
+        _section: r::CustomSection<'_>,
+    ) -> Made<()> {
+        self.note("parse_custom_section");
+        Ok(())
+    }
+
+    fn parse_unknown_section(
+        &mut self,
+        _module: &mut w::Module,
+        _id: u8,
+        _contents: &[u8],
+    ) -> Made<()> {
+        self.note("parse_unknown_section");
+        Ok(())
+    }
+
+    fn parse_custom_name_subsection(
+        &mut self,
+        _alloc: Global,
+        _sink: &mut w::NameSection,
+        _row: r::Name<'_>,
+    ) -> Made<()> {
+        self.note("parse_custom_name_subsection");
+        Ok(())
+    }
+
     fn parse_recursive_type_group(
         &mut self,
         alloc: Global,

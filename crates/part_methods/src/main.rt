@@ -4,6 +4,7 @@
 
 mod first;
 mod items;
+mod names;
 mod noter;
 mod rows;
 mod second;
@@ -20,6 +21,7 @@ use std::io;
 /// What is asked where parts are overridden.
 fn by_parts(alloc: Global, of: &mut Noter<First>) -> Made<()> {
     rows::modules(of, alloc)?;
+    names::sections(of, alloc)?;
     rows::sections(of, alloc)?;
     rows::more_sections(of, alloc)?;
     rows::last_sections(of, alloc)?;
@@ -41,7 +43,11 @@ fn by_wholes(alloc: Global, of: &mut Noter<Second>) -> Made<()> {
     rows::more_rows(of, alloc)?;
     rows::imports(of, alloc)?;
     items::composites(of, alloc)?;
-    items::parts(of, alloc)
+    items::parts(of, alloc)?;
+    names::custom(of, alloc)?;
+    names::maps(of, alloc)?;
+    names::more_maps(of, alloc)?;
+    names::indirect_maps(of, alloc)
 }
 
 /// What is asked where others are overridden.

@@ -225,4 +225,17 @@ impl Reencode for Noter<Second> {
     ) -> Made<w::Function> {
         noted!(self, new_function_with_parsed_locals(alloc, func))
     }
+
+    fn custom_section<'a>(&mut self, section: r::CustomSection<'a>) -> Made<w::CustomSection<'a>> {
+        noted!(self, custom_section(section))
+    }
+
+    fn custom_name_section(
+        &mut self,
+        alloc: Global,
+        section: r::NameSectionReader<'_>,
+        ceiling: u32,
+    ) -> Made<w::NameSection> {
+        noted!(self, custom_name_section(alloc, section, ceiling))
+    }
 }

@@ -2,6 +2,8 @@ pub mod Usual
 pub mod Known
 pub mod Counts
 pub mod RowLoop
+pub mod NameWalks
+pub mod NameCalls
 pub mod EachItem
 pub mod EachRow
 pub mod OneSection
@@ -23,3 +25,8 @@ pub mod EachSection
 pub mod EachBody
 pub mod Passing
 pub mod Runs
+pub mod ManyLoop
+pub mod InFrame
+pub mod NamesLoop
+pub mod CustomSection
+pub mod Subsections

@@ -6,7 +6,8 @@ use Rattle.std.specs.List.{FoldsTo}
 use Rattle.wasm_shapes.specs.Shape.{Shape}
 use Rattle.wasm_shapes.specs.Tree.{Tree}
 use Rattle.wasm_shapes.specs.Types.{rows_tree}
-use Rattle.wasm_read.specs.Names.{MapStanding, EntryRead, EntriesLeft}
+use Rattle.wasm_shapes.specs.Namings.{Entry, entries_trees}
+use Rattle.wasm_read.specs.Names.{MapStanding, EntryRead, EntriesLeft, NamesLeft}
 use Rattle.reencode_hooks.specs.declared.error.Error.{Error}
 use Rattle.reencode_hooks.specs.declared.error.Error.TheVariants.{ParseError, NoMemory}
 
@@ -16,7 +17,7 @@ pub record Asked : Type 0 where
   pub named : Tree
   pub answer : ℕ
 
-abbrev entry_of : ℕ → Tree → Tree
+abbrev pub entry_of : ℕ → Tree → Tree
 entry_of i t = Tree.pair (Tree.u32 i) t
 
 -- the entries that were asked for
@@ -80,3 +81,8 @@ pub record Stopped {F E : Type 0} (row : Shape) (step : F → ℕ → Result ℕ
 abbrev pub MapsEntries : {F E : Type 0} → Shape → (F → ℕ → Result ℕ (Error E) → F → Type 0) → MapStanding → F → F → Result (List Tree) (Error E) → Type 0
 MapsEntries row step m old new (Ok entries) = Mapped row step m old new entries
 MapsEntries row step m old new (Err e) = Stopped row step m old new e
+
+-- What a map that is whole became: its entries as they are; or memory is wanting.
+abbrev pub KeepsNames : {E : Type 0} → MapStanding → Result (List Tree) (Error E) → Type 0
+KeepsNames m (Ok trees) = (es : List Entry) → NamesLeft m es → trees ≡ entries_trees es
+KeepsNames m (Err e) = (es : List Entry) → NamesLeft m es → e ≡ NoMemory

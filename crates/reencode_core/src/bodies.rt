@@ -194,3 +194,40 @@ macro_rules! parse_core_module {
 }
 
 pub(crate) use parse_core_module;
+
+// Each subsection that the reader still has, one behind another.
+macro_rules! custom_name_section {
+    ($reencoder:ident, $alloc:ident, $section:ident, $ceiling:ident) => {{
+        let mut names = w::NameSection::new($alloc, $ceiling);
+        let mut rows = $section;
+        'rows: loop {
+            let at = rows.place();
+            match rows.next_row($alloc)? {
+                Some(name) => {
+                    match $reencoder.parse_custom_name_subsection($alloc, &mut names, name) {
+                        Ok(()) => {}
+                        Err(e) => return Err(placed(e, at)),
+                    }
+                }
+                None => return Ok(names),
+            }
+        }
+    }};
+}
+
+pub(crate) use custom_name_section;
+
+macro_rules! parse_custom_section {
+    ($reencoder:ident, $alloc:ident, $module:ident, $section:ident) => {{
+        if $section.name == "name" {
+            let rows = r::NameSectionReader::new($section.contents)?;
+            let names = $reencoder.custom_name_section($alloc, rows, $module.ceiling())?;
+            add_section($module, Ok(()), &names)
+        } else {
+            let section = $reencoder.custom_section($section)?;
+            add_section($module, Ok(()), &section)
+        }
+    }};
+}
+
+pub(crate) use parse_custom_section;

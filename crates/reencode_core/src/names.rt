@@ -1,7 +1,7 @@
 //! Walks over maps of names (WebAssembly Core Specification 3.0, section 7.4.1).
 ghost use Rattle.wasm_shapes.specs.Module.{plain_naming};
 ghost use Rattle.wasm_shapes.specs.Namings.{plain_indirect};
-ghost use Rattle.reencode_core.specs.NameMaps.{MapsEntries};
+ghost use Rattle.reencode_core.specs.NameMaps.{KeepsNames, MapsEntries};
 
 use reencode_hooks::Error;
 use std::alloc::Global;
@@ -20,7 +20,21 @@ pub fn map_names<E, F: FnMut(u32) -> Result<u32, Error<E>>>(
     requires { F.IsAlwaysCallable map_index.old }
     ensures { MapsEntries plain_naming F.step map.entry map_index.old map_index.new result }
 {
-    Err(Error::NoMemory)
+    let mut rest = map;
+    let mut mapped = w::NameMap::new(alloc);
+    'entries: loop {
+        match rest.next() {
+            Ok(Some(naming)) => match map_index(naming.index) {
+                Ok(index) => match mapped.append(index, naming.name) {
+                    Ok(()) => {}
+                    Err(fault) => return Err(Error::from(fault)),
+                },
+                Err(error) => return Err(error),
+            },
+            Ok(None) => return Ok(mapped),
+            Err(error) => return Err(Error::ParseError(error)),
+        }
+    }
 }
 
 /// The same as `map_names`, over a closure that is handed over.
@@ -36,6 +50,13 @@ pub fn name_map<E, F: FnMut(u32) -> Result<u32, Error<E>>>(
     map_names(alloc, map, &mut map_index)
 }
 
+/// The names that a map still has, as they are.
+fn kept<E>(alloc: Global, names: r::NameMap<'_>) -> Result<w::NameMap, Error<E>>
+    ensures { KeepsNames names.entry result }
+{
+    map_names(alloc, names, &mut |index| Ok(index))
+}
+
 /// A map of maps whose outer indices are the answers of `map_index`, which is called once for each entry that the map still
 /// has, in order. The inner maps are kept as they are.
 ///
@@ -48,7 +69,24 @@ pub fn map_indirect_names<E, F: FnMut(u32) -> Result<u32, Error<E>>>(
     requires { F.IsAlwaysCallable map_index.old }
     ensures { MapsEntries plain_indirect F.step map.entry map_index.old map_index.new result }
 {
-    Err(Error::NoMemory)
+    let mut rest = map;
+    let mut mapped = w::IndirectNameMap::new(alloc);
+    'entries: loop {
+        match rest.next() {
+            Ok(Some(r::IndirectNaming { index, names })) => match map_index(index) {
+                Ok(index) => match kept(alloc, names) {
+                    Ok(names) => match mapped.append(index, &names) {
+                        Ok(()) => {}
+                        Err(fault) => return Err(Error::from(fault)),
+                    },
+                    Err(error) => return Err(error),
+                },
+                Err(error) => return Err(error),
+            },
+            Ok(None) => return Ok(mapped),
+            Err(error) => return Err(Error::ParseError(error)),
+        }
+    }
 }
 
 /// The same as `map_indirect_names`, over a closure that is handed over.

@@ -1,5 +1,5 @@
 -- What the readers of maps of names promise.
-use Rattle.std.specs.Prelude.{◌≡◌, ℕ, ◌+◌, ◌-◌, List, [], length, Option, Some, None}
+use Rattle.std.specs.Prelude.{◌≡◌, ℕ, ◌+◌, ◌-◌, ◌^◌, ◌<◌, List, [], length, Option, Some, None}
 use Rattle.wasm_leb.specs.Place.{BeginsNumber}
 use Rattle.wasm_shapes.specs.Tree.{Tree}
 use Rattle.wasm_shapes.specs.Shape.{Shape}
@@ -51,6 +51,7 @@ pub record EntryRead (row : Shape) (old : MapStanding) (tree : Tree) (new : MapS
   pub left : ℕ
   pub bytes : List ℕ
   pub due : Due old (left + 1) bytes
+  pub fits : left + 1 < 2 ^ 32
   pub begins : Begins row bytes tree new.rest
   pub counts : new.left ≡ Some left
   pub len : new.len ≡ old.len

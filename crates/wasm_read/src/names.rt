@@ -1,5 +1,5 @@
 //! Maps from indices to names (WebAssembly Core Specification 3.0, section 7.4.1).
-ghost use Rattle.std.specs.Prelude.{◌≡◌, ◌+◌, List, refl, IfOk, IfErr, IfSome, IfNone};
+ghost use Rattle.std.specs.Prelude.{◌≡◌, ◌+◌, ◌^◌, ◌<◌, List, refl, IfOk, IfErr, IfSome, IfNone};
 ghost use Rattle.wasm_leb.specs.Place.{BeginsNumber, BeginsNoNumber};
 ghost use Rattle.wasm_shapes.specs.Module.{plain_naming};
 ghost use Rattle.wasm_shapes.specs.Namings.{Entry, entry_tree, outer_tree, plain_indirect};
@@ -65,6 +65,7 @@ impl<'a> Entries<'a> {
     /// The bytes where an entry is due, and the number of those behind it; or none at the end.
     fn due(&self) -> Result<Option<(u32, &'a [u8])>, ReadError>
         ensures due { IfOk result (λ o. IfSome o (λ r. Due self.now (r.0 + 1) r.1.now)) }
+        ensures fits { IfOk result (λ o. IfSome o (λ r. r.0 + 1 < 2 ^ 32)) }
         ensures ended { IfOk result (λ o. IfNone o (EntriesEnded self.now)) }
         ensures err { IfErr result (λ _. (row : Shape) → EntryMissing row self.now) }
         ensures at { IfErr result (λ e. e.at ≡ map_place self.now) }

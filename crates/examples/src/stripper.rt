@@ -1,0 +1,132 @@
+//! A name stripper: a reencoder that overrides what becomes of custom sections.
+//!
+//! Its author gives up `keeps_defaults`, and with it each clause `default` and `after_error` of every method. What is left is
+//! what the override says of itself, and the clauses that hold for every implementation: what comes out is whole sections.
+//! That the other sections come out as they went in is no longer said, though the methods that map them are the same.
+ghost use Rattle.std.specs.Prelude.{◌≡◌, List, OnOk, OnErr, IfOk};
+ghost use Rattle.wasm_shapes.specs.Tree.{normal};
+ghost use Rattle.wasm_read.specs.Types.{custom_tree};
+ghost use Rattle.wasm_write.specs.Sections.{SectionRow, section_row, with_section, module_bytes};
+ghost use Rattle.examples.specs.Stripper.{IsLeftOut};
+
+use reencode_core::Reencode;
+use reencode_hooks::{Error, ReencodeIndices};
+use reencode_items::ReencodeItems;
+use std::alloc::Global;
+use std::convert::Infallible;
+use wasm_read as r;
+use wasm_shapes::SectionId;
+use wasm_write as w;
+
+/// Answers every index as it is, and leaves out the name sections, or all custom sections.
+#[derive(Clone, Copy, Debug)]
+pub struct Stripper {
+    /// Whether all custom sections are left out.
+    pub all: bool,
+}
+
+impl ReencodeIndices for Stripper {
+    ghost use Rattle.std.specs.Prelude.{true, false, Ok, refl, []};
+    ghost use Rattle.reencode_hooks.specs.Hooks.{index_of, index_of-given};
+
+    type Error = Infallible;
+
+    ghost reply = { λ _ visit. Ok (index_of visit) };
+
+    ghost next = { λ s _. s };
+
+    ghost adds = { λ _ _ _. [] };
+
+    ghost keeps_defaults = { false };
+
+    ghost adds_nothing = { true };
+
+    ghost sure = { true };
+
+    ghost answers_ok = { λ _ visit h. index_of-given visit h };
+
+    ghost adds_ok = { λ _ _ _ _. refl };
+
+    fn data_index(&mut self, index: u32) -> Result<u32, Error<Infallible>> {
+        Ok(index)
+    }
+
+    fn element_index(&mut self, index: u32) -> Result<u32, Error<Infallible>> {
+        Ok(index)
+    }
+
+    fn function_index(&mut self, index: u32) -> Result<u32, Error<Infallible>> {
+        Ok(index)
+    }
+
+    fn global_index(&mut self, index: u32) -> Result<u32, Error<Infallible>> {
+        Ok(index)
+    }
+
+    fn memory_index(&mut self, index: u32) -> Result<u32, Error<Infallible>> {
+        Ok(index)
+    }
+
+    fn table_index(&mut self, index: u32) -> Result<u32, Error<Infallible>> {
+        Ok(index)
+    }
+
+    fn tag_index(&mut self, index: u32) -> Result<u32, Error<Infallible>> {
+        Ok(index)
+    }
+
+    fn type_index(&mut self, index: u32) -> Result<u32, Error<Infallible>> {
+        Ok(index)
+    }
+
+    fn data_count(&mut self, count: u32) -> Result<u32, Error<Infallible>> {
+        Ok(count)
+    }
+
+    fn intersperse_section_hook(
+        &mut self,
+        _module: &mut w::Module,
+        _after: Option<SectionId>,
+        _before: Option<SectionId>,
+    ) -> Result<(), Error<Infallible>> {
+        Ok(())
+    }
+}
+
+impl ReencodeItems for Stripper {}
+
+impl Reencode for Stripper {
+    /// Leaves the section out, or adds it as it is.
+    fn parse_custom_section(
+        &mut self,
+        _alloc: Global,
+        module: &mut w::Module,
+        section: r::CustomSection<'_>,
+    ) -> Result<(), Error<Infallible>>
+        ensures left_out { IsLeftOut self.old.all section.entry.name.now
+            → IfOk result (λ _. «module».new ≡ «module».old) }
+        ensures added { ¬ IsLeftOut self.old.all section.entry.name.now
+            → IfOk result (λ _. «module».new ≡ with_section «module».old
+            (section_row 0 (normal (custom_tree section.entry)))) }
+        ensures state { self.new ≡ self.old }
+    {
+        if self.all || section.name == "name" {
+            return Ok(());
+        }
+        module.section(&w::CustomSection {
+            name: section.name,
+            contents: section.contents,
+        })?;
+        Ok(())
+    }
+}
+
+/// The module without its name sections, or without all its custom sections: whole sections behind the header of a module.
+pub fn strip(alloc: Global, bytes: &[u8], all: bool) -> Result<Vec<u8>, Error<Infallible>>
+    ensures { IfOk result (λ out. (rows : List SectionRow) × (out.items ≡ module_bytes rows)) }
+{
+    let mut module = w::Module::new(alloc, u32::MAX)?;
+    let mut stripper = Stripper { all };
+    stripper.parse_core_module(alloc, &mut module, bytes)?;
+    Ok(module.finish())
+}

@@ -1,0 +1,254 @@
+//! Names: what is read, written and mapped, each call once.
+use reencode_core::{Reencode, indirect_name_map, map_indirect_names, map_names, name_map, utils};
+use reencode_hooks::{Error, Renamer, Unmapped};
+use std::alloc::Global;
+use wasm_leb::{Fault, NoMemory};
+use wasm_read as r;
+use wasm_shapes::Space;
+use wasm_write as w;
+use wasm_write::{Section, WriteFault};
+
+/// The contents of a name section: a name of the module, of a function and of a local, and a subsection of the id 12.
+const CONTENTS: [u8; 21] = [
+    0x00, 0x02, 0x01, 0x6d, 0x01, 0x04, 0x01, 0x00, 0x01, 0x66, 0x02, 0x06, 0x01, 0x00, 0x01, 0x07,
+    0x01, 0x78, 0x0c, 0x01, 0xff,
+];
+
+/// A map with the entries 5, `a` and 0, without a name.
+const NAMES: [u8; 6] = [0x02, 0x05, 0x01, 0x61, 0x00, 0x00];
+
+/// A map with the entry 3, the map of 9, `b`.
+const INDIRECT: [u8; 6] = [0x01, 0x03, 0x01, 0x09, 0x01, 0x62];
+
+#[test]
+fn subsections(rt: HostRuntime) -> Result<(), Fault> {
+    let alloc = rt.alloc();
+    let mut reader = r::NameSectionReader::new(&CONTENTS)?;
+    let mut kinds = 0;
+    while let Some(name) = reader.next_row(alloc)? {
+        kinds = kinds * 10
+            + match name {
+                r::Name::Module { name } if name == "m" => 1,
+                r::Name::Function(_) => 2,
+                r::Name::Local(_) => 3,
+                r::Name::Unknown { id: 12, contents } if contents == [0xff] => 4,
+                _ => 9,
+            };
+    }
+    assert_eq!(rt; kinds, 1234);
+    assert_eq!(rt; reader.place(), 21);
+    Ok(())
+}
+
+#[test]
+fn entries(rt: HostRuntime) {
+    let mut names = r::NameMap::new(&NAMES);
+    assert!(rt;
+        names.next()
+            == Ok(Some(r::Naming {
+                index: 5,
+                name: "a"
+            }))
+    );
+    assert!(rt; names.next() == Ok(Some(r::Naming { index: 0, name: "" })));
+    assert!(rt; names.next() == Ok(None));
+    assert!(rt; names.next() == Ok(None));
+    let mut outer = r::IndirectNameMap::new(&INDIRECT);
+    let inner = match outer.next() {
+        Ok(
+            Some(
+                r::IndirectNaming {
+                    index: 3,
+                    mut names,
+                },
+            ),
+        ) => names.next(),
+        _ => Ok(None),
+    };
+    assert!(rt;
+        inner
+            == Ok(Some(r::Naming {
+                index: 9,
+                name: "b"
+            }))
+    );
+    assert!(rt; matches!(outer.next(), Ok(None)));
+}
+
+/// A map with the entry 5, `a`.
+fn names(alloc: Global) -> Result<w::NameMap, WriteFault> {
+    let mut names = w::NameMap::new(alloc);
+    names.append(5, "a")?;
+    Ok(names)
+}
+
+/// A section with a subsection of each id up to 12.
+fn written(alloc: Global, ceiling: u32) -> Result<w::NameSection, WriteFault> {
+    let names = names(alloc)?;
+    let mut outer = w::IndirectNameMap::new(alloc);
+    outer.append(3, &names)?;
+    let mut section = w::NameSection::new(alloc, ceiling);
+    section.module("m")?;
+    section.functions(&names)?;
+    section.locals(&outer)?;
+    section.labels(&outer)?;
+    section.types(&names)?;
+    section.tables(&names)?;
+    section.memories(&names)?;
+    section.globals(&names)?;
+    section.elements(&names)?;
+    section.data_(&names)?;
+    section.fields(&outer)?;
+    section.tags(&names)?;
+    section.raw(12, &[0xff])?;
+    Ok(section)
+}
+
+#[test]
+fn name_sections(rt: HostRuntime) -> Result<(), WriteFault> {
+    let alloc = rt.alloc();
+    let mut out = Vec::new(alloc);
+    match names(alloc)?.encode(&mut out) {
+        Ok(()) => {}
+        Err(NoMemory) => return Err(WriteFault::NoMemory),
+    }
+    assert!(rt; out.as_slice() == [0x01, 0x05, 0x01, 0x61]);
+    let mut out = Vec::new(alloc);
+    let section = written(alloc, 6)?;
+    match section.encode_body(&mut out) {
+        Ok(()) => {}
+        Err(NoMemory) => return Err(WriteFault::NoMemory),
+    }
+    let wanted = [
+        0x04, 0x6e, 0x61, 0x6d, 0x65, 0x00, 0x02, 0x01, 0x6d, 0x01, 0x04, 0x01, 0x05, 0x01, 0x61,
+        0x02, 0x06, 0x01, 0x03, 0x01, 0x05, 0x01, 0x61, 0x03, 0x06, 0x01, 0x03, 0x01, 0x05, 0x01,
+        0x61, 0x04, 0x04, 0x01, 0x05, 0x01, 0x61, 0x05, 0x04, 0x01, 0x05, 0x01, 0x61, 0x06, 0x04,
+        0x01, 0x05, 0x01, 0x61, 0x07, 0x04, 0x01, 0x05, 0x01, 0x61, 0x08, 0x04, 0x01, 0x05, 0x01,
+        0x61, 0x09, 0x04, 0x01, 0x05, 0x01, 0x61, 0x0a, 0x06, 0x01, 0x03, 0x01, 0x05, 0x01, 0x61,
+        0x0b, 0x04, 0x01, 0x05, 0x01, 0x61, 0x0c, 0x01, 0xff,
+    ];
+    assert_eq!(rt; section.id(), 0);
+    assert!(rt; out.as_slice() == wanted);
+    let large = match written(alloc, 5) {
+        Err(WriteFault::TooLarge { size }) => size,
+        _ => 0,
+    };
+    assert_eq!(rt; large, 6);
+    Ok(())
+}
+
+/// The walks over maps: each index one more.
+fn mapped(alloc: Global) -> Result<Vec<u8>, Error<u32>> {
+    let mut out = Vec::new(alloc);
+    let one = name_map(
+        alloc,
+        r::NameMap::new(&NAMES),
+        |i: u32| Ok(i.wrapping_add(1)),
+    )?;
+    one.encode(&mut out)?;
+    let two = map_names(
+        alloc,
+        r::NameMap::new(&NAMES),
+        &mut |i: u32| Ok(i.wrapping_add(2)),
+    )?;
+    two.encode(&mut out)?;
+    let three = indirect_name_map(alloc, r::IndirectNameMap::new(&INDIRECT), |i: u32| {
+        Ok(i.wrapping_add(3))
+    })?;
+    let four = map_indirect_names(
+        alloc,
+        r::IndirectNameMap::new(&INDIRECT),
+        &mut |i: u32| { Ok(i.wrapping_add(4)) },
+    )?;
+    let mut section = w::NameSection::new(alloc, u32::MAX);
+    section.labels(&three)?;
+    section.labels(&four)?;
+    section.encode_body(&mut out)?;
+    Ok(out)
+}
+
+#[test]
+fn maps_by_closures(rt: HostRuntime) -> Result<(), Error<u32>> {
+    let out = mapped(rt.alloc())?;
+    let wanted = [
+        0x02, 0x06, 0x01, 0x61, 0x01, 0x00, 0x02, 0x07, 0x01, 0x61, 0x02, 0x00, 0x04, 0x6e, 0x61,
+        0x6d, 0x65, 0x03, 0x06, 0x01, 0x06, 0x01, 0x09, 0x01, 0x62, 0x03, 0x06, 0x01, 0x07, 0x01,
+        0x09, 0x01, 0x62,
+    ];
+    assert!(rt; out.as_slice() == wanted);
+    let refused = match name_map(rt.alloc(), r::NameMap::new(&NAMES), |i: u32| {
+        Err(Error::UserError(i))
+    }) {
+        Err(Error::UserError(5)) => true,
+        _ => false,
+    };
+    assert!(rt; refused);
+    Ok(())
+}
+
+/// Custom sections and one of the id 99 through the functions and the methods.
+fn custom<R: Reencode>(
+    reencoder: &mut R,
+    alloc: Global,
+    module: &mut w::Module,
+) -> Result<(), Error<R::Error>> {
+    let section = r::CustomSection {
+        name: "x",
+        contents: &[0xff],
+    };
+    module.section(&utils::custom_section(reencoder, section))?;
+    module.section(&reencoder.custom_section(section)?)?;
+    utils::parse_custom_section(reencoder, alloc, module, section)?;
+    reencoder.parse_custom_section(alloc, module, section)?;
+    utils::parse_unknown_section(reencoder, module, 99, &[0xaa])?;
+    reencoder.parse_unknown_section(module, 99, &[0xaa])?;
+    Ok(())
+}
+
+/// Name sections through the functions and the methods.
+fn named<R: Reencode>(
+    reencoder: &mut R,
+    alloc: Global,
+    module: &mut w::Module,
+) -> Result<(), Error<R::Error>> {
+    let reader = r::NameSectionReader::new(&CONTENTS)?;
+    module.section(&utils::custom_name_section(reencoder, alloc, reader, 6)?)?;
+    let reader = r::NameSectionReader::new(&CONTENTS)?;
+    module.section(&reencoder.custom_name_section(alloc, reader, 6)?)?;
+    let mut section = w::NameSection::new(alloc, 6);
+    let name = r::Name::Tag(r::NameMap::new(&NAMES));
+    utils::parse_custom_name_subsection(reencoder, alloc, &mut section, name)?;
+    let name = r::Name::Field(r::IndirectNameMap::new(&INDIRECT));
+    reencoder.parse_custom_name_subsection(alloc, &mut section, name)?;
+    module.section(&section)?;
+    Ok(())
+}
+
+#[test]
+fn functions_map_names(rt: HostRuntime) -> Result<(), Error<Unmapped>> {
+    let alloc = rt.alloc();
+    let mut renamer = Renamer::new(alloc);
+    renamer.set(Space::Function, 0, 2)?;
+    renamer.set(Space::Tag, 5, 1)?;
+    renamer.set(Space::Type_, 3, 4)?;
+    let mut module = w::Module::new(alloc, u32::MAX)?;
+    custom(&mut renamer, alloc, &mut module)?;
+    let wanted = [
+        0x00, 0x61, 0x73, 0x6d, 0x01, 0x00, 0x00, 0x00, 0x00, 0x03, 0x01, 0x78, 0xff, 0x00, 0x03,
+        0x01, 0x78, 0xff, 0x00, 0x03, 0x01, 0x78, 0xff, 0x00, 0x03, 0x01, 0x78, 0xff, 0x63, 0x01,
+        0xaa, 0x63, 0x01, 0xaa,
+    ];
+    assert!(rt; module.as_slice() == wanted);
+    let mut module = w::Module::new(alloc, u32::MAX)?;
+    named(&mut renamer, alloc, &mut module)?;
+    let wanted = [
+        0x00, 0x61, 0x73, 0x6d, 0x01, 0x00, 0x00, 0x00, 0x00, 0x1a, 0x04, 0x6e, 0x61, 0x6d, 0x65,
+        0x00, 0x02, 0x01, 0x6d, 0x01, 0x04, 0x01, 0x02, 0x01, 0x66, 0x02, 0x06, 0x01, 0x02, 0x01,
+        0x07, 0x01, 0x78, 0x0c, 0x01, 0xff, 0x00, 0x1a, 0x04, 0x6e, 0x61, 0x6d, 0x65, 0x00, 0x02,
+        0x01, 0x6d, 0x01, 0x04, 0x01, 0x02, 0x01, 0x66, 0x02, 0x06, 0x01, 0x02, 0x01, 0x07, 0x01,
+        0x78, 0x0c, 0x01, 0xff, 0x00, 0x15, 0x04, 0x6e, 0x61, 0x6d, 0x65, 0x0b, 0x06, 0x02, 0x01,
+        0x01, 0x61, 0x00, 0x00, 0x0a, 0x06, 0x01, 0x04, 0x01, 0x09, 0x01, 0x62,
+    ];
+    assert!(rt; module.as_slice() == wanted);
+    Ok(())
+}

@@ -1,0 +1,370 @@
+-- From the calls of a closure over a reencoder to the walk of the reencoder over a map.
+--
+-- `see f` is the reencoder that the closure f holds, and `name f` the name of its reference. A call of the closure answers what
+-- `asked` gives at an index of the space, and keeps the name: that is `one`. The entries of the map are an index, and behind it
+-- `body`, which asks nothing.
+use Rattle.std.proofs.Common.{◌≡◌, ◌≢◌, ℕ, suc, ◌+◌, ◌<◌, ◌⊎◌, Option, Some, None, List, [], ◌∷◌, ◌++◌, length, map, true, Result, Ok, Err, IfOk, IfErr, refl, sym, ap, subst, ◌∙◌, append_assoc, inl, inr, arith}
+use Rattle.std.proofs.lemmas.List.{length-map}
+use Rattle.wasm_shapes.specs.declared.Space.{Space}
+use Rattle.wasm_shapes.specs.declared.Visit.{Visit}
+use Rattle.wasm_shapes.specs.declared.Visit.TheVariants.{Index}
+use Rattle.wasm_shapes.specs.Tree.{Tree, visits}
+use Rattle.wasm_shapes.specs.Shape.{Shape, closed}
+use Rattle.wasm_shapes.specs.Sound.{sound}
+use Rattle.wasm_shapes.specs.Spells.{Is, Spelled}
+use Rattle.wasm_shapes.specs.Place.{Begins}
+use Rattle.wasm_shapes.specs.Rows.{rows_then}
+use Rattle.wasm_shapes.specs.Types.{rows_tree, vector_tree}
+use Rattle.wasm_shapes.specs.Module.{plain_naming}
+use Rattle.wasm_shapes.specs.Namings.{asked_in}
+use Rattle.wasm_read.specs.Names.{MapStanding, Due, DueFrom, EntriesLeft, EntryRead}
+use Rattle.wasm_read.proofs.NameMaps.{plain_row, asked_row, due_one, left_less, left_one, lists_one}
+use Rattle.reencode_hooks.specs.declared.error.Error.{Error}
+use Rattle.reencode_hooks.specs.declared.error.Error.TheVariants.{ParseError, NoMemory}
+use Rattle.reencode_hooks.specs.Run.{Step, accepted, refused, and_then, run, Gives, Visited, LeavesVisited}
+use Rattle.reencode_hooks.specs.Walk.{walk}
+use Rattle.reencode_items.proofs.Leaving.{accepted_visited, first_visited, refused_visited}
+use Rattle.reencode_core.specs.Errors.{IfParse, IfRefused}
+use Rattle.reencode_core.specs.Rows.{Asks, AcceptsRows, RowsBefore, Further, StopsEach, onto_rows}
+use Rattle.reencode_core.specs.NameMaps.{Asked, entry_of, entries_of, renamed, IsParseError, Calls, ReadTo, CallRefused, Unread, Wants, Stopped, MapsEntries}
+use Rattle.reencode_core.proofs.NameWalks.{left_front}
+use Rattle.reencode_core.proofs.Usual.{Usual, stops_usual, unless_wanting}
+
+-- ---- what the lemmas give
+
+-- In what a map still has entries stand and were accepted, and the next one, which is due, stands whole and is refused.
+pub record StopsDue {S E : Type 0} (asked : Asks S E) (c : ℕ) (item : Shape) (m : MapStanding) (s : S) (e : Error E) (k : S) : Type 0 where
+  pub count : ℕ
+  pub start : List ℕ
+  pub due : Due m count start
+  pub stops : StopsEach asked c item start s e k
+  pub more : length stops.read < count
+
+-- What the calls were is what the walk of the entries gives, with their indices asked for.
+pub record GivesMap {S E : Type 0} (asked : Asks S E) (c : ℕ) (p : Space) (body : Shape) (m : MapStanding) (s k : S) (result : Result (List Tree) (Error E)) : Type 0 where
+  pub reading : (ts : List Tree) → EntriesLeft (plain_row body) m (rows_tree ts) →
+      Gives (walk asked c s (vector_tree (map (asked_in p) ts))) (λ es. vector_tree (map (asked_in p) es)) k result
+  pub readable : IfOk result (λ _. (ts : List Tree) × EntriesLeft (plain_row body) m (rows_tree ts))
+  pub unreadable : IfErr result (λ e. IfParse e (λ at. ((rows : Tree) → EntriesLeft (plain_row body) m rows → ⊥) × Further asked s k))
+  pub refusal : IfErr result (λ e. IfRefused e (StopsDue asked c (asked_row p body) m s e k))
+
+-- What stands behind the index of an entry asks nothing, and such entries are told apart.
+pub record Quiet {S E : Type 0} (asked : Asks S E) (body : Shape) : Type 0 where
+  pub passes : sound (plain_row body) ≡ true
+  pub ends : closed (plain_row body) ≡ true
+  pub walks : (c : ℕ) (s : S) (t : Tree) → Is body t → walk asked c s t ≡ accepted t s
+
+-- ---- what asks nothing
+
+module _ {S E : Type 0} (asked : Asks S E) where
+  name_walks : (c : ℕ) (s : S) (t : Tree) → Is Shape.name t → walk asked c s t ≡ accepted t s
+  name_walks c s t Is.name = refl
+
+  naming_walks : (c : ℕ) (s : S) (t : Tree) → Is plain_naming t → walk asked c s t ≡ accepted t s
+  naming_walks c s t (Is.seq Is.u32 Is.name) = refl
+
+  namings_walk : (c : ℕ) (s : S) (t : Tree) → Is (Shape.many plain_naming) t → walk asked c s t ≡ accepted t s
+  namings_walk c s t Is.nil = refl
+  namings_walk c s t (Is.cons {t = x} {u = u} d d') =
+      let first = naming_walks c s x d in
+      let others = namings_walk c s u d' in
+      rw (first, others) refl
+
+  map_walks : (c : ℕ) (s : S) (t : Tree) → Is (Shape.vec plain_naming) t → walk asked c s t ≡ accepted t s
+  map_walks c s t (Is.vec {t = u} d) = let rows = namings_walk c s u d in rw rows refl
+
+  -- a name, and a map of names
+  pub quiet_name : Quiet asked Shape.name
+  quiet_name = record { passes = refl; ends = refl; walks = name_walks }
+
+  pub quiet_map : Quiet asked (Shape.vec plain_naming)
+  quiet_map = record { passes = refl; ends = refl; walks = map_walks }
+
+-- ---- rows whose index is asked for
+
+onto_nothing : {S E : Type 0} (step : Step S (Error E) Tree) → step ≡ onto_rows [] step
+onto_nothing (accepted u m) = refl
+onto_nothing (refused e m) = refl
+
+onto_more : {S E : Type 0} (t : Tree) (ts : List Tree) (step : Step S (Error E) Tree) → and_then (onto_rows ts step) (λ u m. accepted (Tree.cons t u) m) ≡ onto_rows (t ∷ ts) step
+onto_more t ts (accepted u m) = refl
+onto_more t ts (refused e m) = refl
+
+body_is : {body : Shape} {i : ℕ} {t : Tree} → Is (plain_row body) (entry_of i t) → Is body t
+body_is (Is.seq d d') = d'
+
+asked_is : {body : Shape} (p : Space) {i : ℕ} {t : Tree} → Is (plain_row body) (entry_of i t) → Is (asked_row p body) (Tree.pair (Tree.ix p i) t)
+asked_is p (Is.seq d d') = Is.seq Is.ix d'
+
+begins_asked : {body : Shape} (p : Space) {i : ℕ} {t : Tree} {bytes left : List ℕ} → Begins (plain_row body) bytes (entry_of i t) left →
+    Begins (asked_row p body) bytes (Tree.pair (Tree.ix p i) t) left
+begins_asked p b = record { text = b.text; spells = record { shaped = asked_is p b.spells.shaped; spelled = b.spells.spelled }; reads = b.reads }
+
+-- the entries that were read, by rows whose index is asked for, and what is due behind them
+record Front (p : Space) (body : Shape) (m n : MapStanding) (asks : List Asked) (left : ℕ) (bytes : List ℕ) : Type 0 where
+  pub count : ℕ
+  pub start : List ℕ
+  pub due : Due m count start
+  pub counted : count ≡ length asks + left
+  pub before : RowsBefore (asked_row p body) start (map (asked_in p) (entries_of asks)) bytes
+
+due_behind : {row : Shape} {m n : MapStanding} {t : Tree} → (r : EntryRead row m t n) → Due n r.left n.rest
+due_behind {n = n} r = let D : Option ℕ → Type 0 = λ o. DueFrom n.rest o r.left n.rest in subst D (sym r.counts) (refl, refl)
+
+front : (p : Space) {body : Shape} (asks : List Asked) {m n : MapStanding} (left : ℕ) (bytes : List ℕ) → ReadTo (plain_row body) m asks n → Due n left bytes → Front p body m n asks left bytes
+front p [] {m = m} {n = n} left bytes r d =
+    let P : MapStanding → Type 0 = λ k. Due k left bytes in record {
+      count = left;
+      start = bytes;
+      due = subst P (sym r) d;
+      counted = refl;
+      before = record { text = []; shaped = Is.nil; spelled = refl; stands = refl };
+    }
+front p (a ∷ asks) left bytes r d =
+    let one = r.1 in
+    let b = begins_asked p one.begins in
+    let others = front p asks left bytes r.2 d in
+    let same = due_one r.0 others.count one.left others.start r.0.rest others.due (due_behind one) in
+    let number : others.count ≡ one.left = same.0 in
+    let long = others.counted in
+    let here : one.bytes ≡ (b.text ++ others.before.text) ++ bytes =
+    b.reads ∙ ap (λ (z : List ℕ). b.text ++ z) (sym same.1 ∙ others.before.stands) ∙ sym (append_assoc b.text others.before.text bytes) in
+    record {
+      count = one.left + 1;
+      start = one.bytes;
+      due = one.due;
+      counted = omega arith;
+      before = record {
+        text = b.text ++ others.before.text;
+        shaped = Is.cons b.spells.shaped others.before.shaped;
+        spelled = (b.text, others.before.text, refl, b.spells.spelled, others.before.spelled);
+        stands = here;
+      };
+    }
+
+asked_then : (p : Space) (asks : List Asked) (ts : List Tree) (x : Tree) → rows_then (entries_of asks) x ≡ rows_tree ts →
+    (us : List Tree) × (x ≡ rows_tree us) × (rows_then (map (asked_in p) (entries_of asks)) (rows_tree (map (asked_in p) us)) ≡ rows_tree (map (asked_in p) ts))
+asked_then p [] ts x e = (ts, e, refl)
+asked_then p (a ∷ asks) [] x e = absurd cc
+asked_then p (a ∷ asks) (t ∷ ts) x e =
+    let head : entry_of a.index a.named ≡ t = cc in
+    let tail : rows_then (entries_of asks) x ≡ rows_tree ts = cc in
+    let more = asked_then p asks ts x tail in
+    (more.0, more.1, ap (λ (z : Tree). Tree.cons (asked_in p (entry_of a.index a.named)) z) more.2
+    ∙ ap (λ (z : Tree). Tree.cons (asked_in p z) (rows_tree (map (asked_in p) ts))) head)
+
+-- entries that were read have their shape
+reads_are : {body : Shape} (asks : List Asked) {m n : MapStanding} → ReadTo (plain_row body) m asks n → Is (Shape.many (plain_row body)) (rows_tree (entries_of asks))
+reads_are [] r = Is.nil
+reads_are (a ∷ asks) r = let one = r.1 in Is.cons one.begins.spells.shaped (reads_are asks r.2)
+
+-- a place says nothing of a refusal
+parse_is : {E : Type 0} (e : Error E) → IsParseError e → (P : ℕ → Type 0) → ((at : ℕ) → P at) → IfParse e P
+parse_is (ParseError x) q P h = h x.at
+parse_is _ q P h = absurd q
+
+parse_unrefused : {E P : Type 0} (e : Error E) → IsParseError e → IfRefused e P
+parse_unrefused (ParseError x) q = tt
+parse_unrefused _ q = absurd q
+
+visits_behind : (ts : List Tree) (u : Tree) → visits (rows_then ts u) ≡ visits (rows_then ts Tree.nil) ++ visits u
+visits_behind [] u = refl
+visits_behind (t ∷ ts) u = ap (λ (z : List Visit). visits t ++ z) (visits_behind ts u) ∙ sym (append_assoc (visits t) (visits (rows_then ts Tree.nil)) (visits u))
+
+-- ---- the calls and the walk
+
+module _ {F S E : Type 0} (step : F → ℕ → Result ℕ (Error E) → F → Type 0) (see : F → S) (name : F → ℕ) (asked : Asks S E) (p : Space) {body : Shape} (quiet : Quiet asked body)
+    (usual : (s : S) (i : ℕ) → Usual (asked s (Index p i)))
+    (one : (f : F) (i : ℕ) (r : Result ℕ (Error E)) (g : F) → step f i r g → Gives (asked (see f) (Index p i)) (λ n. n) (see g) r × (name g ≡ name f)) where
+  -- ---- the name
+
+  calls_name : (asks : List Asked) (f g : F) → Calls step f asks g → name g ≡ name f
+  calls_name [] f g c = ap name (sym c)
+  calls_name (a ∷ asks) f g c = calls_name asks c.0 g c.2 ∙ (one f a.index (Ok a.answer) c.0 c.1).1
+
+  -- the reference is kept
+  pub keeps_name : (m : MapStanding) (f g : F) (result : Result (List Tree) (Error E)) → MapsEntries (plain_row body) step m f g result → name g ≡ name f
+  keeps_name m f g (Ok es) h = calls_name h.asked f g h.calls
+  keeps_name m f g (Err e) h = by h.why
+    where
+      by : CallRefused (plain_row body) step h.rest h.between g e ⊎ Unread (plain_row body) m h.between g e ⊎ Wants h.between g e → name g ≡ name f
+      by (inl r) = (one h.between r.index (Err e) g r.call).1 ∙ calls_name h.asked f h.between h.calls
+      by (inr (inl u)) = ap name u.state ∙ calls_name h.asked f h.between h.calls
+      by (inr (inr w)) = ap name w.state ∙ calls_name h.asked f h.between h.calls
+
+  -- ---- entries that were accepted
+
+  entry_walk : (c : ℕ) (s k : S) (i j : ℕ) (t : Tree) → Is body t → asked s (Index p i) ≡ accepted j k → walk asked c s (Tree.pair (Tree.ix p i) t) ≡ accepted (Tree.pair (Tree.ix p j) t) k
+  entry_walk c s k i j t d h = let still = quiet.walks c k t d in rw (h, still) refl
+
+  entry_stops : (c : ℕ) (s k : S) (i : ℕ) (t : Tree) (e : Error E) → asked s (Index p i) ≡ refused e k → walk asked c s (Tree.pair (Tree.ix p i) t) ≡ refused e k
+  entry_stops c s k i t e h = rw h refl
+
+  calls_walk : (c : ℕ) (asks : List Asked) (f g : F) → Is (Shape.many (plain_row body)) (rows_tree (entries_of asks)) → Calls step f asks g →
+      AcceptsRows asked c (see f) (map (asked_in p) (entries_of asks)) (map (asked_in p) (renamed asks)) (see g)
+  calls_walk c [] f g d k = λ others. ap (λ (h : F). walk asked c (see h) others) k ∙ onto_nothing _
+  calls_walk c (a ∷ asks) f g (Is.cons d d') k = λ others.
+      let y : Tree = Tree.pair (Tree.ix p a.answer) a.named in
+      let here = entry_walk c (see f) (see k.0) a.index a.answer a.named (body_is d) (one f a.index (Ok a.answer) k.0 k.1).0 in
+      let behind : Tree = rows_then (map (asked_in p) (entries_of asks)) others in
+      let first : walk asked c (see f) (Tree.cons (Tree.pair (Tree.ix p a.index) a.named) behind) ≡ and_then (walk asked c (see k.0) behind) (λ u m. accepted (Tree.cons y u) m) = rw here refl in
+      first
+      ∙ ap (λ (q : Step S (Error E) Tree). and_then q (λ u m. accepted (Tree.cons y u) m)) (calls_walk c asks k.0 g d' k.2 others)
+      ∙ onto_more y (map (asked_in p) (renamed asks)) (walk asked c (see g) others)
+
+  calls_run : (asks : List Asked) (f g : F) → Calls step f asks g → Further asked (see f) (see g)
+  calls_run [] f g k = record { visits = []; given = []; ran = ap (λ (h : F). accepted [] (see h)) k }
+  calls_run (a ∷ asks) f g k =
+      let here = (one f a.index (Ok a.answer) k.0 k.1).0 in
+      let others = calls_run asks k.0 g k.2 in
+      let ran = others.ran in
+      record { visits = Index p a.index ∷ others.visits; given = a.answer ∷ others.given; ran = rw (here, ran) refl }
+
+  -- ---- the clauses
+
+  vec_walk : (c : ℕ) (s k : S) (t u : Tree) → walk asked c s t ≡ accepted u k → walk asked c s (Tree.vec t) ≡ accepted (Tree.vec u) k
+  vec_walk c s k t u h = rw h refl
+
+  vec_stops : (c : ℕ) (s k : S) (t : Tree) (e : Error E) → walk asked c s t ≡ refused e k → walk asked c s (Tree.vec t) ≡ refused e k
+  vec_stops c s k t e h = rw h refl
+
+  reading_ok : (c : ℕ) (m : MapStanding) (f g : F) (asks : List Asked) (es ts : List Tree) → EntriesLeft (plain_row body) m (rows_tree (entries_of asks)) →
+      Calls step f asks g → es ≡ renamed asks → EntriesLeft (plain_row body) m (rows_tree ts) →
+      walk asked c (see f) (vector_tree (map (asked_in p) ts)) ≡ accepted (vector_tree (map (asked_in p) es)) (see g)
+  reading_ok c m f g asks es ts whole k a w =
+      let same : entries_of asks ≡ ts = lists_one (entries_of asks) ts (left_one quiet.passes quiet.ends whole w) in
+      let all : walk asked c (see f) (rows_tree (map (asked_in p) (entries_of asks))) ≡ accepted (rows_tree (map (asked_in p) (renamed asks))) (see g) =
+      calls_walk c asks f g whole.rows_left.shaped k Tree.nil in
+      let P : List Tree → Type 0 = λ z. walk asked c (see f) (rows_tree (map (asked_in p) z)) ≡ accepted (rows_tree (map (asked_in p) es)) (see g) in
+      let Q : List Tree → Type 0 = λ z. walk asked c (see f) (rows_tree (map (asked_in p) (entries_of asks))) ≡ accepted (rows_tree (map (asked_in p) z)) (see g) in
+      vec_walk c (see f) (see g) (rows_tree (map (asked_in p) ts)) (rows_tree (map (asked_in p) es)) (subst P same (subst Q (sym a) all))
+
+  -- the entries of which there is a front, and those behind it
+  parts : (m n : MapStanding) (asks : List Asked) (ts : List Tree) → ReadTo (plain_row body) m asks n → EntriesLeft (plain_row body) m (rows_tree ts) →
+      (us : List Tree) × EntriesLeft (plain_row body) n (rows_tree us)
+      × (rows_then (map (asked_in p) (entries_of asks)) (rows_tree (map (asked_in p) us)) ≡ rows_tree (map (asked_in p) ts))
+  parts m n asks ts r w =
+      let f = left_front quiet.passes quiet.ends asks r w in
+      let g = asked_then p asks ts f.0 (sym f.1) in
+      let P : Tree → Type 0 = λ z. EntriesLeft (plain_row body) n z in
+      (g.0, subst P g.1 f.2, g.2)
+
+  -- the first of the entries that are left is the one that was read
+  next_part : (n k : MapStanding) (i : ℕ) (t : Tree) (us : List Tree) → EntryRead (plain_row body) n (entry_of i t) k → EntriesLeft (plain_row body) n (rows_tree us) →
+      (x : Tree) × (Tree.cons (Tree.pair (Tree.ix p i) t) x ≡ rows_tree (map (asked_in p) us))
+  next_part n k i t us r w = go us (left_less quiet.passes quiet.ends r w).1
+    where
+      go : (us : List Tree) {x : Tree} → rows_tree us ≡ Tree.cons (entry_of i t) x → (x : Tree) × (Tree.cons (Tree.pair (Tree.ix p i) t) x ≡ rows_tree (map (asked_in p) us))
+      go [] e = absurd cc
+      go (u ∷ us) e =
+          let head : u ≡ entry_of i t = cc in
+          (rows_tree (map (asked_in p) us), ap (λ (z : Tree). Tree.cons (asked_in p z) (rows_tree (map (asked_in p) us))) (sym head))
+
+  reading_err : (c : ℕ) (m n k : MapStanding) (f b g : F) (asks : List Asked) (i : ℕ) (t : Tree) (e : Error E) (ts : List Tree) → ReadTo (plain_row body) m asks n → Calls step f asks b →
+      EntryRead (plain_row body) n (entry_of i t) k → step b i (Err e) g → EntriesLeft (plain_row body) m (rows_tree ts) → e ≢ NoMemory →
+      walk asked c (see f) (vector_tree (map (asked_in p) ts)) ≡ refused e (see g)
+  reading_err c m n k f b g asks i t e ts r calls read call w wants =
+      let q = parts m n asks ts r w in
+      let z = next_part n k i t q.0 read q.1 in
+      let stops : walk asked c (see b) (Tree.pair (Tree.ix p i) t) ≡ refused e (see g) = entry_stops c (see b) (see g) i t e ((one b i (Err e) g call).0 wants) in
+      let first : walk asked c (see b) (Tree.cons (Tree.pair (Tree.ix p i) t) z.0) ≡ refused e (see g) = rw stops refl in
+      let P : Tree → Type 0 = λ x. walk asked c (see b) x ≡ refused e (see g) in
+      let rest : walk asked c (see b) (rows_tree (map (asked_in p) q.0)) ≡ refused e (see g) = subst P z.1 first in
+      let all : walk asked c (see f) (rows_then (map (asked_in p) (entries_of asks)) (rows_tree (map (asked_in p) q.0))) ≡ refused e (see g) =
+      calls_walk c asks f b (reads_are asks r) calls (rows_tree (map (asked_in p) q.0)) ∙ ap (onto_rows (map (asked_in p) (renamed asks))) rest in
+      let Q : Tree → Type 0 = λ x. walk asked c (see f) x ≡ refused e (see g) in
+      vec_stops c (see f) (see g) (rows_tree (map (asked_in p) ts)) e (subst Q q.2 all)
+
+  stops_due : (c : ℕ) (m n k : MapStanding) (f b g : F) (asks : List Asked) (i : ℕ) (t : Tree) (e : Error E) → ReadTo (plain_row body) m asks n → Calls step f asks b →
+      EntryRead (plain_row body) n (entry_of i t) k → step b i (Err e) g → e ≢ NoMemory → StopsDue asked c (asked_row p body) m (see f) e (see g)
+  stops_due c m n k f b g asks i t e r calls read call wants =
+      let front = front p asks (read.left + 1) read.bytes r read.due in
+      let long = length-map (entries_of asks) (asked_in p) ∙ length-map asks (λ a. entry_of a.index a.named) in
+      let counted = front.counted in
+      record {
+        count = front.count;
+        start = front.start;
+        due = front.due;
+        stops = record {
+          read = map (asked_in p) (entries_of asks);
+          rest = read.bytes;
+          made = map (asked_in p) (renamed asks);
+          state = see b;
+          before = front.before;
+          accepts = calls_walk c asks f b (reads_are asks r) calls;
+          next = Tree.pair (Tree.ix p i) t;
+          left = k.rest;
+          begins = begins_asked p read.begins;
+          refuses = entry_stops c (see b) (see g) i t e ((one b i (Err e) g call).0 wants);
+        };
+        more = omega arith;
+      }
+
+  -- the calls of a walk over a map are the walk of the reencoder
+  pub gives_map : (c : ℕ) (m : MapStanding) (f g : F) (result : Result (List Tree) (Error E)) → MapsEntries (plain_row body) step m f g result → GivesMap asked c p body m (see f) (see g) result
+  gives_map c m f g (Ok es) h = record {
+    reading = λ ts w. reading_ok c m f g h.asked es ts h.whole h.calls h.answers w;
+    readable = (entries_of h.asked, h.whole);
+    unreadable = tt;
+    refusal = tt;
+  }
+  gives_map c m f g (Err e) h = record { reading = λ ts w n. reading ts w n h.why; readable = tt; unreadable = unreadable h.why; refusal = refusal h.why }
+    where
+      Why : Type 0
+      Why = CallRefused (plain_row body) step h.rest h.between g e ⊎ Unread (plain_row body) m h.between g e ⊎ Wants h.between g e
+
+      reading : (ts : List Tree) → EntriesLeft (plain_row body) m (rows_tree ts) → e ≢ NoMemory → Why → walk asked c (see f) (vector_tree (map (asked_in p) ts)) ≡ refused e (see g)
+      reading ts w n (inl r) = reading_err c m h.rest r.behind f h.between g h.asked r.index r.named e ts h.reads h.calls r.read r.call w n
+      reading ts w n (inr (inl u)) = absurd (u.none (rows_tree ts) w)
+      reading ts w n (inr (inr k)) = absurd (n k.memory)
+
+      None_ : ℕ → Type 0
+      None_ at = ((rows : Tree) → EntriesLeft (plain_row body) m rows → ⊥) × Further asked (see f) (see g)
+
+      unreadable : Why → IfParse e None_
+      unreadable (inl r) = stops_usual None_ (asked (see h.between) (Index p r.index)) e (see g) (usual (see h.between) r.index) (one h.between r.index (Err e) g r.call).0
+      unreadable (inr (inl u)) =
+          let P : F → Type 0 = λ k. Further asked (see f) (see k) in
+          parse_is e u.parse None_ (λ at. (u.none, subst P (sym u.state) (calls_run h.asked f h.between h.calls)))
+      unreadable (inr (inr k)) = let P : Error E → Type 0 = λ x. IfParse x None_ in subst P (sym k.memory) tt
+
+      refusal : Why → IfRefused e (StopsDue asked c (asked_row p body) m (see f) e (see g))
+      refusal (inl r) = unless_wanting e (λ n. stops_due c m h.rest r.behind f h.between g h.asked r.index r.named e h.reads h.calls r.read r.call n)
+      refusal (inr (inl u)) = parse_unrefused e u.parse
+      refusal (inr (inr k)) = let P : Error E → Type 0 = λ x. IfRefused x (StopsDue asked c (asked_row p body) m (see f) e (see g)) in subst P (sym k.memory) tt
+
+  -- The state that an error leaves, where no call answers want of memory.
+  pub leaves_map : (never : (f : F) (i : ℕ) (g : F) → step f i (Err NoMemory) g → ⊥) (m : MapStanding) (f g : F) (result : Result (List Tree) (Error E)) →
+      MapsEntries (plain_row body) step m f g result → (ts : List Tree) → EntriesLeft (plain_row body) m (rows_tree ts) →
+      LeavesVisited asked (see f) (visits (vector_tree (map (asked_in p) ts))) (see g) result
+  leaves_map never m f g (Ok es) h ts w = tt
+  leaves_map never m f g (Err e) h ts w = by h.why
+    where
+      by : CallRefused (plain_row body) step h.rest h.between g e ⊎ Unread (plain_row body) m h.between g e ⊎ Wants h.between g e →
+          Visited asked (see f) (visits (vector_tree (map (asked_in p) ts))) (see g)
+      by (inl r) =
+          let wants : e ≢ NoMemory = λ same. never h.between r.index g (subst (λ (x : Error E). step h.between r.index (Err x) g) same r.call) in
+          refused_visited 0 (vector_tree (map (asked_in p) ts)) (reading_err 0 m h.rest r.behind f h.between g h.asked r.index r.named e ts h.reads h.calls r.read r.call w wants)
+      by (inr (inl u)) = absurd (u.none (rows_tree ts) w)
+      by (inr (inr k)) =
+          let q = parts m h.rest h.asked ts h.reads w in
+          let front : List Tree = map (asked_in p) (entries_of h.asked) in
+          let others : Tree = rows_tree (map (asked_in p) q.0) in
+          let all : walk asked 0 (see f) (rows_then front Tree.nil) ≡ accepted (rows_tree (map (asked_in p) (renamed h.asked))) (see h.between) =
+          calls_walk 0 h.asked f h.between (reads_are h.asked h.reads) h.calls Tree.nil in
+          let v = first_visited (visits others) (accepted_visited 0 (rows_then front Tree.nil) all) in
+          let P : List Visit → Type 0 = λ z. Visited asked (see f) z (see h.between) in
+          let Q : Tree → Type 0 = λ z. Visited asked (see f) (visits z) (see h.between) in
+          let R : F → Type 0 = λ z. Visited asked (see f) (visits (rows_tree (map (asked_in p) ts))) (see z) in
+          subst R (sym k.state) (subst Q q.2 (subst P (sym (visits_behind front others)) v))
+
+  -- the same, where the reencoder's last value is known by the name of its reference
+  pub gives_map_at : (c : ℕ) (m : MapStanding) (f g : F) (result : Result (List Tree) (Error E)) (last : S) → MapsEntries (plain_row body) step m f g result →
+      (name f ≡ name g → last ≡ see g) → GivesMap asked c p body m (see f) last result
+  gives_map_at c m f g result last h k = subst (λ (s : S). GivesMap asked c p body m (see f) s result) (sym (k (sym (keeps_name m f g result h)))) (gives_map c m f g result h)
+
+  pub leaves_map_at : (never : (f : F) (i : ℕ) (g : F) → step f i (Err NoMemory) g → ⊥) (m : MapStanding) (f g : F) (result : Result (List Tree) (Error E)) (last : S) →
+      MapsEntries (plain_row body) step m f g result → (name f ≡ name g → last ≡ see g) → (ts : List Tree) → EntriesLeft (plain_row body) m (rows_tree ts) →
+      LeavesVisited asked (see f) (visits (vector_tree (map (asked_in p) ts))) last result
+  leaves_map_at never m f g result last h k ts w =
+      subst (λ (s : S). LeavesVisited asked (see f) (visits (vector_tree (map (asked_in p) ts))) s result) (sym (k (sym (keeps_name m f g result h)))) (leaves_map never m f g result h ts w)

@@ -1,0 +1,26 @@
+use Rattle.std.proofs.Common.{refl, of_calls}
+use Rattle.reencode_core.proofs.NameWalks.{walked_more, walked_all, walked_unread, name_fault}
+use Rattle.reencode_core.proofs.names.map_names.Goals as goal
+
+pub entries-preserved : goal.entries-preserved
+entries-preserved g c =
+    let row = rw c.in-Ok-Some.field-0-is at c.in-Ok-Some.ensures.row in
+    let call = rw c.in-Ok.is at c.map_index.ensures in
+    record {
+      callable = search of_calls;
+      walked = walked_more _ c.entries.invariant.walked row call c.in-Ok-append.ensures.ok;
+    }
+
+pub returns-in-Err-append : goal.returns-in-Err-append
+returns-in-Err-append g c =
+    let row = rw c.in-Ok-Some.field-0-is at c.in-Ok-Some.ensures.row in
+    let call = rw c.in-Ok.is at c.map_index.ensures in
+    rw c.from.ensures (name_fault _ c.entries.invariant.walked row call _ c.in-Err-append.ensures.large)
+
+pub returns-in-Ok-None : goal.returns-in-Ok-None
+returns-in-Ok-None g c =
+    let ended = rw c.in-Ok-None.field-0-is at c.in-Ok-None.ensures.ended in
+    walked_all _ c.entries.invariant.walked ended
+
+pub returns-in-Err : goal.returns-in-Err
+returns-in-Err g c = walked_unread _ refl refl c.entries.invariant.walked c.in-Err.ensures.err tt
