@@ -32,7 +32,7 @@ use Rattle.reencode_core.specs.Errors.{IfParse, IfRefused, placed_at}
 use Rattle.reencode_core.specs.Rows.{Asks, Further}
 use Rattle.reencode_core.specs.Core.{hooked, onto, AcceptsSections, RefusesNext, StopsSections, GivesModule, RefusedIn, StopsThere, BeforeFault, IsCause, GivesCore}
 use Rattle.reencode_core.proofs.Counts.{further_none, further_then}
-use Rattle.reencode_core.proofs.Framed.{GivesFramed, Reached, kind_announced}
+use Rattle.reencode_core.proofs.AnySection.{GivesFramed, Reached, kind_announced}
 use Rattle.reencode_core.proofs.Usual.{IfRefused-map, unless_wanting, usual_ask, stops_usual}
 use Rattle.reencode_core.proofs.Known.{section_onward, hook_visits, inside_visits, some_begun}
 

@@ -23,7 +23,7 @@ use Rattle.reencode_core.specs.Names.{StopsCustom, GivesCustom}
 use Rattle.reencode_core.specs.Core.{GivesCore}
 use Rattle.reencode_core.specs.Leaves.{LeavesReading}
 use Rattle.reencode_core.proofs.CoreLoop.{SectionsDone, core_leaves_hook, core_leaves_inside, core_leaves_none, end_given, end_left, header_wrong, hook_err, hook_kept, hook_ok, hook_refused, hook_usual, no_frame, section_err, sections_begin, sections_more}
-use Rattle.reencode_core.proofs.Framed.{GivesFramed, Reached, kind_gives, kind_reached, custom_gives, custom_reached, unknown_gives, unknown_reached}
+use Rattle.reencode_core.proofs.AnySection.{GivesFramed, Reached, kind_gives, kind_reached, custom_gives, custom_reached, unknown_gives, unknown_reached}
 use Rattle.reencode_core.proofs.Known.{keeps_same, keeps_more, hook_keeps}
 use Rattle.reencode_core.proofs.MappedSection.{SectionClauses}
 use Rattle.reencode_core.proofs.OneRow.{answers, asks}

@@ -1,4 +1,4 @@
--- The section in a frame: of a known kind, a custom one, or one of another id.
+-- A section of any sort by its frame: of a known kind, a custom one, or one of another id.
 use Rattle.std.proofs.Common.{◌≡◌, ℕ, ◌≤◌, List, Option, Some, Result, Ok, Err, IfOk, IfErr, refl, sym, ◌∙◌, subst, ◌⊎◌, inl, inr}
 use Rattle.wasm_shapes.specs.declared.SectionId.{SectionId}
 use Rattle.wasm_shapes.specs.declared.Visit.TheVariants.{Section}
