@@ -3,7 +3,7 @@
 -- `see f` is the reencoder that the closure f holds, and `name f` the name of its reference. A call of the closure answers what
 -- `asked` gives at an index of the space, and keeps the name: that is `one`. The entries of the map are an index, and behind it
 -- `body`, which asks nothing.
-use Rattle.std.proofs.Common.{◌≡◌, ◌≢◌, ℕ, suc, ◌+◌, ◌<◌, ◌⊎◌, Option, Some, None, List, [], ◌∷◌, ◌++◌, length, map, true, Result, Ok, Err, IfOk, IfErr, refl, sym, ap, ap₂, subst, ◌∙◌, append_assoc, inl, inr, arith}
+use Rattle.std.proofs.Common.{◌≡◌, ◌≢◌, ℕ, ◌+◌, ◌<◌, ◌⊎◌, List, [], ◌∷◌, ◌++◌, length, map, true, Result, Ok, Err, IfOk, IfErr, refl, sym, ap, ap₂, subst, ◌∙◌, append_assoc, inl, inr, arith}
 use Rattle.std.proofs.lemmas.List.{length-map}
 use Rattle.wasm_shapes.specs.declared.Space.{Space}
 use Rattle.wasm_shapes.specs.declared.Visit.{Visit}
@@ -11,22 +11,22 @@ use Rattle.wasm_shapes.specs.declared.Visit.TheVariants.{Index}
 use Rattle.wasm_shapes.specs.Tree.{Tree, visits}
 use Rattle.wasm_shapes.specs.Shape.{Shape, closed}
 use Rattle.wasm_shapes.specs.Sound.{sound}
-use Rattle.wasm_shapes.specs.Spells.{Is, Spelled}
+use Rattle.wasm_shapes.specs.Spells.{Is}
 use Rattle.wasm_shapes.specs.Place.{Begins}
 use Rattle.wasm_shapes.specs.Rows.{rows_then}
 use Rattle.wasm_shapes.specs.Types.{rows_tree, vector_tree}
 use Rattle.wasm_shapes.specs.Module.{plain_naming}
 use Rattle.wasm_shapes.specs.Namings.{asked_in}
-use Rattle.wasm_read.specs.Names.{MapStanding, Due, DueFrom, EntriesLeft, EntryRead}
+use Rattle.wasm_read.specs.Names.{MapStanding, Due, EntriesLeft, EntryRead}
 use Rattle.wasm_read.proofs.NameMaps.{plain_row, asked_row, due_behind, due_one, left_less, left_one, lists_one}
 use Rattle.reencode_hooks.specs.declared.error.Error.{Error}
 use Rattle.reencode_hooks.specs.declared.error.Error.TheVariants.{ParseError, NoMemory}
-use Rattle.reencode_hooks.specs.Run.{Step, accepted, refused, and_then, run, Gives, Visited, LeavesVisited}
+use Rattle.reencode_hooks.specs.Run.{Step, accepted, refused, and_then, Gives, Visited, LeavesVisited}
 use Rattle.reencode_hooks.specs.Walk.{walk}
 use Rattle.reencode_items.proofs.Leaving.{accepted_visited, first_visited, refused_visited}
 use Rattle.reencode_core.specs.Errors.{IfParse, IfRefused}
 use Rattle.reencode_core.specs.Rows.{Asks, AcceptsRows, RowsBefore, Further, StopsEach, onto_rows}
-use Rattle.reencode_core.specs.NameMaps.{Asked, entry_of, entries_of, renamed, IsParseError, Calls, ReadTo, CallRefused, Unread, Wants, Stopped, MapsEntries}
+use Rattle.reencode_core.specs.NameMaps.{Asked, entry_of, entries_of, renamed, IsParseError, Calls, ReadTo, CallRefused, Unread, Wants, MapsEntries}
 use Rattle.reencode_core.proofs.Leaving.{visits_behind}
 use Rattle.reencode_core.proofs.NameWalks.{left_front}
 use Rattle.reencode_core.proofs.RowLoop.{onto_nothing}
