@@ -63,7 +63,7 @@ Leaves Reads asked s m = (t : Tree) → Reads t → Visited asked s (visits t) m
 
 module _ {S E : Type 0} {asked : Asks S E} where
   -- what was asked behind rows that were accepted
-  behind_visited : {s0 s m : S} {u : Tree} (c : ℕ) (ts : List Tree) (others : Tree) → walk asked c s0 (rows_then ts Tree.nil) ≡ accepted u s → Visited asked s (visits others) m →
+  pub behind_visited : {s0 s m : S} {u : Tree} (c : ℕ) (ts : List Tree) (others : Tree) → walk asked c s0 (rows_then ts Tree.nil) ≡ accepted u s → Visited asked s (visits others) m →
       Visited asked s0 (visits (rows_then ts others)) m
   behind_visited {s0 = s0} {m = m} c ts others h v =
       let P : List Visit → Type 0 = λ z. Visited asked s0 z m in subst P (sym (visits_behind ts others)) (second_visited c (rows_then ts Tree.nil) h v)

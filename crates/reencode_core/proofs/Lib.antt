@@ -7,6 +7,7 @@ pub mod NameCalls
 pub mod EachItem
 pub mod EachRow
 pub mod OneSection
+pub mod Framed
 pub mod CoreLoop
 pub mod Faults
 pub mod WholeBytes
@@ -24,3 +25,8 @@ pub mod EachSection
 pub mod EachBody
 pub mod Passing
 pub mod Runs
+pub mod ManyLoop
+pub mod InFrame
+pub mod NamesLoop
+pub mod CustomSection
+pub mod Subsections

@@ -59,7 +59,7 @@ pub hook_item : {S E : Type 0} (i : Ghosts S E) (space : Space) (s m : S) (n : �
     record { answer : Replies i.reply i.next s m (Index space n) r; sure : NeverWants i.sure r } → ItemClauses i space s n m r
 hook_item i space s m n r hook = record { default = index_maps i s m space n r hook.answer; sure = λ keeps. hook.sure }
 
-keeps_none : {old new : Sections} → new ≡ old → KeepsModule old new
+pub keeps_none : {old new : Sections} → new ≡ old → KeepsModule old new
 keeps_none {old = old} e = let P : Sections → Type 0 = λ z. KeepsModule old z in subst P (sym e) (keeps_same old)
 
 module _ {S E : Type 0} (i : Ghosts S E) {kind : SectionId} {body : List ℕ} {s : S} {old : Sections} where

@@ -11,11 +11,13 @@ use Rattle.wasm_read.specs.declared.types.Name.{Name}
 use Rattle.wasm_read.specs.Names.{NamesStanding}
 use Rattle.wasm_read.specs.Subsections.{ReadsName, content_of, Content, subsection_frame, subsection_frame_tree}
 use Rattle.wasm_read.specs.Names.{MapStanding, Due}
+use Rattle.wasm_write.specs.declared.fault.WriteFault.{WriteFault}
 use Rattle.wasm_write.specs.Bodies.{CodeRows, with_row}
 use Rattle.wasm_write.specs.Counts.{counts, IsTooLarge}
 use Rattle.wasm_write.specs.Sections.{Sections, section_row, section_bytes, with_section}
 use Rattle.reencode_hooks.specs.declared.error.Error.{Error}
 use Rattle.reencode_hooks.specs.declared.error.Error.TheVariants.{TooLarge, NoMemory}
+use Rattle.reencode_hooks.specs.Errors.{error_of_write}
 use Rattle.reencode_hooks.specs.Run.{accepted, refused}
 use Rattle.reencode_hooks.specs.Walk.{walk}
 use Rattle.reencode_core.specs.Errors.{IfParse, IfRefused}
@@ -23,6 +25,11 @@ use Rattle.reencode_core.specs.Rows.{Asks, AcceptsRows, AcceptedHooks, RowsBefor
 use Rattle.reencode_core.specs.Sections.{GivesAdded}
 
 -- ---- one subsection
+
+-- what a writer answered, as an answer of the reencoder
+abbrev pub of_writer : {E : Type 0} → Result (Unit {0}) WriteFault → Result (Unit {0}) (Error E)
+of_writer (Ok u) = Ok u
+of_writer (Err f) = Err (error_of_write f)
 
 -- the rows of the map in a subsection of an id
 abbrev pub MapRow : ℕ → Shape → Type 0

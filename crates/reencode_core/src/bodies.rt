@@ -175,11 +175,17 @@ macro_rules! parse_core_module {
                         Err(e) => return Err(placed(e, at)),
                     }
                 }
-                Some(r::Payload::Custom { at, section: _ }) => {
-                    return Err(Error::ParseError(ReadError { at }));
+                Some(r::Payload::Custom { at, section }) => {
+                    match $reencoder.parse_custom_section($alloc, $module, section) {
+                        Ok(()) => {}
+                        Err(e) => return Err(placed(e, at)),
+                    }
                 }
-                Some(r::Payload::Unknown { at, id: _, contents: _ }) => {
-                    return Err(Error::ParseError(ReadError { at }));
+                Some(r::Payload::Unknown { at, id, contents }) => {
+                    match $reencoder.parse_unknown_section($module, id, contents) {
+                        Ok(()) => {}
+                        Err(e) => return Err(placed(e, at)),
+                    }
                 }
                 None => return $reencoder.intersperse_section_hook($module, last, None),
             }
@@ -188,3 +194,40 @@ macro_rules! parse_core_module {
 }
 
 pub(crate) use parse_core_module;
+
+// Each subsection that the reader still has, one behind another.
+macro_rules! custom_name_section {
+    ($reencoder:ident, $alloc:ident, $section:ident, $ceiling:ident) => {{
+        let mut names = w::NameSection::new($alloc, $ceiling);
+        let mut rows = $section;
+        'rows: loop {
+            let at = rows.place();
+            match rows.next_row($alloc)? {
+                Some(name) => {
+                    match $reencoder.parse_custom_name_subsection($alloc, &mut names, name) {
+                        Ok(()) => {}
+                        Err(e) => return Err(placed(e, at)),
+                    }
+                }
+                None => return Ok(names),
+            }
+        }
+    }};
+}
+
+pub(crate) use custom_name_section;
+
+macro_rules! parse_custom_section {
+    ($reencoder:ident, $alloc:ident, $module:ident, $section:ident) => {{
+        if $section.name == "name" {
+            let rows = r::NameSectionReader::new($section.contents)?;
+            let names = $reencoder.custom_name_section($alloc, rows, $module.ceiling())?;
+            add_section($module, Ok(()), &names)
+        } else {
+            let section = $reencoder.custom_section($section)?;
+            add_section($module, Ok(()), &section)
+        }
+    }};
+}
+
+pub(crate) use parse_custom_section;

@@ -14,6 +14,7 @@ mod reencode;
 mod rule;
 mod sections;
 mod shared;
+mod subsections;
 pub mod utils;
 
 pub use laws::fault_tells;

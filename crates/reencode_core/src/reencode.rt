@@ -22,7 +22,7 @@ ghost use Rattle.reencode_core.specs.Leaves.{BodyOf, LeavesReading, LocalsOf, Ro
 
 use crate::errors::placed;
 use crate::sections::{add_section, one_item, take_section};
-use crate::{bodies, mapped, shared};
+use crate::{bodies, mapped, shared, subsections};
 use reencode_hooks::Error;
 use reencode_items::ReencodeItems;
 use std::alloc::Global;
@@ -494,7 +494,7 @@ pub trait Reencode: ReencodeItems {
             → LeavesReading (ReadsCustom section.entry.name.now section.entry.contents.now)
             (ask Self.reply Self.next) self.old self.new result }
     {
-        Err(Error::NoMemory)
+        bodies::parse_custom_section!(self, alloc, module, section)
     }
 
     /// Adds a section of an id that no kind has, by its bytes. It calls no section hook.
@@ -513,7 +513,7 @@ pub trait Reencode: ReencodeItems {
             → LeavesVisited (ask Self.reply Self.next) self.old [] self.new result }
         ensures usual { IsTrue Self.keeps_defaults → IfErr result (λ e. IfParse e (λ _. ⊥)) }
     {
-        Err(Error::NoMemory)
+        shared::parse_unknown_section(self, module, id, contents)
     }
 
     /// Maps the subsections that the reader still has, each by `parse_custom_name_subsection`. No subsection that is written may
@@ -531,7 +531,7 @@ pub trait Reencode: ReencodeItems {
             → LeavesReading (SubsectionsLeft section.entry) (ask Self.reply Self.next)
             self.old self.new result }
     {
-        Err(Error::NoMemory)
+        bodies::custom_name_section!(self, alloc, section, ceiling)
     }
 
     /// Maps a name subsection and adds it. The indices of a map are mapped by the method of their space; of an indirect map the
@@ -551,7 +551,7 @@ pub trait Reencode: ReencodeItems {
             → LeavesReading (ReadsName section.entry) (ask Self.reply Self.next)
             self.old self.new result }
     {
-        Err(Error::NoMemory)
+        subsections::parse_custom_name_subsection(self, alloc, names, section)
     }
 
     /// Reads a module and adds what its sections become. The section hook is called before each section and at the end.

@@ -1,7 +1,7 @@
 //! The bodies that call methods of the traits below alone: one for a method and its function.
-ghost use Rattle.std.specs.Prelude.{◌≡◌, IsTrue, ℕ};
+ghost use Rattle.std.specs.Prelude.{◌≡◌, ◌≤◌, IfErr, IsTrue, [], ℕ};
 ghost use Rattle.wasm_shapes.specs.declared.SectionId.TheVariants as kinds;
-ghost use Rattle.wasm_shapes.specs.Module.{CoreReading, row_of};
+ghost use Rattle.wasm_shapes.specs.Module.{CoreReading, row_of, unknown_tree_of};
 ghost use Rattle.wasm_shapes.specs.Tree.{visits};
 ghost use Rattle.wasm_read.specs.declared.types.Imports.TheVariants as imported;
 ghost use Rattle.wasm_read.specs.Types as read;
@@ -11,13 +11,15 @@ ghost use Rattle.reencode_hooks.specs.Run.{LeavesVisited, ask};
 ghost use Rattle.reencode_items.specs.Maps.{Maps};
 ghost use Rattle.reencode_core.specs.Rows.{KeepsFront, GivesRow, GivesRows};
 ghost use Rattle.reencode_core.specs.Bodies.{KeepsCode, GivesLocals, GivesBody};
-ghost use Rattle.reencode_core.specs.Sections.{KeepsModule, ReadsAs, GivesSection};
+ghost use Rattle.reencode_core.specs.Sections.{KeepsModule, ReadsAs, GivesAdded, GivesSection};
+ghost use Rattle.reencode_core.specs.Errors.{IfParse};
 ghost use Rattle.reencode_core.specs.Core.{GivesCore};
 ghost use Rattle.reencode_core.specs.Elements.{answered_table, asked_table};
 ghost use Rattle.reencode_core.specs.Leaves.{BodyOf, LeavesReading, LocalsOf, RowsOf};
 
 use crate::imports::single;
 use crate::lists::map_items;
+use crate::sections::add_section;
 use reencode_hooks::Error;
 use reencode_items::ReencodeItems;
 use std::alloc::Global;
@@ -247,4 +249,23 @@ pub(crate) fn new_function_with_parsed_locals<T: ReencodeItems>(
         mapped.push((local.0, ty))?;
     }
     Ok(w::Function::new(alloc, &mapped)?)
+}
+
+/// Adds a section of an id that no kind has, by its bytes.
+pub(crate) fn parse_unknown_section<T: ReencodeItems>(
+    reencoder: &mut T,
+    module: &mut w::Module,
+    id: u8,
+    contents: &[u8],
+) -> Result<(), Error<T::Error>>
+    requires { id ≤ 127 }
+    ensures kept { KeepsModule «module».old «module».new }
+    ensures default { IsTrue T.keeps_defaults
+        → GivesAdded (ask T.reply T.next) id (reencoder.old, «module».old)
+        (unknown_tree_of id contents.now) (reencoder.new, «module».new) result }
+    ensures after_error { IsTrue T.keeps_defaults → IsTrue T.sure
+        → LeavesVisited (ask T.reply T.next) reencoder.old [] reencoder.new result }
+    ensures usual { IsTrue T.keeps_defaults → IfErr result (λ e. IfParse e (λ _. ⊥)) }
+{
+    add_section(module, Ok(()), &w::RawSection { id, contents })
 }

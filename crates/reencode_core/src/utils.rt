@@ -21,7 +21,7 @@ ghost use Rattle.reencode_core.specs.Leaves.{BodyOf, LeavesReading, LocalsOf, Ro
 use crate::errors::placed;
 use crate::reencode::Reencode;
 use crate::sections::{add_section, one_item, take_section};
-use crate::{bodies, mapped, shared};
+use crate::{bodies, mapped, shared, subsections};
 use reencode_hooks::Error;
 use std::alloc::Global;
 use wasm_leb::ReadError;
@@ -473,7 +473,7 @@ pub fn parse_custom_section<T: Reencode>(
         → LeavesReading (ReadsCustom section.entry.name.now section.entry.contents.now)
         (ask T.reply T.next) reencoder.old reencoder.new result }
 {
-    Err(Error::NoMemory)
+    bodies::parse_custom_section!(reencoder, alloc, module, section)
 }
 
 /// Adds a section of an id that no kind has, by its bytes. It calls no section hook.
@@ -492,7 +492,7 @@ pub fn parse_unknown_section<T: Reencode>(
         → LeavesVisited (ask T.reply T.next) reencoder.old [] reencoder.new result }
     ensures usual { IsTrue T.keeps_defaults → IfErr result (λ e. IfParse e (λ _. ⊥)) }
 {
-    Err(Error::NoMemory)
+    shared::parse_unknown_section(reencoder, module, id, contents)
 }
 
 /// Maps the subsections that the reader still has, each by `parse_custom_name_subsection`. No subsection that is written may
@@ -510,7 +510,7 @@ pub fn custom_name_section<T: Reencode>(
         → LeavesReading (SubsectionsLeft section.entry) (ask T.reply T.next)
         reencoder.old reencoder.new result }
 {
-    Err(Error::NoMemory)
+    bodies::custom_name_section!(reencoder, alloc, section, ceiling)
 }
 
 /// Maps a name subsection and adds it. The indices of a map are mapped by the method of their space; of an indirect map the
@@ -530,7 +530,7 @@ pub fn parse_custom_name_subsection<T: Reencode>(
         → LeavesReading (ReadsName section.entry) (ask T.reply T.next)
         reencoder.old reencoder.new result }
 {
-    Err(Error::NoMemory)
+    subsections::parse_custom_name_subsection(reencoder, alloc, names, section)
 }
 
 /// Reads a module and adds what its sections become. The section hook is called before each section and at the end.

@@ -1,0 +1,234 @@
+-- Custom sections, and sections of other ids.
+use Rattle.std.proofs.Common.{◌≡◌, ◌≢◌, ◌⊎◌, ℕ, ◌≤◌, ◌<◌, List, [], ◌∷◌, ◌++◌, length, Result, Ok, Err, IsErrAnd, IsTrue, IfErr, refl, sym, ap, ◌∙◌, subst, inl, inr, arith}
+use Rattle.wasm_leb.specs.Leb.{leb}
+use Rattle.wasm_shapes.specs.Tree.{Tree, normal, visits}
+use Rattle.wasm_shapes.specs.Types.{rows_tree}
+use Rattle.wasm_shapes.specs.Module.{ReadsContents, ReadsCustom, custom_tree_of, names_name, unknown_tree_of}
+use Rattle.wasm_read.specs.Names.{NamesStanding}
+use Rattle.wasm_write.specs.declared.fault.WriteFault.{WriteFault}
+use Rattle.wasm_write.specs.declared.fault.WriteFault.TheVariants as write
+use Rattle.wasm_write.specs.Bodies.{CodeRows}
+use Rattle.wasm_write.specs.Faults.{IfTooLarge}
+use Rattle.wasm_write.specs.Names.{name_section_tree}
+use Rattle.wasm_write.specs.Sections.{Sections, SectionRow, section_bytes, section_row}
+use Rattle.reencode_hooks.specs.declared.error.Error.{Error}
+use Rattle.reencode_hooks.specs.declared.error.Error.TheVariants.{NoMemory, TooLarge}
+use Rattle.reencode_hooks.specs.declared.indices.ReencodeIndices.{Ghosts}
+use Rattle.reencode_hooks.specs.Errors.{error_of_write}
+use Rattle.reencode_hooks.specs.Run.{LeavesVisited, NeverWants, Visited, accepted, refused}
+use Rattle.reencode_hooks.specs.Walk.{walk}
+use Rattle.reencode_items.proofs.Leaving.{accepted_visited, none_visited, visited_left}
+use Rattle.reencode_core.specs.Errors.{IfParse, IfRefused}
+use Rattle.reencode_core.specs.Leaves.{LeavesReading}
+use Rattle.reencode_core.specs.Names.{GivesCustom, GivesNames, StopsCustom, SubsectionsFault, SubsectionsLeft, contents_standing}
+use Rattle.reencode_core.specs.Rows.{Asks}
+use Rattle.reencode_core.specs.Sections.{AddsMapped, GivesAdded, KeepsModule}
+use Rattle.reencode_core.proofs.InFrame.{framed, framed_fits, framed_large, framed_refused}
+use Rattle.reencode_core.proofs.Known.{keeps_same}
+use Rattle.reencode_core.proofs.Leaving.{Leaves, never_refused}
+use Rattle.reencode_core.proofs.MappedSection.{keeps_none}
+use Rattle.reencode_core.proofs.NamesLoop.{NamesClauses}
+use Rattle.reencode_core.proofs.OneRow.{MapsIf, answers, asks, sure_left}
+use Rattle.reencode_core.proofs.Usual.{IfParse-map, IfRefused-map, stops_usual, unless_wanting, write_usual}
+
+-- ---- a section in its frame
+
+pub keeps_added : {E : Type 0} (row : SectionRow) (old new : Sections) (r : Result (Unit {0}) (Error E)) → AddsMapped {E = E} row old (Ok tt) new r → KeepsModule old new
+keeps_added row old new (Ok v) adds = (row ∷ [], adds.0)
+keeps_added row old new (Err e) adds = keeps_none adds.0
+
+module _ {S E : Type 0} (asked : Asks S E) (k id : ℕ) (head : Tree) (first : normal head ≡ id ∷ []) {c : ℕ} {s m : S} {t u : Tree} (still : walk asked c s head ≡ accepted head s)
+    (walked : walk asked c s t ≡ accepted u m) where
+  -- its body was accepted: it is added, or it is too large
+  framed_added : (old new : Sections) (r : Result (Unit {0}) (Error E)) → old.ceiling ≡ c → AddsMapped {E = E} (section_row id (normal u)) old (Ok tt) new r →
+      GivesAdded asked id (s, old) (framed k head t) (m, new) r
+  framed_added old new (Ok v) ceiling adds =
+      let fits : length (normal u) ≤ old.ceiling = adds.1 in
+      let W : ℕ → Type 0 = λ z. walk asked z s (framed k head t) ≡ accepted (framed k head u) m in
+      let spelled : section_bytes (section_row id (normal u)) ≡ normal (framed k head u) = ap (λ (z : List ℕ). z ++ (leb (length (normal u)) ++ normal u)) (sym first) in
+      (framed k head u, normal u, subst W (sym ceiling) (framed_fits asked k head still walked (omega arith)), adds.0, spelled)
+  framed_added old new (Err e) ceiling adds = (adds.0, λ other. rw adds.2 (stops adds.1 adds.3 (λ q. other (adds.2 ∙ q))))
+    where
+      stops : (w : WriteFault) → IfTooLarge w (λ size. (size ≡ length (normal u)) × (old.ceiling < size)) → error_of_write {E = E} w ≢ NoMemory →
+          walk asked old.ceiling s (framed k head t) ≡ refused (error_of_write w) m
+      stops (write.TooLarge size) q other =
+          let same : size ≡ length (normal u) = q.0 in
+          let large : old.ceiling < size = q.1 in
+          let W : ℕ → Type 0 = λ z. walk asked z s (framed k head t) ≡ refused (TooLarge size) m in
+          subst W (sym ceiling) (framed_large asked k head still walked (omega arith) ∙ ap (λ (n : ℕ). refused (TooLarge n) m) (sym same))
+      stops write.NoMemory q other = absurd (other refl)
+
+-- where a section is added or not, its error says nothing of the bytes
+pub added_usual : {E : Type 0} (P : ℕ → Type 0) (row : SectionRow) (old new : Sections) (r : Result (Unit {0}) (Error E)) → AddsMapped {E = E} row old (Ok tt) new r → IfErr r (λ e. IfParse e P)
+added_usual P row old new (Ok v) adds = tt
+added_usual {E = E} P row old new (Err e) adds = let Q : Error E → Type 0 = λ z. IfParse z P in subst Q (sym adds.2) (write_usual E P adds.1)
+
+-- ---- a section of another id
+
+abbrev pub UnknownClauses : {S E : Type 0} → Ghosts S E → ℕ → List ℕ → S → Sections → S → Sections → Result (Unit {0}) (Error E) → Type 0
+UnknownClauses i id contents s old m new result =
+    record {
+      kept : KeepsModule old new;
+      default : IsTrue i.keeps_defaults → GivesAdded (asks i) id (s, old) (unknown_tree_of id contents) (m, new) result;
+      after_error : IsTrue i.keeps_defaults → IsTrue i.sure → LeavesVisited (asks i) s [] m result;
+      usual : IsTrue i.keeps_defaults → IfErr result (λ e. IfParse e (λ at. ⊥));
+    }
+
+pub unknown_added : {S E : Type 0} (i : Ghosts S E) (id : ℕ) (contents : List ℕ) (s : S) (old new : Sections) (r : Result (Unit {0}) (Error E)) →
+    AddsMapped {E = E} (section_row id contents) old (Ok tt) new r → UnknownClauses i id contents s old s new r
+unknown_added i id contents s old new r adds = record {
+  kept = keeps_added (section_row id contents) old new r adds;
+  default = λ k. framed_added (asks i) 14 id (Tree.byte id) refl {t = Tree.raw contents} {u = Tree.raw contents} refl refl old new r refl adds;
+  after_error = λ k sure. visited_left r (none_visited s []);
+  usual = λ k. added_usual (λ at. ⊥) (section_row id contents) old new r adds;
+}
+
+-- ---- a custom section
+
+abbrev pub CustomClauses : {S E : Type 0} → Ghosts S E → List ℕ → List ℕ → S → Sections → S → Sections → Result (Unit {0}) (Error E) → Type 0
+CustomClauses i name contents s old m new result =
+    record {
+      kept : KeepsModule old new;
+      default : IsTrue i.keeps_defaults → GivesCustom (asks i) name contents (s, old) (m, new) result;
+      after_error : IsTrue i.keeps_defaults → IsTrue i.sure → LeavesReading (ReadsCustom name contents) (asks i) s m result;
+    }
+
+-- the body of a custom section of a name
+abbrev named : List ℕ → Tree → Tree
+named name u = Tree.pair (Tree.name name) u
+
+-- The contents have a reading, and of each the body is accepted and becomes this.
+record ContentsMade {S E : Type 0} (asked : Asks S E) (name contents : List ℕ) (c : ℕ) (s m : S) (body : Tree) : Type 0 where
+  reading : (u : Tree) × ReadsContents name contents u
+  becomes : (u : Tree) → ReadsContents name contents u → walk asked c s (named name u) ≡ accepted body m
+
+-- a section that is read
+read_custom : {name contents : List ℕ} (u : Tree) → ReadsContents name contents u → (t : Tree) × ReadsCustom name contents t
+read_custom {name = name} u q = (custom_tree_of (named name u), (u, refl, q))
+
+module _ {S E : Type 0} (i : Ghosts S E) {name contents : List ℕ} {s : S} {old : Sections} where
+  -- its contents were accepted: it is added, or it is too large
+  custom_added : {m : S} {new : Sections} {body : Tree} (r : Result (Unit {0}) (Error E)) → (IsTrue i.keeps_defaults → ContentsMade (asks i) name contents old.ceiling s m body) →
+      AddsMapped {E = E} (section_row 0 (normal body)) old (Ok tt) new r → CustomClauses i name contents s old m new r
+  custom_added {m = m} {new = new} {body = body} r made adds = record {
+    kept = keeps_added (section_row 0 (normal body)) old new r adds;
+    default = λ k. given r adds (made k);
+    after_error = λ k sure t reads.
+        let walked = (made k).becomes reads.0 reads.2 in
+        let P : Tree → Type 0 = λ z. Visited (asks i) s (visits z) m in
+        visited_left r (subst P (sym reads.1) (accepted_visited old.ceiling (named name reads.0) walked));
+  }
+    where
+      gives : (r : Result (Unit {0}) (Error E)) → AddsMapped {E = E} (section_row 0 (normal body)) old (Ok tt) new r → ContentsMade (asks i) name contents old.ceiling s m body →
+          (t : Tree) → ReadsCustom name contents t → GivesAdded (asks i) 0 (s, old) t (m, new) r
+      gives r adds w t q =
+          let P : Tree → Type 0 = λ z. GivesAdded (asks i) 0 (s, old) z (m, new) r in
+          subst P (sym q.1) (framed_added (asks i) 13 0 (Tree.fixed 0) refl {t = named name q.0} {u = body} refl (w.becomes q.0 q.2) old new r refl adds)
+
+      given : (r : Result (Unit {0}) (Error E)) → AddsMapped {E = E} (section_row 0 (normal body)) old (Ok tt) new r → ContentsMade (asks i) name contents old.ceiling s m body →
+          GivesCustom (asks i) name contents (s, old) (m, new) r
+      given (Ok v) adds w = record { reading = gives (Ok v) adds w; readable = read_custom w.reading.0 w.reading.1; unreadable = tt; refusal = tt }
+      given (Err e) adds w = record {
+        reading = gives (Err e) adds w;
+        readable = tt;
+        unreadable = added_usual _ (section_row 0 (normal body)) old new (Err e) adds;
+        refusal = unless_wanting e (λ other. inl (read_custom w.reading.0 w.reading.1));
+      }
+
+  -- ---- one that is named `name`
+
+  module _ (is : name ≡ names_name) {reader : NamesStanding} (fresh : reader ≡ contents_standing contents) where
+    -- its names
+    names_of : (u : Tree) → ReadsContents name contents u → SubsectionsLeft (contents_standing contents) u
+    names_of u (inl q) = q.1
+    names_of u (inr q) = absurd (q.0 is)
+
+    at_start : {c : ℕ} {m : S} {r : Result CodeRows (Error E)} → c ≡ old.ceiling → GivesNames (asks i) c reader s m r (λ z. z) → GivesNames (asks i) old.ceiling (contents_standing contents) s m r (λ z. z)
+    at_start {c = c} {m = m} {r = r} ceiling g =
+        let P : ℕ → NamesStanding → Type 0 = λ y z. GivesNames (asks i) y z s m r (λ w. w) in
+        subst (λ (y : ℕ). P y (contents_standing contents)) ceiling (subst (P c) fresh g)
+
+    pub names_added : {c : ℕ} {m : S} {new : Sections} (names : CodeRows) (r : Result (Unit {0}) (Error E)) → c ≡ old.ceiling → NamesClauses i c reader s m (Ok names) →
+        AddsMapped {E = E} (section_row 0 (normal (name_section_tree names.rows))) old (Ok tt) new r → CustomClauses i name contents s old m new r
+    names_added {c = c} {m = m} names r ceiling given adds = custom_added {body = name_section_tree names.rows} r (λ k. made (at_start ceiling (given.default k))) adds
+      where
+        becomes : (u : Tree) → walk (asks i) old.ceiling s u ≡ accepted (rows_tree names.rows) m → walk (asks i) old.ceiling s (named name u) ≡ accepted (name_section_tree names.rows) m
+        becomes u h =
+            let walked : walk (asks i) old.ceiling s (named name u) ≡ accepted (named name (rows_tree names.rows)) m = rw h refl in
+            walked ∙ ap (λ (z : List ℕ). accepted (named z (rows_tree names.rows)) m) is
+
+        made : GivesNames (asks i) old.ceiling (contents_standing contents) s m (Ok names) (λ z. z) → ContentsMade (asks i) name contents old.ceiling s m (name_section_tree names.rows)
+        made g = record {
+          reading = (g.readable.0, inl (is, g.readable.1));
+          becomes = λ u q. let w = g.reading u (names_of u q) in becomes u (w.1 ∙ ap (λ (z : CodeRows). accepted (rows_tree z.rows) m) (sym w.2));
+        }
+
+    -- its names were refused, or they are none
+    pub names_not_added : {c : ℕ} {m : S} (e : Error E) → c ≡ old.ceiling → NamesClauses i c reader s m (Err e) → (r : Result (Unit {0}) (Error E)) → IsErrAnd r (λ y. y ≡ e) →
+        CustomClauses i name contents s old m old r
+    names_not_added {c = c} {m = m} e ceiling given r q =
+        let P : Result (Unit {0}) (Error E) → Type 0 = λ z. CustomClauses i name contents s old m old z in
+        subst P (answers r q) (record { kept = keeps_same old; default = λ k. custom (at_start ceiling (given.default k)); after_error = λ k sure. left (left_at (given.after_error k sure)) })
+      where
+        left_at : Leaves (SubsectionsLeft reader) (asks i) s m → Leaves (SubsectionsLeft (contents_standing contents)) (asks i) s m
+        left_at leaves = let P : NamesStanding → Type 0 = λ z. Leaves (SubsectionsLeft z) (asks i) s m in subst P fresh leaves
+
+        left : Leaves (SubsectionsLeft (contents_standing contents)) (asks i) s m → Leaves (ReadsCustom name contents) (asks i) s m
+        left leaves t reads =
+            let P : Tree → Type 0 = λ z. Visited (asks i) s (visits z) m in
+            subst P (sym reads.1) (leaves reads.0 (names_of reads.0 reads.2))
+
+        refuses : (u : Tree) → walk (asks i) old.ceiling s u ≡ refused e m → walk (asks i) old.ceiling s (custom_tree_of (named name u)) ≡ refused e m
+        refuses u h = let body : walk (asks i) old.ceiling s (named name u) ≡ refused e m = rw h refl in framed_refused (asks i) 13 (Tree.fixed 0) refl e body
+
+        either : {P : Type 0} → ((rows : Tree) × SubsectionsLeft (contents_standing contents) rows) ⊎ P → ((t : Tree) × ReadsCustom name contents t) ⊎ ((name ≡ names_name) × P)
+        either (inl p) = inl (read_custom p.0 (inl (is, p.1)))
+        either (inr p) = inr (is, p)
+
+        custom : GivesNames {A = CodeRows} (asks i) old.ceiling (contents_standing contents) s m (Err e) (λ z. z) → GivesCustom (asks i) name contents (s, old) (m, old) (Err e)
+        custom g = record {
+          reading = λ t reads.
+              let P : Tree → Type 0 = λ z. GivesAdded (asks i) 0 (s, old) z (m, old) (Err e) in
+              subst P (sym reads.1) (refl, λ other. refuses reads.0 (g.reading reads.0 (names_of reads.0 reads.2) other));
+          readable = tt;
+          unreadable = IfParse-map e (λ at f. (λ t reads. f.none reads.0 (names_of reads.0 reads.2), is, f)) g.unreadable;
+          refusal = IfRefused-map e either g.refusal;
+        }
+
+  -- ---- any other one
+
+  module _ (other : name ≢ names_name) where
+    raw_of : (u : Tree) → ReadsContents name contents u → u ≡ Tree.raw contents
+    raw_of u (inl q) = absurd (other q.0)
+    raw_of u (inr q) = q.1
+
+    pub other_added : {A : Type 0} {view : A → Tree} {m : S} {new : Sections} (a : A) (r : Result (Unit {0}) (Error E)) → MapsIf i s (named name (Tree.raw contents)) view m (Ok a) →
+        AddsMapped {E = E} (section_row 0 (normal (view a))) old (Ok tt) new r → CustomClauses i name contents s old m new r
+    other_added {view = view} {m = m} a r maps adds = custom_added {body = view a} r (λ k. made (maps k old.ceiling)) adds
+      where
+        made : walk (asks i) old.ceiling s (named name (Tree.raw contents)) ≡ accepted (view a) m → ContentsMade (asks i) name contents old.ceiling s m (view a)
+        made h = record {
+          reading = (Tree.raw contents, inr (other, refl));
+          becomes = λ u q. let P : Tree → Type 0 = λ z. walk (asks i) old.ceiling s (named name z) ≡ accepted (view a) m in subst P (sym (raw_of u q)) h;
+        }
+
+    -- memory is wanting
+    pub other_not_mapped : {A : Type 0} {view : A → Tree} {m : S} (e : Error E) → MapsIf i s (named name (Tree.raw contents)) view m (Err e) → (IsTrue i.keeps_defaults → NeverWants {A = A} i.sure (Err e)) →
+        (r : Result (Unit {0}) (Error E)) → IsErrAnd r (λ y. y ≡ e) → CustomClauses i name contents s old m old r
+    other_not_mapped {A = A} {view = view} {m = m} e maps sure r q =
+        let P : Result (Unit {0}) (Error E) → Type 0 = λ z. CustomClauses i name contents s old m old z in
+        subst P (answers r q) (record { kept = keeps_same old; default = λ k. custom (maps k old.ceiling); after_error = λ k is t reads. left k is t reads })
+      where
+        left : IsTrue i.keeps_defaults → IsTrue i.sure → Leaves (ReadsCustom name contents) (asks i) s m
+        left k is t reads =
+            let P : Tree → Type 0 = λ z. Visited (asks i) s (visits z) m in
+            let Q : Tree → Type 0 = λ z. Visited (asks i) s (visits (custom_tree_of (named name z))) m in
+            subst P (sym reads.1) (subst Q (sym (raw_of reads.0 reads.2)) (sure_left i (named name (Tree.raw contents)) view s m e maps sure k is))
+
+        custom : (e ≢ NoMemory → walk (asks i) old.ceiling s (named name (Tree.raw contents)) ≡ refused e m) → GivesCustom (asks i) name contents (s, old) (m, old) (Err e)
+        custom stops = record {
+          reading = λ t reads. (refl, λ some. absurd (never_refused (stops some)));
+          readable = tt;
+          unreadable = stops_usual _ (walk (asks i) old.ceiling s (named name (Tree.raw contents))) e m tt stops;
+          refusal = unless_wanting e (λ some. absurd (never_refused (stops some)));
+        }

@@ -1,0 +1,295 @@
+-- The loop over the subsections of a name section.
+use Rattle.std.proofs.Common.{◌≡◌, ◌≢◌, ◌⊎◌, ℕ, ◌-◌, ◌<◌, ◌+◌, ◌^◌, List, [], ◌∷◌, ◌++◌, length, length-append, Contains, Result, Ok, Err, IsErrAnd, IsTrue, refl, sym, ap, ◌∙◌, subst, inl, inr, arith}
+use Rattle.std.proofs.lemmas.List.Elements.{Contains-append_left}
+use Rattle.wasm_leb.specs.declared.fault.Fault.{Fault}
+use Rattle.wasm_leb.specs.declared.fault.Fault.TheVariants as fault
+use Rattle.wasm_shapes.specs.Tree.{Tree, visits}
+use Rattle.wasm_shapes.specs.Shape.{Shape}
+use Rattle.wasm_shapes.specs.Spells.{Is, Spelled, Spells}
+use Rattle.wasm_shapes.specs.Place.{Begins, BeginsNone}
+use Rattle.wasm_shapes.specs.Module.{name_subsection, names}
+use Rattle.wasm_shapes.specs.Types.{rows_tree}
+use Rattle.wasm_shapes.proofs.Begins.{none_at_end}
+use Rattle.wasm_read.specs.declared.types.Name.{Name}
+use Rattle.wasm_read.specs.declared.types.Name.TheVariants as name
+use Rattle.wasm_read.specs.Names.{NamesStanding, names_place, MapStanding, Due, whole_map}
+use Rattle.wasm_read.specs.Reading.{ReadsNone}
+use Rattle.wasm_read.specs.Subsections.{Content, content_of, Holds, IsRaw, NameMissing, NameRead, ReadsName, subsection_frame, subsection_frame_tree}
+use Rattle.wasm_read.proofs.Subsections.{none_subsection, reads_subsection, subsection_there}
+use Rattle.wasm_write.specs.Bodies.{CodeRows, with_row}
+use Rattle.wasm_write.specs.Counts.{counts, IsTooLarge}
+use Rattle.reencode_hooks.specs.declared.error.Error.{Error}
+use Rattle.reencode_hooks.specs.declared.error.Error.TheVariants.{CanonicalizedHeapTypeReference, InvalidConstExpr, InvalidCodeSectionSize, UnexpectedNonCoreModuleSection, UnexpectedNonComponentSection, UnsupportedCoreTypeInComponent, ParseError, UserError, TooLarge, NoMemory}
+use Rattle.reencode_hooks.specs.declared.indices.ReencodeIndices.{Ghosts}
+use Rattle.reencode_hooks.specs.Errors.{error_of_fault}
+use Rattle.reencode_hooks.specs.Run.{accepted, refused, Visited}
+use Rattle.reencode_hooks.specs.Walk.{walk}
+use Rattle.reencode_items.proofs.Leaving.{first_visited, none_visited}
+use Rattle.reencode_core.specs.Bodies.{KeepsCode}
+use Rattle.reencode_core.specs.Errors.{IfParse, IfRefused, placed_at}
+use Rattle.reencode_core.specs.Leaves.{LeavesReading}
+use Rattle.reencode_core.specs.Names.{GivesNames, GivesSubsection, MapRow, RefusesEntry, RefusesSubsection, StopsContent, StopsNames, SubsectionsFault, SubsectionsLeft, TooLargeNames}
+use Rattle.reencode_core.specs.Rows.{Asks, Further}
+use Rattle.reencode_core.proofs.Counts.{further_none, only_rows}
+use Rattle.reencode_core.proofs.Leaving.{Leaves, behind_visited}
+use Rattle.reencode_core.proofs.ManyLoop.{ManyDone, first_of_many, many_begun, many_more, many_read, many_refused, many_stuck, many_walked}
+use Rattle.reencode_core.proofs.OneRow.{answers, asks}
+use Rattle.reencode_core.proofs.Usual.{IfParse-map, IfRefused-map, fault_unrefused, unless_wanting}
+
+-- ---- the clauses
+
+-- those of the call that maps a subsection
+abbrev pub SubsectionClauses : {S E : Type 0} → Ghosts S E → Name → S → CodeRows → S → CodeRows → Result (Unit {0}) (Error E) → Type 0
+SubsectionClauses i n s old m new result =
+    record {
+      kept : KeepsCode old new;
+      default : IsTrue i.keeps_defaults → GivesSubsection (asks i) n (s, old) (m, new) result;
+      after_error : IsTrue i.keeps_defaults → IsTrue i.sure → LeavesReading (ReadsName n) (asks i) s m result;
+    }
+
+-- those of the call that maps the subsections of a section
+abbrev pub NamesClauses : {S E : Type 0} → Ghosts S E → ℕ → NamesStanding → S → S → Result CodeRows (Error E) → Type 0
+NamesClauses i c start s m result =
+    record {
+      default : IsTrue i.keeps_defaults → GivesNames (asks i) c start s m result (λ z. z);
+      after_error : IsTrue i.keeps_defaults → IsTrue i.sure → LeavesReading (SubsectionsLeft start) (asks i) s m result;
+    }
+
+-- the subsections so far are walked and added
+pub record NamesKept {S E : Type 0} (i : Ghosts S E) (c : ℕ) (start : NamesStanding) (s0 : S) (reader : NamesStanding) (s : S) (new : CodeRows) : Type 0 where
+  pub ceiling : new.ceiling ≡ c
+  pub len : reader.len ≡ start.len
+  pub default : IsTrue i.keeps_defaults → ManyDone (asks i) c name_subsection start.rest s0 reader.rest s new.rows
+
+-- ---- a subsection that was read
+
+-- the reader stands further on
+pub further_on : {reader reader' : NamesStanding} {n : Name} → NameRead reader n reader' → length reader'.rest < length reader.rest
+further_on {reader = reader} {reader' = reader'} r =
+    let s = r.begins.spells.spelled in
+    let whole : length reader.rest ≡ length r.begins.text + length reader'.rest = ap length r.begins.reads ∙ length-append r.begins.text reader'.rest in
+    let text : length r.begins.text ≡ length s.0 + length s.1 = ap length s.2 ∙ length-append s.0 s.1 in
+    let id : length s.0 ≡ 1 = ap length s.3.0 in
+    omega arith
+
+raw_of : (n : Name) (id : ℕ) (body : List ℕ) → Holds id body (content_of n) → IsRaw n
+raw_of (name.Unknown j c) id body h = h.1
+raw_of _ id body h = tt
+
+-- what is raw has an id of its own
+pub read_raw : {reader reader' : NamesStanding} {n : Name} → NameRead reader n reader' → IsRaw n
+read_raw {n = n} r = raw_of n r.id r.body r.holds
+
+some_begun : {reader reader' : NamesStanding} {n : Name} → NameRead reader n reader' → reader.rest ≢ []
+some_begun {reader' = reader'} r empty =
+    let none : BeginsNone subsection_frame [] = none_at_end refl in
+    none.none r.begins.text reader'.rest (subsection_frame_tree r.id r.body) r.begins.spells (sym empty ∙ r.begins.reads)
+
+module _ {S E : Type 0} (asked : Asks S E) where
+  -- no number in what was read is too large
+  none_large : (s m : S) (t : Tree) (x : List ℕ) (e : Error E) → Spelled t x → TooLargeNames asked s t e m → ⊥
+  none_large s m t x (TooLarge size) p q =
+      let u = q.accepts.made in
+      let among : IsTooLarge (counts u ++ 0 ∷ []) size = record { counted = Contains-append_left (counts u) (0 ∷ []) size q.large.counted; large = q.large.large } in
+      let none = only_rows asked q.accepts.ceiling s m t u x 0 size p q.accepts.walked among in
+      let zero : size ≡ 0 = none.0 in
+      let large : 2 ^ 32 - 1 < size = none.1 in
+      omega arith
+  none_large s m t x _ p q = q.large
+
+  walk_refuses : (c : ℕ) (s m : S) (t : Tree) (x : List ℕ) (e : Error E) → Spelled t x → (walk asked c s t ≡ refused e m) ⊎ TooLargeNames asked s t e m → walk asked c s t ≡ refused e m
+  walk_refuses c s m t x e p (inl h) = h
+  walk_refuses c s m t x e p (inr q) = absurd (none_large s m t x e p q)
+
+  -- an entry of its map is refused
+  entry_refused : (k : Content) (c id : ℕ) (bytes body left : List ℕ) (s m : S) (e : Error E) → Begins subsection_frame bytes (subsection_frame_tree id body) left → Holds id body k →
+      StopsContent asked c k s e m → RefusesEntry asked bytes c s e m
+  entry_refused (Content.direct j space w) c id bytes body left s m e there h q =
+      let D : MapStanding → Type 0 = λ z. Due z q.count q.start in
+      let R : ℕ → Type 0 = λ y. MapRow y q.row in
+      record { id = id; body = body; left = left; begins = there; row = q.row; is_row = subst R (sym h.0) q.is_row; count = q.count; start = q.start; counted = subst D h.1 q.due; stops = q.stops; more = q.more }
+  entry_refused (Content.indirect j space w) c id bytes body left s m e there h q =
+      let D : MapStanding → Type 0 = λ z. Due z q.count q.start in
+      let R : ℕ → Type 0 = λ y. MapRow y q.row in
+      record { id = id; body = body; left = left; begins = there; row = q.row; is_row = subst R (sym h.0) q.is_row; count = q.count; start = q.start; counted = subst D h.1 q.due; stops = q.stops; more = q.more }
+  entry_refused (Content.text n) c id bytes body left s m e there h q = absurd q
+  entry_refused (Content.raw j b) c id bytes body left s m e there h q = absurd q
+
+  module _ {c : ℕ} {start reader : NamesStanding} {s0 s : S} {made : List Tree} (len : reader.len ≡ start.len) (d : ManyDone asked c name_subsection start.rest s0 reader.rest s made) where
+    -- no subsection is there
+    names_fault : {m : S} (at : ℕ) → BeginsNone name_subsection reader.rest → reader.rest ≢ [] → at ≡ names_place reader → Further asked s m → SubsectionsFault asked c start s0 m at
+    names_fault {m = m} at missing some place further = record {
+      none = many_stuck asked c refl refl refl d missing some;
+      read = d.read;
+      rest = reader.rest;
+      made = made;
+      state = s;
+      front = d.before;
+      some = some;
+      missing = missing;
+      place = place ∙ ap (λ (n : ℕ). n - length reader.rest) len;
+      accepts = d.accepts;
+      further = further;
+    }
+
+    pub names_unread : (f : Fault) → ReadsNone f (names_place reader) (NameMissing reader) → GivesNames {A = CodeRows} asked c start s0 s (Err (error_of_fault f)) (λ z. z)
+    names_unread f missing = record {
+      reading = λ rows r. absurd (never f missing rows r);
+      readable = tt;
+      unreadable = parse f missing;
+      refusal = fault_unrefused E _ f;
+    }
+      where
+        never : (f : Fault) → ReadsNone f (names_place reader) (NameMissing reader) → (rows : Tree) → SubsectionsLeft start rows → ⊥
+        never (fault.Read x) h rows r = many_stuck asked c refl refl refl d h.1.none h.1.some rows r
+        never fault.NoMemory h rows r = h
+        never fault.CodeSize h rows r = h
+        never (fault.Header k) h rows r = h
+
+        parse : (f : Fault) → ReadsNone f (names_place reader) (NameMissing reader) → IfParse (error_of_fault {E = E} f) (SubsectionsFault asked c start s0 s)
+        parse (fault.Read x) h = names_fault x.at h.1.none h.1.some h.0 (further_none asked s)
+        parse fault.NoMemory h = absurd h
+        parse fault.CodeSize h = absurd h
+        parse (fault.Header k) h = absurd h
+
+    pub names_all : (new : CodeRows) → new.ceiling ≡ c → new.rows ≡ made → reader.rest ≡ [] → GivesNames asked c start s0 s (Ok new) (λ z. z)
+    names_all new ceiling rows ended = record {
+      reading = λ t r. (made, many_walked asked c refl refl refl d ended t r, same);
+      readable = many_read asked c refl refl refl d ended;
+      unreadable = tt;
+      refusal = tt;
+    }
+      where
+        same : new ≡ record { ceiling = c; rows = made }
+        same = ap (λ (z : ℕ). record new { ceiling = z }) ceiling ∙ ap (λ (z : List Tree). record { ceiling = c; rows = z }) rows
+
+    module _ {reader' : NamesStanding} {n : Name} (r : NameRead reader n reader') {old : CodeRows} (ceiling : old.ceiling ≡ c) where
+      pub names_more : {m : S} {new : CodeRows} → old.rows ≡ made → GivesSubsection asked n (s, old) (m, new) (Ok tt) → ManyDone asked c name_subsection start.rest s0 reader'.rest m new.rows
+      names_more {m = m} {new = new} rows g =
+          let t = g.readable.0 in
+          let q = g.reading t g.readable.1 in
+          let W : ℕ → Type 0 = λ z. walk asked z s t ≡ accepted q.0 m in
+          let added : new.rows ≡ made ++ q.0 ∷ [] = ap CodeRows.rows q.2 ∙ ap (λ (z : List Tree). z ++ q.0 ∷ []) rows in
+          let P : List Tree → Type 0 = λ z. ManyDone asked c name_subsection start.rest s0 reader'.rest m z in
+          subst P (sym added) (many_more asked c refl refl refl d (subsection_there r g.readable.1) (subst W ceiling q.1))
+
+      -- a subsection is refused, or it is none
+      pub names_err : {m : S} {new : CodeRows} (e : Error E) (at : ℕ) → GivesSubsection asked n (s, old) (m, new) (Err e) → at ≡ names_place reader → GivesNames {A = CodeRows} asked c start s0 m (Err (placed_at e at)) (λ z. z)
+      names_err {m = m} {new = new} e at g place = go e g
+        where
+          -- where the subsection has a reading, its walk is refused
+          refuses : (e : Error E) → GivesSubsection asked n (s, old) (m, new) (Err e) → e ≢ NoMemory → (t : Tree) → ReadsName n t → walk asked c s t ≡ refused e m
+          refuses e g other t reads =
+              let there = subsection_there r reads in
+              let N : ℕ → Type 0 = λ z. (walk asked z s t ≡ refused e m) ⊎ TooLargeNames asked s t e m in
+              walk_refuses c s m t there.text e there.spells.spelled (subst N ceiling ((g.reading t reads).1 other))
+
+          stops : (e : Error E) → RefusesSubsection asked c reader.rest s e m ⊎ RefusesEntry asked reader.rest c s e m → StopsNames asked c start s0 e m
+          stops e q = record { read = d.read; rest = reader.rest; made = made; state = s; front = d.before; accepts = d.accepts; refuses = q }
+
+          inside : (e : Error E) → GivesSubsection asked n (s, old) (m, new) (Err e) → e ≢ NoMemory →
+              ((t : Tree) × ReadsName n t) ⊎ ((new ≡ old) × StopsContent asked old.ceiling (content_of n) s e m) → StopsNames asked c start s0 e m
+          inside e g other (inl q) =
+              let there = subsection_there r q.1 in
+              stops e (inl (record { tree = q.0; left = reader'.rest; begins = there; refusal = refuses e g other q.0 q.1 }))
+          inside e g other (inr q) =
+              let N : ℕ → Type 0 = λ z. StopsContent asked z (content_of n) s e m in
+              stops e (inr (entry_refused (content_of n) c r.id reader.rest r.body reader'.rest s m e r.begins r.holds (subst N ceiling q.1)))
+
+          refusal : (e : Error E) → GivesSubsection asked n (s, old) (m, new) (Err e) → IfRefused e (((rows : Tree) × SubsectionsLeft start rows) ⊎ StopsNames asked c start s0 e m)
+          refusal (UserError x) g = inr (inside (UserError x) g (λ q. cc) g.refusal)
+          refusal (TooLarge x) g = inr (inside (TooLarge x) g (λ q. cc) g.refusal)
+          refusal _ g = tt
+
+          given : (e : Error E) → GivesSubsection asked n (s, old) (m, new) (Err e) → IfParse e (λ at. ⊥) → GivesNames {A = CodeRows} asked c start s0 m (Err e) (λ z. z)
+          given e g usual = record {
+            reading = λ rows all other. walked e g other rows all;
+            readable = tt;
+            unreadable = IfParse-map e (λ at never. absurd never) usual;
+            refusal = refusal e g;
+          }
+            where
+              walked : (e : Error E) → GivesSubsection asked n (s, old) (m, new) (Err e) → e ≢ NoMemory → (rows : Tree) → SubsectionsLeft start rows → walk asked c s0 rows ≡ refused e m
+              walked e g other rows all =
+                  let b = d.back rows all in
+                  let f = first_row b.0 b.2 in
+                  let q = reads_subsection r f.2 in
+                  many_refused asked c refl refl refl d e f.2 (refuses e g other f.0 q.0) rows all
+                where
+                  first_row : (rows : Tree) → Spells names reader.rest rows → (t : Tree) × (left : List ℕ) × Begins name_subsection reader.rest t left
+                  first_row rows p = go rows p.shaped p.spelled
+                    where
+                      go : (rows : Tree) → Is names rows → Spelled rows reader.rest → (t : Tree) × (left : List ℕ) × Begins name_subsection reader.rest t left
+                      go rows Is.nil p = absurd (some_begun r p)
+                      go rows (Is.cons {t = t} i j) p = (t, p.1, record { text = p.0; spells = record { shaped = i; spelled = p.3 }; reads = p.2 })
+
+          go : (e : Error E) → GivesSubsection asked n (s, old) (m, new) (Err e) → GivesNames {A = CodeRows} asked c start s0 m (Err (placed_at e at)) (λ z. z)
+          go (ParseError x) g =
+              let missing = none_subsection r g.unreadable.0 in record {
+                reading = λ rows all. absurd (many_stuck asked c refl refl refl d missing (some_begun r) rows all);
+                readable = tt;
+                unreadable = names_fault at missing (some_begun r) place g.unreadable.2;
+                refusal = tt;
+              }
+          go (UserError x) g = given (UserError x) g tt
+          go (TooLarge x) g = given (TooLarge x) g tt
+          go NoMemory g = given NoMemory g tt
+          go _ g = absurd g.unreadable
+
+  -- ---- the state that is left
+
+  module _ {c : ℕ} {start reader : NamesStanding} {s0 s : S} {made : List Tree} (d : ManyDone asked c name_subsection start.rest s0 reader.rest s made) where
+    names_leave : {m : S} → Leaves (SubsectionsLeft reader) asked s m → Leaves (SubsectionsLeft start) asked s0 m
+    names_leave {m = m} leaves = λ rows all.
+        let b = d.back rows all in
+        let P : Tree → Type 0 = λ z. Visited asked s0 (visits z) m in
+        subst P (sym b.1) (behind_visited c d.read b.0 (d.accepts Tree.nil) (leaves b.0 b.2))
+
+    pub names_leave_none : Leaves (SubsectionsLeft start) asked s0 s
+    names_leave_none = names_leave (λ others all. none_visited s (visits others))
+
+    -- the next subsection was asked in part
+    pub names_leave_next : {m : S} {reader' : NamesStanding} {n : Name} → NameRead reader n reader' → Leaves (ReadsName n) asked s m → Leaves (SubsectionsLeft start) asked s0 m
+    names_leave_next {m = m} r leaves = names_leave (λ others all. go others all.shaped all.spelled)
+      where
+        go : (others : Tree) → Is names others → Spelled others reader.rest → Visited asked s (visits others) m
+        go others Is.nil p = absurd (some_begun r p)
+        go others (Is.cons {t = t} {u = u} i j) p =
+            let there : Begins name_subsection reader.rest t p.1 = record { text = p.0; spells = record { shaped = i; spelled = p.3 }; reads = p.2 } in
+            first_visited (visits u) (leaves t (reads_subsection r there).0)
+
+-- ---- the loop
+
+module _ {S E : Type 0} (i : Ghosts S E) {c : ℕ} {start : NamesStanding} {s0 : S} where
+  pub names_begun : {new : CodeRows} → new ≡ record { ceiling = c; rows = [] } → NamesKept i c start s0 start s0 new
+  names_begun fresh =
+      let P : List Tree → Type 0 = λ z. ManyDone (asks i) c name_subsection start.rest s0 start.rest s0 z in
+      record { ceiling = ap CodeRows.ceiling fresh; len = refl; default = λ k. subst P (sym (ap CodeRows.rows fresh)) (many_begun (asks i) c name_subsection start.rest s0) }
+
+  module _ {reader : NamesStanding} {s : S} {new : CodeRows} (inv : NamesKept i c start s0 reader s new) where
+    pub names_ended : reader.rest ≡ [] → NamesClauses i c start s0 s (Ok new)
+    names_ended ended = record { default = λ k. names_all (asks i) inv.len (inv.default k) new inv.ceiling refl ended; after_error = λ k sure t reads. tt }
+
+    -- no subsection is there
+    pub names_stuck : (f : Fault) → ReadsNone f (names_place reader) (NameMissing reader) → (r : Result CodeRows (Error E)) → IsErrAnd r (λ y. y ≡ error_of_fault f) → NamesClauses i c start s0 s r
+    names_stuck f missing r q =
+        let P : Result CodeRows (Error E) → Type 0 = λ z. NamesClauses i c start s0 s z in
+        subst P (answers r q) (record { default = λ k. names_unread (asks i) inv.len (inv.default k) f missing; after_error = λ k sure. names_leave_none (asks i) (inv.default k) })
+
+    module _ {reader' : NamesStanding} {n : Name} (read : NameRead reader n reader') where
+      pub names_on : {m : S} {new' : CodeRows} → SubsectionClauses i n s new m new' (Ok tt) → NamesKept i c start s0 reader' m new'
+      names_on given = record {
+        ceiling = given.kept.ceiling ∙ inv.ceiling;
+        len = read.len ∙ inv.len;
+        default = λ k. names_more (asks i) inv.len (inv.default k) read inv.ceiling refl (given.default k);
+      }
+
+      -- a subsection is refused, or it is none
+      pub names_refused : {m : S} {new' : CodeRows} (e : Error E) (at : ℕ) → SubsectionClauses i n s new m new' (Err e) → at ≡ names_place reader → (r : Error E) → r ≡ placed_at e at →
+          NamesClauses i c start s0 m (Err r)
+      names_refused {m = m} e at given place r q =
+          let P : Error E → Type 0 = λ z. NamesClauses i c start s0 m (Err z) in
+          subst P (sym q) (record {
+            default = λ k. names_err (asks i) inv.len (inv.default k) read inv.ceiling e at (given.default k) place;
+            after_error = λ k sure. names_leave_next (asks i) (inv.default k) read (given.after_error k sure);
+          })

@@ -1,0 +1,247 @@
+-- A subsection of a name section, as it is mapped and added.
+use Rattle.std.proofs.Common.{◌≡◌, ◌≢◌, ◌⊎◌, ℕ, ◌≤◌, ◌<◌, ◌^◌, ◌-◌, List, [], ◌∷◌, ◌++◌, length, map, Result, Ok, Err, IfOk, IfErr, OnOk, OnErr, IsErrAnd, IsTrue, refl, sym, ap, ◌∙◌, subst, inl, inr, arith}
+use Rattle.std.proofs.Math.Seq.{take-append_seam}
+use Rattle.wasm_shapes.specs.declared.Space.{Space}
+use Rattle.wasm_shapes.specs.Tree.{Tree, count, normal, visits}
+use Rattle.wasm_shapes.specs.Shape.{Shape}
+use Rattle.wasm_shapes.specs.Types.{rows_tree, vector_tree}
+use Rattle.wasm_shapes.specs.Module.{plain_naming}
+use Rattle.wasm_shapes.specs.Namings.{asked_in, entries_trees, module_name_tree, names_tree, outers_trees, raw_names_tree}
+use Rattle.wasm_read.specs.declared.types.Name.{Name}
+use Rattle.wasm_read.specs.Names.{EntriesLeft, MapStanding}
+use Rattle.wasm_read.specs.Subsections.{Content, ReadsContent, ReadsName, content_of}
+use Rattle.wasm_read.proofs.NameMaps.{asked_row, entries_of, outers_of, plain_row}
+use Rattle.wasm_write.specs.declared.fault.WriteFault.{WriteFault}
+use Rattle.wasm_write.specs.declared.fault.WriteFault.TheVariants as write
+use Rattle.wasm_write.specs.Bodies.{CodeRows, with_row}
+use Rattle.wasm_write.specs.Counts.{IsTooLarge, counts}
+use Rattle.wasm_write.specs.Faults.{IfTooLarge}
+use Rattle.wasm_write.specs.Names.{PassesCeiling}
+use Rattle.reencode_hooks.specs.declared.error.Error.{Error}
+use Rattle.reencode_hooks.specs.declared.error.Error.TheVariants.{NoMemory, TooLarge}
+use Rattle.reencode_hooks.specs.declared.indices.ReencodeIndices.{Ghosts}
+use Rattle.reencode_hooks.specs.Errors.{error_of_write}
+use Rattle.reencode_hooks.specs.Run.{LeavesVisited, Visited, accepted, refused}
+use Rattle.reencode_hooks.specs.Walk.{walk}
+use Rattle.reencode_items.proofs.Leaving.{accepted_visited, visited_left}
+use Rattle.reencode_core.specs.Bodies.{KeepsCode}
+use Rattle.reencode_core.specs.Names.{GivesNaming, GivesSubsection, MapRow, StopsContent, StopsMap, TooLargeNames, of_writer}
+use Rattle.reencode_core.specs.Rows.{Asks}
+use Rattle.reencode_core.proofs.BodyLoop.{keeps_code}
+use Rattle.reencode_core.proofs.InFrame.{framed, framed_fits, framed_large, framed_refused}
+use Rattle.reencode_core.proofs.NameCalls.{GivesMap}
+use Rattle.reencode_core.proofs.NamesLoop.{SubsectionClauses}
+use Rattle.reencode_core.proofs.OneRow.{answers, asks}
+use Rattle.reencode_core.proofs.Usual.{IfParse-map, IfRefused-map, unless_wanting, write_usual}
+
+-- ---- a subsection that is accepted
+
+-- The subsection has a reading, and the body of each is accepted and becomes this.
+pub record NamingMade {S E : Type 0} (asked : Asks S E) (n : Name) (s k : S) (row : ℕ) (head made : Tree) : Type 0 where
+  pub reading : (t : Tree) × ReadsName n t
+  pub becomes : (t : Tree) → ReadsName n t → (v : Tree) × (t ≡ framed row head v) × ((c : ℕ) → walk asked c s v ≡ accepted made k)
+
+-- the size that a writer tells of
+abbrev pub TooLargeBody : ℕ → Tree → ℕ → Type 0
+TooLargeBody c made size = IsTooLarge (counts made) size ⊎ ((size ≡ length (normal made)) × (c < size))
+
+module _ {S E : Type 0} (i : Ghosts S E) {n : Name} {s k : S} {old new : CodeRows} (row : ℕ) (head : Tree) (made : Tree) (still : (c : ℕ) (s : S) → walk (asks i) c s head ≡ accepted head s)
+    (none : counts head ≡ []) where
+  all_accepted : NamingMade (asks i) n s k row head made → (t : Tree) → ReadsName n t → walk (asks i) (length (normal made)) s t ≡ accepted (framed row head made) k
+  all_accepted b t reads =
+      let v = b.becomes t reads in
+      let size : ℕ = length (normal made) in
+      rw v.1 (framed_fits (asks i) row head (still size s) (v.2 size) (omega arith))
+
+  naming_given : NamingMade (asks i) n s k row head made → (w : Result (Unit {0}) WriteFault) → OnOk w (new ≡ with_row old (framed row head made)) → OnOk w (length (normal made) ≤ old.ceiling) →
+      OnErr w (new ≡ old) → IfErr w (λ f. IfTooLarge f (TooLargeBody old.ceiling made)) → GivesSubsection (asks i) n (s, old) (k, new) (of_writer {E = E} w)
+  naming_given b (Ok u) gains fits unchanged large = record {
+    reading = λ t reads. let v = b.becomes t reads in (framed row head made, rw v.1 (framed_fits (asks i) row head (still old.ceiling s) (v.2 old.ceiling) fits), gains);
+    readable = b.reading;
+    unreadable = tt;
+    refusal = tt;
+  }
+  naming_given b (Err f) gains fits unchanged large = record {
+    reading = λ t reads. (unchanged, λ other. stops f large other t reads);
+    readable = tt;
+    unreadable = write_usual E _ f;
+    refusal = unless_wanting (error_of_write f) (λ other. inl b.reading);
+  }
+    where
+      stops : (f : WriteFault) → IfTooLarge f (TooLargeBody old.ceiling made) → error_of_write {E = E} f ≢ NoMemory → (t : Tree) → ReadsName n t →
+          (walk (asks i) old.ceiling s t ≡ refused (error_of_write f) k) ⊎ TooLargeNames (asks i) s t (error_of_write {E = E} f) k
+      stops write.NoMemory q other t reads = absurd (other refl)
+      stops (write.TooLarge size) (inl q) other t reads =
+          let C : List ℕ → Type 0 = λ z. IsTooLarge (z ++ counts made) size in
+          inr (record { accepts = record { ceiling = length (normal made); made = framed row head made; walked = all_accepted b t reads }; large = subst C (sym none) q })
+      stops (write.TooLarge size) (inr q) other t reads =
+          let v = b.becomes t reads in
+          let same : size ≡ length (normal made) = q.0 in
+          let above : old.ceiling < size = q.1 in
+          inl (rw v.1 (framed_large (asks i) row head (still old.ceiling s) (v.2 old.ceiling) (omega arith)) ∙ ap (λ (z : ℕ). refused (TooLarge z) k) (sym same))
+
+  pub naming_written : (IsTrue i.keeps_defaults → NamingMade (asks i) n s k row head made) → (w : Result (Unit {0}) WriteFault) → OnOk w (new ≡ with_row old (framed row head made)) →
+      OnOk w (length (normal made) ≤ old.ceiling) → OnErr w (new ≡ old) → IfErr w (λ f. IfTooLarge f (TooLargeBody old.ceiling made)) → (r : Result (Unit {0}) (Error E)) → r ≡ of_writer w →
+      SubsectionClauses i n s old k new r
+  naming_written b w gains fits unchanged large r is =
+      let P : Result (Unit {0}) (Error E) → Type 0 = λ z. SubsectionClauses i n s old k new z in
+      subst P (sym is) (record {
+        kept = kept w gains unchanged;
+        default = λ keeps. naming_given (b keeps) w gains fits unchanged large;
+        after_error = λ keeps sure t reads. visited_left (of_writer w) (accepted_visited (length (normal made)) t (all_accepted (b keeps) t reads));
+      })
+    where
+      kept : (w : Result (Unit {0}) WriteFault) → OnOk w (new ≡ with_row old (framed row head made)) → OnErr w (new ≡ old) → KeepsCode old new
+      kept (Ok u) gains unchanged = let P : CodeRows → Type 0 = λ z. KeepsCode old z in subst P (sym gains) (record { ceiling = refl; rows = take-append_seam old.rows (framed row head made ∷ []) })
+      kept (Err f) gains unchanged = let P : CodeRows → Type 0 = λ z. KeepsCode old z in subst P (sym unchanged) (keeps_code old)
+
+-- ---- what asks nothing
+
+module _ {S E : Type 0} (i : Ghosts S E) {n : Name} {s : S} {old new : CodeRows} where
+  pub module_written : (name : List ℕ) → content_of n ≡ Content.text name → (w : Result (Unit {0}) WriteFault) → OnOk w (new ≡ with_row old (module_name_tree name)) →
+      OnOk w (length (normal (Tree.name name)) ≤ old.ceiling) → OnErr w (new ≡ old) →
+      IfErr w (λ f. IfTooLarge f (λ size. ((size ≡ length name) × (2 ^ 32 - 1 < size)) ⊎ PassesCeiling old.ceiling (Tree.name name) size)) → (r : Result (Unit {0}) (Error E)) → r ≡ of_writer w →
+      SubsectionClauses i n s old s new r
+  module_written name is w gains fits unchanged large r q =
+      naming_written i 0 (Tree.fixed 0) (Tree.name name) (λ c s. refl) refl (λ keeps. made) w gains fits unchanged (sizes w large) r q
+    where
+      made : NamingMade (asks i) n s s 0 (Tree.fixed 0) (Tree.name name)
+      made =
+          let P : Content → Type 0 = λ z. ReadsContent z (module_name_tree name) in record {
+            reading = (module_name_tree name, subst P (sym is) refl);
+            becomes = λ t reads. let Q : Content → Type 0 = λ z. ReadsContent z t in (Tree.name name, subst Q is reads, λ c. refl);
+          }
+
+      sizes : (w : Result (Unit {0}) WriteFault) → IfErr w (λ f. IfTooLarge f (λ size. ((size ≡ length name) × (2 ^ 32 - 1 < size)) ⊎ PassesCeiling old.ceiling (Tree.name name) size)) →
+          IfErr w (λ f. IfTooLarge f (TooLargeBody old.ceiling (Tree.name name)))
+      sizes (Ok u) h = tt
+      sizes (Err write.NoMemory) h = tt
+      sizes (Err (write.TooLarge size)) (inl h) = inl (record { counted = (0, omega arith, sym h.0); large = h.1 })
+      sizes (Err (write.TooLarge size)) (inr h) = inr h
+
+  pub raw_written : (id : ℕ) (contents : List ℕ) → content_of n ≡ Content.raw id contents → (w : Result (Unit {0}) WriteFault) → OnOk w (new ≡ with_row old (raw_names_tree id contents)) →
+      OnOk w (length contents ≤ old.ceiling) → OnErr w (new ≡ old) → IfErr w (λ f. IfTooLarge f (PassesCeiling old.ceiling (Tree.raw contents))) → (r : Result (Unit {0}) (Error E)) → r ≡ of_writer w →
+      SubsectionClauses i n s old s new r
+  raw_written id contents is w gains fits unchanged large r q =
+      naming_written i 12 (Tree.byte id) (Tree.raw contents) (λ c s. refl) refl (λ keeps. made) w gains fits unchanged (sizes w large) r q
+    where
+      made : NamingMade (asks i) n s s 12 (Tree.byte id) (Tree.raw contents)
+      made =
+          let P : Content → Type 0 = λ z. ReadsContent z (raw_names_tree id contents) in record {
+            reading = (raw_names_tree id contents, subst P (sym is) refl);
+            becomes = λ t reads. let Q : Content → Type 0 = λ z. ReadsContent z t in (Tree.raw contents, subst Q is reads, λ c. refl);
+          }
+
+      sizes : (w : Result (Unit {0}) WriteFault) → IfErr w (λ f. IfTooLarge f (PassesCeiling old.ceiling (Tree.raw contents))) → IfErr w (λ f. IfTooLarge f (TooLargeBody old.ceiling (Tree.raw contents)))
+      sizes (Ok u) h = tt
+      sizes (Err write.NoMemory) h = tt
+      sizes (Err (write.TooLarge size)) h = inr h
+
+-- ---- a map
+
+normal_asked : (p : Space) (t : Tree) → normal (asked_in p t) ≡ normal t
+normal_asked p (Tree.pair (Tree.u32 i) t) = refl
+normal_asked p _ = refl
+
+normal_rows : (p : Space) (ts : List Tree) → normal (rows_tree (map (asked_in p) ts)) ≡ normal (rows_tree ts)
+normal_rows p [] = refl
+normal_rows p (t ∷ ts) = ap (λ (z : List ℕ). z ++ normal (rows_tree (map (asked_in p) ts))) (normal_asked p t) ∙ ap (λ (z : List ℕ). normal t ++ z) (normal_rows p ts)
+
+count_rows : (p : Space) (ts : List Tree) → count (rows_tree (map (asked_in p) ts)) ≡ count (rows_tree ts)
+count_rows p [] = refl
+count_rows p (t ∷ ts) = let again : count (rows_tree (map (asked_in p) ts)) ≡ count (rows_tree ts) = count_rows p ts in omega arith
+
+-- entries are written alike, whether their indices are asked for or not
+normal_map : (p : Space) (ts : List Tree) → normal (vector_tree (map (asked_in p) ts)) ≡ normal (vector_tree ts)
+normal_map p ts = rw (count_rows p ts, normal_rows p ts) refl
+
+-- the name is a map of an id, whose indices are of a space, each before such a body
+pub record IsMap (n : Name) (id : ℕ) (p : Space) (body : Shape) (m : MapStanding) : Type 1 where
+  pub entries : (t : Tree) → ReadsName n t → (ts : List Tree) × EntriesLeft (plain_row body) m (rows_tree ts) × (t ≡ names_tree id p ts)
+  pub read : (ts : List Tree) → EntriesLeft (plain_row body) m (rows_tree ts) → (t : Tree) × ReadsName n t
+  pub row : MapRow id (asked_row p body)
+  pub stops : {S E : Type 0} {asked : Asks S E} {c : ℕ} {s k : S} {e : Error E} → StopsMap asked c id m s e k → StopsContent asked c (content_of n) s e k
+
+pub direct_map : {n : Name} {m : MapStanding} (id : ℕ) (p : Space) → MapRow id (asked_row p Shape.name) → content_of n ≡ Content.direct id p m → IsMap n id p Shape.name m
+direct_map {n = n} {m = m} id p row is = record {
+  entries = λ t reads. let Q : Content → Type 0 = λ z. ReadsContent z t in let q = subst Q is reads in (entries_trees q.0, q.1, q.2);
+  read = λ ts w.
+      let es = entries_of ts w.rows_left.shaped in
+      let L : List Tree → Type 0 = λ z. EntriesLeft plain_naming m (rows_tree z) in
+      let t = names_tree id p (entries_trees es.0) in
+      let Q : Content → Type 0 = λ z. ReadsContent z t in
+      (t, subst Q (sym is) (es.0, subst L es.1 w, refl));
+  row = row;
+  stops = λ {S} {E} {asked} {c} {s} {k} {e} h. let Q : Content → Type 0 = λ z. StopsContent asked c z s e k in subst Q (sym is) h;
+}
+
+pub indirect_map : {n : Name} {m : MapStanding} (id : ℕ) (p : Space) → MapRow id (asked_row p (Shape.vec plain_naming)) → content_of n ≡ Content.indirect id p m → IsMap n id p (Shape.vec plain_naming) m
+indirect_map {n = n} {m = m} id p row is = record {
+  entries = λ t reads. let Q : Content → Type 0 = λ z. ReadsContent z t in let q = subst Q is reads in (outers_trees q.0, q.1, q.2);
+  read = λ ts w.
+      let os = outers_of ts w.rows_left.shaped in
+      let L : List Tree → Type 0 = λ z. EntriesLeft (plain_row (Shape.vec plain_naming)) m (rows_tree z) in
+      let t = names_tree id p (outers_trees os.0) in
+      let Q : Content → Type 0 = λ z. ReadsContent z t in
+      (t, subst Q (sym is) (os.0, subst L os.1 w, refl));
+  row = row;
+  stops = λ {S} {E} {asked} {c} {s} {k} {e} h. let Q : Content → Type 0 = λ z. StopsContent asked c z s e k in subst Q (sym is) h;
+}
+
+module _ {S E : Type 0} (i : Ghosts S E) {n : Name} {id : ℕ} {p : Space} {body : Shape} {m : MapStanding} (is : IsMap n id p body m) {s k : S} {old : CodeRows} where
+  -- what the calls that map it gave
+  abbrev pub MapCalls : Result (List Tree) (Error E) → Type 0
+  MapCalls mapped =
+      record {
+        gives : (c : ℕ) → GivesMap (asks i) c p body m s k mapped;
+        leaves : IsTrue i.sure → (ts : List Tree) → EntriesLeft (plain_row body) m (rows_tree ts) → LeavesVisited (asks i) s (visits (vector_tree (map (asked_in p) ts))) k mapped;
+      }
+
+  -- an entry is refused, or there is none
+  pub map_stopped : (e : Error E) → MapCalls (Err e) → (r : Result (Unit {0}) (Error E)) → IsErrAnd r (λ y. y ≡ e) → SubsectionClauses i n s old k old r
+  map_stopped e calls r q =
+      let P : Result (Unit {0}) (Error E) → Type 0 = λ z. SubsectionClauses i n s old k old z in
+      subst P (answers r q) (record { kept = keeps_code old; default = λ keeps. stopped; after_error = λ keeps sure t reads. left sure t reads })
+    where
+      stopped : GivesSubsection (asks i) n (s, old) (k, old) (Err e)
+      stopped =
+          let g = calls.gives old.ceiling in record {
+            reading = λ t reads.
+                let b = is.entries t reads in
+                (refl, λ other. inl (rw b.2 (framed_refused (asks i) id (Tree.fixed id) refl e (g.reading b.0 b.1 other))));
+            readable = tt;
+            unreadable = IfParse-map e (λ at u. (λ t reads. let b = is.entries t reads in u.0 (rows_tree b.0) b.1, refl, u.1)) g.unreadable;
+            refusal = IfRefused-map e (λ d. inr (refl, is.stops (record { row = asked_row p body; is_row = is.row; count = d.count; start = d.start; due = d.due; stops = d.stops; more = d.more }))) g.refusal;
+          }
+
+      left : IsTrue i.sure → (t : Tree) → ReadsName n t → Visited (asks i) s (visits t) k
+      left sure t reads =
+          let b = is.entries t reads in
+          let P : Tree → Type 0 = λ z. Visited (asks i) s (visits z) k in
+          subst P (sym b.2) (calls.leaves sure b.0 b.1)
+
+  -- all entries were accepted, and the map was added or not
+  pub map_written : {new : CodeRows} (es : List Tree) → MapCalls (Ok es) → (w : Result (Unit {0}) WriteFault) → OnOk w (new ≡ with_row old (names_tree id p es)) →
+      OnOk w (length (normal (vector_tree es)) ≤ old.ceiling) → OnErr w (new ≡ old) → IfErr w (λ f. IfTooLarge f (PassesCeiling old.ceiling (vector_tree es))) → (r : Result (Unit {0}) (Error E)) →
+      r ≡ of_writer w → SubsectionClauses i n s old k new r
+  map_written es calls w gains fits unchanged large r q =
+      naming_written i id (Tree.fixed id) (vector_tree (map (asked_in p) es)) (λ c s. refl) refl (λ keeps. made) w gains (fit w fits) unchanged (sizes w large) r q
+    where
+      made : NamingMade (asks i) n s k id (Tree.fixed id) (vector_tree (map (asked_in p) es))
+      made = record {
+        reading = let b = (calls.gives 0).readable in is.read b.0 b.1;
+        becomes = λ t reads. let b = is.entries t reads in (vector_tree (map (asked_in p) b.0), b.2, λ c. (calls.gives c).reading b.0 b.1);
+      }
+
+      alike : length (normal (vector_tree (map (asked_in p) es))) ≡ length (normal (vector_tree es))
+      alike = ap length (normal_map p es)
+
+      fit : (w : Result (Unit {0}) WriteFault) → OnOk w (length (normal (vector_tree es)) ≤ old.ceiling) → OnOk w (length (normal (vector_tree (map (asked_in p) es))) ≤ old.ceiling)
+      fit (Ok u) h = let same = alike in let below : length (normal (vector_tree es)) ≤ old.ceiling = h in omega arith
+      fit (Err f) h = tt
+
+      sizes : (w : Result (Unit {0}) WriteFault) → IfErr w (λ f. IfTooLarge f (PassesCeiling old.ceiling (vector_tree es))) →
+          IfErr w (λ f. IfTooLarge f (TooLargeBody old.ceiling (vector_tree (map (asked_in p) es))))
+      sizes (Ok u) h = tt
+      sizes (Err write.NoMemory) h = tt
+      sizes (Err (write.TooLarge size)) h = inr (h.0 ∙ sym alike, h.1)
