@@ -15,7 +15,7 @@ use Rattle.reencode_hooks.specs.Walk.{walk, announced}
 use Rattle.reencode_core.specs.Errors.{IfParse, IfRefused}
 use Rattle.reencode_core.specs.Rows.{Asks, AcceptsRows, Further}
 use Rattle.reencode_core.specs.Sections.{ReadsAs, GivesAdded, BodyFault, StopsSection, GivesSection}
-use Rattle.reencode_core.specs.Names.{contents_standing, SubsectionsFault, StopsCustom, GivesCustom}
+use Rattle.reencode_core.specs.Names.{StopsCustom, GivesCustom}
 use Rattle.reencode_core.specs.Core.{StopsThere}
 use Rattle.reencode_core.proofs.Counts.{walk_further, further_none, further_one, further_then}
 use Rattle.reencode_core.proofs.Known.{frame_id, section_announced}
