@@ -37,7 +37,7 @@ pub keeps_added : {E : Type 0} (row : SectionRow) (old new : Sections) (r : Resu
 keeps_added row old new (Ok v) adds = (row ∷ [], adds.0)
 keeps_added row old new (Err e) adds = keeps_none adds.0
 
-module _ {S E : Type 0} (asked : Asks S E) (k id : ℕ) (head : Tree) (first : normal head ≡ id ∷ []) {c : ℕ} {s m : S} {t u : Tree} (still : walk asked c s head ≡ accepted head s)
+module _ {S E : Type 0} (asked : Asks S E) (k id : ℕ) (head : Tree) (first : normal head ≡ id ∷ []) (c : ℕ) (s m : S) (t u : Tree) (still : walk asked c s head ≡ accepted head s)
     (walked : walk asked c s t ≡ accepted u m) where
   -- its body was accepted: it is added, or it is too large
   framed_added : (old new : Sections) (r : Result (Unit {0}) (Error E)) → old.ceiling ≡ c → AddsMapped {E = E} (section_row id (normal u)) old (Ok tt) new r →
@@ -46,7 +46,7 @@ module _ {S E : Type 0} (asked : Asks S E) (k id : ℕ) (head : Tree) (first : n
       let fits : length (normal u) ≤ old.ceiling = adds.1 in
       let W : ℕ → Type 0 = λ z. walk asked z s (framed k head t) ≡ accepted (framed k head u) m in
       let spelled : section_bytes (section_row id (normal u)) ≡ normal (framed k head u) = ap (λ (z : List ℕ). z ++ (leb (length (normal u)) ++ normal u)) (sym first) in
-      (framed k head u, normal u, subst W (sym ceiling) (framed_fits asked k head still walked (omega arith)), adds.0, spelled)
+      (framed k head u, normal u, subst W (sym ceiling) (framed_fits asked k head c s m t still u walked (omega arith)), adds.0, spelled)
   framed_added old new (Err e) ceiling adds = (adds.0, λ other. rw adds.2 (stops adds.1 adds.3 (λ q. other (adds.2 ∙ q))))
     where
       stops : (w : WriteFault) → IfTooLarge w (λ size. (size ≡ length (normal u)) × (old.ceiling < size)) → error_of_write {E = E} w ≢ NoMemory →
@@ -55,7 +55,7 @@ module _ {S E : Type 0} (asked : Asks S E) (k id : ℕ) (head : Tree) (first : n
           let same : size ≡ length (normal u) = q.0 in
           let large : old.ceiling < size = q.1 in
           let W : ℕ → Type 0 = λ z. walk asked z s (framed k head t) ≡ refused (TooLarge size) m in
-          subst W (sym ceiling) (framed_large asked k head still walked (omega arith) ∙ ap (λ (n : ℕ). refused (TooLarge n) m) (sym same))
+          subst W (sym ceiling) (framed_large asked k head c s m t still u walked (omega arith) ∙ ap (λ (n : ℕ). refused (TooLarge n) m) (sym same))
       stops write.NoMemory q other = absurd (other refl)
 
 -- where a section is added or not, its error says nothing of the bytes
@@ -78,7 +78,7 @@ pub unknown_added : {S E : Type 0} (i : Ghosts S E) (id : ℕ) (contents : List 
     AddsMapped {E = E} (section_row id contents) old (Ok tt) new r → UnknownClauses i id contents s old s new r
 unknown_added i id contents s old new r adds = record {
   kept = keeps_added (section_row id contents) old new r adds;
-  default = λ k. framed_added (asks i) 14 id (Tree.byte id) refl {t = Tree.raw contents} {u = Tree.raw contents} refl refl old new r refl adds;
+  default = λ k. framed_added (asks i) 14 id (Tree.byte id) refl old.ceiling s s (Tree.raw contents) (Tree.raw contents) refl refl old new r refl adds;
   after_error = λ k sure. visited_left r (none_visited s []);
   usual = λ k. added_usual (λ at. ⊥) (section_row id contents) old new r adds;
 }
@@ -123,7 +123,7 @@ module _ {S E : Type 0} (i : Ghosts S E) {name contents : List ℕ} {s : S} {old
           (t : Tree) → ReadsCustom name contents t → GivesAdded (asks i) 0 (s, old) t (m, new) r
       gives r adds w t q =
           let P : Tree → Type 0 = λ z. GivesAdded (asks i) 0 (s, old) z (m, new) r in
-          subst P (sym q.1) (framed_added (asks i) 13 0 (Tree.fixed 0) refl {t = named name q.0} {u = body} refl (w.becomes q.0 q.2) old new r refl adds)
+          subst P (sym q.1) (framed_added (asks i) 13 0 (Tree.fixed 0) refl old.ceiling s m (named name q.0) body refl (w.becomes q.0 q.2) old new r refl adds)
 
       given : (r : Result (Unit {0}) (Error E)) → AddsMapped {E = E} (section_row 0 (normal body)) old (Ok tt) new r → ContentsMade (asks i) name contents old.ceiling s m body →
           GivesCustom (asks i) name contents (s, old) (m, new) r
@@ -179,7 +179,7 @@ module _ {S E : Type 0} (i : Ghosts S E) {name contents : List ℕ} {s : S} {old
             subst P (sym reads.1) (leaves reads.0 (names_of reads.0 reads.2))
 
         refuses : (u : Tree) → walk (asks i) old.ceiling s u ≡ refused e m → walk (asks i) old.ceiling s (custom_tree_of (named name u)) ≡ refused e m
-        refuses u h = let body : walk (asks i) old.ceiling s (named name u) ≡ refused e m = rw h refl in framed_refused (asks i) 13 (Tree.fixed 0) refl e body
+        refuses u h = let body : walk (asks i) old.ceiling s (named name u) ≡ refused e m = rw h refl in framed_refused (asks i) 13 (Tree.fixed 0) old.ceiling s m (named name u) refl e body
 
         either : {P : Type 0} → ((rows : Tree) × SubsectionsLeft (contents_standing contents) rows) ⊎ P → ((t : Tree) × ReadsCustom name contents t) ⊎ ((name ≡ names_name) × P)
         either (inl p) = inl (read_custom p.0 (inl (is, p.1)))

@@ -11,12 +11,12 @@ use Rattle.reencode_core.proofs.Known.{closed_fits, closed_large}
 abbrev pub framed : ℕ → Tree → Tree → Tree
 framed k head body = Tree.row k (Tree.pair head (Tree.sized body))
 
-module _ {S E : Type 0} (asked : Asks S E) (k : ℕ) (head : Tree) {c : ℕ} {s m : S} {t : Tree} (still : walk asked c s head ≡ accepted head s) where
-  pub framed_fits : {u : Tree} → walk asked c s t ≡ accepted u m → length (normal u) ≤ c → walk asked c s (framed k head t) ≡ accepted (framed k head u) m
-  framed_fits {u = u} walked l = rw (still, walked, closed_fits {E = E} c u m l) refl
+module _ {S E : Type 0} (asked : Asks S E) (k : ℕ) (head : Tree) (c : ℕ) (s m : S) (t : Tree) (still : walk asked c s head ≡ accepted head s) where
+  pub framed_fits : (u : Tree) → walk asked c s t ≡ accepted u m → length (normal u) ≤ c → walk asked c s (framed k head t) ≡ accepted (framed k head u) m
+  framed_fits u walked l = rw (still, walked, closed_fits {E = E} c u m l) refl
 
-  pub framed_large : {u : Tree} → walk asked c s t ≡ accepted u m → c < length (normal u) → walk asked c s (framed k head t) ≡ refused (TooLarge (length (normal u))) m
-  framed_large {u = u} walked l = rw (still, walked, closed_large {E = E} c u m l) refl
+  pub framed_large : (u : Tree) → walk asked c s t ≡ accepted u m → c < length (normal u) → walk asked c s (framed k head t) ≡ refused (TooLarge (length (normal u))) m
+  framed_large u walked l = rw (still, walked, closed_large {E = E} c u m l) refl
 
   pub framed_refused : (e : Error E) → walk asked c s t ≡ refused e m → walk asked c s (framed k head t) ≡ refused e m
   framed_refused e stops = rw (still, stops) refl

@@ -29,4 +29,4 @@ pub mod ManyLoop
 pub mod InFrame
 pub mod NamesLoop
 pub mod CustomSection
-pub mod Subsections
+pub mod EachSubsection

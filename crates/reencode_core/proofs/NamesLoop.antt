@@ -238,7 +238,7 @@ module _ {S E : Type 0} (asked : Asks S E) where
 
   -- ---- the state that is left
 
-  module _ {c : ℕ} {start reader : NamesStanding} {s0 s : S} {made : List Tree} (d : ManyDone asked c name_subsection start.rest s0 reader.rest s made) where
+  module _ {c : ℕ} (start reader : NamesStanding) {s0 s : S} {made : List Tree} (d : ManyDone asked c name_subsection start.rest s0 reader.rest s made) where
     names_leave : {m : S} → Leaves (SubsectionsLeft reader) asked s m → Leaves (SubsectionsLeft start) asked s0 m
     names_leave {m = m} leaves = λ rows all.
         let b = d.back rows all in
@@ -274,7 +274,7 @@ module _ {S E : Type 0} (i : Ghosts S E) {c : ℕ} {start : NamesStanding} {s0 :
     pub names_stuck : (f : Fault) → ReadsNone f (names_place reader) (NameMissing reader) → (r : Result CodeRows (Error E)) → IsErrAnd r (λ y. y ≡ error_of_fault f) → NamesClauses i c start s0 s r
     names_stuck f missing r q =
         let P : Result CodeRows (Error E) → Type 0 = λ z. NamesClauses i c start s0 s z in
-        subst P (answers r q) (record { default = λ k. names_unread (asks i) inv.len (inv.default k) f missing; after_error = λ k sure. names_leave_none (asks i) (inv.default k) })
+        subst P (answers r q) (record { default = λ k. names_unread (asks i) inv.len (inv.default k) f missing; after_error = λ k sure. names_leave_none (asks i) start reader (inv.default k) })
 
     module _ {reader' : NamesStanding} {n : Name} (read : NameRead reader n reader') where
       pub names_on : {m : S} {new' : CodeRows} → SubsectionClauses i n s new m new' (Ok tt) → NamesKept i c start s0 reader' m new'
@@ -291,5 +291,5 @@ module _ {S E : Type 0} (i : Ghosts S E) {c : ℕ} {start : NamesStanding} {s0 :
           let P : Error E → Type 0 = λ z. NamesClauses i c start s0 m (Err z) in
           subst P (sym q) (record {
             default = λ k. names_err (asks i) inv.len (inv.default k) read inv.ceiling e at (given.default k) place;
-            after_error = λ k sure. names_leave_next (asks i) (inv.default k) read (given.after_error k sure);
+            after_error = λ k sure. names_leave_next (asks i) start reader (inv.default k) read (given.after_error k sure);
           })

@@ -542,7 +542,7 @@ pub trait Reencode: ReencodeItems {
         names: &mut w::NameSection,
         section: r::Name<'_>,
     ) -> Result<(), Error<Self::Error>>
-        requires { IsRaw section.entry }
+        requires { IsRaw section }
         ensures kept { KeepsCode names.old names.new }
         ensures default { IsTrue Self.keeps_defaults
             → GivesSubsection (ask Self.reply Self.next) section.entry (self.old, names.old)

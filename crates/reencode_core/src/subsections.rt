@@ -31,7 +31,7 @@ pub(crate) fn parse_custom_name_subsection<T: ReencodeItems>(
     names: &mut w::NameSection,
     section: r::Name<'_>,
 ) -> Result<(), Error<T::Error>>
-    requires { IsRaw section.entry }
+    requires { IsRaw section }
     ensures kept { KeepsCode names.old names.new }
     ensures default { IsTrue T.keeps_defaults
         → GivesSubsection (ask T.reply T.next) section.entry (reencoder.old, names.old)

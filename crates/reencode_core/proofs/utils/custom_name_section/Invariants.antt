@@ -4,7 +4,7 @@ use Rattle.reencode_core.proofs.utils.custom_name_section.Given as goal
 
 -- the subsections so far are walked and added
 abbrev pub invariant-rows : goal.invariant-rows
-invariant-rows g l = NamesKept g.T.ReencodeIndices l.args.ceiling l.initial.rows l.initial.reencoder l.rows l.reencoder l.names
+invariant-rows g l = NamesKept g.T.ReencodeIndices l.fn.ceiling l.initial.rows l.initial.reencoder l.rows l.reencoder l.names
 
 abbrev pub decreases-rows : goal.decreases-rows
 decreases-rows g l = length l.rows.rest

@@ -4,7 +4,7 @@ use Rattle.reencode_core.proofs.reencode.Reencode.custom_name_section.Given as g
 
 -- the subsections so far are walked and added
 abbrev pub invariant-rows : goal.invariant-rows
-invariant-rows g l = NamesKept g.Self.ReencodeIndices l.args.ceiling l.initial.rows l.initial.self l.rows l.self l.names
+invariant-rows g l = NamesKept g.Self.ReencodeIndices l.fn.ceiling l.initial.rows l.initial.self l.rows l.self l.names
 
 abbrev pub decreases-rows : goal.decreases-rows
 decreases-rows g l = length l.rows.rest

@@ -2,6 +2,7 @@
 use Rattle.std.proofs.Common.{◌≡◌, ◌≢◌, ◌⊎◌, ℕ, ◌≤◌, ◌<◌, ◌^◌, ◌-◌, List, [], ◌∷◌, ◌++◌, length, map, Result, Ok, Err, IfOk, IfErr, OnOk, OnErr, IsErrAnd, IsTrue, refl, sym, ap, ◌∙◌, subst, inl, inr, arith}
 use Rattle.std.proofs.Math.Seq.{take-append_seam}
 use Rattle.wasm_shapes.specs.declared.Space.{Space}
+use Rattle.wasm_shapes.specs.declared.Visit.TheVariants.{Index}
 use Rattle.wasm_shapes.specs.Tree.{Tree, count, normal, visits}
 use Rattle.wasm_shapes.specs.Shape.{Shape}
 use Rattle.wasm_shapes.specs.Types.{rows_tree, vector_tree}
@@ -21,18 +22,20 @@ use Rattle.reencode_hooks.specs.declared.error.Error.{Error}
 use Rattle.reencode_hooks.specs.declared.error.Error.TheVariants.{NoMemory, TooLarge}
 use Rattle.reencode_hooks.specs.declared.indices.ReencodeIndices.{Ghosts}
 use Rattle.reencode_hooks.specs.Errors.{error_of_write}
-use Rattle.reencode_hooks.specs.Run.{LeavesVisited, Visited, accepted, refused}
+use Rattle.reencode_hooks.specs.Hooks.{Replies}
+use Rattle.reencode_hooks.specs.Run.{Gives, LeavesVisited, NeverWants, Visited, accepted, refused}
 use Rattle.reencode_hooks.specs.Walk.{walk}
 use Rattle.reencode_items.proofs.Leaving.{accepted_visited, visited_left}
 use Rattle.reencode_core.specs.Bodies.{KeepsCode}
 use Rattle.reencode_core.specs.Names.{GivesNaming, GivesSubsection, MapRow, StopsContent, StopsMap, TooLargeNames, of_writer}
+use Rattle.reencode_core.specs.NameMaps.{MapsEntries}
 use Rattle.reencode_core.specs.Rows.{Asks}
 use Rattle.reencode_core.proofs.BodyLoop.{keeps_code}
 use Rattle.reencode_core.proofs.InFrame.{framed, framed_fits, framed_large, framed_refused}
-use Rattle.reencode_core.proofs.NameCalls.{GivesMap}
+use Rattle.reencode_core.proofs.NameCalls.{GivesMap, Quiet, gives_map_at, leaves_map_at}
 use Rattle.reencode_core.proofs.NamesLoop.{SubsectionClauses}
 use Rattle.reencode_core.proofs.OneRow.{answers, asks}
-use Rattle.reencode_core.proofs.Usual.{IfParse-map, IfRefused-map, unless_wanting, write_usual}
+use Rattle.reencode_core.proofs.Usual.{IfParse-map, IfRefused-map, unless_wanting, usual_ask, write_usual}
 
 -- ---- a subsection that is accepted
 
@@ -45,18 +48,18 @@ pub record NamingMade {S E : Type 0} (asked : Asks S E) (n : Name) (s k : S) (ro
 abbrev pub TooLargeBody : ℕ → Tree → ℕ → Type 0
 TooLargeBody c made size = IsTooLarge (counts made) size ⊎ ((size ≡ length (normal made)) × (c < size))
 
-module _ {S E : Type 0} (i : Ghosts S E) {n : Name} {s k : S} {old new : CodeRows} (row : ℕ) (head : Tree) (made : Tree) (still : (c : ℕ) (s : S) → walk (asks i) c s head ≡ accepted head s)
+module _ {S E : Type 0} (i : Ghosts S E) (n : Name) (s k : S) (old new : CodeRows) (row : ℕ) (head : Tree) (made : Tree) (still : (c : ℕ) (s : S) → walk (asks i) c s head ≡ accepted head s)
     (none : counts head ≡ []) where
   all_accepted : NamingMade (asks i) n s k row head made → (t : Tree) → ReadsName n t → walk (asks i) (length (normal made)) s t ≡ accepted (framed row head made) k
   all_accepted b t reads =
       let v = b.becomes t reads in
       let size : ℕ = length (normal made) in
-      rw v.1 (framed_fits (asks i) row head (still size s) (v.2 size) (omega arith))
+      rw v.1 (framed_fits (asks i) row head size s k v.0 (still size s) made (v.2 size) (omega arith))
 
   naming_given : NamingMade (asks i) n s k row head made → (w : Result (Unit {0}) WriteFault) → OnOk w (new ≡ with_row old (framed row head made)) → OnOk w (length (normal made) ≤ old.ceiling) →
       OnErr w (new ≡ old) → IfErr w (λ f. IfTooLarge f (TooLargeBody old.ceiling made)) → GivesSubsection (asks i) n (s, old) (k, new) (of_writer {E = E} w)
   naming_given b (Ok u) gains fits unchanged large = record {
-    reading = λ t reads. let v = b.becomes t reads in (framed row head made, rw v.1 (framed_fits (asks i) row head (still old.ceiling s) (v.2 old.ceiling) fits), gains);
+    reading = λ t reads. let v = b.becomes t reads in (framed row head made, rw v.1 (framed_fits (asks i) row head old.ceiling s k v.0 (still old.ceiling s) made (v.2 old.ceiling) fits), gains);
     readable = b.reading;
     unreadable = tt;
     refusal = tt;
@@ -78,7 +81,7 @@ module _ {S E : Type 0} (i : Ghosts S E) {n : Name} {s k : S} {old new : CodeRow
           let v = b.becomes t reads in
           let same : size ≡ length (normal made) = q.0 in
           let above : old.ceiling < size = q.1 in
-          inl (rw v.1 (framed_large (asks i) row head (still old.ceiling s) (v.2 old.ceiling) (omega arith)) ∙ ap (λ (z : ℕ). refused (TooLarge z) k) (sym same))
+          inl (rw v.1 (framed_large (asks i) row head old.ceiling s k v.0 (still old.ceiling s) made (v.2 old.ceiling) (omega arith)) ∙ ap (λ (z : ℕ). refused (TooLarge z) k) (sym same))
 
   pub naming_written : (IsTrue i.keeps_defaults → NamingMade (asks i) n s k row head made) → (w : Result (Unit {0}) WriteFault) → OnOk w (new ≡ with_row old (framed row head made)) →
       OnOk w (length (normal made) ≤ old.ceiling) → OnErr w (new ≡ old) → IfErr w (λ f. IfTooLarge f (TooLargeBody old.ceiling made)) → (r : Result (Unit {0}) (Error E)) → r ≡ of_writer w →
@@ -103,7 +106,7 @@ module _ {S E : Type 0} (i : Ghosts S E) {n : Name} {s : S} {old new : CodeRows}
       IfErr w (λ f. IfTooLarge f (λ size. ((size ≡ length name) × (2 ^ 32 - 1 < size)) ⊎ PassesCeiling old.ceiling (Tree.name name) size)) → (r : Result (Unit {0}) (Error E)) → r ≡ of_writer w →
       SubsectionClauses i n s old s new r
   module_written name is w gains fits unchanged large r q =
-      naming_written i 0 (Tree.fixed 0) (Tree.name name) (λ c s. refl) refl (λ keeps. made) w gains fits unchanged (sizes w large) r q
+      naming_written i n s s old new 0 (Tree.fixed 0) (Tree.name name) (λ c s. refl) refl (λ keeps. made) w gains fits unchanged (sizes w large) r q
     where
       made : NamingMade (asks i) n s s 0 (Tree.fixed 0) (Tree.name name)
       made =
@@ -123,7 +126,7 @@ module _ {S E : Type 0} (i : Ghosts S E) {n : Name} {s : S} {old new : CodeRows}
       OnOk w (length contents ≤ old.ceiling) → OnErr w (new ≡ old) → IfErr w (λ f. IfTooLarge f (PassesCeiling old.ceiling (Tree.raw contents))) → (r : Result (Unit {0}) (Error E)) → r ≡ of_writer w →
       SubsectionClauses i n s old s new r
   raw_written id contents is w gains fits unchanged large r q =
-      naming_written i 12 (Tree.byte id) (Tree.raw contents) (λ c s. refl) refl (λ keeps. made) w gains fits unchanged (sizes w large) r q
+      naming_written i n s s old new 12 (Tree.byte id) (Tree.raw contents) (λ c s. refl) refl (λ keeps. made) w gains fits unchanged (sizes w large) r q
     where
       made : NamingMade (asks i) n s s 12 (Tree.byte id) (Tree.raw contents)
       made =
@@ -188,17 +191,14 @@ indirect_map {n = n} {m = m} id p row is = record {
   stops = λ {S} {E} {asked} {c} {s} {k} {e} h. let Q : Content → Type 0 = λ z. StopsContent asked c z s e k in subst Q (sym is) h;
 }
 
-module _ {S E : Type 0} (i : Ghosts S E) {n : Name} {id : ℕ} {p : Space} {body : Shape} {m : MapStanding} (is : IsMap n id p body m) {s k : S} {old : CodeRows} where
-  -- what the calls that map it gave
-  abbrev pub MapCalls : Result (List Tree) (Error E) → Type 0
-  MapCalls mapped =
-      record {
-        gives : (c : ℕ) → GivesMap (asks i) c p body m s k mapped;
-        leaves : IsTrue i.sure → (ts : List Tree) → EntriesLeft (plain_row body) m (rows_tree ts) → LeavesVisited (asks i) s (visits (vector_tree (map (asked_in p) ts))) k mapped;
-      }
+-- what the calls that map a map gave
+pub record MapCalls {S E : Type 0} (i : Ghosts S E) (p : Space) (body : Shape) (m : MapStanding) (s k : S) (mapped : Result (List Tree) (Error E)) : Type 0 where
+  pub gives : (c : ℕ) → GivesMap (asks i) c p body m s k mapped
+  pub leaves : IsTrue i.sure → (ts : List Tree) → EntriesLeft (plain_row body) m (rows_tree ts) → LeavesVisited (asks i) s (visits (vector_tree (map (asked_in p) ts))) k mapped
 
+module _ {S E : Type 0} (i : Ghosts S E) {n : Name} {id : ℕ} {p : Space} {body : Shape} {m : MapStanding} (is : IsMap n id p body m) {s k : S} {old : CodeRows} where
   -- an entry is refused, or there is none
-  pub map_stopped : (e : Error E) → MapCalls (Err e) → (r : Result (Unit {0}) (Error E)) → IsErrAnd r (λ y. y ≡ e) → SubsectionClauses i n s old k old r
+  pub map_stopped : (e : Error E) → MapCalls i p body m s k (Err e) → (r : Result (Unit {0}) (Error E)) → IsErrAnd r (λ y. y ≡ e) → SubsectionClauses i n s old k old r
   map_stopped e calls r q =
       let P : Result (Unit {0}) (Error E) → Type 0 = λ z. SubsectionClauses i n s old k old z in
       subst P (answers r q) (record { kept = keeps_code old; default = λ keeps. stopped; after_error = λ keeps sure t reads. left sure t reads })
@@ -208,7 +208,7 @@ module _ {S E : Type 0} (i : Ghosts S E) {n : Name} {id : ℕ} {p : Space} {body
           let g = calls.gives old.ceiling in record {
             reading = λ t reads.
                 let b = is.entries t reads in
-                (refl, λ other. inl (rw b.2 (framed_refused (asks i) id (Tree.fixed id) refl e (g.reading b.0 b.1 other))));
+                (refl, λ other. inl (rw b.2 (framed_refused (asks i) id (Tree.fixed id) old.ceiling s k (vector_tree (map (asked_in p) b.0)) refl e (g.reading b.0 b.1 other))));
             readable = tt;
             unreadable = IfParse-map e (λ at u. (λ t reads. let b = is.entries t reads in u.0 (rows_tree b.0) b.1, refl, u.1)) g.unreadable;
             refusal = IfRefused-map e (λ d. inr (refl, is.stops (record { row = asked_row p body; is_row = is.row; count = d.count; start = d.start; due = d.due; stops = d.stops; more = d.more }))) g.refusal;
@@ -221,11 +221,11 @@ module _ {S E : Type 0} (i : Ghosts S E) {n : Name} {id : ℕ} {p : Space} {body
           subst P (sym b.2) (calls.leaves sure b.0 b.1)
 
   -- all entries were accepted, and the map was added or not
-  pub map_written : {new : CodeRows} (es : List Tree) → MapCalls (Ok es) → (w : Result (Unit {0}) WriteFault) → OnOk w (new ≡ with_row old (names_tree id p es)) →
+  pub map_written : {new : CodeRows} (es : List Tree) → MapCalls i p body m s k (Ok es) → (w : Result (Unit {0}) WriteFault) → OnOk w (new ≡ with_row old (names_tree id p es)) →
       OnOk w (length (normal (vector_tree es)) ≤ old.ceiling) → OnErr w (new ≡ old) → IfErr w (λ f. IfTooLarge f (PassesCeiling old.ceiling (vector_tree es))) → (r : Result (Unit {0}) (Error E)) →
       r ≡ of_writer w → SubsectionClauses i n s old k new r
-  map_written es calls w gains fits unchanged large r q =
-      naming_written i id (Tree.fixed id) (vector_tree (map (asked_in p) es)) (λ c s. refl) refl (λ keeps. made) w gains (fit w fits) unchanged (sizes w large) r q
+  map_written {new = new} es calls w gains fits unchanged large r q =
+      naming_written i n s k old new id (Tree.fixed id) (vector_tree (map (asked_in p) es)) (λ c s. refl) refl (λ keeps. made) w gains (fit w fits) unchanged (sizes w large) r q
     where
       made : NamingMade (asks i) n s k id (Tree.fixed id) (vector_tree (map (asked_in p) es))
       made = record {
@@ -245,3 +245,22 @@ module _ {S E : Type 0} (i : Ghosts S E) {n : Name} {id : ℕ} {p : Space} {body
       sizes (Ok u) h = tt
       sizes (Err write.NoMemory) h = tt
       sizes (Err (write.TooLarge size)) h = inr (h.0 ∙ sym alike, h.1)
+
+-- ---- the calls of a closure over a reencoder
+
+module _ {F S E : Type 0} (i : Ghosts S E) (p : Space) {body : Shape} (quiet : Quiet (asks i) body)
+    (step : F → ℕ → Result ℕ (Error E) → F → Type 0) (see : F → S) (name : F → ℕ)
+    (one : (f : F) (j : ℕ) (r : Result ℕ (Error E)) (g : F) → step f j r g → Replies i.reply i.next (see f) (see g) (Index p j) r × NeverWants i.sure r × (name g ≡ name f)) where
+  answers_of : (f : F) (j : ℕ) (r : Result ℕ (Error E)) (g : F) → step f j r g → Gives (asks i (see f) (Index p j)) (λ k. k) (see g) r × (name g ≡ name f)
+  answers_of f j r g call = let h = one f j r g call in (h.0, h.2)
+
+  never : IsTrue i.sure → (f : F) (j : ℕ) (g : F) → step f j (Err NoMemory) g → ⊥
+  never sure f j g call = (one f j (Err NoMemory) g call).1 sure refl
+
+  -- the walk over a map with the closure
+  pub map_calls : {m : MapStanding} (f g : F) (mapped : Result (List Tree) (Error E)) (last : S) → MapsEntries (plain_row body) step m f g mapped → (name f ≡ name g → last ≡ see g) →
+      MapCalls i p body m (see f) last mapped
+  map_calls {m = m} f g mapped last h kept = record {
+    gives = λ c. gives_map_at step see name (asks i) p quiet (λ s j. usual_ask i.reply i.next s (Index p j)) answers_of c m f g mapped last h kept;
+    leaves = λ sure ts w. leaves_map_at step see name (asks i) p quiet (λ s j. usual_ask i.reply i.next s (Index p j)) answers_of (never sure) m f g mapped last h kept ts w;
+  }
