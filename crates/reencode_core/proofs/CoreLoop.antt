@@ -10,14 +10,13 @@ use Rattle.wasm_shapes.specs.declared.Visit.TheVariants.{Section}
 use Rattle.wasm_shapes.specs.Tree.{Tree, kind, normal, visits, visits_from}
 use Rattle.wasm_shapes.specs.Spells.{Is, Spelled, Spells}
 use Rattle.wasm_shapes.specs.Place.{Begins, BeginsNone}
-use Rattle.wasm_shapes.specs.Rows.{rows_then}
 use Rattle.wasm_shapes.specs.CodeSize.{InvalidCodeSize}
-use Rattle.wasm_shapes.specs.Module.{core_header, component_header, section, sections, frame, alsos, tree_of, CoreReading, FaultAt}
+use Rattle.wasm_shapes.specs.Module.{core_header, component_header, section, sections, frame, numbered_frame, alsos, InFrame, CoreReading, FaultAt}
 use Rattle.wasm_shapes.proofs.Unique.{unique}
 use Rattle.wasm_shapes.proofs.Begins.{none_at_end}
-use Rattle.wasm_shapes.proofs.SectionTable.{none_section}
+use Rattle.wasm_shapes.proofs.SectionTable.{frame_there, none_in_frame, none_section, section_there}
 use Rattle.wasm_shapes.specs.SectionTable.{number}
-use Rattle.wasm_read.specs.Frames.{numbered_frame, NoCoreHeader}
+use Rattle.wasm_read.specs.Frames.{NoCoreHeader}
 use Rattle.wasm_read.specs.Payloads.{NoFrame}
 use Rattle.wasm_read.proofs.CodeSize.{code_size_some, code_size_other}
 use Rattle.wasm_write.specs.Sections.{Sections, SectionRow, section_row, section_bytes, sections_bytes}
@@ -31,11 +30,11 @@ use Rattle.reencode_items.proofs.Leaving.{never_wants, none_visited, one_visited
 use Rattle.reencode_core.specs.Leaves.{LeavesReading}
 use Rattle.reencode_core.specs.Errors.{IfParse, IfRefused, placed_at}
 use Rattle.reencode_core.specs.Rows.{Asks, Further}
-use Rattle.reencode_core.specs.Sections.{ReadsAs, BodyFault, StopsSection, GivesSection}
-use Rattle.reencode_core.specs.Core.{hooked, onto, AcceptsSections, RefusesNext, StopsSections, GivesModule, RefusedIn, StopsInside, BeforeFault, IsCause, GivesCore}
-use Rattle.reencode_core.proofs.Counts.{walk_further, further_none, further_one, further_then}
+use Rattle.reencode_core.specs.Core.{hooked, onto, AcceptsSections, RefusesNext, StopsSections, GivesModule, RefusedIn, StopsThere, BeforeFault, IsCause, GivesCore}
+use Rattle.reencode_core.proofs.Counts.{further_none, further_then}
+use Rattle.reencode_core.proofs.Framed.{GivesFramed, Reached, kind_announced}
 use Rattle.reencode_core.proofs.Usual.{IfRefused-map, unless_wanting, usual_ask, stops_usual}
-use Rattle.reencode_core.proofs.Known.{section_begins, section_none, section_announced, section_onward, hook_visits, inside_visits, reads_begun, some_begun}
+use Rattle.reencode_core.proofs.Known.{section_onward, hook_visits, inside_visits, some_begun}
 
 -- ---- lists of sections
 
@@ -230,50 +229,30 @@ module _ {S E : Type 0} (asked : Asks S E) where
   one_onto made v (accepted u m) = ap (λ (t : Tree). accepted t m) (sym (alsos-append made (v ∷ []) u))
   one_onto made v (refused e m) = refl
 
-  -- the hook before a section, and the section
-  hooked_ok : (c : ℕ) (k : SectionId) {body : List ℕ} (last : Option SectionId) (s n m : S) (t v : Tree) → ReadsAs k body t →
-      asked s (Section last (Some k)) ≡ accepted 0 n → walk asked c n t ≡ accepted v m → (hooked asked c last s t ≡ accepted v m) × (kind last t ≡ Some k)
-  hooked_ok c k last s n m t v r h w =
-      let a = section_announced k asked s last r.0 in
-      let told : announced asked s last t ≡ accepted 0 n = rw r.1 (a.0 ∙ h) in
-      let kinds : kind last t ≡ Some k = rw r.1 a.1 in
-      (and_then_ok told w, kinds)
-    where
-      and_then_ok : announced asked s last t ≡ accepted 0 n → walk asked c n t ≡ accepted v m → hooked asked c last s t ≡ accepted v m
-      and_then_ok told w = ap (λ (a : Step S (Error E) ℕ). and_then a (λ _ m. walk asked c m t)) told ∙ w
+  -- a section behind what stands before it, which is accepted or refused
+  told_walked : (c : ℕ) (last : Option SectionId) (s n : S) (t : Tree) → announced asked s last t ≡ accepted 0 n → hooked asked c last s t ≡ walk asked c n t
+  told_walked c last s n t h = ap (λ (a : Step S (Error E) ℕ). and_then a (λ _ m. walk asked c m t)) h
 
-  hooked_err : (c : ℕ) (k : SectionId) {body : List ℕ} (last : Option SectionId) (s n m : S) (t : Tree) (e : Error E) → ReadsAs k body t →
-      asked s (Section last (Some k)) ≡ accepted 0 n → walk asked c n t ≡ refused e m → hooked asked c last s t ≡ refused e m
-  hooked_err c k last s n m t e r h w =
-      let a = section_announced k asked s last r.0 in
-      let told : announced asked s last t ≡ accepted 0 n = rw r.1 (a.0 ∙ h) in
-      ap (λ (a : Step S (Error E) ℕ). and_then a (λ _ m. walk asked c m t)) told ∙ w
+  told_refused : (c : ℕ) (last : Option SectionId) (s m : S) (t : Tree) (e : Error E) → announced asked s last t ≡ refused e m → hooked asked c last s t ≡ refused e m
+  told_refused c last s m t e h = ap (λ (a : Step S (Error E) ℕ). and_then a (λ _ m. walk asked c m t)) h
 
-  hooked_refused : (c : ℕ) (k : SectionId) {body : List ℕ} (last : Option SectionId) (s m : S) (t : Tree) (e : Error E) → ReadsAs k body t →
-      asked s (Section last (Some k)) ≡ refused e m → hooked asked c last s t ≡ refused e m
-  hooked_refused c k last s m t e r h =
-      let a = section_announced k asked s last r.0 in
-      let told : announced asked s last t ≡ refused e m = rw r.1 (a.0 ∙ h) in
-      ap (λ (a : Step S (Error E) ℕ). and_then a (λ _ m. walk asked c m t)) told
-
-  pub sections_more : (k : SectionId) {start rest rest' body : List ℕ} {s0 s n s' : S} {old new mid new' : Sections} {last : Option SectionId} →
-      SectionsDone asked start s0 old rest last s new → Begins frame rest (numbered_frame (number k) body) rest' →
-      (asked s (Section last (Some k)) ≡ accepted 0 n) × (mid ≡ new) → GivesSection asked k body (n, mid) (s', new') (Ok tt) →
-      SectionsDone asked start s0 old rest' (Some k) s' new'
-  sections_more k {rest = rest} {rest' = rest'} {body = body} {s0 = s0} {s = s} {n = n} {s' = s'} {old = old} {new = new} {mid = mid} {new' = new'} {last = last} d there hook given =
-      let P : Sections → Type 0 = λ z. GivesSection asked k body (n, z) (s', new') (Ok tt) in
-      let g = subst P hook.1 given in
+  pub sections_more : {Stops : ℕ → Error E → S → Type 0} {id : ℕ} {f : Tree} {start rest rest' : List ℕ} {s0 s n s' : S} {old new mid new' : Sections} {last now : Option SectionId} →
+      SectionsDone asked start s0 old rest last s new → Reached asked Stops f rest rest' last now s n → mid ≡ new → GivesFramed asked id f Stops (n, mid) (s', new') (Ok tt) →
+      SectionsDone asked start s0 old rest' now s' new'
+  sections_more {Stops = Stops} {id = id} {f = f} {rest = rest} {rest' = rest'} {s0 = s0} {s = s} {n = n} {s' = s'} {old = old} {new = new} {mid = mid} {new' = new'} {last = last} {now = now} d reached kept given =
+      let P : Sections → Type 0 = λ z. GivesFramed asked id f Stops (n, z) (s', new') (Ok tt) in
+      let g = subst P kept given in
       let t : Tree = g.readable.0 in
-      let reads : ReadsAs k body t = g.readable.1 in
-      let begun = section_begins k reads.0 there reads.2 in
-      let B : Tree → Type 0 = λ v. Begins section rest v rest' in
-      let here = subst B (sym reads.1) begun in
-      let q = g.reading t reads in
+      let in_it : InFrame t f = g.readable.1 in
+      let here = section_there in_it reached.framed in
+      let told : announced asked s last t ≡ accepted 0 n = reached.told t in_it in
+      let kinds : kind last t ≡ now = reached.kinds t in_it in
+      let q = g.reading t in_it in
       let ceiling : new.ceiling ≡ old.ceiling = ap Sections.ceiling d.gains in
       let W : ℕ → Type 0 = λ c. walk asked c n t ≡ accepted q.0 s' in
       let walked : walk asked old.ceiling n t ≡ accepted q.0 s' = subst W ceiling q.2 in
-      let step = hooked_ok old.ceiling k last s n s' t q.0 reads hook.0 walked in
-      let row : SectionRow = section_row (number k) q.1 in record {
+      let step : hooked asked old.ceiling last s t ≡ accepted q.0 s' = told_walked old.ceiling last s n t told ∙ walked in
+      let row : SectionRow = section_row id q.1 in record {
         read = d.read ++ t ∷ [];
         made = d.made ++ q.0 ∷ [];
         text = d.text ++ here.text;
@@ -281,10 +260,10 @@ module _ {S E : Type 0} (asked : Asks S E) where
         spells = rw (alsos-append d.read (t ∷ []) Tree.finish) (joined d.read d.text here.text d.spells (one_section here.spells));
         stands = d.stands ∙ ap (λ (z : List ℕ). d.text ++ z) here.reads ∙ sym (append_assoc d.text here.text _);
         accepts = λ others.
-            let next : walk_from asked old.ceiling last s (Tree.also t others) ≡ and_then (walk_from asked old.ceiling (Some k) s' others) (λ u m. accepted (Tree.also q.0 u) m) =
-            also_hooked old.ceiling last s t others ∙ rw (step.0, step.1) refl in
+            let next : walk_from asked old.ceiling last s (Tree.also t others) ≡ and_then (walk_from asked old.ceiling now s' others) (λ u m. accepted (Tree.also q.0 u) m) =
+            also_hooked old.ceiling last s t others ∙ rw (step, kinds) refl in
             rw (alsos-append d.read (t ∷ []) others)
-            (d.accepts (Tree.also t others) ∙ ap (λ (r : Step S (Error E) Tree). onto d.made r) next ∙ one_onto d.made q.0 (walk_from asked old.ceiling (Some k) s' others));
+            (d.accepts (Tree.also t others) ∙ ap (λ (r : Step S (Error E) Tree). onto d.made r) next ∙ one_onto d.made q.0 (walk_from asked old.ceiling now s' others));
         gains = q.3 ∙ ap (λ (m : Sections). record m { sections = m.sections ++ row ∷ [] }) d.gains
             ∙ ap (λ (rows : List SectionRow). record old { sections = rows }) (append_assoc old.sections d.rows (row ∷ []));
         spelled = sections_bytes-append d.rows (row ∷ []) ∙ ap (λ (z : List ℕ). z ++ sections_bytes (row ∷ [])) d.spelled
@@ -292,7 +271,7 @@ module _ {S E : Type 0} (asked : Asks S E) where
         onward = λ others m v.
             let P : Tree → Type 0 = λ z. Visited asked s0 (visits z) m in
             subst P (sym (alsos-append d.read (t ∷ []) others))
-            (d.onward (Tree.also t others) m (section_onward asked k old.ceiling last s n s' m t q.0 others reads hook.0 walked v));
+            (d.onward (Tree.also t others) m (section_onward asked old.ceiling last t others told kinds walked v));
       }
 
   -- ---- the ends of the loop
@@ -347,41 +326,41 @@ module _ {S E : Type 0} (asked : Asks S E) where
     }
 
     -- a section, or the hook before it, is refused
-    pub section_refused : (k : SectionId) {left body : List ℕ} {s' : S} {new' : Sections} (e : Error E) → Begins frame rest (numbered_frame (number k) body) left →
-        ((t : Tree) → ReadsAs k body t → (new' ≡ new) × (e ≢ NoMemory → hooked asked old.ceiling last s t ≡ refused e s')) → IfParse e (λ at. ⊥) →
-        IfRefused e (((t : Tree) × ReadsAs k body t) ⊎ StopsInside asked old.ceiling rest last s e s') → GivesCore asked bytes (s0, old) (s', new') (Err e)
-    section_refused k {left = left_behind} {body = body} {s' = s'} {new' = new'} e there stops usual inside = record {
+    pub section_refused : {f : Tree} {left : List ℕ} {s' : S} {new' : Sections} (e : Error E) → Begins frame rest f left →
+        ((t : Tree) → InFrame t f → (new' ≡ new) × (e ≢ NoMemory → hooked asked old.ceiling last s t ≡ refused e s')) → IfParse e (λ at. ⊥) →
+        IfRefused e (((t : Tree) × InFrame t f) ⊎ StopsThere asked old.ceiling rest last s e s') → GivesCore asked bytes (s0, old) (s', new') (Err e)
+    section_refused {f = f} {left = left_behind} {s' = s'} {new' = new'} e there stops usual inside = record {
       reading = λ t r. go t (read_ahead t r);
       readable = tt;
-      cause = cause e (λ t r. (stops t r).1) usual inside;
+      cause = cause e (λ t i. (stops t i).1) usual inside;
     }
       where
         go : (t : Tree) → Ahead d.read rest t [] → StopsSections asked old.ceiling (s0, old) t (s', new') e
-        go t (same f empty) = absurd (some_begun there empty)
-        go t (more u v left f b) = let h = stops u (reads_begun k there b) in stopped e s' new' t (Tree.also u v) f h.0 h.1
+        go t (same a empty) = absurd (some_begun there empty)
+        go t (more u v left a b) = let h = stops u (frame_there there b) in stopped e s' new' t (Tree.also u v) a h.0 h.1
 
         -- where the section has a reading, the fault does not stand here
-        either : (w : Error E) → ((t : Tree) → ReadsAs k body t → hooked asked old.ceiling last s t ≡ refused w s') →
-            ((t : Tree) × ReadsAs k body t) ⊎ StopsInside asked old.ceiling rest last s w s' → (before : List Tree) (left : List ℕ) → FaultAt bytes before left →
+        either : (w : Error E) → ((t : Tree) → InFrame t f → hooked asked old.ceiling last s t ≡ refused w s') →
+            ((t : Tree) × InFrame t f) ⊎ StopsThere asked old.ceiling rest last s w s' → (before : List Tree) (left : List ℕ) → FaultAt bytes before left →
             Ahead d.read rest (alsos before Tree.finish) left → RefusedIn asked old.ceiling s0 before w s'
-            ⊎ ((made : List Tree) × (last : Option SectionId) × (n : S) × AcceptsSections asked old.ceiling s0 before made last n × StopsInside asked old.ceiling left last n w s')
-        either w h q before left fault (more t u behind f b) = inl (refused_in before t u (more_before before t u f) (h t (reads_begun k there b)))
-        either w h (inl q) before left fault (same f r) =
-            let b = section_begins k q.1.0 there q.1.2 in
-            absurd (fault.front.ends.none b.text left_behind (tree_of k q.1.0) b.spells (sym r ∙ b.reads))
-        either w h (inr q) before left fault (same f r) =
-            let P : List ℕ → Type 0 = λ z. StopsInside asked old.ceiling z last s w s' in
-            inr (d.made, last, s, accepted_before before (all_before before f), subst P r q)
+            ⊎ ((made : List Tree) × (last : Option SectionId) × (n : S) × AcceptsSections asked old.ceiling s0 before made last n × StopsThere asked old.ceiling left last n w s')
+        either w h q before left fault (more t u behind a b) = inl (refused_in before t u (more_before before t u a) (h t (frame_there there b)))
+        either w h (inl q) before left fault (same a r) =
+            let b = section_there q.1 there in
+            absurd (fault.front.ends.none b.text left_behind q.0 b.spells (sym r ∙ b.reads))
+        either w h (inr q) before left fault (same a r) =
+            let P : List ℕ → Type 0 = λ z. StopsThere asked old.ceiling z last s w s' in
+            inr (d.made, last, s, accepted_before before (all_before before a), subst P r q)
 
-        before_fault : (w : Error E) → ((t : Tree) → ReadsAs k body t → hooked asked old.ceiling last s t ≡ refused w s') →
-            ((t : Tree) × ReadsAs k body t) ⊎ StopsInside asked old.ceiling rest last s w s' → BeforeFault asked old.ceiling bytes s0 s' w
+        before_fault : (w : Error E) → ((t : Tree) → InFrame t f → hooked asked old.ceiling last s t ≡ refused w s') →
+            ((t : Tree) × InFrame t f) ⊎ StopsThere asked old.ceiling rest last s w s' → BeforeFault asked old.ceiling bytes s0 s' w
         before_fault w h q = ((start, reads), λ before left fault. either w h q before left fault (fault_ahead before left fault))
 
-        cause : (w : Error E) → ((t : Tree) → ReadsAs k body t → w ≢ NoMemory → hooked asked old.ceiling last s t ≡ refused w s') → IfParse w (λ at. ⊥) →
-            IfRefused w (((t : Tree) × ReadsAs k body t) ⊎ StopsInside asked old.ceiling rest last s w s') → IsCause asked old.ceiling bytes s0 s' w
+        cause : (w : Error E) → ((t : Tree) → InFrame t f → w ≢ NoMemory → hooked asked old.ceiling last s t ≡ refused w s') → IfParse w (λ at. ⊥) →
+            IfRefused w (((t : Tree) × InFrame t f) ⊎ StopsThere asked old.ceiling rest last s w s') → IsCause asked old.ceiling bytes s0 s' w
         cause NoMemory h p q = tt
-        cause (UserError x) h p q = before_fault (UserError x) (λ t r. h t r (λ c. cc)) q
-        cause (TooLarge x) h p q = before_fault (TooLarge x) (λ t r. h t r (λ c. cc)) q
+        cause (UserError x) h p q = before_fault (UserError x) (λ t i. h t i (λ c. cc)) q
+        cause (TooLarge x) h p q = before_fault (TooLarge x) (λ t i. h t i (λ c. cc)) q
         cause _ h p q = absurd p
 
     -- no section begins, though bytes are left: there is no reading
@@ -407,15 +386,10 @@ module _ {S E : Type 0} (asked : Asks S E) where
       cause = inr (d.read, rest, fault_here none some, other, place, d.made, last, s, d.accepts, further);
     }
 
-    -- no section begins
-    pub no_section : {new' : Sections} (at : ℕ) → BeginsNone section rest → rest ≢ [] → (InvalidCodeSize rest → ⊥) → at ≡ length bytes - length rest →
-        GivesCore asked bytes (s0, old) (s, new') (Err (ParseError (record { at = at })))
-    no_section at none some other place = fault_behind at none some other place (further_none asked s)
-
     -- no frame begins
     pub no_frame : {new' : Sections} (f : Fault) (at : ℕ) → NoFrame f rest at → at ≡ length bytes - length rest →
         GivesCore asked bytes (s0, old) (s, new') (Err (error_of_fault f))
-    no_frame (fault.Read x) at h place = no_section x.at (none_section h.1) h.2 h.3 (h.0 ∙ place)
+    no_frame (fault.Read x) at h place = fault_behind x.at (none_section h.1) h.2 h.3 (h.0 ∙ place) (further_none asked s)
     no_frame fault.CodeSize at h place =
         let none = none_section h.0 in
         let some = code_size_some h.1 in
@@ -431,52 +405,44 @@ module _ {S E : Type 0} (asked : Asks S E) where
     pub hook_refused : (k : SectionId) {left body : List ℕ} {s' : S} {new' : Sections} (e : Error E) → Begins frame rest (numbered_frame (number k) body) left → new' ≡ new →
         (e ≢ NoMemory → asked s (Section last (Some k)) ≡ refused e s') → IfParse e (λ at. ⊥) → GivesCore asked bytes (s0, old) (s', new') (Err e)
     hook_refused k {left = left} {body = body} {s' = s'} e there unchanged stops usual =
-        section_refused k e there (λ t r. (unchanged, λ other. hooked_refused old.ceiling k last s s' t e r (stops other))) usual
-        (unless_wanting e (λ other. inr (record { id = k; body = body; left = left; framed = there; stops = inl (stops other) })))
+        section_refused e there (λ t i. (unchanged, λ other. told_refused old.ceiling last s s' t e ((kind_announced asked k s last i).0 ∙ stops other))) usual
+        (unless_wanting e (λ other. inr (inl (record { id = k; body = body; left = left; framed = there; stops = inl (stops other) }))))
 
     -- a section's error, at the section's place
-    pub section_err : (k : SectionId) {left body : List ℕ} {n s' : S} {mid new' : Sections} (e : Error E) (at : ℕ) → Begins frame rest (numbered_frame (number k) body) left →
-        (asked s (Section last (Some k)) ≡ accepted 0 n) × (mid ≡ new) → GivesSection asked k body (n, mid) (s', new') (Err e) → at ≡ length bytes - length rest →
+    pub section_err : {Stops : ℕ → Error E → S → Type 0} {id : ℕ} {f : Tree} {left : List ℕ} {now : Option SectionId} {n s' : S} {mid new' : Sections} (e : Error E) (at : ℕ) →
+        Reached asked Stops f rest left last now s n → mid ≡ new → GivesFramed asked id f Stops (n, mid) (s', new') (Err e) → at ≡ length bytes - length rest →
         GivesCore asked bytes (s0, old) (s', new') (Err (placed_at e at))
-    section_err k {left = left} {body = body} {n = n} {s' = s'} {mid = mid} {new' = new'} e at there hook given place = go e given
+    section_err {Stops = Stops} {id = id} {f = f} {n = n} {s' = s'} {new' = new'} e at reached kept given place =
+        let P : Sections → Type 0 = λ z. GivesFramed asked id f Stops (n, z) (s', new') (Err e) in go e (subst P kept given)
       where
-        unchanged : (w : Error E) → GivesSection asked k body (n, mid) (s', new') (Err w) → GivesSection asked k body (n, new) (s', new') (Err w)
-        unchanged w g = let P : Sections → Type 0 = λ z. GivesSection asked k body (n, z) (s', new') (Err w) in subst P hook.1 g
+        ceiling : new.ceiling ≡ old.ceiling
+        ceiling = ap Sections.ceiling d.gains
 
-        stops : (w : Error E) → GivesSection asked k body (n, mid) (s', new') (Err w) → (t : Tree) → ReadsAs k body t → (new' ≡ new) × (w ≢ NoMemory → hooked asked old.ceiling last s t ≡ refused w s')
-        stops w given t r =
-            let g = (unchanged w given).reading t r in
-            let ceiling : new.ceiling ≡ old.ceiling = ap Sections.ceiling d.gains in
+        stops : (w : Error E) → GivesFramed asked id f Stops (n, new) (s', new') (Err w) → (t : Tree) → InFrame t f →
+            (new' ≡ new) × (w ≢ NoMemory → hooked asked old.ceiling last s t ≡ refused w s')
+        stops w given t i =
+            let g = given.reading t i in
             let W : ℕ → Type 0 = λ c. walk asked c n t ≡ refused w s' in
-            (g.0, λ h. hooked_err old.ceiling k last s n s' t w r hook.0 (subst W ceiling (g.1 h)))
+            (g.0, λ h. told_walked old.ceiling last s n t (reached.told t i) ∙ subst W ceiling (g.1 h))
 
         -- what was refused inside it
-        inside : (w : Error E) → GivesSection asked k body (n, mid) (s', new') (Err w) → IfRefused w (((t : Tree) × ReadsAs k body t) ⊎ StopsInside asked old.ceiling rest last s w s')
-        inside w given = IfRefused-map w behind (unchanged w given).refusal
+        inside : (w : Error E) → GivesFramed asked id f Stops (n, new) (s', new') (Err w) → IfRefused w (((t : Tree) × InFrame t f) ⊎ StopsThere asked old.ceiling rest last s w s')
+        inside w given = IfRefused-map w behind given.refusal
           where
-            behind : ((t : Tree) × ReadsAs k body t) ⊎ StopsSection asked new.ceiling k body n w s' → ((t : Tree) × ReadsAs k body t) ⊎ StopsInside asked old.ceiling rest last s w s'
+            behind : ((t : Tree) × InFrame t f) ⊎ Stops new.ceiling w s' → ((t : Tree) × InFrame t f) ⊎ StopsThere asked old.ceiling rest last s w s'
             behind (inl q) = inl q
-            behind (inr q) =
-                let P : ℕ → Type 0 = λ c. StopsSection asked c k body n w s' in
-                let ceiling : new.ceiling ≡ old.ceiling = ap Sections.ceiling d.gains in
-                inr (record { id = k; body = body; left = left; framed = there; stops = inr (n, hook.0, subst P ceiling q) })
+            behind (inr q) = let Q : ℕ → Type 0 = λ c. Stops c w s' in inr (reached.stops old.ceiling w s' (subst Q ceiling q))
 
-        -- the visits before a fault inside it
-        within : (at : ℕ) → BodyFault asked mid.ceiling k body n s' at → Further asked n s'
-        within at (_, inl q) = let P : S → Type 0 = λ z. Further asked n z in subst P (sym q.2) (further_none asked n)
-        within at (_, inr (inr q)) = let P : S → Type 0 = λ z. Further asked n z in subst P (sym q.3) (further_none asked n)
-        within at (_, inr (inl q)) =
-            let f = q.fault in
-            let walked : walk asked mid.ceiling n (rows_then f.read Tree.nil) ≡ accepted (rows_then f.made Tree.nil) f.state = f.accepts Tree.nil in
-            further_then asked n f.state s' (walk_further asked mid.ceiling n f.state (rows_then f.read Tree.nil) (rows_then f.made Tree.nil) walked) f.further
+        refuses : (w : Error E) → IfParse w (λ at. ⊥) → GivesFramed asked id f Stops (n, new) (s', new') (Err w) → GivesCore asked bytes (s0, old) (s', new') (Err w)
+        refuses w usual g = section_refused w reached.framed (stops w g) usual (inside w g)
 
-        go : (w : Error E) → GivesSection asked k body (n, mid) (s', new') (Err w) → GivesCore asked bytes (s0, old) (s', new') (Err (placed_at w at))
+        go : (w : Error E) → GivesFramed asked id f Stops (n, new) (s', new') (Err w) → GivesCore asked bytes (s0, old) (s', new') (Err (placed_at w at))
         go (ParseError x) g =
-            fault_behind at (section_none k there g.unreadable.0) (some_begun there) (code_size_other there) place
-            (further_then asked s n s' (further_one asked s n (Section last (Some k)) 0 hook.0) (within x.at g.unreadable))
-        go (UserError x) g = section_refused k (UserError x) there (stops (UserError x) g) tt (inside (UserError x) g)
-        go (TooLarge x) g = section_refused k (TooLarge x) there (stops (TooLarge x) g) tt (inside (TooLarge x) g)
-        go NoMemory g = section_refused k NoMemory there (stops NoMemory g) tt (inside NoMemory g)
+            fault_behind at (none_in_frame reached.framed g.unreadable.0) (some_begun reached.framed) (code_size_other reached.framed) place
+            (further_then asked s n s' reached.further g.unreadable.1)
+        go (UserError x) g = refuses (UserError x) tt g
+        go (TooLarge x) g = refuses (TooLarge x) tt g
+        go NoMemory g = refuses NoMemory tt g
         go _ g = absurd g.unreadable
 
     -- the end
@@ -539,21 +505,21 @@ module _ {S E : Type 0} (asked : Asks S E) where
         go t (more u v left f b) = leaves_at t (Tree.also u v) f (none_visited s (visits_from last (Tree.also u v)))
 
     -- the next section, or the hook before it, was asked in part
-    leaves_section : {m : S} (k : SectionId) {left body : List ℕ} → Begins frame rest (numbered_frame (number k) body) left →
-        ((t others : Tree) → ReadsAs k body t → Visited asked s (visits_from last (Tree.also t others)) m) → (t : Tree) → CoreReading bytes t → Visited asked s0 (visits t) m
-    leaves_section {m = m} k there leaves t r = go t (read_ahead t r)
+    leaves_section : {m : S} {f : Tree} {left : List ℕ} → Begins frame rest f left →
+        ((t others : Tree) → InFrame t f → Visited asked s (visits_from last (Tree.also t others)) m) → (t : Tree) → CoreReading bytes t → Visited asked s0 (visits t) m
+    leaves_section {m = m} there leaves t r = go t (read_ahead t r)
       where
         go : (t : Tree) → Ahead d.read rest t [] → Visited asked s0 (visits t) m
         go t (same f empty) = absurd (some_begun there empty)
-        go t (more u v left f b) = leaves_at t (Tree.also u v) f (leaves u v (reads_begun k there b))
+        go t (more u v left f b) = leaves_at t (Tree.also u v) f (leaves u v (frame_there there b))
 
     pub core_leaves_hook : {m : S} {e : Error E} (k : SectionId) {left body : List ℕ} → Begins frame rest (numbered_frame (number k) body) left →
         asked s (Section last (Some k)) ≡ refused e m → (t : Tree) → CoreReading bytes t → Visited asked s0 (visits t) m
-    core_leaves_hook {m = m} {e = e} k there h = leaves_section k there (λ t others r. hook_visits asked k last s m e t others r h)
+    core_leaves_hook k there h = leaves_section there (λ t others i. hook_visits asked last t others ((kind_announced asked k s last i).0 ∙ h))
 
-    pub core_leaves_inside : {m n : S} (k : SectionId) {left body : List ℕ} → Begins frame rest (numbered_frame (number k) body) left →
-        asked s (Section last (Some k)) ≡ accepted 0 n → ((t : Tree) → ReadsAs k body t → Visited asked n (visits t) m) → (t : Tree) → CoreReading bytes t → Visited asked s0 (visits t) m
-    core_leaves_inside {m = m} {n = n} k there h leaves = leaves_section k there (λ t others r. inside_visits asked k last s n m t others r h (leaves t r))
+    pub core_leaves_inside : {Stops : ℕ → Error E → S → Type 0} {f : Tree} {left : List ℕ} {now : Option SectionId} {m n : S} → Reached asked Stops f rest left last now s n →
+        ((t : Tree) → InFrame t f → Visited asked n (visits t) m) → (t : Tree) → CoreReading bytes t → Visited asked s0 (visits t) m
+    core_leaves_inside reached leaves = leaves_section reached.framed (λ t others i. inside_visits asked last t others (reached.told t i) (leaves t i))
 
     -- the hook at the end was refused
     pub core_leaves_end : {m : S} {e : Error E} → rest ≡ [] → asked s (Section last None) ≡ refused e m → (t : Tree) → CoreReading bytes t → Visited asked s0 (visits t) m

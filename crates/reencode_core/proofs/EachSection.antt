@@ -1,29 +1,30 @@
 -- The loop over the sections of a module, and what the call gives at each of its ends.
-use Rattle.std.proofs.Common.{◌≡◌, ◌-◌, ℕ, List, [], length, Option, Some, None, Result, Ok, Err, IsErrAnd, IsTrue, refl, sym, ap, ◌∙◌, subst}
+use Rattle.std.proofs.Common.{◌≡◌, ◌-◌, ◌≤◌, ℕ, List, [], length, Option, Some, None, Result, Ok, Err, IfErr, IsErrAnd, IsTrue, refl, sym, ap, ◌∙◌, subst}
 use Rattle.wasm_leb.specs.declared.fault.Fault.{Fault}
 use Rattle.wasm_shapes.specs.declared.SectionId.{SectionId}
 use Rattle.wasm_shapes.specs.Tree.{Tree, visits}
-use Rattle.wasm_shapes.specs.Place.{Begins, BeginsNone}
-use Rattle.wasm_shapes.specs.Module.{section, frame, CoreReading}
+use Rattle.wasm_shapes.specs.Place.{Begins}
+use Rattle.wasm_shapes.specs.Module.{frame, numbered_frame, custom_frame, unknown_tree_of, ReadsCustom, InFrame, CoreReading}
 use Rattle.wasm_shapes.specs.SectionTable.{number}
-use Rattle.wasm_read.specs.Frames.{numbered_frame, sections_place, HeaderRead, NoCoreHeader}
+use Rattle.wasm_shapes.proofs.SectionTable.{kind_in_frame, custom_in_frame, unknown_in_frame}
+use Rattle.wasm_read.specs.Frames.{sections_place, HeaderRead, NoCoreHeader}
 use Rattle.wasm_read.specs.Frames as read
 use Rattle.wasm_read.specs.Payloads.{NoFrame}
-use Rattle.wasm_read.proofs.CodeSize.{code_size_other}
 use Rattle.wasm_write.specs.Sections.{Sections}
 use Rattle.reencode_hooks.specs.declared.error.Error.{Error}
-use Rattle.reencode_hooks.specs.declared.error.Error.TheVariants.{ParseError}
 use Rattle.reencode_hooks.specs.declared.indices.ReencodeIndices.{Ghosts}
 use Rattle.reencode_hooks.specs.Errors.{error_of_fault}
 use Rattle.reencode_hooks.specs.Hooks.{RepliesSection, KeepsAdds}
-use Rattle.reencode_hooks.specs.Run.{NeverWants}
+use Rattle.reencode_hooks.specs.Run.{NeverWants, LeavesVisited}
 use Rattle.reencode_items.proofs.Leaving.{never_wants, none_visited}
-use Rattle.reencode_core.specs.Errors.{placed_at}
-use Rattle.reencode_core.specs.Sections.{KeepsModule}
+use Rattle.reencode_core.specs.Errors.{IfParse, placed_at}
+use Rattle.reencode_core.specs.Sections.{KeepsModule, GivesAdded, StopsSection}
+use Rattle.reencode_core.specs.Names.{StopsCustom, GivesCustom}
 use Rattle.reencode_core.specs.Core.{GivesCore}
 use Rattle.reencode_core.specs.Leaves.{LeavesReading}
-use Rattle.reencode_core.proofs.CoreLoop.{SectionsDone, core_leaves_hook, core_leaves_inside, core_leaves_none, end_given, end_left, header_wrong, hook_err, hook_kept, hook_ok, hook_refused, hook_usual, no_frame, no_section, section_err, sections_begin, sections_more}
-use Rattle.reencode_core.proofs.Known.{keeps_same, keeps_more, hook_keeps, some_begun}
+use Rattle.reencode_core.proofs.CoreLoop.{SectionsDone, core_leaves_hook, core_leaves_inside, core_leaves_none, end_given, end_left, header_wrong, hook_err, hook_kept, hook_ok, hook_refused, hook_usual, no_frame, section_err, sections_begin, sections_more}
+use Rattle.reencode_core.proofs.Framed.{GivesFramed, Reached, kind_gives, kind_reached, custom_gives, custom_reached, unknown_gives, unknown_reached}
+use Rattle.reencode_core.proofs.Known.{keeps_same, keeps_more, hook_keeps}
 use Rattle.reencode_core.proofs.MappedSection.{SectionClauses}
 use Rattle.reencode_core.proofs.OneRow.{answers, asks}
 
@@ -46,6 +47,25 @@ CoreClauses i bytes s old m new result =
 abbrev pub HookClauses : {S E : Type 0} → Ghosts S E → S → S → Sections → Sections → Option SectionId → Option SectionId → Result (Unit {0}) (Error E) → Type 0
 HookClauses i s m old new after before result =
     record { answer : RepliesSection i.reply i.next i.adds s m old new after before result; sure : NeverWants i.sure result }
+
+-- the clauses of the call that maps a custom section
+abbrev pub CustomClauses : {S E : Type 0} → Ghosts S E → List ℕ → List ℕ → S → Sections → S → Sections → Result (Unit {0}) (Error E) → Type 0
+CustomClauses i name contents s old m new result =
+    record {
+      kept : KeepsModule old new;
+      default : IsTrue i.keeps_defaults → GivesCustom (asks i) name contents (s, old) (m, new) result;
+      after_error : IsTrue i.keeps_defaults → IsTrue i.sure → LeavesReading (ReadsCustom name contents) (asks i) s m result;
+    }
+
+-- of the one that adds a section of another id
+abbrev pub UnknownClauses : {S E : Type 0} → Ghosts S E → ℕ → List ℕ → S → Sections → S → Sections → Result (Unit {0}) (Error E) → Type 0
+UnknownClauses i id contents s old m new result =
+    record {
+      kept : KeepsModule old new;
+      default : IsTrue i.keeps_defaults → GivesAdded (asks i) id (s, old) (unknown_tree_of id contents) (m, new) result;
+      after_error : IsTrue i.keeps_defaults → IsTrue i.sure → LeavesVisited (asks i) s [] m result;
+      usual : IsTrue i.keeps_defaults → IfErr result (λ e. IfParse e (λ _. ⊥));
+    }
 
 module _ {S E : Type 0} (i : Ghosts S E) where
   pub core_headless : {bytes : List ℕ} {s : S} {old : Sections} (f : Fault) → NoCoreHeader f bytes → (r : Result (Unit {0}) (Error E)) → IsErrAnd r (λ y. y ≡ error_of_fault f) →
@@ -77,57 +97,87 @@ module _ {S E : Type 0} (i : Ghosts S E) where
           after_error = λ k n sure. core_leaves_none (asks i) header.stands (inv.default k n);
         })
 
-    -- a frame begins, and no section
-    pub core_unknown : {t : Tree} {left : List ℕ} (at : ℕ) → BeginsNone section reader.rest → Begins frame reader.rest t left → at ≡ sections_place reader →
-        CoreClauses i bytes s0 old s new (Err (ParseError (record { at = at })))
-    core_unknown at none framed place = record {
-      kept = inv.kept;
-      default = λ k n. no_section (asks i) header.stands (inv.default k n) at none (some_begun framed) (code_size_other framed) (counted place);
-      after_error = λ k n sure. core_leaves_none (asks i) header.stands (inv.default k n);
+    -- the hook before a section is refused
+    pub core_hook_refused : (k : SectionId) {body left : List ℕ} {n : S} {mid : Sections} (e : Error E) → Begins frame reader.rest (numbered_frame (number k) body) left →
+        HookClauses i s n new mid last (Some k) (Err e) → (r : Result (Unit {0}) (Error E)) → IsErrAnd r (λ y. y ≡ e) → CoreClauses i bytes s0 old n mid r
+    core_hook_refused k {n = n} {mid = mid} e framed hook r q =
+        let P : Result (Unit {0}) (Error E) → Type 0 = λ z. CoreClauses i bytes s0 old n mid z in
+        subst P (answers r q) (record {
+          kept = keeps_more old new mid inv.kept (hook_keeps i.reply i.next i.adds s n new mid last (Some k) (Err e) hook.answer);
+          default = λ d none. hook_refused (asks i) header.stands (inv.default d none) k e framed
+              (hook_kept i.reply i.next i.adds i.adds_nothing keeps none s n new mid last (Some k) e hook.answer)
+              (hook_err i.reply i.next i.adds i.adds_nothing keeps none s n new mid last (Some k) e hook.answer)
+              (hook_usual i.reply i.next i.adds i.adds_nothing keeps none s n new mid last (Some k) e hook.answer);
+          after_error = λ d none sure. core_leaves_hook (asks i) header.stands (inv.default d none) k framed
+              (hook_err i.reply i.next i.adds i.adds_nothing keeps none s n new mid last (Some k) e hook.answer (never_wants e hook.sure sure));
+        })
+
+    -- the section in a frame is reached, and the call that maps it gave this
+    abbrev pub Called : (ℕ → Error E → S → Type 0) → ℕ → Tree → List ℕ → Option SectionId → S → Sections → S → Sections → Result (Unit {0}) (Error E) → Type 0
+    Called Stops id f left now n mid m new' r =
+        record {
+          kept : KeepsModule old new';
+          reached : IsTrue i.keeps_defaults → IsTrue i.adds_nothing → Reached (asks i) Stops f reader.rest left last now s n × (mid ≡ new);
+          gives : IsTrue i.keeps_defaults → GivesFramed (asks i) id f Stops (n, mid) (m, new') r;
+          leaves : IsTrue i.keeps_defaults → IsTrue i.sure → LeavesReading (λ t. InFrame t f) (asks i) n m r;
+        }
+
+    -- one of a known kind, behind the section hook
+    pub kind_called : (k : SectionId) {body left : List ℕ} {n : S} {mid : Sections} {u : Unit {0}} {m : S} {new' : Sections} {r : Result (Unit {0}) (Error E)} →
+        Begins frame reader.rest (numbered_frame (number k) body) left → HookClauses i s n new mid last (Some k) (Ok u) → SectionClauses i k body n mid m new' r →
+        Called (λ c e m. StopsSection (asks i) c k body n e m) (number k) (numbered_frame (number k) body) left (Some k) n mid m new' r
+    kind_called k {body = body} {n = n} {mid = mid} {u = u} {new' = new'} {r = r} framed hook given = record {
+      kept = keeps_more old mid new' (keeps_more old new mid inv.kept (hook_keeps i.reply i.next i.adds s n new mid last (Some k) (Ok u) hook.answer)) given.kept;
+      reached = λ d none.
+          let h = hook_ok i.reply i.next i.adds i.adds_nothing keeps none s n new mid last (Some k) u hook.answer in (kind_reached (asks i) k framed h.0, h.1);
+      gives = λ d. kind_gives r k framed (given.default d);
+      leaves = λ d sure t there. given.after_error d sure t (kind_in_frame k body t there);
     }
 
-    module _ (k : SectionId) {body left : List ℕ} (framed : Begins frame reader.rest (numbered_frame (number k) body) left) {n : S} {mid : Sections} where
-      -- the hook before a section is refused
-      pub core_hook_refused : (e : Error E) → HookClauses i s n new mid last (Some k) (Err e) → (r : Result (Unit {0}) (Error E)) → IsErrAnd r (λ y. y ≡ e) → CoreClauses i bytes s0 old n mid r
-      core_hook_refused e hook r q =
-          let P : Result (Unit {0}) (Error E) → Type 0 = λ z. CoreClauses i bytes s0 old n mid z in
-          subst P (answers r q) (record {
-            kept = keeps_more old new mid inv.kept (hook_keeps i.reply i.next i.adds s n new mid last (Some k) (Err e) hook.answer);
-            default = λ d none. hook_refused (asks i) header.stands (inv.default d none) k e framed
-                (hook_kept i.reply i.next i.adds i.adds_nothing keeps none s n new mid last (Some k) e hook.answer)
-                (hook_err i.reply i.next i.adds i.adds_nothing keeps none s n new mid last (Some k) e hook.answer)
-                (hook_usual i.reply i.next i.adds i.adds_nothing keeps none s n new mid last (Some k) e hook.answer);
-            after_error = λ d none sure. core_leaves_hook (asks i) header.stands (inv.default d none) k framed
-                (hook_err i.reply i.next i.adds i.adds_nothing keeps none s n new mid last (Some k) e hook.answer (never_wants e hook.sure sure));
+    -- a custom one
+    pub custom_called : {name contents left : List ℕ} {m : S} {new' : Sections} {r : Result (Unit {0}) (Error E)} → Begins frame reader.rest (custom_frame name contents) left →
+        CustomClauses i name contents s new m new' r →
+        Called (λ c e m. StopsCustom (asks i) c name contents s e m) 0 (custom_frame name contents) left last s new m new' r
+    custom_called {name = name} {contents = contents} {new' = new'} {r = r} framed given = record {
+      kept = keeps_more old new new' inv.kept given.kept;
+      reached = λ d none. (custom_reached (asks i) framed, refl);
+      gives = λ d. custom_gives r (given.default d);
+      leaves = λ d sure t there. given.after_error d sure t (custom_in_frame name contents t there);
+    }
+
+    -- one of another id
+    pub unknown_called : {id : ℕ} {contents left : List ℕ} {m : S} {new' : Sections} {r : Result (Unit {0}) (Error E)} → 14 ≤ id →
+        Begins frame reader.rest (numbered_frame id contents) left → UnknownClauses i id contents s new m new' r →
+        Called (λ c e m. ⊥) id (numbered_frame id contents) left last s new m new' r
+    unknown_called {id = id} {contents = contents} {m = m} {new' = new'} {r = r} low framed given = record {
+      kept = keeps_more old new new' inv.kept given.kept;
+      reached = λ d none. (unknown_reached (asks i) low framed, refl);
+      gives = λ d. unknown_gives r low framed (given.default d) (given.usual d);
+      leaves = λ d sure t there.
+          let P : Tree → Type 0 = λ z. LeavesVisited (asks i) s (visits z) m r in subst P (sym (unknown_in_frame id contents t low there)) (given.after_error d sure);
+    }
+
+    module _ {Stops : ℕ → Error E → S → Type 0} {id : ℕ} {f : Tree} {left : List ℕ} {now : Option SectionId} {n m : S} {mid new' : Sections} where
+      -- it was mapped
+      pub core_more : {reader' : read.Sections} → reader'.rest ≡ left → reader'.len ≡ reader.len → Called Stops id f left now n mid m new' (Ok tt) →
+          SectionsKept i start s0 old reader' now m new'
+      core_more behind len call =
+          let P : List ℕ → Type 0 = λ z. SectionsDone (asks i) start.rest s0 old z now m new' in record {
+            kept = call.kept;
+            len = len ∙ inv.len;
+            default = λ d none. let r = call.reached d none in subst P (sym behind) (sections_more (asks i) (inv.default d none) r.0 r.1 (call.gives d));
+          }
+
+      -- it is refused, or has no reading
+      pub core_section_refused : (e : Error E) (at : ℕ) → Called Stops id f left now n mid m new' (Err e) → at ≡ sections_place reader → (r : Error E) → r ≡ placed_at e at →
+          CoreClauses i bytes s0 old m new' (Err r)
+      core_section_refused e at call place r q =
+          let P : Error E → Type 0 = λ z. CoreClauses i bytes s0 old m new' (Err z) in
+          subst P (sym q) (record {
+            kept = call.kept;
+            default = λ d none. let r = call.reached d none in section_err (asks i) header.stands (inv.default d none) e at r.0 r.1 (call.gives d) (counted place);
+            after_error = λ d none sure. core_leaves_inside (asks i) header.stands (inv.default d none) (call.reached d none).0 (call.leaves d sure);
           })
-
-      module _ {u : Unit {0}} (hook : HookClauses i s n new mid last (Some k) (Ok u)) where
-        grown : {new' : Sections} → KeepsModule mid new' → KeepsModule old new'
-        grown {new' = new'} kept = keeps_more old mid new' (keeps_more old new mid inv.kept (hook_keeps i.reply i.next i.adds s n new mid last (Some k) (Ok u) hook.answer)) kept
-
-        -- a section was mapped
-        pub core_more : {m : S} {new' : Sections} {reader' : read.Sections} → reader'.rest ≡ left → reader'.len ≡ reader.len → SectionClauses i k body n mid m new' (Ok tt) →
-            SectionsKept i start s0 old reader' (Some k) m new'
-        core_more {m = m} {new' = new'} {reader' = reader'} behind len given =
-            let P : List ℕ → Type 0 = λ z. SectionsDone (asks i) start.rest s0 old z (Some k) m new' in record {
-              kept = grown given.kept;
-              len = len ∙ inv.len;
-              default = λ d none. subst P (sym behind) (sections_more (asks i) k (inv.default d none) framed
-                  (hook_ok i.reply i.next i.adds i.adds_nothing keeps none s n new mid last (Some k) u hook.answer) (given.default d));
-            }
-
-        -- a section is refused, or none of its kind
-        pub core_section_refused : {m : S} {new' : Sections} (e : Error E) (at : ℕ) → SectionClauses i k body n mid m new' (Err e) → at ≡ sections_place reader → (r : Error E) → r ≡ placed_at e at →
-            CoreClauses i bytes s0 old m new' (Err r)
-        core_section_refused {m = m} {new' = new'} e at given place r q =
-            let P : Error E → Type 0 = λ z. CoreClauses i bytes s0 old m new' (Err z) in
-            subst P (sym q) (record {
-              kept = grown given.kept;
-              default = λ d none. section_err (asks i) header.stands (inv.default d none) k e at framed
-                  (hook_ok i.reply i.next i.adds i.adds_nothing keeps none s n new mid last (Some k) u hook.answer) (given.default d) (counted place);
-              after_error = λ d none sure. core_leaves_inside (asks i) header.stands (inv.default d none) k framed
-                  (hook_ok i.reply i.next i.adds i.adds_nothing keeps none s n new mid last (Some k) u hook.answer).0 (given.after_error d sure);
-            })
 
     -- the hook at the end
     pub core_ended : {n : S} {mid : Sections} → reader.rest ≡ [] → (r : Result (Unit {0}) (Error E)) → HookClauses i s n new mid last None r → CoreClauses i bytes s0 old n mid r

@@ -9,7 +9,7 @@ use Rattle.wasm_read.proofs.CodeSize.{code_size_other}
 use Rattle.reencode_hooks.specs.declared.error.Error.{Error}
 use Rattle.reencode_hooks.specs.declared.error.Error.TheVariants.{InvalidCodeSectionSize, UnexpectedNonCoreModuleSection, ParseError, UserError, TooLarge, NoMemory}
 use Rattle.reencode_core.specs.Rows.{Asks}
-use Rattle.reencode_core.specs.Core.{AcceptsSections, RefusedIn, StopsInside, BeforeFault, IsCause}
+use Rattle.reencode_core.specs.Core.{AcceptsSections, RefusedIn, StopsThere, BeforeFault, IsCause}
 use Rattle.reencode_core.specs.Faults.{FaultGives, FaultTells}
 use Rattle.reencode_core.proofs.CoreLoop.{Ahead, same, more, ahead, none_behind}
 
@@ -41,9 +41,10 @@ module _ {bytes : List ℕ} {before : List Tree} {rest : List ℕ} (f : FaultAt 
     refused_before e h size = go (h.1 before rest f)
       where
         go : RefusedIn asked c s before e m
-            ⊎ ((made : List Tree) × (last : Option SectionId) × (n : S) × AcceptsSections asked c s before made last n × StopsInside asked c rest last n e m) → RefusedIn asked c s before e m
+            ⊎ ((made : List Tree) × (last : Option SectionId) × (n : S) × AcceptsSections asked c s before made last n × StopsThere asked c rest last n e m) → RefusedIn asked c s before e m
         go (inl r) = r
-        go (inr q) = absurd (code_size_other q.4.framed size)
+        go (inr (_, _, _, _, inl q)) = absurd (code_size_other q.framed size)
+        go (inr (_, _, _, _, inr q)) = absurd (code_size_other q.framed size)
 
     told : (e : Error E) → IsCause asked c bytes s m e → FaultGives asked c bytes s m before rest e
     told InvalidCodeSectionSize h = subst InvalidCodeSize (same_fault h.2) h.3

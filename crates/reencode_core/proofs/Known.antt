@@ -1,5 +1,5 @@
 -- Sections by their kind.
-use Rattle.std.proofs.Common.{◌≡◌, ◌≢◌, ℕ, ◌≤◌, ◌<◌, List, [], ◌∷◌, ◌++◌, length, Bool, true, false, nat_le, if◌then◌else◌, Option, Some, Result, Ok, Err, refl, sym, ap, ◌∙◌, append_assoc, append-nil, arith, inl, inr, subst}
+use Rattle.std.proofs.Common.{◌≡◌, ◌≢◌, ℕ, ◌≤◌, ◌<◌, List, [], ◌∷◌, ◌++◌, length, Bool, true, false, nat_le, if◌then◌else◌, Option, Some, Result, Ok, Err, refl, sym, ap, ◌∙◌, append_assoc, append-nil, arith, subst}
 use Rattle.std.proofs.lemmas.Bool.{le-leb, leb-true}
 use Rattle.std.proofs.lemmas.List.{append_cancel_left}
 use Rattle.wasm_leb.specs.Place.{BeginsNumber}
@@ -9,18 +9,13 @@ use Rattle.wasm_shapes.specs.declared.Visit.{Visit}
 use Rattle.wasm_shapes.specs.declared.Visit.TheVariants.{Section}
 use Rattle.wasm_shapes.specs.Tree.{Tree, normal, count, kind, before, visits, visits_from}
 use Rattle.wasm_shapes.specs.Shape.{Shape}
-use Rattle.wasm_shapes.specs.Sound.{first_bytes}
 use Rattle.wasm_shapes.specs.Spells.{Is, Spelled, Spells}
 use Rattle.wasm_shapes.specs.Place.{Begins, BeginsNone}
 use Rattle.wasm_shapes.specs.Rows.{RowsLeft}
-use Rattle.wasm_shapes.specs.Module.{section, frame, body_of, tree_of}
+use Rattle.wasm_shapes.specs.Module.{frame, tree_of}
 use Rattle.wasm_shapes.specs.SectionTable.{number}
-use Rattle.wasm_shapes.proofs.Unique.{unique}
-use Rattle.wasm_shapes.proofs.Begins.{none_here, none_by_front, none_at_end}
-use Rattle.wasm_shapes.proofs.Fronts.{outside}
-use Rattle.wasm_shapes.proofs.SectionTable.{same_kind, table_begins, table_none, in_frame}
-use Rattle.wasm_read.specs.Frames.{numbered_frame, custom_frame}
-use Rattle.wasm_read.proofs.Framed.{numbered_is}
+use Rattle.wasm_shapes.proofs.Begins.{none_at_end}
+use Rattle.wasm_read.specs.Frames.{numbered_frame}
 use Rattle.wasm_write.specs.Sections.{Sections, SectionRow, section_row, section_bytes}
 use Rattle.reencode_hooks.specs.Hooks.{RepliesSection}
 use Rattle.reencode_hooks.specs.declared.error.Error.{Error}
@@ -30,7 +25,7 @@ use Rattle.reencode_hooks.specs.Walk.{walk, closed, announced}
 use Rattle.reencode_hooks.proofs.Walks.{visited_then}
 use Rattle.reencode_items.proofs.Leaving.{first_visited, one_visited, second_visited}
 use Rattle.reencode_core.specs.Rows.{Asks}
-use Rattle.reencode_core.specs.Sections.{KeepsModule, ReadsAs}
+use Rattle.reencode_core.specs.Sections.{KeepsModule}
 
 -- ---- the close of a frame
 
@@ -54,11 +49,8 @@ module _ (k : SectionId) where
   pub section_spelled : (u : Tree) → section_bytes (section_row (number k) (normal u)) ≡ normal (tree_of k u)
   section_spelled u = refl
 
-  -- what the section hook is told
-  pub section_before : (last : Option SectionId) (u : Tree) → (before last (tree_of k u) ≡ Section last (Some k) ∷ []) × (kind last (tree_of k u) ≡ Some k)
-  section_before last u = (refl, refl)
-
   module _ {S E : Type 0} (asked : Asks S E) where
+    -- what the section hook is told
     pub section_announced : (s : S) (last : Option SectionId) (u : Tree) →
         (announced asked s last (tree_of k u) ≡ asked s (Section last (Some k))) × (kind last (tree_of k u) ≡ Some k)
     section_announced s last u = (refl, refl)
@@ -73,74 +65,47 @@ module _ (k : SectionId) where
         walk asked c s (tree_of k t) ≡ refused (TooLarge (length (normal u))) m
     section_large c s m t u h l = rw (h, closed_large {E = E} c u m l) refl
 
+-- ---- what is asked before a section
+
+module _ {S E : Type 0} (asked : Asks S E) where
+  told_accepted : (s n : S) (a : ℕ) (last : Option SectionId) (t : Tree) → announced asked s last t ≡ accepted a n → (b : List ℕ) × (run asked s (before last t) ≡ accepted b n)
+  told_accepted s n a last (Tree.row k t) h = told_accepted s n a last t h
+  told_accepted s n a last (Tree.told k t) h = (a ∷ [], rw h refl)
+  told_accepted s n a last _ h = let same : s ≡ n = cc in ([], ap (λ (z : S). accepted [] z) same)
+
+  told_refused : (s m : S) (e : Error E) (last : Option SectionId) (t : Tree) → announced asked s last t ≡ refused e m → Visited asked s (before last t) m
+  told_refused s m e last (Tree.row k t) h = told_refused s m e last t h
+  told_refused s m e last (Tree.told k t) h = one_visited (Section last (Some k)) h
+  told_refused s m e last _ h = absurd cc
+
+  -- what stands before a section, and the section, were accepted
+  pub section_onward : (c : ℕ) (last : Option SectionId) {now : Option SectionId} {s n m j : S} (t : Tree) {v : Tree} (others : Tree) →
+      announced asked s last t ≡ accepted 0 n → kind last t ≡ now → walk asked c n t ≡ accepted v m → Visited asked m (visits_from now others) j →
+      Visited asked s (visits_from last (Tree.also t others)) j
+  section_onward c last {s = s} {n = n} t others told kinds w u =
+      let ran = told_accepted s n 0 last t told in rw kinds (visited_then asked (before last t) ran.1 (second_visited c t w u))
+
+  -- the first was accepted, and the section was asked in part
+  pub inside_visits : (last : Option SectionId) {s n m : S} (t others : Tree) → announced asked s last t ≡ accepted 0 n → Visited asked n (visits t) m →
+      Visited asked s (visits_from last (Tree.also t others)) m
+  inside_visits last {s = s} {n = n} t others told v =
+      let ran = told_accepted s n 0 last t told in visited_then asked (before last t) ran.1 (first_visited (visits_from (kind last t) others) v)
+
+  -- the first was refused
+  pub hook_visits : (last : Option SectionId) {s m : S} {e : Error E} (t others : Tree) → announced asked s last t ≡ refused e m →
+      Visited asked s (visits_from last (Tree.also t others)) m
+  hook_visits last {s = s} {m = m} {e = e} t others told = first_visited (visits t ++ visits_from (kind last t) others) (told_refused s m e last t told)
+
 -- ---- frames
 
--- a section begins where its frame does
-pub section_begins : (k : SectionId) {bytes body left : List ℕ} (u : Tree) → Begins frame bytes (numbered_frame (number k) body) left → Spells (body_of k) body u →
-    Begins section bytes (tree_of k u) left
-section_begins k u f p = table_begins k (numbered_is f) p
-
-pub section_none : (k : SectionId) {bytes body left : List ℕ} → Begins frame bytes (numbered_frame (number k) body) left → ((t : Tree) → ReadsAs k body t → ⊥) → BeginsNone section bytes
-section_none k f none = table_none k (numbered_is f) (λ u q. none (tree_of k u) (u, refl, q))
-
-module _ {S E : Type 0} (asked : Asks S E) (k : SectionId) where
-  -- the hook before a section and the section were accepted
-  pub section_onward : {body : List ℕ} (c : ℕ) (last : Option SectionId) (s n m j : S) (t v others : Tree) → ReadsAs k body t →
-      asked s (Section last (Some k)) ≡ accepted 0 n → walk asked c n t ≡ accepted v m → Visited asked m (visits_from (Some k) others) j →
-      Visited asked s (visits_from last (Tree.also t others)) j
-  section_onward c last s n m j t v others r h w u =
-      let b = section_before k last r.0 in
-      let told : before last t ≡ Section last (Some k) ∷ [] = rw r.1 b.0 in
-      let kinds : kind last t ≡ Some k = rw r.1 b.1 in
-      let ran : run asked s (Section last (Some k) ∷ []) ≡ accepted (0 ∷ []) n = rw h refl in
-      rw (told, kinds) (visited_then asked (Section last (Some k) ∷ []) ran (second_visited c t w u))
-
-  -- the hook was accepted, and the section was asked in part
-  pub inside_visits : {body : List ℕ} (last : Option SectionId) (s n m : S) (t others : Tree) → ReadsAs k body t →
-      asked s (Section last (Some k)) ≡ accepted 0 n → Visited asked n (visits t) m → Visited asked s (visits_from last (Tree.also t others)) m
-  inside_visits last s n m t others r h v =
-      let b = section_before k last r.0 in
-      let told : before last t ≡ Section last (Some k) ∷ [] = rw r.1 b.0 in
-      let ran : run asked s (Section last (Some k) ∷ []) ≡ accepted (0 ∷ []) n = rw h refl in
-      rw told (visited_then asked (Section last (Some k) ∷ []) ran (first_visited (visits_from (kind last t) others) v))
-
-  -- the hook was refused
-  pub hook_visits : {body : List ℕ} (last : Option SectionId) (s m : S) (e : Error E) (t others : Tree) → ReadsAs k body t →
-      asked s (Section last (Some k)) ≡ refused e m → Visited asked s (visits_from last (Tree.also t others)) m
-  hook_visits last s m e t others r h =
-      let b = section_before k last r.0 in
-      let told : before last t ≡ Section last (Some k) ∷ [] = rw r.1 b.0 in
-      rw told (first_visited (visits t ++ visits_from (kind last t) others) (one_visited (Section last (Some k)) h))
-
--- ---- a section that begins where a frame does is read from it
-
-same_frame : {n m : ℕ} {a b : List ℕ} → numbered_frame n a ≡ numbered_frame m b → (n ≡ m) × (a ≡ b)
-same_frame e = (cc, cc)
-
-pub reads_begun : (k : SectionId) {bytes body left left' : List ℕ} {t : Tree} → Begins frame bytes (numbered_frame (number k) body) left → Begins section bytes t left' →
-    ReadsAs k body t
-reads_begun k {body = body} {left = left} {left' = left'} {t = t} there here =
-    let f = in_frame t here.text here.spells.shaped here.spells.spelled in
-    let same = unique there.spells.shaped f.frames.shaped there.text here.text left left' refl (inl refl) there.spells.spelled f.frames.spelled (sym there.reads ∙ here.reads) in
-    let parts = same_frame same.1 in
-    let kinds : k ≡ f.k = same_kind k f.k parts.0 in
-    let P : SectionId → Type 0 = λ j. ReadsAs j body t in
-    let Q : List ℕ → Type 0 = λ z. Spells (body_of f.k) z f.u in
-    subst P (sym kinds) (f.u, f.is, subst Q (sym parts.1) f.reads)
-
--- ---- where no section begins
-
-custom_first : {bytes left : List ℕ} (name contents : List ℕ) → Begins frame bytes (custom_frame name contents) left → (rest : List ℕ) × (bytes ≡ 0 ∷ rest)
-custom_first {left = left} name contents p =
-    let s = p.spells.spelled in (s.1 ++ left, p.reads ∙ ap (λ (z : List ℕ). z ++ left) (s.2 ∙ ap (λ (z : List ℕ). z ++ s.1) s.3))
-
-pub none_custom : {bytes left : List ℕ} (name contents : List ℕ) → Begins frame bytes (custom_frame name contents) left → BeginsNone section bytes
-none_custom name contents f = let first = custom_first name contents f in none_here first.1 (none_by_front refl refl)
-
-pub none_unknown : {bytes left : List ℕ} (n : ℕ) (contents : List ℕ) → 14 ≤ n → Begins frame bytes (numbered_frame n contents) left → BeginsNone section bytes
-none_unknown n contents h f =
-    let g = numbered_is f in
-    none_here g.reads (none_by_front refl (outside 1 13 n (first_bytes section) refl (inr (omega arith))))
+-- the id of a frame with a number
+pub frame_id : {id : ℕ} {bytes body left : List ℕ} → Begins frame bytes (numbered_frame id body) left → (1 ≤ id) × (id ≤ 127)
+frame_id {id = id} {body = body} there = go _ there.spells.shaped refl
+  where
+    go : (f : Tree) → Is frame f → f ≡ numbered_frame id body → (1 ≤ id) × (id ≤ 127)
+    go f (Is.first (Is.seq {t = t} {u = u} d d')) e = absurd (let apart : Tree.row 0 (Tree.pair t u) ≡ numbered_frame id body = e in cc)
+    go f (Is.later (Is.first (Is.seq (Is.within {b = b} low high) (Is.sized Is.rest)))) e = let same : b ≡ id = cc in (omega (arith, same, low), omega (arith, same, high))
+    go f (Is.later (Is.later d)) e = elim d [ ]
 
 pub some_begun : {t : Tree} {bytes left : List ℕ} → Begins frame bytes t left → bytes ≢ []
 some_begun {t = t} {left = left} there empty =

@@ -42,7 +42,7 @@ use Rattle.reencode_core.proofs.BodyLoop.{ManyLeft, OperatorsDone, body_is, in_f
 use Rattle.reencode_core.proofs.OneSection.{BodyMade, rows_read, same_item}
 
 -- rows, and others behind them
-visits_behind : (ts : List Tree) (u : Tree) → visits (rows_then ts u) ≡ visits (rows_then ts Tree.nil) ++ visits u
+pub visits_behind : (ts : List Tree) (u : Tree) → visits (rows_then ts u) ≡ visits (rows_then ts Tree.nil) ++ visits u
 visits_behind [] u = refl
 visits_behind (t ∷ ts) u = ap (λ (z : List Visit). visits t ++ z) (visits_behind ts u) ∙ sym (append_assoc (visits t) (visits (rows_then ts Tree.nil)) (visits u))
 

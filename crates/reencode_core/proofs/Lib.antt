@@ -7,6 +7,7 @@ pub mod NameCalls
 pub mod EachItem
 pub mod EachRow
 pub mod OneSection
+pub mod Framed
 pub mod CoreLoop
 pub mod Faults
 pub mod WholeBytes

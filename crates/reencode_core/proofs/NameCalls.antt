@@ -3,7 +3,7 @@
 -- `see f` is the reencoder that the closure f holds, and `name f` the name of its reference. A call of the closure answers what
 -- `asked` gives at an index of the space, and keeps the name: that is `one`. The entries of the map are an index, and behind it
 -- `body`, which asks nothing.
-use Rattle.std.proofs.Common.{◌≡◌, ◌≢◌, ℕ, suc, ◌+◌, ◌<◌, ◌⊎◌, Option, Some, None, List, [], ◌∷◌, ◌++◌, length, map, true, Result, Ok, Err, IfOk, IfErr, refl, sym, ap, subst, ◌∙◌, append_assoc, inl, inr, arith}
+use Rattle.std.proofs.Common.{◌≡◌, ◌≢◌, ℕ, ◌+◌, ◌<◌, ◌⊎◌, List, [], ◌∷◌, ◌++◌, length, map, true, Result, Ok, Err, IfOk, IfErr, refl, sym, ap, ap₂, subst, ◌∙◌, append_assoc, inl, inr, arith}
 use Rattle.std.proofs.lemmas.List.{length-map}
 use Rattle.wasm_shapes.specs.declared.Space.{Space}
 use Rattle.wasm_shapes.specs.declared.Visit.{Visit}
@@ -11,23 +11,25 @@ use Rattle.wasm_shapes.specs.declared.Visit.TheVariants.{Index}
 use Rattle.wasm_shapes.specs.Tree.{Tree, visits}
 use Rattle.wasm_shapes.specs.Shape.{Shape, closed}
 use Rattle.wasm_shapes.specs.Sound.{sound}
-use Rattle.wasm_shapes.specs.Spells.{Is, Spelled}
+use Rattle.wasm_shapes.specs.Spells.{Is}
 use Rattle.wasm_shapes.specs.Place.{Begins}
 use Rattle.wasm_shapes.specs.Rows.{rows_then}
 use Rattle.wasm_shapes.specs.Types.{rows_tree, vector_tree}
 use Rattle.wasm_shapes.specs.Module.{plain_naming}
 use Rattle.wasm_shapes.specs.Namings.{asked_in}
-use Rattle.wasm_read.specs.Names.{MapStanding, Due, DueFrom, EntriesLeft, EntryRead}
-use Rattle.wasm_read.proofs.NameMaps.{plain_row, asked_row, due_one, left_less, left_one, lists_one}
+use Rattle.wasm_read.specs.Names.{MapStanding, Due, EntriesLeft, EntryRead}
+use Rattle.wasm_read.proofs.NameMaps.{plain_row, asked_row, due_behind, due_one, left_less, left_one, lists_one}
 use Rattle.reencode_hooks.specs.declared.error.Error.{Error}
 use Rattle.reencode_hooks.specs.declared.error.Error.TheVariants.{ParseError, NoMemory}
-use Rattle.reencode_hooks.specs.Run.{Step, accepted, refused, and_then, run, Gives, Visited, LeavesVisited}
+use Rattle.reencode_hooks.specs.Run.{Step, accepted, refused, and_then, Gives, Visited, LeavesVisited}
 use Rattle.reencode_hooks.specs.Walk.{walk}
 use Rattle.reencode_items.proofs.Leaving.{accepted_visited, first_visited, refused_visited}
 use Rattle.reencode_core.specs.Errors.{IfParse, IfRefused}
 use Rattle.reencode_core.specs.Rows.{Asks, AcceptsRows, RowsBefore, Further, StopsEach, onto_rows}
-use Rattle.reencode_core.specs.NameMaps.{Asked, entry_of, entries_of, renamed, IsParseError, Calls, ReadTo, CallRefused, Unread, Wants, Stopped, MapsEntries}
+use Rattle.reencode_core.specs.NameMaps.{Asked, entry_of, entries_of, renamed, IsParseError, Calls, ReadTo, CallRefused, Unread, Wants, MapsEntries}
+use Rattle.reencode_core.proofs.Leaving.{visits_behind}
 use Rattle.reencode_core.proofs.NameWalks.{left_front}
+use Rattle.reencode_core.proofs.RowLoop.{onto_nothing}
 use Rattle.reencode_core.proofs.Usual.{Usual, stops_usual, unless_wanting}
 
 -- ---- what the lemmas give
@@ -82,10 +84,6 @@ module _ {S E : Type 0} (asked : Asks S E) where
 
 -- ---- rows whose index is asked for
 
-onto_nothing : {S E : Type 0} (step : Step S (Error E) Tree) → step ≡ onto_rows [] step
-onto_nothing (accepted u m) = refl
-onto_nothing (refused e m) = refl
-
 onto_more : {S E : Type 0} (t : Tree) (ts : List Tree) (step : Step S (Error E) Tree) → and_then (onto_rows ts step) (λ u m. accepted (Tree.cons t u) m) ≡ onto_rows (t ∷ ts) step
 onto_more t ts (accepted u m) = refl
 onto_more t ts (refused e m) = refl
@@ -108,16 +106,13 @@ record Front (p : Space) (body : Shape) (m n : MapStanding) (asks : List Asked) 
   pub counted : count ≡ length asks + left
   pub before : RowsBefore (asked_row p body) start (map (asked_in p) (entries_of asks)) bytes
 
-due_behind : {row : Shape} {m n : MapStanding} {t : Tree} → (r : EntryRead row m t n) → Due n r.left n.rest
-due_behind {n = n} r = let D : Option ℕ → Type 0 = λ o. DueFrom n.rest o r.left n.rest in subst D (sym r.counts) (refl, refl)
-
 front : (p : Space) {body : Shape} (asks : List Asked) {m n : MapStanding} (left : ℕ) (bytes : List ℕ) → ReadTo (plain_row body) m asks n → Due n left bytes → Front p body m n asks left bytes
 front p [] {m = m} {n = n} left bytes r d =
     let P : MapStanding → Type 0 = λ k. Due k left bytes in record {
       count = left;
       start = bytes;
       due = subst P (sym r) d;
-      counted = refl;
+      counted = omega arith;
       before = record { text = []; shaped = Is.nil; spelled = refl; stands = refl };
     }
 front p (a ∷ asks) left bytes r d =
@@ -142,34 +137,34 @@ front p (a ∷ asks) left bytes r d =
       };
     }
 
-asked_then : (p : Space) (asks : List Asked) (ts : List Tree) (x : Tree) → rows_then (entries_of asks) x ≡ rows_tree ts →
-    (us : List Tree) × (x ≡ rows_tree us) × (rows_then (map (asked_in p) (entries_of asks)) (rows_tree (map (asked_in p) us)) ≡ rows_tree (map (asked_in p) ts))
-asked_then p [] ts x e = (ts, e, refl)
-asked_then p (a ∷ asks) [] x e = absurd cc
-asked_then p (a ∷ asks) (t ∷ ts) x e =
+-- rows of which a front was read, and those behind it
+abbrev Behind : Space → List Asked → List Tree → Tree → Type 0
+Behind p asks ts x = (us : List Tree) × (x ≡ rows_tree us) × (rows_then (map (asked_in p) (entries_of asks)) (rows_tree (map (asked_in p) us)) ≡ rows_tree (map (asked_in p) ts))
+
+behind_more : (p : Space) (a : Asked) (t : Tree) (asks : List Asked) (ts : List Tree) (x : Tree) → entry_of a.index a.named ≡ t → Behind p asks ts x → Behind p (a ∷ asks) (t ∷ ts) x
+behind_more p a t asks ts x e b = (b.0, b.1, ap₂ Tree.cons (ap (asked_in p) e) b.2)
+
+behind : (p : Space) (asks : List Asked) (ts : List Tree) (x : Tree) → rows_then (entries_of asks) x ≡ rows_tree ts → Behind p asks ts x
+behind p [] ts x e = (ts, e, refl)
+behind p (a ∷ asks) [] x e = absurd cc
+behind p (a ∷ asks) (t ∷ ts) x e =
     let head : entry_of a.index a.named ≡ t = cc in
     let tail : rows_then (entries_of asks) x ≡ rows_tree ts = cc in
-    let more = asked_then p asks ts x tail in
-    (more.0, more.1, ap (λ (z : Tree). Tree.cons (asked_in p (entry_of a.index a.named)) z) more.2
-    ∙ ap (λ (z : Tree). Tree.cons (asked_in p z) (rows_tree (map (asked_in p) ts))) head)
+    behind_more p a t asks ts x head (behind p asks ts x tail)
 
 -- entries that were read have their shape
-reads_are : {body : Shape} (asks : List Asked) {m n : MapStanding} → ReadTo (plain_row body) m asks n → Is (Shape.many (plain_row body)) (rows_tree (entries_of asks))
-reads_are [] r = Is.nil
-reads_are (a ∷ asks) r = let one = r.1 in Is.cons one.begins.spells.shaped (reads_are asks r.2)
+reads_are : {body : Shape} (asks : List Asked) (m n : MapStanding) → ReadTo (plain_row body) m asks n → Is (Shape.many (plain_row body)) (rows_tree (entries_of asks))
+reads_are [] m n r = Is.nil
+reads_are (a ∷ asks) m n r = let one = r.1 in Is.cons one.begins.spells.shaped (reads_are asks r.0 n r.2)
 
 -- a place says nothing of a refusal
 parse_is : {E : Type 0} (e : Error E) → IsParseError e → (P : ℕ → Type 0) → ((at : ℕ) → P at) → IfParse e P
 parse_is (ParseError x) q P h = h x.at
 parse_is _ q P h = absurd q
 
-parse_unrefused : {E P : Type 0} (e : Error E) → IsParseError e → IfRefused e P
-parse_unrefused (ParseError x) q = tt
-parse_unrefused _ q = absurd q
-
-visits_behind : (ts : List Tree) (u : Tree) → visits (rows_then ts u) ≡ visits (rows_then ts Tree.nil) ++ visits u
-visits_behind [] u = refl
-visits_behind (t ∷ ts) u = ap (λ (z : List Visit). visits t ++ z) (visits_behind ts u) ∙ sym (append_assoc (visits t) (visits (rows_then ts Tree.nil)) (visits u))
+parse_unrefused : {E : Type 0} (e : Error E) (P : Type 0) → IsParseError e → IfRefused e P
+parse_unrefused (ParseError x) P q = tt
+parse_unrefused _ P q = absurd q
 
 -- ---- the calls and the walk
 
@@ -200,15 +195,20 @@ module _ {F S E : Type 0} (step : F → ℕ → Result ℕ (Error E) → F → T
   entry_stops : (c : ℕ) (s k : S) (i : ℕ) (t : Tree) (e : Error E) → asked s (Index p i) ≡ refused e k → walk asked c s (Tree.pair (Tree.ix p i) t) ≡ refused e k
   entry_stops c s k i t e h = rw h refl
 
+  cons_walk : (c : ℕ) (s k : S) (t u x : Tree) → walk asked c s t ≡ accepted u k → walk asked c s (Tree.cons t x) ≡ and_then (walk asked c k x) (λ y m. accepted (Tree.cons u y) m)
+  cons_walk c s k t u x h = rw h refl
+
+  cons_stops : (c : ℕ) (s k : S) (t x : Tree) (e : Error E) → walk asked c s t ≡ refused e k → walk asked c s (Tree.cons t x) ≡ refused e k
+  cons_stops c s k t x e h = rw h refl
+
   calls_walk : (c : ℕ) (asks : List Asked) (f g : F) → Is (Shape.many (plain_row body)) (rows_tree (entries_of asks)) → Calls step f asks g →
       AcceptsRows asked c (see f) (map (asked_in p) (entries_of asks)) (map (asked_in p) (renamed asks)) (see g)
-  calls_walk c [] f g d k = λ others. ap (λ (h : F). walk asked c (see h) others) k ∙ onto_nothing _
+  calls_walk c [] f g d k = λ others. ap (λ (h : F). walk asked c (see h) others) k ∙ onto_nothing asked _
   calls_walk c (a ∷ asks) f g (Is.cons d d') k = λ others.
       let y : Tree = Tree.pair (Tree.ix p a.answer) a.named in
       let here = entry_walk c (see f) (see k.0) a.index a.answer a.named (body_is d) (one f a.index (Ok a.answer) k.0 k.1).0 in
-      let behind : Tree = rows_then (map (asked_in p) (entries_of asks)) others in
-      let first : walk asked c (see f) (Tree.cons (Tree.pair (Tree.ix p a.index) a.named) behind) ≡ and_then (walk asked c (see k.0) behind) (λ u m. accepted (Tree.cons y u) m) = rw here refl in
-      first
+      let rest : Tree = rows_then (map (asked_in p) (entries_of asks)) others in
+      cons_walk c (see f) (see k.0) (Tree.pair (Tree.ix p a.index) a.named) y rest here
       ∙ ap (λ (q : Step S (Error E) Tree). and_then q (λ u m. accepted (Tree.cons y u) m)) (calls_walk c asks k.0 g d' k.2 others)
       ∙ onto_more y (map (asked_in p) (renamed asks)) (walk asked c (see g) others)
 
@@ -245,7 +245,7 @@ module _ {F S E : Type 0} (step : F → ℕ → Result ℕ (Error E) → F → T
       × (rows_then (map (asked_in p) (entries_of asks)) (rows_tree (map (asked_in p) us)) ≡ rows_tree (map (asked_in p) ts))
   parts m n asks ts r w =
       let f = left_front quiet.passes quiet.ends asks r w in
-      let g = asked_then p asks ts f.0 (sym f.1) in
+      let g = behind p asks ts f.0 (sym f.1) in
       let P : Tree → Type 0 = λ z. EntriesLeft (plain_row body) n z in
       (g.0, subst P g.1 f.2, g.2)
 
@@ -267,11 +267,11 @@ module _ {F S E : Type 0} (step : F → ℕ → Result ℕ (Error E) → F → T
       let q = parts m n asks ts r w in
       let z = next_part n k i t q.0 read q.1 in
       let stops : walk asked c (see b) (Tree.pair (Tree.ix p i) t) ≡ refused e (see g) = entry_stops c (see b) (see g) i t e ((one b i (Err e) g call).0 wants) in
-      let first : walk asked c (see b) (Tree.cons (Tree.pair (Tree.ix p i) t) z.0) ≡ refused e (see g) = rw stops refl in
+      let first : walk asked c (see b) (Tree.cons (Tree.pair (Tree.ix p i) t) z.0) ≡ refused e (see g) = cons_stops c (see b) (see g) (Tree.pair (Tree.ix p i) t) z.0 e stops in
       let P : Tree → Type 0 = λ x. walk asked c (see b) x ≡ refused e (see g) in
       let rest : walk asked c (see b) (rows_tree (map (asked_in p) q.0)) ≡ refused e (see g) = subst P z.1 first in
       let all : walk asked c (see f) (rows_then (map (asked_in p) (entries_of asks)) (rows_tree (map (asked_in p) q.0))) ≡ refused e (see g) =
-      calls_walk c asks f b (reads_are asks r) calls (rows_tree (map (asked_in p) q.0)) ∙ ap (onto_rows (map (asked_in p) (renamed asks))) rest in
+      calls_walk c asks f b (reads_are asks m n r) calls (rows_tree (map (asked_in p) q.0)) ∙ ap (onto_rows (map (asked_in p) (renamed asks))) rest in
       let Q : Tree → Type 0 = λ x. walk asked c (see f) x ≡ refused e (see g) in
       vec_stops c (see f) (see g) (rows_tree (map (asked_in p) ts)) e (subst Q q.2 all)
 
@@ -291,7 +291,7 @@ module _ {F S E : Type 0} (step : F → ℕ → Result ℕ (Error E) → F → T
           made = map (asked_in p) (renamed asks);
           state = see b;
           before = front.before;
-          accepts = calls_walk c asks f b (reads_are asks r) calls;
+          accepts = calls_walk c asks f b (reads_are asks m n r) calls;
           next = Tree.pair (Tree.ix p i) t;
           left = k.rest;
           begins = begins_asked p read.begins;
@@ -330,7 +330,7 @@ module _ {F S E : Type 0} (step : F → ℕ → Result ℕ (Error E) → F → T
 
       refusal : Why → IfRefused e (StopsDue asked c (asked_row p body) m (see f) e (see g))
       refusal (inl r) = unless_wanting e (λ n. stops_due c m h.rest r.behind f h.between g h.asked r.index r.named e h.reads h.calls r.read r.call n)
-      refusal (inr (inl u)) = parse_unrefused e u.parse
+      refusal (inr (inl u)) = parse_unrefused e (StopsDue asked c (asked_row p body) m (see f) e (see g)) u.parse
       refusal (inr (inr k)) = let P : Error E → Type 0 = λ x. IfRefused x (StopsDue asked c (asked_row p body) m (see f) e (see g)) in subst P (sym k.memory) tt
 
   -- The state that an error leaves, where no call answers want of memory.
@@ -351,7 +351,7 @@ module _ {F S E : Type 0} (step : F → ℕ → Result ℕ (Error E) → F → T
           let front : List Tree = map (asked_in p) (entries_of h.asked) in
           let others : Tree = rows_tree (map (asked_in p) q.0) in
           let all : walk asked 0 (see f) (rows_then front Tree.nil) ≡ accepted (rows_tree (map (asked_in p) (renamed h.asked))) (see h.between) =
-          calls_walk 0 h.asked f h.between (reads_are h.asked h.reads) h.calls Tree.nil in
+          calls_walk 0 h.asked f h.between (reads_are h.asked m h.rest h.reads) h.calls Tree.nil in
           let v = first_visited (visits others) (accepted_visited 0 (rows_then front Tree.nil) all) in
           let P : List Visit → Type 0 = λ z. Visited asked (see f) z (see h.between) in
           let Q : Tree → Type 0 = λ z. Visited asked (see f) (visits z) (see h.between) in

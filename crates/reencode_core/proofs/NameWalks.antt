@@ -1,17 +1,16 @@
 -- The loops over maps of names: entries that were read, asked for and added.
-use Rattle.std.proofs.Common.{◌≡◌, ℕ, ◌+◌, ◌-◌, ◌<◌, ◌≤◌, ◌^◌, ◌⊎◌, List, [], ◌∷◌, ◌++◌, length, map, All, true, Option, Some, None, Result, Ok, Err, refl, sym, ap, subst, ◌∙◌, inl, inr, length-append, arith}
+use Rattle.std.proofs.Common.{◌≡◌, ℕ, ◌+◌, ◌-◌, ◌<◌, ◌^◌, ◌⊎◌, List, [], ◌∷◌, ◌++◌, length, map, All, true, Option, Some, None, Result, Ok, Err, refl, sym, ap, subst, ◌∙◌, inl, inr, length-append, arith}
 use Rattle.std.proofs.lemmas.List.{map-append, length-map}
 use Rattle.std.proofs.lemmas.List.Elements.{All-nil, All-cons, All-contains}
 use Rattle.std.proofs.lemmas.Fn.{FoldsTo-push}
 use Rattle.wasm_shapes.specs.Tree.{Tree}
 use Rattle.wasm_shapes.specs.Shape.{Shape, closed}
 use Rattle.wasm_shapes.specs.Sound.{sound}
-use Rattle.wasm_shapes.specs.Spells.{Spelled}
 use Rattle.wasm_shapes.specs.Rows.{rows_then}
 use Rattle.wasm_shapes.specs.Types.{rows_tree, vector_tree}
 use Rattle.wasm_shapes.specs.Module.{plain_naming}
 use Rattle.wasm_shapes.specs.Namings.{Entry, entries_trees, plain_indirect}
-use Rattle.wasm_read.specs.Names.{MapStanding, Due, DueFrom, EntriesLeft, NamesLeft, EntryRead, IndirectRead, EntryMissing, EntriesEnded}
+use Rattle.wasm_read.specs.Names.{MapStanding, DueFrom, EntriesLeft, NamesLeft, EntryRead, IndirectRead, EntryMissing, EntriesEnded}
 use Rattle.wasm_read.proofs.NameMaps.{left_more, left_less, left_none, left_one, left_shrinks, lists_one}
 use Rattle.wasm_write.specs.declared.fault.WriteFault.{WriteFault}
 use Rattle.wasm_write.specs.declared.fault.WriteFault.TheVariants as faults

@@ -102,14 +102,17 @@ pub record StopsInside {S E : Type 0} (asked : Asks S E) (c : ℕ) (bytes : List
   pub stops : (asked s (Section last (Some id)) ≡ refused e m)
       ⊎ ((n : S) × (asked s (Section last (Some id)) ≡ accepted 0 n) × StopsSection asked c id body n e m)
 
+-- A section that has no reading stands there in its frame, and what stands whole in it is refused, or the section hook before it.
+abbrev pub StopsThere : {S E : Type 0} → Asks S E → ℕ → List ℕ → Option SectionId → S → Error E → S → Type 0
+StopsThere asked c bytes last s e m = StopsInside asked c bytes last s e m ⊎ StopsInNames asked c bytes s e m
+
 -- A refusal, or a size that is too large: where the bytes have no reading, it comes of the sections before the fault; or all of
 -- these were accepted, and it comes of what stands whole, before the fault, in the section in fault.
 abbrev pub BeforeFault : {S E : Type 0} → Asks S E → ℕ → List ℕ → S → S → Error E → Type 0
 BeforeFault {S} asked c bytes s m e =
     ((rest : List ℕ) × (bytes ≡ core_header ++ rest))
     × ((before : List Tree) (rest : List ℕ) → FaultAt bytes before rest → RefusedIn asked c s before e m
-    ⊎ ((made : List Tree) × (last : Option SectionId) × (n : S) × AcceptsSections asked c s before made last n
-    × (StopsInside asked c rest last n e m ⊎ StopsInNames asked c rest n e m)))
+    ⊎ ((made : List Tree) × (last : Option SectionId) × (n : S) × AcceptsSections asked c s before made last n × StopsThere asked c rest last n e m))
 
 -- why an error comes; no error comes of which nothing is said here
 abbrev pub IsCause : {S E : Type 0} → Asks S E → ℕ → List ℕ → S → S → Error E → Type 0

@@ -175,11 +175,17 @@ macro_rules! parse_core_module {
                         Err(e) => return Err(placed(e, at)),
                     }
                 }
-                Some(r::Payload::Custom { at, section: _ }) => {
-                    return Err(Error::ParseError(ReadError { at }));
+                Some(r::Payload::Custom { at, section }) => {
+                    match $reencoder.parse_custom_section($alloc, $module, section) {
+                        Ok(()) => {}
+                        Err(e) => return Err(placed(e, at)),
+                    }
                 }
-                Some(r::Payload::Unknown { at, id: _, contents: _ }) => {
-                    return Err(Error::ParseError(ReadError { at }));
+                Some(r::Payload::Unknown { at, id, contents }) => {
+                    match $reencoder.parse_unknown_section($module, id, contents) {
+                        Ok(()) => {}
+                        Err(e) => return Err(placed(e, at)),
+                    }
                 }
                 None => return $reencoder.intersperse_section_hook($module, last, None),
             }

@@ -31,7 +31,7 @@ pub due_one : (m : MapStanding) (n k : ℕ) (b c : List ℕ) → Due m n b → D
 due_one m n k b c p q = due_from_one m.rest m.left n k b c p q
 
 -- behind an entry that was read
-due_behind : {row : Shape} {m n : MapStanding} {t : Tree} → (r : EntryRead row m t n) → Due n r.left n.rest
+pub due_behind : {row : Shape} {m n : MapStanding} {t : Tree} → (r : EntryRead row m t n) → Due n r.left n.rest
 due_behind {n = n} r = let D : Option ℕ → Type 0 = λ o. DueFrom n.rest o r.left n.rest in subst D (sym r.counts) (refl, refl)
 
 -- all that is left, at the count and the bytes that are due

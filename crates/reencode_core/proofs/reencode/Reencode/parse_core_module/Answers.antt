@@ -1,6 +1,6 @@
 use Rattle.std.proofs.Common.{refl}
-use Rattle.reencode_core.proofs.EachSection.{core_headless, core_unframed, core_unknown, core_hook_refused, core_more, core_section_refused, core_ended, sections_begun}
-use Rattle.reencode_core.proofs.Known.{none_custom, none_unknown}
+use Rattle.reencode_core.proofs.EachSection.{core_ended, core_headless, core_hook_refused, core_more, core_section_refused, core_unframed, custom_called, kind_called, sections_begun, unknown_called}
+use Rattle.reencode_core.proofs.Known.{frame_id}
 use Rattle.reencode_core.proofs.reencode.Reencode.parse_core_module.Goals as goal
 
 pub returns-in_err-payloads : goal.returns-in_err-payloads
@@ -18,37 +18,58 @@ pub returns-in_err-intersperse_section_hook-in-Some-Section : goal.returns-in_er
 returns-in_err-intersperse_section_hook-in-Some-Section g c =
     let keeps = g.met.Self.ReencodeIndices.adds_ok in
     let frame = rw (c.in-Some-Section.is, c.in-Some-Section.field-0-is) at c.in_ok-id.ensures.some in
-    core_hook_refused g.Self.ReencodeIndices keeps c.in_ok-payloads.ensures.ok c.sections.invariant c.in-Some-Section.id frame _
+    core_hook_refused g.Self.ReencodeIndices keeps c.in_ok-payloads.ensures.ok c.sections.invariant c.in-Some-Section.id _ frame
     c.in_err-intersperse_section_hook-in-Some-Section.ensures _ c.from_residual-in_err-intersperse_section_hook-in-Some-Section.ensures.1
 
-pub sections-preserved : goal.sections-preserved
-sections-preserved g c =
+pub sections-preserved-in-Ok : goal.sections-preserved-in-Ok
+sections-preserved-in-Ok g c =
     let keeps = g.met.Self.ReencodeIndices.adds_ok in
     let frame = rw (c.in-Some-Section.is, c.in-Some-Section.field-0-is) at c.in_ok-id.ensures.some in
-    core_more g.Self.ReencodeIndices keeps c.in_ok-payloads.ensures.ok c.sections.invariant c.in-Some-Section.id frame c.in_ok-intersperse_section_hook-in-Some-Section.ensures refl c.in_ok-id.ensures.len c.in-Ok.ensures
+    core_more g.Self.ReencodeIndices keeps c.in_ok-payloads.ensures.ok c.sections.invariant refl c.in_ok-id.ensures.len
+    (kind_called g.Self.ReencodeIndices keeps c.in_ok-payloads.ensures.ok c.sections.invariant c.in-Some-Section.id frame c.in_ok-intersperse_section_hook-in-Some-Section.ensures c.in-Ok.ensures)
 
 pub returns-in-Err : goal.returns-in-Err
 returns-in-Err g c =
     let keeps = g.met.Self.ReencodeIndices.adds_ok in
     let frame = rw (c.in-Some-Section.is, c.in-Some-Section.field-0-is) at c.in_ok-id.ensures.some in
     let at = rw (c.in-Some-Section.is, c.in-Some-Section.field-0-is) at c.in_ok-id.ensures.at in
-    core_section_refused g.Self.ReencodeIndices keeps c.in_ok-payloads.ensures.ok c.sections.invariant c.in-Some-Section.id frame c.in_ok-intersperse_section_hook-in-Some-Section.ensures
-    c.in-Err.e c.in-Some-Section.at c.in-Err.ensures at _ c.placed.ensures
+    core_section_refused g.Self.ReencodeIndices keeps c.in_ok-payloads.ensures.ok c.sections.invariant c.in-Err.e c.in-Some-Section.at
+    (kind_called g.Self.ReencodeIndices keeps c.in_ok-payloads.ensures.ok c.sections.invariant c.in-Some-Section.id frame c.in_ok-intersperse_section_hook-in-Some-Section.ensures c.in-Err.ensures) at _ c.placed.ensures
 
-pub returns-in-Some-Custom : goal.returns-in-Some-Custom
-returns-in-Some-Custom g c =
+pub sections-preserved-in-Ok-parse_custom_section : goal.sections-preserved-in-Ok-parse_custom_section
+sections-preserved-in-Ok-parse_custom_section g c =
+    let keeps = g.met.Self.ReencodeIndices.adds_ok in
+    let frame = rw (c.in-Some-Custom.is, c.in-Some-Custom.field-0-is) at c.in_ok-id.ensures.some in
+    core_more g.Self.ReencodeIndices keeps c.in_ok-payloads.ensures.ok c.sections.invariant refl c.in_ok-id.ensures.len
+    (custom_called g.Self.ReencodeIndices keeps c.in_ok-payloads.ensures.ok c.sections.invariant frame c.in-Ok-parse_custom_section.ensures)
+
+pub returns-in-Err-parse_custom_section : goal.returns-in-Err-parse_custom_section
+returns-in-Err-parse_custom_section g c =
     let keeps = g.met.Self.ReencodeIndices.adds_ok in
     let frame = rw (c.in-Some-Custom.is, c.in-Some-Custom.field-0-is) at c.in_ok-id.ensures.some in
     let at = rw (c.in-Some-Custom.is, c.in-Some-Custom.field-0-is) at c.in_ok-id.ensures.at in
-    core_unknown g.Self.ReencodeIndices keeps c.in_ok-payloads.ensures.ok c.sections.invariant _ (none_custom _ _ frame) frame at
+    core_section_refused g.Self.ReencodeIndices keeps c.in_ok-payloads.ensures.ok c.sections.invariant c.in-Err-parse_custom_section.e c.in-Some-Custom.at
+    (custom_called g.Self.ReencodeIndices keeps c.in_ok-payloads.ensures.ok c.sections.invariant frame c.in-Err-parse_custom_section.ensures) at _ c.placed-in-Err-parse_custom_section.ensures
 
-pub returns-in-Some-Unknown : goal.returns-in-Some-Unknown
-returns-in-Some-Unknown g c =
+pub sections-preserved : goal.sections-preserved
+sections-preserved g c =
+    let keeps = g.met.Self.ReencodeIndices.adds_ok in
+    let frame = rw (c.in-Some-Unknown.is, c.in-Some-Unknown.field-0-is) at c.in_ok-id.ensures.some in
+    let low = rw (c.in-Some-Unknown.is, c.in-Some-Unknown.field-0-is) at c.in_ok-id.ensures.unknown in
+    core_more g.Self.ReencodeIndices keeps c.in_ok-payloads.ensures.ok c.sections.invariant refl c.in_ok-id.ensures.len
+    (unknown_called g.Self.ReencodeIndices keeps c.in_ok-payloads.ensures.ok c.sections.invariant low frame c.in-Ok-parse_unknown_section.ensures)
+
+pub returns-in-Err-parse_unknown_section : goal.returns-in-Err-parse_unknown_section
+returns-in-Err-parse_unknown_section g c =
     let keeps = g.met.Self.ReencodeIndices.adds_ok in
     let frame = rw (c.in-Some-Unknown.is, c.in-Some-Unknown.field-0-is) at c.in_ok-id.ensures.some in
     let at = rw (c.in-Some-Unknown.is, c.in-Some-Unknown.field-0-is) at c.in_ok-id.ensures.at in
-    let unknown = rw (c.in-Some-Unknown.is, c.in-Some-Unknown.field-0-is) at c.in_ok-id.ensures.unknown in
-    core_unknown g.Self.ReencodeIndices keeps c.in_ok-payloads.ensures.ok c.sections.invariant _ (none_unknown _ _ unknown frame) frame at
+    let low = rw (c.in-Some-Unknown.is, c.in-Some-Unknown.field-0-is) at c.in_ok-id.ensures.unknown in
+    core_section_refused g.Self.ReencodeIndices keeps c.in_ok-payloads.ensures.ok c.sections.invariant c.in-Err-parse_unknown_section.e c.in-Some-Unknown.at
+    (unknown_called g.Self.ReencodeIndices keeps c.in_ok-payloads.ensures.ok c.sections.invariant low frame c.in-Err-parse_unknown_section.ensures) at _ c.placed-in-Err-parse_unknown_section.ensures
+
+pub parse_unknown_section-requires : goal.parse_unknown_section-requires
+parse_unknown_section-requires g c = (frame_id (rw (c.in-Some-Unknown.is, c.in-Some-Unknown.field-0-is) at c.in_ok-id.ensures.some)).1
 
 pub returns-in-None : goal.returns-in-None
 returns-in-None g c =
