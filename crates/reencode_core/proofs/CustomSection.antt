@@ -106,7 +106,16 @@ record ContentsMade {S E : Type 0} (asked : Asks S E) (name contents : List ℕ)
 read_custom : {name contents : List ℕ} (u : Tree) → ReadsContents name contents u → (t : Tree) × ReadsCustom name contents t
 read_custom {name = name} u q = (custom_tree_of (named name u), (u, refl, q))
 
-module _ {S E : Type 0} (i : Ghosts S E) {name contents : List ℕ} {s : S} {old : Sections} where
+-- the names of one that is named `name`, and the bytes of any other
+names_of : {name contents : List ℕ} → name ≡ names_name → (u : Tree) → ReadsContents name contents u → SubsectionsLeft (contents_standing contents) u
+names_of is u (inl q) = q.1
+names_of is u (inr q) = absurd (q.0 is)
+
+raw_of : {name contents : List ℕ} → name ≢ names_name → (u : Tree) → ReadsContents name contents u → u ≡ Tree.raw contents
+raw_of other u (inl q) = absurd (other q.0)
+raw_of other u (inr q) = q.1
+
+module _ {S E : Type 0} (i : Ghosts S E) {name contents : List ℕ} (s : S) (old : Sections) where
   -- its contents were accepted: it is added, or it is too large
   custom_added : {m : S} {new : Sections} {body : Tree} (r : Result (Unit {0}) (Error E)) → (IsTrue i.keeps_defaults → ContentsMade (asks i) name contents old.ceiling s m body) →
       AddsMapped {E = E} (section_row 0 (normal body)) old (Ok tt) new r → CustomClauses i name contents s old m new r
@@ -138,11 +147,6 @@ module _ {S E : Type 0} (i : Ghosts S E) {name contents : List ℕ} {s : S} {old
   -- ---- one that is named `name`
 
   module _ (is : name ≡ names_name) {reader : NamesStanding} (fresh : reader ≡ contents_standing contents) where
-    -- its names
-    names_of : (u : Tree) → ReadsContents name contents u → SubsectionsLeft (contents_standing contents) u
-    names_of u (inl q) = q.1
-    names_of u (inr q) = absurd (q.0 is)
-
     at_start : {c : ℕ} {m : S} {r : Result CodeRows (Error E)} → c ≡ old.ceiling → GivesNames (asks i) c reader s m r (λ z. z) → GivesNames (asks i) old.ceiling (contents_standing contents) s m r (λ z. z)
     at_start {c = c} {m = m} {r = r} ceiling g =
         let P : ℕ → NamesStanding → Type 0 = λ y z. GivesNames (asks i) y z s m r (λ w. w) in
@@ -160,7 +164,7 @@ module _ {S E : Type 0} (i : Ghosts S E) {name contents : List ℕ} {s : S} {old
         made : GivesNames (asks i) old.ceiling (contents_standing contents) s m (Ok names) (λ z. z) → ContentsMade (asks i) name contents old.ceiling s m (name_section_tree names.rows)
         made g = record {
           reading = (g.readable.0, inl (is, g.readable.1));
-          becomes = λ u q. let w = g.reading u (names_of u q) in becomes u (w.1 ∙ ap (λ (z : CodeRows). accepted (rows_tree z.rows) m) (sym w.2));
+          becomes = λ u q. let w = g.reading u (names_of is u q) in becomes u (w.1 ∙ ap (λ (z : CodeRows). accepted (rows_tree z.rows) m) (sym w.2));
         }
 
     -- its names were refused, or they are none
@@ -176,7 +180,7 @@ module _ {S E : Type 0} (i : Ghosts S E) {name contents : List ℕ} {s : S} {old
         left : Leaves (SubsectionsLeft (contents_standing contents)) (asks i) s m → Leaves (ReadsCustom name contents) (asks i) s m
         left leaves t reads =
             let P : Tree → Type 0 = λ z. Visited (asks i) s (visits z) m in
-            subst P (sym reads.1) (leaves reads.0 (names_of reads.0 reads.2))
+            subst P (sym reads.1) (leaves reads.0 (names_of is reads.0 reads.2))
 
         refuses : (u : Tree) → walk (asks i) old.ceiling s u ≡ refused e m → walk (asks i) old.ceiling s (custom_tree_of (named name u)) ≡ refused e m
         refuses u h = let body : walk (asks i) old.ceiling s (named name u) ≡ refused e m = rw h refl in framed_refused (asks i) 13 (Tree.fixed 0) old.ceiling s m (named name u) refl e body
@@ -189,33 +193,29 @@ module _ {S E : Type 0} (i : Ghosts S E) {name contents : List ℕ} {s : S} {old
         custom g = record {
           reading = λ t reads.
               let P : Tree → Type 0 = λ z. GivesAdded (asks i) 0 (s, old) z (m, old) (Err e) in
-              subst P (sym reads.1) (refl, λ other. refuses reads.0 (g.reading reads.0 (names_of reads.0 reads.2) other));
+              subst P (sym reads.1) (refl, λ other. refuses reads.0 (g.reading reads.0 (names_of is reads.0 reads.2) other));
           readable = tt;
-          unreadable = IfParse-map e (λ at f. (λ t reads. f.none reads.0 (names_of reads.0 reads.2), is, f)) g.unreadable;
+          unreadable = IfParse-map e (λ at f. (λ t reads. f.none reads.0 (names_of is reads.0 reads.2), is, f)) g.unreadable;
           refusal = IfRefused-map e either g.refusal;
         }
 
   -- ---- any other one
 
   module _ (other : name ≢ names_name) where
-    raw_of : (u : Tree) → ReadsContents name contents u → u ≡ Tree.raw contents
-    raw_of u (inl q) = absurd (other q.0)
-    raw_of u (inr q) = q.1
-
-    pub other_added : {A : Type 0} {view : A → Tree} {m : S} {new : Sections} (a : A) (r : Result (Unit {0}) (Error E)) → MapsIf i s (named name (Tree.raw contents)) view m (Ok a) →
+    pub other_added : {A : Type 0} (view : A → Tree) {m : S} {new : Sections} (a : A) (r : Result (Unit {0}) (Error E)) → MapsIf i s (named name (Tree.raw contents)) view m (Ok a) →
         AddsMapped {E = E} (section_row 0 (normal (view a))) old (Ok tt) new r → CustomClauses i name contents s old m new r
-    other_added {view = view} {m = m} a r maps adds = custom_added {body = view a} r (λ k. made (maps k old.ceiling)) adds
+    other_added view {m = m} a r maps adds = custom_added {body = view a} r (λ k. made (maps k old.ceiling)) adds
       where
         made : walk (asks i) old.ceiling s (named name (Tree.raw contents)) ≡ accepted (view a) m → ContentsMade (asks i) name contents old.ceiling s m (view a)
         made h = record {
           reading = (Tree.raw contents, inr (other, refl));
-          becomes = λ u q. let P : Tree → Type 0 = λ z. walk (asks i) old.ceiling s (named name z) ≡ accepted (view a) m in subst P (sym (raw_of u q)) h;
+          becomes = λ u q. let P : Tree → Type 0 = λ z. walk (asks i) old.ceiling s (named name z) ≡ accepted (view a) m in subst P (sym (raw_of other u q)) h;
         }
 
     -- memory is wanting
-    pub other_not_mapped : {A : Type 0} {view : A → Tree} {m : S} (e : Error E) → MapsIf i s (named name (Tree.raw contents)) view m (Err e) → (IsTrue i.keeps_defaults → NeverWants {A = A} i.sure (Err e)) →
+    pub other_not_mapped : {A : Type 0} (view : A → Tree) {m : S} (e : Error E) → MapsIf i s (named name (Tree.raw contents)) view m (Err e) → (IsTrue i.keeps_defaults → NeverWants {A = A} i.sure (Err e)) →
         (r : Result (Unit {0}) (Error E)) → IsErrAnd r (λ y. y ≡ e) → CustomClauses i name contents s old m old r
-    other_not_mapped {A = A} {view = view} {m = m} e maps sure r q =
+    other_not_mapped {A = A} view {m = m} e maps sure r q =
         let P : Result (Unit {0}) (Error E) → Type 0 = λ z. CustomClauses i name contents s old m old z in
         subst P (answers r q) (record { kept = keeps_same old; default = λ k. custom (maps k old.ceiling); after_error = λ k is t reads. left k is t reads })
       where
@@ -223,7 +223,7 @@ module _ {S E : Type 0} (i : Ghosts S E) {name contents : List ℕ} {s : S} {old
         left k is t reads =
             let P : Tree → Type 0 = λ z. Visited (asks i) s (visits z) m in
             let Q : Tree → Type 0 = λ z. Visited (asks i) s (visits (custom_tree_of (named name z))) m in
-            subst P (sym reads.1) (subst Q (sym (raw_of reads.0 reads.2)) (sure_left i (named name (Tree.raw contents)) view s m e maps sure k is))
+            subst P (sym reads.1) (subst Q (sym (raw_of other reads.0 reads.2)) (sure_left i (named name (Tree.raw contents)) view s m e maps sure k is))
 
         custom : (e ≢ NoMemory → walk (asks i) old.ceiling s (named name (Tree.raw contents)) ≡ refused e m) → GivesCustom (asks i) name contents (s, old) (m, old) (Err e)
         custom stops = record {

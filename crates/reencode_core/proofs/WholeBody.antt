@@ -181,7 +181,7 @@ module _ {S E : Type 0} (reply : S → Visit → Result ℕ E) (next : S → Vis
             state = s;
             before = d.before;
             accepts = d.accepts;
-            operator = operator;
+            next = operator;
             left = left;
             begins = there;
             refuses = stops old.ceiling other;
