@@ -47,11 +47,19 @@ pub(crate) fn parse_custom_name_subsection<T: ReencodeItems>(
             written(names.functions(&map))
         }
         r::Name::Local(map) => {
-            let map = map_indirect_names(alloc, map, &mut |index| { reencoder.function_index(index) })?;
+            let map = map_indirect_names(
+                alloc,
+                map,
+                &mut |index| { reencoder.function_index(index) },
+            )?;
             written(names.locals(&map))
         }
         r::Name::Label(map) => {
-            let map = map_indirect_names(alloc, map, &mut |index| { reencoder.function_index(index) })?;
+            let map = map_indirect_names(
+                alloc,
+                map,
+                &mut |index| { reencoder.function_index(index) },
+            )?;
             written(names.labels(&map))
         }
         r::Name::Type_(map) => {

@@ -13,4 +13,4 @@ pub returns-in_err-section : goal.returns-in_err-section
 returns-in_err-section g c = other_not_mapped g.Self.ReencodeIndices _ _ (λ e. search rules) custom_section_tree _ c.in_err-section.ensures.default c.in_err-section.ensures.sure _ c.from_residual-in_err-section.ensures.1
 
 pub returns-in_ok-section : goal.returns-in_ok-section
-returns-in_ok-section g c = other_added g.Self.ReencodeIndices _ _ (λ e. search rules) custom_section_tree _ _ c.in_ok-section.ensures.default c.add_section-else-eq.ensures
+returns-in_ok-section g c = other_added g.Self.ReencodeIndices _ _ (λ e. search rules) custom_section_tree c.in_ok-section.section _ c.in_ok-section.ensures.default c.add_section-else-eq.ensures
