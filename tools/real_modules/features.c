@@ -99,6 +99,12 @@ __externref_t keep(__externref_t one) {
 }
 #endif
 
+unsigned __int128 wide_sum(u64 a, u64 b, unsigned __int128 rest) { return (unsigned __int128)a * b + rest; }
+
+#if defined(__wasm_gc__)
+int is_operation(int (*which)(int, int)) { return __builtin_wasm_test_function_pointer_signature(which); }
+#endif
+
 __asm__(".section .custom_section.note,\"\",@\n.ascii \"a custom section by hand\"\n.text\n");
 
 void _start(void) { shared_count = choose(shared_count) + (int)mixed(1, 2, 3, 4) + parity(7) + apply(1, 2, 3); }
