@@ -1,0 +1,44 @@
+;; Each relaxed vector operator of wabt 1.0.32.
+(module
+  (func $relaxed
+    unreachable
+    i8x16.relaxed_swizzle
+    unreachable
+    i32x4.relaxed_trunc_f32x4_s
+    unreachable
+    i32x4.relaxed_trunc_f32x4_u
+    unreachable
+    i32x4.relaxed_trunc_f64x2_s_zero
+    unreachable
+    i32x4.relaxed_trunc_f64x2_u_zero
+    unreachable
+    f32x4.relaxed_madd
+    unreachable
+    f32x4.relaxed_nmadd
+    unreachable
+    f64x2.relaxed_madd
+    unreachable
+    f64x2.relaxed_nmadd
+    unreachable
+    i8x16.relaxed_laneselect
+    unreachable
+    i16x8.relaxed_laneselect
+    unreachable
+    i32x4.relaxed_laneselect
+    unreachable
+    i64x2.relaxed_laneselect
+    unreachable
+    f32x4.relaxed_min
+    unreachable
+    f32x4.relaxed_max
+    unreachable
+    f64x2.relaxed_min
+    unreachable
+    f64x2.relaxed_max
+    unreachable
+    i16x8.relaxed_q15mulr_s
+    unreachable
+    i16x8.dot_i8x16_i7x16_s
+    unreachable
+    i32x4.dot_i8x16_i7x16_add_s
+    unreachable))
