@@ -449,6 +449,11 @@ impl Shelf for SureShelf {
 
     fn fetch(&mut self, alloc: Global, name: &str, most: u32) -> Result<Vec<u8>, ShelfFault>
         ensures kept { self.new ≡ self.old }
+        ensures within { IfOk result (λ text. vec_len text ≤ most) }
+        ensures text { IfOk result
+            (λ text. HasText (Some (text_of self.old)) name.now text.items) }
+        ensures too_long { IsErrOf result ShelfFault.TooLong
+            → IsLonger (Some (text_of self.old)) name.now most }
         ensures absent { text_of self.old name.now ≡ None → IfOk result (λ text. text.items ≡ []) }
         ensures never { IsErrOf result ShelfFault.Failed → ⊥ }
     {
@@ -514,6 +519,11 @@ impl Shelf for MemShelf {
     fn fetch(&mut self, alloc: Global, name: &str, most: u32) -> Result<Vec<u8>, ShelfFault>
         ensures rises { self.old.faults ≤ self.new.faults }
         ensures rose { IsErrOf result ShelfFault.Failed → Rose self.old.faults self.new.faults }
+        ensures within { IfOk result (λ text. vec_len text ≤ most) }
+        ensures text { IfOk result
+            (λ text. HasText (Some (text_of self.old.texts)) name.now text.items) }
+        ensures too_long { IsErrOf result ShelfFault.TooLong
+            → IsLonger (Some (text_of self.old.texts)) name.now most }
         ensures fails { IsErrOf result ShelfFault.Failed
             → IsTrue (fails_next self.old.fails self.old.calls)
             ⊎ (text_of self.old.texts name.now ≡ None) }

@@ -142,7 +142,7 @@ fn try_case(rt: &impl Abort, alloc: Global, case: &Case) -> Result<(), Fail> {
 }
 
 /// How a run ends.
-static CASES: [Case<'static>; 34] = [
+static CASES: [Case<'static>; 45] = [
     Case {
         words: &["rename"],
         status: 2,
@@ -212,6 +212,88 @@ static CASES: [Case<'static>; 34] = [
     Case {
         words: RENAME,
         file: b"{\"strict\":true,\"type\":{\"0\":0}}",
+        status: 6,
+        err: b"refused function 0\n",
+        ..USUAL
+    },
+    // Indices of each kind of section, and the order in which they are asked.
+    Case {
+        words: RENAME,
+        file: b"{\"function\":{\"0\":300}}",
+        text: b"0061736d01000000080100",
+        out: b"0061736d010000000802ac02\nasked function 1 section_hook 2\n",
+        ..USUAL
+    },
+    Case {
+        words: RENAME,
+        file: b"{\"type\":{\"0\":64}}",
+        text: b"0061736d010000000a0a01080002000b1100000b",
+        out: b"0061736d010000000a0b01090002c0000b1140000b\nasked table 1 type 2 section_hook 2\n",
+        ..USUAL
+    },
+    Case {
+        words: RENAME,
+        file: b"{\"table\":{\"0\":5}}",
+        text: b"0061736d010000000907010041000b0100",
+        out: b"0061736d01000000090901020541000b000100\nasked function 1 table 1 section_hook 2\n",
+        ..USUAL
+    },
+    Case {
+        words: RENAME,
+        file: b"{\"table\":{\"5\":0}}",
+        text: b"0061736d01000000090901020541000b000100",
+        out: b"0061736d01000000090901020041000b000100\nasked function 1 table 1 section_hook 2\n",
+        ..USUAL
+    },
+    Case {
+        words: RENAME,
+        file: b"{\"function\":{\"0\":1},\"type\":{\"0\":2}}",
+        text: b"0061736d0100000001040160000002080101610162037f000409014000700001d2000b05030100010d030100000606017f00412a0b0c0100",
+        out: b"0061736d0100000001040160000002080101610162037f000409014000700001d2010b05030100010d030100020606017f00412a0b0c0100\nasked function 1 type 1 data_count 1 section_hook 8\n",
+        ..USUAL
+    },
+    Case {
+        words: RENAME,
+        file: b"{\"type\":{\"0\":1}}",
+        text: b"0061736d01000000010c014e0250005f005001005f00",
+        out: b"0061736d01000000010c014e0250005f005001015f00\nasked type 1 section_hook 2\n",
+        ..USUAL
+    },
+    Case {
+        words: RENAME,
+        file: b"{\"memory\":{\"0\":1}}",
+        text: b"0061736d010000000a0a01080041002802041a0b",
+        out: b"0061736d010000000a0b0109004100284201041a0b\nasked memory 1 section_hook 2\n",
+        ..USUAL
+    },
+    Case {
+        words: RENAME,
+        file: b"{\"strict\":true}",
+        text: b"0061736d010000000907010023000b0100",
+        status: 6,
+        err: b"refused function 0\n",
+        ..USUAL
+    },
+    Case {
+        words: RENAME,
+        file: b"{\"strict\":true,\"function\":{\"0\":0}}",
+        text: b"0061736d010000000907010023000b0100",
+        status: 6,
+        err: b"refused table 0\n",
+        ..USUAL
+    },
+    Case {
+        words: RENAME,
+        file: b"{\"strict\":true,\"function\":{\"0\":0},\"table\":{\"0\":0}}",
+        text: b"0061736d010000000907010023000b0100",
+        status: 6,
+        err: b"refused global 0\n",
+        ..USUAL
+    },
+    Case {
+        words: RENAME,
+        file: b"{\"strict\":true}",
+        text: b"0061736d0100000009080105630001d2000b",
         status: 6,
         err: b"refused function 0\n",
         ..USUAL
