@@ -107,6 +107,9 @@ impl Renamer {
     }
 
     /// Renames an index of a space, in place of an older entry. Where memory is wanting, it changes nothing.
+    ///
+    /// It takes time that grows as the logarithm of the number of entries, where the index is above all that have one;
+    /// elsewhere each entry of a greater index is moved, so entries are best set in rising order.
     pub fn set(&mut self, space: Space, from: u32, to: u32) -> Result<(), NoMemory>
         ensures ok { OnOk result (self.new ≡ with_entry self.old space from to) }
         ensures err { OnErr result (self.new ≡ self.old) }

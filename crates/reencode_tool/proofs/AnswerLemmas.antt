@@ -1,14 +1,22 @@
 -- What a status says of how the program ended.
-use Rattle.std.proofs.Common.{◌≡◌, ◌≢◌, ℕ, ◌-◌, ◌^◌, ◌<◌, ◌≤◌, inl, inr, Option, Some, None, List, [], ◌∷◌, ◌++◌, codes, length, length-append, refl, sym, ap, ◌∙◌, arith, lit<}
+use Rattle.std.proofs.Common.{◌≡◌, ◌≢◌, ℕ, ◌<◌, ◌≤◌, ◌⊎◌, inl, inr, true, Bool, Option, Some, None, List, [], ◌∷◌, ◌++◌, codes, decimal, length, refl, sym, ap, ◌∙◌, subst, arith, lit<}
 use Rattle.std.specs.Prelude.{Contains}
-use Rattle.std.proofs.lemmas.List.{append-nil}
+use Rattle.reencode_hooks.specs.declared.asked.Unmapped.{Unmapped}
+use Rattle.reencode_hooks.specs.Renamings.{Renaming, no_renaming}
 use Rattle.reencode_tool.specs.declared.answer.Answer.{Answer}
-use Rattle.reencode_tool.specs.declared.answer.Answer.TheVariants.{Printed, NoMemory, Usage, ReadFault, WriteFault, ParseError, Refused, CodeSectionSize, NonCoreModule, NonComponent, TooLarge, TooLong, NotHexadecimal}
-use Rattle.reencode_tool.specs.Answer.{Ends, HasCodeSize, HasComponent, HasNoDigits, HasNoReading, IsDecided, Stops, IsDecidedBy, Made, Outside, message, most_bytes, plain_words, status_of, text_of}
-use Rattle.reencode_tool.specs.Hexadecimal.{binary}
-use Rattle.reencode_tool.specs.Outside.{GaveAll, Rose, TookMore}
-use Rattle.reencode_tool.specs.Plain.{IsRefused}
-use Rattle.reencode_tool.proofs.TextLemmas.{binary_length}
+use Rattle.reencode_tool.specs.declared.answer.Answer.TheVariants.{Printed, NoMemory, Usage, ReadFault, WriteFault, ParseError, Refused, CodeSectionSize, NonCoreModule, NonComponent, TooLarge, BadRenaming, ShelfFault, TooLong, NotHexadecimal}
+use Rattle.reencode_tool.specs.Answer.{Ends, ForJob, HasNoDigits, IsBadFile, IsTooLong, Made, MadeFor, Outside, StopsWith, report_of, PlainFor, RefusesBytes, RefusesRenaming, Stops, StopsAtBytes, StopsAtReencoding, StopsFor, Texts, Uses, message, most_bytes, status_of, text_of}
+use Rattle.reencode_tool.specs.Outside.{Rose, TookMore, GaveAll, TookFront, WhereTold, followed, before, HasText}
+use Rattle.reencode_tool.specs.Hexadecimal.{binary, bytes_of}
+use Rattle.reencode_tool.specs.Reencoded.{IsReencoded}
+use Rattle.reencode_tool.specs.Words.{Command, plain, rename, generate, Job}
+use Rattle.reencode_tool.proofs.Outcomes.{plain_of}
+
+-- where nothing is renamed, the output is the normal spelling itself
+pub plain_for : {c : ℕ} {r : Renaming} {bytes output counts : List ℕ} (command : Command) (texts : Texts) → Uses command texts r → IsReencoded c r bytes output counts → PlainFor command bytes output counts
+plain_for {c} {r} {bytes} {output} {counts} plain texts same h = plain_of (subst (λ (z : Renaming). IsReencoded c z bytes output counts) same h)
+plain_for (rename name) texts uses h = tt
+plain_for {c} {r} {bytes} {output} {counts} (generate n) texts same h = plain_of (subst (λ (z : Renaming). IsReencoded c z bytes output counts) same h)
 
 -- ---- one status, one end
 
@@ -24,6 +32,8 @@ is_printed CodeSectionSize status s e = absurd (omega arith)
 is_printed NonCoreModule status s e = absurd (omega arith)
 is_printed NonComponent status s e = absurd (omega arith)
 is_printed (TooLarge size ceiling) status s e = absurd (omega arith)
+is_printed BadRenaming status s e = absurd (omega arith)
+is_printed ShelfFault status s e = absurd (omega arith)
 is_printed TooLong status s e = absurd (omega arith)
 is_printed NotHexadecimal status s e = absurd (omega arith)
 
@@ -39,8 +49,44 @@ is_usage CodeSectionSize status s e = absurd (omega arith)
 is_usage NonCoreModule status s e = absurd (omega arith)
 is_usage NonComponent status s e = absurd (omega arith)
 is_usage (TooLarge size ceiling) status s e = absurd (omega arith)
+is_usage BadRenaming status s e = absurd (omega arith)
+is_usage ShelfFault status s e = absurd (omega arith)
 is_usage TooLong status s e = absurd (omega arith)
 is_usage NotHexadecimal status s e = absurd (omega arith)
+
+pub is_read_fault : (answer : Answer) (status : ℕ) → status ≡ status_of answer → status ≡ 3 → answer ≡ ReadFault
+is_read_fault Printed status s e = absurd (omega arith)
+is_read_fault NoMemory status s e = absurd (omega arith)
+is_read_fault Usage status s e = absurd (omega arith)
+is_read_fault ReadFault status s e = refl
+is_read_fault WriteFault status s e = absurd (omega arith)
+is_read_fault (ParseError at) status s e = absurd (omega arith)
+is_read_fault (Refused u) status s e = absurd (omega arith)
+is_read_fault CodeSectionSize status s e = absurd (omega arith)
+is_read_fault NonCoreModule status s e = absurd (omega arith)
+is_read_fault NonComponent status s e = absurd (omega arith)
+is_read_fault (TooLarge size ceiling) status s e = absurd (omega arith)
+is_read_fault BadRenaming status s e = absurd (omega arith)
+is_read_fault ShelfFault status s e = absurd (omega arith)
+is_read_fault TooLong status s e = absurd (omega arith)
+is_read_fault NotHexadecimal status s e = absurd (omega arith)
+
+pub is_write_fault : (answer : Answer) (status : ℕ) → status ≡ status_of answer → status ≡ 4 → answer ≡ WriteFault
+is_write_fault Printed status s e = absurd (omega arith)
+is_write_fault NoMemory status s e = absurd (omega arith)
+is_write_fault Usage status s e = absurd (omega arith)
+is_write_fault ReadFault status s e = absurd (omega arith)
+is_write_fault WriteFault status s e = refl
+is_write_fault (ParseError at) status s e = absurd (omega arith)
+is_write_fault (Refused u) status s e = absurd (omega arith)
+is_write_fault CodeSectionSize status s e = absurd (omega arith)
+is_write_fault NonCoreModule status s e = absurd (omega arith)
+is_write_fault NonComponent status s e = absurd (omega arith)
+is_write_fault (TooLarge size ceiling) status s e = absurd (omega arith)
+is_write_fault BadRenaming status s e = absurd (omega arith)
+is_write_fault ShelfFault status s e = absurd (omega arith)
+is_write_fault TooLong status s e = absurd (omega arith)
+is_write_fault NotHexadecimal status s e = absurd (omega arith)
 
 pub is_parse_error : (answer : Answer) (status : ℕ) → status ≡ status_of answer → status ≡ 5 → (at : ℕ) × (answer ≡ ParseError at)
 is_parse_error Printed status s e = absurd (omega arith)
@@ -54,8 +100,27 @@ is_parse_error CodeSectionSize status s e = absurd (omega arith)
 is_parse_error NonCoreModule status s e = absurd (omega arith)
 is_parse_error NonComponent status s e = absurd (omega arith)
 is_parse_error (TooLarge size ceiling) status s e = absurd (omega arith)
+is_parse_error BadRenaming status s e = absurd (omega arith)
+is_parse_error ShelfFault status s e = absurd (omega arith)
 is_parse_error TooLong status s e = absurd (omega arith)
 is_parse_error NotHexadecimal status s e = absurd (omega arith)
+
+pub is_refused : (answer : Answer) (status : ℕ) → status ≡ status_of answer → status ≡ 6 → (u : Unmapped) × (answer ≡ Refused u)
+is_refused Printed status s e = absurd (omega arith)
+is_refused NoMemory status s e = absurd (omega arith)
+is_refused Usage status s e = absurd (omega arith)
+is_refused ReadFault status s e = absurd (omega arith)
+is_refused WriteFault status s e = absurd (omega arith)
+is_refused (ParseError at) status s e = absurd (omega arith)
+is_refused (Refused u) status s e = (u, refl)
+is_refused CodeSectionSize status s e = absurd (omega arith)
+is_refused NonCoreModule status s e = absurd (omega arith)
+is_refused NonComponent status s e = absurd (omega arith)
+is_refused (TooLarge size ceiling) status s e = absurd (omega arith)
+is_refused BadRenaming status s e = absurd (omega arith)
+is_refused ShelfFault status s e = absurd (omega arith)
+is_refused TooLong status s e = absurd (omega arith)
+is_refused NotHexadecimal status s e = absurd (omega arith)
 
 pub is_code_size : (answer : Answer) (status : ℕ) → status ≡ status_of answer → status ≡ 7 → answer ≡ CodeSectionSize
 is_code_size Printed status s e = absurd (omega arith)
@@ -69,6 +134,8 @@ is_code_size CodeSectionSize status s e = refl
 is_code_size NonCoreModule status s e = absurd (omega arith)
 is_code_size NonComponent status s e = absurd (omega arith)
 is_code_size (TooLarge size ceiling) status s e = absurd (omega arith)
+is_code_size BadRenaming status s e = absurd (omega arith)
+is_code_size ShelfFault status s e = absurd (omega arith)
 is_code_size TooLong status s e = absurd (omega arith)
 is_code_size NotHexadecimal status s e = absurd (omega arith)
 
@@ -84,189 +151,340 @@ is_component CodeSectionSize status s e = absurd (omega arith)
 is_component NonCoreModule status s e = refl
 is_component NonComponent status s e = absurd (omega arith)
 is_component (TooLarge size ceiling) status s e = absurd (omega arith)
+is_component BadRenaming status s e = absurd (omega arith)
+is_component ShelfFault status s e = absurd (omega arith)
 is_component TooLong status s e = absurd (omega arith)
 is_component NotHexadecimal status s e = absurd (omega arith)
 
--- ---- what an end says
+pub is_too_large : (answer : Answer) (status : ℕ) → status ≡ status_of answer → status ≡ 10 → (size : ℕ) × (ceiling : ℕ) × (answer ≡ TooLarge size ceiling)
+is_too_large Printed status s e = absurd (omega arith)
+is_too_large NoMemory status s e = absurd (omega arith)
+is_too_large Usage status s e = absurd (omega arith)
+is_too_large ReadFault status s e = absurd (omega arith)
+is_too_large WriteFault status s e = absurd (omega arith)
+is_too_large (ParseError at) status s e = absurd (omega arith)
+is_too_large (Refused u) status s e = absurd (omega arith)
+is_too_large CodeSectionSize status s e = absurd (omega arith)
+is_too_large NonCoreModule status s e = absurd (omega arith)
+is_too_large NonComponent status s e = absurd (omega arith)
+is_too_large (TooLarge size ceiling) status s e = (size, ceiling, refl)
+is_too_large BadRenaming status s e = absurd (omega arith)
+is_too_large ShelfFault status s e = absurd (omega arith)
+is_too_large TooLong status s e = absurd (omega arith)
+is_too_large NotHexadecimal status s e = absurd (omega arith)
 
--- words that are not accepted have the status 2
-pub usage_of : (answer : Answer) (words : List (List ℕ)) (o : Outside) (status : ℕ) → status ≡ status_of answer → Ends answer words o
-    → words ≢ plain_words → status ≡ 2
-usage_of Printed words o status s h n = absurd (n h.0)
-usage_of NoMemory words o status s h n = absurd (n h.0)
-usage_of Usage words o status s h n = s
-usage_of ReadFault words o status s h n = absurd (n h.0)
-usage_of WriteFault words o status s h n = absurd (n h.0)
-usage_of (ParseError at) words o status s h n = absurd (n h.0)
-usage_of (Refused u) words o status s h n = absurd (n h.0)
-usage_of CodeSectionSize words o status s h n = absurd (n h.0)
-usage_of NonCoreModule words o status s h n = absurd (n h.0)
-usage_of NonComponent words o status s h n = absurd (n h.0)
-usage_of (TooLarge size ceiling) words o status s h n = absurd (n h.0)
-usage_of TooLong words o status s h n = absurd (n h.0)
-usage_of NotHexadecimal words o status s h n = absurd (n h.0)
+pub is_bad_renaming : (answer : Answer) (status : ℕ) → status ≡ status_of answer → status ≡ 11 → answer ≡ BadRenaming
+is_bad_renaming Printed status s e = absurd (omega arith)
+is_bad_renaming NoMemory status s e = absurd (omega arith)
+is_bad_renaming Usage status s e = absurd (omega arith)
+is_bad_renaming ReadFault status s e = absurd (omega arith)
+is_bad_renaming WriteFault status s e = absurd (omega arith)
+is_bad_renaming (ParseError at) status s e = absurd (omega arith)
+is_bad_renaming (Refused u) status s e = absurd (omega arith)
+is_bad_renaming CodeSectionSize status s e = absurd (omega arith)
+is_bad_renaming NonCoreModule status s e = absurd (omega arith)
+is_bad_renaming NonComponent status s e = absurd (omega arith)
+is_bad_renaming (TooLarge size ceiling) status s e = absurd (omega arith)
+is_bad_renaming BadRenaming status s e = refl
+is_bad_renaming ShelfFault status s e = absurd (omega arith)
+is_bad_renaming TooLong status s e = absurd (omega arith)
+is_bad_renaming NotHexadecimal status s e = absurd (omega arith)
 
--- with another status the words are accepted
-pub words_of : (answer : Answer) (words : List (List ℕ)) (o : Outside) (status : ℕ) → status ≡ status_of answer → Ends answer words o
-    → status ≢ 2 → words ≡ plain_words
-words_of Printed words o status s h n = h.0
-words_of NoMemory words o status s h n = h.0
-words_of Usage words o status s h n = absurd (n s)
-words_of ReadFault words o status s h n = h.0
-words_of WriteFault words o status s h n = h.0
-words_of (ParseError at) words o status s h n = h.0
-words_of (Refused u) words o status s h n = h.0
-words_of CodeSectionSize words o status s h n = h.0
-words_of NonCoreModule words o status s h n = h.0
-words_of NonComponent words o status s h n = h.0
-words_of (TooLarge size ceiling) words o status s h n = h.0
-words_of TooLong words o status s h n = h.0
-words_of NotHexadecimal words o status s h n = h.0
+pub is_shelf_fault : (answer : Answer) (status : ℕ) → status ≡ status_of answer → status ≡ 12 → answer ≡ ShelfFault
+is_shelf_fault Printed status s e = absurd (omega arith)
+is_shelf_fault NoMemory status s e = absurd (omega arith)
+is_shelf_fault Usage status s e = absurd (omega arith)
+is_shelf_fault ReadFault status s e = absurd (omega arith)
+is_shelf_fault WriteFault status s e = absurd (omega arith)
+is_shelf_fault (ParseError at) status s e = absurd (omega arith)
+is_shelf_fault (Refused u) status s e = absurd (omega arith)
+is_shelf_fault CodeSectionSize status s e = absurd (omega arith)
+is_shelf_fault NonCoreModule status s e = absurd (omega arith)
+is_shelf_fault NonComponent status s e = absurd (omega arith)
+is_shelf_fault (TooLarge size ceiling) status s e = absurd (omega arith)
+is_shelf_fault BadRenaming status s e = absurd (omega arith)
+is_shelf_fault ShelfFault status s e = refl
+is_shelf_fault TooLong status s e = absurd (omega arith)
+is_shelf_fault NotHexadecimal status s e = absurd (omega arith)
 
--- the message of an end
-pub message_of : (answer : Answer) (words : List (List ℕ)) (o : Outside) (status : ℕ) → status ≡ status_of answer → Ends answer words o → status ≢ 0 → status ≢ 5 → text_of answer ++ codes "\n" ≡ message status
-message_of Printed words o status s h n m = absurd (n s)
-message_of NoMemory words o status s h n m = ap message (sym s)
-message_of Usage words o status s h n m = ap message (sym s)
-message_of ReadFault words o status s h n m = ap message (sym s)
-message_of WriteFault words o status s h n m = ap message (sym s)
-message_of (ParseError at) words o status s h n m = absurd (m s)
-message_of (Refused u) words o status s h n m = absurd h.1
-message_of CodeSectionSize words o status s h n m = ap message (sym s)
-message_of NonCoreModule words o status s h n m = ap message (sym s)
-message_of NonComponent words o status s h n m = absurd h.1
-message_of (TooLarge size ceiling) words o status s h n m = absurd h.1
-message_of TooLong words o status s h n m = ap message (sym s)
-message_of NotHexadecimal words o status s h n m = ap message (sym s)
+pub is_too_long : (answer : Answer) (status : ℕ) → status ≡ status_of answer → status ≡ 13 → answer ≡ TooLong
+is_too_long Printed status s e = absurd (omega arith)
+is_too_long NoMemory status s e = absurd (omega arith)
+is_too_long Usage status s e = absurd (omega arith)
+is_too_long ReadFault status s e = absurd (omega arith)
+is_too_long WriteFault status s e = absurd (omega arith)
+is_too_long (ParseError at) status s e = absurd (omega arith)
+is_too_long (Refused u) status s e = absurd (omega arith)
+is_too_long CodeSectionSize status s e = absurd (omega arith)
+is_too_long NonCoreModule status s e = absurd (omega arith)
+is_too_long NonComponent status s e = absurd (omega arith)
+is_too_long (TooLarge size ceiling) status s e = absurd (omega arith)
+is_too_long BadRenaming status s e = absurd (omega arith)
+is_too_long ShelfFault status s e = absurd (omega arith)
+is_too_long TooLong status s e = refl
+is_too_long NotHexadecimal status s e = absurd (omega arith)
 
--- ---- what is made of the bytes
+pub is_not_hexadecimal : (answer : Answer) (status : ℕ) → status ≡ status_of answer → status ≡ 14 → answer ≡ NotHexadecimal
+is_not_hexadecimal Printed status s e = absurd (omega arith)
+is_not_hexadecimal NoMemory status s e = absurd (omega arith)
+is_not_hexadecimal Usage status s e = absurd (omega arith)
+is_not_hexadecimal ReadFault status s e = absurd (omega arith)
+is_not_hexadecimal WriteFault status s e = absurd (omega arith)
+is_not_hexadecimal (ParseError at) status s e = absurd (omega arith)
+is_not_hexadecimal (Refused u) status s e = absurd (omega arith)
+is_not_hexadecimal CodeSectionSize status s e = absurd (omega arith)
+is_not_hexadecimal NonCoreModule status s e = absurd (omega arith)
+is_not_hexadecimal NonComponent status s e = absurd (omega arith)
+is_not_hexadecimal (TooLarge size ceiling) status s e = absurd (omega arith)
+is_not_hexadecimal BadRenaming status s e = absurd (omega arith)
+is_not_hexadecimal ShelfFault status s e = absurd (omega arith)
+is_not_hexadecimal TooLong status s e = absurd (omega arith)
+is_not_hexadecimal NotHexadecimal status s e = refl
 
--- bytes that are refused say why nothing is printed of the source
-pub stops_of : (answer : Answer) (faults_old faults_new : ℕ) {left_old left_new : Option (List ℕ)} (text bytes : List ℕ) → GaveAll most_bytes left_old left_new text
-    → binary text ≡ Some bytes → IsRefused bytes answer → Stops answer faults_old faults_new left_old left_new
-stops_of NoMemory faults_old faults_new text bytes gave digits h = tt
-stops_of (ParseError at) faults_old faults_new text bytes gave digits h = record { text = text; bytes = bytes; gave = gave; digits = digits; none = h }
-stops_of CodeSectionSize faults_old faults_new text bytes gave digits h = record { text = text; bytes = bytes; gave = gave; digits = digits; size = h }
-stops_of NonCoreModule faults_old faults_new text bytes gave digits h = record { text = text; bytes = bytes; gave = gave; digits = digits; component = h }
-stops_of (TooLarge size ceiling) faults_old faults_new text bytes gave digits h =
-    let within : length text ≤ most_bytes = gave.within in
-    let long : 2 ^ 32 - 1 < length bytes = h in
-    let fewer : length bytes ≤ length text = binary_length text bytes digits in
-    absurd (omega arith)
-stops_of _ faults_old faults_new text bytes gave digits h = absurd h
+-- ---- why nothing is printed
 
--- ---- what decides
+-- an answer that comes of the re-encoding alone
+abbrev IsLate : Answer → Type 0
+IsLate (ParseError at) = Unit {0}
+IsLate (Refused u) = Unit {0}
+IsLate CodeSectionSize = Unit {0}
+IsLate NonCoreModule = Unit {0}
+IsLate (TooLarge size ceiling) = Unit {0}
+IsLate _ = ⊥
 
--- a source that is told gave what it told
-pub told_text : (most : ℕ) (old new : Option (List ℕ)) (text told : List ℕ) → GaveAll most old new text → old ≡ Some told → told ≡ text
-told_text most old None text told h e = cc (h.gave, e)
-told_text most old (Some rest) text told h e =
-    let none : [] ≡ rest = cc h.ended in
-    let whole : told ≡ text ++ rest = cc (h.gave, e) in
-    whole ∙ ap (λ (r : List ℕ). text ++ r) (sym none) ∙ append-nil text
+no_file : (answer : Answer) (command : Command) (texts : Texts) (a b : ℕ) → IsLate answer → RefusesRenaming command texts a b answer → ⊥
+no_file answer plain texts a b late h = h
+no_file (ParseError at) (rename name) texts a b late h = h
+no_file (Refused u) (rename name) texts a b late h = h
+no_file CodeSectionSize (rename name) texts a b late h = h
+no_file NonCoreModule (rename name) texts a b late h = h
+no_file (TooLarge size ceiling) (rename name) texts a b late h = h
+no_file _ (rename name) texts a b late h = late
+no_file answer (generate n) texts a b late h = h
 
--- a text that is given whole is not too long
-not_long : (told text : List ℕ) → told ≡ text → length text ≤ most_bytes → most_bytes < length told → ⊥
-not_long told text e within more = absurd (omega (arith, ap length e))
+late_memory : (answer : Answer) → IsLate answer → answer ≡ NoMemory → ⊥
+late_memory (ParseError at) late h = cc
+late_memory (Refused u) late h = cc
+late_memory CodeSectionSize late h = cc
+late_memory NonCoreModule late h = cc
+late_memory (TooLarge size ceiling) late h = cc
+late_memory _ late h = late
 
-decided_printed : (old new : Option (List ℕ)) (status : ℕ) → status ≡ 0 → Made old new → IsDecided old status
-decided_printed None new status s made = tt
-decided_printed (Some told) new status s made =
-    let e = told_text most_bytes (Some told) new made.text told made.gave refl in
-    record {
-      long = λ more. absurd (not_long told made.text e made.gave.within more);
-      short = λ _. rw (ap binary e ∙ made.digits) (inl (s, (made.output, made.counts, made.plain)));
-    }
+no_bytes : (answer : Answer) (command : Command) (is_text : Bool) (a b : ℕ) (old new : Option (List ℕ)) → IsLate answer → RefusesBytes command is_text a b old new answer → ⊥
+no_bytes (ParseError at) plain is_text a b old new late h = h
+no_bytes (Refused u) plain is_text a b old new late h = h
+no_bytes CodeSectionSize plain is_text a b old new late h = h
+no_bytes NonCoreModule plain is_text a b old new late h = h
+no_bytes (TooLarge size ceiling) plain is_text a b old new late h = h
+no_bytes _ plain is_text a b old new late h = late
+no_bytes (ParseError at) (rename name) is_text a b old new late h = h
+no_bytes (Refused u) (rename name) is_text a b old new late h = h
+no_bytes CodeSectionSize (rename name) is_text a b old new late h = h
+no_bytes NonCoreModule (rename name) is_text a b old new late h = h
+no_bytes (TooLarge size ceiling) (rename name) is_text a b old new late h = h
+no_bytes _ (rename name) is_text a b old new late h = late
+no_bytes answer (generate n) is_text a b old new late h = late_memory answer late h
 
-decided_component : (old new : Option (List ℕ)) (status : ℕ) → status ≡ 8 → HasComponent old new → IsDecided old status
-decided_component None new status s h = tt
-decided_component (Some told) new status s h =
-    let e = told_text most_bytes (Some told) new h.text told h.gave refl in
-    record {
-      long = λ more. absurd (not_long told h.text e h.gave.within more);
-      short = λ _. rw (ap binary e ∙ h.digits) (inr (inr (inr (inl (s, h.component)))));
-    }
+pub late_stops : (job : Job) (o : Outside) (answer : Answer) → IsLate answer → StopsFor job o answer → StopsAtReencoding job o.texts o.left_old o.left_new answer
+late_stops job o answer late (inl h) = absurd (no_file answer job.command _ _ _ late h)
+late_stops job o answer late (inr (inl h)) = absurd (no_bytes answer job.command _ _ _ _ _ late h.stops)
+late_stops job o answer late (inr (inr (inl h))) = h
+late_stops job o answer late (inr (inr (inr h))) = absurd (late_memory answer late h)
 
-decided_code_size : (old new : Option (List ℕ)) (status : ℕ) → status ≡ 7 → HasCodeSize old new → IsDecided old status
-decided_code_size None new status s h = tt
-decided_code_size (Some told) new status s h =
-    let e = told_text most_bytes (Some told) new h.text told h.gave refl in
-    record {
-      long = λ more. absurd (not_long told h.text e h.gave.within more);
-      short = λ _. rw (ap binary e ∙ h.digits) (inr (inr (inl (s, h.size))));
-    }
+-- the answer of another status than these
+never_component : (command : Command) (texts : Texts) (a b : ℕ) → RefusesRenaming command texts a b NonComponent → ⊥
+never_component plain texts a b h = h
+never_component (rename name) texts a b h = h
+never_component (generate n) texts a b h = h
 
-decided_parse_error : (old new : Option (List ℕ)) (status at : ℕ) → status ≡ 5 → HasNoReading old new at → IsDecided old status
-decided_parse_error None new status at s h = tt
-decided_parse_error (Some told) new status at s h =
-    let e = told_text most_bytes (Some told) new h.text told h.gave refl in
-    record {
-      long = λ more. absurd (not_long told h.text e h.gave.within more);
-      short = λ _. rw (ap binary e ∙ h.digits) (inr (inl (s, (at, h.none))));
-    }
+never_bytes : (command : Command) (is_text : Bool) (a b : ℕ) (old new : Option (List ℕ)) → RefusesBytes command is_text a b old new NonComponent → ⊥
+never_bytes plain is_text a b old new h = h
+never_bytes (rename name) is_text a b old new h = h
+never_bytes (generate n) is_text a b old new h = cc
 
-decided_not_hexadecimal : (old new : Option (List ℕ)) (status : ℕ) → status ≡ 14 → HasNoDigits old new → IsDecided old status
-decided_not_hexadecimal None new status s h = tt
-decided_not_hexadecimal (Some told) new status s h =
-    let e = told_text most_bytes (Some told) new h.text told h.gave refl in
-    record {
-      long = λ more. absurd (not_long told h.text e h.gave.within more);
-      short = λ _. rw (ap binary e ∙ h.none) (inl s);
-    }
+no_component : (j : Option Job) (o : Outside) → Ends j o NonComponent → ⊥
+no_component None o h = cc
+no_component (Some job) o (inl h) = never_component job.command _ _ _ h
+no_component (Some job) o (inr (inl h)) = never_bytes job.command _ _ _ _ _ h.stops
+no_component (Some job) o (inr (inr (inl h))) = h.stops
+no_component (Some job) o (inr (inr (inr h))) = cc
 
--- the taken bytes are a front of what was told
-took_longer : (most : ℕ) (old new : Option (List ℕ)) (told : List ℕ) → TookMore most old new → old ≡ Some told → most < length told
-took_longer most old None told h e = cc (h.2, e)
-took_longer most old (Some rest) told h e =
-    let whole : told ≡ h.0 ++ rest = cc (h.2, e) in
-    omega (arith, h.1, ap length whole ∙ length-append h.0 rest)
+pub message_of : (answer : Answer) (j : Option Job) (o : Outside) (status : ℕ) → status ≡ status_of answer → Ends j o answer → status ≢ 0 → status ≢ 5 → status ≢ 6 → status ≢ 10
+    → text_of answer ++ codes "\n" ≡ message status
+message_of Printed j o status s h n m k l = absurd (n s)
+message_of NoMemory j o status s h n m k l = ap message (sym s)
+message_of Usage j o status s h n m k l = ap message (sym s)
+message_of ReadFault j o status s h n m k l = ap message (sym s)
+message_of WriteFault j o status s h n m k l = ap message (sym s)
+message_of (ParseError at) j o status s h n m k l = absurd (m s)
+message_of (Refused u) j o status s h n m k l = absurd (k s)
+message_of CodeSectionSize j o status s h n m k l = ap message (sym s)
+message_of NonCoreModule j o status s h n m k l = ap message (sym s)
+message_of NonComponent j o status s h n m k l = ap message (sym s)
+message_of (TooLarge size ceiling) j o status s h n m k l = absurd (l s)
+message_of BadRenaming j o status s h n m k l = ap message (sym s)
+message_of ShelfFault j o status s h n m k l = ap message (sym s)
+message_of TooLong j o status s h n m k l = ap message (sym s)
+message_of NotHexadecimal j o status s h n m k l = ap message (sym s)
 
-decided_too_long : (old new : Option (List ℕ)) (status : ℕ) → status ≡ 13 → TookMore most_bytes old new → IsDecided old status
-decided_too_long None new status s h = tt
-decided_too_long (Some told) new status s h =
-    let more = took_longer most_bytes (Some told) new told h refl in
-    record { long = λ _. inl s; short = λ less. absurd (omega (arith, more, less)) }
+pub status_among : (answer : Answer) (j : Option Job) (o : Outside) (status : ℕ) → status ≡ status_of answer → Ends j o answer
+    → Contains (0 ∷ 1 ∷ 2 ∷ 3 ∷ 4 ∷ 5 ∷ 6 ∷ 7 ∷ 8 ∷ 10 ∷ 11 ∷ 12 ∷ 13 ∷ 14 ∷ []) status
+status_among Printed j o status s h = (0, lit< tt, sym s)
+status_among NoMemory j o status s h = (1, lit< tt, sym s)
+status_among Usage j o status s h = (2, lit< tt, sym s)
+status_among ReadFault j o status s h = (3, lit< tt, sym s)
+status_among WriteFault j o status s h = (4, lit< tt, sym s)
+status_among (ParseError at) j o status s h = (5, lit< tt, sym s)
+status_among (Refused u) j o status s h = (6, lit< tt, sym s)
+status_among CodeSectionSize j o status s h = (7, lit< tt, sym s)
+status_among NonCoreModule j o status s h = (8, lit< tt, sym s)
+status_among NonComponent j o status s h = absurd (no_component j o h)
+status_among (TooLarge size ceiling) j o status s h = (9, lit< tt, sym s)
+status_among BadRenaming j o status s h = (10, lit< tt, sym s)
+status_among ShelfFault j o status s h = (11, lit< tt, sym s)
+status_among TooLong j o status s h = (12, lit< tt, sym s)
+status_among NotHexadecimal j o status s h = (13, lit< tt, sym s)
 
-decided_by_no_memory : (bytes : Option (List ℕ)) (status : ℕ) → status ≡ 1 → IsDecidedBy bytes status
-decided_by_no_memory None status s = inr s
-decided_by_no_memory (Some bytes) status s = inr (inr (inr (inr s)))
+-- ---- what each status says
 
-decided_no_memory : (old : Option (List ℕ)) (status : ℕ) → status ≡ 1 → IsDecided old status
-decided_no_memory None status s = tt
-decided_no_memory (Some told) status s = record { long = λ _. inr s; short = λ _. decided_by_no_memory (binary told) status s }
+pub of_printed : (j : Option Job) (o : Outside) → Ends j o Printed → ForJob j (λ job. (made : MadeFor job o) × WhereTold o.held_new (followed o.held_old (report_of made)))
+of_printed None o h = let never : Printed ≡ Usage = h in absurd cc
+of_printed (Some job) o h = h
 
--- where nothing failed, the input decides
-pub decided_of : (answer : Answer) (words : List (List ℕ)) (o : Outside) (status : ℕ) → status ≡ status_of answer → Ends answer words o
-    → words ≡ plain_words → ¬ Rose o.read_faults_old o.read_faults_new → ¬ Rose o.write_faults_old o.write_faults_new
-    → IsDecided o.left_old status
-decided_of Printed words o status s h w r k = decided_printed o.left_old o.left_new status s h.1.0
-decided_of NoMemory words o status s h w r k = decided_no_memory o.left_old status s
-decided_of Usage words o status s h w r k = absurd (h w)
-decided_of ReadFault words o status s h w r k = absurd (r h.1)
-decided_of WriteFault words o status s h w r k = absurd (k h.2)
-decided_of (ParseError at) words o status s h w r k = decided_parse_error o.left_old o.left_new status at s h.1
-decided_of (Refused u) words o status s h w r k = absurd h.1
-decided_of CodeSectionSize words o status s h w r k = decided_code_size o.left_old o.left_new status s h.1
-decided_of NonCoreModule words o status s h w r k = decided_component o.left_old o.left_new status s h.1
-decided_of NonComponent words o status s h w r k = absurd h.1
-decided_of (TooLarge size ceiling) words o status s h w r k = absurd h.1
-decided_of TooLong words o status s h w r k = decided_too_long o.left_old o.left_new status s h.1
-decided_of NotHexadecimal words o status s h w r k = decided_not_hexadecimal o.left_old o.left_new status s h.1
+pub of_write_fault : (j : Option Job) (o : Outside) → Ends j o WriteFault
+    → ForJob j (λ job. (made : MadeFor job o) × TookFront o.held_old o.held_new (report_of made)) × Rose o.write_faults_old o.write_faults_new
+of_write_fault None o h = let never : WriteFault ≡ Usage = h in absurd cc
+of_write_fault (Some job) o h = h
 
--- ---- which status comes
+usage_file : (command : Command) (texts : Texts) (a b : ℕ) → RefusesRenaming command texts a b Usage → ⊥
+usage_file plain texts a b h = h
+usage_file (rename name) texts a b h = h
+usage_file (generate n) texts a b h = h
 
-pub status_among : (answer : Answer) (words : List (List ℕ)) (o : Outside) (status : ℕ) → status ≡ status_of answer → Ends answer words o
-    → Contains (0 ∷ 1 ∷ 2 ∷ 3 ∷ 4 ∷ 5 ∷ 7 ∷ 8 ∷ 13 ∷ 14 ∷ []) status
-status_among Printed words o status s h = (0, lit< tt, sym s)
-status_among NoMemory words o status s h = (1, lit< tt, sym s)
-status_among Usage words o status s h = (2, lit< tt, sym s)
-status_among ReadFault words o status s h = (3, lit< tt, sym s)
-status_among WriteFault words o status s h = (4, lit< tt, sym s)
-status_among (ParseError at) words o status s h = (5, lit< tt, sym s)
-status_among (Refused u) words o status s h = absurd h.1
-status_among CodeSectionSize words o status s h = (6, lit< tt, sym s)
-status_among NonCoreModule words o status s h = (7, lit< tt, sym s)
-status_among NonComponent words o status s h = absurd h.1
-status_among (TooLarge size ceiling) words o status s h = absurd h.1
-status_among TooLong words o status s h = (8, lit< tt, sym s)
-status_among NotHexadecimal words o status s h = (9, lit< tt, sym s)
+usage_bytes : (command : Command) (is_text : Bool) (a b : ℕ) (old new : Option (List ℕ)) → RefusesBytes command is_text a b old new Usage → ⊥
+usage_bytes plain is_text a b old new h = h
+usage_bytes (rename name) is_text a b old new h = h
+usage_bytes (generate n) is_text a b old new h = absurd cc
+
+pub of_usage : (j : Option Job) (o : Outside) → Ends j o Usage → j ≡ None
+of_usage None o h = refl
+of_usage (Some job) o (inl h) = absurd (usage_file job.command _ _ _ h)
+of_usage (Some job) o (inr (inl h)) = absurd (usage_bytes job.command _ _ _ _ _ h.stops)
+of_usage (Some job) o (inr (inr (inl h))) = absurd h.stops
+of_usage (Some job) o (inr (inr (inr h))) = absurd cc
+
+-- without a job the status is 2
+pub usage_of : (j : Option Job) (answer : Answer) (o : Outside) (status : ℕ) → status ≡ status_of answer → Ends j o answer → j ≡ None → status ≡ 2
+usage_of None answer o status s h e = s ∙ ap status_of h
+usage_of (Some job) answer o status s h e = absurd cc
+
+read_file : (command : Command) (texts : Texts) (a b : ℕ) → RefusesRenaming command texts a b ReadFault → ⊥
+read_file plain texts a b h = h
+read_file (rename name) texts a b h = h
+read_file (generate n) texts a b h = h
+
+read_bytes : (command : Command) (is_text : Bool) (a b : ℕ) (old new : Option (List ℕ)) → RefusesBytes command is_text a b old new ReadFault → Rose a b
+read_bytes plain is_text a b old new h = h
+read_bytes (rename name) is_text a b old new h = h
+read_bytes (generate n) is_text a b old new h = absurd cc
+
+pub of_read_fault : (j : Option Job) (o : Outside) → Ends j o ReadFault → Rose o.read_faults_old o.read_faults_new
+of_read_fault None o h = let never : ReadFault ≡ Usage = h in absurd cc
+of_read_fault (Some job) o (inl h) = absurd (read_file job.command _ _ _ h)
+of_read_fault (Some job) o (inr (inl h)) = read_bytes job.command _ _ _ _ _ h.stops
+of_read_fault (Some job) o (inr (inr (inl h))) = absurd h.stops
+of_read_fault (Some job) o (inr (inr (inr h))) = absurd cc
+
+shelf_file : (command : Command) (texts : Texts) (a b : ℕ) → RefusesRenaming command texts a b ShelfFault → Rose a b
+shelf_file plain texts a b h = absurd h
+shelf_file (rename name) texts a b h = h
+shelf_file (generate n) texts a b h = absurd h
+
+shelf_bytes : (command : Command) (is_text : Bool) (a b : ℕ) (old new : Option (List ℕ)) → RefusesBytes command is_text a b old new ShelfFault → ⊥
+shelf_bytes plain is_text a b old new h = h
+shelf_bytes (rename name) is_text a b old new h = h
+shelf_bytes (generate n) is_text a b old new h = absurd cc
+
+pub of_shelf_fault : (j : Option Job) (o : Outside) → Ends j o ShelfFault → Rose o.shelf_faults_old o.shelf_faults_new
+of_shelf_fault None o h = let never : ShelfFault ≡ Usage = h in absurd cc
+of_shelf_fault (Some job) o (inl h) = shelf_file job.command _ _ _ h
+of_shelf_fault (Some job) o (inr (inl h)) = absurd (shelf_bytes job.command _ _ _ _ _ h.stops)
+of_shelf_fault (Some job) o (inr (inr (inl h))) = absurd h.stops
+of_shelf_fault (Some job) o (inr (inr (inr h))) = absurd cc
+
+bad_file : (command : Command) (texts : Texts) (a b : ℕ) → RefusesRenaming command texts a b BadRenaming → IsBadFile command texts
+bad_file plain texts a b h = h
+bad_file (rename name) texts a b h = h
+bad_file (generate n) texts a b h = h
+
+bad_bytes : (command : Command) (is_text : Bool) (a b : ℕ) (old new : Option (List ℕ)) → RefusesBytes command is_text a b old new BadRenaming → ⊥
+bad_bytes plain is_text a b old new h = h
+bad_bytes (rename name) is_text a b old new h = h
+bad_bytes (generate n) is_text a b old new h = absurd cc
+
+pub of_bad_renaming : (j : Option Job) (o : Outside) → Ends j o BadRenaming → ForJob j (λ job. IsBadFile job.command o.texts)
+of_bad_renaming None o h = let never : BadRenaming ≡ Usage = h in absurd cc
+of_bad_renaming (Some job) o (inl h) = bad_file job.command _ _ _ h
+of_bad_renaming (Some job) o (inr (inl h)) = absurd (bad_bytes job.command _ _ _ _ _ h.stops)
+of_bad_renaming (Some job) o (inr (inr (inl h))) = absurd h.stops
+of_bad_renaming (Some job) o (inr (inr (inr h))) = absurd cc
+
+long_file : (command : Command) (texts : Texts) (a b : ℕ) (old new : Option (List ℕ)) → RefusesRenaming command texts a b TooLong → IsTooLong command texts old new
+long_file plain texts a b old new h = absurd h
+long_file (rename name) texts a b old new h = inl h
+long_file (generate n) texts a b old new h = h
+
+long_bytes : (command : Command) (texts : Texts) (r : Renaming) (is_text : Bool) (a b : ℕ) (old new : Option (List ℕ)) → Uses command texts r
+    → RefusesBytes command is_text a b old new TooLong → IsTooLong command texts old new
+long_bytes plain texts r is_text a b old new u h = h
+long_bytes (rename name) texts r is_text a b old new u h = inr ((r, u), h)
+long_bytes (generate n) texts r is_text a b old new u h = absurd cc
+
+pub of_too_long : (j : Option Job) (o : Outside) → Ends j o TooLong → ForJob j (λ job. IsTooLong job.command o.texts o.left_old o.left_new)
+of_too_long None o h = let never : TooLong ≡ Usage = h in absurd cc
+of_too_long (Some job) o (inl h) = long_file job.command _ _ _ _ _ h
+of_too_long (Some job) o (inr (inl h)) = long_bytes job.command _ h.renaming _ _ _ _ _ h.uses h.stops
+of_too_long (Some job) o (inr (inr (inl h))) = absurd h.stops
+of_too_long (Some job) o (inr (inr (inr h))) = absurd cc
+
+digits_file : (command : Command) (texts : Texts) (a b : ℕ) → RefusesRenaming command texts a b NotHexadecimal → ⊥
+digits_file plain texts a b h = h
+digits_file (rename name) texts a b h = h
+digits_file (generate n) texts a b h = h
+
+abbrev NoDigits : Bool → (old new : Option (List ℕ)) → Type 0
+NoDigits is_text old new = (is_text ≡ true) × ((text : List ℕ) × GaveAll most_bytes old new text × (binary text ≡ None))
+
+digits_bytes : (command : Command) (is_text : Bool) (a b : ℕ) (old new : Option (List ℕ)) → RefusesBytes command is_text a b old new NotHexadecimal → NoDigits is_text old new
+digits_bytes plain is_text a b old new h = h
+digits_bytes (rename name) is_text a b old new h = h
+digits_bytes (generate n) is_text a b old new h = absurd cc
+
+pub of_not_hexadecimal : (j : Option Job) (o : Outside) → Ends j o NotHexadecimal → ForJob j (λ job. HasNoDigits job o.texts o.left_old o.left_new)
+of_not_hexadecimal None o h = let never : NotHexadecimal ≡ Usage = h in absurd cc
+of_not_hexadecimal (Some job) o (inl h) = absurd (digits_file job.command _ _ _ h)
+of_not_hexadecimal (Some job) o (inr (inl h)) =
+    let d = digits_bytes job.command _ _ _ _ _ h.stops in
+    record { renaming = h.renaming; uses = h.uses; is_text = d.0; text = d.1.0; gave = d.1.1; none = d.1.2 }
+of_not_hexadecimal (Some job) o (inr (inr (inl h))) = absurd h.stops
+of_not_hexadecimal (Some job) o (inr (inr (inr h))) = absurd cc
+
+pub of_parse_error : (at : ℕ) (j : Option Job) (o : Outside) → Ends j o (ParseError at) → StopsWith j o.texts o.left_old o.left_new (ParseError at)
+of_parse_error at None o h = let never : ParseError at ≡ Usage = h in absurd cc
+of_parse_error at (Some job) o h = late_stops job o (ParseError at) tt h
+
+pub of_refused : (u : Unmapped) (j : Option Job) (o : Outside) → Ends j o (Refused u) → StopsWith j o.texts o.left_old o.left_new (Refused u)
+of_refused u None o h = let never : Refused u ≡ Usage = h in absurd cc
+of_refused u (Some job) o h = late_stops job o (Refused u) tt h
+
+pub of_code_size : (j : Option Job) (o : Outside) → Ends j o CodeSectionSize → StopsWith j o.texts o.left_old o.left_new CodeSectionSize
+of_code_size None o h = let never : CodeSectionSize ≡ Usage = h in absurd cc
+of_code_size (Some job) o h = late_stops job o CodeSectionSize tt h
+
+pub of_component : (j : Option Job) (o : Outside) → Ends j o NonCoreModule → StopsWith j o.texts o.left_old o.left_new NonCoreModule
+of_component None o h = let never : NonCoreModule ≡ Usage = h in absurd cc
+of_component (Some job) o h = late_stops job o NonCoreModule tt h
+
+pub of_too_large : (size ceiling : ℕ) (j : Option Job) (o : Outside) → Ends j o (TooLarge size ceiling) → StopsWith j o.texts o.left_old o.left_new (TooLarge size ceiling)
+of_too_large size ceiling None o h = let never : TooLarge size ceiling ≡ Usage = h in absurd cc
+of_too_large size ceiling (Some job) o h = late_stops job o (TooLarge size ceiling) tt h

@@ -21,6 +21,7 @@ use Rattle.reencode_hooks.specs.Moments as moment
 use Rattle.reencode_hooks.proofs.Walks.{walk_is_run, walk_stops}
 use Rattle.reencode_hooks.proofs.Moments as moments
 use Rattle.reencode_tool.specs.Counts.{counted, raised, visit_place}
+use Rattle.reencode_tool.specs.Reencoded.{asks}
 use Rattle.reencode_tool.proofs.Shortest.{frames_fit}
 
 -- ---- one visit
@@ -42,9 +43,6 @@ itself {r} b p i =
     let none : entries_in r p ≡ entries.empty = ap (λ (e : List Entries). slice_index_or e (space_number p) entries.empty) b.entries ∙ no_entries p in
     let entry : entry_of r p i ≡ None = ap (λ (e : Entries). if_index (entries.get e i)) none ∙ ap if_index (entries.get-empty _ i) in
     ap₂ (λ (o : Option ℕ) (s : Bool). or_itself o (s && is_core p) p i) entry b.strict
-
-abbrev pub asks : Renaming → Visit → Step Renaming (Error Unmapped) ℕ
-asks s v = ask renamer_reply renamer_next s v
 
 pub blank_asked : {s : Renaming} → Blank s → (v : Visit) → asks s v ≡ accepted (asked_index v) (renamer_next s v)
 blank_asked {s} b (Index p i) = ap (λ (r : Result ℕ Unmapped). answered r (renamer_next s (Index p i))) (itself b p i)

@@ -1,7 +1,10 @@
-pub mod OutsideLemmas
-pub mod TextLemmas
-pub mod AnswerLemmas
-pub mod Shortest
-pub mod Blank
-pub mod Refusals
-pub mod Outcomes
+mod AnswerLemmas
+mod Blank
+mod Decided
+mod Numerals
+mod Outcomes
+mod OutsideLemmas
+mod Refusals
+mod Renamers
+mod Shelves
+mod Shortest

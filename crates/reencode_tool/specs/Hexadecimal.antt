@@ -1,5 +1,5 @@
 -- Which bytes a hexadecimal text stands for.
-use Rattle.std.specs.Prelude.{ℕ, ◌==◌, ◌||◌, Bool, not, filter, Option, List}
+use Rattle.std.specs.Prelude.{ℕ, ◌==◌, ◌||◌, Bool, not, filter, Option, Some, List, if◌then◌else◌}
 use Rattle.std.specs.Result.{result_ok}
 use Rattle.hex.specs.Hex.{decode_of}
 
@@ -14,3 +14,7 @@ without_blanks text = filter (λ byte. not (is_blank byte)) text
 -- the bytes of the pairs of digits that are left when the blanks are taken out, or none
 abbrev pub binary : List ℕ → Option (List ℕ)
 binary text = result_ok (decode_of (without_blanks text))
+
+-- the bytes that an input is, or those that it is the hexadecimal text of
+abbrev pub bytes_of : Bool → List ℕ → Option (List ℕ)
+bytes_of is_text input = if is_text then binary input else Some input

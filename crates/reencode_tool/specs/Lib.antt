@@ -1,7 +1,12 @@
 pub mod Outside
 pub mod Hexadecimal
+pub mod Numerals
+pub mod Words
+pub mod Renamings
+pub mod Generated
 pub mod Report
 pub mod Counts
 pub mod Plain
+pub mod Reencoded
 pub mod Answer
 pub mod Memory

@@ -1,6 +1,7 @@
--- What sources and sinks in memory are seen as.
-use Rattle.std.specs.Prelude.{ℕ, ◌+◌, ◌-◌, ◌^◌, ◌==◌, min, nat_eq, nat_le, nat_lt, not, ◌++◌, ◌&&◌, ◌||◌, Bool, true, if◌then◌else◌, Option, Some, None, List, length}
+-- What sources, sinks and shelves in memory are seen as.
+use Rattle.std.specs.Prelude.{ℕ, ◌+◌, ◌-◌, ◌^◌, ◌==◌, min, nat_eq, nat_le, nat_lt, not, ◌++◌, ◌&&◌, ◌||◌, Bool, true, if◌then◌else◌, Option, Some, None, List, [], ◌∷◌, length}
 use Rattle.std.specs.List.{list_any}
+use Rattle.std.specs.Cmp.Lexicographic.{pointwise}
 
 -- a source: what is left of it, and how many bytes a read gives at most
 pub record Reading : Type 0 where
@@ -52,3 +53,20 @@ written s piece =
 -- whether there is no room for a piece
 abbrev pub is_full : FailingWriting → List ℕ → Bool
 is_full s piece = nat_le s.room (length s.kept) && not (nat_eq (length piece) 0)
+
+-- a text with its name
+pub record Named : Type 0 where
+  pub name : List ℕ
+  pub bytes : List ℕ
+
+-- a shelf with the numbers of the calls that fail, how many calls there were, and how many failed
+pub record FailingFetching : Type 0 where
+  pub texts : List Named
+  pub fails : List ℕ
+  pub calls : ℕ
+  pub faults : ℕ
+
+-- the newest text of a name, of texts of which the newest is first
+abbrev pub text_of : List Named → List ℕ → Option (List ℕ)
+text_of [] name = None
+text_of (t ∷ ts) name = if pointwise nat_eq t.name name then Some t.bytes else text_of ts name

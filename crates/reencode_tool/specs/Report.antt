@@ -30,3 +30,7 @@ tail counts = codes "\n" ++ asked counts ++ codes "\n"
 -- the output in lower-case hexadecimal and the line of the counts, each with a line end
 abbrev pub report : List ℕ → List ℕ → List ℕ
 report output counts = encode_lower output ++ tail counts
+
+-- how many functions a made module has, its length and that of the output, without the line's end
+abbrev pub made_line : ℕ → ℕ → ℕ → List ℕ
+made_line n input output = codes "functions " ++ decimal n ++ codes " input " ++ decimal input ++ codes " output " ++ decimal output

@@ -3,9 +3,9 @@ ghost use Rattle.std.specs.Prelude.{◌≡◌, ◌≤◌, ◌≢◌, ◌++◌, c
 ghost use Rattle.reencode_tool.specs.Answer.{EndsAs, HasStatus, status_of, text_of};
 ghost use Rattle.reencode_tool.specs.Outside.{Rose, WhereTold, followed, TookFront};
 
-use crate::decimal::{MOST_DIGITS, write_decimal};
 use crate::outside::{Failed, Sink};
 use crate::write::write_all;
+use itoa::Buffer;
 use reencode_hooks::{Error, Unmapped};
 use wasm_leb::ReadError;
 
@@ -40,7 +40,11 @@ pub enum Answer {
         size: u64,
         ceiling: u32,
     },
-    /// The input is too long.
+    /// The file of the renaming says none.
+    BadRenaming,
+    /// The file of the renaming could not be read.
+    ShelfFault,
+    /// The input or the file of the renaming is too long.
     TooLong,
     /// The input is no hexadecimal text.
     NotHexadecimal,
@@ -63,6 +67,8 @@ impl Answer {
             Answer::NonCoreModule => 8,
             Answer::NonComponent => 9,
             Answer::TooLarge { .. } => 10,
+            Answer::BadRenaming => 11,
+            Answer::ShelfFault => 12,
             Answer::TooLong => 13,
             Answer::NotHexadecimal => 14,
         }
@@ -80,7 +86,10 @@ impl Answer {
         match self {
             Answer::Printed => write_all(err, b"\n"),
             Answer::NoMemory => write_all(err, b"no memory\n"),
-            Answer::Usage => write_all(err, b"usage: -x plain\n"),
+            Answer::Usage => write_all(
+                err,
+                b"usage: [-x] [-m CEILING] plain | rename FILE | generate N\n",
+            ),
             Answer::ReadFault => write_all(err, b"read fault\n"),
             Answer::WriteFault => write_all(err, b"write fault\n"),
             Answer::ParseError { at } => say_parse_error(err, at),
@@ -95,6 +104,8 @@ impl Answer {
                 b"There was a section that does not belong in a component\n",
             ),
             Answer::TooLarge { size, ceiling } => say_too_large(err, size, ceiling),
+            Answer::BadRenaming => write_all(err, b"bad renaming\n"),
+            Answer::ShelfFault => write_all(err, b"shelf fault\n"),
             Answer::TooLong => write_all(err, b"too long\n"),
             Answer::NotHexadecimal => write_all(err, b"not hex\n"),
         }
@@ -125,9 +136,8 @@ fn write_number<D: Sink>(err: &mut D, text: &[u8], n: u64) -> Result<(), Failed>
     ensures front { OnErr result
         (TookFront (D.held err.old) (D.held err.new) (text.now ++ decimal n)) }
 {
-    let mut room = [0u8; MOST_DIGITS];
-    let start = write_decimal(n, &mut room);
-    write_both(err, text, &room[start..])
+    let mut digits = Buffer::new();
+    write_both(err, text, digits.format(n).as_bytes())
 }
 
 /// Writes a text and then a number in decimal, and ends the line. After a failure a front of it was taken.

@@ -6,9 +6,6 @@ use crate::buffer::zeros;
 use crate::outside::{Failed, Source};
 use std::alloc::Global;
 
-/// The most bytes that an input may have: 64 MiB.
-pub const MOST: usize = 67_108_864;
-
 /// The most bytes that one read asks for: 64 KiB.
 const PIECE: usize = 65_536;
 
@@ -17,7 +14,7 @@ const PIECE: usize = 65_536;
 pub enum InputFault {
     /// A read failed.
     Failed,
-    /// It has more than `MOST` bytes.
+    /// It has more bytes than it may have.
     TooLong,
     /// Memory was wanting.
     NoMemory,
@@ -53,20 +50,22 @@ fn read_piece<S: Source>(
 fn read_pieces<S: Source>(
     alloc: Global,
     input: &mut S,
+    most: u32,
     piece: &mut [u8],
 ) -> Result<Vec<u8>, InputFault>
     requires { 0 < length piece.old }
     ensures rises { S.faults input.old ≤ S.faults input.new }
     ensures all { IfOk result
-        (λ bytes. GaveAll MOST (S.left input.old) (S.left input.new) bytes.items) }
+        (λ bytes. GaveAll most (S.left input.old) (S.left input.new) bytes.items) }
     ensures failed { IsErrOf result InputFault.Failed
         → Rose (S.faults input.old) (S.faults input.new) }
     ensures too_long { IsErrOf result InputFault.TooLong
-        → TookMore MOST (S.left input.old) (S.left input.new) }
+        → TookMore most (S.left input.old) (S.left input.new) }
 {
+    let most = most as usize;
     let mut bytes = Vec::new(alloc);
-    'pieces: while bytes.len() <= MOST {
-        let room = piece.len().min(MOST + 1 - bytes.len());
+    'pieces: while bytes.len() <= most {
+        let room = piece.len().min(most + 1 - bytes.len());
         match read_piece(input, &mut piece[..room], &mut bytes) {
             Ok(0) => return Ok(bytes),
             Ok(_) => {}
@@ -76,19 +75,19 @@ fn read_pieces<S: Source>(
     Err(InputFault::TooLong)
 }
 
-/// The bytes of a source up to its end. Of a source that has more than `MOST` bytes, or does not
-/// end, `MOST + 1` bytes are taken.
-pub fn read_all<S: Source>(alloc: Global, input: &mut S) -> Result<Vec<u8>, InputFault>
+/// The bytes of a source up to its end. Of a source that has more than `most` bytes, or does not end, one
+/// byte more than that is taken.
+pub fn read_all<S: Source>(alloc: Global, input: &mut S, most: u32) -> Result<Vec<u8>, InputFault>
     ensures rises { S.faults input.old ≤ S.faults input.new }
     ensures all { IfOk result
-        (λ bytes. GaveAll MOST (S.left input.old) (S.left input.new) bytes.items) }
+        (λ bytes. GaveAll most (S.left input.old) (S.left input.new) bytes.items) }
     ensures failed { IsErrOf result InputFault.Failed
         → Rose (S.faults input.old) (S.faults input.new) }
     ensures too_long { IsErrOf result InputFault.TooLong
-        → TookMore MOST (S.left input.old) (S.left input.new) }
+        → TookMore most (S.left input.old) (S.left input.new) }
 {
     match zeros(alloc, PIECE) {
-        Ok(mut piece) => read_pieces(alloc, input, piece.as_mut_slice()),
+        Ok(mut piece) => read_pieces(alloc, input, most, piece.as_mut_slice()),
         Err(_) => Err(InputFault::NoMemory),
     }
 }

@@ -1,6 +1,6 @@
 //! Sources, sinks and shelves in memory.
-ghost use Rattle.std.specs.Prelude.{◌||◌, Err, ◌≡◌, ◌-◌, ◌<◌, ◌≤◌, ◌++◌, ℕ, List, [], Option, Some, None, Bool, true, false, if◌then◌else◌, drop, length, min, take, IfOk, IsOk, OnErr, OnOk, IsErrOf, Ok, vec_len, vec_capacity, is_err, ◌+◌};
-ghost use Rattle.reencode_tool.specs.Memory.{fails_next, is_full, one_more, told_held, written};
+ghost use Rattle.std.specs.Prelude.{◌||◌, Err, ◌≡◌, ◌-◌, ◌<◌, ◌≤◌, ◌++◌, ℕ, List, [], Option, Some, None, Bool, true, false, if◌then◌else◌, drop, length, min, take, IfOk, IsOk, OnErr, OnOk, IsErrOf, Ok, vec_len, vec_capacity, is_err, ◌+◌, ◌∷◌, map, option_map, string_bytes, IsTrue, ◌⊎◌};
+ghost use Rattle.reencode_tool.specs.Memory.{fails_next, is_full, one_more, text_of, told_held, written};
 ghost use Rattle.reencode_tool.specs.Outside.{Rose, WhereTold, before, followed, HasText, IsLonger};
 
 use crate::outside::{Failed, Shelf, ShelfFault, Sink, Source};
@@ -326,28 +326,224 @@ fn keep(bytes: &mut Vec<u8>, piece: &[u8])
     }
 }
 
-/// A shelf in memory that never fails. It answers an empty text for a name that it does not hold.
+/// A text with its name.
+#[derive(Debug, Drop)]
+struct Text {
+    name: String,
+    bytes: Vec<u8>,
+}
+
+/// Texts with names, the newest first.
+#[derive(Debug, Drop)]
+struct Texts {
+    texts: Vec<Text>,
+}
+
+impl Model for Texts {
+    ghost use Rattle.std.specs.Prelude.{List, map, string_bytes};
+    ghost use Rattle.reencode_tool.specs.Memory.{Named};
+
+    ghost Value = { List Named };
+
+    ghost view = { λ t. map (λ text. record { name = string_bytes text.name; bytes = text.bytes.items }) t.texts.items };
+}
+
+impl Texts {
+    /// No texts.
+    fn new(alloc: Global) -> Texts
+        ensures { result ≡ [] }
+    {
+        Texts {
+            texts: Vec::new(alloc),
+        }
+    }
+
+    /// Adds a text, in place of an older one of its name. Where memory is wanting, it changes nothing.
+    fn put(&mut self, name: &str, bytes: &[u8]) -> Result<(), NoMemory>
+        ensures ok { OnOk result
+            (self.new ≡ record { name = name.now; bytes = bytes.now } ∷ self.old) }
+        ensures err { OnErr result (self.new ≡ self.old) }
+    {
+        let alloc = *self.texts.allocator();
+        let Ok(name) = String::from_str(alloc, name) else {
+            return Err(NoMemory);
+        };
+        let Ok(bytes) = Vec::from_slice(alloc, bytes) else {
+            return Err(NoMemory);
+        };
+        match self.texts.insert(0, Text { name, bytes }) {
+            Ok(()) => Ok(()),
+            Err(_) => Err(NoMemory),
+        }
+    }
+
+    /// The text of a name.
+    fn find(&self, name: &str) -> Option<&[u8]>
+        ensures { option_map (λ text. text.now) result ≡ text_of self.now name.now }
+    {
+        'texts: for text in &self.texts {
+            if text.name.as_str() == name {
+                return Some(text.bytes.as_slice());
+            }
+        }
+        None
+    }
+}
+
+/// A copy of a text that has at most so many bytes.
+fn copy_of(alloc: Global, text: &[u8], most: u32) -> Result<Vec<u8>, ShelfFault>
+    ensures same { IfOk result (λ copy. copy.items ≡ text.now) }
+    ensures within { IfOk result (λ copy. vec_len copy ≤ most) }
+    ensures too_long { IsErrOf result ShelfFault.TooLong → most < length text.now }
+    ensures never { IsErrOf result ShelfFault.Failed → ⊥ }
+{
+    if text.len() > most as usize {
+        return Err(ShelfFault::TooLong);
+    }
+    match Vec::from_slice(alloc, text) {
+        Ok(copy) => Ok(copy),
+        Err(_) => Err(ShelfFault::NoMemory),
+    }
+}
+
+/// A shelf in memory that never fails. It answers an empty text for a name that it does not hold. It
+/// tells its texts.
 #[derive(Debug, Drop)]
 pub struct SureShelf {
-    alloc: Global,
+    texts: Texts,
+}
+
+impl Model for SureShelf {
+    ghost use Rattle.std.specs.Prelude.{List};
+    ghost use Rattle.reencode_tool.specs.Memory.{Named};
+
+    ghost Value = { List Named };
+
+    ghost view = { λ s. s.texts };
 }
 
 impl SureShelf {
     /// An empty shelf.
     pub fn new(alloc: Global) -> SureShelf
-        ensures texts { ⟦<SureShelf as Shelf>⟧.texts result ≡ Some (λ name. None) }
-        ensures faults { ⟦<SureShelf as Shelf>⟧.faults result ≡ 0 }
+        ensures { result ≡ [] }
     {
-        SureShelf { alloc }
+        SureShelf {
+            texts: Texts::new(alloc),
+        }
+    }
+
+    /// Puts a text there, in place of an older one of its name. Where memory is wanting, it changes nothing.
+    pub fn put(&mut self, name: &str, text: &[u8]) -> Result<(), NoMemory>
+        ensures ok { OnOk result
+            (self.new ≡ record { name = name.now; bytes = text.now } ∷ self.old) }
+        ensures err { OnErr result (self.new ≡ self.old) }
+    {
+        self.texts.put(name, text)
     }
 }
 
 impl Shelf for SureShelf {
-    ghost texts = { λ _. Some (λ name. None) };
+    ghost texts = { λ s. Some (text_of s) };
 
     ghost faults = { λ _. 0 };
 
-    fn fetch(&mut self, alloc: Global, _name: &str, _most: u32) -> Result<Vec<u8>, ShelfFault> {
-        Ok(Vec::new(alloc))
+    fn fetch(&mut self, alloc: Global, name: &str, most: u32) -> Result<Vec<u8>, ShelfFault>
+        ensures kept { self.new ≡ self.old }
+        ensures within { IfOk result (λ text. vec_len text ≤ most) }
+        ensures text { IfOk result
+            (λ text. HasText (Some (text_of self.old)) name.now text.items) }
+        ensures too_long { IsErrOf result ShelfFault.TooLong
+            → IsLonger (Some (text_of self.old)) name.now most }
+        ensures absent { text_of self.old name.now ≡ None → IfOk result (λ text. text.items ≡ []) }
+        ensures never { IsErrOf result ShelfFault.Failed → ⊥ }
+    {
+        match self.texts.find(name) {
+            Some(text) => copy_of(alloc, text, most),
+            None => Ok(Vec::new(alloc)),
+        }
+    }
+}
+
+/// A shelf in memory some of whose calls fail; so does one for a name that it does not hold. It tells its
+/// texts.
+#[derive(Debug, Drop)]
+pub struct MemShelf {
+    texts: Texts,
+    fails: List<u64>,
+    calls: u64,
+    faults: u64,
+}
+
+impl Model for MemShelf {
+    ghost use Rattle.reencode_tool.specs.Memory.{FailingFetching};
+
+    ghost Value = { FailingFetching };
+
+    ghost view = { λ s. record {
+      texts = s.texts;
+      fails = s.fails;
+      calls = s.calls;
+      faults = s.faults;
+    } };
+}
+
+impl MemShelf {
+    /// An empty shelf. Calls are numbered from 1, and a call whose number is in `fails` fails.
+    pub fn new(alloc: Global, fails: List<u64>) -> MemShelf
+        ensures { result ≡ record { texts = []; fails = fails; calls = 0; faults = 0 } }
+    {
+        MemShelf {
+            texts: Texts::new(alloc),
+            fails,
+            calls: 0,
+            faults: 0,
+        }
+    }
+
+    /// Puts a text there, in place of an older one of its name. Where memory is wanting, it changes nothing.
+    pub fn put(&mut self, name: &str, text: &[u8]) -> Result<(), NoMemory>
+        ensures ok { OnOk result (self.new ≡ record self.old {
+          texts = record { name = name.now; bytes = text.now } ∷ self.old.texts;
+        }) }
+        ensures err { OnErr result (self.new ≡ self.old) }
+    {
+        self.texts.put(name, text)
+    }
+}
+
+impl Shelf for MemShelf {
+    ghost texts = { λ s. Some (text_of s.texts) };
+
+    ghost faults = { λ s. s.faults };
+
+    fn fetch(&mut self, alloc: Global, name: &str, most: u32) -> Result<Vec<u8>, ShelfFault>
+        ensures rises { self.old.faults ≤ self.new.faults }
+        ensures rose { IsErrOf result ShelfFault.Failed → Rose self.old.faults self.new.faults }
+        ensures within { IfOk result (λ text. vec_len text ≤ most) }
+        ensures text { IfOk result
+            (λ text. HasText (Some (text_of self.old.texts)) name.now text.items) }
+        ensures too_long { IsErrOf result ShelfFault.TooLong
+            → IsLonger (Some (text_of self.old.texts)) name.now most }
+        ensures fails { IsErrOf result ShelfFault.Failed
+            → IsTrue (fails_next self.old.fails self.old.calls)
+            ⊎ (text_of self.old.texts name.now ≡ None) }
+        ensures failing { IsTrue (fails_next self.old.fails self.old.calls)
+            → result ≡ Err ShelfFault.Failed }
+        ensures absent { text_of self.old.texts name.now ≡ None → result ≡ Err ShelfFault.Failed }
+        ensures rules { (self.new.texts ≡ self.old.texts) × (self.new.fails ≡ self.old.fails) }
+        ensures calls { self.new.calls ≡ one_more self.old.calls }
+    {
+        self.calls = self.calls.saturating_add(1);
+        if self.fails.as_slice().contains(&self.calls) {
+            self.faults = self.faults.saturating_add(1);
+            return Err(ShelfFault::Failed);
+        }
+        match self.texts.find(name) {
+            Some(text) => copy_of(alloc, text, most),
+            None => {
+                self.faults = self.faults.saturating_add(1);
+                Err(ShelfFault::Failed)
+            }
+        }
     }
 }

@@ -1,8 +1,8 @@
 //! What the program prints.
-ghost use Rattle.std.specs.Prelude.{◌≡◌, ◌++◌, map, length, OnOk, IfOk};
-ghost use Rattle.reencode_tool.specs.Report.{part, parts, tail};
+ghost use Rattle.std.specs.Prelude.{◌≡◌, ◌++◌, decimal, map, length, OnOk, IfOk};
+ghost use Rattle.reencode_tool.specs.Report.{made_line, part, parts, tail};
 
-use crate::decimal::{MOST_DIGITS, write_decimal};
+use itoa::Buffer;
 use reencode_hooks::{Asked, Renamer};
 use std::alloc::{AllocError, Global};
 use wasm_shapes::Space;
@@ -60,6 +60,14 @@ pub fn counts_of(renamer: &Renamer) -> [u64; KEY_COUNT]
     ]
 }
 
+/// Adds a number in decimal to a line.
+fn add_number(line: &mut Vec<u8>, n: u64) -> Result<(), AllocError>
+    ensures { OnOk result (line.new.items ≡ line.old.items ++ decimal n) }
+{
+    let mut digits = Buffer::new();
+    line.extend_from_slice(digits.format(n).as_bytes())
+}
+
 /// Adds a count with its name to a line, and nothing where it is 0.
 fn add_part(line: &mut Vec<u8>, key: &str, count: u64) -> Result<(), AllocError>
     ensures { OnOk result (line.new.items ≡ line.old.items ++ part key.now count) }
@@ -67,12 +75,10 @@ fn add_part(line: &mut Vec<u8>, key: &str, count: u64) -> Result<(), AllocError>
     if count == 0 {
         return Ok(());
     }
-    let mut room = [0u8; MOST_DIGITS];
-    let start = write_decimal(count, &mut room);
     line.extend_from_slice(b" ")?;
     line.extend_from_slice(key.as_bytes())?;
     line.extend_from_slice(b" ")?;
-    line.extend_from_slice(&room[start..])
+    add_number(line, count)
 }
 
 /// Adds each count with its name to a line.
@@ -94,5 +100,28 @@ pub fn tail(alloc: Global, counts: &[u64; KEY_COUNT]) -> Result<Vec<u8>, AllocEr
     let mut text = Vec::from_slice(alloc, b"\nasked")?;
     add_parts(&mut text, &KEYS, counts)?;
     text.extend_from_slice(b"\n")?;
+    Ok(text)
+}
+
+/// What is printed of a made module: how many functions it has, its length and that of the output, and behind
+/// a line end the line of the counts.
+pub fn made_lines(
+    alloc: Global,
+    functions: u32,
+    input: usize,
+    output: usize,
+    counts: &[u64; KEY_COUNT],
+) -> Result<Vec<u8>, AllocError>
+    ensures { IfOk result
+        (λ text. text.items ≡ made_line functions input output ++ tail counts.now) }
+{
+    let mut text = Vec::from_slice(alloc, b"functions ")?;
+    add_number(&mut text, u64::from(functions))?;
+    text.extend_from_slice(b" input ")?;
+    add_number(&mut text, input as u64)?;
+    text.extend_from_slice(b" output ")?;
+    add_number(&mut text, output as u64)?;
+    let counts = tail(alloc, counts)?;
+    text.extend_from_slice(counts.as_slice())?;
     Ok(text)
 }

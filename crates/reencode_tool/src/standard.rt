@@ -1,9 +1,13 @@
-//! The standard streams. What they give and take is not told.
+//! The standard streams and files. What they give and take is not told.
 ghost use Rattle.std.specs.Prelude.{◌≡◌, ◌≤◌, ℕ, List, Option, None};
 ghost use Rattle.reencode_tool.specs.Outside.{Rose};
 
-use crate::outside::{Failed, Sink, Source};
+use crate::input::{InputFault, read_all};
+use crate::outside::{Failed, Shelf, ShelfFault, Sink, Source};
+use std::alloc::Global;
+use std::fs;
 use std::io::{ErrorKind, Read, Write};
+use std::rt::Files;
 
 /// One failure more. A count at 2^64 - 1 stays.
 fn one_more(faults: u64) -> u64
@@ -92,5 +96,48 @@ impl<W: Write> Sink for StdSink<W> {
             }
         }
         Err(Failed)
+    }
+}
+
+/// The files of a folder: a relative name is that of a file of the folder that the program works in. It counts
+/// each error as a failure, goes on after one that was an interruption, and does not tell its texts.
+#[derive(Drop)]
+pub struct FileShelf<'a, R> {
+    files: &'a R,
+    faults: u64,
+}
+
+impl<'a, R: Files> FileShelf<'a, R> {
+    /// The files that the runtime reaches.
+    pub fn new(files: &'a R) -> FileShelf<'a, R>
+        ensures texts { ⟦<FileShelf<'a, R> as Shelf>⟧.texts result ≡ None }
+        ensures faults { ⟦<FileShelf<'a, R> as Shelf>⟧.faults result ≡ 0 }
+    {
+        FileShelf { files, faults: 0 }
+    }
+}
+
+impl<'a, R: Files> Shelf for FileShelf<'a, R> {
+    ghost texts = { λ _. None };
+
+    ghost faults = { λ s. s.faults };
+
+    fn fetch(&mut self, alloc: Global, name: &str, most: u32) -> Result<Vec<u8>, ShelfFault> {
+        let file = match fs::open(self.files, name) {
+            Ok(file) => file,
+            Err(_) => {
+                self.faults = one_more(self.faults);
+                return Err(ShelfFault::Failed);
+            }
+        };
+        match read_all(alloc, &mut StdSource::new(file), most) {
+            Ok(text) => Ok(text),
+            Err(InputFault::TooLong) => Err(ShelfFault::TooLong),
+            Err(InputFault::NoMemory) => Err(ShelfFault::NoMemory),
+            Err(InputFault::Failed) => {
+                self.faults = one_more(self.faults);
+                Err(ShelfFault::Failed)
+            }
+        }
     }
 }

@@ -1,9 +1,11 @@
 //! What no clause says: that the calls succeed over memory, what is printed and said, and how the
 //! program ends where the outside is slow or fails.
 use crate::answer::{Answer, answer_of};
-use crate::memory::{MemSink, MemSource, SureShelf, SureSink, SureSource};
-use crate::outside::{Failed, Shelf, Sink, Source};
+use crate::memory::{MemShelf, MemSink, MemSource, SureShelf, SureSink, SureSource};
+use crate::outside::{Failed, Shelf, ShelfFault, Sink, Source};
+use crate::renaming::{RenamingFault, renaming_of};
 use crate::report::{counts_of, tail};
+use crate::standard::FileShelf;
 use crate::tool::run;
 use reencode_hooks::{Asked, Error, Renamer, Unmapped};
 use std::alloc::{AllocError, Global};
@@ -26,7 +28,9 @@ const SPACED: &[u8] =
 
 const PLAIN: &[&str] = &["-x", "plain"];
 
-const USAGE: &[u8] = b"usage: -x plain\n";
+const USAGE: &[u8] = b"usage: [-x] [-m CEILING] plain | rename FILE | generate N\n";
+
+const RENAME: &[&str] = &["-x", "rename", "r"];
 
 fn list_of<T: Copy + Drop>(alloc: Global, items: &[T]) -> Result<List<T>, NoMemory> {
     let mut list = List::new(alloc);
@@ -49,6 +53,9 @@ fn strings(alloc: Global, words: &[&str]) -> Result<Vec<String>, AllocError> {
 #[derive(Clone, Copy)]
 struct Case<'a> {
     words: &'a [&'a str],
+    // the text that the shelf has of the name `r`
+    file: &'a [u8],
+    shelf_fails: &'a [u64],
     text: &'a [u8],
     most: usize,
     read_fails: &'a [u64],
@@ -61,6 +68,8 @@ struct Case<'a> {
 
 const USUAL: Case<'static> = Case {
     words: PLAIN,
+    file: b"{}",
+    shelf_fails: &[],
     text: MODULE,
     most: 16,
     read_fails: &[],
@@ -91,9 +100,26 @@ const COMPONENT: Case<'static> = Case {
     ..USUAL
 };
 
+/// The file says no renaming.
+const BAD: Case<'static> = Case {
+    status: 11,
+    err: b"bad renaming\n",
+    ..USUAL
+};
+
+/// The shelf failed.
+const SHELF: Case<'static> = Case {
+    status: 12,
+    err: b"shelf fault\n",
+    ..USUAL
+};
+
 fn try_case(rt: &impl Abort, alloc: Global, case: &Case) -> Result<(), Fail> {
     let most = case.most.max(1);
     let words = strings(alloc, case.words)?;
+    let mut shelf = MemShelf::new(alloc, list_of(alloc, case.shelf_fails)?);
+    shelf.put("r", b"older")?;
+    shelf.put("r", case.file)?;
     let mut input = MemSource::new(
         list_of(alloc, case.text)?,
         most,
@@ -104,7 +130,7 @@ fn try_case(rt: &impl Abort, alloc: Global, case: &Case) -> Result<(), Fail> {
     let status = run(
         alloc,
         words.as_slice(),
-        &mut SureShelf::new(alloc),
+        &mut shelf,
         &mut input,
         &mut out,
         &mut err,
@@ -116,7 +142,7 @@ fn try_case(rt: &impl Abort, alloc: Global, case: &Case) -> Result<(), Fail> {
 }
 
 /// How a run ends.
-static CASES: [Case<'static>; 16] = [
+static CASES: [Case<'static>; 45] = [
     Case {
         words: &["rename"],
         status: 2,
@@ -128,6 +154,190 @@ static CASES: [Case<'static>; 16] = [
         status: 2,
         err: USAGE,
         ..USUAL
+    },
+    Case {
+        words: &["-m", "01", "plain"],
+        status: 2,
+        err: USAGE,
+        ..USUAL
+    },
+    Case {
+        words: &["generate", "0"],
+        status: 2,
+        err: USAGE,
+        ..USUAL
+    },
+    Case {
+        words: &["generate", "1000001"],
+        status: 2,
+        err: USAGE,
+        ..USUAL
+    },
+    // A ceiling of 6, 8 and 9: the type section has 7 bytes, the code section 9.
+    Case {
+        words: &["-x", "-m", "6", "plain"],
+        status: 10,
+        err: b"too large: 7 over 6\n",
+        ..USUAL
+    },
+    Case {
+        words: &["-x", "-m", "8", "plain"],
+        status: 10,
+        err: b"too large: 9 over 8\n",
+        ..USUAL
+    },
+    Case {
+        words: &["-x", "-m", "9", "plain"],
+        ..PRINTED
+    },
+    // Binary input.
+    Case {
+        words: &["plain"],
+        text: b"\0asm\x01\0\0\0",
+        out: b"0061736d01000000\nasked section_hook 1\n",
+        ..USUAL
+    },
+    Case {
+        words: &["generate", "3"],
+        out: b"functions 3 input 59 output 47\nasked function 3 type 3 section_hook 4\n",
+        ..USUAL
+    },
+    // The export names function 1.
+    Case {
+        words: RENAME,
+        file: b"{\"function\":{\"0\":1}}",
+        out: b"0061736d0100000001070160027f7f017f03020100070501016600010a09010700200020016a0b\nasked function 1 type 1 section_hook 5\n",
+        ..USUAL
+    },
+    Case {
+        words: RENAME,
+        file: b"{\"strict\":true,\"type\":{\"0\":0}}",
+        status: 6,
+        err: b"refused function 0\n",
+        ..USUAL
+    },
+    // Indices of each kind of section, and the order in which they are asked.
+    Case {
+        words: RENAME,
+        file: b"{\"function\":{\"0\":300}}",
+        text: b"0061736d01000000080100",
+        out: b"0061736d010000000802ac02\nasked function 1 section_hook 2\n",
+        ..USUAL
+    },
+    Case {
+        words: RENAME,
+        file: b"{\"type\":{\"0\":64}}",
+        text: b"0061736d010000000a0a01080002000b1100000b",
+        out: b"0061736d010000000a0b01090002c0000b1140000b\nasked table 1 type 2 section_hook 2\n",
+        ..USUAL
+    },
+    Case {
+        words: RENAME,
+        file: b"{\"table\":{\"0\":5}}",
+        text: b"0061736d010000000907010041000b0100",
+        out: b"0061736d01000000090901020541000b000100\nasked function 1 table 1 section_hook 2\n",
+        ..USUAL
+    },
+    Case {
+        words: RENAME,
+        file: b"{\"table\":{\"5\":0}}",
+        text: b"0061736d01000000090901020541000b000100",
+        out: b"0061736d01000000090901020041000b000100\nasked function 1 table 1 section_hook 2\n",
+        ..USUAL
+    },
+    Case {
+        words: RENAME,
+        file: b"{\"function\":{\"0\":1},\"type\":{\"0\":2}}",
+        text: b"0061736d0100000001040160000002080101610162037f000409014000700001d2000b05030100010d030100000606017f00412a0b0c0100",
+        out: b"0061736d0100000001040160000002080101610162037f000409014000700001d2010b05030100010d030100020606017f00412a0b0c0100\nasked function 1 type 1 data_count 1 section_hook 8\n",
+        ..USUAL
+    },
+    Case {
+        words: RENAME,
+        file: b"{\"type\":{\"0\":1}}",
+        text: b"0061736d01000000010c014e0250005f005001005f00",
+        out: b"0061736d01000000010c014e0250005f005001015f00\nasked type 1 section_hook 2\n",
+        ..USUAL
+    },
+    Case {
+        words: RENAME,
+        file: b"{\"memory\":{\"0\":1}}",
+        text: b"0061736d010000000a0a01080041002802041a0b",
+        out: b"0061736d010000000a0b0109004100284201041a0b\nasked memory 1 section_hook 2\n",
+        ..USUAL
+    },
+    Case {
+        words: RENAME,
+        file: b"{\"strict\":true}",
+        text: b"0061736d010000000907010023000b0100",
+        status: 6,
+        err: b"refused function 0\n",
+        ..USUAL
+    },
+    Case {
+        words: RENAME,
+        file: b"{\"strict\":true,\"function\":{\"0\":0}}",
+        text: b"0061736d010000000907010023000b0100",
+        status: 6,
+        err: b"refused table 0\n",
+        ..USUAL
+    },
+    Case {
+        words: RENAME,
+        file: b"{\"strict\":true,\"function\":{\"0\":0},\"table\":{\"0\":0}}",
+        text: b"0061736d010000000907010023000b0100",
+        status: 6,
+        err: b"refused global 0\n",
+        ..USUAL
+    },
+    Case {
+        words: RENAME,
+        file: b"{\"strict\":true}",
+        text: b"0061736d0100000009080105630001d2000b",
+        status: 6,
+        err: b"refused function 0\n",
+        ..USUAL
+    },
+    // What says no renaming.
+    Case {
+        words: RENAME,
+        file: b"{\"function\":{\"00\":1}}",
+        ..BAD
+    },
+    Case {
+        words: RENAME,
+        file: b"{\"function\":{\"0\":1.0}}",
+        ..BAD
+    },
+    Case {
+        words: RENAME,
+        file: b"{\"function\":{\"0\":4294967296}}",
+        ..BAD
+    },
+    Case {
+        words: RENAME,
+        file: b"{\"functions\":{}}",
+        ..BAD
+    },
+    Case {
+        words: RENAME,
+        file: b"[]",
+        ..BAD
+    },
+    Case {
+        words: RENAME,
+        file: b"{\"strict\":1}",
+        ..BAD
+    },
+    // The shelf fails, and has no such name.
+    Case {
+        words: RENAME,
+        shelf_fails: &[1],
+        ..SHELF
+    },
+    Case {
+        words: &["rename", "q"],
+        ..SHELF
     },
     Case {
         words: &[],
@@ -427,4 +637,50 @@ fn answers_of_errors(rt: HostRuntime) {
         }
     );
     assert_eq!(rt; answer_of(Error::NoMemory, 9), Answer::NoMemory);
+}
+
+#[test]
+fn texts_in_memory(rt: HostRuntime) -> Result<(), Fail> {
+    let alloc = rt.alloc();
+    let mut shelf = SureShelf::new(alloc);
+    shelf.put("a", b"one")?;
+    shelf.put("b", b"two")?;
+    shelf.put("a", b"three")?;
+    let text = shelf.fetch(alloc, "a", 5).or(Err("no text"))?;
+    assert_eq!(rt; text.as_slice(), b"three".as_slice());
+    assert!(rt; shelf.fetch(alloc, "a", 4).err() == Some(ShelfFault::TooLong));
+    let mut failing = MemShelf::new(alloc, list_of(alloc, &[2])?);
+    failing.put("a", b"one")?;
+    assert!(rt; failing.fetch(alloc, "a", 3).is_ok());
+    assert!(rt; failing.fetch(alloc, "a", 3).err() == Some(ShelfFault::Failed));
+    assert!(rt; failing.fetch(alloc, "b", 3).err() == Some(ShelfFault::Failed));
+    Ok(())
+}
+
+#[test]
+fn long_file(rt: HostRuntime) -> Result<(), Fail> {
+    let alloc = rt.alloc();
+    let text = vec![in alloc; b'0'; 1_048_577]?;
+    std::fs::write(&rt, "long", text.as_slice())?;
+    let mut shelf = FileShelf::new(&rt);
+    assert!(rt; shelf.fetch(alloc, "long", 1_048_576).err() == Some(ShelfFault::TooLong));
+    let whole = shelf.fetch(alloc, "long", 1_048_577).or(Err("no text"))?;
+    assert!(rt; whole.as_slice() == text.as_slice());
+    assert!(rt; shelf.fetch(alloc, "none", 9).err() == Some(ShelfFault::Failed));
+    std::fs::remove_file(&rt, "long")?;
+    Ok(())
+}
+
+#[test]
+fn renamings_of_texts(rt: HostRuntime) -> Result<(), Fail> {
+    let alloc = rt.alloc();
+    let text = b"{\"tag\":{\"10\":3,\"9\":4294967295,\"0\":7},\"strict\":true}";
+    let mut renamer = renaming_of(alloc, text).or(Err("no renaming"))?;
+    for (from, to) in [(10, 3), (9, u32::MAX), (0, 7)] {
+        assert_eq!(rt; renamer.ask(Space::Tag, from), Ok(to));
+    }
+    assert!(rt; renamer.ask(Space::Tag, 1).is_err());
+    assert!(rt; renaming_of(alloc, b"{").err() == Some(RenamingFault::Bad));
+    assert!(rt; renaming_of(alloc, b"\xff").err() == Some(RenamingFault::Bad));
+    Ok(())
 }

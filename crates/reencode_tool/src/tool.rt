@@ -1,31 +1,18 @@
 //! The top call.
-ghost use Rattle.std.specs.Prelude.{ℕ, List, [], ◌∷◌, ◌<◌, ◌==◌, Contains, decimal, ◌≡◌, ◌≢◌, ◌≤◌, ◌++◌, ◌↔◌, codes, map, length, string_bytes, vec_len, IsTrue, OnOk, OnErr};
+ghost use Rattle.std.specs.Prelude.{None, Some, ℕ, List, [], ◌∷◌, ◌<◌, ◌==◌, Contains, decimal, ◌≡◌, ◌≢◌, ◌≤◌, ◌++◌, ◌↔◌, codes, map, length, string_bytes, vec_len, IsTrue, OnOk, OnErr};
 ghost use Rattle.hex.specs.Hex.{encode_lower};
-ghost use Rattle.reencode_tool.specs.Answer.{Ends, HasCodeSize, HasComponent, HasNoDigits, HasNoReading, IsDecided, Made, Says, message, most_bytes, plain_words, report_of, text_of};
-ghost use Rattle.reencode_tool.specs.Outside.{Rose, TookFront, TookMore, WhereTold, followed};
+ghost use Rattle.reencode_tool.specs.Answer.{Ends, ForJob, HasNoDigits, IsBadFile, IsDecided, IsMaking, IsTooLong, Made, MakesModule, Says, StopsWith, message, report_of, text_of};
+ghost use Rattle.reencode_tool.specs.Words.{job, job_seen};
+ghost use Rattle.reencode_hooks.specs.declared.asked.Unmapped.{Unmapped};
+ghost use Rattle.reencode_hooks.specs.Renamings.{unmapped_text};
+ghost use Rattle.reencode_tool.specs.Outside.{Rose, TookFront, WhereTold, followed};
 
 use crate::answer::Answer;
 use crate::make::{Ready, make};
 use crate::outside::{Failed, Shelf, Sink, Source};
+use crate::words::{Job, job_of};
 use crate::write::{write_all, write_digits};
 use std::alloc::Global;
-
-/// Whether two words are `-x` and `plain`.
-fn are_plain(first: &str, second: &str) -> bool
-    ensures { IsTrue result ↔ ((first.now ≡ codes "-x") × (second.now ≡ codes "plain")) }
-{
-    first == "-x" && second == "plain"
-}
-
-/// Whether the words are `-x plain`.
-fn is_plain(words: &[String]) -> bool
-    ensures { IsTrue result ↔ (map string_bytes words.now ≡ plain_words) }
-{
-    match words {
-        [first, second] => are_plain(first.as_str(), second.as_str()),
-        _ => false,
-    }
-}
 
 /// Prints output as digits through a buffer, and then the text behind them. After a failure a front
 /// of both was taken.
@@ -70,14 +57,18 @@ fn print_ready<K: Sink>(out: &mut K, ready: Ready) -> Result<(), Failed>
     )
 }
 
-/// Reads the input and prints what is made of it.
-fn reencode<S: Source, K: Sink>(
+/// Does a job, and prints what is made.
+fn perform<F: Shelf, S: Source, K: Sink>(
     alloc: Global,
-    words: &[String],
+    job: Job<'_>,
+    shelf: &mut F,
     input: &mut S,
     out: &mut K,
 ) -> Answer
-    ensures ends { Ends result (map string_bytes words.now) (record {
+    ensures ends { Ends (Some (job_seen job.entry)) (record {
+      texts = F.texts shelf.old;
+      shelf_faults_old = F.faults shelf.old;
+      shelf_faults_new = F.faults shelf.new;
       left_old = S.left input.old;
       left_new = S.left input.new;
       read_faults_old = S.faults input.old;
@@ -86,22 +77,54 @@ fn reencode<S: Source, K: Sink>(
       held_new = K.held out.new;
       write_faults_old = K.faults out.old;
       write_faults_new = K.faults out.new;
-    }) }
+    }) result }
+    ensures shelf_rises { F.faults shelf.old ≤ F.faults shelf.new }
+    ensures input_rises { S.faults input.old ≤ S.faults input.new }
+    ensures out_rises { K.faults out.old ≤ K.faults out.new }
+    ensures unread { IsMaking (job_seen job.entry).command → input.new ≡ input.old }
+    ensures untouched { result ≢ Answer.Printed → result ≢ Answer.WriteFault → out.new ≡ out.old }
+{
+    match make(alloc, job, shelf, input) {
+        Ok(ready) => match print_ready(out, ready) {
+            Ok(()) => Answer::Printed,
+            Err(Failed) => Answer::WriteFault,
+        },
+        Err(answer) => answer,
+    }
+}
+
+/// Does what the words ask for.
+fn perform_words<F: Shelf, S: Source, K: Sink>(
+    alloc: Global,
+    words: &[String],
+    shelf: &mut F,
+    input: &mut S,
+    out: &mut K,
+) -> Answer
+    ensures ends { Ends (job (map string_bytes words.now)) (record {
+      texts = F.texts shelf.old;
+      shelf_faults_old = F.faults shelf.old;
+      shelf_faults_new = F.faults shelf.new;
+      left_old = S.left input.old;
+      left_new = S.left input.new;
+      read_faults_old = S.faults input.old;
+      read_faults_new = S.faults input.new;
+      held_old = K.held out.old;
+      held_new = K.held out.new;
+      write_faults_old = K.faults out.old;
+      write_faults_new = K.faults out.new;
+    }) result }
+    ensures shelf_rises { F.faults shelf.old ≤ F.faults shelf.new }
     ensures input_rises { S.faults input.old ≤ S.faults input.new }
     ensures out_rises { K.faults out.old ≤ K.faults out.new }
     ensures unread { result ≡ Answer.Usage → input.new ≡ input.old }
+    ensures unfetched { result ≡ Answer.Usage → shelf.new ≡ shelf.old }
+    ensures made { MakesModule (job (map string_bytes words.now)) → input.new ≡ input.old }
     ensures untouched { result ≢ Answer.Printed → result ≢ Answer.WriteFault → out.new ≡ out.old }
 {
-    if is_plain(words) {
-        match make(alloc, input) {
-            Ok(ready) => match print_ready(out, ready) {
-                Ok(()) => Answer::Printed,
-                Err(Failed) => Answer::WriteFault,
-            },
-            Err(answer) => answer,
-        }
-    } else {
-        Answer::Usage
+    match job_of(words) {
+        Some(job) => perform(alloc, job, shelf, input, out),
+        None => Answer::Usage,
     }
 }
 
@@ -121,26 +144,36 @@ fn tell<D: Sink>(answer: Answer, err: &mut D)
     }
 }
 
-/// Runs the program: `words` are the words behind its name. The words that are accepted are
-/// `-x plain`: the input is hexadecimal text, and its bytes are re-encoded with no index renamed.
+/// Runs the program: `words` are the words behind its name. They are, in this order, `-x` or nothing,
+/// `-m CEILING` or nothing, and one of `plain`, `rename FILE` and `generate N`.
+///
+/// `plain` re-encodes the input's bytes with no index renamed, and `rename` with the indices renamed as the
+/// text says that the shelf has under FILE. With `-x` the input is the bytes' hexadecimal text. The output
+/// is printed as hexadecimal digits, and behind it how often each hook was called. `generate` makes a module
+/// of N functions, re-encodes it, and prints both lengths and the counts.
 ///
 /// It answers the status that the program ends with, and says on `err` what went wrong. A failure of
 /// `err` ends that text and changes no status.
 ///
 /// | Status | |
 /// |---|---|
-/// | 0 | all output was written, and the input was read to its end |
+/// | 0 | all output was written, and the input was read to its end, but for `generate` |
 /// | 1 | memory was wanting |
 /// | 2 | the words are not accepted |
 /// | 3 | the input could not be read |
 /// | 4 | the output could not be written |
-/// | 5 | the input's bytes have no reading, in any other case than 7 |
-/// | 7 | the input's bytes have no reading, for a code section whose size passes their end |
-/// | 8 | the input's bytes begin with the header of a component |
-/// | 13 | the input has more than 67,108,864 bytes |
+/// | 5 | the bytes have no reading, in any other case than 7 |
+/// | 6 | the renaming is strict and has no entry for an index |
+/// | 7 | the bytes have no reading, for a code section whose size passes their end |
+/// | 8 | the bytes begin with the header of a component |
+/// | 10 | a frame of the output is above the ceiling |
+/// | 11 | FILE says no renaming |
+/// | 12 | FILE could not be fetched |
+/// | 13 | the input has more than 67,108,864 bytes, or FILE more than 1,048,576 |
 /// | 14 | the input is not pairs of hexadecimal digits |
 ///
-/// All memory is taken before the first write to `out`.
+/// The words are tried first, then FILE, the input, its digits, the re-encoding and the output. All memory is
+/// taken before the first write to `out`.
 pub fn run<F: Shelf, S: Source, K: Sink, D: Sink>(
     alloc: Global,
     words: &[String],
@@ -149,56 +182,80 @@ pub fn run<F: Shelf, S: Source, K: Sink, D: Sink>(
     out: &mut K,
     err: &mut D,
 ) -> u8
-    // With status 0 the report of the input stands behind what the sink held.
-    ensures printed { result ≡ 0 → (made : Made (S.left input.old) (S.left input.new))
-        × WhereTold (K.held out.new) (followed (K.held out.old) (report_of made)) }
+    // With status 0 the report of the re-encoding stands behind what the sink held.
+    ensures printed { result ≡ 0 → ForJob (job (map string_bytes words.now))
+        (λ j. (made : Made j (F.texts shelf.old) (S.left input.old) (S.left input.new))
+        × WhereTold (K.held out.new) (followed (K.held out.old) (report_of made))) }
 
-    // Status 2 comes by the words alone, and before anything is read.
-    ensures usage { (result ≡ 2) ↔ (map string_bytes words.now ≢ plain_words) }
-    ensures accepted { result ≢ 2 → map string_bytes words.now ≡ plain_words }
+    // Status 2 comes by the words alone, and before anything is read or fetched.
+    ensures usage { (result ≡ 2) ↔ (job (map string_bytes words.now) ≡ None) }
     ensures unread { result ≡ 2 → input.new ≡ input.old }
+    ensures unfetched { result ≡ 2 → shelf.new ≡ shelf.old }
+    ensures makes { MakesModule (job (map string_bytes words.now)) → input.new ≡ input.old }
 
-    // Status 3 comes only where the source failed, and 4 only where the sink failed; a front of the
-    // report was then taken.
+    // Status 3, 4 and 12 come only where the source, the sink or the shelf failed; with 4 a front of the
+    // report was taken.
     ensures read_fault { result ≡ 3 → Rose (S.faults input.old) (S.faults input.new) }
     ensures write_fault { result ≡ 4 → Rose (K.faults out.old) (K.faults out.new) }
-    ensures front { result ≡ 4 → (made : Made (S.left input.old) (S.left input.new))
-        × TookFront (K.held out.old) (K.held out.new) (report_of made) }
+    ensures shelf_fault { result ≡ 12 → Rose (F.faults shelf.old) (F.faults shelf.new) }
+    ensures front { result ≡ 4 → ForJob (job (map string_bytes words.now))
+        (λ j. (made : Made j (F.texts shelf.old) (S.left input.old) (S.left input.new))
+        × TookFront (K.held out.old) (K.held out.new) (report_of made)) }
 
-    // Status 5, 7, 8, 13 and 14 come only by what the source gave.
+    // Status 5 to 10 come only by the renaming and the bytes.
     ensures parse_error { result ≡ 5
-        → (at : ℕ) × HasNoReading (S.left input.old) (S.left input.new) at
+        → (at : ℕ) × StopsWith (job (map string_bytes words.now)) (F.texts shelf.old)
+        (S.left input.old) (S.left input.new) (Answer.ParseError at)
         × Says (D.faults err.old) (D.faults err.new) (D.held err.old) (D.held err.new)
         (codes "parse error at " ++ decimal at ++ codes "\n") }
-    ensures code_size { result ≡ 7 → HasCodeSize (S.left input.old) (S.left input.new) }
-    ensures component { result ≡ 8 → HasComponent (S.left input.old) (S.left input.new) }
-    ensures too_long { result ≡ 13 → TookMore most_bytes (S.left input.old) (S.left input.new) }
-    ensures not_hexadecimal { result ≡ 14 → HasNoDigits (S.left input.old) (S.left input.new) }
+    ensures refused { result ≡ 6
+        → (u : Unmapped) × StopsWith (job (map string_bytes words.now)) (F.texts shelf.old)
+        (S.left input.old) (S.left input.new) (Answer.Refused u)
+        × Says (D.faults err.old) (D.faults err.new) (D.held err.old) (D.held err.new)
+        (unmapped_text u ++ codes "\n") }
+    ensures code_size { result ≡ 7 → StopsWith (job (map string_bytes words.now))
+        (F.texts shelf.old) (S.left input.old) (S.left input.new) Answer.CodeSectionSize }
+    ensures component { result ≡ 8 → StopsWith (job (map string_bytes words.now))
+        (F.texts shelf.old) (S.left input.old) (S.left input.new) Answer.NonCoreModule }
+    ensures too_large { result ≡ 10
+        → (size : ℕ) × (ceiling : ℕ) × StopsWith (job (map string_bytes words.now))
+        (F.texts shelf.old) (S.left input.old) (S.left input.new) (Answer.TooLarge size ceiling)
+        × Says (D.faults err.old) (D.faults err.new) (D.held err.old) (D.held err.new)
+        (codes "too large: " ++ decimal size ++ codes " over " ++ decimal ceiling ++ codes "\n") }
 
-    // Where the words are accepted and neither source nor sink failed, the input decides.
-    ensures decided { map string_bytes words.now ≡ plain_words
+    // Status 11, 13 and 14 come only by what the shelf and the source gave.
+    ensures bad_renaming { result ≡ 11 → ForJob (job (map string_bytes words.now))
+        (λ j. IsBadFile j.command (F.texts shelf.old)) }
+    ensures too_long { result ≡ 13 → ForJob (job (map string_bytes words.now))
+        (λ j. IsTooLong j.command (F.texts shelf.old) (S.left input.old) (S.left input.new)) }
+    ensures not_hexadecimal { result ≡ 14 → ForJob (job (map string_bytes words.now))
+        (λ j. HasNoDigits j (F.texts shelf.old) (S.left input.old) (S.left input.new)) }
+
+    // Where neither shelf, source nor sink failed, the words, the file and the input decide.
+    ensures decided { ¬ Rose (F.faults shelf.old) (F.faults shelf.new)
         → ¬ Rose (S.faults input.old) (S.faults input.new)
         → ¬ Rose (K.faults out.old) (K.faults out.new)
-        → IsDecided (S.left input.old) result }
+        → IsDecided (job (map string_bytes words.now)) (F.texts shelf.old) (S.left input.old)
+        result }
 
     // No other status comes, and with each but 0 and 4 the sink is as it was.
-    ensures statuses { Contains (0 ∷ 1 ∷ 2 ∷ 3 ∷ 4 ∷ 5 ∷ 7 ∷ 8 ∷ 13 ∷ 14 ∷ []) result }
+    ensures statuses { Contains
+        (0 ∷ 1 ∷ 2 ∷ 3 ∷ 4 ∷ 5 ∷ 6 ∷ 7 ∷ 8 ∷ 10 ∷ 11 ∷ 12 ∷ 13 ∷ 14 ∷ []) result }
     ensures untouched { result ≢ 0 → result ≢ 4 → out.new ≡ out.old }
 
     // Each status but 0 has its message.
     ensures quiet { result ≡ 0 → err.new ≡ err.old }
-    ensures says { result ≢ 0 → result ≢ 5
+    ensures says { result ≢ 0 → result ≢ 5 → result ≢ 6 → result ≢ 10
         → Says (D.faults err.old) (D.faults err.new) (D.held err.old) (D.held err.new)
         (message result) }
 
-    // No count of failures falls, and nothing is fetched.
+    // No count of failures falls.
+    ensures shelf_rises { F.faults shelf.old ≤ F.faults shelf.new }
     ensures input_rises { S.faults input.old ≤ S.faults input.new }
     ensures out_rises { K.faults out.old ≤ K.faults out.new }
     ensures err_rises { D.faults err.old ≤ D.faults err.new }
-    ensures unfetched { shelf.new ≡ shelf.old }
 {
-    let _shelf = shelf;
-    let answer = reencode(alloc, words, input, out);
+    let answer = perform_words(alloc, words, shelf, input, out);
     tell(answer, err);
     answer.status()
 }

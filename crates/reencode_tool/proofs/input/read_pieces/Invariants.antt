@@ -1,4 +1,4 @@
-use Rattle.std.proofs.Common.{◌≡◌, ◌≤◌, ◌-◌, vec_len}
+use Rattle.std.proofs.Common.{◌≡◌, ◌≤◌, ◌+◌, ◌-◌, vec_len}
 use Rattle.reencode_tool.specs.Outside.{before}
 use Rattle.reencode_tool.proofs.input.read_pieces.Given as goal
 
@@ -9,4 +9,4 @@ invariant-pieces g l = record {
 }
 
 abbrev pub decreases-pieces : goal.decreases-pieces
-decreases-pieces g l = 67108865 - vec_len l.bytes
+decreases-pieces g l = l.most + 1 - vec_len l.bytes

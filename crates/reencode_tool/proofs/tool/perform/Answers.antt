@@ -1,22 +1,18 @@
 use Rattle.std.proofs.Common.{List, ℕ, subst}
 use Rattle.reencode_tool.specs.Outside.{WhereTold, followed, TookFront}
-use Rattle.reencode_tool.proofs.tool.reencode.Goals as goal
+use Rattle.reencode_tool.proofs.tool.perform.Goals as goal
 
 pub returns-in-Ok-print_ready-clause-ends : goal.returns-in-Ok-print_ready-clause-ends
 returns-in-Ok-print_ready-clause-ends g c =
     let made = c.in-Ok.ensures.made in (
-      c.is_plain.ensures.0 c.if-is_plain.true,
-      (
-        made.0,
-        subst (λ (text : List ℕ). WhereTold (g.K.Sink.held c.print_ready.new.out) (followed (g.K.Sink.held c.args.out.now) text)) made.1
-            c.in-Ok-print_ready.ensures.ok,
-      ),
+      made.0,
+      subst (λ (text : List ℕ). WhereTold (g.K.Sink.held c.print_ready.new.out) (followed (g.K.Sink.held c.args.out.now) text)) made.1
+          c.in-Ok-print_ready.ensures.ok,
     )
 
 pub returns-in-Err-print_ready-clause-ends : goal.returns-in-Err-print_ready-clause-ends
 returns-in-Err-print_ready-clause-ends g c =
     let made = c.in-Ok.ensures.made in (
-      c.is_plain.ensures.0 c.if-is_plain.true,
       (
         made.0,
         subst (λ (text : List ℕ). TookFront (g.K.Sink.held c.args.out.now) (g.K.Sink.held c.print_ready.new.out) text) made.1
