@@ -49,6 +49,11 @@ are_more {bytes = bytes} {rows = rows} {t = t} r p = record {
   normally = snoc_normal rows t ∙ ap (λ (z : List ℕ). z ++ normal t) r.normally;
 }
 
+-- the same where they are as many as they are
+pub are_many_more : {s : Shape} {bytes : List ℕ} {rows : List Tree} {t : Tree} → AreHeld s (length rows) bytes rows → Spells s (normal t) t →
+    AreHeld s (length (rows ++ t ∷ [])) (bytes ++ normal t) (rows ++ t ∷ [])
+are_many_more {rows = rows} {t = t} r p = rw (snoc_length rows t) (are_more r p)
+
 module _ (s : Shape) {bytes : List ℕ} where
   pub held_none : bytes ≡ [] → Held s 0 bytes
   held_none e = ([], ∣ rw e (are_none s) ∣₁)

@@ -20,10 +20,9 @@ use Rattle.wasm_write.specs.declared.fault.WriteFault.{WriteFault}
 use Rattle.wasm_write.specs.declared.fault.WriteFault.TheVariants.{TooLarge, NoMemory}
 use Rattle.wasm_write.specs.Counts.{counts, IsTooLarge}
 use Rattle.wasm_write.specs.Faults.{IfTooLarge}
-use Rattle.wasm_write.specs.Held.{AreHeld}
 use Rattle.wasm_write.specs.Instructions.{Parts, imms_tree, instruction_tree}
 use Rattle.wasm_write.specs.Bodies.{AreOperators, Body, local_tree, with_operator, with_operators, function_body, code_tree, IsBody, HeldBody, HeldBody-one, held_body, HeldOperators, HeldOperators-one, held_operators}
-use Rattle.wasm_write.proofs.Holding.{snoc_is, snoc_spelled, snoc_normal, snoc_length, are_none, are_more}
+use Rattle.wasm_write.proofs.Holding.{snoc_is, snoc_spelled, snoc_normal, are_none, are_many_more}
 use Rattle.wasm_write.proofs.SmallCounts.{counts_small, last_is_large}
 use Rattle.wasm_write.proofs.TypeShapes.{items_are, value_is}
 
@@ -175,10 +174,6 @@ inner_operator : (i : Parts) → code_of i.opcode ≢ plain 0x0b → Spells (Sha
     Spells (Shape.op false) (normal (instruction_tree i)) (instruction_tree i)
 inner_operator i other p = record { shaped = inner_is (code_of i.opcode) (imms_tree i.imms) other p.shaped; spelled = p.spelled }
 
-expression_more : {bytes : List ℕ} {rows : List Tree} {t : Tree} → AreHeld (Shape.op false) (length rows) bytes rows → Spells (Shape.op false) (normal t) t →
-    AreHeld (Shape.op false) (length (rows ++ t ∷ [])) (bytes ++ normal t) (rows ++ t ∷ [])
-expression_more {rows = rows} {t = t} r p = rw (snoc_length rows t) (are_more r p)
-
 pub expression_none : {bytes : List ℕ} → bytes ≡ [] → HeldOperators bytes
 expression_none e = ([], ∣ rw e (are_none (Shape.op false)) ∣₁)
 
@@ -191,7 +186,7 @@ module _ {bytes : List ℕ} (h : HeldOperators bytes) where
   pub operators_grown : {new : List ℕ} (i : Parts) → code_of i.opcode ≢ plain 0x0b → new ≡ bytes ++ normal (instruction_tree i) →
       ∥ Spells (Shape.op true) (normal (instruction_tree i)) (instruction_tree i) ∥₁ → HeldOperators new
   operators_grown i other e p =
-      (h.0 ++ instruction_tree i ∷ [], ∥∥₁_elim h.1 ∥∥₁_prop (λ r. ∥∥₁_map p (λ q. rw e (expression_more r (inner_operator i other q)))))
+      (h.0 ++ instruction_tree i ∷ [], ∥∥₁_elim h.1 ∥∥₁_prop (λ r. ∥∥₁_map p (λ q. rw e (are_many_more r (inner_operator i other q)))))
 
   pub operators_grown_is : {new : List ℕ} (i : Parts) (k : HeldOperators new) → code_of i.opcode ≢ plain 0x0b → new ≡ bytes ++ normal (instruction_tree i) →
       ∥ Spells (Shape.op true) (normal (instruction_tree i)) (instruction_tree i) ∥₁ → held_operators new k ≡ held_operators bytes h ++ instruction_tree i ∷ []

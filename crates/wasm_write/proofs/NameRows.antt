@@ -17,9 +17,9 @@ use Rattle.wasm_shapes.proofs.Begins.{row_at, row_is}
 use Rattle.wasm_shapes.proofs.Namings.{asked}
 use Rattle.wasm_shapes.proofs.Frameless.{frameless_spells}
 use Rattle.wasm_write.specs.Bodies.{CodeRows, with_row}
-use Rattle.wasm_write.specs.Held.{AreHeld, BodySpells}
-use Rattle.wasm_write.specs.Names.{HeldMany, HeldMany-one, held_many, name_section_tree, NamesSpell, subsection_bytes, IsSubsection, GainsSubsection}
-use Rattle.wasm_write.proofs.Holding.{snoc_length, are_none, are_more}
+use Rattle.wasm_write.specs.Held.{AreHeld, BodySpells, HeldMany, HeldMany-one, held_many}
+use Rattle.wasm_write.specs.Names.{name_section_tree, NamesSpell, subsection_bytes, IsSubsection, GainsSubsection}
+use Rattle.wasm_write.proofs.Holding.{are_none, are_many_more}
 
 -- ---- entries
 
@@ -116,7 +116,7 @@ more : {bytes body : List ℕ} {rows : List Tree} {id : ℕ} {t : Tree} → AreH
     AreHeld name_subsection (length (rows ++ t ∷ [])) (bytes ++ subsection_bytes id body) (rows ++ t ∷ [])
 more {rows = rows} {t = t} r p small =
     let P : List ℕ → Type 0 = λ z. Spelled t z in
-    rw (snoc_length rows t, ← p.normally) (are_more r (record { shaped = p.shaped; spelled = subst P (sym p.normally) (p.spelled small) }))
+    rw (← p.normally) (are_many_more r (record { shaped = p.shaped; spelled = subst P (sym p.normally) (p.spelled small) }))
 
 module _ {bytes : List ℕ} (h : HeldMany name_subsection bytes) where
   -- the bytes have grown by a subsection

@@ -1,5 +1,5 @@
 -- Functions, code sections and constant expressions, as contracts see them.
-use Rattle.std.specs.Prelude.{◌≡◌, ℕ, List, [], ◌∷◌, ◌++◌, length, true, false}
+use Rattle.std.specs.Prelude.{◌≡◌, ℕ, List, [], ◌∷◌, ◌++◌, true, false}
 use Rattle.std.specs.Coded.{Coded, Coded-set, code_by, coded×, coded_ℕ}
 use Rattle.std.proofs.Common.{refl, sym, ap, ap₂, ◌∙◌}
 use mathlib.Core.HLevel.{Σ_prop_path}
@@ -13,7 +13,7 @@ use Rattle.wasm_shapes.specs.Types.{rows_tree, vector_tree, listed, listed_rows}
 use Rattle.wasm_shapes.specs.Spells.{Is, Spelled}
 use Rattle.wasm_shapes.proofs.Laws.{one_tree}
 use Rattle.wasm_write.specs.declared.types.ValType.{ValType}
-use Rattle.wasm_write.specs.Held.{AreHeld, rows_are_one}
+use Rattle.wasm_write.specs.Held.{HeldMany, HeldMany-one, HeldMany-prop}
 use Rattle.wasm_write.specs.Types.{val_type_tree}
 
 -- ---- a function
@@ -125,16 +125,13 @@ expression_sound = refl
 
 -- the operators of an expression, whose normal spelling these bytes are
 abbrev pub HeldOperators : List ℕ → Type 0
-HeldOperators bytes = (rows : List Tree) × ∥ AreHeld (Shape.op false) (length rows) bytes rows ∥₁
+HeldOperators bytes = HeldMany (Shape.op false) bytes
 
-module _ (bytes : List ℕ) where
-  pub HeldOperators-one : (p q : HeldOperators bytes) → p.0 ≡ q.0
-  HeldOperators-one p q =
-      ∥∥₁_elim p.1 (Coded-set trees_code p.0 q.0) (λ r.
-      ∥∥₁_elim q.1 (Coded-set trees_code p.0 q.0) (λ s. rows_are_one expression_sound r s))
+pub HeldOperators-one : (bytes : List ℕ) (p q : HeldOperators bytes) → p.0 ≡ q.0
+HeldOperators-one bytes = HeldMany-one (Shape.op false) expression_sound bytes
 
-  pub HeldOperators-prop : IsProp (HeldOperators bytes)
-  HeldOperators-prop p q = Σ_prop_path (λ rows. ∥∥₁_prop) (HeldOperators-one p q)
+pub HeldOperators-prop : (bytes : List ℕ) → IsProp (HeldOperators bytes)
+HeldOperators-prop bytes = HeldMany-prop (Shape.op false) expression_sound bytes
 
 unfoldable pub held_operators : (bytes : List ℕ) → HeldOperators bytes → List Tree
 held_operators bytes h = h.0

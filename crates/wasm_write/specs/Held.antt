@@ -47,3 +47,21 @@ module _ (shape : Shape) (passes : sound (Shape.many shape) ≡ true) (count : �
 
 unfoldable pub held_rows : (shape : Shape) (count : ℕ) (bytes : List ℕ) → Held shape count bytes → List Tree
 held_rows shape count bytes h = h.0
+
+-- ---- rows without their number
+
+-- rows of a shape one behind another, without their number, whose normal spelling these bytes are
+abbrev pub HeldMany : Shape → List ℕ → Type 0
+HeldMany shape bytes = (rows : List Tree) × ∥ AreHeld shape (length rows) bytes rows ∥₁
+
+module _ (shape : Shape) (passes : sound (Shape.many shape) ≡ true) (bytes : List ℕ) where
+  pub HeldMany-one : (p q : HeldMany shape bytes) → p.0 ≡ q.0
+  HeldMany-one p q =
+      ∥∥₁_elim p.1 (Coded-set trees_code p.0 q.0) (λ r.
+      ∥∥₁_elim q.1 (Coded-set trees_code p.0 q.0) (λ s. rows_are_one passes r s))
+
+  pub HeldMany-prop : IsProp (HeldMany shape bytes)
+  HeldMany-prop p q = Σ_prop_path (λ rows. ∥∥₁_prop) (HeldMany-one p q)
+
+unfoldable pub held_many : (shape : Shape) (bytes : List ℕ) → HeldMany shape bytes → List Tree
+held_many shape bytes h = h.0

@@ -11,7 +11,8 @@ ghost use Rattle.wasm_shapes.specs.Namings.{module_name_tree, names_tree, raw_na
 ghost use Rattle.wasm_shapes.proofs.Begins.{row_at};
 ghost use Rattle.wasm_write.specs.Bodies.{with_row};
 ghost use Rattle.wasm_write.specs.Faults.{IfTooLarge};
-ghost use Rattle.wasm_write.specs.Names.{HeldMany, HeldMany-prop, PassesCeiling, name_section_tree, NamesSpell, behind, HasSubsection, GainsSubsection};
+ghost use Rattle.wasm_write.specs.Held.{HeldMany, HeldMany-prop};
+ghost use Rattle.wasm_write.specs.Names.{PassesCeiling, name_section_tree, NamesSpell, behind, HasSubsection, GainsSubsection};
 
 use crate::fault::WriteFault;
 use crate::fields::write_behind;
@@ -37,7 +38,7 @@ pub struct NameSection {
 impl Model for NameSection {
     ghost use Rattle.wasm_shapes.specs.Module.{name_subsection};
     ghost use Rattle.wasm_write.specs.Bodies.{CodeRows, code_rows_code};
-    ghost use Rattle.wasm_write.specs.Names.{held_many};
+    ghost use Rattle.wasm_write.specs.Held.{held_many};
 
     ghost Value = { CodeRows };
 
