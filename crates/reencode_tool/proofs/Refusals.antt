@@ -13,7 +13,8 @@ use Rattle.wasm_shapes.specs.Rows.{rows_then}
 use Rattle.wasm_shapes.specs.Module.{core_header, section, sections, frame, alsos, CoreReading, NoCoreReading, FaultAt}
 use Rattle.wasm_shapes.proofs.Fronts.{nullable_sound}
 use Rattle.wasm_read.specs.Operations.{frame_row}
-use Rattle.wasm_read.specs.Frames.{numbered_frame}
+use Rattle.wasm_read.specs.Frames.{numbered_frame, custom_frame}
+use Rattle.wasm_read.specs.Subsections.{subsection_frame, subsection_frame_tree}
 use Rattle.wasm_read.specs.Reading.{Standing}
 use Rattle.reencode_hooks.specs.declared.asked.Unmapped.{Unmapped}
 use Rattle.reencode_hooks.specs.declared.error.Error.{Error}
@@ -21,9 +22,10 @@ use Rattle.reencode_hooks.specs.declared.error.Error.TheVariants.{TooLarge}
 use Rattle.reencode_hooks.specs.Renamings.{Renaming, renamer_next}
 use Rattle.reencode_hooks.specs.Run.{Step, accepted, refused}
 use Rattle.reencode_hooks.specs.Walk.{walk}
-use Rattle.reencode_core.specs.Rows.{AcceptsRows, AcceptedHooks, TooMany, StopsOperators, StopsBody, RefusesWhole, RefusesInside, StopsAtRow}
+use Rattle.reencode_core.specs.Rows.{AcceptsRows, AcceptedHooks, TooMany, StopsEach, StopsBody, RefusesWhole, RefusesInside, StopsAtRow}
 use Rattle.reencode_core.specs.Sections.{StopsSection}
-use Rattle.reencode_core.specs.Core.{AcceptsSections, RefusedIn, StopsInside, BeforeFault}
+use Rattle.reencode_core.specs.Names.{StopsNames, StopsInNames, RefusesSubsection, RefusesEntry, contents_standing}
+use Rattle.reencode_core.specs.Core.{AcceptsSections, RefusedIn, StopsInside, StopsThere, BeforeFault}
 use Rattle.reencode_tool.specs.Reencoded.{asks}
 
 -- ---- lengths
@@ -53,6 +55,28 @@ numbered {n} {x} {left} {body} p =
     let inner : length r.1 ≤ length q.1 = second_shorter r.0 r.1 r.2 in
     let whole : length p.text ≤ length x = begun p in
     omega (arith, ap length r.4)
+
+-- and that of a subsection's frame
+subsection_framed : {n : ℕ} {x left body : List ℕ} (p : Begins subsection_frame x (subsection_frame_tree n body) left) → length body ≤ length x
+subsection_framed {n} {x} {left} {body} p =
+    let q = p.spells.spelled in
+    let r = q.4 in
+    let outer : length q.1 ≤ length p.text = second_shorter q.0 q.1 q.2 in
+    let inner : length r.1 ≤ length q.1 = second_shorter r.0 r.1 r.2 in
+    let whole : length p.text ≤ length x = begun p in
+    omega (arith, ap length r.4)
+
+-- and the contents of a custom section
+custom : {x left name contents : List ℕ} (p : Begins frame x (custom_frame name contents) left) → length contents ≤ length x
+custom {x} {left} {name} {contents} p =
+    let q = p.spells.spelled in
+    let r = q.4 in
+    let u = r.4 in
+    let outer : length q.1 ≤ length p.text = second_shorter q.0 q.1 q.2 in
+    let inner : length r.1 ≤ length q.1 = second_shorter r.0 r.1 r.2 in
+    let within : length u.1 ≤ length r.1 = second_shorter u.0 u.1 u.2 in
+    let whole : length p.text ≤ length x = begun p in
+    omega (arith, ap length u.4)
 
 -- ---- the bytes have a reading, or a fault
 
@@ -137,14 +161,14 @@ module _ {P : Renaming → Type 0} {Q : ℕ → List ℕ → Error Unmapped → 
 
   -- ---- one section
 
-  operators_told : {c : ℕ} {start : List ℕ} {s m : Renaming} {e : Error Unmapped} → P s → StopsOperators asks c start s e m → Q c start e
-  operators_told {c} b h =
-      let there = tells.only c h.operator h.begins.text (rows_state c h.state h.read h.made b h.accepts) h.begins.spells.spelled h.refuses in
+  each_told : {c : ℕ} {item : Shape} {start : List ℕ} {s m : Renaming} {e : Error Unmapped} → P s → StopsEach asks c item start s e m → Q c start e
+  each_told {c} b h =
+      let there = tells.only c h.next h.begins.text (rows_state c h.state h.read h.made b h.accepts) h.begins.spells.spelled h.refuses in
       tells.larger (second_shorter h.before.text h.rest h.before.stands) (tells.larger (begun h.begins) there)
 
   body_told : (c : ℕ) (bytes : List ℕ) (s m : Renaming) (e : Error Unmapped) → P s → StopsBody asks c bytes s e m → Q c bytes e
   body_told c bytes s m e b (inl p) = tells.larger (begun p.2) (tells.only c p.0 p.2.text b p.2.spells.spelled p.3)
-  body_told c bytes s m e b (inr p) = tells.larger (second_shorter p.4.text p.1 p.4.reads) (operators_told (tells.kept c p.0 b p.5) p.6)
+  body_told c bytes s m e b (inr p) = tells.larger (second_shorter p.4.text p.1 p.4.reads) (each_told (tells.kept c p.0 b p.5) p.6)
 
   no_room : (e : Error Unmapped) (n : ℕ) → TooMany e n → n + 1 < 2 ^ 32 → ⊥
   no_room (TooLarge size) n h l = let is : size ≡ n + 1 = h.0 in let above : 2 ^ 32 - 1 < size = h.1 in omega arith
@@ -178,6 +202,22 @@ module _ {P : Renaming → Type 0} {Q : ℕ → List ℕ → Error Unmapped → 
       let counted = h.counted.counted in
       tells.larger (second_shorter counted.0 h.reader.rest counted.2) (row_told b counted.1.fits h.stops)
 
+  -- ---- a name section
+
+  entry_told : {c : ℕ} {bytes : List ℕ} {s m : Renaming} {e : Error Unmapped} → P s → RefusesEntry asks bytes c s e m → Q c bytes e
+  entry_told b h = tells.larger (subsection_framed h.begins) (tells.larger (second_shorter h.counted.0 h.start h.counted.2) (each_told b h.stops))
+
+  names_told : {c : ℕ} {contents : List ℕ} {s m : Renaming} {e : Error Unmapped} → P s → StopsNames asks c (contents_standing contents) s e m → Q c contents e
+  names_told {c} {contents} {s} {m} {e} b h =
+      tells.larger (second_shorter h.front.text h.rest h.front.stands) (go (rows_state c h.state h.read h.made b h.accepts) h.refuses)
+    where
+      go : P h.state → RefusesSubsection asks c h.rest h.state e m ⊎ RefusesEntry asks h.rest c h.state e m → Q c h.rest e
+      go state (inl w) = tells.larger (begun w.begins) (tells.only c w.tree w.begins.text state w.begins.spells.spelled w.refusal)
+      go state (inr w) = entry_told state w
+
+  in_names_told : {c : ℕ} {bytes : List ℕ} {s m : Renaming} {e : Error Unmapped} → P s → StopsInNames asks c bytes s e m → Q c bytes e
+  in_names_told b h = tells.larger (custom h.framed) (names_told b h.stops)
+
   -- ---- the section in fault
 
   stops_told : {c : ℕ} {bytes : List ℕ} {last : Option SectionId} {s m : Renaming} {e : Error Unmapped} → P s → StopsInside asks c bytes last s e m → Q c bytes e
@@ -186,6 +226,10 @@ module _ {P : Renaming → Type 0} {Q : ℕ → List ℕ → Error Unmapped → 
       go : (asks s (Section last (Some h.id)) ≡ refused e m) ⊎ ((n : Renaming) × (asks s (Section last (Some h.id)) ≡ accepted 0 n) × StopsSection asks c h.id h.body n e m) → Q c h.body e
       go (inl w) = absurd (never_asked s m e last (Some h.id) w)
       go (inr w) = section_told c h.id h.body w.0 m e (asked_state last (Some h.id) b w.1) w.2
+
+  there_told : {c : ℕ} {bytes : List ℕ} {last : Option SectionId} {s m : Renaming} {e : Error Unmapped} → P s → StopsThere asks c bytes last s e m → Q c bytes e
+  there_told b (inl h) = stops_told b h
+  there_told b (inr h) = in_names_told b h
 
   -- ---- the bytes
 
@@ -197,11 +241,11 @@ module _ {P : Renaming → Type 0} {Q : ℕ → List ℕ → Error Unmapped → 
       behind = second_shorter core_header (f.front.text ++ rest) f.front.stands
 
       go : RefusedIn asks c s before e m
-          ⊎ ((made : List Tree) × (last : Option SectionId) × (n : Renaming) × AcceptsSections asks c s before made last n × StopsInside asks c rest last n e m) → Q c bytes e
+          ⊎ ((made : List Tree) × (last : Option SectionId) × (n : Renaming) × AcceptsSections asks c s before made last n × StopsThere asks c rest last n e m) → Q c bytes e
       go (inl r) =
           tells.larger behind (tells.larger (first_shorter f.front.text rest refl)
           (tells.only c (alsos before Tree.finish) f.front.text b f.front.spells.spelled (r Tree.finish)))
-      go (inr r) = tells.larger behind (tells.larger (second_shorter f.front.text rest refl) (stops_told (sections_state c r.2 before r.0 r.1 b r.3) r.4))
+      go (inr r) = tells.larger behind (tells.larger (second_shorter f.front.text rest refl) (there_told (sections_state c r.2 before r.0 r.1 b r.3) r.4))
 
   -- a refusal is not another than of a size above the ceiling, in bytes that are longer than it
   pub refusal_is_told : {c : ℕ} {bytes : List ℕ} {s m : Renaming} {e : Error Unmapped} → P s → BeforeFault asks c bytes s m e →
