@@ -26,14 +26,14 @@ fn subsections(rt: HostRuntime) -> Result<(), Fault> {
     let mut reader = r::NameSectionReader::new(&CONTENTS)?;
     let mut kinds = 0;
     while let Some(name) = reader.next_row(alloc)? {
-        kinds = kinds * 10
-            + match name {
-                r::Name::Module { name } if name == "m" => 1,
-                r::Name::Function(_) => 2,
-                r::Name::Local(_) => 3,
-                r::Name::Unknown { id: 12, contents } if contents == [0xffu8].as_slice() => 4,
-                _ => 9,
-            };
+        let kind = match name {
+            r::Name::Module { name } if name == "m" => 1,
+            r::Name::Function(_) => 2,
+            r::Name::Local(_) => 3,
+            r::Name::Unknown { id: 12, contents } if contents == [0xffu8].as_slice() => 4,
+            _ => 9,
+        };
+        kinds = u32::wrapping_add(u32::wrapping_mul(kinds, 10), kind);
     }
     assert_eq!(rt; kinds, 1234);
     assert_eq!(rt; reader.place(), 21);
