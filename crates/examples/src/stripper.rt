@@ -7,6 +7,7 @@ ghost use Rattle.std.specs.Prelude.{◌≡◌, List, OnOk, OnErr, IfOk};
 ghost use Rattle.wasm_shapes.specs.Tree.{normal};
 ghost use Rattle.wasm_read.specs.Types.{custom_tree};
 ghost use Rattle.wasm_write.specs.Sections.{SectionRow, section_row, with_section, module_bytes};
+ghost use Rattle.reencode_core.specs.Sections.{KeepsModule};
 ghost use Rattle.examples.specs.Stripper.{IsLeftOut};
 
 use reencode_core::Reencode;
@@ -103,6 +104,7 @@ impl Reencode for Stripper {
         module: &mut w::Module,
         section: r::CustomSection<'_>,
     ) -> Result<(), Error<Infallible>>
+        ensures kept { KeepsModule «module».old «module».new }
         ensures left_out { IsLeftOut self.old.all section.entry.name.now
             → IfOk result (λ _. «module».new ≡ «module».old) }
         ensures added { ¬ IsLeftOut self.old.all section.entry.name.now

@@ -18,9 +18,9 @@ use Rattle.reencode_hooks.specs.Errors.{error_of_write}
 use Rattle.reencode_hooks.specs.Run.{LeavesVisited, NeverWants, Visited, accepted, refused}
 use Rattle.reencode_hooks.specs.Walk.{walk}
 use Rattle.reencode_items.proofs.Leaving.{accepted_visited, none_visited, visited_left}
-use Rattle.reencode_core.specs.Errors.{IfParse, IfRefused}
+use Rattle.reencode_core.specs.Errors.{IfParse}
 use Rattle.reencode_core.specs.Leaves.{LeavesReading}
-use Rattle.reencode_core.specs.Names.{GivesCustom, GivesNames, StopsCustom, SubsectionsFault, SubsectionsLeft, contents_standing}
+use Rattle.reencode_core.specs.Names.{GivesCustom, GivesNames, SubsectionsLeft, contents_standing}
 use Rattle.reencode_core.specs.Rows.{Asks}
 use Rattle.reencode_core.specs.Sections.{AddsMapped, GivesAdded, KeepsModule}
 use Rattle.reencode_core.proofs.InFrame.{framed, framed_fits, framed_large, framed_refused}

@@ -1,5 +1,5 @@
 -- A subsection of a name section, as it is mapped and added.
-use Rattle.std.proofs.Common.{◌≡◌, ◌≢◌, ◌⊎◌, ℕ, ◌≤◌, ◌<◌, ◌^◌, ◌-◌, List, [], ◌∷◌, ◌++◌, length, map, Result, Ok, Err, IfOk, IfErr, OnOk, OnErr, IsErrAnd, IsTrue, refl, sym, ap, ◌∙◌, subst, inl, inr, arith}
+use Rattle.std.proofs.Common.{◌≡◌, ◌≢◌, ◌⊎◌, ℕ, ◌≤◌, ◌<◌, ◌^◌, ◌-◌, List, [], ◌∷◌, ◌++◌, length, map, Result, Ok, Err, IfErr, OnOk, OnErr, IsErrAnd, IsTrue, refl, sym, ap, ◌∙◌, subst, inl, inr, arith}
 use Rattle.std.proofs.Math.Seq.{take-append_seam}
 use Rattle.wasm_shapes.specs.declared.Space.{Space}
 use Rattle.wasm_shapes.specs.declared.Visit.TheVariants.{Index}
@@ -27,7 +27,7 @@ use Rattle.reencode_hooks.specs.Run.{Gives, LeavesVisited, NeverWants, Visited, 
 use Rattle.reencode_hooks.specs.Walk.{walk}
 use Rattle.reencode_items.proofs.Leaving.{accepted_visited, visited_left}
 use Rattle.reencode_core.specs.Bodies.{KeepsCode}
-use Rattle.reencode_core.specs.Names.{GivesNaming, GivesSubsection, MapRow, StopsContent, StopsMap, TooLargeNames, of_writer}
+use Rattle.reencode_core.specs.Names.{GivesSubsection, MapRow, StopsContent, StopsMap, TooLargeNames, of_writer}
 use Rattle.reencode_core.specs.NameMaps.{MapsEntries}
 use Rattle.reencode_core.specs.Rows.{Asks}
 use Rattle.reencode_core.proofs.BodyLoop.{keeps_code}

@@ -1,25 +1,23 @@
 -- The loop over the subsections of a name section.
-use Rattle.std.proofs.Common.{◌≡◌, ◌≢◌, ◌⊎◌, ℕ, ◌-◌, ◌<◌, ◌+◌, ◌^◌, List, [], ◌∷◌, ◌++◌, length, length-append, Contains, Result, Ok, Err, IsErrAnd, IsTrue, refl, sym, ap, ◌∙◌, subst, inl, inr, arith}
+use Rattle.std.proofs.Common.{◌≡◌, ◌≢◌, ◌⊎◌, ℕ, ◌-◌, ◌<◌, ◌+◌, ◌^◌, List, [], ◌∷◌, ◌++◌, length, length-append, Result, Ok, Err, IsErrAnd, IsTrue, refl, sym, ap, ◌∙◌, subst, inl, inr, arith}
 use Rattle.std.proofs.lemmas.List.Elements.{Contains-append_left}
 use Rattle.wasm_leb.specs.declared.fault.Fault.{Fault}
 use Rattle.wasm_leb.specs.declared.fault.Fault.TheVariants as fault
 use Rattle.wasm_shapes.specs.Tree.{Tree, visits}
-use Rattle.wasm_shapes.specs.Shape.{Shape}
 use Rattle.wasm_shapes.specs.Spells.{Is, Spelled, Spells}
 use Rattle.wasm_shapes.specs.Place.{Begins, BeginsNone}
 use Rattle.wasm_shapes.specs.Module.{name_subsection, names}
-use Rattle.wasm_shapes.specs.Types.{rows_tree}
 use Rattle.wasm_shapes.proofs.Begins.{none_at_end}
 use Rattle.wasm_read.specs.declared.types.Name.{Name}
 use Rattle.wasm_read.specs.declared.types.Name.TheVariants as name
-use Rattle.wasm_read.specs.Names.{NamesStanding, names_place, MapStanding, Due, whole_map}
+use Rattle.wasm_read.specs.Names.{NamesStanding, names_place, MapStanding, Due}
 use Rattle.wasm_read.specs.Reading.{ReadsNone}
 use Rattle.wasm_read.specs.Subsections.{Content, content_of, Holds, IsRaw, NameMissing, NameRead, ReadsName, subsection_frame, subsection_frame_tree}
 use Rattle.wasm_read.proofs.Subsections.{none_subsection, reads_subsection, subsection_there}
-use Rattle.wasm_write.specs.Bodies.{CodeRows, with_row}
+use Rattle.wasm_write.specs.Bodies.{CodeRows}
 use Rattle.wasm_write.specs.Counts.{counts, IsTooLarge}
 use Rattle.reencode_hooks.specs.declared.error.Error.{Error}
-use Rattle.reencode_hooks.specs.declared.error.Error.TheVariants.{CanonicalizedHeapTypeReference, InvalidConstExpr, InvalidCodeSectionSize, UnexpectedNonCoreModuleSection, UnexpectedNonComponentSection, UnsupportedCoreTypeInComponent, ParseError, UserError, TooLarge, NoMemory}
+use Rattle.reencode_hooks.specs.declared.error.Error.TheVariants.{ParseError, UserError, TooLarge, NoMemory}
 use Rattle.reencode_hooks.specs.declared.indices.ReencodeIndices.{Ghosts}
 use Rattle.reencode_hooks.specs.Errors.{error_of_fault}
 use Rattle.reencode_hooks.specs.Run.{accepted, refused, Visited}
@@ -32,9 +30,9 @@ use Rattle.reencode_core.specs.Names.{GivesNames, GivesSubsection, MapRow, Refus
 use Rattle.reencode_core.specs.Rows.{Asks, Further}
 use Rattle.reencode_core.proofs.Counts.{further_none, only_rows}
 use Rattle.reencode_core.proofs.Leaving.{Leaves, behind_visited}
-use Rattle.reencode_core.proofs.ManyLoop.{ManyDone, first_of_many, many_begun, many_more, many_read, many_refused, many_stuck, many_walked}
+use Rattle.reencode_core.proofs.ManyLoop.{ManyDone, many_begun, many_more, many_read, many_refused, many_stuck, many_walked}
 use Rattle.reencode_core.proofs.OneRow.{answers, asks}
-use Rattle.reencode_core.proofs.Usual.{IfParse-map, IfRefused-map, fault_unrefused, unless_wanting}
+use Rattle.reencode_core.proofs.Usual.{IfParse-map, fault_unrefused}
 
 -- ---- the clauses
 

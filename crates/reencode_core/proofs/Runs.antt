@@ -1,5 +1,5 @@
 -- Runs of operators that stay as they stand, and the body that they are a part of.
-use Rattle.std.proofs.Common.{◌≡◌, ◌≢◌, ◌<◌, ◌≤◌, ◌+◌, ◌-◌, ℕ, List, [], ◌∷◌, ◌++◌, length, length-append, true, Result, Ok, Err, IsErrAnd, IsTrue, refl, sym, ap, ap₂, ◌∙◌, drop, take, append_assoc, subst, arith}
+use Rattle.std.proofs.Common.{◌≡◌, ◌<◌, ◌+◌, ◌-◌, ℕ, List, [], ◌∷◌, ◌++◌, length, length-append, true, Result, Ok, Err, IsErrAnd, IsTrue, refl, sym, ap, ap₂, ◌∙◌, drop, take, append_assoc, subst, arith}
 use Rattle.std.proofs.Math.Seq.{drop-append_seam, take-append_seam}
 use Rattle.std.proofs.lemmas.List.{drop-drop}
 use Rattle.wasm_shapes.specs.declared.Opcode.{Opcode}
@@ -26,11 +26,11 @@ use Rattle.reencode_hooks.specs.Run.{NeverWants, Step, accepted, refused, and_th
 use Rattle.reencode_hooks.specs.Walk.{walk}
 use Rattle.reencode_items.proofs.Leaving.{accepted_visited, never_wants, refused_visited}
 use Rattle.reencode_core.specs.Leaves.{BodyOf}
-use Rattle.reencode_core.specs.Rows.{Asks, AcceptsRows, locals, onto_rows}
+use Rattle.reencode_core.specs.Rows.{Asks, locals, onto_rows}
 use Rattle.reencode_core.specs.declared.direct.passing.Fresh.{Fresh}
 use Rattle.reencode_core.specs.declared.direct.passing.Next.{Next}
 use Rattle.reencode_core.specs.declared.direct.passing.Next.TheVariants as next
-use Rattle.reencode_core.specs.Direct.{IsWithin, KeepsOperator, KeepsOperators, MakesOperator, PassesNext, PassesRun, RefusesOperator, Run, StopsRun, imm_of}
+use Rattle.reencode_core.specs.Direct.{IsWithin, KeepsOperator, KeepsOperators, PassesNext, PassesRun, RefusesOperator, Run, StopsRun, imm_of}
 use Rattle.reencode_core.proofs.BodyLoop.{ManyLeft, OperatorsDone, keeps_code, many_first, operators_more}
 use Rattle.reencode_core.proofs.EachBody.{BodyClauses, LocalsClauses, OperatorsKept}
 use Rattle.reencode_core.proofs.Group.{rows_then-both}

@@ -1,5 +1,5 @@
 -- What the calls that map name sections, custom sections and sections of other ids give.
-use Rattle.std.specs.Prelude.{◌≡◌, ◌≢◌, ◌-◌, ◌⊎◌, ◌<◌, ℕ, List, [], ◌∷◌, ◌++◌, length, get_or, Result, Ok, Err, IfOk, IfErr}
+use Rattle.std.specs.Prelude.{◌≡◌, ◌≢◌, ◌-◌, ◌⊎◌, ◌<◌, ℕ, List, [], length, get_or, Result, Ok, Err, IfOk, IfErr}
 use Rattle.wasm_leb.specs.Place.{BeginsNumber}
 use Rattle.wasm_shapes.specs.Shape.{Shape}
 use Rattle.wasm_shapes.specs.Tree.{Tree}
@@ -14,7 +14,7 @@ use Rattle.wasm_read.specs.Names.{MapStanding, Due}
 use Rattle.wasm_write.specs.declared.fault.WriteFault.{WriteFault}
 use Rattle.wasm_write.specs.Bodies.{CodeRows, with_row}
 use Rattle.wasm_write.specs.Counts.{counts, IsTooLarge}
-use Rattle.wasm_write.specs.Sections.{Sections, section_row, section_bytes, with_section}
+use Rattle.wasm_write.specs.Sections.{Sections}
 use Rattle.reencode_hooks.specs.declared.error.Error.{Error}
 use Rattle.reencode_hooks.specs.declared.error.Error.TheVariants.{TooLarge, NoMemory}
 use Rattle.reencode_hooks.specs.Errors.{error_of_write}

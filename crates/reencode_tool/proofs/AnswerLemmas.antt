@@ -1,13 +1,13 @@
 -- What a status says of how the program ended.
-use Rattle.std.proofs.Common.{◌≡◌, ◌≢◌, ℕ, ◌<◌, ◌≤◌, ◌⊎◌, inl, inr, true, Bool, Option, Some, None, List, [], ◌∷◌, ◌++◌, codes, decimal, length, refl, sym, ap, ◌∙◌, subst, arith, lit<}
+use Rattle.std.proofs.Common.{◌≡◌, ◌≢◌, ℕ, inl, inr, true, Bool, Option, Some, None, List, [], ◌∷◌, ◌++◌, codes, refl, sym, ap, ◌∙◌, subst, arith, lit<}
 use Rattle.std.specs.Prelude.{Contains}
 use Rattle.reencode_hooks.specs.declared.asked.Unmapped.{Unmapped}
-use Rattle.reencode_hooks.specs.Renamings.{Renaming, no_renaming}
+use Rattle.reencode_hooks.specs.Renamings.{Renaming}
 use Rattle.reencode_tool.specs.declared.answer.Answer.{Answer}
 use Rattle.reencode_tool.specs.declared.answer.Answer.TheVariants.{Printed, NoMemory, Usage, ReadFault, WriteFault, ParseError, Refused, CodeSectionSize, NonCoreModule, NonComponent, TooLarge, BadRenaming, ShelfFault, TooLong, NotHexadecimal}
-use Rattle.reencode_tool.specs.Answer.{Ends, ForJob, HasNoDigits, IsBadFile, IsTooLong, Made, MadeFor, Outside, StopsWith, report_of, PlainFor, RefusesBytes, RefusesRenaming, Stops, StopsAtBytes, StopsAtReencoding, StopsFor, Texts, Uses, message, most_bytes, status_of, text_of}
-use Rattle.reencode_tool.specs.Outside.{Rose, TookMore, GaveAll, TookFront, WhereTold, followed, before, HasText}
-use Rattle.reencode_tool.specs.Hexadecimal.{binary, bytes_of}
+use Rattle.reencode_tool.specs.Answer.{Ends, ForJob, HasNoDigits, IsBadFile, IsTooLong, MadeFor, Outside, StopsWith, report_of, PlainFor, RefusesBytes, RefusesRenaming, StopsAtReencoding, StopsFor, Texts, Uses, message, most_bytes, status_of, text_of}
+use Rattle.reencode_tool.specs.Outside.{Rose, GaveAll, TookFront, WhereTold, followed}
+use Rattle.reencode_tool.specs.Hexadecimal.{binary}
 use Rattle.reencode_tool.specs.Reencoded.{IsReencoded}
 use Rattle.reencode_tool.specs.Words.{Command, plain, rename, generate, Job}
 use Rattle.reencode_tool.proofs.Outcomes.{plain_of}

@@ -14,8 +14,8 @@ use Rattle.reencode_hooks.specs.declared.asked.Unmapped.{Unmapped}
 use Rattle.reencode_hooks.specs.declared.error.Error.{Error}
 use Rattle.reencode_hooks.specs.declared.error.Error.TheVariants.{TooLarge}
 use Rattle.wasm_shapes.specs.Types.{is_core}
-use Rattle.reencode_hooks.specs.Renamings.{Renaming, Entries, no_renaming, entries_in, entry_of, if_index, or_itself, renamed, space_number, renamer_reply, renamer_next}
-use Rattle.reencode_hooks.specs.Run.{Step, accepted, refused, ask, answered, run, answers}
+use Rattle.reencode_hooks.specs.Renamings.{Renaming, Entries, no_renaming, entries_in, entry_of, if_index, or_itself, renamed, space_number, renamer_next}
+use Rattle.reencode_hooks.specs.Run.{Step, accepted, refused, answered, run, answers}
 use Rattle.reencode_hooks.specs.Walk.{walk}
 use Rattle.reencode_hooks.specs.Moments as moment
 use Rattle.reencode_hooks.proofs.Walks.{walk_is_run, walk_stops}

@@ -1,5 +1,5 @@
 -- Numbers as texts.
-use Rattle.std.proofs.Common.{◌≡◌, ℕ, ◌^◌, ◌<◌, Bool, true, false, nat_lt, nat_eq, ltb-true, List, Some, None, Result, Ok, refl, sym, ap, ◌∙◌, arith, decimal, true≢false}
+use Rattle.std.proofs.Common.{◌≡◌, ℕ, ◌^◌, ◌<◌, Bool, true, false, nat_lt, nat_eq, ltb-true, List, Some, None, Result, Ok, refl, sym, ap, ◌∙◌, arith, decimal}
 use Rattle.std.specs.Cmp.Lexicographic.{pointwise, bytes_decides}
 use Rattle.std.proofs.lemmas.Bool.Decides.{nat_tests}
 use Rattle.std.specs.Str.Parse.{digits_value, ParsesUnsigned}

@@ -1,12 +1,11 @@
 -- What the re-encoding under a renaming makes of some bytes.
-use Rattle.std.proofs.Common.{◌≡◌, ◌≢◌, ℕ, ◌-◌, ◌^◌, ◌<◌, ◌≤◌, ◌⊎◌, inl, inr, List, [], ◌∷◌, ◌++◌, length, map, replicate, Bool, true, false, nat_lt, ltb-true, ltb-false, Option, Some, None, Ok, Err, refl, sym, ap, ◌∙◌, subst, arith}
+use Rattle.std.proofs.Common.{◌≡◌, ◌≢◌, ℕ, ◌<◌, ◌≤◌, ◌⊎◌, inl, inr, List, [], ◌∷◌, ◌++◌, length, map, Bool, true, false, nat_lt, ltb-true, ltb-false, Option, Some, None, Ok, Err, refl, sym, ap, ◌∙◌, subst, arith}
 use mathlib.Core.Bool.{false≢true}
 use Rattle.std.proofs.lemmas.List.{length-set}
 use Rattle.wasm_shapes.specs.declared.Visit.{Visit}
 use Rattle.wasm_shapes.specs.declared.Visit.TheVariants.{Section}
 use Rattle.wasm_shapes.specs.Tree.{Tree, fill, normal, visits}
 use Rattle.wasm_shapes.specs.Fits.{Fits}
-use Rattle.wasm_shapes.specs.Own.{asked_index, own}
 use Rattle.wasm_shapes.specs.Types.{is_core}
 use Rattle.wasm_shapes.specs.Module.{core_header, component_header, core_tree, CoreReading}
 use Rattle.wasm_shapes.proofs.Laws.{module_headed}
@@ -16,18 +15,16 @@ use Rattle.reencode_hooks.specs.declared.error.Error.{Error}
 use Rattle.reencode_hooks.specs.declared.error.Error.TheVariants as error
 use Rattle.reencode_hooks.specs.Renamings.{Renaming, entry_of, no_renaming, renamed}
 use Rattle.reencode_hooks.specs.Rules.{by_rule}
-use Rattle.reencode_hooks.specs.Run.{accepted, refused, run}
+use Rattle.reencode_hooks.specs.Run.{refused}
 use Rattle.reencode_hooks.specs.Walk.{walk}
 use Rattle.reencode_hooks.proofs.Walks.{walk_is_run, walk_refuses}
 use Rattle.reencode_core.specs.Core.{GivesBytes, FaultThere, CodeSizeThere, BeforeFault}
-use Rattle.reencode_core.specs.Rules.{Refuses}
 use Rattle.reencode_tool.specs.Counts.{counted, raised, visit_place}
 use Rattle.reencode_tool.specs.declared.answer.Answer.{Answer}
-use Rattle.reencode_tool.specs.declared.answer.Answer.TheVariants.{NoMemory}
 use Rattle.reencode_tool.specs.Plain.{IsPlain}
 use Rattle.reencode_tool.specs.Reencoded.{asks, IsReencoded, IsMade, IsRefused, IsRefusedAt, IsCodeSize, IsComponent, IsUnmapped, IsRefusal, IsTooLarge}
 use Rattle.reencode_tool.specs.Answer.{EndsAs, HasStatus}
-use Rattle.reencode_tool.proofs.Blank.{Blank, Large, blank_new, blank_next, blank_run, run_is, walk_blank, counts_after, only_large}
+use Rattle.reencode_tool.proofs.Blank.{Blank, Large, blank_new, blank_next, run_is, walk_blank, counts_after, only_large}
 use Rattle.reencode_tool.proofs.Renamers.{Like, Told, like_itself, like_next, ran, runs, stops, told_walk, walk_like}
 use Rattle.reencode_tool.proofs.Refusals.{Tells, refusal_is_told}
 

@@ -1,22 +1,22 @@
 -- Runs of a renamer: its answers are those of its entries, whatever it has counted.
-use Rattle.std.proofs.Common.{◌≡◌, ℕ, ◌<◌, ◌⊎◌, inl, inr, List, [], ◌∷◌, ◌++◌, map, length, Bool, true, false, Option, Some, None, Result, Ok, Err, refl, sym, ap, ap₂, ◌∙◌, subst}
+use Rattle.std.proofs.Common.{◌≡◌, ℕ, ◌<◌, List, [], ◌∷◌, ◌++◌, map, Bool, true, false, Option, Some, None, Result, Ok, Err, refl, sym, ap, ap₂, ◌∙◌, subst}
 use mathlib.Core.Bool.{false≢true}
 use Rattle.std.specs.Prelude.{◌&&◌}
 use Rattle.wasm_shapes.specs.declared.Space.{Space}
 use Rattle.wasm_shapes.specs.declared.Visit.{Visit}
 use Rattle.wasm_shapes.specs.declared.Visit.TheVariants.{Index, Outer, Section, Push, Pop}
-use Rattle.wasm_shapes.specs.Tree.{Tree, visits, fill}
+use Rattle.wasm_shapes.specs.Tree.{Tree, visits}
 use Rattle.wasm_shapes.specs.Spells.{Spelled}
 use Rattle.wasm_shapes.specs.Types.{is_core}
 use Rattle.reencode_hooks.specs.declared.asked.Unmapped.{Unmapped}
 use Rattle.reencode_hooks.specs.declared.error.Error.{Error}
 use Rattle.reencode_hooks.specs.declared.error.Error.TheVariants.{TooLarge, UserError}
-use Rattle.reencode_hooks.specs.Renamings.{Renaming, Entries, entry_of, if_index, or_itself, renamed, renamer_reply, renamer_next}
+use Rattle.reencode_hooks.specs.Renamings.{Renaming, Entries, entry_of, or_itself, renamed, renamer_reply, renamer_next}
 use Rattle.reencode_hooks.specs.Rules.{by_rule}
-use Rattle.reencode_hooks.specs.Run.{Step, accepted, refused, ask, and_then, answered, run, answers}
+use Rattle.reencode_hooks.specs.Run.{Step, accepted, refused, and_then, answered, run, answers}
 use Rattle.reencode_hooks.specs.Walk.{walk}
 use Rattle.reencode_hooks.specs.Moments as moment
-use Rattle.reencode_hooks.proofs.Walks.{walk_is_run, walk_stops, walk_refuses}
+use Rattle.reencode_hooks.proofs.Walks.{walk_is_run, walk_stops}
 use Rattle.reencode_hooks.proofs.Moments as moments
 use Rattle.reencode_core.specs.Rules.{Refuses}
 use Rattle.reencode_tool.specs.Reencoded.{IsUnmapped, asks}

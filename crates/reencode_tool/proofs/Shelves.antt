@@ -1,5 +1,5 @@
 -- Texts by name.
-use Rattle.std.proofs.Common.{◌≡◌, ℕ, ◌+◌, ◌<◌, List, length, map, drop, get_or, nat_eq, Bool, true, false, Some, refl, sym, ap, ◌∙◌, string_bytes}
+use Rattle.std.proofs.Common.{◌≡◌, ℕ, ◌+◌, ◌<◌, List, length, map, drop, get_or, nat_eq, true, false, Some, refl, sym, ap, ◌∙◌, string_bytes}
 use Rattle.std.proofs.lemmas.List.{drop_more}
 use Rattle.std.specs.Cmp.Lexicographic.{pointwise}
 use Rattle.reencode_tool.specs.declared.memory.Text.{Text}

@@ -1,5 +1,5 @@
 -- How the program ends.
-use Rattle.std.specs.Prelude.{◌≡◌, ◌≢◌, ℕ, ◌<◌, ◌≤◌, ◌==◌, ◌⊎◌, if◌then◌else◌, Bool, true, Option, Some, None, List, [], ◌∷◌, ◌++◌, codes, decimal, length}
+use Rattle.std.specs.Prelude.{◌≡◌, ℕ, ◌<◌, ◌≤◌, ◌==◌, ◌⊎◌, if◌then◌else◌, Bool, true, Option, Some, None, List, [], ◌++◌, codes, decimal, length}
 use Rattle.reencode_tool.specs.declared.answer.Answer.{Answer}
 use Rattle.reencode_tool.specs.declared.answer.Answer.TheVariants.{Printed, NoMemory, Usage, ReadFault, WriteFault, ParseError, Refused, CodeSectionSize, NonCoreModule, NonComponent, TooLarge, BadRenaming, ShelfFault, TooLong, NotHexadecimal}
 use Rattle.reencode_hooks.specs.declared.asked.Unmapped.{Unmapped}

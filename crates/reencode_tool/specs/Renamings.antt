@@ -1,5 +1,5 @@
 -- The renaming that a text says.
-use Rattle.std.specs.Prelude.{◌≡◌, ℕ, nat_eq, Bool, codes, List, [], ◌∷◌, Option, Some, None, option_map, option_and_then, if◌then◌else◌, IsUtf8}
+use Rattle.std.specs.Prelude.{◌≡◌, ℕ, nat_eq, codes, List, [], ◌∷◌, Option, Some, None, option_map, option_and_then, if◌then◌else◌, IsUtf8}
 use Rattle.std.specs.Cmp.Lexicographic.{pointwise}
 use Rattle.std.specs.Ordering.{nat_cmp}
 use Rattle.std.specs.BTreeMap.{insert_entry}

@@ -1,4 +1,4 @@
-use Rattle.reencode_core.proofs.NamesLoop.{further_on, names_begun, names_ended, names_on, names_refused, names_stuck, read_raw}
+use Rattle.reencode_core.proofs.NamesLoop.{names_begun, names_ended, names_on, names_refused, names_stuck}
 use Rattle.reencode_core.proofs.utils.custom_name_section.Goals as goal
 
 pub rows-init : goal.rows-init

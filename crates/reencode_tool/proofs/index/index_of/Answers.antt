@@ -1,4 +1,4 @@
-use Rattle.std.proofs.Common.{◌≡◌, ◌^◌, nat_eq, Bool, true, false, ℕ, Result, Ok, sym, ap, ◌∙◌, decimal, true≢false, rules}
+use Rattle.std.proofs.Common.{◌≡◌, nat_eq, false, sym, ap, ◌∙◌, decimal, true≢false, rules}
 use Rattle.std.specs.Cmp.Lexicographic.{pointwise, bytes_decides}
 use Rattle.reencode_tool.proofs.Numerals.{is_index, no_index, reads_digits}
 use Rattle.reencode_tool.proofs.index.index_of.Goals as goal

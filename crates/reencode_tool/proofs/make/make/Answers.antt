@@ -1,4 +1,4 @@
-use Rattle.std.proofs.Common.{◌≡◌, ◌++◌, ℕ, List, length, inl, inr, rules, ap, ◌∙◌, subst}
+use Rattle.std.proofs.Common.{◌≡◌, ℕ, List, length, inl, inr, rules, ap, ◌∙◌, subst}
 use Rattle.reencode_tool.specs.Answer.{report_by}
 use Rattle.reencode_tool.specs.Reencoded.{IsMade, IsReencoded, IsRefused}
 use Rattle.reencode_tool.specs.Words.{command_seen}

@@ -1,5 +1,4 @@
-use Rattle.std.proofs.Common.{List, ℕ, ◌≡◌, length, Ok, Err, refl, sym, subst, ap}
-use Rattle.reencode_core.specs.Core.{GivesBytes}
+use Rattle.std.proofs.Common.{List, ℕ, refl, sym, subst}
 use Rattle.reencode_tool.specs.Reencoded.{IsReencoded}
 use Rattle.reencode_tool.proofs.Outcomes.{given, given_counts, has_status, made_as, refused_as, why_given}
 use Rattle.reencode_tool.proofs.reencoded.reencoded.Goals as goal

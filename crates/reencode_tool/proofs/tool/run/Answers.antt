@@ -1,4 +1,4 @@
-use Rattle.std.proofs.Common.{◌≡◌, ap, ◌∙◌, sym}
+use Rattle.std.proofs.Common.{◌≡◌, ap, ◌∙◌}
 use Rattle.reencode_tool.specs.declared.answer.Answer.TheVariants.{Printed, ParseError, Refused, TooLarge}
 use Rattle.reencode_tool.specs.Answer.{status_of}
 use Rattle.reencode_tool.proofs.AnswerLemmas as answers

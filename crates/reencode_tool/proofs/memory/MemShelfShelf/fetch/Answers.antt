@@ -1,4 +1,4 @@
-use Rattle.std.proofs.Common.{◌≡◌, true, false, inl, inr, sym, ◌∙◌, rules, true≢false, Bool}
+use Rattle.std.proofs.Common.{◌≡◌, true, false, inl, sym, ◌∙◌, rules, true≢false}
 use Rattle.reencode_tool.specs.Memory.{fails_next}
 use Rattle.reencode_tool.proofs.memory.MemShelfShelf.fetch.Goals as goal
 

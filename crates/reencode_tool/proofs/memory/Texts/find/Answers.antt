@@ -1,4 +1,4 @@
-use Rattle.std.proofs.Common.{◌≡◌, nat_eq, Bool, true, false, sym, ap, ◌∙◌, Some, List, ℕ, map, rules}
+use Rattle.std.proofs.Common.{◌≡◌, nat_eq, true, false, ap, ◌∙◌, Some, List, map, rules}
 use Rattle.std.specs.Cmp.Lexicographic.{pointwise}
 use Rattle.reencode_tool.proofs.Shelves.{found, named, passed}
 use Rattle.reencode_tool.specs.Memory.{Named, text_of}
