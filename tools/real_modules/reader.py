@@ -144,16 +144,21 @@ class Reader:
         self.at += count
         return self.data[self.at - count:self.at]
 
-    def number(self, bits=32, what="number"):
-        start, value, shift = self.at, 0, 0
+    def leb(self, bits):
+        """The bits of a number of at most so many, how many they are, and its last byte."""
+        value, shift = 0, 0
         while True:
             byte = self.byte()
             value |= (byte & 127) << shift
             shift += 7
             if byte < 128:
-                break
+                return value, shift, byte
             if shift >= bits:
                 raise Fault("a number of too many bytes")
+
+    def number(self, bits=32, what="number"):
+        start = self.at
+        value, shift, byte = self.leb(bits)
         if value >> bits:
             raise Fault("a number that is too great")
         if self.at - start > 1 and self.data[self.at - 1] == 0:
@@ -161,15 +166,8 @@ class Reader:
         return value
 
     def signed(self, bits, what="constant"):
-        start, value, shift = self.at, 0, 0
-        while True:
-            byte = self.byte()
-            value |= (byte & 127) << shift
-            shift += 7
-            if byte < 128:
-                break
-            if shift >= bits:
-                raise Fault("a number of too many bytes")
+        start = self.at
+        value, shift, byte = self.leb(bits)
         if byte & 64:
             value -= 1 << shift
         if not -(1 << bits - 1) <= value < 1 << bits - 1:
