@@ -7,6 +7,8 @@ pub mod Sections
 pub mod NameMaps
 pub mod Names
 pub mod Core
+pub mod Weave
+pub mod Woven
 pub mod Faults
 pub mod Leaves
 pub mod Rules

@@ -1,0 +1,59 @@
+-- The walk of a reencoder whose section hook adds: the added sections stand in the tree, each where its visit stands.
+use Rattle.std.specs.Prelude.{ℕ, List, [], ◌∷◌, ◌++◌, length, map, drop, Option, Some, None}
+use Rattle.wasm_shapes.specs.declared.SectionId.{SectionId}
+use Rattle.wasm_shapes.specs.declared.Visit.TheVariants.{Section}
+use Rattle.wasm_shapes.specs.Tree.{Tree, kind, before, visits_from, after, fill}
+use Rattle.wasm_shapes.specs.Module.{alsos}
+use Rattle.wasm_write.specs.Sections.{SectionRow, framed_tree}
+use Rattle.reencode_hooks.specs.declared.error.Error.{Error}
+use Rattle.reencode_hooks.specs.Run.{Step, accepted, and_then, state_after, run}
+use Rattle.reencode_hooks.specs.Walk.{walk, walk_from, announced}
+use Rattle.reencode_core.specs.Rows.{Asks}
+use Rattle.reencode_core.specs.Core.{onto}
+
+-- what a section hook puts between two sections, as rows or as trees
+abbrev pub Puts : Type 0 → Type 0 → Type 0
+Puts S A = S → Option SectionId → Option SectionId → List A
+
+-- the sections that it adds, as trees
+abbrev pub added : {S : Type 0} → Puts S SectionRow → Puts S Tree
+added adds s after before = map framed_tree (adds s after before)
+
+-- what stands before a section, where the section hook is told of it
+abbrev pub put_before : {S A : Type 0} → Puts S A → S → Option SectionId → Tree → List A
+put_before put s last (Tree.row k t) = put_before put s last t
+put_before put s last (Tree.told k t) = put s last (Some k)
+put_before put s last _ = []
+
+-- a section, and what was put before it
+abbrev pub woven_one : {S E : Type 0} → Asks S E → Puts S Tree → ℕ → Option SectionId → S → Tree → Step S (Error E) (List Tree)
+woven_one asked put c last s t =
+    and_then (announced asked s last t) (λ _ m. and_then (walk asked c m t) (λ u n. accepted (put_before put s last t ++ u ∷ []) n))
+
+-- The walk with these put before each section asked for, and at the end. The kind is that of the last section so far.
+abbrev pub weave_from : {S E : Type 0} → Asks S E → Puts S Tree → ℕ → Option SectionId → S → Tree → Step S (Error E) Tree
+weave_from asked put c last s (Tree.pair t u) =
+    and_then (weave_from asked put c None s t) (λ t' m. and_then (weave_from asked put c None m u) (λ u' n. accepted (Tree.pair t' u') n))
+weave_from asked put c last s Tree.finish = and_then (asked s (Section last None)) (λ _ m. accepted (alsos (put s last None) Tree.finish) m)
+weave_from asked put c last s (Tree.also t u) =
+    and_then (woven_one asked put c last s t) (λ us n. onto us (weave_from asked put c (kind last t) n u))
+weave_from asked put c last s t = walk_from asked c last s t
+
+abbrev pub weave : {S E : Type 0} → Asks S E → Puts S Tree → ℕ → S → Tree → Step S (Error E) Tree
+weave asked put c s t = weave_from asked put c None s t
+
+-- ---- the same in terms of the run
+
+-- the filled tree, with what is put at the state of each section visit of the run
+abbrev pub woven_from : {S E : Type 0} → Asks S E → Puts S Tree → Option SectionId → S → Tree → List ℕ → Tree
+woven_from asked put last s (Tree.pair t u) answers =
+    Tree.pair (woven_from asked put None s t answers) (woven_from asked put None (state_after (run asked s (visits_from None t))) u (after t answers))
+woven_from asked put last s Tree.finish answers = alsos (put s last None) Tree.finish
+woven_from asked put last s (Tree.also t u) answers =
+    let own = drop (length (before None t)) answers in
+    alsos (put_before put s last t) (Tree.also (fill t own)
+    (woven_from asked put (kind last t) (state_after (run asked s (before last t ++ visits_from None t))) u (after t own)))
+woven_from asked put last s t answers = fill t answers
+
+abbrev pub woven : {S E : Type 0} → Asks S E → Puts S Tree → S → Tree → List ℕ → Tree
+woven asked put s t answers = woven_from asked put None s t answers

@@ -1,0 +1,121 @@
+-- What the calls that map a whole core module give, where the section hook may add sections.
+use Rattle.std.specs.Prelude.{◌≡◌, ◌≢◌, ◌⊎◌, ℕ, List, [], ◌++◌, Option, Some, None, Result, Ok, Err, IfOk, IfErr}
+use Rattle.wasm_shapes.specs.declared.SectionId.{SectionId}
+use Rattle.wasm_shapes.specs.declared.Visit.TheVariants.{Section}
+use Rattle.wasm_shapes.specs.Tree.{Tree, normal}
+use Rattle.wasm_shapes.specs.Spells.{Spells}
+use Rattle.wasm_shapes.specs.Module.{core_header, core_module, sections, alsos, frame, CoreReading}
+use Rattle.wasm_shapes.specs.Place.{Begins}
+use Rattle.wasm_shapes.specs.SectionTable.{number}
+use Rattle.wasm_read.specs.Frames.{numbered_frame}
+use Rattle.wasm_write.specs.Sections.{Sections, SectionRow, sections_bytes}
+use Rattle.reencode_hooks.specs.declared.error.Error.{Error}
+use Rattle.reencode_hooks.specs.declared.error.Error.TheVariants.{TooLarge, NoMemory}
+use Rattle.reencode_hooks.specs.Run.{Step, accepted, refused}
+use Rattle.reencode_hooks.specs.Walk.{walk, announced}
+use Rattle.reencode_hooks.specs.Hooks.{Gains, HasTooLarge}
+use Rattle.reencode_core.specs.Rows.{Asks}
+use Rattle.reencode_core.specs.Core.{onto, AcceptsSections, IsCause}
+use Rattle.reencode_core.specs.Weave.{Puts, added, put_before, weave, weave_from}
+
+-- ---- the section hook, and a section behind it
+
+-- one of the section hook's own sections is too large
+abbrev pub IsOwn : {E : Type 0} → ℕ → List SectionRow → Error E → Type 0
+IsOwn c own (TooLarge size) = HasTooLarge c own size
+IsOwn c own _ = ⊥
+
+-- the first is a front part of the second
+pub record IsPart (part own : List SectionRow) : Type 0 where
+  pub rest : List SectionRow
+  pub parts : own ≡ part ++ rest
+
+-- The section hook refused, and a front part of what it adds stands; where one of these is too large, the state is open.
+abbrev pub StopsHook : {S E A : Type 0} → ℕ → List SectionRow → List SectionRow → Step S (Error E) A → Error E → S → Type 0
+StopsHook c own part step e m = IsPart part own × (e ≢ NoMemory → IsOwn c own e ⊎ (step ≡ refused e m))
+
+-- The section hook refused; or it accepted, all that it adds stands, and the section behind it was refused.
+abbrev pub StopsHooked : {S E : Type 0} → Asks S E → Puts S SectionRow → ℕ → Option SectionId → S → Tree → List SectionRow → Error E → S → Type 0
+StopsHooked {S} asked adds c last s t part e m =
+    StopsHook c (put_before adds s last t) part (announced asked s last t) e m
+    ⊎ ((n : S) × (announced asked s last t ≡ accepted 0 n) × (part ≡ put_before adds s last t) × (e ≢ NoMemory → walk asked c n t ≡ refused e m))
+
+-- the first of these sections was refused, or the hook before it; or the hook at the end
+abbrev pub StopsNext : {S E : Type 0} → Asks S E → Puts S SectionRow → ℕ → Option SectionId → S → Tree → List SectionRow → Error E → S → Type 0
+StopsNext asked adds c last s (Tree.also t others) part e m = StopsHooked asked adds c last s t part e m
+StopsNext asked adds c last s Tree.finish part e m = StopsHook c (adds s last None) part (asked s (Section last None)) e m
+StopsNext asked adds c last s _ part e m = ⊥
+
+-- ---- sections one behind another
+
+-- These sections are accepted, whatever stands behind them, and become those, added ones in their places; what stands behind them
+-- is walked from here, behind a section of that kind.
+abbrev pub WeavesSections : {S E : Type 0} → Asks S E → Puts S Tree → ℕ → S → List Tree → List Tree → Option SectionId → S → Type 0
+WeavesSections asked put c s read made last m =
+    (others : Tree) → weave asked put c s (alsos read others) ≡ onto made (weave_from asked put c last m others)
+
+-- The sections before the refused one were accepted, and what they became was added, with what the hook adds before each; and of
+-- the last hook what it had added, and no more.
+pub record StopsWoven {S E : Type 0} (asked : Asks S E) (adds : Puts S SectionRow) (c : ℕ) (before : S × Sections) (t : Tree) (after : S × Sections) (e : Error E) : Type 0 where
+  pub read : List Tree
+  pub others : Tree
+  pub made : List Tree
+  pub rows : List SectionRow
+  pub part : List SectionRow
+  pub last : Option SectionId
+  pub at : S
+  pub parts : t ≡ alsos read others
+  pub weaves : WeavesSections asked (added adds) c before.0 read made last at
+  pub gains : Gains before.1 after.1 (rows ++ part)
+  pub spelled : sections_bytes rows ≡ normal (alsos made Tree.finish)
+  pub stops : StopsNext asked adds c last at others part e after.0
+
+-- The sections became others, which were added with what the hook adds, each in its place; or one of them was refused, or a hook.
+abbrev pub GivesWovenModule : {S E : Type 0} → Asks S E → Puts S SectionRow → S × Sections → Tree → S × Sections → Result (Unit {0}) (Error E) → Type 0
+GivesWovenModule asked adds before t after (Ok _) =
+    (u : Tree) × (rows : List SectionRow) × (weave asked (added adds) before.1.ceiling before.0 t ≡ accepted u after.0)
+    × Gains before.1 after.1 rows × (sections_bytes rows ≡ normal u)
+GivesWovenModule asked adds before t after (Err e) = StopsWoven asked adds before.1.ceiling before t after e
+
+-- ---- errors
+
+-- The section hook before the section that stands here in its frame, or at the end, was to add one that is too large.
+abbrev pub OwnNext : {S E : Type 0} → Puts S SectionRow → ℕ → Option SectionId → S → List ℕ → Error E → Type 0
+OwnNext adds c last s rest e =
+    ((rest ≡ []) × IsOwn c (adds s last None) e)
+    ⊎ ((id : SectionId) × (body left : List ℕ) × Begins frame rest (numbered_frame (number id) body) left × IsOwn c (adds s last (Some id)) e)
+
+-- some sections stand at the front and were accepted, and the section hook behind them was to add one that is too large
+pub record OwnTooLarge {S E : Type 0} (asked : Asks S E) (adds : Puts S SectionRow) (c : ℕ) (bytes : List ℕ) (s : S) (e : Error E) : Type 0 where
+  pub read : List Tree
+  pub text : List ℕ
+  pub rest : List ℕ
+  pub made : List Tree
+  pub last : Option SectionId
+  pub at : S
+  pub spells : Spells sections text (alsos read Tree.finish)
+  pub stands : bytes ≡ core_header ++ (text ++ rest)
+  pub accepts : AcceptsSections asked c s read made last at
+  pub own : OwnNext adds c last at rest e
+
+-- why an error comes: as where nothing is added, or a section that the hook was to add is too large
+abbrev pub IsWovenCause : {S E : Type 0} → Asks S E → Puts S SectionRow → ℕ → List ℕ → S → S → Error E → Type 0
+IsWovenCause asked adds c bytes s m e = IsCause asked c bytes s m e ⊎ OwnTooLarge asked adds c bytes s e
+
+-- ---- the module, and its bytes
+
+pub record GivesWoven {S E : Type 0} (asked : Asks S E) (adds : Puts S SectionRow) (bytes : List ℕ) (before after : S × Sections) (result : Result (Unit {0}) (Error E)) : Type 0 where
+  pub reading : (t : Tree) → CoreReading bytes t → GivesWovenModule asked adds before t after result
+  pub readable : IfOk result (λ _. (t : Tree) × CoreReading bytes t)
+  pub cause : IfErr result (IsWovenCause asked adds before.1.ceiling bytes before.0 after.0)
+
+-- The bytes of the woven tree are the answer; or its refusal, or a section that the hook was to add is too large; or memory is wanting.
+abbrev pub GivesWovenNormal : {S E A : Type 0} → Step S (Error E) Tree → (Error E → Type 0) → S → Result A (Error E) → (A → List ℕ) → Type 0
+GivesWovenNormal step own m (Ok out) view = (u : Tree) × (step ≡ accepted u m) × (view out ≡ normal u)
+GivesWovenNormal step own m (Err e) view = e ≢ NoMemory → own e ⊎ (step ≡ refused e m)
+
+pub record GivesWovenBytes {S E A : Type 0} (asked : Asks S E) (adds : Puts S SectionRow) (ceiling : ℕ) (bytes : List ℕ) (s m : S) (result : Result A (Error E)) (view : A → List ℕ) : Type 0 where
+  pub reading : (t : Tree) → Spells core_module bytes t →
+      GivesWovenNormal (weave asked (added adds) ceiling s t) (OwnTooLarge asked adds ceiling bytes s) m result view
+  pub readable : IfOk result (λ _. (t : Tree) × Spells core_module bytes t)
+  pub cause : IfErr result (IsWovenCause asked adds ceiling bytes s m)
