@@ -30,3 +30,5 @@ pub mod InFrame
 pub mod NamesLoop
 pub mod CustomSection
 pub mod EachSubsection
+pub mod Weaves
+pub mod WovenRead
