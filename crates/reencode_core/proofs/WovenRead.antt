@@ -1,6 +1,6 @@
--- What is woven of a reading, and of sections that their normal spelling spells, is what its own normal spelling is read as.
+-- What comes out of a reading and of added sections that have readings is read as what is woven of these, and as nothing else.
 use Rattle.std.proofs.Common.{◌≡◌, ◌<◌, ◌≤◌, ◌^◌, ◌-◌, ◌+◌, ℕ, zero, suc, List, [], ◌∷◌, ◌++◌, length, drop, map, get_or, get_or-drop, Option, Some, None, Result, Ok, Err, refl, sym, ap, ◌∙◌, subst, All, arith}
-use Rattle.std.proofs.lemmas.List.Elements.{All-nil, All-cons, All-append, All-head, All-tail, All-get_or}
+use Rattle.std.proofs.lemmas.List.Elements.{All-nil, All-cons, All-append, All-head, All-tail}
 use Rattle.wasm_shapes.specs.declared.SectionId.{SectionId}
 use Rattle.wasm_shapes.specs.declared.Visit.{Visit}
 use Rattle.wasm_shapes.specs.declared.Visit.TheVariants.{Index, Outer, Section, Push, Pop}
@@ -12,13 +12,12 @@ use Rattle.wasm_shapes.specs.Module.{core_header, section, sections, core_module
 use Rattle.wasm_shapes.proofs.Laws.{filled_read_back, head_forth, module_headed, one_tree, tables_sound}
 use Rattle.wasm_shapes.proofs.ReadBack.{spelled_in_range}
 use Rattle.wasm_write.specs.Sections.{SectionRow, section_bytes, framed_tree}
-use Rattle.reencode_hooks.specs.declared.error.Error.{Error}
-use Rattle.reencode_hooks.specs.Run.{Step, accepted, and_then, answered, ask, run, state_after}
+use Rattle.reencode_hooks.specs.Run.{accepted, and_then, answered, ask, run, state_after}
 use Rattle.reencode_hooks.specs.Hooks.{IsInRange, IsGiven, IsAnswer, KeepsAnswers}
 use Rattle.reencode_hooks.proofs.Agrees.{inv, given}
 use Rattle.reencode_core.specs.Rows.{Asks}
-use Rattle.reencode_core.specs.Weave.{Puts, added, put_before, weave, woven_from, woven}
-use Rattle.reencode_core.specs.WovenLaws.{AreReadings, IsReadAs, OutputIsRead}
+use Rattle.reencode_core.specs.Weave.{Puts, added, put_before, woven_from, woven}
+use Rattle.reencode_core.specs.WovenLaws.{AreReadings, ReadsAdded, OutputIsRead}
 use Rattle.reencode_core.proofs.Counts.{IsSmall}
 use Rattle.reencode_core.proofs.Weaves.{forth, woven_alike}
 
@@ -108,26 +107,25 @@ all_parts c (x ∷ xs) ys h =
 
 -- ---- sections
 
-abbrev ReadAll : List Tree → Type 0
-ReadAll vs = All (λ v. Spells section (normal v) v) vs
+-- what is added, before others
+reads_before : (rows : List SectionRow) (vs : List Tree) (p q : Tree) → AreReadings rows vs → Spells sections (normal p) q →
+    Spells sections (normal (alsos (map framed_tree rows) p)) (alsos vs q)
+reads_before _ _ p q AreReadings.none h = h
+reads_before _ _ p q (AreReadings.more {row = row} {rows = rows} {vs = vs} r rest) h =
+    let others = reads_before rows vs p q rest h in
+    record { shaped = Is.also r.shaped others.shaped; spelled = (section_bytes row, normal (alsos (map framed_tree rows) p), refl, r.spelled, others.spelled) }
 
--- sections in normal spelling, before others
-reads_before : (front : List Tree) (others : Tree) → ReadAll front → Spells sections (normal others) others → Spells sections (normal (alsos front others)) (alsos front others)
-reads_before [] others all p = p
-reads_before (v ∷ vs) others all p =
-    let first = All-head (λ v. Spells section (normal v) v) v vs all in
-    let rest = reads_before vs others (All-tail (λ v. Spells section (normal v) v) v vs all) p in
-    record { shaped = Is.also first.shaped rest.shaped; spelled = (normal v, normal (alsos vs others), refl, first.spelled, rest.spelled) }
-
-module _ {S E : Type 0} (asked : Asks S E) (put : Puts S Tree) (reads : (s : S) (a b : Option SectionId) → ReadAll (put s a b)) where
-  all_before : (s : S) (last : Option SectionId) (t : Tree) → ReadAll (put_before put s last t)
-  all_before s last (Tree.row k t) = all_before s last t
-  all_before s last (Tree.told k t) = reads s last (Some k)
-  all_before s last _ = All-nil (λ v. Spells section (normal v) v)
+module _ {S E : Type 0} (asked : Asks S E) (adds : Puts S SectionRow) (readings : Puts S Tree) (are : ReadsAdded adds readings) where
+  reads_hook : (s : S) (last : Option SectionId) (t p q : Tree) → Spells sections (normal p) q →
+      Spells sections (normal (alsos (put_before (added adds) s last t) p)) (alsos (put_before readings s last t) q)
+  reads_hook s last (Tree.row k t) p q h = reads_hook s last t p q h
+  reads_hook s last (Tree.told k t) p q h = reads_before (adds s last (Some k)) (readings s last (Some k)) p q (are s last (Some k)) h
+  reads_hook s last _ p q h = h
 
   reads_from : (last : Option SectionId) (s : S) (t : Tree) (x xs : List ℕ) → Is sections t → Spelled t x → Small xs → Fits (fill t xs) (2 ^ 32 - 1) →
-      Spells sections (normal (woven_from asked put last s t xs)) (woven_from asked put last s t xs)
-  reads_from last s t x xs Is.finish p small fits = reads_before (put s last None) Tree.finish (reads s last None) (record { shaped = Is.finish; spelled = refl })
+      Spells sections (normal (woven_from asked (added adds) last s t xs)) (woven_from asked readings last s t xs)
+  reads_from last s t x xs Is.finish p small fits =
+      reads_before (adds s last None) (readings s last None) Tree.finish Tree.finish (are s last None) (record { shaped = Is.finish; spelled = refl })
   reads_from last s t x xs (Is.also {t = v} {u = u} d d') p small fits =
       let own : List ℕ = drop (length (before None v)) xs in
       let state : S = state_after (run asked s (before last v ++ visits_from None v)) in
@@ -136,36 +134,43 @@ module _ {S E : Type 0} (asked : Asks S E) (put : Puts S Tree) (reads : (s : S) 
       let parts = all_parts (2 ^ 32 - 1) (frames (fill v own)) (frames (fill u (after v own))) fits in
       let one : Spells section (normal (fill v own)) (fill v own) = filled_read_back section p.0 v own own_small (record { shaped = d; spelled = p.3 }) parts.0 in
       let rest = reads_from (kind last v) state u p.1 (after v own) d' p.4 rest_small parts.1 in
-      reads_before (put_before put s last v) (Tree.also (fill v own) (woven_from asked put (kind last v) state u (after v own))) (all_before s last v)
-      (record { shaped = Is.also one.shaped rest.shaped; spelled = (normal (fill v own), normal (woven_from asked put (kind last v) state u (after v own)), refl, one.spelled, rest.spelled) })
+      let made : Tree = woven_from asked (added adds) (kind last v) state u (after v own) in
+      let read : Tree = woven_from asked readings (kind last v) state u (after v own) in
+      reads_hook s last v (Tree.also (fill v own) made) (Tree.also (fill v own) read)
+      (record { shaped = Is.also one.shaped rest.shaped; spelled = (normal (fill v own), normal made, refl, one.spelled, rest.spelled) })
 
-  -- ---- the header
+-- ---- the header
 
-  woven_headed : (hs : List ℕ) (s : S) (t : Tree) (xs : List ℕ) → woven_from asked put None s (headed_tree hs t) xs ≡ headed_tree hs (woven_from asked put None s t xs)
-  woven_headed [] s t xs = refl
-  woven_headed (h ∷ hs) s t xs = ap (λ (u : Tree). Tree.pair (Tree.fixed h) u) (woven_headed hs s t xs)
+normal_headed : (hs : List ℕ) (t : Tree) → normal (headed_tree hs t) ≡ hs ++ normal t
+normal_headed [] t = refl
+normal_headed (h ∷ hs) t = ap (λ (z : List ℕ). h ∷ z) (normal_headed hs t)
 
-  reads_core : (s : S) (t : Tree) (bytes xs : List ℕ) → Spells core_module bytes t → Small xs → Fits (fill t xs) (2 ^ 32 - 1) →
-      Spells core_module (normal (woven asked put s t xs)) (woven asked put s t xs)
-  reads_core s t bytes xs p small fits =
+frames_headed : (hs : List ℕ) (t : Tree) (xs : List ℕ) → frames (fill (headed_tree hs t) xs) ≡ frames (fill t xs)
+frames_headed [] t xs = refl
+frames_headed (h ∷ hs) t xs = frames_headed hs t xs
+
+module _ {S E : Type 0} (asked : Asks S E) where
+  woven_headed : (put : Puts S Tree) (hs : List ℕ) (s : S) (t : Tree) (xs : List ℕ) → woven_from asked put None s (headed_tree hs t) xs ≡ headed_tree hs (woven_from asked put None s t xs)
+  woven_headed put [] s t xs = refl
+  woven_headed put (h ∷ hs) s t xs = ap (λ (u : Tree). Tree.pair (Tree.fixed h) u) (woven_headed put hs s t xs)
+
+  woven_core : (put : Puts S Tree) (s : S) (t u : Tree) (xs : List ℕ) → t ≡ core_tree u → woven asked put s t xs ≡ core_tree (woven asked put s u xs)
+  woven_core put s t u xs e = ap (λ (z : Tree). woven asked put s z xs) e ∙ woven_headed put core_header s u xs
+
+  reads_core : (adds : Puts S SectionRow) (readings : Puts S Tree) → ReadsAdded adds readings → (s : S) (t : Tree) (bytes xs : List ℕ) → Spells core_module bytes t → Small xs →
+      Fits (fill t xs) (2 ^ 32 - 1) → Spells core_module (normal (woven asked (added adds) s t xs)) (woven asked readings s t xs)
+  reads_core adds readings are s t bytes xs p small fits =
       let b = module_headed.back bytes t p in
       let u = b.0 in
       let F : Tree → Type 0 = λ z. Fits (fill z xs) (2 ^ 32 - 1) in
-      let P : List ℕ → Type 0 = λ z. All (λ n. n ≤ 2 ^ 32 - 1) z in
-      let inner : Fits (fill u xs) (2 ^ 32 - 1) = subst P (frames_headed core_header u xs) (subst F b.1 fits) in
-      let reads = reads_from None s u b.2.rest xs b.2.spells.shaped b.2.spells.spelled small inner in
-      let whole = head_forth core_header reads in
-      let R : List ℕ → Type 0 = λ z. Spells core_module z (core_tree (woven asked put s u xs)) in
-      let T : Tree → Type 0 = λ z. Spells core_module (normal z) z in
-      subst T (sym (ap (λ (z : Tree). woven asked put s z xs) b.1 ∙ woven_headed core_header s u xs)) (subst R (sym (normal_headed core_header (woven asked put s u xs))) whole)
-    where
-      frames_headed : (hs : List ℕ) (t : Tree) (xs : List ℕ) → frames (fill (headed_tree hs t) xs) ≡ frames (fill t xs)
-      frames_headed [] t xs = refl
-      frames_headed (h ∷ hs) t xs = frames_headed hs t xs
-
-      normal_headed : (hs : List ℕ) (t : Tree) → normal (headed_tree hs t) ≡ hs ++ normal t
-      normal_headed [] t = refl
-      normal_headed (h ∷ hs) t = ap (λ (z : List ℕ). h ∷ z) (normal_headed hs t)
+      let A : List ℕ → Type 0 = λ z. All (λ n. n ≤ 2 ^ 32 - 1) z in
+      let inner : Fits (fill u xs) (2 ^ 32 - 1) = subst A (frames_headed core_header u xs) (subst F b.1 fits) in
+      let whole = head_forth core_header (reads_from asked adds readings are None s u b.2.rest xs b.2.spells.shaped b.2.spells.spelled small inner) in
+      let bytes_are : normal (woven asked (added adds) s t xs) ≡ core_header ++ normal (woven asked (added adds) s u xs) =
+      ap normal (woven_core (added adds) s t u xs b.1) ∙ normal_headed core_header (woven asked (added adds) s u xs) in
+      let B : List ℕ → Type 0 = λ z. Spells core_module z (core_tree (woven asked readings s u xs)) in
+      let T : Tree → Type 0 = λ z. Spells core_module (normal (woven asked (added adds) s t xs)) z in
+      subst T (sym (woven_core readings s t u xs b.1)) (subst B (sym bytes_are) whole)
 
 -- ---- what comes out
 
@@ -180,18 +185,18 @@ below c d (x ∷ xs) h p =
     All-cons (λ n. n ≤ d) x xs (omega arith) (below c d xs h (All-tail (λ n. n ≤ c) x xs p))
 
 pub output_is_read : {S E : Type 0} (reply : S → Visit → Result ℕ E) (next : S → Visit → S) (adds : Puts S SectionRow) → KeepsAnswers reply → OutputIsRead (ask reply next) adds
-output_is_read {S = S} reply next adds keeps readings are c bound s m bytes t u p h =
+output_is_read reply next adds keeps readings are c bound s m bytes t u p h =
     let asked = ask reply next in
     let a = forth asked (added adds) c s m t u h in
-    let small : Small a.given = all_small a.given (answers_small reply next keeps s m (visits t) a.given (visits_in_range None t (spelled_in_range t bytes p.spelled)) a.ran) in
     let w = woven asked readings s t a.given in
-    let reads : Spells core_module (normal w) w = reads_core asked readings (λ k x y. (are k x y).read) s t bytes a.given p small (below c (2 ^ 32 - 1) (frames (fill t a.given)) bound a.fits) in
-    let alike : normal w ≡ normal u =
-    sym (woven_alike asked (added adds) readings (λ k x y. framed_alike (adds k x y) ∙ sym (are k x y).normally) None s t a.given) ∙ ap normal a.wove in
-    let R : List ℕ → Type 0 = λ z. Spells core_module z w in
-    let there : Spells core_module (normal u) w = subst R alike reads in
-    (a.given, a.ran, record {
+    let small : Small a.given = all_small a.given (answers_small reply next keeps s m (visits t) a.given (visits_in_range None t (spelled_in_range t bytes p.spelled)) a.ran) in
+    let reads = reads_core asked adds readings are s t bytes a.given p small (below c (2 ^ 32 - 1) (frames (fill t a.given)) bound a.fits) in
+    let B : List ℕ → Type 0 = λ z. Spells core_module z w in
+    let there : Spells core_module (normal u) w = subst B (ap normal a.wove) reads in record {
+      given = a.given;
+      ran = a.ran;
       reading = there;
       only = λ v q. one_tree core_module tables_sound.core_sound (normal u) v w q there;
-      normally = alike;
-    })
+      normally = λ are_normal.
+          sym (woven_alike asked (added adds) readings (λ k x y. framed_alike (adds k x y) ∙ sym (are_normal k x y)) None s t a.given) ∙ ap normal a.wove;
+    }

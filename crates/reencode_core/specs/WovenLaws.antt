@@ -1,12 +1,11 @@
 -- Laws of the walk of a reencoder whose section hook adds: beside the plain walk, the run, and what its output is read as.
-use Rattle.std.specs.Prelude.{◌≡◌, ◌≤◌, ◌-◌, ◌^◌, ℕ, List, [], map, All, Option}
+use Rattle.std.specs.Prelude.{◌≡◌, ◌≤◌, ◌-◌, ◌^◌, ℕ, List, [], ◌∷◌, map, Option}
 use Rattle.wasm_shapes.specs.declared.SectionId.{SectionId}
 use Rattle.wasm_shapes.specs.Tree.{Tree, visits, fill, normal}
 use Rattle.wasm_shapes.specs.Spells.{Spelled, Spells}
 use Rattle.wasm_shapes.specs.Fits.{Fits}
 use Rattle.wasm_shapes.specs.Module.{core_module, section}
 use Rattle.wasm_write.specs.Sections.{SectionRow, section_bytes}
-use Rattle.reencode_hooks.specs.declared.error.Error.{Error}
 use Rattle.reencode_hooks.specs.Run.{Step, accepted, and_then, run}
 use Rattle.reencode_hooks.specs.Walk.{walk}
 use Rattle.reencode_core.specs.Rows.{Asks}
@@ -43,21 +42,31 @@ pub record WeaveIsRun {S E : Type 0} (asked : Asks S E) : Type 0 where
 
 -- ---- what the output is read as
 
--- these trees are sections, each of which its normal spelling spells, and that is what these rows are written as, one for one
-pub record AreReadings (rows : List SectionRow) (trees : List Tree) : Type 0 where
-  pub read : All (λ v. Spells section (normal v) v) trees
-  pub normally : map normal trees ≡ map section_bytes rows
+-- these rows, as they are written, are read as these trees, one for one
+pub data AreReadings : List SectionRow → List Tree → Type 0 where
+  none : AreReadings [] []
+  more : {row : SectionRow} {v : Tree} {rows : List SectionRow} {vs : List Tree} → Spells section (section_bytes row) v → AreReadings rows vs →
+      AreReadings (row ∷ rows) (v ∷ vs)
 
--- These bytes are a core module, they are read as this tree and as no other, and they are its normal spelling.
-pub record IsReadAs (bytes : List ℕ) (w : Tree) : Type 0 where
-  pub reading : Spells core_module bytes w
-  pub only : (v : Tree) → Spells core_module bytes v → v ≡ w
-  pub normally : normal w ≡ bytes
+-- these are readings of all sections that are ever added
+abbrev pub ReadsAdded : {S : Type 0} → Puts S SectionRow → Puts S Tree → Type 0
+ReadsAdded {S} adds readings = (s : S) (after before : Option SectionId) → AreReadings (adds s after before) (readings s after before)
 
--- Where each section that is ever added has a reading, in normal spelling, so has what comes out of a reading: the filled tree,
--- with the readings of what was added directly before each section asked for, and at the end.
+-- and these sections are spelled normally
+abbrev pub AreNormal : {S : Type 0} → Puts S SectionRow → Puts S Tree → Type 0
+AreNormal {S} adds readings = (s : S) (after before : Option SectionId) → map normal (readings s after before) ≡ map section_bytes (adds s after before)
+
+-- The run is accepted, and these bytes are a core module, read as this tree alone: the filled tree, with these readings directly
+-- before each section asked for, and at the end. The bytes are its normal spelling where what was added is spelled normally.
+pub record ReadsOutput {S E : Type 0} (asked : Asks S E) (adds : Puts S SectionRow) (readings : Puts S Tree) (s : S) (t : Tree) (bytes : List ℕ) (m : S) : Type 0 where
+  pub given : List ℕ
+  pub ran : run asked s (visits t) ≡ accepted given m
+  pub reading : Spells core_module bytes (woven asked readings s t given)
+  pub only : (v : Tree) → Spells core_module bytes v → v ≡ woven asked readings s t given
+  pub normally : AreNormal adds readings → normal (woven asked readings s t given) ≡ bytes
+
+-- Where all sections that are ever added have readings, so has what comes out of a reading.
 abbrev pub OutputIsRead : {S E : Type 0} → Asks S E → Puts S SectionRow → Type 0
 OutputIsRead {S} asked adds =
-    (readings : Puts S Tree) → ((s : S) (after before : Option SectionId) → AreReadings (adds s after before) (readings s after before)) →
-    (c : ℕ) → c ≤ 2 ^ 32 - 1 → (s m : S) (bytes : List ℕ) (t u : Tree) → Spells core_module bytes t → weave asked (added adds) c s t ≡ accepted u m →
-    (given : List ℕ) × (run asked s (visits t) ≡ accepted given m) × IsReadAs (normal u) (woven asked readings s t given)
+    (readings : Puts S Tree) → ReadsAdded adds readings → (c : ℕ) → c ≤ 2 ^ 32 - 1 → (s m : S) (bytes : List ℕ) (t u : Tree) →
+    Spells core_module bytes t → weave asked (added adds) c s t ≡ accepted u m → ReadsOutput asked adds readings s t (normal u) m
