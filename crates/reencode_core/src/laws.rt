@@ -1,6 +1,8 @@
-//! A law of faults, as the contract of a function that does nothing.
+//! Laws of modules, each the contract of a function that does nothing.
+ghost use Rattle.std.specs.Prelude.{List, ℕ};
 ghost use Rattle.reencode_hooks.specs.Run.{ask};
 ghost use Rattle.reencode_core.specs.Faults.{FaultTells};
+ghost use Rattle.reencode_core.specs.Woven.{AcceptedIsAnswered};
 
 use reencode_hooks::ReencodeIndices;
 
@@ -8,4 +10,10 @@ use reencode_hooks::ReencodeIndices;
 /// says which errors may come of them.
 pub fn fault_tells<T: ReencodeIndices>(_reencoder: &T)
     ensures { FaultTells (ask T.reply T.next) }
+{}
+
+/// Where bytes have a reading, no section that the section hook adds is above the ceiling, and the walk over the reading with
+/// the added sections is accepted, `reencode_core` answers the normal spelling of its tree in its state, or memory is wanting.
+pub fn accepted_is_answered<T: ReencodeIndices, A>(_reencoder: &T, _answers: &[A])
+    ensures { (view : A → List ℕ) → AcceptedIsAnswered (ask T.reply T.next) T.adds view }
 {}
