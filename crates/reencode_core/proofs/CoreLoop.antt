@@ -37,7 +37,7 @@ use Rattle.reencode_core.proofs.AddsNothing.{none_own}
 use Rattle.reencode_core.proofs.Counts.{further_none, further_then}
 use Rattle.reencode_core.proofs.AnySection.{GivesFramed, Reached, kind_announced, kind_put}
 use Rattle.reencode_core.proofs.Usual.{IfRefused-map, unless_wanting, usual_ask, stops_usual}
-use Rattle.reencode_core.proofs.Known.{section_onward, hook_visits, inside_visits, some_begun, keeps_same, keeps_more}
+use Rattle.reencode_core.proofs.Known.{section_onward, hook_visits, inside_visits, some_begun, gains_none, gains_both}
 
 -- ---- lists of sections
 
@@ -151,13 +151,6 @@ spelled_both : (rows others : List SectionRow) (us vs : List Tree) → sections_
 spelled_both rows others us vs p q =
     sections_bytes-append rows others ∙ ap (λ (z : List ℕ). z ++ sections_bytes others) p ∙ ap (λ (z : List ℕ). normals us ++ z) q ∙ sym (normals-append us vs)
 
--- what was added at once was added one behind the other
-gains_both : (old mid new : Sections) (own rows : List SectionRow) → Gains old mid own → Gains mid new rows → Gains old new (own ++ rows)
-gains_both old mid new own rows g h = (keeps_more old mid new (own, g) (rows, h)).1
-
-gains_none : {old new : Sections} → new ≡ old → Gains old new []
-gains_none {old = old} same = same ∙ (keeps_same old).1
-
 -- what the section hook puts before a section, as trees
 put_added : {S : Type 0} (adds : Puts S SectionRow) (s : S) (last : Option SectionId) (t : Tree) → put_before (added adds) s last t ≡ map framed_tree (put_before adds s last t)
 put_added adds s last (Tree.row k t) = put_added adds s last t
@@ -240,7 +233,7 @@ pub record Put {S : Type 0} (adds : Puts S SectionRow) (f : Tree) (last : Option
 -- nothing is put before it
 pub nothing_put : {S : Type 0} {adds : Puts S SectionRow} {f : Tree} {last : Option SectionId} {s : S} {new : Sections} → ((t : Tree) → InFrame t f → put_before adds s last t ≡ []) →
     Put adds f last s new new
-nothing_put none = record { own = []; gains = gains_none refl; before = none }
+nothing_put none = record { own = []; gains = gains_none _; before = none }
 
 module _ {S E : Type 0} (asked : Asks S E) where
   onto_nothing : (step : Step S (Error E) Tree) → step ≡ onto [] step
@@ -289,7 +282,7 @@ module _ {S E : Type 0} (asked : Asks S E) (adds : Puts S SectionRow) where
     stands = refl;
     accepts = λ others. onto_nothing asked (walk asked old.ceiling s others);
     weaves = λ others. onto_nothing asked (weave asked (added adds) old.ceiling s others);
-    gains = gains_none refl;
+    gains = gains_none old;
     spelled = refl;
     onward = λ others m v. v;
   }
@@ -407,8 +400,8 @@ module _ {S E : Type 0} (asked : Asks S E) (adds : Puts S SectionRow) where
       own = h;
     }
 
-    own_under : {own : List SectionRow} {e : Error E} → IsOwn new.ceiling own e → IsOwn old.ceiling own e
-    own_under {own = own} {e = e} h =
+    own_under : (own : List SectionRow) (e : Error E) → IsOwn new.ceiling own e → IsOwn old.ceiling own e
+    own_under own e h =
         let ceiling : new.ceiling ≡ old.ceiling = ap Sections.ceiling d.gains in
         let P : ℕ → Type 0 = λ c. IsOwn c own e in
         subst P ceiling h
@@ -512,7 +505,7 @@ module _ {S E : Type 0} (asked : Asks S E) (adds : Puts S SectionRow) where
 
         by : (t : Tree) → InFrame t (numbered_frame (number k) body) → IsOwn new.ceiling own e ⊎ ((e ≢ NoMemory → asked s (Section last (Some k)) ≡ refused e s') × IfParse e (λ at. ⊥)) →
             e ≢ NoMemory → IsOwn old.ceiling own e ⊎ (announced asked s last t ≡ refused e s')
-        by t i (inl x) other = inl (own_under {own = own} {e = e} x)
+        by t i (inl x) other = inl (own_under own e x)
         by t i (inr q) other = inr (told i ∙ q.0 other)
 
         stops : (t : Tree) → InFrame t (numbered_frame (number k) body) → (part : List SectionRow) × Gains new new' part × StopsHooked asked adds old.ceiling last s t part e s'
@@ -522,7 +515,7 @@ module _ {S E : Type 0} (asked : Asks S E) (adds : Puts S SectionRow) where
 
         why : IsOwn new.ceiling own e ⊎ ((e ≢ NoMemory → asked s (Section last (Some k)) ≡ refused e s') × IfParse e (λ at. ⊥)) →
             OwnTooLarge asked adds old.ceiling bytes s0 e ⊎ Refuses (numbered_frame (number k) body) e s'
-        why (inl x) = inl (own_large {e = e} (inr (k, body, left, there, own_under {own = own} {e = e} x)))
+        why (inl x) = inl (own_large {e = e} (inr (k, body, left, there, own_under own e x)))
         why (inr q) = inr (
           (λ t i other. told_refused asked old.ceiling last s s' t e (told i ∙ q.0 other)),
           q.1,
@@ -613,7 +606,7 @@ module _ {S E : Type 0} (asked : Asks S E) (adds : Puts S SectionRow) where
 
         by : IsOwn new.ceiling own e ⊎ ((e ≢ NoMemory → asked s (Section last None) ≡ refused e s') × IfParse e (λ at. ⊥)) → e ≢ NoMemory →
             IsOwn old.ceiling own e ⊎ (asked s (Section last None) ≡ refused e s')
-        by (inl x) other = inl (own_under {own = own} {e = e} x)
+        by (inl x) other = inl (own_under own e x)
         by (inr q) other = inr (q.0 other)
 
         go : (t : Tree) → Ahead d.read rest t [] → StopsWoven asked adds old.ceiling (s0, old) t (s', new') e
@@ -634,7 +627,7 @@ module _ {S E : Type 0} (asked : Asks S E) (adds : Puts S SectionRow) where
         cause _ q = absurd q
 
         why : IsOwn new.ceiling own e ⊎ ((e ≢ NoMemory → asked s (Section last None) ≡ refused e s') × IfParse e (λ at. ⊥)) → IsWovenCause asked adds old.ceiling bytes s0 s' e
-        why (inl x) = inr (own_large {e = e} (inl (empty, own_under {own = own} {e = e} x)))
+        why (inl x) = inr (own_large {e = e} (inl (empty, own_under own e x)))
         why (inr q) = inl (cause e q.1)
 
     -- ---- the state that is left
