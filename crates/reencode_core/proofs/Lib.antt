@@ -8,9 +8,11 @@ pub mod EachItem
 pub mod EachRow
 pub mod OneSection
 pub mod AnySection
+pub mod AddsNothing
 pub mod CoreLoop
 pub mod Faults
 pub mod WholeBytes
+pub mod Completeness
 pub mod OneRow
 pub mod DataRow
 pub mod Group

@@ -1,6 +1,8 @@
 //! Laws, each the contract of a function that does nothing.
+ghost use Rattle.std.specs.Prelude.{List, ℕ};
 ghost use Rattle.reencode_hooks.specs.Run.{ask};
 ghost use Rattle.reencode_core.specs.Faults.{FaultTells};
+ghost use Rattle.reencode_core.specs.Woven.{AcceptedIsAnswered};
 ghost use Rattle.reencode_core.specs.WovenLaws.{OutputIsRead, WeaveEnds, WeaveIsRun, WeaveOfNothing};
 
 use reencode_hooks::ReencodeIndices;
@@ -31,4 +33,10 @@ pub fn weave_is_run<T: ReencodeIndices>(_reencoder: &T)
 /// alone: the filled tree, with the readings of what was added in their places.
 pub fn output_is_read<T: ReencodeIndices>(_reencoder: &T)
     ensures { OutputIsRead (ask T.reply T.next) T.adds }
+{}
+
+/// Where bytes have a reading, no section that the section hook adds is above the ceiling, and the walk over the reading with
+/// the added sections is accepted, `reencode_core` answers the normal spelling of its tree in its state, or memory is wanting.
+pub fn accepted_is_answered<T: ReencodeIndices, A>(_reencoder: &T, _answers: &[A])
+    ensures { (view : A → List ℕ) → AcceptedIsAnswered (ask T.reply T.next) T.adds view }
 {}
