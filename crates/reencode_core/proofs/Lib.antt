@@ -10,6 +10,7 @@ pub mod OneSection
 pub mod AnySection
 pub mod CoreLoop
 pub mod Faults
+pub mod SectionVisits
 pub mod WholeBytes
 pub mod OneRow
 pub mod DataRow

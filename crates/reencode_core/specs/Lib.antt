@@ -10,5 +10,6 @@ pub mod Core
 pub mod Weave
 pub mod Woven
 pub mod Faults
+pub mod SectionVisits
 pub mod Leaves
 pub mod Rules

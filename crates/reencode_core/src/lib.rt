@@ -17,7 +17,7 @@ mod shared;
 mod subsections;
 pub mod utils;
 
-pub use laws::fault_tells;
+pub use laws::{fault_tells, section_visits_are};
 pub use names::{indirect_name_map, map_indirect_names, map_names, name_map};
 pub use reencode::{Reencode, reencode_core};
 pub use rule::reencode_by_rule;
