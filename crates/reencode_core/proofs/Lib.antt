@@ -8,10 +8,12 @@ pub mod EachItem
 pub mod EachRow
 pub mod OneSection
 pub mod AnySection
+pub mod AddsNothing
 pub mod CoreLoop
 pub mod Faults
 pub mod SectionVisits
 pub mod WholeBytes
+pub mod Completeness
 pub mod OneRow
 pub mod DataRow
 pub mod Group
@@ -31,3 +33,5 @@ pub mod InFrame
 pub mod NamesLoop
 pub mod CustomSection
 pub mod EachSubsection
+pub mod Weaves
+pub mod WovenRead

@@ -9,6 +9,7 @@ pub mod Names
 pub mod Core
 pub mod Weave
 pub mod Woven
+pub mod WovenLaws
 pub mod Faults
 pub mod SectionVisits
 pub mod Leaves
