@@ -1,0 +1,66 @@
+-- The law of section visits: what the section hook is told on the walk over a core module.
+use Rattle.std.specs.Prelude.{◌≡◌, ◌≤◌, ◌<◌, ◌⊎◌, ℕ, suc, List, [], ◌∷◌, ◌++◌, Bool, true, false, nat_eq, length, map, find, filter, filter_map, zip, Option, Some, None}
+use Rattle.std.specs.List.{concat, AllZip}
+use Rattle.wasm_shapes.specs.declared.SectionId.{SectionId}
+use Rattle.wasm_shapes.specs.declared.Visit.{Visit}
+use Rattle.wasm_shapes.specs.declared.Visit.TheVariants.{Section}
+use Rattle.wasm_shapes.specs.Tree.{Tree, normal, visits}
+use Rattle.wasm_shapes.specs.Spells.{Spells}
+use Rattle.wasm_shapes.specs.SectionTable.{number}
+use Rattle.wasm_shapes.specs.Module.{in_force, section, core_header, core_module, core_tree, alsos, CoreReading}
+
+-- ---- the sections, and their kinds
+
+-- These are the texts of the sections that stand behind the header of a core module; the tree is that of what they spell, one for one.
+pub record HasSections (bytes : List ℕ) (t : Tree) (texts : List (List ℕ)) : Type 0 where
+  pub parts : List Tree
+  pub stand : bytes ≡ core_header ++ concat texts
+  pub spell : AllZip (Spells section) texts parts
+  pub are : t ≡ alsos parts Tree.finish
+
+-- The kind that has this number as its id: each id from 1 to 13 is that of one. Custom sections, and those of other ids, have none.
+abbrev pub kind_of_id : ℕ → Option SectionId
+kind_of_id n = find (λ k. nat_eq (number k) n) (map (λ x. x.name) in_force)
+
+-- the kind of a section by its text, which begins with its id
+abbrev pub kind_of_text : List ℕ → Option SectionId
+kind_of_text [] = None
+kind_of_text (id ∷ behind) = kind_of_id id
+
+-- the kinds of those of some sections that have one, in order
+abbrev pub kinds_of_texts : List (List ℕ) → List SectionId
+kinds_of_texts texts = filter_map kind_of_text texts
+
+-- ---- what the section hook is told
+
+abbrev pub is_section : Visit → Bool
+is_section (Section last next) = true
+is_section _ = false
+
+-- the section visits among some visits
+abbrev pub section_visits : List Visit → List Visit
+section_visits vs = filter is_section vs
+
+-- What is told of sections of these kinds: of each, the kind before it and its own, and at the end the last. With none it is one visit, of no kinds.
+abbrev pub visits_of_kinds : List SectionId → List Visit
+visits_of_kinds ks = map (λ p. Section p.0 p.1) (zip (None ∷ map Some ks) (map Some ks ++ None ∷ []))
+
+-- ---- the law
+
+pub record SectionVisitsAre : Type 0 where
+  -- a reading of a core module consists of sections,
+  pub sections : (bytes : List ℕ) (t : Tree) → CoreReading bytes t → (texts : List (List ℕ)) × HasSections bytes t texts
+  -- and its section visits are those of their kinds;
+  pub told : (bytes : List ℕ) (t : Tree) (texts : List (List ℕ)) → HasSections bytes t texts → section_visits (visits t) ≡ visits_of_kinds (kinds_of_texts texts)
+  -- so it is with the tree of the whole module,
+  pub whole : (bytes : List ℕ) (t : Tree) → Spells core_module bytes t →
+      (u : Tree) × (texts : List (List ℕ)) × (t ≡ core_tree u) × HasSections bytes u texts × (section_visits (visits t) ≡ visits_of_kinds (kinds_of_texts texts))
+  -- and the visits are one more than the sections that have a kind.
+  pub one_more : (ks : List SectionId) → length (visits_of_kinds ks) ≡ suc (length ks)
+  -- Within a section there is none.
+  pub within : (text : List ℕ) (t : Tree) → Spells section text t → section_visits (visits t) ≡ []
+  -- The kind of a section is that of its tree, however this is spelled,
+  pub of_tree : (text : List ℕ) (t : Tree) → Spells section text t → kind_of_text text ≡ kind_of_text (normal t)
+  -- a kind's number is an id of that kind, and no other id has one.
+  pub known : (k : SectionId) → 1 ≤ number k → kind_of_id (number k) ≡ Some k
+  pub others : (id : ℕ) → (id ≡ 0) ⊎ (13 < id) → kind_of_id id ≡ None
