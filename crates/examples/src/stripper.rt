@@ -3,12 +3,12 @@
 //! Its author gives up `keeps_defaults`, and with it each clause `default` and `after_error` of every method. What is left is
 //! what the override says of itself, and the clauses that hold for every implementation: what comes out is whole sections.
 //! That the other sections come out as they went in is no longer said, though the methods that map them are the same.
-ghost use Rattle.std.specs.Prelude.{◌≡◌, List, OnOk, OnErr, IfOk};
+ghost use Rattle.std.specs.Prelude.{◌≡◌, ◌<◌, List, length, OnErr, IfOk, IfErr};
 ghost use Rattle.wasm_shapes.specs.Tree.{normal};
 ghost use Rattle.wasm_read.specs.Types.{custom_tree};
 ghost use Rattle.wasm_write.specs.Sections.{SectionRow, section_row, with_section, module_bytes};
 ghost use Rattle.reencode_core.specs.Sections.{KeepsModule};
-ghost use Rattle.examples.specs.Stripper.{IsLeftOut};
+ghost use Rattle.examples.specs.Stripper.{IsLeftOut, IsUnwritten};
 
 use reencode_core::Reencode;
 use reencode_hooks::{Error, ReencodeIndices};
@@ -97,7 +97,10 @@ impl ReencodeIndices for Stripper {
 impl ReencodeItems for Stripper {}
 
 impl Reencode for Stripper {
-    /// Leaves the section out, or adds it as it is.
+    /// Leaves the section out, or adds it as it is. An error changes nothing.
+    ///
+    /// `TooLarge` comes only where the section is added and its body is longer than the ceiling, with its length. No other
+    /// error comes but want of memory.
     fn parse_custom_section(
         &mut self,
         _alloc: Global,
@@ -110,6 +113,11 @@ impl Reencode for Stripper {
         ensures added { ¬ IsLeftOut self.old.all section.entry.name.now
             → IfOk result (λ _. «module».new ≡ with_section «module».old
             (section_row 0 (normal (custom_tree section.entry)))) }
+        ensures errors { IfErr result (λ e. IsUnwritten e (λ size.
+            (¬ IsLeftOut self.old.all section.entry.name.now)
+            × (size ≡ length (normal (custom_tree section.entry)))
+            × («module».old.ceiling < size))) }
+        ensures unchanged { OnErr result («module».new ≡ «module».old) }
         ensures state { self.new ≡ self.old }
     {
         if self.all || section.name == "name" {

@@ -27,7 +27,7 @@ use Rattle.reencode_hooks.specs.Run.{Gives, LeavesVisited, NeverWants, Visited, 
 use Rattle.reencode_hooks.specs.Walk.{walk}
 use Rattle.reencode_items.proofs.Leaving.{accepted_visited, visited_left}
 use Rattle.reencode_core.specs.Bodies.{KeepsCode}
-use Rattle.reencode_core.specs.Names.{GivesSubsection, MapRow, StopsContent, StopsMap, TooLargeNames, of_writer}
+use Rattle.reencode_core.specs.Names.{GivesSubsection, MapRow, OfMap, TooLargeNames, of_writer}
 use Rattle.reencode_core.specs.NameMaps.{MapsEntries}
 use Rattle.reencode_core.specs.Rows.{Asks}
 use Rattle.reencode_core.proofs.BodyLoop.{keeps_code}
@@ -163,7 +163,7 @@ pub record IsMap (n : Name) (id : ℕ) (p : Space) (body : Shape) (m : MapStandi
   pub entries : (t : Tree) → ReadsName n t → (ts : List Tree) × EntriesLeft (plain_row body) m (rows_tree ts) × (t ≡ names_tree id p ts)
   pub read : (ts : List Tree) → EntriesLeft (plain_row body) m (rows_tree ts) → (t : Tree) × ReadsName n t
   pub row : MapRow id (asked_row p body)
-  pub stops : {S E : Type 0} {asked : Asks S E} {c : ℕ} {s k : S} {e : Error E} → StopsMap asked c id m s e k → StopsContent asked c (content_of n) s e k
+  pub of_map : (P : Shape → MapStanding → Type 0) → P (asked_row p body) m → OfMap (content_of n) P
 
 pub direct_map : {n : Name} {m : MapStanding} (id : ℕ) (p : Space) → MapRow id (asked_row p Shape.name) → content_of n ≡ Content.direct id p m → IsMap n id p Shape.name m
 direct_map {n = n} {m = m} id p row is = record {
@@ -175,7 +175,7 @@ direct_map {n = n} {m = m} id p row is = record {
       let Q : Content → Type 0 = λ z. ReadsContent z t in
       (t, subst Q (sym is) (es.0, subst L es.1 w, refl));
   row = row;
-  stops = λ {S} {E} {asked} {c} {s} {k} {e} h. let Q : Content → Type 0 = λ z. StopsContent asked c z s e k in subst Q (sym is) h;
+  of_map = λ P h. let Q : Content → Type 0 = λ z. OfMap z P in subst Q (sym is) (_, row, h);
 }
 
 pub indirect_map : {n : Name} {m : MapStanding} (id : ℕ) (p : Space) → MapRow id (asked_row p (Shape.vec plain_naming)) → content_of n ≡ Content.indirect id p m → IsMap n id p (Shape.vec plain_naming) m
@@ -188,7 +188,7 @@ indirect_map {n = n} {m = m} id p row is = record {
       let Q : Content → Type 0 = λ z. ReadsContent z t in
       (t, subst Q (sym is) (os.0, subst L os.1 w, refl));
   row = row;
-  stops = λ {S} {E} {asked} {c} {s} {k} {e} h. let Q : Content → Type 0 = λ z. StopsContent asked c z s e k in subst Q (sym is) h;
+  of_map = λ P h. let Q : Content → Type 0 = λ z. OfMap z P in subst Q (sym is) (_, row, h);
 }
 
 -- what the calls that map a map gave
@@ -210,8 +210,8 @@ module _ {S E : Type 0} (i : Ghosts S E) {n : Name} {id : ℕ} {p : Space} {body
                 let b = is.entries t reads in
                 (refl, λ other. inl (rw b.2 (framed_refused (asks i) id (Tree.fixed id) old.ceiling s k (vector_tree (map (asked_in p) b.0)) refl e (g.reading b.0 b.1 other))));
             readable = tt;
-            unreadable = IfParse-map e (λ at u. (λ t reads. let b = is.entries t reads in u.0 (rows_tree b.0) b.1, refl, u.1)) g.unreadable;
-            refusal = IfRefused-map e (λ d. inr (refl, is.stops (record { row = asked_row p body; is_row = is.row; count = d.count; start = d.start; due = d.due; stops = d.stops; more = d.more }))) g.refusal;
+            unreadable = IfParse-map e (λ at u. (λ t reads. let b = is.entries t reads in u.0 (rows_tree b.0) b.1, refl, is.of_map _ u.1)) g.unreadable;
+            refusal = IfRefused-map e (λ d. inr (refl, is.of_map _ d)) g.refusal;
           }
 
       left : IsTrue i.sure → (t : Tree) → ReadsName n t → Visited (asks i) s (visits t) k

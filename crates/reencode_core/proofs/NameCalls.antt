@@ -17,16 +17,17 @@ use Rattle.wasm_shapes.specs.Rows.{rows_then}
 use Rattle.wasm_shapes.specs.Types.{rows_tree, vector_tree}
 use Rattle.wasm_shapes.specs.Module.{plain_naming}
 use Rattle.wasm_shapes.specs.Namings.{asked_in}
-use Rattle.wasm_read.specs.Names.{MapStanding, Due, EntriesLeft, EntryRead}
-use Rattle.wasm_read.proofs.NameMaps.{plain_row, asked_row, due_behind, due_one, left_less, left_one, lists_one}
+use Rattle.wasm_read.specs.Names.{MapStanding, map_place, Due, EntriesLeft, EntryMissing, EntryRead}
+use Rattle.wasm_read.proofs.NameMaps.{plain_row, asked_row, asked_from, due_behind, due_one, left_less, left_one, lists_one}
 use Rattle.reencode_hooks.specs.declared.error.Error.{Error}
-use Rattle.reencode_hooks.specs.declared.error.Error.TheVariants.{ParseError, NoMemory}
+use Rattle.reencode_hooks.specs.declared.error.Error.TheVariants.{NoMemory}
 use Rattle.reencode_hooks.specs.Run.{Step, accepted, refused, and_then, Gives, Visited, LeavesVisited}
 use Rattle.reencode_hooks.specs.Walk.{walk}
 use Rattle.reencode_items.proofs.Leaving.{accepted_visited, first_visited, refused_visited}
 use Rattle.reencode_core.specs.Errors.{IfParse, IfRefused}
-use Rattle.reencode_core.specs.Rows.{Asks, AcceptsRows, RowsBefore, Further, StopsEach, onto_rows}
-use Rattle.reencode_core.specs.NameMaps.{Asked, entry_of, entries_of, renamed, IsParseError, Calls, ReadTo, CallRefused, Unread, Wants, MapsEntries}
+use Rattle.reencode_core.specs.Rows.{Asks, AcceptsRows, RowsBefore, onto_rows}
+use Rattle.reencode_core.specs.NameMaps.{Asked, entry_of, entries_of, renamed, Calls, ReadTo, CallRefused, Unread, Wants, MapsEntries}
+use Rattle.reencode_core.specs.Names.{EntriesRead, MapFault, StopsMap}
 use Rattle.reencode_core.proofs.Leaving.{visits_behind}
 use Rattle.reencode_core.proofs.NameWalks.{left_front}
 use Rattle.reencode_core.proofs.RowLoop.{onto_nothing}
@@ -34,21 +35,13 @@ use Rattle.reencode_core.proofs.Usual.{Usual, stops_usual, unless_wanting}
 
 -- ---- what the lemmas give
 
--- In what a map still has entries stand and were accepted, and the next one, which is due, stands whole and is refused.
-pub record StopsDue {S E : Type 0} (asked : Asks S E) (c : ℕ) (item : Shape) (m : MapStanding) (s : S) (e : Error E) (k : S) : Type 0 where
-  pub count : ℕ
-  pub start : List ℕ
-  pub due : Due m count start
-  pub stops : StopsEach asked c item start s e k
-  pub more : length stops.read < count
-
 -- What the calls were is what the walk of the entries gives, with their indices asked for.
 pub record GivesMap {S E : Type 0} (asked : Asks S E) (c : ℕ) (p : Space) (body : Shape) (m : MapStanding) (s k : S) (result : Result (List Tree) (Error E)) : Type 0 where
   pub reading : (ts : List Tree) → EntriesLeft (plain_row body) m (rows_tree ts) →
       Gives (walk asked c s (vector_tree (map (asked_in p) ts))) (λ es. vector_tree (map (asked_in p) es)) k result
   pub readable : IfOk result (λ _. (ts : List Tree) × EntriesLeft (plain_row body) m (rows_tree ts))
-  pub unreadable : IfErr result (λ e. IfParse e (λ at. ((rows : Tree) → EntriesLeft (plain_row body) m rows → ⊥) × Further asked s k))
-  pub refusal : IfErr result (λ e. IfRefused e (StopsDue asked c (asked_row p body) m s e k))
+  pub unreadable : IfErr result (λ e. IfParse e (λ at. ((rows : Tree) → EntriesLeft (plain_row body) m rows → ⊥) × MapFault asked c (asked_row p body) m s k at))
+  pub refusal : IfErr result (λ e. IfRefused e (StopsMap asked c (asked_row p body) m s e k))
 
 -- What stands behind the index of an entry asks nothing, and such entries are told apart.
 pub record Quiet {S E : Type 0} (asked : Asks S E) (body : Shape) : Type 0 where
@@ -157,14 +150,16 @@ reads_are : {body : Shape} (asks : List Asked) (m n : MapStanding) → ReadTo (p
 reads_are [] m n r = Is.nil
 reads_are (a ∷ asks) m n r = let one = r.1 in Is.cons one.begins.spells.shaped (reads_are asks r.0 n r.2)
 
--- a place says nothing of a refusal
-parse_is : {E : Type 0} (e : Error E) → IsParseError e → (P : ℕ → Type 0) → ((at : ℕ) → P at) → IfParse e P
-parse_is (ParseError x) q P h = h x.at
-parse_is _ q P h = absurd q
+-- entries that were read, by rows whose index is asked for
+read_asked : (p : Space) (body : Shape) (asks : List Asked) (m n : MapStanding) → ReadTo (plain_row body) m asks n → EntriesRead (asked_row p body) m (map (asked_in p) (entries_of asks)) n
+read_asked p body [] m n r = r
+read_asked p body (a ∷ asks) m n r =
+    let one = r.1 in
+    (r.0, record { left = one.left; bytes = one.bytes; due = one.due; fits = one.fits; begins = begins_asked p one.begins; counts = one.counts; len = one.len }, read_asked p body asks r.0 n r.2)
 
-parse_unrefused : {E : Type 0} (e : Error E) (P : Type 0) → IsParseError e → IfRefused e P
-parse_unrefused (ParseError x) P q = tt
-parse_unrefused _ P q = absurd q
+-- none are left by such rows either
+missing_asked : {body : Shape} (p : Space) {m : MapStanding} → EntryMissing (plain_row body) m → EntryMissing (asked_row p body) m
+missing_asked p r = record { none = λ rows w. let a = asked_from w.rows_left in r.none (rows_tree a.plain) (record { count = w.count; bytes = w.bytes; due = w.due; rows_left = a.left }) }
 
 -- ---- the calls and the walk
 
@@ -182,7 +177,7 @@ module _ {F S E : Type 0} (step : F → ℕ → Result ℕ (Error E) → F → T
   keeps_name m f g (Ok es) h = calls_name h.asked f g h.calls
   keeps_name m f g (Err e) h = by h.why
     where
-      by : CallRefused (plain_row body) step h.rest h.between g e ⊎ Unread (plain_row body) m h.between g e ⊎ Wants h.between g e → name g ≡ name f
+      by : CallRefused (plain_row body) step h.rest h.between g e ⊎ Unread (plain_row body) m h.rest h.between g e ⊎ Wants h.between g e → name g ≡ name f
       by (inl r) = (one h.between r.index (Err e) g r.call).1 ∙ calls_name h.asked f h.between h.calls
       by (inr (inl u)) = ap name u.state ∙ calls_name h.asked f h.between h.calls
       by (inr (inr w)) = ap name w.state ∙ calls_name h.asked f h.between h.calls
@@ -211,14 +206,6 @@ module _ {F S E : Type 0} (step : F → ℕ → Result ℕ (Error E) → F → T
       cons_walk c (see f) (see k.0) (Tree.pair (Tree.ix p a.index) a.named) y rest here
       ∙ ap (λ (q : Step S (Error E) Tree). and_then q (λ u m. accepted (Tree.cons y u) m)) (calls_walk c asks k.0 g d' k.2 others)
       ∙ onto_more y (map (asked_in p) (renamed asks)) (walk asked c (see g) others)
-
-  calls_run : (asks : List Asked) (f g : F) → Calls step f asks g → Further asked (see f) (see g)
-  calls_run [] f g k = record { visits = []; given = []; ran = ap (λ (h : F). accepted [] (see h)) k }
-  calls_run (a ∷ asks) f g k =
-      let here = (one f a.index (Ok a.answer) k.0 k.1).0 in
-      let others = calls_run asks k.0 g k.2 in
-      let ran = others.ran in
-      record { visits = Index p a.index ∷ others.visits; given = a.answer ∷ others.given; ran = rw (here, ran) refl }
 
   -- ---- the clauses
 
@@ -276,7 +263,7 @@ module _ {F S E : Type 0} (step : F → ℕ → Result ℕ (Error E) → F → T
       vec_stops c (see f) (see g) (rows_tree (map (asked_in p) ts)) e (subst Q q.2 all)
 
   stops_due : (c : ℕ) (m n k : MapStanding) (f b g : F) (asks : List Asked) (i : ℕ) (t : Tree) (e : Error E) → ReadTo (plain_row body) m asks n → Calls step f asks b →
-      EntryRead (plain_row body) n (entry_of i t) k → step b i (Err e) g → e ≢ NoMemory → StopsDue asked c (asked_row p body) m (see f) e (see g)
+      EntryRead (plain_row body) n (entry_of i t) k → step b i (Err e) g → e ≢ NoMemory → StopsMap asked c (asked_row p body) m (see f) e (see g)
   stops_due c m n k f b g asks i t e r calls read call wants =
       let front = front p asks (read.left + 1) read.bytes r read.due in
       let long = length-map (entries_of asks) (asked_in p) ∙ length-map asks (λ a. entry_of a.index a.named) in
@@ -311,7 +298,7 @@ module _ {F S E : Type 0} (step : F → ℕ → Result ℕ (Error E) → F → T
   gives_map c m f g (Err e) h = record { reading = λ ts w n. reading ts w n h.why; readable = tt; unreadable = unreadable h.why; refusal = refusal h.why }
     where
       Why : Type 0
-      Why = CallRefused (plain_row body) step h.rest h.between g e ⊎ Unread (plain_row body) m h.between g e ⊎ Wants h.between g e
+      Why = CallRefused (plain_row body) step h.rest h.between g e ⊎ Unread (plain_row body) m h.rest h.between g e ⊎ Wants h.between g e
 
       reading : (ts : List Tree) → EntriesLeft (plain_row body) m (rows_tree ts) → e ≢ NoMemory → Why → walk asked c (see f) (vector_tree (map (asked_in p) ts)) ≡ refused e (see g)
       reading ts w n (inl r) = reading_err c m h.rest r.behind f h.between g h.asked r.index r.named e ts h.reads h.calls r.read r.call w n
@@ -319,19 +306,31 @@ module _ {F S E : Type 0} (step : F → ℕ → Result ℕ (Error E) → F → T
       reading ts w n (inr (inr k)) = absurd (n k.memory)
 
       None_ : ℕ → Type 0
-      None_ at = ((rows : Tree) → EntriesLeft (plain_row body) m rows → ⊥) × Further asked (see f) (see g)
+      None_ at = ((rows : Tree) → EntriesLeft (plain_row body) m rows → ⊥) × MapFault asked c (asked_row p body) m (see f) (see g) at
 
       unreadable : Why → IfParse e None_
       unreadable (inl r) = stops_usual None_ (asked (see h.between) (Index p r.index)) e (see g) (usual (see h.between) r.index) (one h.between r.index (Err e) g r.call).0
       unreadable (inr (inl u)) =
-          let P : F → Type 0 = λ k. Further asked (see f) (see k) in
-          parse_is e u.parse None_ (λ at. (u.none, subst P (sym u.state) (calls_run h.asked f h.between h.calls)))
+          let P : F → Type 0 = λ k. MapFault asked c (asked_row p body) m (see f) (see k) (map_place h.rest) in
+          let Q : Error E → Type 0 = λ x. IfParse x None_ in
+          subst Q (sym u.parse) (
+            u.none,
+            subst P (sym u.state) (record {
+              read = map (asked_in p) (entries_of h.asked);
+              rest = h.rest;
+              made = map (asked_in p) (renamed h.asked);
+              front = read_asked p body h.asked m h.rest h.reads;
+              missing = missing_asked p u.missing;
+              place = refl;
+              accepts = calls_walk c h.asked f h.between (reads_are h.asked m h.rest h.reads) h.calls;
+            }),
+          )
       unreadable (inr (inr k)) = let P : Error E → Type 0 = λ x. IfParse x None_ in subst P (sym k.memory) tt
 
-      refusal : Why → IfRefused e (StopsDue asked c (asked_row p body) m (see f) e (see g))
+      refusal : Why → IfRefused e (StopsMap asked c (asked_row p body) m (see f) e (see g))
       refusal (inl r) = unless_wanting e (λ n. stops_due c m h.rest r.behind f h.between g h.asked r.index r.named e h.reads h.calls r.read r.call n)
-      refusal (inr (inl u)) = parse_unrefused e (StopsDue asked c (asked_row p body) m (see f) e (see g)) u.parse
-      refusal (inr (inr k)) = let P : Error E → Type 0 = λ x. IfRefused x (StopsDue asked c (asked_row p body) m (see f) e (see g)) in subst P (sym k.memory) tt
+      refusal (inr (inl u)) = let P : Error E → Type 0 = λ x. IfRefused x (StopsMap asked c (asked_row p body) m (see f) e (see g)) in subst P (sym u.parse) tt
+      refusal (inr (inr k)) = let P : Error E → Type 0 = λ x. IfRefused x (StopsMap asked c (asked_row p body) m (see f) e (see g)) in subst P (sym k.memory) tt
 
   -- The state that an error leaves, where no call answers want of memory.
   pub leaves_map : (never : (f : F) (i : ℕ) (g : F) → step f i (Err NoMemory) g → ⊥) (m : MapStanding) (f g : F) (result : Result (List Tree) (Error E)) →
@@ -340,7 +339,7 @@ module _ {F S E : Type 0} (step : F → ℕ → Result ℕ (Error E) → F → T
   leaves_map never m f g (Ok es) h ts w = tt
   leaves_map never m f g (Err e) h ts w = by h.why
     where
-      by : CallRefused (plain_row body) step h.rest h.between g e ⊎ Unread (plain_row body) m h.between g e ⊎ Wants h.between g e →
+      by : CallRefused (plain_row body) step h.rest h.between g e ⊎ Unread (plain_row body) m h.rest h.between g e ⊎ Wants h.between g e →
           Visited asked (see f) (visits (vector_tree (map (asked_in p) ts))) (see g)
       by (inl r) =
           let wants : e ≢ NoMemory = λ same. never h.between r.index g (subst (λ (x : Error E). step h.between r.index (Err x) g) same r.call) in

@@ -3,6 +3,7 @@ use Rattle.std.proofs.Common.{◌≡◌, ℕ, ◌+◌, ◌-◌, ◌<◌, ◌^◌
 use Rattle.std.proofs.lemmas.List.{map-append, length-map}
 use Rattle.std.proofs.lemmas.List.Elements.{All-nil, All-cons, All-contains}
 use Rattle.std.proofs.lemmas.Fn.{FoldsTo-push}
+use Rattle.wasm_leb.specs.declared.fault.ReadError.{ReadError}
 use Rattle.wasm_shapes.specs.Tree.{Tree}
 use Rattle.wasm_shapes.specs.Shape.{Shape, closed}
 use Rattle.wasm_shapes.specs.Sound.{sound}
@@ -10,16 +11,16 @@ use Rattle.wasm_shapes.specs.Rows.{rows_then}
 use Rattle.wasm_shapes.specs.Types.{rows_tree, vector_tree}
 use Rattle.wasm_shapes.specs.Module.{plain_naming}
 use Rattle.wasm_shapes.specs.Namings.{Entry, entries_trees, plain_indirect}
-use Rattle.wasm_read.specs.Names.{MapStanding, DueFrom, EntriesLeft, NamesLeft, EntryRead, IndirectRead, EntryMissing, EntriesEnded}
+use Rattle.wasm_read.specs.Names.{MapStanding, map_place, DueFrom, EntriesLeft, NamesLeft, EntryRead, IndirectRead, EntryMissing, EntriesEnded}
 use Rattle.wasm_read.proofs.NameMaps.{left_more, left_less, left_none, left_one, left_shrinks, lists_one}
 use Rattle.wasm_write.specs.declared.fault.WriteFault.{WriteFault}
 use Rattle.wasm_write.specs.declared.fault.WriteFault.TheVariants as faults
 use Rattle.wasm_write.specs.Counts.{IsTooLarge}
 use Rattle.wasm_write.specs.Faults.{IfTooLarge}
 use Rattle.reencode_hooks.specs.declared.error.Error.{Error}
-use Rattle.reencode_hooks.specs.declared.error.Error.TheVariants.{NoMemory}
+use Rattle.reencode_hooks.specs.declared.error.Error.TheVariants.{ParseError, NoMemory}
 use Rattle.reencode_hooks.specs.Errors.{error_of_write}
-use Rattle.reencode_core.specs.NameMaps.{Asked, entry_of, entries_of, renamed, IsParseError, Calls, ReadTo, CallRefused, Unread, Wants, Mapped, Stopped, MapsEntries, KeepsNames}
+use Rattle.reencode_core.specs.NameMaps.{Asked, entry_of, entries_of, renamed, Calls, ReadTo, CallRefused, Unread, Wants, Mapped, Stopped, MapsEntries, KeepsNames}
 
 -- Entries were read and asked for, and what they became was added. With those that are left they are no more than a count.
 pub record Walked {F E : Type 0} (row : Shape) (step : F → ℕ → Result ℕ (Error E) → F → Type 0) (m : MapStanding) (old : F) (n : MapStanding) (now : F) (added : List Tree) : Type 0 where
@@ -121,9 +122,16 @@ module _ {F E : Type 0} {row : Shape} (step : F → ℕ → Result ℕ (Error E)
     why = inl (record { index = i; named = t; behind = _; read = r; call = s });
   }
 
-  pub walked_unread : {m n : MapStanding} {old now : F} {added : List Tree} {x : Error E} → sound row ≡ true → closed row ≡ true →
-      Walked row step m old n now added → EntryMissing row n → IsParseError x → Stopped row step m old now x
-  walked_unread {m = m} k h w r p = record { asked = w.asked; rest = _; reads = w.reads; between = _; calls = w.calls; why = inr (inl (record { parse = p; none = none; state = refl })) }
+  pub walked_unread : {m n : MapStanding} {old now : F} {added : List Tree} (x : ReadError) → sound row ≡ true → closed row ≡ true →
+      Walked row step m old n now added → EntryMissing row n → x.at ≡ map_place n → Stopped row step m old now (ParseError x)
+  walked_unread {m = m} x k h w r p = record {
+    asked = w.asked;
+    rest = _;
+    reads = w.reads;
+    between = _;
+    calls = w.calls;
+    why = inr (inl (record { parse = ap (λ (at : ℕ). ParseError (record { at = at })) p; none = none; missing = r; state = refl }));
+  }
     where
       none : (rows : Tree) → EntriesLeft row m rows → ⊥
       none rows all = let f = left_front k h w.asked w.reads all in r.none f.0 f.2
@@ -179,7 +187,7 @@ module _ {F E : Type 0} (step : F → ℕ → Result ℕ (Error E) → F → Typ
   keeps_names m f g (Ok ts) h = λ es w. h.answers ∙ unchanged h.asked f g h.calls ∙ lists_one (entries_of h.asked) (entries_trees es) (left_one refl refl h.whole w)
   keeps_names m f g (Err e) h = λ es w. by es w h.why
     where
-      by : (es : List Entry) → NamesLeft m es → CallRefused plain_naming step h.rest h.between g e ⊎ Unread plain_naming m h.between g e ⊎ Wants h.between g e → e ≡ NoMemory
+      by : (es : List Entry) → NamesLeft m es → CallRefused plain_naming step h.rest h.between g e ⊎ Unread plain_naming m h.rest h.between g e ⊎ Wants h.between g e → e ≡ NoMemory
       by es w (inl r) = absurd (cc (same h.between r.index (Err e) g r.call))
       by es w (inr (inl u)) = absurd (u.none (rows_tree (entries_trees es)) w)
       by es w (inr (inr k)) = k.memory

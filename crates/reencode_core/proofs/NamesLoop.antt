@@ -3,14 +3,16 @@ use Rattle.std.proofs.Common.{◌≡◌, ◌≢◌, ◌⊎◌, ℕ, ◌-◌, ◌
 use Rattle.std.proofs.lemmas.List.Elements.{Contains-append_left}
 use Rattle.wasm_leb.specs.declared.fault.Fault.{Fault}
 use Rattle.wasm_leb.specs.declared.fault.Fault.TheVariants as fault
+use Rattle.wasm_shapes.specs.Shape.{Shape}
 use Rattle.wasm_shapes.specs.Tree.{Tree, visits}
 use Rattle.wasm_shapes.specs.Spells.{Is, Spelled, Spells}
 use Rattle.wasm_shapes.specs.Place.{Begins, BeginsNone}
+use Rattle.wasm_shapes.specs.Types.{rows_tree}
 use Rattle.wasm_shapes.specs.Module.{name_subsection, names}
 use Rattle.wasm_shapes.proofs.Begins.{none_at_end}
 use Rattle.wasm_read.specs.declared.types.Name.{Name}
 use Rattle.wasm_read.specs.declared.types.Name.TheVariants as name
-use Rattle.wasm_read.specs.Names.{NamesStanding, names_place, MapStanding, Due}
+use Rattle.wasm_read.specs.Names.{NamesStanding, names_place, MapStanding, whole_map, Due}
 use Rattle.wasm_read.specs.Reading.{ReadsNone}
 use Rattle.wasm_read.specs.Subsections.{Content, content_of, Holds, IsRaw, NameMissing, NameRead, ReadsName, subsection_frame, subsection_frame_tree}
 use Rattle.wasm_read.proofs.Subsections.{none_subsection, reads_subsection, subsection_there}
@@ -26,9 +28,9 @@ use Rattle.reencode_items.proofs.Leaving.{first_visited, none_visited}
 use Rattle.reencode_core.specs.Bodies.{KeepsCode}
 use Rattle.reencode_core.specs.Errors.{IfParse, IfRefused, placed_at}
 use Rattle.reencode_core.specs.Leaves.{LeavesReading}
-use Rattle.reencode_core.specs.Names.{GivesNames, GivesSubsection, MapRow, RefusesEntry, RefusesSubsection, StopsContent, StopsNames, SubsectionsFault, SubsectionsLeft, TooLargeNames}
+use Rattle.reencode_core.specs.Names.{ContentFault, GivesNames, GivesSubsection, MapFault, MapRow, RefusesEntry, RefusesSubsection, StopsContent, StopsMap, StopsNames, SubsectionsFault, SubsectionsLeft, TooLargeNames}
 use Rattle.reencode_core.specs.Rows.{Asks, Further}
-use Rattle.reencode_core.proofs.Counts.{further_none, only_rows}
+use Rattle.reencode_core.proofs.Counts.{further_none, only_rows, walk_further}
 use Rattle.reencode_core.proofs.Leaving.{Leaves, behind_visited}
 use Rattle.reencode_core.proofs.ManyLoop.{ManyDone, many_begun, many_more, many_read, many_refused, many_stuck, many_walked}
 use Rattle.reencode_core.proofs.OneRow.{answers, asks}
@@ -100,18 +102,29 @@ module _ {S E : Type 0} (asked : Asks S E) where
   walk_refuses c s m t x e p (inr q) = absurd (none_large s m t x e p q)
 
   -- an entry of its map is refused
+  in_map : (c id j : ℕ) (bytes body left : List ℕ) (s m : S) (e : Error E) (w : MapStanding) → Begins subsection_frame bytes (subsection_frame_tree id body) left → id ≡ j → w ≡ whole_map body →
+      (row : Shape) → MapRow j row → StopsMap asked c row w s e m → RefusesEntry asked bytes c s e m
+  in_map c id j bytes body left s m e w there same fresh row is_row q =
+      let D : MapStanding → Type 0 = λ z. Due z q.count q.start in
+      let R : ℕ → Type 0 = λ y. MapRow y row in
+      record { id = id; body = body; left = left; begins = there; row = row; is_row = subst R (sym same) is_row; count = q.count; start = q.start; counted = subst D fresh q.due; stops = q.stops; more = q.more }
+
   entry_refused : (k : Content) (c id : ℕ) (bytes body left : List ℕ) (s m : S) (e : Error E) → Begins subsection_frame bytes (subsection_frame_tree id body) left → Holds id body k →
       StopsContent asked c k s e m → RefusesEntry asked bytes c s e m
-  entry_refused (Content.direct j space w) c id bytes body left s m e there h q =
-      let D : MapStanding → Type 0 = λ z. Due z q.count q.start in
-      let R : ℕ → Type 0 = λ y. MapRow y q.row in
-      record { id = id; body = body; left = left; begins = there; row = q.row; is_row = subst R (sym h.0) q.is_row; count = q.count; start = q.start; counted = subst D h.1 q.due; stops = q.stops; more = q.more }
-  entry_refused (Content.indirect j space w) c id bytes body left s m e there h q =
-      let D : MapStanding → Type 0 = λ z. Due z q.count q.start in
-      let R : ℕ → Type 0 = λ y. MapRow y q.row in
-      record { id = id; body = body; left = left; begins = there; row = q.row; is_row = subst R (sym h.0) q.is_row; count = q.count; start = q.start; counted = subst D h.1 q.due; stops = q.stops; more = q.more }
+  entry_refused (Content.direct j space w) c id bytes body left s m e there h q = in_map c id j bytes body left s m e w there h.0 h.1 q.0 q.1 q.2
+  entry_refused (Content.indirect j space w) c id bytes body left s m e there h q = in_map c id j bytes body left s m e w there h.0 h.1 q.0 q.1 q.2
   entry_refused (Content.text n) c id bytes body left s m e there h q = absurd q
   entry_refused (Content.raw j b) c id bytes body left s m e there h q = absurd q
+
+  -- what was read of its map was accepted
+  map_further : {row : Shape} (c : ℕ) (s m : S) (at : ℕ) (w : MapStanding) → MapFault asked c row w s m at → Further asked s m
+  map_further c s m at w q = walk_further asked c s m (rows_tree q.read) (rows_tree q.made) (q.accepts Tree.nil)
+
+  fault_further : (k : Content) (c : ℕ) (s m : S) (at : ℕ) → ContentFault asked c k s m at → Further asked s m
+  fault_further (Content.direct j space w) c s m at q = map_further c s m at w q.2
+  fault_further (Content.indirect j space w) c s m at q = map_further c s m at w q.2
+  fault_further (Content.text n) c s m at q = absurd q
+  fault_further (Content.raw j b) c s m at q = absurd q
 
   module _ {c : ℕ} {start reader : NamesStanding} {s0 s : S} {made : List Tree} (len : reader.len ≡ start.len) (d : ManyDone asked c name_subsection start.rest s0 reader.rest s made) where
     -- no subsection is there
@@ -226,7 +239,7 @@ module _ {S E : Type 0} (asked : Asks S E) where
               let missing = none_subsection r g.unreadable.0 in record {
                 reading = λ rows all. absurd (many_stuck asked c refl refl refl d missing (some_begun r) rows all);
                 readable = tt;
-                unreadable = names_fault at missing (some_begun r) place g.unreadable.2;
+                unreadable = names_fault at missing (some_begun r) place (fault_further (content_of n) old.ceiling s m x.at g.unreadable.2);
                 refusal = tt;
               }
           go (UserError x) g = given (UserError x) g tt

@@ -7,7 +7,7 @@ use Rattle.wasm_shapes.specs.Shape.{Shape}
 use Rattle.wasm_shapes.specs.Tree.{Tree}
 use Rattle.wasm_shapes.specs.Types.{rows_tree}
 use Rattle.wasm_shapes.specs.Namings.{Entry, entries_trees}
-use Rattle.wasm_read.specs.Names.{MapStanding, EntryRead, EntriesLeft, NamesLeft}
+use Rattle.wasm_read.specs.Names.{MapStanding, map_place, EntryRead, EntryMissing, EntriesLeft, NamesLeft}
 use Rattle.reencode_hooks.specs.declared.error.Error.{Error}
 use Rattle.reencode_hooks.specs.declared.error.Error.TheVariants.{ParseError, NoMemory}
 
@@ -27,10 +27,6 @@ entries_of = map (λ a. entry_of a.index a.named)
 -- the same, each index replaced by its answer
 abbrev pub renamed : List Asked → List Tree
 renamed = map (λ a. entry_of a.answer a.named)
-
-abbrev pub IsParseError : {E : Type 0} → Error E → Type 0
-IsParseError (ParseError e) = Unit {0}
-IsParseError _ = ⊥
 
 -- One call for each of these entries, in order, and no other: each answered Ok, and they left the second state.
 abbrev pub Calls : {F E : Type 0} → (F → ℕ → Result ℕ (Error E) → F → Type 0) → F → List Asked → F → Type 0
@@ -56,10 +52,12 @@ pub record CallRefused {F E : Type 0} (row : Shape) (step : F → ℕ → Result
   pub read : EntryRead row rest (entry_of index named) behind
   pub call : step between index (Err e) new
 
--- No call was refused, and what the map had is no entries with nothing behind them.
-pub record Unread {F E : Type 0} (row : Shape) (m : MapStanding) (between new : F) (e : Error E) : Type 0 where
-  pub parse : IsParseError e
+-- No call was refused, and what the map had is no entries with nothing behind them: what it still has behind those that were
+-- asked for is none, and the error tells of that place in the map.
+pub record Unread {F E : Type 0} (row : Shape) (m rest : MapStanding) (between new : F) (e : Error E) : Type 0 where
+  pub parse : e ≡ ParseError (record { at = map_place rest })
   pub none : (rows : Tree) → EntriesLeft row m rows → ⊥
+  pub missing : EntryMissing row rest
   pub state : new ≡ between
 
 -- No call was refused, and memory is wanting.
@@ -75,7 +73,7 @@ pub record Stopped {F E : Type 0} (row : Shape) (step : F → ℕ → Result ℕ
   pub reads : ReadTo row m asked rest
   pub between : F
   pub calls : Calls step old asked between
-  pub why : CallRefused row step rest between new e ⊎ Unread row m between new e ⊎ Wants between new e
+  pub why : CallRefused row step rest between new e ⊎ Unread row m rest between new e ⊎ Wants between new e
 
 -- what the walk answers, and the state that it leaves
 abbrev pub MapsEntries : {F E : Type 0} → Shape → (F → ℕ → Result ℕ (Error E) → F → Type 0) → MapStanding → F → F → Result (List Tree) (Error E) → Type 0

@@ -1,5 +1,6 @@
 -- What the calls that map name sections, custom sections and sections of other ids give.
 use Rattle.std.specs.Prelude.{◌≡◌, ◌≢◌, ◌-◌, ◌⊎◌, ◌<◌, ℕ, List, [], length, get_or, Result, Ok, Err, IfOk, IfErr}
+use Rattle.std.specs.List.{FoldsTo}
 use Rattle.wasm_leb.specs.Place.{BeginsNumber}
 use Rattle.wasm_shapes.specs.Shape.{Shape}
 use Rattle.wasm_shapes.specs.Tree.{Tree}
@@ -10,7 +11,7 @@ use Rattle.wasm_shapes.specs.Module.{name_rows, name_subsection, names, names_na
 use Rattle.wasm_read.specs.declared.types.Name.{Name}
 use Rattle.wasm_read.specs.Names.{NamesStanding}
 use Rattle.wasm_read.specs.Subsections.{ReadsName, content_of, Content, subsection_frame, subsection_frame_tree}
-use Rattle.wasm_read.specs.Names.{MapStanding, Due}
+use Rattle.wasm_read.specs.Names.{MapStanding, map_place, Due, EntryRead, EntryMissing}
 use Rattle.wasm_write.specs.declared.fault.WriteFault.{WriteFault}
 use Rattle.wasm_write.specs.Bodies.{CodeRows, with_row}
 use Rattle.wasm_write.specs.Counts.{counts, IsTooLarge}
@@ -35,21 +36,40 @@ of_writer (Err f) = Err (error_of_write f)
 abbrev pub MapRow : ℕ → Shape → Type 0
 MapRow id row = get_or name_rows id Shape.none ≡ subsection id (Shape.vec row)
 
+-- the fact about these rows and the content's map, if it has one
+abbrev pub OfMap : Content → (Shape → MapStanding → Type 0) → Type 0
+OfMap (Content.direct id _ m) P = (row : Shape) × MapRow id row × P row m
+OfMap (Content.indirect id _ m) P = (row : Shape) × MapRow id row × P row m
+OfMap _ P = ⊥
+
 -- In what a map still has entries stand and were accepted, and the next one, which is due, stands whole and is refused.
-pub record StopsMap {S E : Type 0} (asked : Asks S E) (c id : ℕ) (m : MapStanding) (s : S) (e : Error E) (m' : S) : Type 0 where
-  pub row : Shape
-  pub is_row : MapRow id row
+pub record StopsMap {S E : Type 0} (asked : Asks S E) (c : ℕ) (row : Shape) (m : MapStanding) (s : S) (e : Error E) (k : S) : Type 0 where
   pub count : ℕ
   pub start : List ℕ
   pub due : Due m count start
-  pub stops : StopsEach asked c row start s e m'
+  pub stops : StopsEach asked c row start s e k
   pub more : length stops.read < count
 
--- the content's map, if it has one
 abbrev pub StopsContent : {S E : Type 0} → Asks S E → ℕ → Content → S → Error E → S → Type 0
-StopsContent asked c (Content.direct id _ m) s e n = StopsMap asked c id m s e n
-StopsContent asked c (Content.indirect id _ m) s e n = StopsMap asked c id m s e n
-StopsContent asked c _ s e n = ⊥
+StopsContent asked c n s e k = OfMap n (λ row m. StopsMap asked c row m s e k)
+
+-- these entries were read one behind another, and this is left
+abbrev pub EntriesRead : Shape → MapStanding → List Tree → MapStanding → Type 0
+EntriesRead row = FoldsTo (EntryRead row)
+
+-- Entries of a map were read, and all were accepted. At this place, behind them, what the map still has is no entries with
+-- nothing behind them.
+pub record MapFault {S E : Type 0} (asked : Asks S E) (c : ℕ) (row : Shape) (m : MapStanding) (s k : S) (at : ℕ) : Type 0 where
+  pub read : List Tree
+  pub rest : MapStanding
+  pub made : List Tree
+  pub front : EntriesRead row m read rest
+  pub missing : EntryMissing row rest
+  pub place : at ≡ map_place rest
+  pub accepts : AcceptsRows asked c s read made k
+
+abbrev pub ContentFault : {S E : Type 0} → Asks S E → ℕ → Content → S → S → ℕ → Type 0
+ContentFault asked c n s k at = OfMap n (λ row m. MapFault asked c row m s k at)
 
 -- a length in what the subsection became is too large
 abbrev pub TooLargeIn : {E : Type 0} → Error E → Tree → Type 0
@@ -71,7 +91,8 @@ GivesNaming asked before t after (Err e) =
 pub record GivesSubsection {S E : Type 0} (asked : Asks S E) (n : Name) (before after : S × CodeRows) (result : Result (Unit {0}) (Error E)) : Type 0 where
   pub reading : (t : Tree) → ReadsName n t → GivesNaming asked before t after result
   pub readable : IfOk result (λ _. (t : Tree) × ReadsName n t)
-  pub unreadable : IfErr result (λ e. IfParse e (λ at. ((t : Tree) → ReadsName n t → ⊥) × (after.1 ≡ before.1) × Further asked before.0 after.0))
+  pub unreadable : IfErr result (λ e. IfParse e (λ at.
+      ((t : Tree) → ReadsName n t → ⊥) × (after.1 ≡ before.1) × ContentFault asked before.1.ceiling (content_of n) before.0 after.0 at))
   pub refusal : IfErr result (λ e.
       IfRefused e (((t : Tree) × ReadsName n t) ⊎ ((after.1 ≡ before.1) × StopsContent asked before.1.ceiling (content_of n) before.0 e after.0)))
 

@@ -11,7 +11,8 @@ use wasm_write as w;
 /// A map whose indices are the answers of `map_index`, which is called once for each entry that the map still has, in order.
 ///
 /// An error of a call ends the calls and is the answer. `ParseError` comes only where every call answered Ok and what the map
-/// still has is no entries with nothing behind them. No other error comes but want of memory.
+/// still has is no entries with nothing behind them. It holds the place in the map where the reader stands then, behind the
+/// entries that were asked for. No other error comes but want of memory.
 pub fn map_names<E, F: FnMut(u32) -> Result<u32, Error<E>>>(
     alloc: Global,
     map: r::NameMap<'_>,

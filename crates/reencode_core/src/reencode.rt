@@ -536,7 +536,7 @@ pub trait Reencode: ReencodeItems {
     }
 
     /// Maps a name subsection and adds it. The indices of a map are mapped by the method of their space; of an indirect map the
-    /// outer indices alone are mapped.
+    /// outer indices alone are mapped. A `ParseError` holds the place in the map behind the entries that were accepted.
     fn parse_custom_name_subsection(
         &mut self,
         alloc: Global,

@@ -24,7 +24,7 @@ fn written<E>(answer: Result<(), w::WriteFault>) -> Result<(), Error<E>>
 }
 
 /// Maps a name subsection and adds it. The indices of a map are mapped by the method of their space; of an indirect map the
-/// outer indices alone are mapped.
+/// outer indices alone are mapped. A `ParseError` holds the place in the map behind the entries that were accepted.
 pub(crate) fn parse_custom_name_subsection<T: ReencodeItems>(
     reencoder: &mut T,
     alloc: Global,

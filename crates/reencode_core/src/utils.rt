@@ -515,7 +515,7 @@ pub fn custom_name_section<T: Reencode>(
 }
 
 /// Maps a name subsection and adds it. The indices of a map are mapped by the method of their space; of an indirect map the
-/// outer indices alone are mapped.
+/// outer indices alone are mapped. A `ParseError` holds the place in the map behind the entries that were accepted.
 pub fn parse_custom_name_subsection<T: Reencode>(
     reencoder: &mut T,
     alloc: Global,

@@ -29,4 +29,4 @@ returns-in-Ok-None g c =
     walked_all _ c.entries.invariant.walked ended
 
 pub returns-in-Err : goal.returns-in-Err
-returns-in-Err g c = walked_unread _ refl refl c.entries.invariant.walked c.in-Err.ensures.err tt
+returns-in-Err g c = walked_unread _ _ refl refl c.entries.invariant.walked c.in-Err.ensures.err c.in-Err.ensures.at
