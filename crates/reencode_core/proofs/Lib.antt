@@ -30,3 +30,4 @@ pub mod InFrame
 pub mod NamesLoop
 pub mod CustomSection
 pub mod EachSubsection
+pub mod Additions

@@ -1,6 +1,7 @@
 //! The re-encoding of a core module (WebAssembly Core Specification 3.0, section 5.5).
 #![tactic(auto)]
 
+mod adding;
 mod bodies;
 pub mod direct;
 mod errors;
@@ -17,6 +18,7 @@ mod shared;
 mod subsections;
 pub mod utils;
 
+pub use adding::{Adding, SectionRule};
 pub use laws::fault_tells;
 pub use names::{indirect_name_map, map_indirect_names, map_names, name_map};
 pub use reencode::{Reencode, reencode_core};
