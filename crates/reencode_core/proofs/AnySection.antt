@@ -1,5 +1,5 @@
 -- A section of any sort by its frame: of a known kind, a custom one, or one of another id.
-use Rattle.std.proofs.Common.{◌≡◌, ℕ, ◌≤◌, List, Option, Some, Result, Ok, Err, IfOk, IfErr, refl, sym, ◌∙◌, subst, ◌⊎◌, inl, inr}
+use Rattle.std.proofs.Common.{◌≡◌, ℕ, ◌≤◌, List, [], Option, Some, Result, Ok, Err, IfOk, IfErr, refl, sym, ◌∙◌, subst, ◌⊎◌, inl, inr}
 use Rattle.wasm_shapes.specs.declared.SectionId.{SectionId}
 use Rattle.wasm_shapes.specs.declared.Visit.TheVariants.{Section}
 use Rattle.wasm_shapes.specs.Tree.{Tree, kind}
@@ -17,6 +17,7 @@ use Rattle.reencode_core.specs.Rows.{Asks, AcceptsRows, Further}
 use Rattle.reencode_core.specs.Sections.{ReadsAs, GivesAdded, BodyFault, StopsSection, GivesSection}
 use Rattle.reencode_core.specs.Names.{StopsCustom, GivesCustom}
 use Rattle.reencode_core.specs.Core.{StopsThere}
+use Rattle.reencode_core.specs.Weave.{Puts, put_before}
 use Rattle.reencode_core.proofs.Counts.{walk_further, further_none, further_one, further_then}
 use Rattle.reencode_core.proofs.Known.{frame_id, section_announced}
 use Rattle.reencode_core.proofs.Usual.{IfParse-map, IfRefused-map, unless_wanting}
@@ -26,6 +27,18 @@ use Rattle.reencode_core.proofs.Usual.{IfParse-map, IfRefused-map, unless_wantin
 pub kind_announced : {S E : Type 0} (asked : Asks S E) (k : SectionId) {body : List ℕ} (s : S) (last : Option SectionId) {t : Tree} → InFrame t (numbered_frame (number k) body) →
     (announced asked s last t ≡ asked s (Section last (Some k))) × (kind last t ≡ Some k)
 kind_announced asked k {body = body} s last {t = t} i = let r = kind_in_frame k body t i in rw r.1 (section_announced k asked s last r.0)
+
+-- what the section hook puts before it
+pub kind_put : {S A : Type 0} (put : Puts S A) (k : SectionId) {body : List ℕ} (s : S) (last : Option SectionId) {t : Tree} → InFrame t (numbered_frame (number k) body) →
+    put_before put s last t ≡ put s last (Some k)
+kind_put put k {body = body} s last {t = t} i = let r = kind_in_frame k body t i in rw r.1 refl
+
+pub custom_put : {S A : Type 0} (put : Puts S A) {name contents : List ℕ} (s : S) (last : Option SectionId) {t : Tree} → InFrame t (custom_frame name contents) → put_before put s last t ≡ []
+custom_put put {name = name} {contents = contents} s last {t = t} i = let r = custom_in_frame name contents t i in rw r.1 refl
+
+pub unknown_put : {S A : Type 0} (put : Puts S A) {id : ℕ} {contents : List ℕ} (s : S) (last : Option SectionId) {t : Tree} → 14 ≤ id → InFrame t (numbered_frame id contents) →
+    put_before put s last t ≡ []
+unknown_put put {id = id} {contents = contents} s last {t = t} low i = rw (unknown_in_frame id contents t low i) refl
 
 framed_kind : (k : SectionId) {body : List ℕ} {t : Tree} → 1 ≤ number k → ReadsAs k body t → InFrame t (numbered_frame (number k) body)
 framed_kind k {body = body} low r =

@@ -1,5 +1,5 @@
 -- The loop over the sections of a module.
-use Rattle.std.proofs.Common.{◌≡◌, ◌≢◌, ◌-◌, ℕ, List, [], ◌∷◌, ◌++◌, length, Option, Some, None, Result, Ok, Err, refl, sym, ap, ◌∙◌, subst, append_assoc, append-nil, ◌⊎◌, inl, inr, Bool, IsTrue}
+use Rattle.std.proofs.Common.{◌≡◌, ◌≢◌, ◌-◌, ℕ, List, [], ◌∷◌, ◌++◌, length, map, Option, Some, None, Result, Ok, Err, refl, sym, ap, ◌∙◌, subst, append_assoc, append-nil, ◌⊎◌, inl, inr, Bool, IsTrue}
 use Rattle.std.proofs.lemmas.List.{append_cancel_left}
 use Rattle.wasm_leb.specs.declared.fault.Fault.{Fault}
 use Rattle.wasm_leb.specs.declared.fault.Fault.TheVariants as fault
@@ -19,28 +19,28 @@ use Rattle.wasm_shapes.specs.SectionTable.{number}
 use Rattle.wasm_read.specs.Frames.{NoCoreHeader}
 use Rattle.wasm_read.specs.Payloads.{NoFrame}
 use Rattle.wasm_read.proofs.CodeSize.{code_size_some, code_size_other}
-use Rattle.wasm_write.specs.Sections.{Sections, SectionRow, section_row, section_bytes, sections_bytes}
+use Rattle.wasm_write.specs.Sections.{Sections, SectionRow, section_row, section_bytes, sections_bytes, framed_tree}
 use Rattle.reencode_hooks.specs.declared.error.Error.{Error}
 use Rattle.reencode_hooks.specs.declared.error.Error.TheVariants.{CanonicalizedHeapTypeReference, InvalidConstExpr, InvalidCodeSectionSize, UnexpectedNonCoreModuleSection, UnexpectedNonComponentSection, UnsupportedCoreTypeInComponent, ParseError, UserError, TooLarge, NoMemory}
 use Rattle.reencode_hooks.specs.Errors.{error_of_fault}
 use Rattle.reencode_hooks.specs.Run.{Step, accepted, refused, and_then, ask, Visited, NeverWants}
 use Rattle.reencode_hooks.specs.Walk.{walk, walk_from, announced}
-use Rattle.reencode_hooks.specs.Hooks.{RepliesSection, KeepsAdds, Gains}
+use Rattle.reencode_hooks.specs.Hooks.{RepliesSection, Gains}
 use Rattle.reencode_items.proofs.Leaving.{never_wants, none_visited, one_visited}
 use Rattle.reencode_core.specs.Leaves.{LeavesReading}
 use Rattle.reencode_core.specs.Errors.{IfParse, IfRefused, placed_at}
 use Rattle.reencode_core.specs.Rows.{Asks, Further}
-use Rattle.reencode_core.specs.Core.{hooked, onto, AcceptsSections, RefusesNext, StopsSections, GivesModule, RefusedIn, StopsThere, BeforeFault, IsCause, GivesCore}
+use Rattle.reencode_core.specs.Core.{hooked, onto, AcceptsSections, RefusedIn, StopsThere, BeforeFault, IsCause}
+use Rattle.reencode_core.specs.Weave.{Puts, added, put_before, woven_one, weave, weave_from}
+use Rattle.reencode_core.specs.Woven.{IsOwn, IsPart, StopsHook, StopsHooked, StopsNext, WeavesSections, StopsWoven, GivesWovenModule, OwnNext, OwnTooLarge, IsWovenCause, GivesWoven}
+use Rattle.reencode_core.proofs.AddsNothing.{none_own}
+use Rattle.reencode_core.proofs.Weaves.{alsos-append}
 use Rattle.reencode_core.proofs.Counts.{further_none, further_then}
-use Rattle.reencode_core.proofs.AnySection.{GivesFramed, Reached, kind_announced}
+use Rattle.reencode_core.proofs.AnySection.{GivesFramed, Reached, kind_announced, kind_put}
 use Rattle.reencode_core.proofs.Usual.{IfRefused-map, unless_wanting, usual_ask, stops_usual}
-use Rattle.reencode_core.proofs.Known.{section_onward, hook_visits, inside_visits, some_begun}
+use Rattle.reencode_core.proofs.Known.{section_onward, hook_visits, inside_visits, some_begun, gains_none, gains_both}
 
 -- ---- lists of sections
-
-pub alsos-append : (ts us : List Tree) (others : Tree) → alsos (ts ++ us) others ≡ alsos ts (alsos us others)
-alsos-append [] us others = refl
-alsos-append (t ∷ ts) us others = ap (λ (u : Tree). Tree.also t u) (alsos-append ts us others)
 
 abbrev list_of : Tree → List Tree
 list_of (Tree.also t u) = t ∷ list_of u
@@ -140,6 +140,20 @@ sections_bytes-append [] others = refl
 sections_bytes-append (s ∷ rows) others =
     ap (λ (z : List ℕ). section_bytes s ++ z) (sections_bytes-append rows others) ∙ sym (append_assoc (section_bytes s) (sections_bytes rows) (sections_bytes others))
 
+spelled_added : (rows : List SectionRow) → sections_bytes rows ≡ normals (map framed_tree rows)
+spelled_added [] = refl
+spelled_added (r ∷ rows) = ap (λ (z : List ℕ). section_bytes r ++ z) (spelled_added rows)
+
+spelled_both : (rows others : List SectionRow) (us vs : List Tree) → sections_bytes rows ≡ normals us → sections_bytes others ≡ normals vs → sections_bytes (rows ++ others) ≡ normals (us ++ vs)
+spelled_both rows others us vs p q =
+    sections_bytes-append rows others ∙ ap (λ (z : List ℕ). z ++ sections_bytes others) p ∙ ap (λ (z : List ℕ). normals us ++ z) q ∙ sym (normals-append us vs)
+
+-- what the section hook puts before a section, as trees
+put_added : {S : Type 0} (adds : Puts S SectionRow) (s : S) (last : Option SectionId) (t : Tree) → put_before (added adds) s last t ≡ map framed_tree (put_before adds s last t)
+put_added adds s last (Tree.row k t) = put_added adds s last t
+put_added adds s last (Tree.told k t) = refl
+put_added adds s last _ = refl
+
 -- ---- steps
 
 assoc : {S E A B C : Type 0} (a : Step S E A) (f : A → S → Step S E B) (g : B → S → Step S E C) →
@@ -147,77 +161,81 @@ assoc : {S E A B C : Type 0} (a : Step S E A) (f : A → S → Step S E B) (g : 
 assoc (accepted a s) f g = refl
 assoc (refused e s) f g = refl
 
--- ---- the section hook of a reencoder that adds nothing
+-- ---- the section hook
 
-module _ {S E : Type 0} (reply : S → Visit → Result ℕ E) (next : S → Visit → S) (adds : S → Option SectionId → Option SectionId → List SectionRow) (nothing : Bool)
-    (keeps : KeepsAdds adds nothing) (sure : IsTrue nothing) (s m : S) (old new : Sections) (a b : Option SectionId) where
-  gains_nothing : {rows : List SectionRow} → rows ≡ [] → Gains old new rows → new ≡ old
-  gains_nothing none g =
-      g ∙ ap (λ (rows : List SectionRow). record old { sections = old.sections ++ rows }) none ∙ ap (λ (rows : List SectionRow). record old { sections = rows }) (append-nil old.sections)
+-- A front part of what it adds was added; and one of its own sections is too large, or it refused as it replies.
+abbrev pub HookStops : {S E : Type 0} → Step S (Error E) ℕ → List SectionRow → S → Sections → Sections → Error E → Type 0
+HookStops step own m old new e =
+    (part : List SectionRow) × Gains old new part × IsPart part own × (IsOwn old.ceiling own e ⊎ ((e ≢ NoMemory → step ≡ refused e m) × IfParse e (λ at. ⊥)))
 
-  front_nothing : (part rest : List SectionRow) → [] ≡ part ++ rest → part ≡ []
-  front_nothing [] rest e = refl
-  front_nothing (x ∷ part) rest e = absurd cc
+module _ {S E : Type 0} (reply : S → Visit → Result ℕ E) (next : S → Visit → S) (adds : Puts S SectionRow) (s m : S) (old new : Sections) (a b : Option SectionId) where
+  -- it refused: one of its own sections is too large, or as it replies
+  hook_own : (e : Error E) → RepliesSection reply next adds s m old new a b (Err e) → IsOwn old.ceiling (adds s a b) e ⊎ (e ≢ NoMemory → ask reply next s (Section a b) ≡ refused e m)
+  hook_own (TooLarge n) r = inl r.0
+  hook_own NoMemory r = inr (λ other. absurd (other refl))
+  hook_own (ParseError x) r = inr (λ other. r.0)
+  hook_own (UserError x) r = inr (λ other. r.0)
+  hook_own CanonicalizedHeapTypeReference r = inr (λ other. r.0)
+  hook_own InvalidConstExpr r = inr (λ other. r.0)
+  hook_own InvalidCodeSectionSize r = inr (λ other. r.0)
+  hook_own UnexpectedNonCoreModuleSection r = inr (λ other. r.0)
+  hook_own UnexpectedNonComponentSection r = inr (λ other. r.0)
+  hook_own UnsupportedCoreTypeInComponent r = inr (λ other. r.0)
 
-  pub hook_ok : (u : Unit {0}) → RepliesSection reply next adds s m old new a b (Ok u) → (ask reply next s (Section a b) ≡ accepted 0 m) × (new ≡ old)
-  hook_ok u r = (r.0, gains_nothing (keeps sure s a b) r.1)
+  -- its error says nothing of the bytes that are read
+  hook_usual : (e : Error E) → (e ≢ NoMemory → ask reply next s (Section a b) ≡ refused e m) → IfParse e (λ at. ⊥)
+  hook_usual e h = stops_usual (λ at. ⊥) (ask reply next s (Section a b)) e m (usual_ask reply next s (Section a b)) h
 
-  pub hook_kept : (e : Error E) → RepliesSection reply next adds s m old new a b (Err e) → new ≡ old
-  hook_kept e r = let none : [] ≡ r.1.part ++ r.1.rest = sym (keeps sure s a b) ∙ r.1.parts in gains_nothing (front_nothing r.1.part r.1.rest none) r.1.gains
-
-  pub hook_err : (e : Error E) → RepliesSection reply next adds s m old new a b (Err e) → e ≢ NoMemory → ask reply next s (Section a b) ≡ refused e m
-  hook_err NoMemory r other = absurd (other refl)
-  hook_err (TooLarge n) r other = let none : adds s a b ≡ [] = keeps sure s a b in absurd (none_too_large r.0.front r.0.row r.0.rest (sym none ∙ r.0.parts))
+  pub hook_stops : (e : Error E) → RepliesSection reply next adds s m old new a b (Err e) → HookStops (ask reply next s (Section a b)) (adds s a b) m old new e
+  hook_stops e r = (r.1.part, r.1.gains, record { rest = r.1.rest; parts = r.1.parts }, why (hook_own e r))
     where
-      none_too_large : (front : List SectionRow) (row : SectionRow) (rest : List SectionRow) → [] ≡ front ++ row ∷ rest → ⊥
-      none_too_large [] row rest e = cc
-      none_too_large (x ∷ front) row rest e = cc
-  hook_err (ParseError x) r other = r.0
-  hook_err (UserError x) r other = r.0
-  hook_err CanonicalizedHeapTypeReference r other = r.0
-  hook_err InvalidConstExpr r other = r.0
-  hook_err InvalidCodeSectionSize r other = r.0
-  hook_err UnexpectedNonCoreModuleSection r other = r.0
-  hook_err UnexpectedNonComponentSection r other = r.0
-  hook_err UnsupportedCoreTypeInComponent r other = r.0
+      why : IsOwn old.ceiling (adds s a b) e ⊎ (e ≢ NoMemory → ask reply next s (Section a b) ≡ refused e m) →
+          IsOwn old.ceiling (adds s a b) e ⊎ ((e ≢ NoMemory → ask reply next s (Section a b) ≡ refused e m) × IfParse e (λ at. ⊥))
+      why (inl own) = inl own
+      why (inr h) = inr (h, hook_usual e h)
 
-  pub hook_usual : (e : Error E) → RepliesSection reply next adds s m old new a b (Err e) → IfParse e (λ at. ⊥)
-  hook_usual e r = stops_usual (λ at. ⊥) (ask reply next s (Section a b)) e m (usual_ask reply next s (Section a b)) (hook_err e r)
+  -- where it adds nothing, it refused as it replies
+  pub hook_err : adds s a b ≡ [] → (e : Error E) → RepliesSection reply next adds s m old new a b (Err e) → e ≢ NoMemory → ask reply next s (Section a b) ≡ refused e m
+  hook_err none e r = go (hook_own e r)
+    where
+      go : IsOwn old.ceiling (adds s a b) e ⊎ (e ≢ NoMemory → ask reply next s (Section a b) ≡ refused e m) → e ≢ NoMemory → ask reply next s (Section a b) ≡ refused e m
+      go (inl own) = absurd (none_own old.ceiling (adds s a b) e none own)
+      go (inr h) = h
 
 -- ---- the loop
 
--- Sections were read and walked, what they became was added, and the others are read and walked from here.
-pub record SectionsDone {S E : Type 0} (asked : Asks S E) (start : List ℕ) (s0 : S) (old : Sections) (rest : List ℕ) (last : Option SectionId) (s : S) (new : Sections) : Type 0 where
+-- Sections were read and walked, what they became was added, with what the section hook adds, and the others are read and walked
+-- from here.
+pub record SectionsDone {S E : Type 0} (asked : Asks S E) (adds : Puts S SectionRow) (start : List ℕ) (s0 : S) (old : Sections) (rest : List ℕ) (last : Option SectionId) (s : S) (new : Sections) : Type 0 where
   pub read : List Tree
   pub made : List Tree
+  pub woven : List Tree
   pub text : List ℕ
   pub rows : List SectionRow
   pub spells : Spells sections text (alsos read Tree.finish)
   pub stands : start ≡ text ++ rest
   pub accepts : AcceptsSections asked old.ceiling s0 read made last s
+  pub weaves : WeavesSections asked (added adds) old.ceiling s0 read woven last s
   pub gains : Gains old new rows
-  pub spelled : sections_bytes rows ≡ normals made
+  pub spelled : sections_bytes rows ≡ normals woven
   -- what was asked of the others was asked behind the first
   pub onward : (others : Tree) (m : S) → Visited asked s (visits_from last others) m → Visited asked s0 (visits (alsos read others)) m
+
+-- What the section hook puts before the section in a frame was added.
+pub record Put {S : Type 0} (adds : Puts S SectionRow) (f : Tree) (last : Option SectionId) (s : S) (new mid : Sections) : Type 0 where
+  pub own : List SectionRow
+  pub gains : Gains new mid own
+  pub before : (t : Tree) → InFrame t f → put_before adds s last t ≡ own
+
+-- nothing is put before it
+pub nothing_put : {S : Type 0} {adds : Puts S SectionRow} {f : Tree} {last : Option SectionId} {s : S} {new : Sections} → ((t : Tree) → InFrame t f → put_before adds s last t ≡ []) →
+    Put adds f last s new new
+nothing_put none = record { own = []; gains = gains_none _; before = none }
 
 module _ {S E : Type 0} (asked : Asks S E) where
   onto_nothing : (step : Step S (Error E) Tree) → step ≡ onto [] step
   onto_nothing (accepted u m) = refl
   onto_nothing (refused e m) = refl
-
-  pub sections_begin : (start : List ℕ) (s : S) (old : Sections) → SectionsDone asked start s old start None s old
-  sections_begin start s old = record {
-    read = [];
-    made = [];
-    text = [];
-    rows = [];
-    spells = record { shaped = Is.finish; spelled = refl };
-    stands = refl;
-    accepts = λ others. onto_nothing (walk asked old.ceiling s others);
-    gains = ap (λ (rows : List SectionRow). record old { sections = rows }) (sym (append-nil old.sections));
-    spelled = refl;
-    onward = λ others m v. v;
-  }
 
   pub also_hooked : (c : ℕ) (last : Option SectionId) (s : S) (t u : Tree) →
       walk_from asked c last s (Tree.also t u) ≡ and_then (hooked asked c last s t) (λ t' n. and_then (walk_from asked c (kind last t) n u) (λ u' k. accepted (Tree.also t' u') k))
@@ -236,38 +254,76 @@ module _ {S E : Type 0} (asked : Asks S E) where
   told_refused : (c : ℕ) (last : Option SectionId) (s m : S) (t : Tree) (e : Error E) → announced asked s last t ≡ refused e m → hooked asked c last s t ≡ refused e m
   told_refused c last s m t e h = ap (λ (a : Step S (Error E) ℕ). and_then a (λ _ m. walk asked c m t)) h
 
+  -- the same where the walk weaves
+  onto_both : (made us : List Tree) (step : Step S (Error E) Tree) → onto made (onto us step) ≡ onto (made ++ us) step
+  onto_both made us (accepted u m) = ap (λ (t : Tree). accepted t m) (sym (alsos-append made us u))
+  onto_both made us (refused e m) = refl
+
+  one_woven : (put : Puts S Tree) (c : ℕ) (last : Option SectionId) (s n m : S) (t u : Tree) (us : List Tree) → announced asked s last t ≡ accepted 0 n → walk asked c n t ≡ accepted u m →
+      put_before put s last t ≡ us → woven_one asked put c last s t ≡ accepted (us ++ u ∷ []) m
+  one_woven put c last s n m t u us told walked puts = rw (told, walked, puts) refl
+
+  also_woven : (put : Puts S Tree) (c : ℕ) (last now : Option SectionId) (s m : S) (t others : Tree) (us : List Tree) → woven_one asked put c last s t ≡ accepted us m → kind last t ≡ now →
+      weave_from asked put c last s (Tree.also t others) ≡ onto us (weave_from asked put c now m others)
+  also_woven put c last now s m t others us step kinds = rw (step, kinds) refl
+
+module _ {S E : Type 0} (asked : Asks S E) (adds : Puts S SectionRow) where
+  pub sections_begin : (start : List ℕ) (s : S) (old : Sections) → SectionsDone asked adds start s old start None s old
+  sections_begin start s old = record {
+    read = [];
+    made = [];
+    woven = [];
+    text = [];
+    rows = [];
+    spells = record { shaped = Is.finish; spelled = refl };
+    stands = refl;
+    accepts = λ others. onto_nothing asked (walk asked old.ceiling s others);
+    weaves = λ others. onto_nothing asked (weave asked (added adds) old.ceiling s others);
+    gains = gains_none old;
+    spelled = refl;
+    onward = λ others m v. v;
+  }
+
   pub sections_more : {Stops : ℕ → Error E → S → Type 0} {id : ℕ} {f : Tree} {start rest rest' : List ℕ} {s0 s n s' : S} {old new mid new' : Sections} {last now : Option SectionId} →
-      SectionsDone asked start s0 old rest last s new → Reached asked Stops f rest rest' last now s n → mid ≡ new → GivesFramed asked id f Stops (n, mid) (s', new') (Ok tt) →
-      SectionsDone asked start s0 old rest' now s' new'
-  sections_more {Stops = Stops} {id = id} {f = f} {rest = rest} {rest' = rest'} {s0 = s0} {s = s} {n = n} {s' = s'} {old = old} {new = new} {mid = mid} {new' = new'} {last = last} {now = now} d reached kept given =
-      let P : Sections → Type 0 = λ z. GivesFramed asked id f Stops (n, z) (s', new') (Ok tt) in
-      let g = subst P kept given in
+      SectionsDone asked adds start s0 old rest last s new → Reached asked Stops f rest rest' last now s n → Put adds f last s new mid →
+      GivesFramed asked id f Stops (n, mid) (s', new') (Ok tt) → SectionsDone asked adds start s0 old rest' now s' new'
+  sections_more {Stops = Stops} {id = id} {f = f} {rest = rest} {rest' = rest'} {s0 = s0} {s = s} {n = n} {s' = s'} {old = old} {new = new} {mid = mid} {new' = new'} {last = last} {now = now} d reached put g =
       let t : Tree = g.readable.0 in
       let in_it : InFrame t f = g.readable.1 in
       let here = section_there in_it reached.framed in
       let told : announced asked s last t ≡ accepted 0 n = reached.told t in_it in
       let kinds : kind last t ≡ now = reached.kinds t in_it in
       let q = g.reading t in_it in
-      let ceiling : new.ceiling ≡ old.ceiling = ap Sections.ceiling d.gains in
+      let ceiling : mid.ceiling ≡ old.ceiling = ap Sections.ceiling put.gains ∙ ap Sections.ceiling d.gains in
       let W : ℕ → Type 0 = λ c. walk asked c n t ≡ accepted q.0 s' in
       let walked : walk asked old.ceiling n t ≡ accepted q.0 s' = subst W ceiling q.2 in
-      let step : hooked asked old.ceiling last s t ≡ accepted q.0 s' = told_walked old.ceiling last s n t told ∙ walked in
-      let row : SectionRow = section_row id q.1 in record {
+      let step : hooked asked old.ceiling last s t ≡ accepted q.0 s' = told_walked asked old.ceiling last s n t told ∙ walked in
+      let row : SectionRow = section_row id q.1 in
+      let us : List Tree = map framed_tree put.own in
+      let puts : put_before (added adds) s last t ≡ us = put_added adds s last t ∙ ap (λ (rows : List SectionRow). map framed_tree rows) (put.before t in_it) in
+      let woven : woven_one asked (added adds) old.ceiling last s t ≡ accepted (us ++ q.0 ∷ []) s' = one_woven asked (added adds) old.ceiling last s n s' t q.0 us told walked puts in record {
         read = d.read ++ t ∷ [];
         made = d.made ++ q.0 ∷ [];
+        woven = d.woven ++ (us ++ q.0 ∷ []);
         text = d.text ++ here.text;
-        rows = d.rows ++ row ∷ [];
+        rows = d.rows ++ (put.own ++ row ∷ []);
         spells = rw (alsos-append d.read (t ∷ []) Tree.finish) (joined d.read d.text here.text d.spells (one_section here.spells));
         stands = d.stands ∙ ap (λ (z : List ℕ). d.text ++ z) here.reads ∙ sym (append_assoc d.text here.text _);
         accepts = λ others.
             let next : walk_from asked old.ceiling last s (Tree.also t others) ≡ and_then (walk_from asked old.ceiling now s' others) (λ u m. accepted (Tree.also q.0 u) m) =
-            also_hooked old.ceiling last s t others ∙ rw (step, kinds) refl in
+            also_hooked asked old.ceiling last s t others ∙ rw (step, kinds) refl in
             rw (alsos-append d.read (t ∷ []) others)
-            (d.accepts (Tree.also t others) ∙ ap (λ (r : Step S (Error E) Tree). onto d.made r) next ∙ one_onto d.made q.0 (walk_from asked old.ceiling now s' others));
-        gains = q.3 ∙ ap (λ (m : Sections). record m { sections = m.sections ++ row ∷ [] }) d.gains
-            ∙ ap (λ (rows : List SectionRow). record old { sections = rows }) (append_assoc old.sections d.rows (row ∷ []));
-        spelled = sections_bytes-append d.rows (row ∷ []) ∙ ap (λ (z : List ℕ). z ++ sections_bytes (row ∷ [])) d.spelled
-            ∙ ap (λ (z : List ℕ). normals d.made ++ (z ++ [])) q.4 ∙ sym (normals-append d.made (q.0 ∷ []));
+            (d.accepts (Tree.also t others) ∙ ap (λ (r : Step S (Error E) Tree). onto d.made r) next ∙ one_onto asked d.made q.0 (walk_from asked old.ceiling now s' others));
+        weaves = λ others.
+            rw (alsos-append d.read (t ∷ []) others)
+            (d.weaves (Tree.also t others)
+            ∙ ap (λ (r : Step S (Error E) Tree). onto d.woven r) (also_woven asked (added adds) old.ceiling last now s s' t others (us ++ q.0 ∷ []) woven kinds)
+            ∙ onto_both asked d.woven (us ++ q.0 ∷ []) (weave_from asked (added adds) old.ceiling now s' others));
+        gains = gains_both old new new' d.rows (put.own ++ row ∷ []) d.gains (gains_both new mid new' put.own (row ∷ []) put.gains q.3);
+        spelled =
+            let one : sections_bytes (row ∷ []) ≡ normals (q.0 ∷ []) = ap (λ (z : List ℕ). z ++ []) q.4 in
+            let both : sections_bytes (put.own ++ row ∷ []) ≡ normals (us ++ q.0 ∷ []) = spelled_both put.own (row ∷ []) us (q.0 ∷ []) (spelled_added put.own) one in
+            spelled_both d.rows (put.own ++ row ∷ []) d.woven (us ++ q.0 ∷ []) d.spelled both;
         onward = λ others m v.
             let P : Tree → Type 0 = λ z. Visited asked s0 (visits z) m in
             subst P (sym (alsos-append d.read (t ∷ []) others))
@@ -277,7 +333,7 @@ module _ {S E : Type 0} (asked : Asks S E) where
   -- ---- the ends of the loop
 
   module _ {start bytes rest : List ℕ} {s0 s : S} {old new : Sections} {last : Option SectionId} (reads : bytes ≡ core_header ++ start)
-      (d : SectionsDone asked start s0 old rest last s new) where
+      (d : SectionsDone asked adds start s0 old rest last s new) where
     read_ahead : (t : Tree) → CoreReading bytes t → Ahead d.read rest t []
     read_ahead t r =
         let same : start ≡ r.rest = append_cancel_left core_header start r.rest (sym reads ∙ r.stands) in
@@ -290,7 +346,7 @@ module _ {S E : Type 0} (asked : Asks S E) where
 
     refused_at : {e : Error E} {s' : S} (t u : Tree) → hooked asked old.ceiling last s t ≡ refused e s' → walk asked old.ceiling s0 (alsos d.read (Tree.also t u)) ≡ refused e s'
     refused_at {e = e} {s' = s'} t u h =
-        let step : walk_from asked old.ceiling last s (Tree.also t u) ≡ refused e s' = also_hooked old.ceiling last s t u ∙ rw h refl in
+        let step : walk_from asked old.ceiling last s (Tree.also t u) ≡ refused e s' = also_hooked asked old.ceiling last s t u ∙ rw h refl in
         d.accepts (Tree.also t u) ∙ ap (λ (r : Step S (Error E) Tree). onto d.made r) step
 
     -- the sections so far are those before a fault
@@ -309,35 +365,63 @@ module _ {S E : Type 0} (asked : Asks S E) where
     refused_in before t u e h others = rw (e, alsos-append d.read (t ∷ list_of u) others) (refused_at t (alsos (list_of u) others) h)
 
     -- what was added when a refusal comes, and why it comes
-    stopped : (e : Error E) (s' : S) (new' : Sections) (t u : Tree) → t ≡ alsos d.read u → new' ≡ new →
-        (e ≢ NoMemory → RefusesNext asked old.ceiling last s u e s') → StopsSections asked old.ceiling (s0, old) t (s', new') e
-    stopped e s' new' t u f unchanged stops = record {
+    stopped : (e : Error E) (s' : S) (new' : Sections) (t u : Tree) (part : List SectionRow) → t ≡ alsos d.read u → Gains new new' part →
+        StopsNext asked adds old.ceiling last s u part e s' → StopsWoven asked adds old.ceiling (s0, old) t (s', new') e
+    stopped e s' new' t u part f gains stops = record {
       read = d.read;
       others = u;
-      made = d.made;
+      made = d.woven;
       rows = d.rows;
+      part = part;
       last = last;
       at = s;
       parts = f;
-      accepts = d.accepts;
-      gains = unchanged ∙ d.gains;
-      spelled = d.spelled ∙ sym (normal-alsos d.made);
-      refuses = stops;
+      weaves = d.weaves;
+      gains = gains_both old new new' d.rows part d.gains gains;
+      spelled = d.spelled ∙ sym (normal-alsos d.woven);
+      stops = stops;
     }
 
+    -- the section hook was to add one that is too large
+    own_large : {e : Error E} → OwnNext adds old.ceiling last s rest e → OwnTooLarge asked adds old.ceiling bytes s0 e
+    own_large h = record {
+      read = d.read;
+      text = d.text;
+      rest = rest;
+      made = d.woven;
+      last = last;
+      at = s;
+      spells = d.spells;
+      stands = reads ∙ ap (λ (z : List ℕ). core_header ++ z) d.stands;
+      weaves = d.weaves;
+      own = h;
+    }
+
+    own_under : (own : List SectionRow) (e : Error E) → IsOwn new.ceiling own e → IsOwn old.ceiling own e
+    own_under own e h =
+        let ceiling : new.ceiling ≡ old.ceiling = ap Sections.ceiling d.gains in
+        let P : ℕ → Type 0 = λ c. IsOwn c own e in
+        subst P ceiling h
+
+    -- why a section, or the hook before it, is refused, where that is not of the hook's own sections
+    abbrev Refuses : Tree → Error E → S → Type 0
+    Refuses f e m =
+        ((t : Tree) → InFrame t f → e ≢ NoMemory → hooked asked old.ceiling last s t ≡ refused e m) × IfParse e (λ at. ⊥)
+        × IfRefused e (((t : Tree) × InFrame t f) ⊎ StopsThere asked old.ceiling rest last s e m)
+
     -- a section, or the hook before it, is refused
-    pub section_refused : {f : Tree} {left : List ℕ} {s' : S} {new' : Sections} (e : Error E) → Begins frame rest f left →
-        ((t : Tree) → InFrame t f → (new' ≡ new) × (e ≢ NoMemory → hooked asked old.ceiling last s t ≡ refused e s')) → IfParse e (λ at. ⊥) →
-        IfRefused e (((t : Tree) × InFrame t f) ⊎ StopsThere asked old.ceiling rest last s e s') → GivesCore asked bytes (s0, old) (s', new') (Err e)
-    section_refused {f = f} {left = left_behind} {s' = s'} {new' = new'} e there stops usual inside = record {
+    section_refused : {f : Tree} {left : List ℕ} {s' : S} {new' : Sections} (e : Error E) → Begins frame rest f left →
+        ((t : Tree) → InFrame t f → (part : List SectionRow) × Gains new new' part × StopsHooked asked adds old.ceiling last s t part e s') →
+        OwnTooLarge asked adds old.ceiling bytes s0 e ⊎ Refuses f e s' → GivesWoven asked adds bytes (s0, old) (s', new') (Err e)
+    section_refused {f = f} {left = left_behind} {s' = s'} {new' = new'} e there stops by = record {
       reading = λ t r. go t (read_ahead t r);
       readable = tt;
-      cause = cause e (λ t i. (stops t i).1) usual inside;
+      cause = why by;
     }
       where
-        go : (t : Tree) → Ahead d.read rest t [] → StopsSections asked old.ceiling (s0, old) t (s', new') e
+        go : (t : Tree) → Ahead d.read rest t [] → StopsWoven asked adds old.ceiling (s0, old) t (s', new') e
         go t (same a empty) = absurd (some_begun there empty)
-        go t (more u v left a b) = let h = stops u (frame_there there b) in stopped e s' new' t (Tree.also u v) a h.0 h.1
+        go t (more u v left a b) = let h = stops u (frame_there there b) in stopped e s' new' t (Tree.also u v) h.0 a h.1 h.2
 
         -- where the section has a reading, the fault does not stand here
         either : (w : Error E) → ((t : Tree) → InFrame t f → hooked asked old.ceiling last s t ≡ refused w s') →
@@ -363,6 +447,10 @@ module _ {S E : Type 0} (asked : Asks S E) where
         cause (TooLarge x) h p q = before_fault (TooLarge x) (λ t i. h t i (λ c. cc)) q
         cause _ h p q = absurd p
 
+        why : OwnTooLarge asked adds old.ceiling bytes s0 e ⊎ Refuses f e s' → IsWovenCause asked adds old.ceiling bytes s0 s' e
+        why (inl own) = inr own
+        why (inr q) = inl (cause e q.0 q.1 q.2)
+
     -- no section begins, though bytes are left: there is no reading
     no_reading : BeginsNone section rest → rest ≢ [] → (t : Tree) → CoreReading bytes t → ⊥
     no_reading none some t r = go (read_ahead t r)
@@ -379,16 +467,16 @@ module _ {S E : Type 0} (asked : Asks S E) where
 
     -- and so an error at the place, as further visits showed
     fault_behind : {s' : S} {new' : Sections} (at : ℕ) → BeginsNone section rest → rest ≢ [] → (InvalidCodeSize rest → ⊥) → at ≡ length bytes - length rest → Further asked s s' →
-        GivesCore asked bytes (s0, old) (s', new') (Err (ParseError (record { at = at })))
+        GivesWoven asked adds bytes (s0, old) (s', new') (Err (ParseError (record { at = at })))
     fault_behind {s' = s'} {new' = new'} at none some other place further = record {
       reading = λ t r. absurd (no_reading none some t r);
       readable = tt;
-      cause = inr (d.read, rest, fault_here none some, other, place, d.made, last, s, d.accepts, further);
+      cause = inl (inr (d.read, rest, fault_here none some, other, place, d.made, last, s, d.accepts, further));
     }
 
     -- no frame begins
     pub no_frame : {new' : Sections} (f : Fault) (at : ℕ) → NoFrame f rest at → at ≡ length bytes - length rest →
-        GivesCore asked bytes (s0, old) (s, new') (Err (error_of_fault f))
+        GivesWoven asked adds bytes (s0, old) (s, new') (Err (error_of_fault f))
     no_frame (fault.Read x) at h place = fault_behind x.at (none_section h.1) h.2 h.3 (h.0 ∙ place) (further_none asked s)
     no_frame fault.CodeSize at h place =
         let none = none_section h.0 in
@@ -396,47 +484,72 @@ module _ {S E : Type 0} (asked : Asks S E) where
         record {
           reading = λ t r. absurd (no_reading none some t r);
           readable = tt;
-          cause = (d.read, rest, fault_here none some, h.1, d.made, last, d.accepts);
+          cause = inl (d.read, rest, fault_here none some, h.1, d.made, last, d.accepts);
         }
     no_frame (fault.Header k) at h place = absurd h
     no_frame fault.NoMemory at h place = absurd h
 
     -- the error of the hook before a section
-    pub hook_refused : (k : SectionId) {left body : List ℕ} {s' : S} {new' : Sections} (e : Error E) → Begins frame rest (numbered_frame (number k) body) left → new' ≡ new →
-        (e ≢ NoMemory → asked s (Section last (Some k)) ≡ refused e s') → IfParse e (λ at. ⊥) → GivesCore asked bytes (s0, old) (s', new') (Err e)
-    hook_refused k {left = left} {body = body} {s' = s'} e there unchanged stops usual =
-        section_refused e there (λ t i. (unchanged, λ other. told_refused old.ceiling last s s' t e ((kind_announced asked k s last i).0 ∙ stops other))) usual
-        (unless_wanting e (λ other. inr (inl (record { id = k; body = body; left = left; framed = there; stops = inl (stops other) }))))
+    pub hook_refused : (k : SectionId) {left body : List ℕ} {s' : S} {new' : Sections} (e : Error E) → Begins frame rest (numbered_frame (number k) body) left →
+        HookStops (asked s (Section last (Some k))) (adds s last (Some k)) s' new new' e → GivesWoven asked adds bytes (s0, old) (s', new') (Err e)
+    hook_refused k {left = left} {body = body} {s' = s'} {new' = new'} e there h = section_refused e there stops (why h.3)
+      where
+        own : List SectionRow
+        own = adds s last (Some k)
+
+        told : {t : Tree} → InFrame t (numbered_frame (number k) body) → announced asked s last t ≡ asked s (Section last (Some k))
+        told i = (kind_announced asked k s last i).0
+
+        by : (t : Tree) → InFrame t (numbered_frame (number k) body) → IsOwn new.ceiling own e ⊎ ((e ≢ NoMemory → asked s (Section last (Some k)) ≡ refused e s') × IfParse e (λ at. ⊥)) →
+            e ≢ NoMemory → IsOwn old.ceiling own e ⊎ (announced asked s last t ≡ refused e s')
+        by t i (inl x) other = inl (own_under own e x)
+        by t i (inr q) other = inr (told i ∙ q.0 other)
+
+        stops : (t : Tree) → InFrame t (numbered_frame (number k) body) → (part : List SectionRow) × Gains new new' part × StopsHooked asked adds old.ceiling last s t part e s'
+        stops t i =
+            let P : List SectionRow → Type 0 = λ z. StopsHook old.ceiling z h.0 (announced asked s last t) e s' in
+            (h.0, h.1, inl (subst P (sym (kind_put adds k s last i)) (h.2, by t i h.3)))
+
+        why : IsOwn new.ceiling own e ⊎ ((e ≢ NoMemory → asked s (Section last (Some k)) ≡ refused e s') × IfParse e (λ at. ⊥)) →
+            OwnTooLarge asked adds old.ceiling bytes s0 e ⊎ Refuses (numbered_frame (number k) body) e s'
+        why (inl x) = inl (own_large {e = e} (inr (k, body, left, there, own_under own e x)))
+        why (inr q) = inr (
+          (λ t i other. told_refused asked old.ceiling last s s' t e (told i ∙ q.0 other)),
+          q.1,
+          unless_wanting e (λ other. inr (inl (record { id = k; body = body; left = left; framed = there; stops = inl (q.0 other) }))),
+        )
 
     -- a section's error, at the section's place
     pub section_err : {Stops : ℕ → Error E → S → Type 0} {id : ℕ} {f : Tree} {left : List ℕ} {now : Option SectionId} {n s' : S} {mid new' : Sections} (e : Error E) (at : ℕ) →
-        Reached asked Stops f rest left last now s n → mid ≡ new → GivesFramed asked id f Stops (n, mid) (s', new') (Err e) → at ≡ length bytes - length rest →
-        GivesCore asked bytes (s0, old) (s', new') (Err (placed_at e at))
-    section_err {Stops = Stops} {id = id} {f = f} {n = n} {s' = s'} {new' = new'} e at reached kept given place =
-        let P : Sections → Type 0 = λ z. GivesFramed asked id f Stops (n, z) (s', new') (Err e) in go e (subst P kept given)
+        Reached asked Stops f rest left last now s n → Put adds f last s new mid → GivesFramed asked id f Stops (n, mid) (s', new') (Err e) → at ≡ length bytes - length rest →
+        GivesWoven asked adds bytes (s0, old) (s', new') (Err (placed_at e at))
+    section_err {Stops = Stops} {id = id} {f = f} {n = n} {s' = s'} {mid = mid} {new' = new'} e at reached put given place = go e given
       where
-        ceiling : new.ceiling ≡ old.ceiling
-        ceiling = ap Sections.ceiling d.gains
+        ceiling : mid.ceiling ≡ old.ceiling
+        ceiling = ap Sections.ceiling put.gains ∙ ap Sections.ceiling d.gains
 
-        stops : (w : Error E) → GivesFramed asked id f Stops (n, new) (s', new') (Err w) → (t : Tree) → InFrame t f →
-            (new' ≡ new) × (w ≢ NoMemory → hooked asked old.ceiling last s t ≡ refused w s')
-        stops w given t i =
-            let g = given.reading t i in
-            let W : ℕ → Type 0 = λ c. walk asked c n t ≡ refused w s' in
-            (g.0, λ h. told_walked old.ceiling last s n t (reached.told t i) ∙ subst W ceiling (g.1 h))
+        walked : (w : Error E) → GivesFramed asked id f Stops (n, mid) (s', new') (Err w) → (t : Tree) → InFrame t f → w ≢ NoMemory → walk asked old.ceiling n t ≡ refused w s'
+        walked w g t i other = let W : ℕ → Type 0 = λ c. walk asked c n t ≡ refused w s' in subst W ceiling ((g.reading t i).1 other)
+
+        stops : (w : Error E) → GivesFramed asked id f Stops (n, mid) (s', new') (Err w) → (t : Tree) → InFrame t f →
+            (part : List SectionRow) × Gains new new' part × StopsHooked asked adds old.ceiling last s t part w s'
+        stops w g t i =
+            let P : Sections → Type 0 = λ z. Gains new z put.own in
+            (put.own, subst P (sym (g.reading t i).0) put.gains, inr (n, reached.told t i, sym (put.before t i), walked w g t i))
 
         -- what was refused inside it
-        inside : (w : Error E) → GivesFramed asked id f Stops (n, new) (s', new') (Err w) → IfRefused w (((t : Tree) × InFrame t f) ⊎ StopsThere asked old.ceiling rest last s w s')
-        inside w given = IfRefused-map w behind given.refusal
+        inside : (w : Error E) → GivesFramed asked id f Stops (n, mid) (s', new') (Err w) → IfRefused w (((t : Tree) × InFrame t f) ⊎ StopsThere asked old.ceiling rest last s w s')
+        inside w g = IfRefused-map w behind g.refusal
           where
-            behind : ((t : Tree) × InFrame t f) ⊎ Stops new.ceiling w s' → ((t : Tree) × InFrame t f) ⊎ StopsThere asked old.ceiling rest last s w s'
+            behind : ((t : Tree) × InFrame t f) ⊎ Stops mid.ceiling w s' → ((t : Tree) × InFrame t f) ⊎ StopsThere asked old.ceiling rest last s w s'
             behind (inl q) = inl q
             behind (inr q) = let Q : ℕ → Type 0 = λ c. Stops c w s' in inr (reached.stops old.ceiling w s' (subst Q ceiling q))
 
-        refuses : (w : Error E) → IfParse w (λ at. ⊥) → GivesFramed asked id f Stops (n, new) (s', new') (Err w) → GivesCore asked bytes (s0, old) (s', new') (Err w)
-        refuses w usual g = section_refused w reached.framed (stops w g) usual (inside w g)
+        refuses : (w : Error E) → IfParse w (λ at. ⊥) → GivesFramed asked id f Stops (n, mid) (s', new') (Err w) → GivesWoven asked adds bytes (s0, old) (s', new') (Err w)
+        refuses w usual g =
+            section_refused w reached.framed (stops w g) (inr ((λ t i other. told_walked asked old.ceiling last s n t (reached.told t i) ∙ walked w g t i other), usual, inside w g))
 
-        go : (w : Error E) → GivesFramed asked id f Stops (n, new) (s', new') (Err w) → GivesCore asked bytes (s0, old) (s', new') (Err (placed_at w at))
+        go : (w : Error E) → GivesFramed asked id f Stops (n, mid) (s', new') (Err w) → GivesWoven asked adds bytes (s0, old) (s', new') (Err (placed_at w at))
         go (ParseError x) g =
             fault_behind at (none_in_frame reached.framed g.unreadable.0) (some_begun reached.framed) (code_size_other reached.framed) place
             (further_then asked s n s' reached.further g.unreadable.1)
@@ -446,7 +559,8 @@ module _ {S E : Type 0} (asked : Asks S E) where
         go _ g = absurd g.unreadable
 
     -- the end
-    pub sections_end : {s' : S} {new' : Sections} → rest ≡ [] → (asked s (Section last None) ≡ accepted 0 s') × (new' ≡ new) → GivesCore asked bytes (s0, old) (s', new') (Ok tt)
+    pub sections_end : {s' : S} {new' : Sections} → rest ≡ [] → (asked s (Section last None) ≡ accepted 0 s') × Gains new new' (adds s last None) →
+        GivesWoven asked adds bytes (s0, old) (s', new') (Ok tt)
     sections_end {s' = s'} {new' = new'} empty h = record {
       reading = λ t r. go t (read_ahead t r);
       readable = (alsos d.read Tree.finish, record { rest = start; stands = reads; spells = all });
@@ -459,23 +573,41 @@ module _ {S E : Type 0} (asked : Asks S E) where
             let P : List ℕ → Type 0 = λ z. Spells sections z (alsos d.read Tree.finish) in
             subst P whole d.spells
 
-        go : (t : Tree) → Ahead d.read rest t [] → GivesModule asked (s0, old) t (s', new') (Ok tt)
+        own : List Tree
+        own = added adds s last None
+
+        go : (t : Tree) → Ahead d.read rest t [] → GivesWovenModule asked adds (s0, old) t (s', new') (Ok tt)
         go t (same f _) =
-            let last_step : walk_from asked old.ceiling last s Tree.finish ≡ accepted Tree.finish s' = rw h.0 refl in
-            let walked : walk asked old.ceiling s0 t ≡ accepted (alsos d.made Tree.finish) s' = rw f (d.accepts Tree.finish ∙ ap (λ (r : Step S (Error E) Tree). onto d.made r) last_step) in
-            (alsos d.made Tree.finish, d.rows, walked, h.1 ∙ d.gains, d.spelled ∙ sym (normal-alsos d.made))
+            let last_step : weave_from asked (added adds) old.ceiling last s Tree.finish ≡ accepted (alsos own Tree.finish) s' = rw h.0 refl in
+            let woven : weave asked (added adds) old.ceiling s0 t ≡ accepted (alsos d.woven (alsos own Tree.finish)) s' =
+            rw f (d.weaves Tree.finish ∙ ap (λ (r : Step S (Error E) Tree). onto d.woven r) last_step) in
+            let spelled : sections_bytes (d.rows ++ adds s last None) ≡ normals (d.woven ++ own) = spelled_both d.rows (adds s last None) d.woven own d.spelled (spelled_added (adds s last None)) in (
+              alsos d.woven (alsos own Tree.finish),
+              d.rows ++ adds s last None,
+              woven,
+              gains_both old new new' d.rows (adds s last None) d.gains h.1,
+              spelled ∙ sym (normal-alsos (d.woven ++ own)) ∙ ap normal (alsos-append d.woven own Tree.finish),
+            )
         go t (more u v left f b) = absurd (none_behind.none b.text left u b.spells (sym empty ∙ b.reads))
 
-    pub end_refused : {s' : S} {new' : Sections} (e : Error E) → rest ≡ [] → new' ≡ new → (e ≢ NoMemory → asked s (Section last None) ≡ refused e s') → IfParse e (λ at. ⊥) →
-        GivesCore asked bytes (s0, old) (s', new') (Err e)
-    end_refused {s' = s'} {new' = new'} e empty same_module stops usual = record {
+    pub end_refused : {s' : S} {new' : Sections} (e : Error E) → rest ≡ [] → HookStops (asked s (Section last None)) (adds s last None) s' new new' e →
+        GivesWoven asked adds bytes (s0, old) (s', new') (Err e)
+    end_refused {s' = s'} {new' = new'} e empty h = record {
       reading = λ t r. go t (read_ahead t r);
       readable = tt;
-      cause = cause e usual;
+      cause = why h.3;
     }
       where
-        go : (t : Tree) → Ahead d.read rest t [] → StopsSections asked old.ceiling (s0, old) t (s', new') e
-        go t (same f _) = stopped e s' new' t Tree.finish f same_module stops
+        own : List SectionRow
+        own = adds s last None
+
+        by : IsOwn new.ceiling own e ⊎ ((e ≢ NoMemory → asked s (Section last None) ≡ refused e s') × IfParse e (λ at. ⊥)) → e ≢ NoMemory →
+            IsOwn old.ceiling own e ⊎ (asked s (Section last None) ≡ refused e s')
+        by (inl x) other = inl (own_under own e x)
+        by (inr q) other = inr (q.0 other)
+
+        go : (t : Tree) → Ahead d.read rest t [] → StopsWoven asked adds old.ceiling (s0, old) t (s', new') e
+        go t (same f _) = stopped e s' new' t Tree.finish h.0 f h.1 (h.2, by h.3)
         go t (more u v left f b) = absurd (none_behind.none b.text left u b.spells (sym empty ∙ b.reads))
 
         no_fault : (before : List Tree) (left : List ℕ) → FaultAt bytes before left → Ahead d.read rest (alsos before Tree.finish) left → ⊥
@@ -490,6 +622,10 @@ module _ {S E : Type 0} (asked : Asks S E) where
         cause (UserError x) q = before_fault (UserError x)
         cause (TooLarge x) q = before_fault (TooLarge x)
         cause _ q = absurd q
+
+        why : IsOwn new.ceiling own e ⊎ ((e ≢ NoMemory → asked s (Section last None) ≡ refused e s') × IfParse e (λ at. ⊥)) → IsWovenCause asked adds old.ceiling bytes s0 s' e
+        why (inl x) = inr (own_large {e = e} (inl (empty, own_under own e x)))
+        why (inr q) = inl (cause e q.1)
 
     -- ---- the state that is left
 
@@ -531,36 +667,33 @@ module _ {S E : Type 0} (asked : Asks S E) where
 
   -- ---- no module
 
-  pub header_wrong : {bytes : List ℕ} (s : S) (old : Sections) (f : Fault) → NoCoreHeader f bytes → GivesCore asked bytes (s, old) (s, old) (Err (error_of_fault f))
+  pub header_wrong : {bytes : List ℕ} (s : S) (old : Sections) (f : Fault) → NoCoreHeader f bytes → GivesWoven asked adds bytes (s, old) (s, old) (Err (error_of_fault f))
   header_wrong {bytes = bytes} s old (fault.Header kinds.Component) there = record {
     reading = λ t r. absurd (let e : core_header ++ r.rest ≡ component_header ++ there.0 = sym r.stands ∙ there.1 in cc);
     readable = tt;
-    cause = (there.0, there.1, refl);
+    cause = inl (there.0, there.1, refl);
   }
   header_wrong s old (fault.Read x) none = record {
     reading = λ t r. absurd ((none.1 r.rest).0 r.stands);
     readable = tt;
-    cause = inl (none.1, none.0, refl);
+    cause = inl (inl (none.1, none.0, refl));
   }
   header_wrong s old (fault.Header kinds.Module) none = absurd none
   header_wrong s old fault.CodeSize none = absurd none
   header_wrong s old fault.NoMemory none = absurd none
 
 -- the section hook at the end
-pub end_given : {S E : Type 0} (reply : S → Visit → Result ℕ E) (next : S → Visit → S) (adds : S → Option SectionId → Option SectionId → List SectionRow) (nothing : Bool) →
-    KeepsAdds adds nothing → IsTrue nothing → {start bytes rest : List ℕ} {s0 s : S} {old new : Sections} {last : Option SectionId} → bytes ≡ core_header ++ start →
-    SectionsDone (ask reply next) start s0 old rest last s new → rest ≡ [] → (s' : S) (new' : Sections) (r : Result (Unit {0}) (Error E)) →
-    RepliesSection reply next adds s s' new new' last None r → GivesCore (ask reply next) bytes (s0, old) (s', new') r
-end_given reply next adds nothing keeps sure {s = s} {new = new} {last = last} reads d empty s' new' (Ok u) h =
-    sections_end (ask reply next) reads d empty (hook_ok reply next adds nothing keeps sure s s' new new' last None u h)
-end_given reply next adds nothing keeps sure {s = s} {new = new} {last = last} reads d empty s' new' (Err e) h =
-    end_refused (ask reply next) reads d e empty (hook_kept reply next adds nothing keeps sure s s' new new' last None e h)
-    (hook_err reply next adds nothing keeps sure s s' new new' last None e h) (hook_usual reply next adds nothing keeps sure s s' new new' last None e h)
+pub end_given : {S E : Type 0} (reply : S → Visit → Result ℕ E) (next : S → Visit → S) (adds : Puts S SectionRow) {start bytes rest : List ℕ} {s0 s : S} {old new : Sections} {last : Option SectionId} →
+    bytes ≡ core_header ++ start → SectionsDone (ask reply next) adds start s0 old rest last s new → rest ≡ [] → (s' : S) (new' : Sections) (r : Result (Unit {0}) (Error E)) →
+    RepliesSection reply next adds s s' new new' last None r → GivesWoven (ask reply next) adds bytes (s0, old) (s', new') r
+end_given reply next adds {s = s} {new = new} {last = last} reads d empty s' new' (Ok u) h = sections_end (ask reply next) adds reads d empty h
+end_given reply next adds {s = s} {new = new} {last = last} reads d empty s' new' (Err e) h =
+    end_refused (ask reply next) adds reads d e empty (hook_stops reply next adds s s' new new' last None e h)
 
-pub end_left : {S E : Type 0} (reply : S → Visit → Result ℕ E) (next : S → Visit → S) (adds : S → Option SectionId → Option SectionId → List SectionRow) (nothing : Bool) →
-    KeepsAdds adds nothing → IsTrue nothing → {start bytes rest : List ℕ} {s0 s : S} {old new : Sections} {last : Option SectionId} → bytes ≡ core_header ++ start →
-    SectionsDone (ask reply next) start s0 old rest last s new → rest ≡ [] → (s' : S) (new' : Sections) (r : Result (Unit {0}) (Error E)) →
+pub end_left : {S E : Type 0} (reply : S → Visit → Result ℕ E) (next : S → Visit → S) (adds : Puts S SectionRow) (none : (s : S) (a b : Option SectionId) → adds s a b ≡ [])
+    {start bytes rest : List ℕ} {s0 s : S} {old new : Sections} {last : Option SectionId} → bytes ≡ core_header ++ start →
+    SectionsDone (ask reply next) adds start s0 old rest last s new → rest ≡ [] → (s' : S) (new' : Sections) (r : Result (Unit {0}) (Error E)) →
     RepliesSection reply next adds s s' new new' last None r → {sure : Bool} → NeverWants sure r → IsTrue sure → LeavesReading (CoreReading bytes) (ask reply next) s0 s' r
-end_left reply next adds nothing keeps none reads d empty s' new' (Ok u) h never k = λ t r. tt
-end_left reply next adds nothing keeps none {s = s} {new = new} {last = last} reads d empty s' new' (Err e) h never k =
-    core_leaves_end (ask reply next) reads d empty (hook_err reply next adds nothing keeps none s s' new new' last None e h (never_wants e never k))
+end_left reply next adds none reads d empty s' new' (Ok u) h never k = λ t r. tt
+end_left reply next adds none {s = s} {new = new} {last = last} reads d empty s' new' (Err e) h never k =
+    core_leaves_end (ask reply next) adds reads d empty (hook_err reply next adds s s' new new' last None (none s last None) e h (never_wants e never k))

@@ -138,7 +138,7 @@ walk_further asked c s m t u h =
 
 -- ---- accepted visits one behind another
 
-run_then : {S E : Type 0} (asked : Asks S E) (s n m : S) (xs ys : List Visit) (a b : List ℕ) → run asked s xs ≡ accepted a n → run asked n ys ≡ accepted b m →
+pub run_then : {S E : Type 0} (asked : Asks S E) (s n m : S) (xs ys : List Visit) (a b : List ℕ) → run asked s xs ≡ accepted a n → run asked n ys ≡ accepted b m →
     run asked s (xs ++ ys) ≡ accepted (a ++ b) m
 run_then asked s n m [] ys a b h k = let g = given h in rw (← g.0, g.1) k
 run_then asked s n m (v ∷ xs) ys a b h k =

@@ -21,9 +21,11 @@ use Rattle.reencode_core.specs.Errors.{IfParse, placed_at}
 use Rattle.reencode_core.specs.Sections.{KeepsModule, GivesAdded, StopsSection}
 use Rattle.reencode_core.specs.Names.{StopsCustom, GivesCustom}
 use Rattle.reencode_core.specs.Core.{GivesCore}
+use Rattle.reencode_core.specs.Woven.{GivesWoven}
 use Rattle.reencode_core.specs.Leaves.{LeavesReading}
-use Rattle.reencode_core.proofs.CoreLoop.{SectionsDone, core_leaves_hook, core_leaves_inside, core_leaves_none, end_given, end_left, header_wrong, hook_err, hook_kept, hook_ok, hook_refused, hook_usual, no_frame, section_err, sections_begin, sections_more}
-use Rattle.reencode_core.proofs.AnySection.{GivesFramed, Reached, kind_gives, kind_reached, custom_gives, custom_reached, unknown_gives, unknown_reached}
+use Rattle.reencode_core.proofs.AddsNothing.{core_given}
+use Rattle.reencode_core.proofs.CoreLoop.{SectionsDone, Put, nothing_put, core_leaves_hook, core_leaves_inside, core_leaves_none, end_given, end_left, header_wrong, hook_err, hook_refused, hook_stops, no_frame, section_err, sections_begin, sections_more}
+use Rattle.reencode_core.proofs.AnySection.{GivesFramed, Reached, kind_gives, kind_put, kind_reached, custom_gives, custom_put, custom_reached, unknown_gives, unknown_put, unknown_reached}
 use Rattle.reencode_core.proofs.Known.{keeps_same, keeps_more, hook_keeps}
 use Rattle.reencode_core.proofs.MappedSection.{SectionClauses}
 use Rattle.reencode_core.proofs.OneRow.{answers, asks}
@@ -32,7 +34,7 @@ use Rattle.reencode_core.proofs.OneRow.{answers, asks}
 pub record SectionsKept {S E : Type 0} (i : Ghosts S E) (start : read.Sections) (s0 : S) (old : Sections) (reader : read.Sections) (last : Option SectionId) (s : S) (new : Sections) : Type 0 where
   pub kept : KeepsModule old new
   pub len : reader.len ≡ start.len
-  pub default : IsTrue i.keeps_defaults → IsTrue i.adds_nothing → SectionsDone (asks i) start.rest s0 old reader.rest last s new
+  pub done : IsTrue i.keeps_defaults → SectionsDone (asks i) i.adds start.rest s0 old reader.rest last s new
 
 -- the clauses of the call that maps a module
 abbrev pub CoreClauses : {S E : Type 0} → Ghosts S E → List ℕ → S → Sections → S → Sections → Result (Unit {0}) (Error E) → Type 0
@@ -40,6 +42,7 @@ CoreClauses i bytes s old m new result =
     record {
       kept : KeepsModule old new;
       default : IsTrue i.keeps_defaults → IsTrue i.adds_nothing → GivesCore (asks i) bytes (s, old) (m, new) result;
+      woven : IsTrue i.keeps_defaults → GivesWoven (asks i) i.adds bytes (s, old) (m, new) result;
       after_error : IsTrue i.keeps_defaults → IsTrue i.adds_nothing → IsTrue i.sure → LeavesReading (CoreReading bytes) (asks i) s m result;
     }
 
@@ -68,18 +71,25 @@ UnknownClauses i id contents s old m new result =
     }
 
 module _ {S E : Type 0} (i : Ghosts S E) where
-  pub core_headless : {bytes : List ℕ} {s : S} {old : Sections} (f : Fault) → NoCoreHeader f bytes → (r : Result (Unit {0}) (Error E)) → IsErrAnd r (λ y. y ≡ error_of_fault f) →
+  -- what holds where sections are added says what holds where none is
+  core_clauses : KeepsAdds i.adds i.adds_nothing → {bytes : List ℕ} {s m : S} {old new : Sections} (r : Result (Unit {0}) (Error E)) → KeepsModule old new →
+      (IsTrue i.keeps_defaults → GivesWoven (asks i) i.adds bytes (s, old) (m, new) r) →
+      (IsTrue i.keeps_defaults → IsTrue i.adds_nothing → IsTrue i.sure → LeavesReading (CoreReading bytes) (asks i) s m r) → CoreClauses i bytes s old m new r
+  core_clauses keeps {bytes = bytes} {s = s} {m = m} {old = old} {new = new} r kept woven leaves = record {
+    kept = kept;
+    default = λ k none. core_given (asks i) i.adds (keeps none) bytes (s, old) (m, new) r (woven k);
+    woven = woven;
+    after_error = leaves;
+  }
+
+  pub core_headless : KeepsAdds i.adds i.adds_nothing → {bytes : List ℕ} {s : S} {old : Sections} (f : Fault) → NoCoreHeader f bytes → (r : Result (Unit {0}) (Error E)) → IsErrAnd r (λ y. y ≡ error_of_fault f) →
       CoreClauses i bytes s old s old r
-  core_headless {bytes = bytes} {s = s} {old = old} f wrong r q =
+  core_headless keeps {bytes = bytes} {s = s} {old = old} f wrong r q =
       let P : Result (Unit {0}) (Error E) → Type 0 = λ z. CoreClauses i bytes s old s old z in
-      subst P (answers r q) (record {
-        kept = keeps_same old;
-        default = λ k n. header_wrong (asks i) s old f wrong;
-        after_error = λ k n sure t reads. none_visited s (visits t);
-      })
+      subst P (answers r q) (core_clauses keeps (Err (error_of_fault f)) (keeps_same old) (λ k. header_wrong (asks i) i.adds s old f wrong) (λ k n sure t reads. none_visited s (visits t)))
 
   pub sections_begun : (start : read.Sections) (s : S) (old : Sections) → SectionsKept i start s old start None s old
-  sections_begun start s old = record { kept = keeps_same old; len = refl; default = λ k n. sections_begin (asks i) start.rest s old }
+  sections_begun start s old = record { kept = keeps_same old; len = refl; done = λ k. sections_begin (asks i) i.adds start.rest s old }
 
   module _ (keeps : KeepsAdds i.adds i.adds_nothing) {bytes : List ℕ} {start : read.Sections} (header : HeaderRead bytes start) {s0 : S} {old : Sections}
       {reader : read.Sections} {last : Option SectionId} {s : S} {new : Sections} (inv : SectionsKept i start s0 old reader last s new) where
@@ -91,33 +101,28 @@ module _ {S E : Type 0} (i : Ghosts S E) where
     pub core_unframed : (f : Fault) → NoFrame f reader.rest (sections_place reader) → (r : Result (Unit {0}) (Error E)) → IsErrAnd r (λ y. y ≡ error_of_fault f) → CoreClauses i bytes s0 old s new r
     core_unframed f none r q =
         let P : Result (Unit {0}) (Error E) → Type 0 = λ z. CoreClauses i bytes s0 old s new z in
-        subst P (answers r q) (record {
-          kept = inv.kept;
-          default = λ k n. no_frame (asks i) header.stands (inv.default k n) f _ none (counted refl);
-          after_error = λ k n sure. core_leaves_none (asks i) header.stands (inv.default k n);
-        })
+        subst P (answers r q)
+        (core_clauses keeps (Err (error_of_fault f)) inv.kept (λ k. no_frame (asks i) i.adds header.stands (inv.done k) f _ none (counted refl))
+        (λ k n sure. core_leaves_none (asks i) i.adds header.stands (inv.done k)))
 
     -- the hook before a section is refused
     pub core_hook_refused : (k : SectionId) {body left : List ℕ} {n : S} {mid : Sections} (e : Error E) → Begins frame reader.rest (numbered_frame (number k) body) left →
         HookClauses i s n new mid last (Some k) (Err e) → (r : Result (Unit {0}) (Error E)) → IsErrAnd r (λ y. y ≡ e) → CoreClauses i bytes s0 old n mid r
     core_hook_refused k {n = n} {mid = mid} e framed hook r q =
         let P : Result (Unit {0}) (Error E) → Type 0 = λ z. CoreClauses i bytes s0 old n mid z in
-        subst P (answers r q) (record {
-          kept = keeps_more old new mid inv.kept (hook_keeps i.reply i.next i.adds s n new mid last (Some k) (Err e) hook.answer);
-          default = λ d none. hook_refused (asks i) header.stands (inv.default d none) k e framed
-              (hook_kept i.reply i.next i.adds i.adds_nothing keeps none s n new mid last (Some k) e hook.answer)
-              (hook_err i.reply i.next i.adds i.adds_nothing keeps none s n new mid last (Some k) e hook.answer)
-              (hook_usual i.reply i.next i.adds i.adds_nothing keeps none s n new mid last (Some k) e hook.answer);
-          after_error = λ d none sure. core_leaves_hook (asks i) header.stands (inv.default d none) k framed
-              (hook_err i.reply i.next i.adds i.adds_nothing keeps none s n new mid last (Some k) e hook.answer (never_wants e hook.sure sure));
-        })
+        subst P (answers r q)
+        (core_clauses keeps (Err e) (keeps_more old new mid inv.kept (hook_keeps i.reply i.next i.adds s n new mid last (Some k) (Err e) hook.answer))
+        (λ d. hook_refused (asks i) i.adds header.stands (inv.done d) k e framed (hook_stops i.reply i.next i.adds s n new mid last (Some k) e hook.answer))
+        (λ d none sure. core_leaves_hook (asks i) i.adds header.stands (inv.done d) k framed
+        (hook_err i.reply i.next i.adds s n new mid last (Some k) (keeps none s last (Some k)) e hook.answer (never_wants e hook.sure sure))))
 
     -- the section in a frame is reached, and the call that maps it gave this
     abbrev pub Called : (ℕ → Error E → S → Type 0) → ℕ → Tree → List ℕ → Option SectionId → S → Sections → S → Sections → Result (Unit {0}) (Error E) → Type 0
     Called Stops id f left now n mid m new' r =
         record {
           kept : KeepsModule old new';
-          reached : IsTrue i.keeps_defaults → IsTrue i.adds_nothing → Reached (asks i) Stops f reader.rest left last now s n × (mid ≡ new);
+          reached : IsTrue i.keeps_defaults → Reached (asks i) Stops f reader.rest left last now s n;
+          put : Put i.adds f last s new mid;
           gives : IsTrue i.keeps_defaults → GivesFramed (asks i) id f Stops (n, mid) (m, new') r;
           leaves : IsTrue i.keeps_defaults → IsTrue i.sure → LeavesReading (λ t. InFrame t f) (asks i) n m r;
         }
@@ -128,8 +133,8 @@ module _ {S E : Type 0} (i : Ghosts S E) where
         Called (λ c e m. StopsSection (asks i) c k body n e m) (number k) (numbered_frame (number k) body) left (Some k) n mid m new' r
     kind_called k {body = body} {n = n} {mid = mid} {u = u} {new' = new'} {r = r} framed hook given = record {
       kept = keeps_more old mid new' (keeps_more old new mid inv.kept (hook_keeps i.reply i.next i.adds s n new mid last (Some k) (Ok u) hook.answer)) given.kept;
-      reached = λ d none.
-          let h = hook_ok i.reply i.next i.adds i.adds_nothing keeps none s n new mid last (Some k) u hook.answer in (kind_reached (asks i) k framed h.0, h.1);
+      reached = λ d. kind_reached (asks i) k framed hook.answer.0;
+      put = record { own = i.adds s last (Some k); gains = hook.answer.1; before = λ t there. kind_put i.adds k s last there };
       gives = λ d. kind_gives r k framed (given.default d);
       leaves = λ d sure t there. given.after_error d sure t (kind_in_frame k body t there);
     }
@@ -140,7 +145,8 @@ module _ {S E : Type 0} (i : Ghosts S E) where
         Called (λ c e m. StopsCustom (asks i) c name contents s e m) 0 (custom_frame name contents) left last s new m new' r
     custom_called {name = name} {contents = contents} {new' = new'} {r = r} framed given = record {
       kept = keeps_more old new new' inv.kept given.kept;
-      reached = λ d none. (custom_reached (asks i) framed, refl);
+      reached = λ d. custom_reached (asks i) framed;
+      put = nothing_put (λ t there. custom_put i.adds s last there);
       gives = λ d. custom_gives r (given.default d);
       leaves = λ d sure t there. given.after_error d sure t (custom_in_frame name contents t there);
     }
@@ -151,7 +157,8 @@ module _ {S E : Type 0} (i : Ghosts S E) where
         Called (λ c e m. ⊥) id (numbered_frame id contents) left last s new m new' r
     unknown_called {id = id} {contents = contents} {m = m} {new' = new'} {r = r} low framed given = record {
       kept = keeps_more old new new' inv.kept given.kept;
-      reached = λ d none. (unknown_reached (asks i) low framed, refl);
+      reached = λ d. unknown_reached (asks i) low framed;
+      put = nothing_put (λ t there. unknown_put i.adds s last low there);
       gives = λ d. unknown_gives r low framed (given.default d) (given.usual d);
       leaves = λ d sure t there.
           let P : Tree → Type 0 = λ z. LeavesVisited (asks i) s (visits z) m r in subst P (sym (unknown_in_frame id contents t low there)) (given.after_error d sure);
@@ -162,10 +169,10 @@ module _ {S E : Type 0} (i : Ghosts S E) where
       pub core_more : {reader' : read.Sections} → reader'.rest ≡ left → reader'.len ≡ reader.len → Called Stops id f left now n mid m new' (Ok tt) →
           SectionsKept i start s0 old reader' now m new'
       core_more behind len call =
-          let P : List ℕ → Type 0 = λ z. SectionsDone (asks i) start.rest s0 old z now m new' in record {
+          let P : List ℕ → Type 0 = λ z. SectionsDone (asks i) i.adds start.rest s0 old z now m new' in record {
             kept = call.kept;
             len = len ∙ inv.len;
-            default = λ d none. let r = call.reached d none in subst P (sym behind) (sections_more (asks i) (inv.default d none) r.0 r.1 (call.gives d));
+            done = λ d. subst P (sym behind) (sections_more (asks i) i.adds (inv.done d) (call.reached d) call.put (call.gives d));
           }
 
       -- it is refused, or has no reading
@@ -173,16 +180,13 @@ module _ {S E : Type 0} (i : Ghosts S E) where
           CoreClauses i bytes s0 old m new' (Err r)
       core_section_refused e at call place r q =
           let P : Error E → Type 0 = λ z. CoreClauses i bytes s0 old m new' (Err z) in
-          subst P (sym q) (record {
-            kept = call.kept;
-            default = λ d none. let r = call.reached d none in section_err (asks i) header.stands (inv.default d none) e at r.0 r.1 (call.gives d) (counted place);
-            after_error = λ d none sure. core_leaves_inside (asks i) header.stands (inv.default d none) (call.reached d none).0 (call.leaves d sure);
-          })
+          subst P (sym q)
+          (core_clauses keeps (Err (placed_at e at)) call.kept (λ d. section_err (asks i) i.adds header.stands (inv.done d) e at (call.reached d) call.put (call.gives d) (counted place))
+          (λ d none sure. core_leaves_inside (asks i) i.adds header.stands (inv.done d) (call.reached d) (call.leaves d sure)))
 
     -- the hook at the end
     pub core_ended : {n : S} {mid : Sections} → reader.rest ≡ [] → (r : Result (Unit {0}) (Error E)) → HookClauses i s n new mid last None r → CoreClauses i bytes s0 old n mid r
-    core_ended {n = n} {mid = mid} empty r hook = record {
-      kept = keeps_more old new mid inv.kept (hook_keeps i.reply i.next i.adds s n new mid last None r hook.answer);
-      default = λ d none. end_given i.reply i.next i.adds i.adds_nothing keeps none header.stands (inv.default d none) empty n mid r hook.answer;
-      after_error = λ d none sure. end_left i.reply i.next i.adds i.adds_nothing keeps none header.stands (inv.default d none) empty n mid r hook.answer hook.sure sure;
-    }
+    core_ended {n = n} {mid = mid} empty r hook =
+        core_clauses keeps r (keeps_more old new mid inv.kept (hook_keeps i.reply i.next i.adds s n new mid last None r hook.answer))
+        (λ d. end_given i.reply i.next i.adds header.stands (inv.done d) empty n mid r hook.answer)
+        (λ d none sure. end_left i.reply i.next i.adds (keeps none) header.stands (inv.done d) empty n mid r hook.answer hook.sure sure)

@@ -17,7 +17,7 @@ use Rattle.wasm_shapes.specs.SectionTable.{number}
 use Rattle.wasm_shapes.proofs.Begins.{none_at_end}
 use Rattle.wasm_read.specs.Frames.{numbered_frame}
 use Rattle.wasm_write.specs.Sections.{Sections, SectionRow, section_row, section_bytes}
-use Rattle.reencode_hooks.specs.Hooks.{RepliesSection}
+use Rattle.reencode_hooks.specs.Hooks.{Gains, RepliesSection}
 use Rattle.reencode_hooks.specs.declared.error.Error.{Error}
 use Rattle.reencode_hooks.specs.declared.error.Error.TheVariants.{TooLarge}
 use Rattle.reencode_hooks.specs.Run.{Step, accepted, refused, run, Visited}
@@ -128,14 +128,20 @@ vec_is {s = s} {n = n} {body = body} {start = start} there tree p = go tree p.sh
 
 -- ---- modules
 
+-- no section was added
+pub gains_none : (m : Sections) → Gains m m []
+gains_none m = ap (λ (rows : List SectionRow). record m { sections = rows }) (sym (append-nil m.sections))
+
+-- what was added one behind the other was added at once
+pub gains_both : (old mid new : Sections) (own rows : List SectionRow) → Gains old mid own → Gains mid new rows → Gains old new (own ++ rows)
+gains_both old mid new own rows g h =
+    h ∙ ap (λ (m : Sections). record m { sections = m.sections ++ rows }) g ∙ ap (λ (z : List SectionRow). record old { sections = z }) (append_assoc old.sections own rows)
+
 pub keeps_same : (m : Sections) → KeepsModule m m
-keeps_same m = ([], ap (λ (rows : List SectionRow). record m { sections = rows }) (sym (append-nil m.sections)))
+keeps_same m = ([], gains_none m)
 
 pub keeps_more : (old mid new : Sections) → KeepsModule old mid → KeepsModule mid new → KeepsModule old new
-keeps_more old mid new p q = (
-  p.0 ++ q.0,
-  q.1 ∙ ap (λ (m : Sections). record m { sections = m.sections ++ q.0 }) p.1 ∙ ap (λ (rows : List SectionRow). record old { sections = rows }) (append_assoc old.sections p.0 q.0),
-)
+keeps_more old mid new p q = (p.0 ++ q.0, gains_both old mid new p.0 q.0 p.1 q.1)
 
 -- what a section hook did
 pub hook_keeps : {S E : Type 0} (reply : S → Visit → Result ℕ E) (next : S → Visit → S) (adds : S → Option SectionId → Option SectionId → List SectionRow) (s m : S) (old new : Sections)

@@ -8,9 +8,11 @@ pub mod EachItem
 pub mod EachRow
 pub mod OneSection
 pub mod AnySection
+pub mod AddsNothing
 pub mod CoreLoop
 pub mod Faults
 pub mod WholeBytes
+pub mod Completeness
 pub mod OneRow
 pub mod DataRow
 pub mod Group
@@ -30,4 +32,7 @@ pub mod InFrame
 pub mod NamesLoop
 pub mod CustomSection
 pub mod EachSubsection
+pub mod Weaves
+pub mod WovenRead
 pub mod Additions
+pub mod Interspersing

@@ -1,44 +1,126 @@
 -- From the sections of a module to its bytes.
-use Rattle.std.proofs.Common.{◌≡◌, ◌≢◌, ℕ, List, [], ◌++◌, Ok, Err, refl, ap, ◌∙◌, subst}
+use Rattle.std.proofs.Common.{◌≡◌, ◌≢◌, ℕ, ◌≤◌, List, [], ◌++◌, Option, Some, None, Result, Ok, Err, refl, sym, ap, ◌∙◌, subst, append_assoc, ◌⊎◌, inl, inr}
+use Rattle.wasm_shapes.specs.declared.SectionId.{SectionId}
+use Rattle.wasm_shapes.specs.declared.Visit.TheVariants.{Section}
 use Rattle.wasm_shapes.specs.Tree.{Tree}
-use Rattle.wasm_shapes.specs.Module.{core_header, core_tree}
+use Rattle.wasm_shapes.specs.Spells.{Is, Spelled, Spells}
+use Rattle.wasm_shapes.specs.Place.{Begins}
+use Rattle.wasm_shapes.specs.Module.{core_header, core_tree, core_module, sections, section, alsos, frame, InFrame, CoreReading}
 use Rattle.wasm_shapes.proofs.Laws.{module_headed}
+use Rattle.wasm_shapes.proofs.SectionTable.{in_frame}
 use Rattle.wasm_write.specs.Sections.{Sections, SectionRow, sections_bytes, module_bytes}
 use Rattle.reencode_hooks.specs.declared.error.Error.{Error}
 use Rattle.reencode_hooks.specs.declared.error.Error.TheVariants.{NoMemory}
 use Rattle.reencode_hooks.specs.Run.{Step, accepted, refused}
-use Rattle.reencode_hooks.specs.Walk.{walk, walk_from}
+use Rattle.reencode_hooks.specs.Walk.{announced}
 use Rattle.reencode_core.specs.Rows.{Asks}
-use Rattle.reencode_core.proofs.CoreLoop.{also_hooked}
-use Rattle.reencode_core.specs.Core.{onto, StopsSections, RefusesNext, IsCause, GivesCore, GivesBytes}
+use Rattle.reencode_core.specs.Core.{onto}
+use Rattle.reencode_core.specs.Weave.{Puts, added, put_before, weave, weave_from}
+use Rattle.reencode_core.specs.Woven.{IsOwn, OwnNext, OwnTooLarge, IsWovenCause, StopsHook, StopsNext, StopsWoven, GivesWoven, GivesWovenBytes}
+use Rattle.reencode_core.proofs.AddsNothing.{none_own}
 
-module _ {S E : Type 0} (asked : Asks S E) where
-  core_accepted : (c : ℕ) (s m : S) (t u v : Tree) → t ≡ core_tree u → walk asked c s u ≡ accepted v m → walk asked c s t ≡ accepted (core_tree v) m
+-- ---- sections in two parts
+
+-- what spells some sections and others behind them spells the first, and then the others
+parts_read : (ts : List Tree) (others : Tree) (x : List ℕ) → Spells sections x (alsos ts others) →
+    (y z : List ℕ) × (x ≡ y ++ z) × Spells sections y (alsos ts Tree.finish) × Spells sections z others
+parts_read [] others x p = ([], x, refl, record { shaped = Is.finish; spelled = refl }, p)
+parts_read (t ∷ ts) others x p = go p.shaped p.spelled (λ z q. parts_read ts others z q)
+  where
+    go : Is sections (Tree.also t (alsos ts others)) → Spelled (Tree.also t (alsos ts others)) x →
+        ((z : List ℕ) → Spells sections z (alsos ts others) → (y w : List ℕ) × (z ≡ y ++ w) × Spells sections y (alsos ts Tree.finish) × Spells sections w others) →
+        (y z : List ℕ) × (x ≡ y ++ z) × Spells sections y (Tree.also t (alsos ts Tree.finish)) × Spells sections z others
+    go (Is.also d d') s again =
+        let q = again s.1 (record { shaped = d'; spelled = s.4 }) in (
+          s.0 ++ q.0,
+          q.1,
+          s.2 ∙ ap (λ (w : List ℕ). s.0 ++ w) q.2 ∙ sym (append_assoc s.0 q.0 q.1),
+          record { shaped = Is.also d q.3.shaped; spelled = (s.0, q.0, refl, s.3, q.3.spelled) },
+          q.4,
+        )
+
+-- the first of these sections
+first_begins : {t others : Tree} {x : List ℕ} → Spells sections x (Tree.also t others) → (left : List ℕ) × Begins section x t left
+first_begins {t = t} {others = others} {x = x} p = go p.shaped p.spelled
+  where
+    go : Is sections (Tree.also t others) → Spelled (Tree.also t others) x → (left : List ℕ) × Begins section x t left
+    go (Is.also d d') s = (s.1, record { text = s.0; spells = record { shaped = d; spelled = s.3 }; reads = s.2 })
+
+module _ {S E : Type 0} (asked : Asks S E) (adds : Puts S SectionRow) where
+  -- a section that the section hook puts something before stands in its frame
+  own_next : (c : ℕ) (last : Option SectionId) (s : S) (t others : Tree) (x : List ℕ) (e : Error E) → Spells sections x (Tree.also t others) → IsOwn c (put_before adds s last t) e →
+      OwnNext adds c last s x e
+  own_next c last s t others x e p own = go f.1 f.2 own
+    where
+      b : (left : List ℕ) × Begins section x t left
+      b = first_begins p
+
+      f : (f : Tree) × InFrame t f × Spells frame b.1.text f
+      f = in_frame t b.1.text b.1.spells.shaped b.1.spells.spelled
+
+      go : {u g : Tree} → InFrame u g → Spells frame b.1.text g → IsOwn c (put_before adds s last u) e → OwnNext adds c last s x e
+      go (InFrame.of_kind k u body low r) spells h = inr (k, body, b.0, record { text = b.1.text; spells = spells; reads = b.1.reads }, h)
+      go (InFrame.of_custom name contents u r) spells h = absurd (none_own c [] e refl h)
+      go (InFrame.of_unknown id contents low high) spells h = absurd (none_own c [] e refl h)
+
+  -- the walk stops where its sections do, or a section that the hook was to add is too large
+  sections_stopped : (c : ℕ) (s m : S) (bytes : List ℕ) (t : Tree) (old new : Sections) (e : Error E) → CoreReading bytes t → StopsWoven asked adds c (s, old) t (m, new) e → e ≢ NoMemory →
+      OwnTooLarge asked adds c bytes s e ⊎ (weave asked (added adds) c s t ≡ refused e m)
+  sections_stopped c s m bytes t old new e r g other = go g.others g.parts g.stops
+    where
+      -- the sections before
+      large : (y z : List ℕ) → r.rest ≡ y ++ z → Spells sections y (alsos g.read Tree.finish) → OwnNext adds c g.last g.at z e → OwnTooLarge asked adds c bytes s e
+      large y z parts spells own = record {
+        read = g.read;
+        text = y;
+        rest = z;
+        made = g.made;
+        last = g.last;
+        at = g.at;
+        spells = spells;
+        stands = r.stands ∙ ap (λ (w : List ℕ). core_header ++ w) parts;
+        weaves = g.weaves;
+        own = own;
+      }
+
+      behind : (u : Tree) → t ≡ alsos g.read u → Spells sections r.rest (alsos g.read u)
+      behind u is = let P : Tree → Type 0 = λ z. Spells sections r.rest z in subst P is r.spells
+
+      refuses : (u : Tree) → t ≡ alsos g.read u → weave_from asked (added adds) c g.last g.at u ≡ refused e m → weave asked (added adds) c s t ≡ refused e m
+      refuses u is step = rw is (g.weaves u ∙ ap (λ (w : Step S (Error E) Tree). onto g.made w) step)
+
+      hook : {A : Type 0} (u : Tree) (own : List SectionRow) (step : Step S (Error E) A) → t ≡ alsos g.read u → (IsOwn c own e → (z : List ℕ) → Spells sections z u → OwnNext adds c g.last g.at z e) →
+          (step ≡ refused e m → weave_from asked (added adds) c g.last g.at u ≡ refused e m) → IsOwn c own e ⊎ (step ≡ refused e m) →
+          OwnTooLarge asked adds c bytes s e ⊎ (weave asked (added adds) c s t ≡ refused e m)
+      hook u own step is next walks (inl x) = let p = parts_read g.read u r.rest (behind u is) in inl (large p.0 p.1 p.2 p.3 (next x p.1 p.4))
+      hook u own step is next walks (inr h) = inr (refuses u is (walks h))
+
+      at_end : (z : List ℕ) → Spells sections z Tree.finish → z ≡ []
+      at_end z p = p.spelled
+
+      go : (u : Tree) → t ≡ alsos g.read u → StopsNext asked adds c g.last g.at u g.part e m → OwnTooLarge asked adds c bytes s e ⊎ (weave asked (added adds) c s t ≡ refused e m)
+      go (Tree.also v others) is (inl h) =
+          hook (Tree.also v others) (put_before adds g.at g.last v) (announced asked g.at g.last v) is (λ x z p. own_next c g.last g.at v others z e p x) (λ step. rw step refl) (h.1 other)
+      go (Tree.also v others) is (inr h) = inr (refuses (Tree.also v others) is (rw (h.1, h.3 other) refl))
+      go Tree.finish is h =
+          hook Tree.finish (adds g.at g.last None) (asked g.at (Section g.last None)) is (λ x z p. inl (at_end z p, x)) (λ step. rw step refl) (h.1 other)
+      go _ is h = absurd h
+
+  core_accepted : (c : ℕ) (s m : S) (t u v : Tree) → t ≡ core_tree u → weave asked (added adds) c s u ≡ accepted v m → weave asked (added adds) c s t ≡ accepted (core_tree v) m
   core_accepted c s m t u v e h = rw (e, h) refl
 
-  core_refused : (c : ℕ) (s m : S) (e : Error E) (t u : Tree) → t ≡ core_tree u → walk asked c s u ≡ refused e m → walk asked c s t ≡ refused e m
+  core_refused : (c : ℕ) (s m : S) (e : Error E) (t u : Tree) → t ≡ core_tree u → weave asked (added adds) c s u ≡ refused e m → weave asked (added adds) c s t ≡ refused e m
   core_refused c s m e t u f h = rw (f, h) refl
 
-  -- the walk stops where its sections do
-  sections_stopped : (c : ℕ) (s m : S) (t : Tree) (old new : Sections) (e : Error E) → StopsSections asked c (s, old) t (m, new) e → e ≢ NoMemory → walk asked c s t ≡ refused e m
-  sections_stopped c s m t old new e g other =
-      let step = stops g.others (g.refuses other) in
-      rw g.parts (g.accepts g.others ∙ ap (λ (r : Step S (Error E) Tree). onto g.made r) step)
-    where
-      stops : (u : Tree) → RefusesNext asked c g.last g.at u e m → walk_from asked c g.last g.at u ≡ refused e m
-      stops (Tree.also u v) h = also_hooked asked c g.last g.at u v ∙ rw h refl
-      stops Tree.finish h = rw h refl
-      stops _ h = absurd h
-
   pub bytes_given : {A : Type 0} (bytes : List ℕ) (c : ℕ) (s s' : S) (old new : Sections) (u : Unit {0}) → old ≡ record { ceiling = c; sections = [] } →
-      GivesCore asked bytes (s, old) (s', new) (Ok u) → (out : A) (view : A → List ℕ) → view out ≡ module_bytes new.sections →
-      GivesBytes asked c bytes s s' (Ok out) view
+      GivesWoven asked adds bytes (s, old) (s', new) (Ok u) → (out : A) (view : A → List ℕ) → view out ≡ module_bytes new.sections →
+      GivesWovenBytes asked adds c bytes s s' (Ok out) view
   bytes_given bytes c s s' old new u fresh g out view spelled = record {
     reading = λ t p.
         let r = module_headed.back bytes t p in
         let q = g.reading r.0 r.2 in
-        let W : ℕ → Type 0 = λ n. walk asked n s r.0 ≡ accepted q.0 s' in
-        let walked : walk asked c s r.0 ≡ accepted q.0 s' = subst W (ap Sections.ceiling fresh) q.2 in
+        let W : ℕ → Type 0 = λ n. weave asked (added adds) n s r.0 ≡ accepted q.0 s' in
+        let walked : weave asked (added adds) c s r.0 ≡ accepted q.0 s' = subst W (ap Sections.ceiling fresh) q.2 in
         let rows : new.sections ≡ q.1 = ap Sections.sections q.3 ∙ ap (λ (m : Sections). m.sections ++ q.1) fresh in (
           core_tree q.0,
           core_accepted c s s' t r.0 q.0 r.1 walked,
@@ -49,14 +131,23 @@ module _ {S E : Type 0} (asked : Asks S E) where
   }
 
   pub bytes_refused : {A : Type 0} (bytes : List ℕ) (c : ℕ) (s s' : S) (old new : Sections) (e : Error E) (view : A → List ℕ) → old ≡ record { ceiling = c; sections = [] } →
-      GivesCore asked bytes (s, old) (s', new) (Err e) → GivesBytes asked c bytes s s' (Err e) view
+      GivesWoven asked adds bytes (s, old) (s', new) (Err e) → GivesWovenBytes asked adds c bytes s s' (Err e) view
   bytes_refused bytes c s s' old new e view fresh g =
       let ceiling : old.ceiling ≡ c = ap Sections.ceiling fresh in
-      let P : ℕ → Type 0 = λ n. IsCause asked n bytes s s' e in record {
+      let P : ℕ → Type 0 = λ n. IsWovenCause asked adds n bytes s s' e in record {
         reading = λ t p other.
             let r = module_headed.back bytes t p in
-            let W : ℕ → Type 0 = λ n. walk asked n s r.0 ≡ refused e s' in
-            core_refused c s s' e t r.0 r.1 (subst W ceiling (sections_stopped old.ceiling s s' r.0 old new e (g.reading r.0 r.2) other));
+            let Q : ℕ → Type 0 = λ n. OwnTooLarge asked adds n bytes s e ⊎ (weave asked (added adds) n s r.0 ≡ refused e s') in
+            at_bytes t r.0 r.1 (subst Q ceiling (sections_stopped old.ceiling s s' bytes r.0 old new e r.2 (g.reading r.0 r.2) other));
         readable = tt;
         cause = subst P ceiling g.cause;
       }
+    where
+      at_bytes : (t u : Tree) → t ≡ core_tree u → OwnTooLarge asked adds c bytes s e ⊎ (weave asked (added adds) c s u ≡ refused e s') →
+          OwnTooLarge asked adds c bytes s e ⊎ (weave asked (added adds) c s t ≡ refused e s')
+      at_bytes t u is (inl own) = inl own
+      at_bytes t u is (inr step) = inr (core_refused c s s' e t u is step)
+
+  -- memory is wanting, and of that nothing is said
+  pub bytes_wanting : {A : Type 0} (bytes : List ℕ) (c : ℕ) (s s' : S) (view : A → List ℕ) → GivesWovenBytes asked adds c bytes s s' (Err NoMemory) view
+  bytes_wanting bytes c s s' view = record { reading = λ t p other. absurd (other refl); readable = tt; cause = inl tt }

@@ -9,6 +9,8 @@ pub mod Names
 pub mod Core
 pub mod Weave
 pub mod Woven
+pub mod WovenLaws
 pub mod Faults
 pub mod Leaves
 pub mod Rules
+pub mod Interspersed

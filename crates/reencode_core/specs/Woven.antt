@@ -15,7 +15,7 @@ use Rattle.reencode_hooks.specs.Run.{Step, accepted, refused}
 use Rattle.reencode_hooks.specs.Walk.{walk, announced}
 use Rattle.reencode_hooks.specs.Hooks.{Gains, HasTooLarge}
 use Rattle.reencode_core.specs.Rows.{Asks}
-use Rattle.reencode_core.specs.Core.{onto, AcceptsSections, IsCause}
+use Rattle.reencode_core.specs.Core.{onto, IsCause}
 use Rattle.reencode_core.specs.Weave.{Puts, added, put_before, weave, weave_from}
 
 -- ---- the section hook, and a section behind it
@@ -95,7 +95,7 @@ pub record OwnTooLarge {S E : Type 0} (asked : Asks S E) (adds : Puts S SectionR
   pub at : S
   pub spells : Spells sections text (alsos read Tree.finish)
   pub stands : bytes ≡ core_header ++ (text ++ rest)
-  pub accepts : AcceptsSections asked c s read made last at
+  pub weaves : WeavesSections asked (added adds) c s read made last at
   pub own : OwnNext adds c last at rest e
 
 -- why an error comes: as where nothing is added, or a section that the hook was to add is too large
@@ -119,3 +119,21 @@ pub record GivesWovenBytes {S E A : Type 0} (asked : Asks S E) (adds : Puts S Se
       GivesWovenNormal (weave asked (added adds) ceiling s t) (OwnTooLarge asked adds ceiling bytes s) m result view
   pub readable : IfOk result (λ _. (t : Tree) × Spells core_module bytes t)
   pub cause : IfErr result (IsWovenCause asked adds ceiling bytes s m)
+
+-- ---- completeness
+
+-- no section that is added has a body above the ceiling
+abbrev pub AddsFit : {S : Type 0} → Puts S SectionRow → ℕ → Type 0
+AddsFit {S} adds c = (s : S) (after before : Option SectionId) (size : ℕ) → ¬ HasTooLarge c (adds s after before) size
+
+-- these bytes are the answer, and this is the state that is left; or memory is wanting
+abbrev pub IsOrWants : {S E A : Type 0} → List ℕ → S → S → Result A (Error E) → (A → List ℕ) → Type 0
+IsOrWants bytes n m (Ok out) view = (view out ≡ bytes) × (m ≡ n)
+IsOrWants bytes n m (Err e) view = e ≡ NoMemory
+
+-- Where the bytes have a reading, what is added fits, and the woven walk over the reading is accepted, the normal spelling of its
+-- tree is the answer, in its state; or memory is wanting.
+abbrev pub AcceptedIsAnswered : {S E A : Type 0} → Asks S E → Puts S SectionRow → (A → List ℕ) → Type 0
+AcceptedIsAnswered {S} {E} {A} asked adds view =
+    (c : ℕ) (bytes : List ℕ) (s m : S) (result : Result A (Error E)) → GivesWovenBytes asked adds c bytes s m result view → AddsFit adds c
+    → (t u : Tree) (n : S) → Spells core_module bytes t → weave asked (added adds) c s t ≡ accepted u n → IsOrWants (normal u) n m result view

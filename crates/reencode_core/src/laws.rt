@@ -1,6 +1,9 @@
-//! A law of faults, as the contract of a function that does nothing.
+//! Laws, each the contract of a function that does nothing.
+ghost use Rattle.std.specs.Prelude.{List, ℕ};
 ghost use Rattle.reencode_hooks.specs.Run.{ask};
 ghost use Rattle.reencode_core.specs.Faults.{FaultTells};
+ghost use Rattle.reencode_core.specs.Woven.{AcceptedIsAnswered};
+ghost use Rattle.reencode_core.specs.WovenLaws.{OutputIsRead, WeaveEnds, WeaveIsRun, WeaveOfNothing};
 
 use reencode_hooks::ReencodeIndices;
 
@@ -8,4 +11,32 @@ use reencode_hooks::ReencodeIndices;
 /// says which errors may come of them.
 pub fn fault_tells<T: ReencodeIndices>(_reencoder: &T)
     ensures { FaultTells (ask T.reply T.next) }
+{}
+
+/// Where a section hook adds nothing, the walk with what it adds is the plain walk.
+pub fn weave_of_nothing<T: ReencodeIndices>(_reencoder: &T)
+    ensures { WeaveOfNothing (ask T.reply T.next) }
+{}
+
+/// Whatever a section hook adds, the walk with it ends as the plain walk does: accepted or by the same refusal, in the same state.
+pub fn weave_ends<T: ReencodeIndices>(_reencoder: &T)
+    ensures { WeaveEnds (ask T.reply T.next) }
+{}
+
+/// A walk with what a section hook adds over a tree that bytes spell is accepted exactly where the fold of the hooks over its
+/// visits is, and no frame of the filled tree is above the ceiling; it gives the filled tree with what is added where it is.
+pub fn weave_is_run<T: ReencodeIndices>(_reencoder: &T)
+    ensures { WeaveIsRun (ask T.reply T.next) }
+{}
+
+/// Where all sections that the hook ever adds have readings, the output of an accepted walk over a reading is read as one tree
+/// alone: the filled tree, with the readings of what was added in their places.
+pub fn output_is_read<T: ReencodeIndices>(_reencoder: &T)
+    ensures { OutputIsRead (ask T.reply T.next) T.adds }
+{}
+
+/// Where bytes have a reading, no section that the section hook adds is above the ceiling, and the walk over the reading with
+/// the added sections is accepted, `reencode_core` answers the normal spelling of its tree in its state, or memory is wanting.
+pub fn accepted_is_answered<T: ReencodeIndices, A>(_reencoder: &T, _answers: &[A])
+    ensures { (view : A → List ℕ) → AcceptedIsAnswered (ask T.reply T.next) T.adds view }
 {}

@@ -19,7 +19,9 @@ mod subsections;
 pub mod utils;
 
 pub use adding::{Adding, SectionRule};
-pub use laws::fault_tells;
+pub use laws::{
+    accepted_is_answered, fault_tells, output_is_read, weave_ends, weave_is_run, weave_of_nothing,
+};
 pub use names::{indirect_name_map, map_indirect_names, map_names, name_map};
 pub use reencode::{Reencode, reencode_core};
 pub use rule::reencode_by_rule;

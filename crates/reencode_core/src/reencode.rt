@@ -18,6 +18,7 @@ ghost use Rattle.reencode_core.specs.Sections.{KeepsModule, ReadsAs, GivesAdded,
 ghost use Rattle.reencode_core.specs.Errors.{IfParse};
 ghost use Rattle.reencode_core.specs.Names.{GivesCustom, GivesNames, GivesSubsection, SubsectionsLeft};
 ghost use Rattle.reencode_core.specs.Core.{GivesCore, GivesBytes};
+ghost use Rattle.reencode_core.specs.Woven.{GivesWoven, GivesWovenBytes};
 ghost use Rattle.reencode_core.specs.Leaves.{BodyOf, LeavesReading, LocalsOf, RowsOf};
 
 use crate::errors::placed;
@@ -565,6 +566,9 @@ pub trait Reencode: ReencodeItems {
         ensures default { IsTrue Self.keeps_defaults → IsTrue Self.adds_nothing
             → GivesCore (ask Self.reply Self.next) bytes.now (self.old, «module».old)
             (self.new, «module».new) result }
+        ensures woven { IsTrue Self.keeps_defaults
+            → GivesWoven (ask Self.reply Self.next) Self.adds bytes.now (self.old, «module».old)
+            (self.new, «module».new) result }
         ensures after_error { IsTrue Self.keeps_defaults → IsTrue Self.adds_nothing
             → IsTrue Self.sure
             → LeavesReading (CoreReading bytes.now) (ask Self.reply Self.next)
@@ -583,6 +587,9 @@ pub fn reencode_core<R: Reencode>(
 ) -> Result<Vec<u8>, Error<R::Error>>
     ensures default { IsTrue R.keeps_defaults → IsTrue R.adds_nothing
         → GivesBytes (ask R.reply R.next) ceiling bytes.now r.old r.new result (λ v. v.items) }
+    ensures woven { IsTrue R.keeps_defaults
+        → GivesWovenBytes (ask R.reply R.next) R.adds ceiling bytes.now r.old r.new result
+        (λ v. v.items) }
     ensures after_error { IsTrue R.keeps_defaults → IsTrue R.adds_nothing → IsTrue R.sure
         → LeavesReading (Spells core_module bytes.now) (ask R.reply R.next) r.old r.new result }
 {

@@ -16,6 +16,7 @@ ghost use Rattle.reencode_core.specs.Sections.{KeepsModule, ReadsAs, GivesAdded,
 ghost use Rattle.reencode_core.specs.Errors.{IfParse};
 ghost use Rattle.reencode_core.specs.Names.{GivesCustom, GivesNames, GivesSubsection, SubsectionsLeft};
 ghost use Rattle.reencode_core.specs.Core.{GivesCore};
+ghost use Rattle.reencode_core.specs.Woven.{GivesWoven};
 ghost use Rattle.reencode_core.specs.Leaves.{BodyOf, LeavesReading, LocalsOf, RowsOf};
 
 use crate::errors::placed;
@@ -543,6 +544,9 @@ pub fn parse_core_module<T: Reencode>(
     ensures kept { KeepsModule «module».old «module».new }
     ensures default { IsTrue T.keeps_defaults → IsTrue T.adds_nothing
         → GivesCore (ask T.reply T.next) bytes.now (reencoder.old, «module».old)
+        (reencoder.new, «module».new) result }
+    ensures woven { IsTrue T.keeps_defaults
+        → GivesWoven (ask T.reply T.next) T.adds bytes.now (reencoder.old, «module».old)
         (reencoder.new, «module».new) result }
     ensures after_error { IsTrue T.keeps_defaults → IsTrue T.adds_nothing → IsTrue T.sure
         → LeavesReading (CoreReading bytes.now) (ask T.reply T.next)

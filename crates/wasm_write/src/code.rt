@@ -111,4 +111,8 @@ impl Section for CodeSection {
     {
         self.rows.encode_body(out)
     }
+
+    fn known_len(&self) -> Option<usize> {
+        self.rows.known_len()
+    }
 }

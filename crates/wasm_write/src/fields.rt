@@ -1,5 +1,5 @@
 //! Fields in their normal spelling.
-ghost use Rattle.std.specs.Prelude.{◌≡◌, ◌++◌, ◌<◌, ◌-◌, ◌^◌, length, take, vec_len, OnOk, OnErr, IfErr};
+ghost use Rattle.std.specs.Prelude.{◌≡◌, ◌++◌, ◌+◌, ◌<◌, ◌-◌, ◌^◌, length, take, vec_len, OnOk, OnErr, IfErr, IfSome};
 ghost use Rattle.wasm_leb.specs.Leb.{leb};
 ghost use Rattle.wasm_shapes.specs.Tree.{Tree, normal};
 ghost use Rattle.wasm_shapes.specs.Fits.{InRange};
@@ -8,7 +8,7 @@ ghost use Rattle.wasm_write.specs.Rows.{item_tree};
 
 use crate::fault::WriteFault;
 use crate::types::ExportKind;
-use wasm_leb::{NoMemory, write_u32};
+use wasm_leb::{NoMemory, len_u32, write_u32};
 
 /// Appends bytes behind a number, or a part of that where memory is wanting.
 #[inline(always)]
@@ -59,6 +59,17 @@ pub fn write_name(out: &mut Vec<u8>, name: &str) -> Result<(), WriteFault>
         (λ size. (size ≡ length name.now) × (2 ^ 32 - 1 < size))) }
 {
     write_content(out, name.as_bytes())
+}
+
+/// How many bytes a name of so many bytes takes, with its length in front of it and so many bytes behind it; nothing where
+/// there are more than can be counted.
+pub(crate) fn named_len(name: usize, contents: usize) -> Option<usize>
+    ensures { IfSome result (λ len. len ≡ length (leb name) + name + contents) }
+{
+    if name > u32::MAX as usize {
+        return None;
+    }
+    contents.checked_add(len_u32(name as u32) + name)
 }
 
 /// Appends what is exported, by its kind and its index (WebAssembly Core Specification 3.0, section 5.5.10). A refusal

@@ -15,7 +15,7 @@ ghost use Rattle.wasm_write.specs.Held.{HeldMany, HeldMany-prop};
 ghost use Rattle.wasm_write.specs.Names.{PassesCeiling, name_section_tree, NamesSpell, behind, HasSubsection, GainsSubsection};
 
 use crate::fault::WriteFault;
-use crate::fields::write_behind;
+use crate::fields::{named_len, write_behind};
 use crate::immediates::write_bytes;
 use crate::names::{Entries, IndirectNameMap, MapKind, NameMap};
 use crate::section::Section;
@@ -330,5 +330,9 @@ impl Section for NameSection {
             Ok(()) => Ok(()),
             Err(NoMemory) => Err(NoMemory),
         }
+    }
+
+    fn known_len(&self) -> Option<usize> {
+        named_len(4, self.bytes.len())
     }
 }

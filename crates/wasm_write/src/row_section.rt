@@ -201,4 +201,8 @@ impl<K: SectionKind> Section for RowSection<K> {
     {
         write_behind(out, self.count, behind(&self.bytes, self.front))
     }
+
+    fn known_len(&self) -> Option<usize> {
+        Some(self.body_len())
+    }
 }

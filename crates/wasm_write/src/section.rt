@@ -1,5 +1,5 @@
 //! What can be added to a module.
-ghost use Rattle.std.specs.Prelude.{◌≡◌, ◌++◌, ◌≤◌, ℕ, List, OnOk, OnErr, take, vec_len};
+ghost use Rattle.std.specs.Prelude.{◌≡◌, ◌++◌, ◌≤◌, ℕ, List, OnOk, OnErr, IfSome, length, take, vec_len};
 
 use wasm_leb::NoMemory;
 
@@ -20,6 +20,13 @@ pub trait Section {
     fn encode_body(&self, out: &mut Vec<u8>) -> Result<(), NoMemory>
         ensures ok { OnOk result (out.new.items ≡ out.old.items ++ contents self.now) }
         ensures err { OnErr result (take (vec_len out.old) out.new.items ≡ out.old.items) };
+
+    /// How many bytes the body has, where that is known before it is written: it is then written where it stands in the end.
+    fn known_len(&self) -> Option<usize>
+        ensures { IfSome result (λ len. len ≡ length (contents self.now)) }
+    {
+        None
+    }
 
     ghost small: { (s : Self) → number s ≤ 127 };
 }

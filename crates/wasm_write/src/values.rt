@@ -4,6 +4,7 @@ ghost use Rattle.std.proofs.Common.{lit≤};
 ghost use Rattle.wasm_shapes.specs.Tree.{Tree, normal};
 ghost use Rattle.wasm_write.specs.Rows.{start_tree, data_count_tree, custom_tree};
 
+use crate::fields::named_len;
 use crate::section::Section;
 use crate::types::CustomSection;
 use wasm_leb::{NoMemory, write_u32, write_u64};
@@ -85,6 +86,10 @@ impl<'a> Section for CustomSection<'a> {
             Err(_) => Err(NoMemory),
         }
     }
+
+    fn known_len(&self) -> Option<usize> {
+        named_len(self.name.len(), self.contents.len())
+    }
 }
 
 impl<'a> Section for RawSection<'a> {
@@ -103,5 +108,9 @@ impl<'a> Section for RawSection<'a> {
             Ok(()) => Ok(()),
             Err(_) => Err(NoMemory),
         }
+    }
+
+    fn known_len(&self) -> Option<usize> {
+        Some(self.contents.len())
     }
 }

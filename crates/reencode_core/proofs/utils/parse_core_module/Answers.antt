@@ -4,7 +4,7 @@ use Rattle.reencode_core.proofs.Known.{frame_id}
 use Rattle.reencode_core.proofs.utils.parse_core_module.Goals as goal
 
 pub returns-in_err-payloads : goal.returns-in_err-payloads
-returns-in_err-payloads g c = core_headless g.T.ReencodeIndices _ c.in_err-payloads.ensures.err _ c.from_residual.ensures.1
+returns-in_err-payloads g c = core_headless g.T.ReencodeIndices g.met.T.ReencodeIndices.adds_ok _ c.in_err-payloads.ensures.err _ c.from_residual.ensures.1
 
 pub sections-init : goal.sections-init
 sections-init g c = sections_begun g.T.ReencodeIndices _ _ _

@@ -1,0 +1,129 @@
+-- A reencoder that adds nothing: what is woven is walked.
+use Rattle.std.proofs.Common.{◌≡◌, ◌≢◌, ℕ, List, [], ◌∷◌, ◌++◌, map, Option, Some, None, Result, Ok, Err, refl, sym, ap, ◌∙◌, subst, append-nil, ◌⊎◌, inl, inr}
+use Rattle.wasm_shapes.specs.declared.SectionId.{SectionId}
+use Rattle.wasm_shapes.specs.declared.Visit.TheVariants.{Section}
+use Rattle.wasm_shapes.specs.Tree.{Tree}
+use Rattle.wasm_shapes.specs.Module.{alsos}
+use Rattle.wasm_write.specs.Sections.{Sections, SectionRow, framed_tree}
+use Rattle.reencode_hooks.specs.declared.error.Error.{Error}
+use Rattle.reencode_hooks.specs.declared.error.Error.TheVariants.{TooLarge, NoMemory}
+use Rattle.reencode_hooks.specs.Run.{Step, refused}
+use Rattle.reencode_hooks.specs.Walk.{walk, walk_from, announced}
+use Rattle.reencode_hooks.specs.Hooks.{Gains, HasTooLarge}
+use Rattle.reencode_core.specs.Rows.{Asks}
+use Rattle.reencode_core.specs.Core.{onto, AcceptsSections, RefusesNext, StopsSections, IsCause, GivesCore, GivesBytes}
+use Rattle.reencode_core.specs.Weave.{Puts, added, put_before, weave, weave_from}
+use Rattle.reencode_core.specs.Woven.{IsOwn, IsPart, StopsNext, WeavesSections, StopsWoven, OwnNext, OwnTooLarge, IsWovenCause, GivesWoven, GivesWovenBytes, AddsFit}
+use Rattle.reencode_core.proofs.Weaves.{weave_nothing}
+
+none_large : (c size : ℕ) → ¬ HasTooLarge c [] size
+none_large c size h = go h.front h.parts
+  where
+    go : (front : List SectionRow) → [] ≡ front ++ h.row ∷ h.rest → ⊥
+    go [] e = cc
+    go (r ∷ rows) e = cc
+
+own_fits : {E : Type 0} (c : ℕ) (own : List SectionRow) (e : Error E) → ((size : ℕ) → ¬ HasTooLarge c own size) → IsOwn c own e → ⊥
+own_fits c own (TooLarge size) fit h = fit size h
+own_fits c own _ fit h = h
+
+pub none_own : {E : Type 0} (c : ℕ) (own : List SectionRow) (e : Error E) → own ≡ [] → IsOwn c own e → ⊥
+none_own c own e none h = own_fits c own e (λ size. let P : List SectionRow → Type 0 = λ rows. ¬ HasTooLarge c rows size in subst P (sym none) (none_large c size)) h
+
+-- where what is added fits, no section that the hook was to add is too large
+pub nothing_large : {S E : Type 0} (asked : Asks S E) (adds : Puts S SectionRow) {c : ℕ} {bytes : List ℕ} {s : S} (e : Error E) → AddsFit adds c → OwnTooLarge asked adds c bytes s e → ⊥
+nothing_large asked adds {c = c} e fit o = go o.own
+  where
+    go : OwnNext adds c o.last o.at o.rest e → ⊥
+    go (inl q) = own_fits c (adds o.at o.last None) e (fit o.at o.last None) q.1
+    go (inr q) = own_fits c (adds o.at o.last (Some q.0)) e (fit o.at o.last (Some q.0)) q.4
+
+no_part : {part own : List SectionRow} → IsPart part own → own ≡ [] → part ≡ []
+no_part {part = part} p none = go part p.rest (sym none ∙ p.parts)
+  where
+    go : (part rest : List SectionRow) → [] ≡ part ++ rest → part ≡ []
+    go [] rest e = refl
+    go (r ∷ part) rest e = absurd cc
+
+module _ {S E : Type 0} (asked : Asks S E) (adds : Puts S SectionRow) (none : (s : S) (a b : Option SectionId) → adds s a b ≡ []) where
+  same : (c : ℕ) (last : Option SectionId) (s : S) (t : Tree) → weave_from asked (added adds) c last s t ≡ walk_from asked c last s t
+  same c last s t = weave_nothing asked (added adds) (λ s a b. ap (λ (rows : List SectionRow). map framed_tree rows) (none s a b)) c last s t
+
+  before_none : (s : S) (last : Option SectionId) (t : Tree) → put_before adds s last t ≡ []
+  before_none s last (Tree.row k t) = before_none s last t
+  before_none s last (Tree.told k t) = none s last (Some k)
+  before_none s last _ = refl
+
+  all_accepted : (c : ℕ) (s m : S) (read made : List Tree) (last : Option SectionId) → WeavesSections asked (added adds) c s read made last m → AcceptsSections asked c s read made last m
+  all_accepted c s m read made last w = λ others.
+      sym (same c None s (alsos read others)) ∙ w others ∙ ap (λ (r : Step S (Error E) Tree). onto made r) (same c last m others)
+
+  next_refused : (c : ℕ) (last : Option SectionId) (s m : S) (u : Tree) (part : List SectionRow) (e : Error E) → StopsNext asked adds c last s u part e m →
+      (part ≡ []) × (e ≢ NoMemory → RefusesNext asked c last s u e m)
+  next_refused c last s m (Tree.also t others) part e (inl hook) = (no_part hook.0 (before_none s last t), λ other. by (hook.1 other))
+    where
+      by : IsOwn c (put_before adds s last t) e ⊎ (announced asked s last t ≡ refused e m) → RefusesNext asked c last s (Tree.also t others) e m
+      by (inl own) = absurd (none_own c (put_before adds s last t) e (before_none s last t) own)
+      by (inr step) = rw step refl
+  next_refused c last s m (Tree.also t others) part e (inr behind) = (behind.2 ∙ before_none s last t, λ other. rw (behind.1, behind.3 other) refl)
+  next_refused c last s m Tree.finish part e hook = (no_part hook.0 (none s last None), λ other. by (hook.1 other))
+    where
+      by : IsOwn c (adds s last None) e ⊎ (asked s (Section last None) ≡ refused e m) → asked s (Section last None) ≡ refused e m
+      by (inl own) = absurd (none_own c (adds s last None) e (none s last None) own)
+      by (inr step) = step
+  next_refused c last s m _ part e h = absurd h
+
+  no_own : {c : ℕ} {bytes : List ℕ} {s : S} {e : Error E} → OwnTooLarge asked adds c bytes s e → ⊥
+  no_own {c = c} {e = e} o =
+      nothing_large asked adds e (λ s a b size. let P : List SectionRow → Type 0 = λ rows. ¬ HasTooLarge c rows size in subst P (sym (none s a b)) (none_large c size)) o
+
+  plain_cause : (c : ℕ) (bytes : List ℕ) (s m : S) (e : Error E) → IsWovenCause asked adds c bytes s m e → IsCause asked c bytes s m e
+  plain_cause c bytes s m e (inl h) = h
+  plain_cause c bytes s m e (inr own) = absurd (no_own own)
+
+  sections_stopped : (c : ℕ) (before after : S × Sections) (t : Tree) (e : Error E) → StopsWoven asked adds c before t after e → StopsSections asked c before t after e
+  sections_stopped c before after t e g =
+      let stops = next_refused c g.last g.at after.0 g.others g.part e g.stops in
+      let whole : g.rows ++ g.part ≡ g.rows = ap (λ (z : List SectionRow). g.rows ++ z) stops.0 ∙ append-nil g.rows in
+      let P : List SectionRow → Type 0 = λ z. Gains before.1 after.1 z in record {
+        read = g.read;
+        others = g.others;
+        made = g.made;
+        rows = g.rows;
+        last = g.last;
+        at = g.at;
+        parts = g.parts;
+        accepts = all_accepted c before.0 g.at g.read g.made g.last g.weaves;
+        gains = subst P whole g.gains;
+        spelled = g.spelled;
+        refuses = stops.1;
+      }
+
+  pub core_given : (bytes : List ℕ) (before after : S × Sections) (r : Result (Unit {0}) (Error E)) → GivesWoven asked adds bytes before after r → GivesCore asked bytes before after r
+  core_given bytes before after (Ok u) g = record {
+    reading = λ t p. let q = g.reading t p in (q.0, q.1, sym (same before.1.ceiling None before.0 t) ∙ q.2, q.3, q.4);
+    readable = g.readable;
+    cause = tt;
+  }
+  core_given bytes before after (Err e) g = record {
+    reading = λ t p. sections_stopped before.1.ceiling before after t e (g.reading t p);
+    readable = tt;
+    cause = plain_cause before.1.ceiling bytes before.0 after.0 e g.cause;
+  }
+
+  pub bytes_nothing : {A : Type 0} (c : ℕ) (bytes : List ℕ) (s m : S) (r : Result A (Error E)) (view : A → List ℕ) → GivesWovenBytes asked adds c bytes s m r view →
+      GivesBytes asked c bytes s m r view
+  bytes_nothing c bytes s m (Ok out) view g = record {
+    reading = λ t p. let q = g.reading t p in (q.0, sym (same c None s t) ∙ q.1, q.2);
+    readable = g.readable;
+    cause = tt;
+  }
+  bytes_nothing c bytes s m (Err e) view g = record {
+    reading = λ t p other. step t (g.reading t p other);
+    readable = tt;
+    cause = plain_cause c bytes s m e g.cause;
+  }
+    where
+      step : (t : Tree) → OwnTooLarge asked adds c bytes s e ⊎ (weave asked (added adds) c s t ≡ refused e m) → walk asked c s t ≡ refused e m
+      step t (inl own) = absurd (no_own own)
+      step t (inr h) = sym (same c None s t) ∙ h

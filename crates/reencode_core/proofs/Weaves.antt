@@ -1,0 +1,253 @@
+-- The walk of a reencoder whose section hook adds, beside the plain walk and the run.
+use Rattle.std.proofs.Common.{◌≡◌, ℕ, List, [], ◌∷◌, ◌++◌, length, drop, map, Option, Some, None, refl, sym, ap, ap₂, ◌∙◌, append_assoc, append-nil, subst}
+use Rattle.std.proofs.Math.Seq.{drop-append_seam}
+use Rattle.wasm_shapes.specs.declared.SectionId.{SectionId}
+use Rattle.wasm_shapes.specs.declared.Visit.{Visit}
+use Rattle.wasm_shapes.specs.declared.Visit.TheVariants.{Section}
+use Rattle.wasm_shapes.specs.Tree.{Tree, visits, visits_from, before, kind, fill, after, normal}
+use Rattle.wasm_shapes.specs.Spells.{Spelled}
+use Rattle.wasm_shapes.specs.Fits.{Fits}
+use Rattle.wasm_shapes.specs.Module.{alsos}
+use Rattle.reencode_hooks.specs.declared.error.Error.{Error}
+use Rattle.reencode_hooks.specs.Run.{Step, accepted, refused, and_then, run, answers, state_after}
+use Rattle.reencode_hooks.specs.Walk.{walk, walk_from, announced}
+use Rattle.reencode_hooks.specs.Moments.{moments_from, passed}
+use Rattle.reencode_hooks.proofs.Agrees.{agrees, inv, given, passed-run, run_length}
+use Rattle.reencode_hooks.proofs.Walks.{walk_is_run}
+use Rattle.reencode_core.specs.Rows.{Asks}
+use Rattle.reencode_core.specs.Core.{onto}
+use Rattle.reencode_core.specs.Weave.{Puts, put_before, woven_one, weave, weave_from, woven_from, woven}
+use Rattle.reencode_core.specs.WovenLaws.{WeaveOfNothing, ends, WeaveEnds, AcceptsWoven, WeaveIsRun}
+use Rattle.reencode_core.proofs.Counts.{run_then}
+
+-- ---- steps
+
+then_same : {S E A B : Type 0} (r : Step S E A) (f g : A → S → Step S E B) → ((a : A) (m : S) → f a m ≡ g a m) → and_then r f ≡ and_then r g
+then_same (accepted a m) f g h = h a m
+then_same (refused e m) f g h = refl
+
+ends_then : {S E A B C D : Type 0} (r : Step S E A) (q : Step S E B) (f : A → S → Step S E C) (g : B → S → Step S E D) →
+    ends r ≡ ends q → ((a : A) (b : B) (m : S) → ends (f a m) ≡ ends (g b m)) → ends (and_then r f) ≡ ends (and_then q g)
+ends_then (accepted a m) (accepted b n) f g e h = let same : m ≡ n = cc in rw (← same) (h a b m)
+ends_then (accepted a m) (refused x n) f g e h = absurd cc
+ends_then (refused x m) (accepted b n) f g e h = absurd cc
+ends_then (refused x m) (refused y n) f g e h = cc
+
+-- two steps that end alike are accepted together
+ends_accepted : {S E A B : Type 0} (r : Step S E A) (q : Step S E B) {a : A} {m : S} → ends r ≡ ends q → r ≡ accepted a m → (b : B) × (q ≡ accepted b m)
+ends_accepted (accepted x k) (accepted b n) e h = let same : k ≡ n = cc in (b, ap (λ (z : _). accepted b z) (sym same ∙ (given h).1))
+ends_accepted (accepted x k) (refused y n) e h = absurd cc
+ends_accepted (refused x k) q e h = absurd cc
+
+-- ---- lists of sections
+
+pub alsos-append : (ts us : List Tree) (others : Tree) → alsos (ts ++ us) others ≡ alsos ts (alsos us others)
+alsos-append [] us others = refl
+alsos-append (t ∷ ts) us others = ap (λ (u : Tree). Tree.also t u) (alsos-append ts us others)
+
+pub alsos_alike : (us ws : List Tree) (t u : Tree) → map normal us ≡ map normal ws → normal t ≡ normal u → normal (alsos us t) ≡ normal (alsos ws u)
+alsos_alike [] [] t u e f = f
+alsos_alike [] (w ∷ ws) t u e f = absurd cc
+alsos_alike (v ∷ us) [] t u e f = absurd cc
+alsos_alike (v ∷ us) (w ∷ ws) t u e f =
+    let first : normal v ≡ normal w = cc in
+    let rest : map normal us ≡ map normal ws = cc in
+    ap₂ (λ (x y : List ℕ). x ++ y) first (alsos_alike us ws t u rest f)
+
+-- ---- a walk that is accepted, as a run
+
+pub record Filled {S E : Type 0} (asked : Asks S E) (last : Option SectionId) (s : S) (t u : Tree) (m : S) : Type 0 where
+  pub told : List ℕ
+  pub ran : run asked s (visits_from last t) ≡ accepted told m
+  pub fills : (more : List ℕ) → fill t (told ++ more) ≡ u
+
+run_one : {S E : Type 0} (asked : Asks S E) (s m : S) (v : Visit) (n : ℕ) → asked s v ≡ accepted n m → run asked s (v ∷ []) ≡ accepted (n ∷ []) m
+run_one asked s m v n h = rw h refl
+
+-- the answers behind those of a tree
+behind : {S E : Type 0} (asked : Asks S E) (s m : S) (t : Tree) (a rest : List ℕ) → run asked s (visits t) ≡ accepted a m → after t (a ++ rest) ≡ rest
+behind asked s m t a rest h = rw (← run_length asked 0 s (visits t) h) (drop-append_seam a rest)
+
+module _ {S E : Type 0} (asked : Asks S E) (c : ℕ) where
+  filled : (last : Option SectionId) (s : S) (t u : Tree) (m : S) → walk_from asked c last s t ≡ accepted u m → Filled asked last s t u m
+  filled last s t u m h =
+      let a = agrees asked c last t in
+      let b = answers asked s (visits_from last t) ++ [] in
+      let i = inv (passed asked c s (moments_from last t b)) (λ xs k. accepted (fill t xs) k) (sym (a.same s []) ∙ h) in
+      let g = given i.3 in
+      let ran : run asked s (visits_from last t) ≡ accepted i.0 i.1 = ap (run asked s) (sym (a.visits_are b)) ∙ passed-run asked c s (moments_from last t b) i.0 i.1 i.2 in record {
+        told = i.0;
+        ran = ran ∙ ap (λ (k : S). accepted i.0 k) g.1;
+        fills = λ more. a.steady i.0 more (run_length asked c s (visits_from last t) ran) ∙ g.0;
+      }
+
+  -- what the section hook is told first
+  told_first : (last : Option SectionId) (s : S) (t : Tree) (n : ℕ) (m : S) → announced asked s last t ≡ accepted n m →
+      (b : List ℕ) × (run asked s (before last t) ≡ accepted b m) × (length b ≡ length (before None t))
+  told_first last s (Tree.row k t) n m h = told_first last s t n m h
+  told_first last s (Tree.told k t) n m h = (n ∷ [], run_one asked s m (Section last (Some k)) n h, refl)
+  told_first last s t n m h = ([], ap (λ (z : S). accepted [] z) (given h).1, refl)
+
+module _ {S E : Type 0} (asked : Asks S E) (put : Puts S Tree) where
+  -- ---- nothing is put
+
+  pub nothing_before : ((s : S) (a b : Option SectionId) → put s a b ≡ []) → (s : S) (last : Option SectionId) (t : Tree) → put_before put s last t ≡ []
+  nothing_before none s last (Tree.row k t) = nothing_before none s last t
+  nothing_before none s last (Tree.told k t) = none s last (Some k)
+  nothing_before none s last _ = refl
+
+  one_section : (a : Step S (Error E) ℕ) (f : S → Step S (Error E) Tree) (g h : S → Step S (Error E) Tree) → ((m : S) → g m ≡ h m) →
+      and_then (and_then a (λ _ m. and_then (f m) (λ u n. accepted (u ∷ []) n))) (λ us n. onto us (g n)) ≡ and_then a (λ _ m. and_then (f m) (λ t n. and_then (h n) (λ u k. accepted (Tree.also t u) k)))
+  one_section (refused e s) f g h same = refl
+  one_section (accepted i s) f g h same = go (f s)
+    where
+      go : (r : Step S (Error E) Tree) → and_then (and_then r (λ u n. accepted (u ∷ []) n)) (λ us n. onto us (g n)) ≡ and_then r (λ t n. and_then (h n) (λ u k. accepted (Tree.also t u) k))
+      go (refused e m) = refl
+      go (accepted t m) = rw (same m) refl
+
+  pub weave_nothing : ((s : S) (a b : Option SectionId) → put s a b ≡ []) → (c : ℕ) (last : Option SectionId) (s : S) (t : Tree) → weave_from asked put c last s t ≡ walk_from asked c last s t
+  weave_nothing none c last s (Tree.pair t u) =
+      rw (weave_nothing none c None s t) (then_same (walk_from asked c None s t) _ _ (λ t' m. rw (weave_nothing none c None m u) refl))
+  weave_nothing none c last s Tree.finish = then_same (asked s (Section last None)) _ _ (λ n m. rw (none s last None) refl)
+  weave_nothing none c last s (Tree.also t u) =
+      rw (nothing_before none s last t)
+      (one_section (announced asked s last t) (λ m. walk_from asked c None m t) (λ n. weave_from asked put c (kind last t) n u) (λ n. walk_from asked c (kind last t) n u) (λ n. weave_nothing none c (kind last t) n u))
+  weave_nothing none c last s t = refl
+
+  -- ---- the ends
+
+  one_section_ends : (a : Step S (Error E) ℕ) (front : List Tree) (f : S → Step S (Error E) Tree) (g h : S → Step S (Error E) Tree) → ((m : S) → ends (g m) ≡ ends (h m)) →
+      ends (and_then (and_then a (λ _ m. and_then (f m) (λ u n. accepted (front ++ u ∷ []) n))) (λ us n. onto us (g n))) ≡ ends (and_then a (λ _ m. and_then (f m) (λ t n. and_then (h n) (λ u k. accepted (Tree.also t u) k))))
+  one_section_ends (refused e s) front f g h same = refl
+  one_section_ends (accepted i s) front f g h same = go (f s)
+    where
+      go : (r : Step S (Error E) Tree) → ends (and_then (and_then r (λ u n. accepted (front ++ u ∷ []) n)) (λ us n. onto us (g n))) ≡ ends (and_then r (λ t n. and_then (h n) (λ u k. accepted (Tree.also t u) k)))
+      go (refused e m) = refl
+      go (accepted t m) = ends_then (g m) (h m) _ _ (same m) (λ a b n. refl)
+
+  weave_from_ends : (c : ℕ) (last : Option SectionId) (s : S) (t : Tree) → ends (weave_from asked put c last s t) ≡ ends (walk_from asked c last s t)
+  weave_from_ends c last s (Tree.pair t u) =
+      ends_then (weave_from asked put c None s t) (walk_from asked c None s t) _ _ (weave_from_ends c None s t)
+      (λ a b m. ends_then (weave_from asked put c None m u) (walk_from asked c None m u) _ _ (weave_from_ends c None m u) (λ x y n. refl))
+  weave_from_ends c last s Tree.finish = ends_then (asked s (Section last None)) (asked s (Section last None)) _ _ refl (λ a b m. refl)
+  weave_from_ends c last s (Tree.also t u) =
+      one_section_ends (announced asked s last t) (put_before put s last t) (λ m. walk_from asked c None m t) (λ n. weave_from asked put c (kind last t) n u) (λ n. walk_from asked c (kind last t) n u)
+      (λ n. weave_from_ends c (kind last t) n u)
+  weave_from_ends c last s t = refl
+
+  -- ---- the run
+
+  pub record Wove (last : Option SectionId) (s : S) (t u : Tree) (m : S) : Type 0 where
+    pub told : List ℕ
+    pub ran : run asked s (visits_from last t) ≡ accepted told m
+    pub wove : (more : List ℕ) → woven_from asked put last s t (told ++ more) ≡ u
+
+  of_filled : {last : Option SectionId} {s m : S} {t u : Tree} → Filled asked last s t u m → ((xs : List ℕ) → woven_from asked put last s t xs ≡ fill t xs) → Wove last s t u m
+  of_filled f same = record { told = f.told; ran = f.ran; wove = λ more. same (f.told ++ more) ∙ f.fills more }
+
+  wove_pair : {s n k m : S} {last : Option SectionId} (t u t' u' v : Tree) → Wove None s t t' n → Wove None n u u' k →
+      ◌≡◌ {A = Step S (Error E) Tree} (accepted (Tree.pair t' u') k) (accepted v m) → Wove last s (Tree.pair t u) v m
+  wove_pair {s = s} {n = n} {k = k} {m = m} t u t' u' v p q h =
+      let g = given h in
+      let state : state_after (run asked s (visits_from None t)) ≡ n = ap state_after p.ran in record {
+        told = p.told ++ q.told;
+        ran = run_then asked s n m (visits_from None t) (visits_from None u) p.told q.told p.ran (q.ran ∙ ap (λ (k : S). accepted q.told k) g.1);
+        wove = λ more. rw (append_assoc p.told q.told more, p.wove (q.told ++ more), behind asked s n t p.told (q.told ++ more) p.ran, state, q.wove more) g.0;
+      }
+
+  wove_also : {s n k l m : S} (last : Option SectionId) (t u t' u' v : Tree) → (b : List ℕ) × (run asked s (before last t) ≡ accepted b n) × (length b ≡ length (before None t)) →
+      Filled asked None n t t' k → Wove (kind last t) k u u' l →
+      ◌≡◌ {A = Step S (Error E) Tree} (accepted (alsos (put_before put s last t ++ t' ∷ []) u') l) (accepted v m) → Wove last s (Tree.also t u) v m
+  wove_also {s = s} {n = n} {k = k} {m = m} last t u t' u' v b p q h =
+      let g = given h in
+      let front : List Tree = put_before put s last t in
+      let whole : alsos front (Tree.also t' u') ≡ v = sym (alsos-append front (t' ∷ []) u') ∙ g.0 in
+      let ran_t : run asked s (before last t ++ visits_from None t) ≡ accepted (b.0 ++ p.told) k = run_then asked s n k (before last t) (visits_from None t) b.0 p.told b.1 p.ran in
+      let state : state_after (run asked s (before last t ++ visits_from None t)) ≡ k = ap state_after ran_t in
+      let ran_u : run asked k (visits_from (kind last t) u) ≡ accepted q.told m = q.ran ∙ ap (λ (z : S). accepted q.told z) g.1 in
+      let inner = run_then asked n k m (visits_from None t) (visits_from (kind last t) u) p.told q.told p.ran ran_u in record {
+        told = b.0 ++ (p.told ++ q.told);
+        ran = run_then asked s n m (before last t) (visits_from None t ++ visits_from (kind last t) u) b.0 (p.told ++ q.told) b.1 inner;
+        wove = λ more.
+            let own : drop (length (before None t)) ((b.0 ++ (p.told ++ q.told)) ++ more) ≡ p.told ++ (q.told ++ more) =
+            rw (append_assoc b.0 (p.told ++ q.told) more, ← b.2, drop-append_seam b.0 ((p.told ++ q.told) ++ more)) (append_assoc p.told q.told more) in
+            rw (own, p.fills (q.told ++ more), behind asked n k t p.told (q.told ++ more) p.ran, state, q.wove more) whole;
+      }
+
+  wove_from : (c : ℕ) (last : Option SectionId) (s : S) (t u : Tree) (m : S) → weave_from asked put c last s t ≡ accepted u m → Wove last s t u m
+  wove_from c last s (Tree.pair t u) v m h =
+      let p = inv (weave_from asked put c None s t) _ h in
+      let q = inv (weave_from asked put c None p.1 u) _ p.3 in
+      wove_pair t u p.0 q.0 v (wove_from c None s t p.0 p.1 p.2) (wove_from c None p.1 u q.0 q.1 q.2) q.3
+  wove_from c last s Tree.finish u m h =
+      let a = inv (asked s (Section last None)) _ h in
+      let g = given a.3 in record {
+        told = a.0 ∷ [];
+        ran = run_one asked s m (Section last None) a.0 (a.2 ∙ ap (λ (k : S). accepted a.0 k) g.1);
+        wove = λ more. g.0;
+      }
+  wove_from c last s (Tree.also t u) v m h =
+      let d = inv (woven_one asked put c last s t) _ h in
+      let a = inv (announced asked s last t) _ d.2 in
+      let p = inv (walk_from asked c None a.1 t) _ a.3 in
+      let front = given p.3 in
+      let q = inv (weave_from asked put c (kind last t) d.1 u) _ d.3 in
+      let rest = wove_from c (kind last t) d.1 u q.0 q.1 q.2 in
+      let one = filled asked c None a.1 t p.0 p.1 p.2 in
+      let P : S → Type 0 = λ k. Filled asked None a.1 t p.0 k in
+      wove_also last t u p.0 q.0 v (told_first asked c last s t a.0 a.1 a.2) (subst P front.1 one) rest (rw front.0 q.3)
+  wove_from c last s t u m h = of_filled (filled asked c last s t u m h) (λ xs. refl)
+
+  pub forth : (c : ℕ) (s m : S) (t u : Tree) → weave asked put c s t ≡ accepted u m → AcceptsWoven asked put c s t u m
+  forth c s m t u h =
+      let f = wove_from c None s t u m h in
+      let w = ends_accepted (weave asked put c s t) (walk asked c s t) (weave_from_ends c None s t) h in
+      let a = (walk_is_run asked).forth c s m t w.0 w.1 in
+      let same : a.given ≡ f.told = (given (sym a.ran ∙ f.ran)).0 in
+      let P : Tree → Type 0 = λ v. Fits v c in record {
+        given = f.told;
+        ran = f.ran;
+        wove = ap (woven asked put s t) (sym (append-nil f.told)) ∙ f.wove [];
+        fits = subst P (sym a.filled ∙ ap (fill t) same) a.fits;
+      }
+
+  pub back : (c : ℕ) (s m : S) (t u : Tree) (bytes : List ℕ) → Spelled t bytes → AcceptsWoven asked put c s t u m → weave asked put c s t ≡ accepted u m
+  back c s m t u bytes p h =
+      let walks = (walk_is_run asked).back c s m t (fill t h.given) bytes p (record { given = h.given; ran = h.ran; filled = refl; fits = h.fits }) in
+      let w = ends_accepted (walk asked c s t) (weave asked put c s t) (sym (weave_from_ends c None s t)) walks in
+      let a = forth c s m t w.0 w.1 in
+      let same : a.given ≡ h.given = (given (sym a.ran ∙ h.ran)).0 in
+      w.1 ∙ ap (λ (v : Tree). accepted v m) (sym a.wove ∙ ap (woven asked put s t) same ∙ h.wove)
+
+  -- ---- spelled alike
+
+  module _ (other : Puts S Tree) (alike : (s : S) (a b : Option SectionId) → map normal (put s a b) ≡ map normal (other s a b)) where
+    before_alike : (s : S) (last : Option SectionId) (t : Tree) → map normal (put_before put s last t) ≡ map normal (put_before other s last t)
+    before_alike s last (Tree.row k t) = before_alike s last t
+    before_alike s last (Tree.told k t) = alike s last (Some k)
+    before_alike s last _ = refl
+
+    pub woven_alike : (last : Option SectionId) (s : S) (t : Tree) (given : List ℕ) → normal (woven_from asked put last s t given) ≡ normal (woven_from asked other last s t given)
+    woven_alike last s (Tree.pair t u) xs =
+        rw (woven_alike None s t xs, woven_alike None (state_after (run asked s (visits_from None t))) u (after t xs)) refl
+    woven_alike last s Tree.finish xs = alsos_alike (put s last None) (other s last None) Tree.finish Tree.finish (alike s last None) refl
+    woven_alike last s (Tree.also t u) xs =
+        let own : List ℕ = drop (length (before None t)) xs in
+        let state : S = state_after (run asked s (before last t ++ visits_from None t)) in
+        let p : Tree = woven_from asked put (kind last t) state u (after t own) in
+        let q : Tree = woven_from asked other (kind last t) state u (after t own) in
+        let same : normal p ≡ normal q = woven_alike (kind last t) state u (after t own) in
+        alsos_alike (put_before put s last t) (put_before other s last t) (Tree.also (fill t own) p) (Tree.also (fill t own) q) (before_alike s last t)
+        (ap (λ (z : List ℕ). normal (fill t own) ++ z) same)
+    woven_alike last s t xs = refl
+
+-- ---- the laws
+
+pub weave_of_nothing : {S E : Type 0} (asked : Asks S E) → WeaveOfNothing asked
+weave_of_nothing asked put none c s t = weave_nothing asked put none c None s t
+
+pub weave_ends : {S E : Type 0} (asked : Asks S E) → WeaveEnds asked
+weave_ends asked put c s t = weave_from_ends asked put c None s t
+
+pub weave_is_run : {S E : Type 0} (asked : Asks S E) → WeaveIsRun asked
+weave_is_run asked = record { forth = forth asked; back = back asked }
