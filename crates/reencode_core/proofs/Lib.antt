@@ -35,3 +35,5 @@ pub mod CustomSection
 pub mod EachSubsection
 pub mod Weaves
 pub mod WovenRead
+pub mod Additions
+pub mod Interspersing

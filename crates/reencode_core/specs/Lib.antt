@@ -14,3 +14,4 @@ pub mod Faults
 pub mod SectionVisits
 pub mod Leaves
 pub mod Rules
+pub mod Interspersed

@@ -1,6 +1,7 @@
 //! The re-encoding of a core module (WebAssembly Core Specification 3.0, section 5.5).
 #![tactic(auto)]
 
+mod adding;
 mod bodies;
 pub mod direct;
 mod errors;
@@ -17,6 +18,7 @@ mod shared;
 mod subsections;
 pub mod utils;
 
+pub use adding::{Adding, SectionRule};
 pub use laws::{
     accepted_is_answered, fault_tells, output_is_read, section_visits_are, weave_ends,
     weave_is_run, weave_of_nothing,

@@ -1,0 +1,90 @@
+-- The section hook of a reencoder that adds the sections of a rule behind those of another.
+use Rattle.std.specs.Prelude.{◌≡◌, ◌++◌, ◌∷◌, ℕ, List, Option, Result, Ok, Err, IsErrAnd}
+use Rattle.std.proofs.Common.{sym, ap, subst, ◌∙◌, append_assoc}
+use Rattle.wasm_shapes.specs.declared.SectionId.{SectionId}
+use Rattle.wasm_shapes.specs.declared.Visit.{Visit}
+use Rattle.wasm_shapes.specs.declared.Visit.TheVariants.{Section}
+use Rattle.wasm_write.specs.declared.fault.WriteFault.{WriteFault}
+use Rattle.wasm_write.specs.declared.fault.WriteFault.TheVariants as write
+use Rattle.wasm_write.specs.Faults.{IfTooLarge}
+use Rattle.wasm_write.specs.Sections.{SectionRow, Sections}
+use Rattle.reencode_hooks.specs.declared.error.Error.{Error}
+use Rattle.reencode_hooks.specs.declared.error.Error.TheVariants.{TooLarge, NoMemory}
+use Rattle.reencode_hooks.specs.Errors.{error_of_write}
+use Rattle.reencode_hooks.specs.Run.{accepted, refused, answered}
+use Rattle.reencode_hooks.specs.Hooks.{Gains, GainsPart, HasTooLarge, RefusesSection, RepliesSection}
+use Rattle.reencode_core.specs.declared.adding.Adding.{Adding}
+
+-- ---- sections in front of others
+
+-- a section that is too large is one of more sections too
+too_large_front : {c size : ℕ} {rows : List SectionRow} (more : List SectionRow) → HasTooLarge c rows size → HasTooLarge c (rows ++ more) size
+too_large_front more h =
+    record { front = h.front; row = h.row; rest = h.rest ++ more; parts = ap (λ z. z ++ more) h.parts ∙ append_assoc h.front (h.row ∷ h.rest) more; sized = h.sized; above = h.above }
+
+too_large_behind : {c size : ℕ} {more : List SectionRow} (rows : List SectionRow) → HasTooLarge c more size → HasTooLarge c (rows ++ more) size
+too_large_behind rows h =
+    record { front = rows ++ h.front; row = h.row; rest = h.rest; parts = ap (λ z. rows ++ z) h.parts ∙ sym (append_assoc rows h.front (h.row ∷ h.rest)); sized = h.sized; above = h.above }
+
+-- a front part of them is one of more sections too
+part_front : {m n : Sections} {rows : List SectionRow} (more : List SectionRow) → GainsPart m n rows → GainsPart m n (rows ++ more)
+part_front more h = record { part = h.part; rest = h.rest ++ more; parts = ap (λ z. z ++ more) h.parts ∙ append_assoc h.part h.rest more; gains = h.gains }
+
+gains_both : (m n o : Sections) (rows more : List SectionRow) → Gains m n rows → Gains n o more → Gains m o (rows ++ more)
+gains_both m n o rows more first second =
+    let at_first : Gains (record m { sections = m.sections ++ rows }) o more = subst (λ z. Gains z o more) first second in
+    at_first ∙ ap (λ z. record m { sections = z }) (append_assoc m.sections rows more)
+
+part_behind : {m n o : Sections} {more : List SectionRow} (rows : List SectionRow) → Gains m n rows → GainsPart n o more → GainsPart m o (rows ++ more)
+part_behind {m} {n} {o} rows gains h =
+    record { part = rows ++ h.part; rest = h.rest; parts = ap (λ z. rows ++ z) h.parts ∙ sym (append_assoc rows h.part h.rest); gains = gains_both m n o rows h.part gains h.gains }
+
+-- ---- the hook
+
+-- a refusal of the inner reencoder is one of both
+refused_within : {S R E : Type 0} (r : Result ℕ E) (s m : S) (k : R) (e : Error E) → answered r s ≡ refused e m
+    → answered {S = Adding S R} {A = ℕ} r (record { reencoder = s; sections = k }) ≡ refused e (record { reencoder = m; sections = k })
+refused_within (Ok n) s m k e h = cc
+refused_within (Err x) s m k e h = cc
+
+module _ {S R E : Type 0} (reply : S → Visit → Result ℕ E) (next : S → Visit → S) (adds : S → Option SectionId → Option SectionId → List SectionRow)
+    (sections : R → Option SectionId → Option SectionId → List SectionRow) where
+
+  refuses_within : (e : Error E) (s m : S) (k : R) (v : Visit) (c : ℕ) (rows more : List SectionRow)
+      → RefusesSection reply next s m v c rows e
+      → RefusesSection {S = Adding S R} (λ t w. reply t.reencoder w) (λ t w. record t { reencoder = next t.reencoder w })
+        (record { reencoder = s; sections = k }) (record { reencoder = m; sections = k }) v c (rows ++ more) e
+  refuses_within (TooLarge size) s m k v c rows more h = too_large_front more h
+  refuses_within NoMemory s m k v c rows more h = tt
+  refuses_within e s m k v c rows more h = refused_within (reply s v) (next s v) m k e h
+
+  -- the hook of both
+  abbrev Hook : S → S → R → Sections → Sections → Option SectionId → Option SectionId → Result (Unit {0}) (Error E) → Type 0
+  Hook s m k old new after before r =
+      RepliesSection {S = Adding S R} (λ t w. reply t.reencoder w) (λ t w. record t { reencoder = next t.reencoder w })
+      (λ t a b. adds t.reencoder a b ++ sections t.sections a b)
+      (record { reencoder = s; sections = k }) (record { reencoder = m; sections = k }) old new after before r
+
+  -- the inner hook's error is that of both
+  pub inner_error : (s m : S) (k : R) (old new : Sections) (after before : Option SectionId) (e : Error E)
+      → RepliesSection reply next adds s m old new after before (Err e)
+      → (r : Result (Unit {0}) (Error E)) → IsErrAnd r (λ x. x ≡ e) → Hook s m k old new after before r
+  inner_error s m k old new after before e h (Ok _) is = absurd is
+  inner_error s m k old new after before e h (Err x) is =
+      (refuses_within x s m k (Section after before) old.ceiling (adds s after before) (sections k after before) (rw is h.0), part_front (sections k after before) h.1)
+
+  rule_refuses : (s m : S) (k : R) (v : Visit) (c : ℕ) (rows more : List SectionRow) (fault : WriteFault) → IfTooLarge fault (HasTooLarge c more)
+      → RefusesSection {S = Adding S R} (λ t w. reply t.reencoder w) (λ t w. record t { reencoder = next t.reencoder w })
+        (record { reencoder = s; sections = k }) (record { reencoder = m; sections = k }) v c (rows ++ more) (error_of_write fault)
+  rule_refuses s m k v c rows more (write.TooLarge size) h = too_large_behind rows h
+  rule_refuses s m k v c rows more write.NoMemory h = tt
+
+  -- the rule's error, where the inner hook accepted, is that of both
+  pub rule_error : (s m : S) (k : R) (old mid new : Sections) (after before : Option SectionId) (fault : WriteFault)
+      → Gains old mid (adds s after before) → GainsPart mid new (sections k after before) → IfTooLarge fault (HasTooLarge mid.ceiling (sections k after before))
+      → (r : Result (Unit {0}) (Error E)) → IsErrAnd r (λ x. x ≡ error_of_write fault) → Hook s m k old new after before r
+  rule_error s m k old mid new after before fault gains part large (Ok _) is = absurd is
+  rule_error s m k old mid new after before fault gains part large (Err x) is =
+      let same : mid.ceiling ≡ old.ceiling = ap (λ z. z.ceiling) gains in
+      let own : IfTooLarge fault (HasTooLarge old.ceiling (sections k after before)) = subst (λ z. IfTooLarge fault (HasTooLarge z (sections k after before))) same large in
+      (rw is (rule_refuses s m k (Section after before) old.ceiling (adds s after before) (sections k after before) fault own), part_behind (adds s after before) gains part)

@@ -1,0 +1,136 @@
+//! Reencoders that add sections by a rule.
+ghost use Rattle.std.specs.Prelude.{◌≡◌, ◌++◌, List, Option, OnOk, OnErr, IfErr};
+ghost use Rattle.wasm_shapes.specs.declared.SectionId.{SectionId};
+ghost use Rattle.wasm_write.specs.Faults.{IfTooLarge};
+ghost use Rattle.wasm_write.specs.Sections.{SectionRow};
+ghost use Rattle.reencode_hooks.specs.Hooks.{Gains, GainsPart, HasTooLarge};
+
+use crate::direct;
+use crate::reencode::Reencode;
+use reencode_hooks::{Error, ReencodeIndices};
+use reencode_items::ReencodeItems;
+use std::alloc::Global;
+use wasm_read as r;
+use wasm_shapes::SectionId;
+use wasm_write as w;
+
+/// A rule for sections: it adds sections between two others, by the kinds of these alone.
+///
+/// `Adding` is the reencoder that adds them.
+pub trait SectionRule {
+    // The sections that it adds, behind one of the first kind and before one of the second.
+    ghost sections: { Self → Option SectionId → Option SectionId → List SectionRow };
+
+    /// Adds the rule's sections at the end of the module, between a section of the kind `after` and one of the kind `before`. At
+    /// the module's front `after` is None, and at its end `before` is None. Custom sections and those of other ids count for
+    /// neither.
+    ///
+    /// An error has added a front part of them. `TooLarge` comes only where one of them has a body above the ceiling, with the
+    /// body's length.
+    fn add_sections(
+        &self,
+        module: &mut w::Module,
+        after: Option<SectionId>,
+        before: Option<SectionId>,
+    ) -> Result<(), w::WriteFault>
+        ensures ok { OnOk result
+            (Gains «module».old «module».new (sections self.now after before)) }
+        ensures err { OnErr result
+            (GainsPart «module».old «module».new (sections self.now after before)) }
+        ensures large { IfErr result (λ e. IfTooLarge e
+            (HasTooLarge «module».old.ceiling (sections self.now after before))) };
+}
+
+/// A reencoder that answers each index as another one does, and adds the sections of a rule behind those that the other adds.
+///
+/// Of the other reencoder the hooks of `ReencodeIndices` are asked, and no method of the traits above: this one keeps every
+/// default.
+#[derive(Debug, Drop)]
+pub struct Adding<R, S> {
+    pub reencoder: R,
+    pub sections: S,
+}
+
+impl<R: ReencodeIndices, S: SectionRule> ReencodeIndices for Adding<R, S> {
+    ghost use Rattle.std.specs.Prelude.{true, false};
+    ghost use mathlib.Core.Bool.{false≢true};
+
+    type Error = R::Error;
+
+    ghost reply = { λ s visit. R.reply s.reencoder visit };
+
+    ghost next = { λ s visit. record s { reencoder = R.next s.reencoder visit } };
+
+    ghost adds = { λ s after before.
+        R.adds s.reencoder after before ++ S.sections s.sections after before };
+
+    ghost keeps_defaults = { true };
+
+    ghost adds_nothing = { false };
+
+    ghost sure = { false };
+
+    ghost answers_ok = { λ s visit h. R.answers_ok s.reencoder visit h };
+
+    ghost adds_ok = { λ never. absurd (false≢true never) };
+
+    fn data_index(&mut self, index: u32) -> Result<u32, Error<R::Error>> {
+        self.reencoder.data_index(index)
+    }
+
+    fn element_index(&mut self, index: u32) -> Result<u32, Error<R::Error>> {
+        self.reencoder.element_index(index)
+    }
+
+    fn function_index(&mut self, index: u32) -> Result<u32, Error<R::Error>> {
+        self.reencoder.function_index(index)
+    }
+
+    fn global_index(&mut self, index: u32) -> Result<u32, Error<R::Error>> {
+        self.reencoder.global_index(index)
+    }
+
+    fn memory_index(&mut self, index: u32) -> Result<u32, Error<R::Error>> {
+        self.reencoder.memory_index(index)
+    }
+
+    fn table_index(&mut self, index: u32) -> Result<u32, Error<R::Error>> {
+        self.reencoder.table_index(index)
+    }
+
+    fn tag_index(&mut self, index: u32) -> Result<u32, Error<R::Error>> {
+        self.reencoder.tag_index(index)
+    }
+
+    fn type_index(&mut self, index: u32) -> Result<u32, Error<R::Error>> {
+        self.reencoder.type_index(index)
+    }
+
+    fn data_count(&mut self, count: u32) -> Result<u32, Error<R::Error>> {
+        self.reencoder.data_count(count)
+    }
+
+    fn intersperse_section_hook(
+        &mut self,
+        module: &mut w::Module,
+        after: Option<SectionId>,
+        before: Option<SectionId>,
+    ) -> Result<(), Error<R::Error>> {
+        self.reencoder
+            .intersperse_section_hook(module, after, before)?;
+        Ok(self.sections.add_sections(module, after, before)?)
+    }
+}
+
+impl<R: ReencodeIndices, S: SectionRule> ReencodeItems for Adding<R, S> {}
+
+impl<R: ReencodeIndices, S: SectionRule> Reencode for Adding<R, S> {
+    fn parse_function_body(
+        &mut self,
+        alloc: Global,
+        code: &mut w::CodeSection,
+        func: r::FunctionBody<'_>,
+    ) -> Result<(), Error<R::Error>> {
+        direct::parse_function_body(self, alloc, code, func)
+    }
+}
