@@ -1,11 +1,11 @@
 -- From the sections of a module to its bytes.
-use Rattle.std.proofs.Common.{◌≡◌, ◌≢◌, ℕ, ◌≤◌, List, [], ◌∷◌, ◌++◌, Option, Some, None, Result, Ok, Err, refl, sym, ap, ◌∙◌, subst, append_assoc, ◌⊎◌, inl, inr}
+use Rattle.std.proofs.Common.{◌≡◌, ◌≢◌, ℕ, List, [], ◌∷◌, ◌++◌, Option, None, Ok, Err, refl, sym, ap, ◌∙◌, subst, append_assoc, ◌⊎◌, inl, inr}
 use Rattle.wasm_shapes.specs.declared.SectionId.{SectionId}
 use Rattle.wasm_shapes.specs.declared.Visit.TheVariants.{Section}
 use Rattle.wasm_shapes.specs.Tree.{Tree}
 use Rattle.wasm_shapes.specs.Spells.{Is, Spelled, Spells}
 use Rattle.wasm_shapes.specs.Place.{Begins}
-use Rattle.wasm_shapes.specs.Module.{core_header, core_tree, core_module, sections, section, alsos, frame, InFrame, CoreReading}
+use Rattle.wasm_shapes.specs.Module.{core_header, core_tree, sections, section, alsos, frame, InFrame, CoreReading}
 use Rattle.wasm_shapes.proofs.Laws.{module_headed}
 use Rattle.wasm_shapes.proofs.SectionTable.{in_frame}
 use Rattle.wasm_write.specs.Sections.{Sections, SectionRow, sections_bytes, module_bytes}
@@ -16,7 +16,7 @@ use Rattle.reencode_hooks.specs.Walk.{announced}
 use Rattle.reencode_core.specs.Rows.{Asks}
 use Rattle.reencode_core.specs.Core.{onto}
 use Rattle.reencode_core.specs.Weave.{Puts, added, put_before, weave, weave_from}
-use Rattle.reencode_core.specs.Woven.{IsOwn, OwnNext, OwnTooLarge, IsWovenCause, StopsHook, StopsNext, StopsWoven, GivesWoven, GivesWovenBytes}
+use Rattle.reencode_core.specs.Woven.{IsOwn, OwnNext, OwnTooLarge, IsWovenCause, StopsNext, StopsWoven, GivesWoven, GivesWovenBytes}
 use Rattle.reencode_core.proofs.AddsNothing.{none_own}
 
 -- ---- sections in two parts
