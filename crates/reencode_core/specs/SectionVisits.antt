@@ -33,6 +33,7 @@ kinds_of_texts texts = filter_map kind_of_text texts
 
 -- ---- what the section hook is told
 
+-- whether the section hook is asked
 abbrev pub is_section : Visit → Bool
 is_section (Section last next) = true
 is_section _ = false
@@ -59,8 +60,8 @@ pub record SectionVisitsAre : Type 0 where
   pub one_more : (ks : List SectionId) → length (visits_of_kinds ks) ≡ suc (length ks)
   -- Within a section there is none.
   pub within : (text : List ℕ) (t : Tree) → Spells section text t → section_visits (visits t) ≡ []
-  -- The kind of a section is that of its tree, however this is spelled,
+  -- The kind of a section is that of its tree, however this is spelled.
   pub of_tree : (text : List ℕ) (t : Tree) → Spells section text t → kind_of_text text ≡ kind_of_text (normal t)
-  -- a kind's number is an id of that kind, and no other id has one.
+  -- The number of a kind, from 1 to 13, is the id of its sections; and no other id has a kind.
   pub known : (k : SectionId) → 1 ≤ number k → kind_of_id (number k) ≡ Some k
   pub others : (id : ℕ) → (id ≡ 0) ⊎ (13 < id) → kind_of_id id ≡ None
