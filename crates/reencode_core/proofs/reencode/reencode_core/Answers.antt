@@ -6,7 +6,8 @@ use Rattle.reencode_core.proofs.Leaving.{bytes_leave, reading_left}
 use Rattle.reencode_core.proofs.reencode.reencode_core.Goals as goal
 
 pub returns-in_err-module-clause-woven : goal.returns-in_err-module-clause-woven
-returns-in_err-module-clause-woven g c = λ k. bytes_wanting _ _ _ _ _ _ _
+returns-in_err-module-clause-woven g c =
+    let p = err_from_is_err_and c.from_residual.result c.from_residual.ensures.1 in rw (p.1, p.2) (λ k. bytes_wanting _ _ _ _ _ _ _)
 
 pub returns-in_err-parse_core_module-clause-woven : goal.returns-in_err-parse_core_module-clause-woven
 returns-in_err-parse_core_module-clause-woven g c =
