@@ -1,6 +1,7 @@
 mod AnswerLemmas
 mod Blank
 mod Decided
+mod Digits
 mod Numerals
 mod Outcomes
 mod OutsideLemmas

@@ -3,6 +3,7 @@ ghost use Rattle.std.specs.Prelude.{◌≡◌, ℕ, ◌*◌, ◌≤◌, length, 
 ghost use Rattle.hex.specs.Hex.{encode_lower};
 ghost use Rattle.reencode_tool.specs.Outside.{Rose, WhereTold, followed, TookFront};
 
+use crate::hexadecimal::encode_into;
 use crate::outside::{Failed, Sink};
 
 /// Writes a text, in as many writes as the sink wants. After a failure a front of it was taken.
@@ -32,10 +33,8 @@ fn write_piece<K: Sink>(out: &mut K, bytes: &[u8], piece: &mut [u8]) -> Result<(
     ensures front { OnErr result
         (TookFront (K.held out.old) (K.held out.new) (encode_lower bytes.now)) }
 {
-    match hex::encode_to_slice(bytes, &mut *piece) {
-        Ok(()) => write_all(out, piece),
-        Err(_) => unreachable!(),
-    }
+    encode_into(bytes, &mut *piece);
+    write_all(out, piece)
 }
 
 /// Writes bytes as digits in lower case, in pieces through a buffer. After a failure a front of the
