@@ -1,4 +1,6 @@
 //! An instrumenter's step: a custom section with the tool's own marks is added.
+ghost use Rattle.std.specs.Prelude.{IfOk};
+ghost use Rattle.reencode_core.specs.Interspersed.{IsInterspersed};
 ghost use Rattle.examples.specs.Marks.{behind, custom_row};
 
 use reencode_core::{Adding, SectionRule, reencode_core};
@@ -19,7 +21,7 @@ pub struct Marks<'a> {
 
 impl<'a> SectionRule for Marks<'a> {
     ghost sections = { λ marks after before.
-        behind marks.behind (custom_row marks.name.now marks.contents.now) after };
+        behind marks.behind (custom_row marks.name.now marks.contents.now) after before };
 
     fn add_sections(
         &self,
@@ -44,7 +46,10 @@ pub fn add_marks(
     alloc: Global,
     bytes: &[u8],
     marks: Marks<'_>,
-) -> Result<Vec<u8>, Error<Infallible>> {
+) -> Result<Vec<u8>, Error<Infallible>>
+    ensures { IfOk result (λ out. IsInterspersed
+        (behind marks.behind (custom_row marks.name.now marks.contents.now)) bytes.now out.items) }
+{
     let mut reencoder = Adding {
         reencoder: RoundtripReencoder,
         sections: marks,

@@ -1,21 +1,21 @@
--- The woven tree of a reencoder whose state stays.
-use Rattle.std.proofs.Common.{◌≡◌, ℕ, zero, suc, List, [], ◌∷◌, ◌++◌, length, map, drop, get_or, Option, None, Result, Ok, Err, refl, sym, ap, ap₂, ◌∙◌}
+-- What comes out of a reencoder whose state stays, and whose section hook adds.
+use Rattle.std.proofs.Common.{◌≡◌, ℕ, zero, suc, List, [], ◌∷◌, ◌++◌, length, map, drop, get_or, Option, None, Result, Ok, Err, IfOk, refl, sym, ap, ap₂, ◌∙◌}
 use Rattle.wasm_shapes.specs.declared.SectionId.{SectionId}
 use Rattle.wasm_shapes.specs.declared.Visit.{Visit}
 use Rattle.wasm_shapes.specs.declared.Visit.TheVariants.{Index, Outer}
 use Rattle.wasm_shapes.specs.Own.{asked_index}
-use Rattle.wasm_shapes.specs.Tree.{Tree, Listed, kind, before, visits_from, after, fill, aimed_at}
+use Rattle.wasm_shapes.specs.Tree.{Tree, Listed, kind, before, visits, visits_from, after, fill, aimed_at, normal}
 use Rattle.wasm_shapes.specs.Module.{alsos}
-use Rattle.wasm_write.specs.Sections.{SectionRow, framed_tree}
+use Rattle.wasm_shapes.proofs.OwnAnswers.{fill_own}
+use Rattle.wasm_write.specs.Sections.{SectionRow}
 use Rattle.reencode_hooks.specs.declared.error.Error.{Error}
 use Rattle.reencode_hooks.specs.Hooks.{index_of}
-use Rattle.reencode_hooks.specs.Run.{Step, accepted, refused, and_then, answered, ask, run, state_after}
+use Rattle.reencode_hooks.specs.Run.{Step, accepted, refused, and_then, answered, run, state_after}
 use Rattle.reencode_core.specs.Weave.{Puts, added, put_before, woven_from}
-use Rattle.reencode_core.specs.Interspersed.{interspersed, interspersed_from}
-use Rattle.reencode_core.specs.Woven.{Goal}
-
-abbrev pub stays : {S E : Type 0} → (S → Visit → Result ℕ E) → S → Visit → Step S (Error E) ℕ
-stays reply = ask reply (λ s _. s)
+use Rattle.reencode_core.specs.Woven.{GivesWovenBytes}
+use Rattle.reencode_core.specs.Interspersed.{IsInterspersed, interspersed, interspersed_from}
+use Rattle.reencode_core.proofs.RuleRuns.{stays, ran}
+use Rattle.reencode_core.proofs.Weaves.{weave_is_run}
 
 -- ---- a filled section is told of as it was
 
@@ -92,5 +92,21 @@ module _ {E : Type 0} (reply : Visit → Result ℕ E) (same : (v : Visit) → r
       let is : index_of v ≡ g = let h = same v in cc in
       ap₂ (λ (n : ℕ) (ns : List ℕ). n ∷ ns) (sym (asked_is v) ∙ is) (own_answers vs gs rest)
 
-pub goal_is : {S E : Type 0} (reply : S → Visit → Result ℕ E) → Goal reply
-goal_is reply adds s t answers = woven_stays reply (added adds) s t answers None
+-- ---- what comes out
+
+module _ {S E A : Type 0} (reply : S → Visit → Result ℕ E) (adds : Puts S SectionRow) {ceiling : ℕ} {bytes : List ℕ} {s m : S} {view : A → List ℕ} where
+  -- where each index is its own answer, the reading, and between its sections what is added
+  pub only_added : ((v : Visit) → reply s v ≡ Ok (index_of v)) → (r : Result A (Error E)) → GivesWovenBytes (stays reply) adds ceiling bytes s m r view →
+      IfOk r (λ out. IsInterspersed (adds s) bytes (view out))
+  only_added same (Ok out) g =
+      let p = g.readable in
+      let q = g.reading p.0 p.1 in
+      let a = (weave_is_run (stays reply)).forth (added adds) ceiling s m p.0 q.0 q.1 in
+      let own : map asked_index (visits p.0) ≡ a.given = own_answers (reply s) same (visits p.0) a.given (ran reply s (visits p.0) a.given m a.ran) in
+      let filled : fill p.0 a.given ≡ p.0 = ap (fill p.0) (sym own) ∙ fill_own p.0 in
+      record {
+        tree = p.0;
+        reading = p.1;
+        spelled = q.2 ∙ ap normal (sym a.wove ∙ (woven_stays reply (added adds) s p.0 a.given None ∙ ap (interspersed (adds s)) filled));
+      }
+  only_added same (Err e) g = tt
