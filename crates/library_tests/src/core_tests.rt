@@ -1,6 +1,6 @@
 //! Each free function of sections and rows through its bound, and sections by their kind.
 use reencode_core::{Reencode, fault_tells, utils};
-use reencode_hooks::{Error, Renamer, RoundtripReencoder, Unmapped};
+use reencode_hooks::{Error, Renamer, Unmapped};
 use std::alloc::Global;
 use wasm_leb::{List, NoMemory, ReadError};
 use wasm_read as r;
@@ -248,43 +248,6 @@ fn module_and_group<R: Reencode>(
     Ok((module, group.types.len()))
 }
 
-/// A renamer that makes type 0 type 5, and function 0 function 7.
-fn renamer(alloc: Global) -> Result<Renamer, NoMemory> {
-    let mut renamer = Renamer::new(alloc);
-    renamer.set(Space::Type_, 0, 5)?;
-    renamer.set(Space::Function, 0, 7)?;
-    Ok(renamer)
-}
-
-#[test]
-fn functions_map_rows(rt: HostRuntime) -> Result<(), Error<Unmapped>> {
-    let mut renamer = renamer(rt.alloc())?;
-    let expected = [
-        0x00, 0x61, 0x73, 0x6d, 0x01, 0x00, 0x00, 0x00, 0x01, 0x04, 0x01, 0x60, 0x00, 0x00, 0x03,
-        0x02, 0x01, 0x05, 0x07, 0x09, 0x02, 0x01, 0x66, 0x00, 0x07, 0x01, 0x67, 0x00, 0x07, 0x0a,
-        0x0f, 0x03, 0x04, 0x00, 0x10, 0x07, 0x0b, 0x04, 0x01, 0x01, 0x7f, 0x0b, 0x03, 0x01, 0x01,
-        0x7f,
-    ];
-    let module = module_of_functions(&mut renamer, rt.alloc())?;
-    assert_eq!(rt; module.as_slice(), expected.as_slice());
-    Ok(())
-}
-
-#[test]
-fn functions_map_imports(rt: HostRuntime) -> Result<(), Error<Unmapped>> {
-    let mut renamer = renamer(rt.alloc())?;
-    let expected = [
-        0x00, 0x61, 0x73, 0x6d, 0x01, 0x00, 0x00, 0x00, 0x02, 0x16, 0x04, 0x01, 0x61, 0x01, 0x62,
-        0x20, 0x05, 0x00, 0x01, 0x63, 0x00, 0x05, 0x00, 0x01, 0x63, 0x00, 0x05, 0x00, 0x01, 0x63,
-        0x00, 0x05, 0x04, 0x0d, 0x02, 0x64, 0x05, 0x00, 0x01, 0x40, 0x00, 0x70, 0x00, 0x02, 0xd2,
-        0x07, 0x0b, 0x05, 0x04, 0x01, 0x01, 0x01, 0x02, 0x0d, 0x03, 0x01, 0x00, 0x05, 0x06, 0x0b,
-        0x02, 0x70, 0x00, 0xd0, 0x70, 0x0b, 0x70, 0x01, 0xd2, 0x07, 0x0b,
-    ];
-    let module = module_of_imports(&mut renamer, rt.alloc())?;
-    assert_eq!(rt; module.as_slice(), expected.as_slice());
-    Ok(())
-}
-
 /// The section `02 00 d2 00 0b 01 aa 01 00` of data segments, and another row of it.
 fn segments<R: Reencode>(
     reencoder: &mut R,
@@ -316,46 +279,6 @@ fn module_of_segments<R: Reencode>(
     Ok(module)
 }
 
-#[test]
-fn functions_map_segments(rt: HostRuntime) -> Result<(), Error<Unmapped>> {
-    let mut renamer = renamer(rt.alloc())?;
-    renamer.set(Space::Memory, 0, 2)?;
-    renamer.set(Space::Memory, 3, 0)?;
-    let expected = [
-        0x00, 0x61, 0x73, 0x6d, 0x01, 0x00, 0x00, 0x00, 0x0b, 0x11, 0x03, 0x02, 0x02, 0xd2, 0x07,
-        0x0b, 0x01, 0xaa, 0x01, 0x00, 0x00, 0x41, 0x01, 0x0b, 0x02, 0xbb, 0xcc,
-    ];
-    let module = module_of_segments(&mut renamer, rt.alloc())?;
-    assert_eq!(rt; module.as_slice(), expected.as_slice());
-    Ok(())
-}
-
-#[test]
-fn functions_map_elements(rt: HostRuntime) -> Result<(), Error<Unmapped>> {
-    let mut renamer = renamer(rt.alloc())?;
-    renamer.set(Space::Table, 0, 9)?;
-    let expected = [
-        0x00, 0x61, 0x73, 0x6d, 0x01, 0x00, 0x00, 0x00, 0x09, 0x1d, 0x04, 0x02, 0x09, 0x41, 0x00,
-        0x0b, 0x00, 0x01, 0x07, 0x02, 0x03, 0x41, 0x00, 0x0b, 0x00, 0x01, 0x07, 0x05, 0x70, 0x01,
-        0xd2, 0x07, 0x0b, 0x07, 0x70, 0x01, 0xd2, 0x07, 0x0b,
-    ];
-    let module = module_of_elements(&mut renamer, rt.alloc())?;
-    assert_eq!(rt; module.as_slice(), expected.as_slice());
-    Ok(())
-}
-
-#[test]
-fn functions_map_modules(rt: HostRuntime) -> Result<(), Error<Unmapped>> {
-    let mut renamer = renamer(rt.alloc())?;
-    let expected = [
-        0x00, 0x61, 0x73, 0x6d, 0x01, 0x00, 0x00, 0x00, 0x03, 0x02, 0x01, 0x05,
-    ];
-    let (module, types) = module_and_group(&mut renamer, rt.alloc())?;
-    assert_eq!(rt; module.as_slice(), expected.as_slice());
-    assert_eq!(rt; types, 1);
-    Ok(())
-}
-
 /// A section is mapped through its bound, by the free function and by the method.
 fn sections_of_a_kind<R: Reencode>(
     reencoder: &mut R,
@@ -385,15 +308,6 @@ where
     Ok((count, is_refused && module.len() == count))
 }
 
-#[test]
-fn sections_by_kind(rt: HostRuntime) {
-    assert_eq!(rt;
-        sections_after(&mut RoundtripReencoder, rt.alloc()).ok(),
-        Some((2, true))
-    );
-    fault_tells(&RoundtripReencoder);
-}
-
 /// The sections `08 01 00` of a start function and `0c 01 02` of a data count, each by the free function and by the method,
 /// and the start function by itself.
 fn sections_of_one_item<R: Reencode>(
@@ -407,16 +321,114 @@ fn sections_of_one_item<R: Reencode>(
     Ok((module, start))
 }
 
+/// What becomes of all of these. To hand a renamer to a function of any reencoder costs its check some twenty seconds, so this
+/// is done once.
+#[derive(Drop)]
+struct Made {
+    functions: w::Module,
+    imports: w::Module,
+    segments: w::Module,
+    elements: w::Module,
+    core: w::Module,
+    types: usize,
+    sections: (usize, bool),
+    items: w::Module,
+    start: u32,
+}
+
+fn all_made<R: Reencode>(reencoder: &mut R, alloc: Global) -> Result<Made, Error<R::Error>>
+where
+    R::Error: Drop,
+{
+    fault_tells(&*reencoder);
+    let (core, types) = module_and_group(reencoder, alloc)?;
+    let (items, start) = sections_of_one_item(reencoder, alloc)?;
+    Ok(Made {
+        functions: module_of_functions(reencoder, alloc)?,
+        imports: module_of_imports(reencoder, alloc)?,
+        segments: module_of_segments(reencoder, alloc)?,
+        elements: module_of_elements(reencoder, alloc)?,
+        core,
+        types,
+        sections: sections_after(reencoder, alloc)?,
+        items,
+        start,
+    })
+}
+
+/// A renamer that makes type 0 type 5, function 0 function 7, table 0 table 9, memory 0 memory 2, memory 3 memory 0, and a
+/// count of 2 data segments one of 128.
+fn renamer(alloc: Global) -> Result<Renamer, NoMemory> {
+    let mut renamer = Renamer::new(alloc);
+    for (space, from, to) in [
+        (Space::Type_, 0, 5),
+        (Space::Function, 0, 7),
+        (Space::Table, 0, 9),
+        (Space::Memory, 0, 2),
+        (Space::Memory, 3, 0),
+        (Space::DataCount, 2, 128),
+    ] {
+        renamer.set(space, from, to)?;
+    }
+    Ok(renamer)
+}
+
+/// The module of functions.
+const FUNCTIONS: [u8; 46] = [
+    0x00, 0x61, 0x73, 0x6d, 0x01, 0x00, 0x00, 0x00, 0x01, 0x04, 0x01, 0x60, 0x00, 0x00, 0x03, 0x02,
+    0x01, 0x05, 0x07, 0x09, 0x02, 0x01, 0x66, 0x00, 0x07, 0x01, 0x67, 0x00, 0x07, 0x0a, 0x0f, 0x03,
+    0x04, 0x00, 0x10, 0x07, 0x0b, 0x04, 0x01, 0x01, 0x7f, 0x0b, 0x03, 0x01, 0x01, 0x7f,
+];
+
+/// The module of imports, tables, memories, tags and globals.
+const IMPORTS: [u8; 71] = [
+    0x00, 0x61, 0x73, 0x6d, 0x01, 0x00, 0x00, 0x00, 0x02, 0x16, 0x04, 0x01, 0x61, 0x01, 0x62, 0x20,
+    0x05, 0x00, 0x01, 0x63, 0x00, 0x05, 0x00, 0x01, 0x63, 0x00, 0x05, 0x00, 0x01, 0x63, 0x00, 0x05,
+    0x04, 0x0d, 0x02, 0x64, 0x05, 0x00, 0x01, 0x40, 0x00, 0x70, 0x00, 0x02, 0xd2, 0x07, 0x0b, 0x05,
+    0x04, 0x01, 0x01, 0x01, 0x02, 0x0d, 0x03, 0x01, 0x00, 0x05, 0x06, 0x0b, 0x02, 0x70, 0x00, 0xd0,
+    0x70, 0x0b, 0x70, 0x01, 0xd2, 0x07, 0x0b,
+];
+
+/// The module of data segments.
+const SEGMENTS: [u8; 27] = [
+    0x00, 0x61, 0x73, 0x6d, 0x01, 0x00, 0x00, 0x00, 0x0b, 0x11, 0x03, 0x02, 0x02, 0xd2, 0x07, 0x0b,
+    0x01, 0xaa, 0x01, 0x00, 0x00, 0x41, 0x01, 0x0b, 0x02, 0xbb, 0xcc,
+];
+
+/// The module of element segments.
+const ELEMENTS: [u8; 39] = [
+    0x00, 0x61, 0x73, 0x6d, 0x01, 0x00, 0x00, 0x00, 0x09, 0x1d, 0x04, 0x02, 0x09, 0x41, 0x00, 0x0b,
+    0x00, 0x01, 0x07, 0x02, 0x03, 0x41, 0x00, 0x0b, 0x00, 0x01, 0x07, 0x05, 0x70, 0x01, 0xd2, 0x07,
+    0x0b, 0x07, 0x70, 0x01, 0xd2, 0x07, 0x0b,
+];
+
+/// The module of one row.
+const CORE: [u8; 12] = [
+    0x00, 0x61, 0x73, 0x6d, 0x01, 0x00, 0x00, 0x00, 0x03, 0x02, 0x01, 0x05,
+];
+
+/// The module of start and data count sections.
+const ITEMS: [u8; 22] = [
+    0x00, 0x61, 0x73, 0x6d, 0x01, 0x00, 0x00, 0x00, 0x08, 0x01, 0x07, 0x08, 0x01, 0x07, 0x0c, 0x02,
+    0x80, 0x01, 0x0c, 0x02, 0x80, 0x01,
+];
+
 #[test]
-fn sections_are_one_item(rt: HostRuntime) -> Result<(), Error<Unmapped>> {
+fn functions_map(rt: HostRuntime) -> Result<(), Error<Unmapped>> {
     let mut renamer = renamer(rt.alloc())?;
-    renamer.set(Space::DataCount, 2, 128)?;
-    let expected = [
-        0x00, 0x61, 0x73, 0x6d, 0x01, 0x00, 0x00, 0x00, 0x08, 0x01, 0x07, 0x08, 0x01, 0x07, 0x0c,
-        0x02, 0x80, 0x01, 0x0c, 0x02, 0x80, 0x01,
-    ];
-    let (module, start) = sections_of_one_item(&mut renamer, rt.alloc())?;
-    assert_eq!(rt; module.as_slice(), expected.as_slice());
-    assert_eq!(rt; start, 7);
+    let made = all_made(&mut renamer, rt.alloc())?;
+    for (name, module, expected) in [
+        ("functions", made.functions.as_slice(), FUNCTIONS.as_slice()),
+        ("imports", made.imports.as_slice(), IMPORTS.as_slice()),
+        ("segments", made.segments.as_slice(), SEGMENTS.as_slice()),
+        ("elements", made.elements.as_slice(), ELEMENTS.as_slice()),
+        ("one row", made.core.as_slice(), CORE.as_slice()),
+        ("items", made.items.as_slice(), ITEMS.as_slice()),
+    ] {
+        assert!(rt; module == expected, "of {name}");
+    }
+    assert_eq!(rt; made.types, 1);
+    assert_eq!(rt; made.sections, (2, true));
+    assert_eq!(rt; made.start, 7);
     Ok(())
 }

@@ -227,6 +227,18 @@ fn named<R: Reencode>(
     Ok(())
 }
 
+/// Modules of custom sections, and of name sections.
+fn modules<R: Reencode>(
+    reencoder: &mut R,
+    alloc: Global,
+) -> Result<(w::Module, w::Module), Error<R::Error>> {
+    let mut of_custom = w::Module::new(alloc, u32::MAX)?;
+    custom(reencoder, alloc, &mut of_custom)?;
+    let mut of_names = w::Module::new(alloc, u32::MAX)?;
+    named(reencoder, alloc, &mut of_names)?;
+    Ok((of_custom, of_names))
+}
+
 #[test]
 fn functions_map_names(rt: HostRuntime) -> Result<(), Error<Unmapped>> {
     let alloc = rt.alloc();
@@ -234,16 +246,13 @@ fn functions_map_names(rt: HostRuntime) -> Result<(), Error<Unmapped>> {
     renamer.set(Space::Function, 0, 2)?;
     renamer.set(Space::Tag, 5, 1)?;
     renamer.set(Space::Type_, 3, 4)?;
-    let mut module = w::Module::new(alloc, u32::MAX)?;
-    custom(&mut renamer, alloc, &mut module)?;
+    let (of_custom, of_names) = modules(&mut renamer, alloc)?;
     let wanted = [
         0x00u8, 0x61, 0x73, 0x6d, 0x01, 0x00, 0x00, 0x00, 0x00, 0x03, 0x01, 0x78, 0xff, 0x00, 0x03,
         0x01, 0x78, 0xff, 0x00, 0x03, 0x01, 0x78, 0xff, 0x00, 0x03, 0x01, 0x78, 0xff, 0x63, 0x01,
         0xaa, 0x63, 0x01, 0xaa,
     ];
-    assert!(rt; module.as_slice() == wanted.as_slice());
-    let mut module = w::Module::new(alloc, u32::MAX)?;
-    named(&mut renamer, alloc, &mut module)?;
+    assert!(rt; of_custom.as_slice() == wanted.as_slice());
     let wanted = [
         0x00u8, 0x61, 0x73, 0x6d, 0x01, 0x00, 0x00, 0x00, 0x00, 0x1a, 0x04, 0x6e, 0x61, 0x6d, 0x65,
         0x00, 0x02, 0x01, 0x6d, 0x01, 0x04, 0x01, 0x02, 0x01, 0x66, 0x02, 0x06, 0x01, 0x02, 0x01,
@@ -252,6 +261,6 @@ fn functions_map_names(rt: HostRuntime) -> Result<(), Error<Unmapped>> {
         0x78, 0x0c, 0x01, 0xff, 0x00, 0x15, 0x04, 0x6e, 0x61, 0x6d, 0x65, 0x0b, 0x06, 0x02, 0x01,
         0x01, 0x61, 0x00, 0x00, 0x0a, 0x06, 0x01, 0x04, 0x01, 0x09, 0x01, 0x62,
     ];
-    assert!(rt; module.as_slice() == wanted.as_slice());
+    assert!(rt; of_names.as_slice() == wanted.as_slice());
     Ok(())
 }

@@ -1,5 +1,5 @@
 //! The kind in which modules, sections, immediates and the types of tables, globals, functions, structures and arrays ask.
-use crate::noter::{Made, Noter, noted};
+use crate::noter::{Made, Noter, Notes, noted};
 use reencode_core::Reencode;
 use reencode_hooks::RoundtripReencoder;
 use reencode_items::ReencodeItems;

@@ -1,8 +1,6 @@
 //! What the methods of items ask.
-use crate::first::First;
-use crate::noter::{Made, Noter, both};
-use crate::second::Second;
-use crate::third::{Third, Way};
+use crate::noter::{Notes, both};
+use crate::third::{Way, Ways};
 use crate::values as v;
 use reencode_hooks::Error;
 use reencode_items::{ReencodeItems, utils};
@@ -12,18 +10,23 @@ use wasm_read::{CompositeInnerType, HeapType, Imm, TypeRef};
 use wasm_shapes::Space;
 use wasm_write as w;
 
-/// Types that hold others.
-pub fn types(of: &mut Noter<First>, alloc: Global) -> Made<()> {
+/// A type with its supertypes, and a function.
+pub fn types<N: ReencodeItems + Notes>(of: &mut N, alloc: Global) -> Result<(), Error<N::Error>> {
     both!(of, sub_type(alloc, v::sub_type(alloc)?));
     both!(of, func_type(alloc, v::function(alloc)?));
-    both!(of, struct_type(alloc, v::structure(alloc)?));
-    both!(of, array_type(v::ARRAY));
     Ok(())
 }
 
-/// More types that hold others.
-pub fn more_types(of: &mut Noter<First>) -> Made<()> {
+/// Types that hold fields, and a continuation.
+pub fn fields<N: ReencodeItems + Notes>(of: &mut N, alloc: Global) -> Result<(), Error<N::Error>> {
+    both!(of, struct_type(alloc, v::structure(alloc)?));
+    both!(of, array_type(v::ARRAY));
     both!(of, cont_type(v::CONTINUATION));
+    Ok(())
+}
+
+/// Types that hold a type of values.
+pub fn values<N: ReencodeItems + Notes>(of: &mut N) -> Result<(), Error<N::Error>> {
     both!(of, storage_type(r::StorageType::Val(v::VALUE)));
     both!(of, table_type(v::TABLE));
     both!(of, global_type(v::GLOBAL));
@@ -31,7 +34,10 @@ pub fn more_types(of: &mut Noter<First>) -> Made<()> {
 }
 
 /// Immediates.
-pub fn immediates(of: &mut Noter<First>, alloc: Global) -> Made<()> {
+pub fn immediates<N: ReencodeItems + Notes>(
+    of: &mut N,
+    alloc: Global,
+) -> Result<(), Error<N::Error>> {
     both!(of, immediate(alloc, Imm::Block(r::BlockType::Empty)));
     both!(of, immediate(alloc, Imm::Types(v::one(alloc, v::VALUE)?)));
     both!(of, immediate(alloc, Imm::Mem(v::ACCESS)));
@@ -39,28 +45,45 @@ pub fn immediates(of: &mut Noter<First>, alloc: Global) -> Made<()> {
 }
 
 /// More immediates.
-pub fn more_immediates(of: &mut Noter<First>, alloc: Global) -> Made<()> {
+pub fn more_immediates<N: ReencodeItems + Notes>(
+    of: &mut N,
+    alloc: Global,
+) -> Result<(), Error<N::Error>> {
     both!(of, immediate(alloc, Imm::Four(r::Ieee32(0))));
     both!(of, immediate(alloc, Imm::Eight(r::Ieee64(0))));
     both!(of, immediate(alloc, Imm::Heap(v::HEAP)));
-    both!(of, immediate(alloc, Imm::Catches(v::one(alloc, v::CATCH)?)));
     Ok(())
 }
 
-/// The last immediates, and the operator at the front of a body.
-pub fn last_immediates(of: &mut Noter<First>, alloc: Global) -> Made<()> {
+/// The last immediates.
+pub fn last_immediates<N: ReencodeItems + Notes>(
+    of: &mut N,
+    alloc: Global,
+) -> Result<(), Error<N::Error>> {
+    both!(of, immediate(alloc, Imm::Catches(v::one(alloc, v::CATCH)?)));
     both!(of, immediate(alloc, v::CAST));
     both!(
         of,
         immediate(alloc, Imm::Handlers(v::one(alloc, v::HANDLE)?))
     );
+    Ok(())
+}
+
+/// An index, and the operator at the front of a body.
+pub fn operators<N: ReencodeItems + Notes>(
+    of: &mut N,
+    alloc: Global,
+) -> Result<(), Error<N::Error>> {
     both!(of, immediate(alloc, Imm::Index(Space::Function, 0)));
     both!(of, parse_instruction(alloc, &mut v::BODY.operators()?));
     Ok(())
 }
 
 /// Composite types.
-pub fn composites(of: &mut Noter<Second>, alloc: Global) -> Made<()> {
+pub fn composites<N: ReencodeItems + Notes>(
+    of: &mut N,
+    alloc: Global,
+) -> Result<(), Error<N::Error>> {
     both!(
         of,
         composite_type(
@@ -72,6 +95,14 @@ pub fn composites(of: &mut Noter<Second>, alloc: Global) -> Made<()> {
         of,
         composite_type(alloc, v::composite(CompositeInnerType::Array(v::ARRAY)))
     );
+    Ok(())
+}
+
+/// More composite types.
+pub fn more_composites<N: ReencodeItems + Notes>(
+    of: &mut N,
+    alloc: Global,
+) -> Result<(), Error<N::Error>> {
     both!(
         of,
         composite_type(
@@ -90,25 +121,43 @@ pub fn composites(of: &mut Noter<Second>, alloc: Global) -> Made<()> {
 }
 
 /// Types that hold one other, and an operator.
-pub fn parts(of: &mut Noter<Second>, alloc: Global) -> Made<()> {
+pub fn parts<N: ReencodeItems + Notes>(of: &mut N, alloc: Global) -> Result<(), Error<N::Error>> {
     both!(of, field_type(v::FIELD));
     both!(of, val_type(v::VALUE));
-    both!(of, heap_type(v::HEAP));
-    both!(of, heap_type(HeapType::Concrete(v::INDEX)));
-    both!(of, heap_type(HeapType::Exact(v::INDEX)));
-    both!(of, tag_type(v::TAG));
     both!(of, instruction(alloc, v::call(alloc)?));
     Ok(())
 }
 
-/// What is imported, and what is left.
-pub fn others(of: &mut Noter<Third>, alloc: Global) -> Made<()> {
-    both!(of, entity_type(TypeRef::Func(0)));
-    both!(of, entity_type(TypeRef::FuncExact(0)));
-    both!(of, entity_type(TypeRef::Table(v::TABLE)));
-    both!(of, entity_type(TypeRef::Memory(v::MEMORY)));
-    both!(of, entity_type(TypeRef::Global(v::GLOBAL)));
-    both!(of, entity_type(TypeRef::Tag(v::TAG)));
+/// Heap types, and a tag.
+pub fn heap_types<N: ReencodeItems + Notes>(of: &mut N) -> Result<(), Error<N::Error>> {
+    for ty in [
+        v::HEAP,
+        HeapType::Concrete(v::INDEX),
+        HeapType::Exact(v::INDEX),
+    ] {
+        both!(of, heap_type(ty));
+    }
+    both!(of, tag_type(v::TAG));
+    Ok(())
+}
+
+/// What is imported.
+pub fn entities<N: ReencodeItems + Notes>(of: &mut N) -> Result<(), Error<N::Error>> {
+    for ty in [
+        TypeRef::Func(0),
+        TypeRef::FuncExact(0),
+        TypeRef::Table(v::TABLE),
+        TypeRef::Memory(v::MEMORY),
+        TypeRef::Global(v::GLOBAL),
+        TypeRef::Tag(v::TAG),
+    ] {
+        both!(of, entity_type(ty));
+    }
+    Ok(())
+}
+
+/// What is left.
+pub fn others<N: ReencodeItems + Notes>(of: &mut N, alloc: Global) -> Result<(), Error<N::Error>> {
     both!(of, ref_type(v::REFERENCE));
     both!(of, block_type(r::BlockType::Type_(v::VALUE)));
     both!(of, val_types(alloc, v::one(alloc, v::VALUE)?));
@@ -116,7 +165,7 @@ pub fn others(of: &mut Noter<Third>, alloc: Global) -> Made<()> {
 }
 
 /// What comes of an expression.
-fn told(made: Made<w::ConstExpr>) -> &'static str {
+fn told<E: Drop>(made: Result<w::ConstExpr, Error<E>>) -> &'static str {
     match made {
         Ok(_) => "Ok",
         Err(Error::InvalidConstExpr) => "InvalidConstExpr",
@@ -125,10 +174,16 @@ fn told(made: Made<w::ConstExpr>) -> &'static str {
 }
 
 /// The expression `i32.const 0`, by each way to map its operators.
-pub fn expressions(of: &mut Noter<Third>, alloc: Global) -> Made<()> {
+pub fn expressions<N: ReencodeItems + Notes + Ways>(
+    of: &mut N,
+    alloc: Global,
+) -> Result<(), Error<N::Error>>
+where
+    N::Error: Drop,
+{
     let bytes = [0x41, 0x00, 0x0b];
     for way in [Way::Maps, Way::Ends, Way::PassesBy, Way::Refuses] {
-        of.kind = Third(way);
+        of.turn(way);
         of.begin("const_expr");
         let made = of.const_expr(alloc, r::ConstExpr::new(&bytes)?);
         of.note(told(made));

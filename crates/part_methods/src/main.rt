@@ -12,46 +12,74 @@ mod third;
 mod values;
 
 use crate::first::First;
-use crate::noter::{Made, Noter};
+use crate::noter::{Noter, Notes};
 use crate::second::Second;
-use crate::third::{Third, Way};
+use crate::third::{Third, Way, Ways};
+use reencode_core::Reencode;
+use reencode_hooks::Error;
+use reencode_items::ReencodeItems;
 use std::alloc::Global;
 use std::io;
 
-/// What is asked where parts are overridden.
-fn by_parts(alloc: Global, of: &mut Noter<First>) -> Made<()> {
+/// The sections of modules, where the rows are overridden.
+fn by_rows<N: Reencode + Notes>(of: &mut N, alloc: Global) -> Result<(), Error<N::Error>> {
     rows::modules(of, alloc)?;
-    names::sections(of, alloc)?;
-    rows::sections(of, alloc)?;
-    rows::more_sections(of, alloc)?;
-    rows::last_sections(of, alloc)?;
-    rows::parts(of, alloc)?;
+    rows::types(of, alloc)?;
+    rows::functions(of, alloc)?;
+    rows::memories(of, alloc)?;
+    rows::exports(of, alloc)?;
+    rows::segments(of, alloc)?;
+    rows::code(of, alloc)?;
+    names::sections(of, alloc)
+}
+
+/// What is asked where parts are overridden.
+fn by_parts<N: Reencode + Notes>(of: &mut N, alloc: Global) -> Result<(), Error<N::Error>> {
+    by_rows(of, alloc)?;
     rows::items(of, alloc)?;
+    rows::expressions(of, alloc)?;
     items::types(of, alloc)?;
-    items::more_types(of)?;
+    items::fields(of, alloc)?;
+    items::values(of)?;
     items::immediates(of, alloc)?;
     items::more_immediates(of, alloc)?;
-    items::last_immediates(of, alloc)
+    items::last_immediates(of, alloc)?;
+    items::operators(of, alloc)
+}
+
+/// The rows of sections, where what they hold is overridden.
+fn by_items<N: Reencode + Notes>(of: &mut N, alloc: Global) -> Result<(), Error<N::Error>> {
+    rows::bodies(of, alloc)?;
+    rows::groups(of, alloc)?;
+    rows::tables(of, alloc)?;
+    rows::globals(of, alloc)?;
+    rows::elements(of, alloc)?;
+    rows::imports(of, alloc)
 }
 
 /// What is asked where wholes are overridden.
-fn by_wholes(alloc: Global, of: &mut Noter<Second>) -> Made<()> {
-    rows::bodies(of, alloc)?;
-    rows::more_bodies(of, alloc)?;
-    rows::last_bodies(of, alloc)?;
-    rows::rows(of, alloc)?;
-    rows::more_rows(of, alloc)?;
-    rows::imports(of, alloc)?;
+fn by_wholes<N: Reencode + Notes>(of: &mut N, alloc: Global) -> Result<(), Error<N::Error>> {
+    by_items(of, alloc)?;
     items::composites(of, alloc)?;
+    items::more_composites(of, alloc)?;
     items::parts(of, alloc)?;
+    items::heap_types(of)?;
     names::custom(of, alloc)?;
     names::maps(of, alloc)?;
     names::more_maps(of, alloc)?;
+    names::last_maps(of, alloc)?;
     names::indirect_maps(of, alloc)
 }
 
 /// What is asked where others are overridden.
-fn by_others(alloc: Global, of: &mut Noter<Third>) -> Made<()> {
+fn by_others<N: ReencodeItems + Notes + Ways>(
+    of: &mut N,
+    alloc: Global,
+) -> Result<(), Error<N::Error>>
+where
+    N::Error: Drop,
+{
+    items::entities(of)?;
     items::others(of, alloc)?;
     items::expressions(of, alloc)
 }
@@ -60,7 +88,7 @@ fn by_others(alloc: Global, of: &mut Noter<Third>) -> Made<()> {
 macro_rules! tell {
     ($rt:ident, $asked:ident, $kind:expr) => {
         let mut of = Noter::new($rt.alloc(), $kind);
-        let made = $asked($rt.alloc(), &mut of);
+        let made = $asked(&mut of, $rt.alloc());
         println!($rt; "{}", of.lines())?;
         if let Err(e) = made {
             println!($rt; "{e}")?;

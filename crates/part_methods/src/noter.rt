@@ -38,28 +38,36 @@ impl<K> Noter<K> {
         }
     }
 
+    /// All lines.
+    pub fn lines(&self) -> &str {
+        self.notes.as_str()
+    }
+}
+
+/// The lines of calls. The functions that make calls are generic over it: to hand a reencoder to a function of `utils` costs
+/// the check of a concrete type some seconds at each, and of a type parameter next to nothing.
+pub trait Notes {
     /// Notes a word. One that finds no memory is missing.
-    pub fn note(&mut self, word: &str)
-        ensures { self.new ≡ self.old }
-    {
+    fn note(&mut self, word: &str)
+        ensures { self.new ≡ self.old };
+
+    /// Begins the line of a call.
+    fn begin(&mut self, call: &str)
+        ensures { self.new ≡ self.old };
+}
+
+impl<K> Notes for Noter<K> {
+    fn note(&mut self, word: &str) {
         let _ = self.notes.push_str(" ");
         let _ = self.notes.push_str(word);
     }
 
-    /// Begins the line of a call.
-    pub fn begin(&mut self, call: &str)
-        ensures { self.new ≡ self.old }
-    {
+    fn begin(&mut self, call: &str) {
         if !self.notes.is_empty() {
             let _ = self.notes.push_str("\n");
         }
         let _ = self.notes.push_str(call);
         let _ = self.notes.push_str(":");
-    }
-
-    /// All lines.
-    pub fn lines(&self) -> &str {
-        self.notes.as_str()
     }
 }
 

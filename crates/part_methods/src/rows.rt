@@ -1,9 +1,8 @@
 //! What the methods of modules, sections and rows ask.
-use crate::first::First;
-use crate::noter::{Made, Noter, both};
-use crate::second::Second;
+use crate::noter::{Notes, both};
 use crate::values as v;
 use reencode_core::{Reencode, utils};
+use reencode_hooks::Error;
 use std::alloc::Global;
 use wasm_read as r;
 use wasm_read::SectionReader;
@@ -59,6 +58,29 @@ const MODULE: [u8; 23] = [
     0x00, 0x0a, 0x04, 0x01, 0x02, 0x00, 0x0b,
 ];
 
+/// A custom section, one of the id 99, and a name section.
+const OTHERS: [u8; 25] = [
+    0x00, 0x61, 0x73, 0x6d, 0x01, 0x00, 0x00, 0x00, 0x00, 0x02, 0x01, 0x78, 0x63, 0x00, 0x00, 0x09,
+    0x04, 0x6e, 0x61, 0x6d, 0x65, 0x00, 0x02, 0x01, 0x6d,
+];
+
+/// Each section by what its body says.
+const BODIES: [(SectionId, &[u8]); 13] = [
+    (SectionId::Type_, &TYPES),
+    (SectionId::Import, &IMPORTS),
+    (SectionId::Function, &FUNCTIONS),
+    (SectionId::Table, &TABLES),
+    (SectionId::Memory, &MEMORIES),
+    (SectionId::Global, &GLOBALS),
+    (SectionId::Export, &EXPORTS),
+    (SectionId::Start, &ITEM),
+    (SectionId::Element, &ELEMENTS),
+    (SectionId::Code, &CODE),
+    (SectionId::Data, &SEGMENTS),
+    (SectionId::DataCount, &ITEM),
+    (SectionId::Tag, &TAGS),
+];
+
 /// The line of the method of a section.
 macro_rules! section {
     ($noter:ident, $alloc:ident, $method:ident($body:ident)) => {
@@ -67,40 +89,51 @@ macro_rules! section {
 }
 
 /// Modules.
-pub fn modules(of: &mut Noter<First>, alloc: Global) -> Made<()> {
+pub fn modules<N: Reencode + Notes>(of: &mut N, alloc: Global) -> Result<(), Error<N::Error>> {
     let mut module = w::Module::new(alloc, u32::MAX)?;
-    both!(of, parse_core_module(alloc, &mut module, &HEADER));
-    both!(of, parse_core_module(alloc, &mut module, &MODULE));
+    for bytes in [&HEADER as &[u8], &MODULE, &OTHERS] {
+        both!(of, parse_core_module(alloc, &mut module, bytes));
+    }
     Ok(())
 }
 
-/// Sections.
-pub fn sections(of: &mut Noter<First>, alloc: Global) -> Made<()> {
+/// Sections of types and of imports.
+pub fn types<N: Reencode + Notes>(of: &mut N, alloc: Global) -> Result<(), Error<N::Error>> {
     section!(of, alloc, parse_type_section(TYPES));
     section!(of, alloc, parse_import_section(IMPORTS));
+    Ok(())
+}
+
+/// Sections of functions and of tables.
+pub fn functions<N: Reencode + Notes>(of: &mut N, alloc: Global) -> Result<(), Error<N::Error>> {
     section!(of, alloc, parse_function_section(FUNCTIONS));
     section!(of, alloc, parse_table_section(TABLES));
     Ok(())
 }
 
-/// More sections.
-pub fn more_sections(of: &mut Noter<First>, alloc: Global) -> Made<()> {
+/// Sections of memories and of globals.
+pub fn memories<N: Reencode + Notes>(of: &mut N, alloc: Global) -> Result<(), Error<N::Error>> {
     section!(of, alloc, parse_memory_section(MEMORIES));
     section!(of, alloc, parse_global_section(GLOBALS));
+    Ok(())
+}
+
+/// Sections of exports and of elements.
+pub fn exports<N: Reencode + Notes>(of: &mut N, alloc: Global) -> Result<(), Error<N::Error>> {
     section!(of, alloc, parse_export_section(EXPORTS));
     section!(of, alloc, parse_element_section(ELEMENTS));
     Ok(())
 }
 
-/// The last sections.
-pub fn last_sections(of: &mut Noter<First>, alloc: Global) -> Made<()> {
+/// Sections of data segments and of tags.
+pub fn segments<N: Reencode + Notes>(of: &mut N, alloc: Global) -> Result<(), Error<N::Error>> {
     section!(of, alloc, parse_data_section(SEGMENTS));
     section!(of, alloc, parse_tag_section(TAGS));
     Ok(())
 }
 
-/// What stands in two sections.
-pub fn parts(of: &mut Noter<First>, alloc: Global) -> Made<()> {
+/// An import by itself, and a section of code.
+pub fn code<N: Reencode + Notes>(of: &mut N, alloc: Global) -> Result<(), Error<N::Error>> {
     both!(
         of,
         parse_import(alloc, &mut RowSection::new(alloc), v::IMPORT)
@@ -110,88 +143,35 @@ pub fn parts(of: &mut Noter<First>, alloc: Global) -> Made<()> {
         of,
         parse_code_section(alloc, &mut code, SectionReader::new(&CODE)?)
     );
-    both!(of, new_function_with_parsed_locals(alloc, &v::BODY));
     Ok(())
 }
 
-/// What start and element sections hold.
-pub fn items(of: &mut Noter<First>, alloc: Global) -> Made<()> {
+/// What code, start and element sections hold.
+pub fn items<N: Reencode + Notes>(of: &mut N, alloc: Global) -> Result<(), Error<N::Error>> {
+    both!(of, new_function_with_parsed_locals(alloc, &v::BODY));
     of.begin("start_section");
     of.start_section(0)?;
     both!(of, element_items(alloc, v::functions(alloc)?));
+    Ok(())
+}
+
+/// The expressions of an element section.
+pub fn expressions<N: Reencode + Notes>(of: &mut N, alloc: Global) -> Result<(), Error<N::Error>> {
     both!(of, element_items(alloc, v::expressions(alloc)?));
     Ok(())
 }
 
 /// Bodies of sections.
-pub fn bodies(of: &mut Noter<Second>, alloc: Global) -> Made<()> {
+pub fn bodies<N: Reencode + Notes>(of: &mut N, alloc: Global) -> Result<(), Error<N::Error>> {
     let mut module = w::Module::new(alloc, u32::MAX)?;
-    both!(
-        of,
-        parse_section(alloc, &mut module, SectionId::Type_, &TYPES)
-    );
-    both!(
-        of,
-        parse_section(alloc, &mut module, SectionId::Import, &IMPORTS)
-    );
-    both!(
-        of,
-        parse_section(alloc, &mut module, SectionId::Function, &FUNCTIONS)
-    );
-    both!(
-        of,
-        parse_section(alloc, &mut module, SectionId::Table, &TABLES)
-    );
-    both!(
-        of,
-        parse_section(alloc, &mut module, SectionId::Memory, &MEMORIES)
-    );
+    for (id, body) in BODIES {
+        both!(of, parse_section(alloc, &mut module, id, body));
+    }
     Ok(())
 }
 
-/// More bodies of sections.
-pub fn more_bodies(of: &mut Noter<Second>, alloc: Global) -> Made<()> {
-    let mut module = w::Module::new(alloc, u32::MAX)?;
-    both!(
-        of,
-        parse_section(alloc, &mut module, SectionId::Global, &GLOBALS)
-    );
-    both!(
-        of,
-        parse_section(alloc, &mut module, SectionId::Export, &EXPORTS)
-    );
-    both!(
-        of,
-        parse_section(alloc, &mut module, SectionId::Start, &ITEM)
-    );
-    both!(
-        of,
-        parse_section(alloc, &mut module, SectionId::Element, &ELEMENTS)
-    );
-    Ok(())
-}
-
-/// The last bodies of sections.
-pub fn last_bodies(of: &mut Noter<Second>, alloc: Global) -> Made<()> {
-    let mut module = w::Module::new(alloc, u32::MAX)?;
-    both!(
-        of,
-        parse_section(alloc, &mut module, SectionId::Code, &CODE)
-    );
-    both!(
-        of,
-        parse_section(alloc, &mut module, SectionId::Data, &SEGMENTS)
-    );
-    both!(
-        of,
-        parse_section(alloc, &mut module, SectionId::DataCount, &ITEM)
-    );
-    both!(of, parse_section(alloc, &mut module, SectionId::Tag, &TAGS));
-    Ok(())
-}
-
-/// Rows.
-pub fn rows(of: &mut Noter<Second>, alloc: Global) -> Made<()> {
+/// A group of types, and an import.
+pub fn groups<N: Reencode + Notes>(of: &mut N, alloc: Global) -> Result<(), Error<N::Error>> {
     both!(
         of,
         parse_recursive_type_group(alloc, r::read_group(alloc, &GROUP, 0)?.0)
@@ -204,6 +184,11 @@ pub fn rows(of: &mut Noter<Second>, alloc: Global) -> Made<()> {
             r::Imports::Single(v::IMPORT)
         )
     );
+    Ok(())
+}
+
+/// Tables.
+pub fn tables<N: Reencode + Notes>(of: &mut N, alloc: Global) -> Result<(), Error<N::Error>> {
     both!(
         of,
         parse_table(alloc, &mut RowSection::new(alloc), v::table())
@@ -215,13 +200,18 @@ pub fn rows(of: &mut Noter<Second>, alloc: Global) -> Made<()> {
     Ok(())
 }
 
-/// More rows.
-pub fn more_rows(of: &mut Noter<Second>, alloc: Global) -> Made<()> {
+/// A global, and an export.
+pub fn globals<N: Reencode + Notes>(of: &mut N, alloc: Global) -> Result<(), Error<N::Error>> {
     both!(
         of,
         parse_global(alloc, &mut RowSection::new(alloc), v::global()?)
     );
     both!(of, parse_export(&mut RowSection::new(alloc), v::EXPORT));
+    Ok(())
+}
+
+/// An element segment, and a data segment.
+pub fn elements<N: Reencode + Notes>(of: &mut N, alloc: Global) -> Result<(), Error<N::Error>> {
     both!(
         of,
         parse_element(alloc, &mut RowSection::new(alloc), v::element(alloc)?)
@@ -230,15 +220,15 @@ pub fn more_rows(of: &mut Noter<Second>, alloc: Global) -> Made<()> {
         of,
         parse_data(alloc, &mut RowSection::new(alloc), v::data_segment()?)
     );
+    Ok(())
+}
+
+/// A function's body, and a section of imports by its function, which asks for no import alone.
+pub fn imports<N: Reencode + Notes>(of: &mut N, alloc: Global) -> Result<(), Error<N::Error>> {
     both!(
         of,
         parse_function_body(alloc, &mut w::CodeSection::new(alloc, u32::MAX), v::BODY)
     );
-    Ok(())
-}
-
-/// A section of imports by its function, which asks for no import alone.
-pub fn imports(of: &mut Noter<Second>, alloc: Global) -> Made<()> {
     let rows = SectionReader::new(&IMPORTS)?;
     of.begin("parse_import_section");
     utils::parse_import_section(of, alloc, &mut RowSection::new(alloc), rows)

@@ -1,5 +1,5 @@
 //! The kind in which bodies of sections, rows, operators, composite types and values ask.
-use crate::noter::{Made, Noter, noted};
+use crate::noter::{Made, Noter, Notes, noted};
 use reencode_core::Reencode;
 use reencode_hooks::RoundtripReencoder;
 use reencode_items::ReencodeItems;

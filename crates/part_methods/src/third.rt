@@ -1,5 +1,5 @@
 //! The kind in which imports, references, block types, lists of types and constant expressions ask.
-use crate::noter::{Made, Noter, noted};
+use crate::noter::{Made, Noter, Notes, noted};
 use reencode_hooks::{Error, RoundtripReencoder};
 use reencode_items::ReencodeItems;
 use std::alloc::Global;
@@ -24,6 +24,17 @@ pub enum Way {
 /// Overrides what these hold, and maps operators in a way of its own.
 #[derive(Drop)]
 pub struct Third(pub Way);
+
+/// What maps operators in a way that can be chosen.
+pub trait Ways {
+    fn turn(&mut self, way: Way);
+}
+
+impl Ways for Noter<Third> {
+    fn turn(&mut self, way: Way) {
+        self.kind = Third(way);
+    }
+}
 
 impl ReencodeItems for Noter<Third> {
     fn table_type(&mut self, ty: r::TableType) -> Made<w::TableType> {

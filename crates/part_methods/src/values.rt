@@ -1,9 +1,6 @@
 //! The values that are mapped, one of each composite kind.
-ghost use Rattle.std.specs.Prelude.{◌≡◌, ◌∷◌, [], IfOk};
-
 use reencode_hooks::Error;
 use std::alloc::Global;
-use std::convert::Infallible;
 use wasm_leb::{List, NoMemory, ReadError};
 use wasm_read as r;
 use wasm_shapes::{CALL, Space};
@@ -59,9 +56,7 @@ pub const ARRAY: r::ArrayType = r::ArrayType(FIELD);
 pub const CONTINUATION: r::ContType = r::ContType(INDEX);
 
 /// A list of one item.
-pub fn one<T: Drop>(alloc: Global, item: T) -> Result<List<T>, NoMemory>
-    ensures { IfOk result (λ items. items ≡ item ∷ []) }
-{
+pub fn one<T: Drop>(alloc: Global, item: T) -> Result<List<T>, NoMemory> {
     let mut items = List::with_capacity(alloc, 1)?;
     items.push(item)?;
     Ok(items)
@@ -102,10 +97,11 @@ pub fn sub_type(alloc: Global) -> Result<r::SubType, NoMemory> {
 }
 
 /// The operator `call 0`.
-pub fn call<'a>(alloc: Global) -> Result<r::Operator<'a>, Error<Infallible>> {
-    r::Operator::new(CALL, one(alloc, r::Imm::Index(Space::Function, 0))?).ok_or(
-        Error::InvalidConstExpr,
-    )
+pub fn call<'a, E>(alloc: Global) -> Result<r::Operator<'a>, Error<E>> {
+    match r::Operator::new(CALL, one(alloc, r::Imm::Index(Space::Function, 0))?) {
+        Some(operator) => Ok(operator),
+        None => Err(Error::InvalidConstExpr),
+    }
 }
 
 pub const ACCESS: r::MemArg = r::MemArg {
@@ -176,12 +172,12 @@ pub fn functions<'a>(alloc: Global) -> Result<r::ElementItems<'a>, NoMemory> {
 }
 
 /// One expression.
-pub fn expressions<'a>(alloc: Global) -> Result<r::ElementItems<'a>, Error<Infallible>> {
+pub fn expressions<'a, E>(alloc: Global) -> Result<r::ElementItems<'a>, Error<E>> {
     Ok(r::ElementItems::Expressions(REFERENCE, one(alloc, expression()?)?))
 }
 
 /// A function at an offset in a table that is left out.
-pub fn element<'a>(alloc: Global) -> Result<r::Element<'a>, Error<Infallible>> {
+pub fn element<'a, E>(alloc: Global) -> Result<r::Element<'a>, Error<E>> {
     Ok(r::Element {
         kind: r::ElementKind::Active {
             table_index: None,
