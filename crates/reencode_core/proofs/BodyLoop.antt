@@ -6,11 +6,10 @@ use Rattle.wasm_shapes.specs.Tree.{Tree, normal}
 use Rattle.wasm_shapes.specs.Shape.{Shape}
 use Rattle.wasm_shapes.specs.Spells.{Is, Spelled, Spells}
 use Rattle.wasm_shapes.specs.Place.{Begins, BeginsNone}
-use Rattle.wasm_shapes.specs.Rows.{NoRows, rows_then}
+use Rattle.wasm_shapes.specs.Rows.{NoRows}
 use Rattle.wasm_shapes.specs.Module.{body, code_row}
 use Rattle.wasm_shapes.proofs.Unique.{unique}
-use Rattle.wasm_shapes.proofs.Begins.{none_at_end}
-use Rattle.wasm_shapes.proofs.Rows.{no_row, no_rows_behind, rows_then-append}
+use Rattle.wasm_shapes.proofs.Rows.{no_row, no_rows_behind}
 use Rattle.wasm_read.specs.Operations.{frame_row}
 use Rattle.wasm_read.specs.Reading.{Standing, place_of, ReadsNone, ReadsNoneOrWants, RowRead, RowMissing}
 use Rattle.wasm_leb.specs.declared.fault.Fault.{Fault}
@@ -20,11 +19,12 @@ use Rattle.std.proofs.Math.Seq.{take-length}
 use Rattle.wasm_write.specs.Bodies.{CodeRows}
 use Rattle.reencode_hooks.specs.declared.error.Error.{Error}
 use Rattle.reencode_hooks.specs.declared.error.Error.TheVariants.{ParseError, UserError, TooLarge, NoMemory}
-use Rattle.reencode_hooks.specs.Run.{Step, accepted, refused, and_then, ask}
+use Rattle.reencode_hooks.specs.Run.{accepted, refused, ask}
 use Rattle.reencode_hooks.specs.Walk.{walk}
 use Rattle.reencode_core.specs.Errors.{IfParse, IfRefused, placed_at}
-use Rattle.reencode_core.specs.Rows.{Asks, onto_rows, AcceptsRows, RowsBefore, GivesRow, locals, StopsBody, RefusesWhole, RefusesInside, GivesRows}
-use Rattle.reencode_core.proofs.RowLoop.{RowsDone, rows_more, before_more, onto_nothing, one_onto, rows_unread, rows_faulty, rows_refused_if, large_is_many}
+use Rattle.reencode_core.specs.Rows.{Asks, GivesRow, locals, StopsBody, RefusesWhole, RefusesInside, GivesRows}
+use Rattle.reencode_core.proofs.ManyLoop.{ManyDone, end_of_many, first_of_many, many_begun, many_more, none_of_many}
+use Rattle.reencode_core.proofs.RowLoop.{RowsDone, rows_more, rows_unread, rows_faulty, rows_refused_if, large_is_many}
 use Rattle.reencode_core.proofs.Known.{closed_fits, closed_large}
 use Rattle.reencode_core.specs.Bodies.{KeepsCode, GivesBody}
 
@@ -93,9 +93,8 @@ code_unread {reader = reader} r none = let less = r.counted in rows_missing (inl
 -- ---- locals and operators
 
 -- operators that fill these bytes
-pub record ManyLeft (bytes : List ℕ) (t : Tree) : Type 0 where
-  pub shaped : Is (Shape.many (Shape.op true)) t
-  pub spelled : Spelled t bytes
+abbrev pub ManyLeft : List ℕ → Tree → Type 0
+ManyLeft bytes = Spells (Shape.many (Shape.op true)) bytes
 
 -- a body is its locals and its operators
 pub body_is : {bytes rest : List ℕ} {l : Tree} → Begins locals bytes l rest → (t : Tree) → Spells body bytes t → (ops : Tree) × (t ≡ Tree.pair l ops) × ManyLeft rest ops
@@ -130,64 +129,26 @@ same_locals {rest = rest} {rest' = rest'} {l = l} {l' = l'} a b =
 -- ---- operators one behind another
 
 -- Operators were read and walked, and the others are read and walked from here.
-pub record OperatorsDone {S E : Type 0} (asked : Asks S E) (c : ℕ) (start : List ℕ) (s0 : S) (rest : List ℕ) (s : S) (made : List Tree) : Type 0 where
-  pub read : List Tree
-  pub before : RowsBefore (Shape.op true) start read rest
-  pub back : (t : Tree) → ManyLeft start t → (others : Tree) × (t ≡ rows_then read others) × ManyLeft rest others
-  pub accepts : AcceptsRows asked c s0 read made s
+abbrev pub OperatorsDone : {S E : Type 0} → Asks S E → ℕ → List ℕ → S → List ℕ → S → List Tree → Type 0
+OperatorsDone asked c = ManyDone asked c (Shape.op true)
 
 -- where an operator begins, the others stand behind it
 pub many_first : {bytes left : List ℕ} {t : Tree} → Begins (Shape.op true) bytes t left → (rows : Tree) → ManyLeft bytes rows → (others : Tree) × (rows ≡ Tree.cons t others) × ManyLeft left others
-many_first {bytes = bytes} {left = left} {t = t} there rows r = go rows r.shaped r.spelled
-  where
-    go : (rows : Tree) → Is (Shape.many (Shape.op true)) rows → Spelled rows bytes → (others : Tree) × (rows ≡ Tree.cons t others) × ManyLeft left others
-    go rows Is.nil p = let none : BeginsNone (Shape.op true) [] = none_at_end refl in absurd (none.none there.text left t there.spells (sym p ∙ there.reads))
-    go rows (Is.cons {t = v} {u = u} d d') p =
-        let both_ways : there.text ++ left ≡ p.0 ++ p.1 = sym there.reads ∙ p.2 in
-        let same : (there.text ≡ p.0) × (t ≡ v) = unique there.spells.shaped d there.text p.0 left p.1 refl (inl refl) there.spells.spelled p.3 both_ways in
-        let shifted : p.0 ++ left ≡ p.0 ++ p.1 = ap (λ (z : List ℕ). z ++ left) (sym same.0) ∙ both_ways in
-        let behind : left ≡ p.1 = append_cancel_left p.0 left p.1 shifted in
-        let P : List ℕ → Type 0 = λ z. Spelled u z in
-        (u, ap (λ (w : Tree). Tree.cons w u) (sym same.1), record { shaped = d'; spelled = subst P (sym behind) p.4 })
+many_first there = first_of_many refl refl refl there
 
 pub no_many : {bytes : List ℕ} → BeginsNone (Shape.op true) bytes → bytes ≢ [] → (t : Tree) → ManyLeft bytes t → ⊥
-no_many {bytes = bytes} none some t r = go t r.shaped r.spelled
-  where
-    go : (t : Tree) → Is (Shape.many (Shape.op true)) t → Spelled t bytes → ⊥
-    go t Is.nil p = some p
-    go t (Is.cons {t = v} d d') p = none.none p.0 p.1 v (record { shaped = d; spelled = p.3 }) p.2
+no_many none some = none_of_many none some
 
 pub many_none : (t : Tree) → ManyLeft [] t → t ≡ Tree.nil
-many_none t r = go t r.shaped r.spelled
-  where
-    go : (t : Tree) → Is (Shape.many (Shape.op true)) t → Spelled t [] → t ≡ Tree.nil
-    go t Is.nil p = refl
-    go t (Is.cons {t = v} d d') p =
-        let none : BeginsNone (Shape.op true) [] = none_at_end refl in absurd (none.none p.0 p.1 v (record { shaped = d; spelled = p.3 }) p.2)
+many_none t r = end_of_many {row = Shape.op true} refl refl t r
 
 module _ {S E : Type 0} (asked : Asks S E) (c : ℕ) where
   pub operators_begin : (start : List ℕ) (s : S) → OperatorsDone asked c start s start s []
-  operators_begin start s = record {
-    read = [];
-    before = record { text = []; shaped = Is.nil; spelled = refl; stands = refl };
-    back = λ t r. (t, refl, r);
-    accepts = λ others. onto_nothing asked (walk asked c s others);
-  }
+  operators_begin start s = many_begun asked c (Shape.op true) start s
 
   pub operators_more : {start rest left : List ℕ} {s0 s m : S} {made : List Tree} {t v : Tree} → OperatorsDone asked c start s0 rest s made → Begins (Shape.op true) rest t left →
       walk asked c s t ≡ accepted v m → OperatorsDone asked c start s0 left m (made ++ v ∷ [])
-  operators_more {s = s} {m = m} {made = made} {t = t} {v = v} d there e = record {
-    read = d.read ++ t ∷ [];
-    before = before_more d.before there;
-    back = λ u r.
-        let b = d.back u r in
-        let f = many_first there b.0 b.2 in
-        (f.0, b.1 ∙ ap (rows_then d.read) f.1 ∙ sym (rows_then-append d.read t f.0), f.2);
-    accepts = λ others.
-        let step : walk asked c s (Tree.cons t others) ≡ and_then (walk asked c m others) (λ u n. accepted (Tree.cons v u) n) = rw e refl in
-        rw (rows_then-append d.read t others)
-        (d.accepts (Tree.cons t others) ∙ ap (λ (r : Step S (Error E) Tree). onto_rows made r) step ∙ one_onto asked made v (walk asked c m others));
-  }
+  operators_more d there e = many_more asked c refl refl refl d there e
 
   -- ---- the body
 
