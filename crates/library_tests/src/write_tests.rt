@@ -288,6 +288,35 @@ fn segments(rt: HostRuntime) -> Made<()> {
     Ok(())
 }
 
+/// A module that takes a section of one body, which was made for so many bytes behind so many, and the length that the section
+/// knew.
+fn body_taken(alloc: Global, counted: usize, len: usize) -> Made<(Module, Option<usize>)> {
+    let mut module = Module::new(alloc, u32::MAX)?;
+    let mut code = CodeSection::with_room(alloc, u32::MAX, &module, counted, len);
+    code.function(&Function::new(alloc, &List::new(alloc))?)?;
+    let known = code.known_len();
+    module.take(code.into_rows())?;
+    Ok((module, known))
+}
+
+/// A section of bodies is taken over as one of segments is.
+#[test]
+fn bodies(rt: HostRuntime) -> Made<()> {
+    let want = [
+        0x00u8, 0x61, 0x73, 0x6d, 0x01, 0x00, 0x00, 0x00, 0x0a, 0x03, 0x01, 0x01, 0x00,
+    ];
+    for (counted, len) in [(1, 3), (1, 9), (0, 0)] {
+        let (module, known) = body_taken(rt.alloc(), counted, len)?;
+        assert_eq!(rt;
+            module.as_slice(),
+            want.as_slice(),
+            "of {counted} and {len}"
+        );
+        assert_eq!(rt; known, Some(3));
+    }
+    Ok(())
+}
+
 /// A structure of two fields.
 fn structure(alloc: Global) -> Result<SubType, NoMemory> {
     let short = FieldType {

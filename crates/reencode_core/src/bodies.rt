@@ -133,9 +133,16 @@ macro_rules! parse_section {
             }
             SectionId::Code => {
                 let rows = r::CodeSectionReader::new($body)?;
-                let mut code = w::CodeSection::new($alloc, $module.ceiling());
+                let ceiling = $module.ceiling();
+                let mut code = w::CodeSection::with_room(
+                    $alloc,
+                    ceiling,
+                    $module,
+                    rows.place(),
+                    $body.len(),
+                );
                 let mapped = $reencoder.parse_code_section($alloc, &mut code, rows);
-                add_section($module, mapped, &code)
+                take_section($module, mapped, code.into_rows())
             }
             SectionId::Data => {
                 let rows = r::DataSectionReader::new($body)?;

@@ -11,6 +11,7 @@ ghost use Rattle.wasm_write.specs.Bodies.{code_tree, function_body, with_row};
 use crate::bodies::Function;
 use crate::fault::WriteFault;
 use crate::fields::write_behind;
+use crate::module::Module;
 use crate::row_section::{RowOf, RowSection};
 use crate::section::Section;
 use std::alloc::Global;
@@ -67,6 +68,30 @@ impl CodeSection {
             ceiling,
             rows: RowSection::new(alloc),
         }
+    }
+
+    /// A section without rows, with room for a body of `len` bytes of which the first `counted` are the number of the rows: see
+    /// `RowSection::with_room`.
+    pub fn with_room(
+        alloc: Global,
+        ceiling: u32,
+        module: &Module,
+        counted: usize,
+        len: usize,
+    ) -> Self
+        ensures { result ≡ record { ceiling = ceiling; rows = [] } }
+    {
+        CodeSection {
+            ceiling,
+            rows: RowSection::with_room(alloc, module, counted, len),
+        }
+    }
+
+    /// Its rows, as a section that `Module::take` takes.
+    pub fn into_rows(self) -> RowSection<kinds::Code>
+        ensures { result ≡ self.rows }
+    {
+        self.rows
     }
 
     /// Adds a function. A refusal changes nothing.

@@ -64,13 +64,13 @@ pub returns-in_err-rows-in-Code : goal.returns-in_err-rows-in-Code
 returns-in_err-rows-in-Code g c = section_unread g.T.ReencodeIndices c.in-Code.is refl _ c.in_err-rows-in-Code.ensures.err _ c.from_residual-in_err-rows-in-Code.ensures.1
 
 pub returns-in_ok-rows-in-Code : goal.returns-in_ok-rows-in-Code
-returns-in_ok-rows-in-Code g c = code_done g.T.ReencodeIndices _ _ c.in-Code.is c.new-code.ensures c.ceiling.ensures c.in_ok-rows-in-Code.ensures.ok c.parse_code_section-mapped.ensures c.add_section-in-Code.ensures
+returns-in_ok-rows-in-Code g c = code_done g.T.ReencodeIndices _ _ c.in-Code.is c.with_room-code.ensures c.ceiling-ceiling.ensures c.in_ok-rows-in-Code.ensures.ok c.parse_code_section-mapped.ensures (rw c.into_rows.ensures at c.take_section.ensures)
 
 pub returns-in_err-rows-in-Data : goal.returns-in_err-rows-in-Data
 returns-in_err-rows-in-Data g c = section_unread g.T.ReencodeIndices c.in-Data.is refl _ c.in_err-rows-in-Data.ensures.err _ c.from_residual-in_err-rows-in-Data.ensures.1
 
 pub returns-in_ok-rows-in-Data : goal.returns-in_ok-rows-in-Data
-returns-in_ok-rows-in-Data g c = section_done g.T.ReencodeIndices c.in-Data.is refl _ _ c.with_room-segments.ensures c.in_ok-rows-in-Data.ensures.ok c.parse_data_section-mapped.ensures c.take_section.ensures
+returns-in_ok-rows-in-Data g c = section_done g.T.ReencodeIndices c.in-Data.is refl _ _ c.with_room-segments.ensures c.in_ok-rows-in-Data.ensures.ok c.parse_data_section-mapped.ensures c.take_section-in-Data.ensures
 
 pub returns-in_err-item-in-DataCount : goal.returns-in_err-item-in-DataCount
 returns-in_err-item-in-DataCount g c = item_unread g.T.ReencodeIndices c.in-DataCount.is refl _ c.in_err-item-in-DataCount.ensures.err _ c.from_residual-in_err-item-in-DataCount.ensures.1
