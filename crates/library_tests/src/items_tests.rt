@@ -1,5 +1,7 @@
 //! Each call on an item, as a method and as a function, at a renamer that makes type 1 type 11, function 2 function 22,
 //! memory 0 memory 10 and tag 3 tag 33.
+ghost use Rattle.std.specs.Prelude.{◌≡◌, ◌∷◌, [], IfOk};
+
 use reencode_hooks::{Asked, Error, Renamer, RoundtripReencoder};
 use reencode_items::{ReencodeItems, utils};
 use std::alloc::Global;
@@ -175,38 +177,56 @@ fn function(alloc: Global) -> Result<r::FuncType, NoMemory> {
 
 /// The calls on lists of types as methods.
 fn lists_by_methods<R: ReencodeItems>(
-    reencoder: &mut R,
+    of: &mut R,
     alloc: Global,
-) -> Result<[bool; 6], Error<R::Error>> {
-    let types = reencoder.val_types(alloc, val_types(alloc)?)?;
-    let function = reencoder.func_type(alloc, function(alloc)?)?;
-    let fields = reencoder.struct_type(alloc, fields(alloc)?)?.fields;
-    let sub_type = reencoder.sub_type(alloc, structure(alloc)?)?;
-    let composite = reencoder.composite_type(alloc, structure(alloc)?.composite_type)?;
+) -> Result<[bool; 3], Error<R::Error>> {
+    let types = of.val_types(alloc, val_types(alloc)?)?;
+    let function = of.func_type(alloc, function(alloc)?)?;
     Ok([
         types.as_slice() == [w::ValType::Ref(WRITTEN), w::ValType::F64].as_slice(),
         function.params.is_empty(),
         function.results.as_slice() == [w::ValType::I32].as_slice(),
+    ])
+}
+
+/// The calls on structures as methods.
+fn structures_by_methods<R: ReencodeItems>(
+    of: &mut R,
+    alloc: Global,
+) -> Result<[bool; 3], Error<R::Error>> {
+    let fields = of.struct_type(alloc, fields(alloc)?)?.fields;
+    let sub_type = of.sub_type(alloc, structure(alloc)?)?;
+    let composite = of.composite_type(alloc, structure(alloc)?.composite_type)?;
+    Ok([
         fields.as_slice() == [WRITTEN_FIELD].as_slice(),
         sub_type.supertype_idxs.as_slice() == [11].as_slice(),
         composite.shared,
     ])
 }
 
-/// The same as functions.
+/// The calls on lists of types as functions.
 fn lists_by_functions<R: ReencodeItems>(
-    reencoder: &mut R,
+    of: &mut R,
     alloc: Global,
-) -> Result<[bool; 6], Error<R::Error>> {
-    let types = utils::val_types(reencoder, alloc, val_types(alloc)?)?;
-    let function = utils::func_type(reencoder, alloc, function(alloc)?)?;
-    let fields = utils::struct_type(reencoder, alloc, fields(alloc)?)?.fields;
-    let sub_type = utils::sub_type(reencoder, alloc, structure(alloc)?)?;
-    let composite = utils::composite_type(reencoder, alloc, structure(alloc)?.composite_type)?;
+) -> Result<[bool; 3], Error<R::Error>> {
+    let types = utils::val_types(of, alloc, val_types(alloc)?)?;
+    let function = utils::func_type(of, alloc, function(alloc)?)?;
     Ok([
         types.as_slice() == [w::ValType::Ref(WRITTEN), w::ValType::F64].as_slice(),
         function.params.is_empty(),
         function.results.as_slice() == [w::ValType::I32].as_slice(),
+    ])
+}
+
+/// The calls on structures as functions.
+fn structures_by_functions<R: ReencodeItems>(
+    of: &mut R,
+    alloc: Global,
+) -> Result<[bool; 3], Error<R::Error>> {
+    let fields = utils::struct_type(of, alloc, fields(alloc)?)?.fields;
+    let sub_type = utils::sub_type(of, alloc, structure(alloc)?)?;
+    let composite = utils::composite_type(of, alloc, structure(alloc)?.composite_type)?;
+    Ok([
         fields.as_slice() == [WRITTEN_FIELD].as_slice(),
         sub_type.supertype_idxs.as_slice() == [11].as_slice(),
         composite.shared,
@@ -217,10 +237,12 @@ fn lists_by_functions<R: ReencodeItems>(
 fn lists<R: ReencodeItems + Counts>(
     of: &mut R,
     alloc: Global,
-) -> Result<[bool; 3], Error<R::Error>> {
+) -> Result<[bool; 5], Error<R::Error>> {
     Ok([
-        lists_by_methods(of, alloc)? == [true; 6],
-        lists_by_functions(of, alloc)? == [true; 6],
+        lists_by_methods(of, alloc)? == [true; 3],
+        structures_by_methods(of, alloc)? == [true; 3],
+        lists_by_functions(of, alloc)? == [true; 3],
+        structures_by_functions(of, alloc)? == [true; 3],
         of.asked(Space::Type_) == 16 + 10,
     ])
 }
@@ -394,39 +416,65 @@ fn parts<R: ReencodeItems + Counts>(of: &mut R) -> Result<[bool; 4], Error<R::Er
 }
 
 /// A list of one item.
-fn one<T: Drop>(alloc: Global, item: T) -> Result<List<T>, NoMemory> {
+fn one<T: Drop>(alloc: Global, item: T) -> Result<List<T>, NoMemory>
+    ensures { IfOk result (λ items. items ≡ item ∷ []) }
+{
     let mut items = List::with_capacity(alloc, 1)?;
     items.push(item)?;
     Ok(items)
 }
 
-/// Immediates whose parts are mapped.
+/// Immediates that are one part, which is mapped.
 fn immediates_by_parts<R: ReencodeItems>(
     of: &mut R,
     alloc: Global,
-) -> Result<[bool; 5], Error<R::Error>> {
+) -> Result<[bool; 2], Error<R::Error>> {
     let access = of.immediate(alloc, r::Imm::Mem(ACCESS))?;
-    let types = of.immediate(
-        alloc,
-        r::Imm::Types(one(alloc, r::ValType::Ref(REFERENCE))?),
-    )?;
-    let catches = utils::immediate(of, alloc, r::Imm::Catches(one(alloc, CATCH)?))?;
-    let handlers = of.immediate(alloc, r::Imm::Handlers(one(alloc, HANDLE)?))?;
     let bits = of.immediate(alloc, r::Imm::Eight(r::Ieee64(7)))?;
     Ok([
         matches!(&access, w::Imm::Mem(access) if *access == WRITTEN_ACCESS),
-        matches!(&types, w::Imm::Types(types) if types.as_slice() == [w::ValType::Ref(WRITTEN)].as_slice()),
-        matches!(&catches, w::Imm::Catches(catches) if catches.as_slice() == [WRITTEN_CATCH].as_slice()),
-        matches!(&handlers, w::Imm::Handlers(handlers) if handlers.as_slice() == [WRITTEN_HANDLE].as_slice()),
         matches!(&bits, w::Imm::Eight(bits) if *bits == w::Ieee64(7)),
     ])
 }
 
-/// Immediates that hold block types and heap types, and one that stays.
+/// Immediates that are lists of parts.
+fn immediates_by_lists<R: ReencodeItems>(
+    of: &mut R,
+    alloc: Global,
+) -> Result<[bool; 2], Error<R::Error>> {
+    let types = r::Imm::Types(one(alloc, r::ValType::Ref(REFERENCE))?);
+    let types = of.immediate(alloc, types)?;
+    let catches = r::Imm::Catches(one(alloc, CATCH)?);
+    let catches = utils::immediate(of, alloc, catches)?;
+    Ok([
+        matches!(&types, w::Imm::Types(types) if types.as_slice() == [w::ValType::Ref(WRITTEN)].as_slice()),
+        matches!(&catches, w::Imm::Catches(catches) if catches.as_slice() == [WRITTEN_CATCH].as_slice()),
+    ])
+}
+
+/// An immediate that is a list of handlers, and one that stays.
+fn immediates_by_handlers<R: ReencodeItems>(
+    of: &mut R,
+    alloc: Global,
+) -> Result<[bool; 2], Error<R::Error>> {
+    let handlers = r::Imm::Handlers(one(alloc, HANDLE)?);
+    let handlers = of.immediate(alloc, handlers)?;
+    let labels = r::Imm::Labels {
+        targets: one(alloc, 3)?,
+        default: 1,
+    };
+    let labels = of.immediate(alloc, labels)?;
+    Ok([
+        matches!(&handlers, w::Imm::Handlers(handlers) if handlers.as_slice() == [WRITTEN_HANDLE].as_slice()),
+        matches!(&labels, w::Imm::Labels { targets, default: 1 } if targets.as_slice() == [3].as_slice()),
+    ])
+}
+
+/// Immediates that hold block types and heap types.
 fn immediates_by_types<R: ReencodeItems>(
     of: &mut R,
     alloc: Global,
-) -> Result<[bool; 4], Error<R::Error>> {
+) -> Result<[bool; 3], Error<R::Error>> {
     let block = of.immediate(alloc, r::Imm::Block(r::BlockType::FuncType(1)))?;
     let heap = of.immediate(alloc, r::Imm::Heap(r::HeapType::Concrete(ONE)))?;
     let cast = r::Imm::Cast {
@@ -438,12 +486,6 @@ fn immediates_by_types<R: ReencodeItems>(
         },
     };
     let cast = utils::immediate(of, alloc, cast)?;
-    let targets = one(alloc, 3)?;
-    let labels = r::Imm::Labels {
-        targets,
-        default: 1,
-    };
-    let labels = of.immediate(alloc, labels)?;
     Ok([
         matches!(&block, w::Imm::Block(w::BlockType::FunctionType(11))),
         matches!(&heap, w::Imm::Heap(w::HeapType::Concrete(11))),
@@ -458,7 +500,6 @@ fn immediates_by_types<R: ReencodeItems>(
                 }
             }
         ),
-        matches!(&labels, w::Imm::Labels { targets, default: 1 } if targets.as_slice() == [3].as_slice()),
     ])
 }
 
@@ -466,10 +507,12 @@ fn immediates_by_types<R: ReencodeItems>(
 fn immediates<R: ReencodeItems + Counts>(
     of: &mut R,
     alloc: Global,
-) -> Result<[bool; 5], Error<R::Error>> {
+) -> Result<[bool; 7], Error<R::Error>> {
     Ok([
-        immediates_by_parts(of, alloc)? == [true; 5],
-        immediates_by_types(of, alloc)? == [true; 4],
+        immediates_by_parts(of, alloc)? == [true; 2],
+        immediates_by_lists(of, alloc)? == [true; 2],
+        immediates_by_handlers(of, alloc)? == [true; 2],
+        immediates_by_types(of, alloc)? == [true; 3],
         of.asked(Space::Memory) == 2 + 1,
         of.asked(Space::Tag) == 4 + 2,
         of.asked(Space::Type_) == 42 + 5,
@@ -489,24 +532,33 @@ fn calls(instruction: &w::Instruction<'_>) -> bool {
         && matches!(instruction.imms(), [w::Imm::Index(Space::Function, 22)])
 }
 
+/// Immediates that are one index: function 2 is to become function 22, and a local stays.
+fn immediates_by_indices<R: ReencodeItems>(
+    of: &mut R,
+    alloc: Global,
+) -> Result<[bool; 2], Error<R::Error>> {
+    let index = of.immediate(alloc, r::Imm::Index(Space::Function, 2))?;
+    let local = utils::immediate(of, alloc, r::Imm::Local(2))?;
+    Ok([
+        matches!(index, w::Imm::Index(Space::Function, 22)),
+        matches!(local, w::Imm::Local(2)),
+    ])
+}
+
 /// The calls on operators, as methods and as functions: `call 2` is to become `call 22`.
 fn operators_by_calls<R: ReencodeItems>(
-    reencoder: &mut R,
+    of: &mut R,
     alloc: Global,
-) -> Result<[bool; 6], Error<R::Error>> {
-    let index = reencoder.immediate(alloc, r::Imm::Index(Space::Function, 2))?;
-    let local = utils::immediate(reencoder, alloc, r::Imm::Local(2))?;
+) -> Result<[bool; 4], Error<R::Error>> {
     let body = r::FunctionBody {
         bytes: &[0x00, 0x10, 0x02, 0x10, 0x02, 0x10, 0x02, 0x0b],
     };
     let mut reader = body.operators()?;
-    let first = reencoder.parse_instruction(alloc, &mut reader)?;
-    let second = utils::parse_instruction(reencoder, alloc, &mut reader)?;
+    let first = of.parse_instruction(alloc, &mut reader)?;
+    let second = utils::parse_instruction(of, alloc, &mut reader)?;
     let third = reader.read(alloc)?;
-    let third = utils::instruction(reencoder, alloc, third)?;
+    let third = utils::instruction(of, alloc, third)?;
     Ok([
-        matches!(index, w::Imm::Index(Space::Function, 22)),
-        matches!(local, w::Imm::Local(2)),
         calls(&first),
         calls(&second),
         calls(&third),
@@ -553,22 +605,28 @@ fn expressions_by_calls<R: ReencodeItems>(
 fn operators<R: ReencodeItems + Counts>(
     of: &mut R,
     alloc: Global,
-) -> Result<[bool; 3], Error<R::Error>> {
-    let by_calls = operators_by_calls(of, alloc)? == [true; 6];
+) -> Result<[bool; 4], Error<R::Error>> {
+    let by_indices = immediates_by_indices(of, alloc)? == [true; 2];
+    let by_calls = operators_by_calls(of, alloc)? == [true; 4];
     let is_asked = of.asked(Space::Function) == 2 + 4;
     expressions_by_calls(of, alloc)?;
-    Ok([by_calls, is_asked, of.asked(Space::Function) == 6 + 2])
+    Ok([
+        by_indices,
+        by_calls,
+        is_asked,
+        of.asked(Space::Function) == 6 + 2,
+    ])
 }
 
 /// Which calls answer what they are to.
 #[derive(Clone, Copy, PartialEq, Debug)]
 struct Answered {
     types: [bool; 8],
-    lists: [bool; 3],
+    lists: [bool; 5],
     externals: [bool; 4],
     parts: [bool; 4],
-    immediates: [bool; 5],
-    operators: [bool; 3],
+    immediates: [bool; 7],
+    operators: [bool; 4],
 }
 
 /// All of them. To hand a renamer to a function of any reencoder costs its check some twenty seconds, so this is done once.
@@ -592,11 +650,11 @@ fn items(rt: HostRuntime) -> Result<(), NoMemory> {
     let answers = answers(&mut renamer, rt.alloc()).ok();
     let right = Answered {
         types: [true; 8],
-        lists: [true; 3],
+        lists: [true; 5],
         externals: [true; 4],
         parts: [true; 4],
-        immediates: [true; 5],
-        operators: [true; 3],
+        immediates: [true; 7],
+        operators: [true; 4],
     };
     assert_eq!(rt; answers, Some(right));
     Ok(())

@@ -1,4 +1,7 @@
 //! What the methods of items ask.
+ghost use Rattle.std.specs.Prelude.{IsSome};
+ghost use Rattle.wasm_read.specs.Immediates.{imm_kind};
+
 use crate::noter::{Notes, both};
 use crate::third::{Way, Ways};
 use crate::values as v;
@@ -33,14 +36,40 @@ pub fn values<N: ReencodeItems + Notes>(of: &mut N) -> Result<(), Error<N::Error
     Ok(())
 }
 
+/// The line of an immediate, which is given twice.
+fn immediate<N: ReencodeItems + Notes>(
+    of: &mut N,
+    alloc: Global,
+    imm: Imm<'_>,
+    again: Imm<'_>,
+) -> Result<(), Error<N::Error>>
+    requires first { IsSome (imm_kind imm) }
+    requires second { IsSome (imm_kind again) }
+{
+    of.begin("immediate");
+    of.immediate(alloc, imm)?;
+    of.note("|");
+    utils::immediate(of, alloc, again)?;
+    Ok(())
+}
+
+/// The line of an immediate.
+macro_rules! line {
+    ($noter:ident, $alloc:ident, $imm:expr) => {
+        immediate($noter, $alloc, $imm, $imm)?
+    };
+}
+
 /// Immediates.
 pub fn immediates<N: ReencodeItems + Notes>(
     of: &mut N,
     alloc: Global,
 ) -> Result<(), Error<N::Error>> {
-    both!(of, immediate(alloc, Imm::Block(r::BlockType::Empty)));
-    both!(of, immediate(alloc, Imm::Types(v::one(alloc, v::VALUE)?)));
-    both!(of, immediate(alloc, Imm::Mem(v::ACCESS)));
+    line!(of, alloc, Imm::Block(r::BlockType::Empty));
+    line!(of, alloc, Imm::Types(v::one(alloc, v::VALUE)?));
+    line!(of, alloc, Imm::Mem(v::ACCESS));
+    line!(of, alloc, Imm::Four(r::Ieee32(0)));
+    line!(of, alloc, Imm::Eight(r::Ieee64(0)));
     Ok(())
 }
 
@@ -49,32 +78,19 @@ pub fn more_immediates<N: ReencodeItems + Notes>(
     of: &mut N,
     alloc: Global,
 ) -> Result<(), Error<N::Error>> {
-    both!(of, immediate(alloc, Imm::Four(r::Ieee32(0))));
-    both!(of, immediate(alloc, Imm::Eight(r::Ieee64(0))));
-    both!(of, immediate(alloc, Imm::Heap(v::HEAP)));
+    line!(of, alloc, Imm::Heap(v::HEAP));
+    line!(of, alloc, Imm::Catches(v::one(alloc, v::CATCH)?));
+    line!(of, alloc, v::CAST);
+    line!(of, alloc, Imm::Handlers(v::one(alloc, v::HANDLE)?));
+    line!(of, alloc, Imm::Index(Space::Function, 0));
     Ok(())
 }
 
-/// The last immediates.
-pub fn last_immediates<N: ReencodeItems + Notes>(
-    of: &mut N,
-    alloc: Global,
-) -> Result<(), Error<N::Error>> {
-    both!(of, immediate(alloc, Imm::Catches(v::one(alloc, v::CATCH)?)));
-    both!(of, immediate(alloc, v::CAST));
-    both!(
-        of,
-        immediate(alloc, Imm::Handlers(v::one(alloc, v::HANDLE)?))
-    );
-    Ok(())
-}
-
-/// An index, and the operator at the front of a body.
+/// The operator at the front of a body.
 pub fn operators<N: ReencodeItems + Notes>(
     of: &mut N,
     alloc: Global,
 ) -> Result<(), Error<N::Error>> {
-    both!(of, immediate(alloc, Imm::Index(Space::Function, 0)));
     both!(of, parse_instruction(alloc, &mut v::BODY.operators()?));
     Ok(())
 }

@@ -43,7 +43,6 @@ fn by_parts<N: Reencode + Notes>(of: &mut N, alloc: Global) -> Result<(), Error<
     items::values(of)?;
     items::immediates(of, alloc)?;
     items::more_immediates(of, alloc)?;
-    items::last_immediates(of, alloc)?;
     items::operators(of, alloc)
 }
 

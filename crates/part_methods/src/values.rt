@@ -1,4 +1,6 @@
 //! The values that are mapped, one of each composite kind.
+ghost use Rattle.std.specs.Prelude.{◌≡◌, ◌∷◌, [], IfOk};
+
 use reencode_hooks::Error;
 use std::alloc::Global;
 use wasm_leb::{List, NoMemory, ReadError};
@@ -56,7 +58,9 @@ pub const ARRAY: r::ArrayType = r::ArrayType(FIELD);
 pub const CONTINUATION: r::ContType = r::ContType(INDEX);
 
 /// A list of one item.
-pub fn one<T: Drop>(alloc: Global, item: T) -> Result<List<T>, NoMemory> {
+pub fn one<T: Drop>(alloc: Global, item: T) -> Result<List<T>, NoMemory>
+    ensures { IfOk result (λ items. items ≡ item ∷ []) }
+{
     let mut items = List::with_capacity(alloc, 1)?;
     items.push(item)?;
     Ok(items)
