@@ -48,7 +48,8 @@ pub fn add_marks(
     marks: Marks<'_>,
 ) -> Result<Vec<u8>, Error<Infallible>>
     ensures { IfOk result (λ out. IsInterspersed
-        (behind marks.behind (custom_row marks.name.now marks.contents.now)) bytes.now out.items) }
+        (behind marks.entry.behind
+        (custom_row marks.entry.name.now marks.entry.contents.now)) bytes.now out.items) }
 {
     let mut reencoder = Adding {
         reencoder: RoundtripReencoder,

@@ -49,11 +49,10 @@ refused_within (Err x) s m k e h = cc
 
 module _ {S R E : Type 0} (reply : S → Visit → Result ℕ E) (next : S → Visit → S) (adds : S → Option SectionId → Option SectionId → List SectionRow)
     (sections : R → Option SectionId → Option SectionId → List SectionRow) where
-
   refuses_within : (e : Error E) (s m : S) (k : R) (v : Visit) (c : ℕ) (rows more : List SectionRow)
       → RefusesSection reply next s m v c rows e
       → RefusesSection {S = Adding S R} (λ t w. reply t.reencoder w) (λ t w. record t { reencoder = next t.reencoder w })
-        (record { reencoder = s; sections = k }) (record { reencoder = m; sections = k }) v c (rows ++ more) e
+      (record { reencoder = s; sections = k }) (record { reencoder = m; sections = k }) v c (rows ++ more) e
   refuses_within (TooLarge size) s m k v c rows more h = too_large_front more h
   refuses_within NoMemory s m k v c rows more h = tt
   refuses_within e s m k v c rows more h = refused_within (reply s v) (next s v) m k e h
@@ -75,7 +74,7 @@ module _ {S R E : Type 0} (reply : S → Visit → Result ℕ E) (next : S → V
 
   rule_refuses : (s m : S) (k : R) (v : Visit) (c : ℕ) (rows more : List SectionRow) (fault : WriteFault) → IfTooLarge fault (HasTooLarge c more)
       → RefusesSection {S = Adding S R} (λ t w. reply t.reencoder w) (λ t w. record t { reencoder = next t.reencoder w })
-        (record { reencoder = s; sections = k }) (record { reencoder = m; sections = k }) v c (rows ++ more) (error_of_write fault)
+      (record { reencoder = s; sections = k }) (record { reencoder = m; sections = k }) v c (rows ++ more) (error_of_write fault)
   rule_refuses s m k v c rows more (write.TooLarge size) h = too_large_behind rows h
   rule_refuses s m k v c rows more write.NoMemory h = tt
 

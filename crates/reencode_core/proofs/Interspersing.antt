@@ -10,11 +10,11 @@ use Rattle.wasm_shapes.proofs.OwnAnswers.{fill_own}
 use Rattle.wasm_write.specs.Sections.{SectionRow}
 use Rattle.reencode_hooks.specs.declared.error.Error.{Error}
 use Rattle.reencode_hooks.specs.Hooks.{index_of}
-use Rattle.reencode_hooks.specs.Run.{Step, accepted, refused, and_then, answered, run, state_after}
+use Rattle.reencode_hooks.specs.Run.{accepted, run, state_after}
+use Rattle.reencode_core.specs.Rows.{Asks}
 use Rattle.reencode_core.specs.Weave.{Puts, added, put_before, woven_from}
 use Rattle.reencode_core.specs.Woven.{GivesWovenBytes}
 use Rattle.reencode_core.specs.Interspersed.{IsInterspersed, interspersed, interspersed_from}
-use Rattle.reencode_core.proofs.RuleRuns.{stays, ran}
 use Rattle.reencode_core.proofs.Weaves.{weave_is_run}
 
 -- ---- a filled section is told of as it was
@@ -42,71 +42,53 @@ module _ {S : Type 0} (put : Puts S Tree) (s : S) where
   interspersed-aimed w zero o t last = refl
   interspersed-aimed w (suc n) o t last = refl
 
--- ---- the state stays
-
-module _ {S E : Type 0} (reply : S → Visit → Result ℕ E) where
-  then_stays : {A B : Type 0} (w : Step S (Error E) A) (next : A → S → Step S (Error E) B) (s : S) → state_after w ≡ s → ((a : A) → state_after (next a s) ≡ s) → state_after (and_then w next) ≡ s
-  then_stays (accepted a k) next s e more = ap (λ z. state_after (next a z)) e ∙ more a
-  then_stays (refused x k) next s e more = e
-
-  answer_stays : (r : Result ℕ E) (s : S) → state_after (answered r s) ≡ s
-  answer_stays (Ok n) s = refl
-  answer_stays (Err x) s = refl
-
-  run_stays : (s : S) (vs : List Visit) → state_after (run (stays reply) s vs) ≡ s
-  run_stays s [] = refl
-  run_stays s (v ∷ vs) =
-      then_stays (answered (reply s v) s) (λ n m. and_then (run (stays reply) m vs) (λ ns k. accepted (n ∷ ns) k)) s (answer_stays (reply s v) s)
-      (λ n. then_stays (run (stays reply) s vs) (λ ns k. accepted (n ∷ ns) k) s (run_stays s vs) (λ ns. refl))
-
-  module _ (put : Puts S Tree) where
-    -- what is put is put in the one state
-    woven_stays : (s : S) (t : Tree) (answers : List ℕ) (last : Option SectionId) → woven_from (stays reply) put last s t answers ≡ interspersed_from (put s) last (fill t answers)
-    woven_stays s (Tree.pair t u) answers last =
-        ap₂ Tree.pair (woven_stays s t answers None)
-        (ap (λ z. woven_from (stays reply) put None z u (after t answers)) (run_stays s (visits_from None t)) ∙ woven_stays s u (after t answers) None)
-    woven_stays s Tree.finish answers last = refl
-    woven_stays s (Tree.also t u) answers last =
-        let own : List ℕ = drop (length (before None t)) answers in
-        ap₂ (λ vs z. alsos vs (Tree.also (fill t own) z)) (sym (put_before-fill put s t own last))
-        (ap (λ z. woven_from (stays reply) put (kind last t) z u (after t own)) (run_stays s (before last t ++ visits_from None t)) ∙ woven_stays s u (after t own) (kind last t)
-        ∙ ap (λ z. interspersed_from (put s) z (fill u (after t own))) (sym (kind-fill t own last)))
-    woven_stays s (Tree.left w o t) answers last = interspersed-aimed put s w (get_or (after t answers) 0 0) (fill o (drop 1 (after t answers))) (fill t answers) last
-    woven_stays s t answers last = refl
-
--- ---- each index is its own answer
+-- ---- each index is its own answer, and the state stays
 
 asked_is : (v : Visit) → index_of v ≡ asked_index v
 asked_is (Index p i) = refl
 asked_is (Outer p k i) = refl
 asked_is _ = refl
 
-module _ {E : Type 0} (reply : Visit → Result ℕ E) (same : (v : Visit) → reply v ≡ Ok (index_of v)) where
-  own_answers : (vs : List Visit) (given : List ℕ) → map reply vs ≡ map Ok given → map asked_index vs ≡ given
-  own_answers [] [] e = refl
-  own_answers [] (g ∷ gs) e = absurd cc
-  own_answers (v ∷ vs) [] e = absurd cc
-  own_answers (v ∷ vs) (g ∷ gs) e =
-      let first : reply v ≡ Ok g = cc in
-      let rest : map reply vs ≡ map Ok gs = cc in
-      let is : index_of v ≡ g = let h = same v in cc in
-      ap₂ (λ (n : ℕ) (ns : List ℕ). n ∷ ns) (sym (asked_is v) ∙ is) (own_answers vs gs rest)
+module _ {S E : Type 0} (asked : Asks S E) (same : (s : S) (v : Visit) → asked s v ≡ accepted (index_of v) s) where
+  own_answer : (s : S) (v : Visit) → asked s v ≡ accepted (asked_index v) s
+  own_answer s v = same s v ∙ ap (λ (n : ℕ). accepted n s) (asked_is v)
 
--- ---- what comes out
+  runs : (s : S) (vs : List Visit) → run asked s vs ≡ accepted (map asked_index vs) s
+  runs s [] = refl
+  runs s (v ∷ vs) = rw (own_answer s v, runs s vs) refl
 
-module _ {S E A : Type 0} (reply : S → Visit → Result ℕ E) (adds : Puts S SectionRow) {ceiling : ℕ} {bytes : List ℕ} {s m : S} {view : A → List ℕ} where
-  -- where each index is its own answer, the reading, and between its sections what is added
-  pub only_added : ((v : Visit) → reply s v ≡ Ok (index_of v)) → (r : Result A (Error E)) → GivesWovenBytes (stays reply) adds ceiling bytes s m r view →
-      IfOk r (λ out. IsInterspersed (adds s) bytes (view out))
-  only_added same (Ok out) g =
-      let p = g.readable in
-      let q = g.reading p.0 p.1 in
-      let a = (weave_is_run (stays reply)).forth (added adds) ceiling s m p.0 q.0 q.1 in
-      let own : map asked_index (visits p.0) ≡ a.given = own_answers (reply s) same (visits p.0) a.given (ran reply s (visits p.0) a.given m a.ran) in
-      let filled : fill p.0 a.given ≡ p.0 = ap (fill p.0) (sym own) ∙ fill_own p.0 in
-      record {
-        tree = p.0;
-        reading = p.1;
-        spelled = q.2 ∙ ap normal (sym a.wove ∙ (woven_stays reply (added adds) s p.0 a.given None ∙ ap (interspersed (adds s)) filled));
-      }
-  only_added same (Err e) g = tt
+  run_stays : (s : S) (vs : List Visit) → state_after (run asked s vs) ≡ s
+  run_stays s vs = ap state_after (runs s vs)
+
+  module _ (put : Puts S Tree) where
+    -- what is put is put in the one state
+    woven_stays : (s : S) (t : Tree) (answers : List ℕ) (last : Option SectionId) → woven_from asked put last s t answers ≡ interspersed_from (put s) last (fill t answers)
+    woven_stays s (Tree.pair t u) answers last =
+        ap₂ Tree.pair (woven_stays s t answers None)
+        (ap (λ z. woven_from asked put None z u (after t answers)) (run_stays s (visits_from None t)) ∙ woven_stays s u (after t answers) None)
+    woven_stays s Tree.finish answers last = refl
+    woven_stays s (Tree.also t u) answers last =
+        let own : List ℕ = drop (length (before None t)) answers in
+        ap₂ (λ vs z. alsos vs (Tree.also (fill t own) z)) (sym (put_before-fill put s t own last))
+        (ap (λ z. woven_from asked put (kind last t) z u (after t own)) (run_stays s (before last t ++ visits_from None t)) ∙ woven_stays s u (after t own) (kind last t)
+        ∙ ap (λ z. interspersed_from (put s) z (fill u (after t own))) (sym (kind-fill t own last)))
+    woven_stays s (Tree.left w o t) answers last = interspersed-aimed put s w (get_or (after t answers) 0 0) (fill o (drop 1 (after t answers))) (fill t answers) last
+    woven_stays s t answers last = refl
+
+-- What comes out is the reading, and between its sections what is added.
+pub only_added : {S E A : Type 0} {asked : Asks S E} {adds : Puts S SectionRow} {ceiling : ℕ} {bytes : List ℕ} {s m : S} {view : A → List ℕ} →
+    ((k : S) (v : Visit) → asked k v ≡ accepted (index_of v) k) → (r : Result A (Error E)) → GivesWovenBytes asked adds ceiling bytes s m r view →
+    IfOk r (λ out. IsInterspersed (adds s) bytes (view out))
+only_added {asked = asked} {adds = adds} {ceiling = ceiling} {s = s} {m = m} same (Ok out) g =
+    let p = g.readable in
+    let q = g.reading p.0 p.1 in
+    let a = (weave_is_run asked).forth (added adds) ceiling s m p.0 q.0 q.1 in
+    let ran : accepted (map asked_index (visits p.0)) s ≡ accepted a.given m = sym (runs asked same s (visits p.0)) ∙ a.ran in
+    let own : map asked_index (visits p.0) ≡ a.given = cc in
+    let filled : fill p.0 a.given ≡ p.0 = ap (fill p.0) (sym own) ∙ fill_own p.0 in
+    record {
+      tree = p.0;
+      reading = p.1;
+      spelled = q.2 ∙ ap normal (sym a.wove ∙ (woven_stays asked same (added adds) s p.0 a.given None ∙ ap (interspersed (adds s)) filled));
+    }
+only_added same (Err e) g = tt

@@ -20,7 +20,7 @@ module _ {S E : Type 0} (reply : S → Visit → Result ℕ E) where
   stays = ask reply (λ s _. s)
 
   -- an accepted run has an answer to each visit
-  pub ran : (s : S) (vs : List Visit) (given : List ℕ) (m : S) → run stays s vs ≡ accepted given m → map (reply s) vs ≡ map Ok given
+  ran : (s : S) (vs : List Visit) (given : List ℕ) (m : S) → run stays s vs ≡ accepted given m → map (reply s) vs ≡ map Ok given
   ran s [] given m e = let none : ◌≡◌ {A = List ℕ} [] given = cc in ap (λ (z : List ℕ). map Ok z) none
   ran s (v ∷ vs) given m e = go (ran s vs) (reply s v) refl e
     where

@@ -3,4 +3,4 @@ use Rattle.reencode_core.proofs.Interspersing.{only_added}
 use Rattle.examples.proofs.marks.add_marks.Goals as goal
 
 pub returns : goal.returns
-returns c = only_added _ _ (λ v. refl) c.reencode_core.result (c.reencode_core.ensures.woven refl)
+returns c = only_added (λ _ _. refl) c.reencode_core.result (c.reencode_core.ensures.woven refl)
