@@ -3,7 +3,7 @@
 -- `see f` is the reencoder that the closure f holds, and `name f` the name of its reference. A call of the closure answers what
 -- `asked` gives at an index of the space, and keeps the name: that is `one`. The entries of the map are an index, and behind it
 -- `body`, which asks nothing.
-use Rattle.std.proofs.Common.{◌≡◌, ◌≢◌, ℕ, ◌+◌, ◌⊎◌, List, [], ◌∷◌, ◌++◌, length, map, true, Result, Ok, Err, IfOk, IfErr, refl, sym, ap, ap₂, subst, ◌∙◌, append_assoc, inl, inr, arith}
+use Rattle.std.proofs.Common.{◌≡◌, ◌≢◌, ℕ, ◌+◌, ◌<◌, ◌⊎◌, List, [], ◌∷◌, ◌++◌, length, map, true, Result, Ok, Err, IfOk, IfErr, refl, sym, ap, ap₂, subst, ◌∙◌, append_assoc, inl, inr, arith}
 use Rattle.std.proofs.lemmas.List.{length-map}
 use Rattle.wasm_shapes.specs.declared.Space.{Space}
 use Rattle.wasm_shapes.specs.declared.Visit.{Visit}
@@ -11,13 +11,13 @@ use Rattle.wasm_shapes.specs.declared.Visit.TheVariants.{Index}
 use Rattle.wasm_shapes.specs.Tree.{Tree, visits}
 use Rattle.wasm_shapes.specs.Shape.{Shape, closed}
 use Rattle.wasm_shapes.specs.Sound.{sound}
-use Rattle.wasm_shapes.specs.Spells.{Is}
-use Rattle.wasm_shapes.specs.Place.{Begins}
+use Rattle.wasm_shapes.specs.Spells.{Is, Spelled}
+use Rattle.wasm_shapes.specs.Place.{Begins, BeginsNone}
 use Rattle.wasm_shapes.specs.Rows.{rows_then}
 use Rattle.wasm_shapes.specs.Types.{rows_tree, vector_tree}
 use Rattle.wasm_shapes.specs.Module.{plain_naming}
 use Rattle.wasm_shapes.specs.Namings.{asked_in}
-use Rattle.wasm_read.specs.Names.{MapStanding, map_place, Due, EntriesLeft, EntryMissing, EntryRead}
+use Rattle.wasm_read.specs.Names.{MapStanding, map_place, Due, EntriesLeft, FaultHere, EntryMissing, EntryRead}
 use Rattle.wasm_read.proofs.NameMaps.{plain_row, asked_row, asked_from, due_behind, due_one, left_less, left_one, lists_one}
 use Rattle.reencode_hooks.specs.declared.error.Error.{Error}
 use Rattle.reencode_hooks.specs.declared.error.Error.TheVariants.{NoMemory}
@@ -28,6 +28,7 @@ use Rattle.reencode_core.specs.Errors.{IfParse, IfRefused}
 use Rattle.reencode_core.specs.Rows.{Asks, AcceptsRows, RowsBefore, onto_rows}
 use Rattle.reencode_core.specs.NameMaps.{Asked, entry_of, entries_of, renamed, Calls, ReadTo, CallRefused, Unread, Wants, MapsEntries}
 use Rattle.reencode_core.specs.Names.{EntriesRead, MapFault, StopsMap}
+use Rattle.reencode_core.proofs.BodyLoop.{rows_missing}
 use Rattle.reencode_core.proofs.Leaving.{visits_behind}
 use Rattle.reencode_core.proofs.NameWalks.{left_front}
 use Rattle.reencode_core.proofs.RowLoop.{onto_nothing}
@@ -157,9 +158,26 @@ read_asked p body (a ∷ asks) m n r =
     let one = r.1 in
     (r.0, record { left = one.left; bytes = one.bytes; due = one.due; fits = one.fits; begins = begins_asked p one.begins; counts = one.counts; len = one.len }, read_asked p body asks r.0 n r.2)
 
--- none are left by such rows either
+-- none begins as such a row either, and none are left
+none_asked : {body : Shape} (p : Space) {bytes : List ℕ} → BeginsNone (plain_row body) bytes → BeginsNone (asked_row p body) bytes
+none_asked {body = body} p {bytes = bytes} none = record { none = λ text left t q e. go text left t q.shaped q.spelled e }
+  where
+    go : (text left : List ℕ) (t : Tree) → Is (asked_row p body) t → Spelled t text → bytes ≡ text ++ left → ⊥
+    go text left t (Is.seq {u = u} (Is.ix {i = i}) d) q e = none.none text left (entry_of i u) (record { shaped = Is.seq Is.u32 d; spelled = q }) e
+
+here_asked : {body : Shape} (p : Space) {m : MapStanding} → FaultHere (plain_row body) m → FaultHere (asked_row p body) m
+here_asked p (inl h) = inl h
+here_asked {body = body} p {m = m} (inr (n, b, d, r)) = inr (n, b, d, rows_missing (row r.here))
+  where
+    row : ((0 < n) × BeginsNone (plain_row body) b) ⊎ ((n ≡ 0) × (b ≢ [])) → ((0 < n) × BeginsNone (asked_row p body) b) ⊎ ((n ≡ 0) × (b ≢ []))
+    row (inl h) = inl (h.0, none_asked p h.1)
+    row (inr h) = inr h
+
 missing_asked : {body : Shape} (p : Space) {m : MapStanding} → EntryMissing (plain_row body) m → EntryMissing (asked_row p body) m
-missing_asked p r = record { none = λ rows w. let a = asked_from w.rows_left in r.none (rows_tree a.plain) (record { count = w.count; bytes = w.bytes; due = w.due; rows_left = a.left }) }
+missing_asked p r = record {
+  here = here_asked p r.here;
+  none = λ rows w. let a = asked_from w.rows_left in r.none (rows_tree a.plain) (record { count = w.count; bytes = w.bytes; due = w.due; rows_left = a.left });
+}
 
 -- ---- the calls and the walk
 

@@ -52,8 +52,8 @@ pub record CallRefused {F E : Type 0} (row : Shape) (step : F → ℕ → Result
   pub read : EntryRead row rest (entry_of index named) behind
   pub call : step between index (Err e) new
 
--- No call was refused, and what the map had is no entries with nothing behind them: what it still has behind those that were
--- asked for is none, and the error tells of that place in the map.
+-- No call was refused, and what the map had is no entries with nothing behind them: the fault stands right behind those that were
+-- asked for, and the error tells of that place in the map.
 pub record Unread {F E : Type 0} (row : Shape) (m rest : MapStanding) (between new : F) (e : Error E) : Type 0 where
   pub parse : e ≡ ParseError (record { at = map_place rest })
   pub none : (rows : Tree) → EntriesLeft row m rows → ⊥

@@ -57,8 +57,8 @@ StopsContent asked c n s e k = OfMap n (λ row m. StopsMap asked c row m s e k)
 abbrev pub EntriesRead : Shape → MapStanding → List Tree → MapStanding → Type 0
 EntriesRead row = FoldsTo (EntryRead row)
 
--- Entries of a map were read, and all were accepted. At this place, behind them, what the map still has is no entries with
--- nothing behind them.
+-- Entries of a map were read, and all were accepted. At this place, behind them, the count or an entry is due and none begins, or
+-- bytes are left where no entry is due.
 pub record MapFault {S E : Type 0} (asked : Asks S E) (c : ℕ) (row : Shape) (m : MapStanding) (s k : S) (at : ℕ) : Type 0 where
   pub read : List Tree
   pub rest : MapStanding

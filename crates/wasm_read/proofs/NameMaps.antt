@@ -1,5 +1,5 @@
 -- Maps of names, entry by entry.
-use Rattle.std.proofs.Common.{◌≡◌, ℕ, suc, ◌+◌, ◌-◌, ◌<◌, ◌≤◌, List, take, [], ◌∷◌, ◌++◌, length, length-append, map, true, false, Option, Some, None, refl, sym, ap, ap₂, ◌∙◌, subst, arith, inl}
+use Rattle.std.proofs.Common.{◌≡◌, ℕ, suc, ◌+◌, ◌-◌, ◌<◌, ◌≤◌, List, take, [], ◌∷◌, ◌++◌, length, length-append, map, true, false, Option, Some, None, refl, sym, ap, ap₂, ◌∙◌, subst, arith, inl, inr}
 use Rattle.std.proofs.Math.Seq.{take-append_seam}
 use Rattle.std.proofs.lemmas.List.{append_cancel_left}
 use Rattle.wasm_leb.specs.Place.{BeginsNumber, BeginsNoNumber}
@@ -15,10 +15,12 @@ use Rattle.wasm_shapes.specs.Module.{plain_naming}
 use Rattle.wasm_shapes.specs.Namings.{Entry, Outer, plain_indirect, entry_tree, entries_trees, outer_tree, outers_trees, asked_in}
 use Rattle.wasm_shapes.proofs.Unique.{unique}
 use Rattle.wasm_shapes.proofs.Begins.{begins_u32, begins_seq}
-use Rattle.wasm_shapes.proofs.Rows.{rows_end, rows_cons, rows_first, no_row, no_rows_behind, vec_spelled}
+use Rattle.wasm_shapes.proofs.Rows.{rows_end, rows_cons, rows_first, no_rows_behind, vec_spelled}
 use Rattle.wasm_read.proofs.DataSegments.{one_number}
+use Rattle.wasm_read.proofs.Missing.{row_missing}
 use Rattle.wasm_read.proofs.Placed.{takes_bytes}
-use Rattle.wasm_read.specs.Names.{MapStanding, whole_map, Due, DueFrom, EntriesLeft, NamesLeft, IndirectLeft, IndirectBegins, EntryRead, EntryMissing, EntriesEnded}
+use Rattle.wasm_read.specs.Reading.{RowMissing}
+use Rattle.wasm_read.specs.Names.{MapStanding, whole_map, Due, DueFrom, EntriesLeft, NamesLeft, IndirectLeft, IndirectBegins, EntryRead, standing_due, EntryMissing, EntriesEnded}
 
 -- ---- what is due
 
@@ -106,20 +108,23 @@ left_shrinks {m = m} {n = n} fills r =
 -- ---- no whole map
 
 pub missing_count : {row : Shape} {m : MapStanding} → m.left ≡ None → BeginsNoNumber 128 32 32 m.rest → EntryMissing row m
-missing_count {row = row} {m = m} e none = record { none = λ rows w. go m.left e w.count w.bytes w.due }
+missing_count {row = row} {m = m} e none = record { here = inl (e, none); none = λ rows w. go m.left e w.count w.bytes w.due }
   where
     go : (left : Option ℕ) → left ≡ None → (n : ℕ) (b : List ℕ) → DueFrom m.rest left n b → ⊥
     go None e n b d = none d.0 b n d.1 d.2
     go (Some k) e n b d = cc
 
+missing_due : {row : Shape} (m : MapStanding) (n : ℕ) (b : List ℕ) → Due m n b → RowMissing row (standing_due m n b) → EntryMissing row m
+missing_due m n b d r = record { here = inr (n, b, d, r); none = λ rows w. r.rows.none rows (left_at n b d w) }
+
 pub missing_filled : {row : Shape} (m : MapStanding) (n : ℕ) (b : List ℕ) → Due m n b → n ≡ 0 → 1 ≤ length b → EntryMissing row m
-missing_filled m n b d e more = record { none = λ rows w. (no_rows_behind e filled).none rows (left_at n b d w) }
+missing_filled m n b d e more = missing_due m n b d (record { here = inr (e, filled); rows = no_rows_behind e filled })
   where
     filled : b ≡ [] → ⊥
     filled none = let empty = ap length none in omega arith
 
 pub missing_entry : {row : Shape} (m : MapStanding) (n : ℕ) (b : List ℕ) → Due m (n + 1) b → BeginsNone row b → EntryMissing row m
-missing_entry m n b d none = record { none = λ rows w. (no_row {n = n} (omega arith) none).none rows (left_at (n + 1) b d w) }
+missing_entry m n b d none = missing_due m (n + 1) b d (row_missing (standing_due m (n + 1) b) b refl (omega arith) none)
 
 -- ---- typed lists
 

@@ -1,6 +1,6 @@
 -- What the readers of maps of names promise.
-use Rattle.std.specs.Prelude.{◌≡◌, ℕ, ◌+◌, ◌-◌, ◌^◌, ◌<◌, List, [], length, Option, Some, None}
-use Rattle.wasm_leb.specs.Place.{BeginsNumber}
+use Rattle.std.specs.Prelude.{◌≡◌, ℕ, ◌+◌, ◌-◌, ◌^◌, ◌<◌, ◌⊎◌, List, [], length, Option, Some, None}
+use Rattle.wasm_leb.specs.Place.{BeginsNumber, BeginsNoNumber}
 use Rattle.wasm_shapes.specs.Tree.{Tree}
 use Rattle.wasm_shapes.specs.Shape.{Shape}
 use Rattle.wasm_shapes.specs.Place.{Begins}
@@ -8,6 +8,7 @@ use Rattle.wasm_shapes.specs.Rows.{RowsLeft}
 use Rattle.wasm_shapes.specs.Types.{rows_tree}
 use Rattle.wasm_shapes.specs.Module.{plain_naming}
 use Rattle.wasm_shapes.specs.Namings.{Entry, Outer, plain_indirect, entries_trees, outer_tree, outers_trees}
+use Rattle.wasm_read.specs.Reading.{Standing, RowMissing}
 
 -- Where a reader of a map stands: the bytes that are left, the number of entries that are left in them, or none where the count
 -- stands in front of them, and how long the whole map is.
@@ -72,8 +73,19 @@ pub record IndirectRead (old : MapStanding) (index : ℕ) (names : MapStanding) 
   pub whole : NamesLeft names entries
   pub read : EntryRead plain_indirect old (outer_tree (record { index = index; names = entries })) new
 
--- What the map still has is no entries and nothing behind them: there are no such.
+-- where a reader of rows stands that has so many entries of a map to read from these bytes
+abbrev pub standing_due : MapStanding → ℕ → List ℕ → Standing
+standing_due m n bytes = record { rest = bytes; left = n; len = m.len }
+
+-- The fault stands here: the count is due and no number begins, or no entry begins where one is due, or bytes are left where none
+-- is due.
+abbrev pub FaultHere : Shape → MapStanding → Type 0
+FaultHere row m = ((m.left ≡ None) × BeginsNoNumber 128 32 32 m.rest) ⊎ ((count : ℕ) × (bytes : List ℕ) × Due m count bytes × RowMissing row (standing_due m count bytes))
+
+-- No count or no entry begins where one is due, or bytes are left behind the last; and so what the map still has is no entries
+-- with nothing behind them.
 pub record EntryMissing (row : Shape) (old : MapStanding) : Type 0 where
+  pub here : FaultHere row old
   pub none : (rows : Tree) → EntriesLeft row old rows → ⊥
 
 -- No entry is left, nor anything else.
