@@ -85,6 +85,26 @@ fn names(alloc: Global) -> Result<w::NameMap, WriteFault> {
     Ok(names)
 }
 
+/// Adds names of locals and of labels.
+fn add_outer(section: &mut w::NameSection, outer: &w::IndirectNameMap) -> Result<(), WriteFault> {
+    section.locals(outer)?;
+    section.labels(outer)
+}
+
+/// Adds names of types, tables, memories and globals.
+fn add_first(section: &mut w::NameSection, names: &w::NameMap) -> Result<(), WriteFault> {
+    section.types(names)?;
+    section.tables(names)?;
+    section.memories(names)?;
+    section.globals(names)
+}
+
+/// Adds names of segments.
+fn add_segments(section: &mut w::NameSection, names: &w::NameMap) -> Result<(), WriteFault> {
+    section.elements(names)?;
+    section.data_(names)
+}
+
 /// A section with a subsection of each id up to 12.
 fn written(alloc: Global, ceiling: u32) -> Result<w::NameSection, WriteFault> {
     let names = names(alloc)?;
@@ -93,14 +113,9 @@ fn written(alloc: Global, ceiling: u32) -> Result<w::NameSection, WriteFault> {
     let mut section = w::NameSection::new(alloc, ceiling);
     section.module("m")?;
     section.functions(&names)?;
-    section.locals(&outer)?;
-    section.labels(&outer)?;
-    section.types(&names)?;
-    section.tables(&names)?;
-    section.memories(&names)?;
-    section.globals(&names)?;
-    section.elements(&names)?;
-    section.data_(&names)?;
+    add_outer(&mut section, &outer)?;
+    add_first(&mut section, &names)?;
+    add_segments(&mut section, &names)?;
     section.fields(&outer)?;
     section.tags(&names)?;
     section.raw(12, &[0xff])?;
@@ -140,52 +155,60 @@ fn name_sections(rt: HostRuntime) -> Result<(), WriteFault> {
     Ok(())
 }
 
-/// The walks over maps: each index one more.
-fn mapped(alloc: Global) -> Result<Vec<u8>, Error<u32>> {
-    let mut out = Vec::new(alloc);
+/// The walks over maps: each index one more, and two.
+fn mapped(alloc: Global, out: &mut Vec<u8>) -> Result<(), Error<u32>> {
     let one = name_map(
         alloc,
         r::NameMap::new(&NAMES),
         |i: u32| Ok(i.wrapping_add(1)),
     )?;
-    one.encode(&mut out)?;
+    one.encode(out)?;
     let two = map_names(
         alloc,
         r::NameMap::new(&NAMES),
         &mut |i: u32| Ok(i.wrapping_add(2)),
     )?;
-    two.encode(&mut out)?;
+    Ok(two.encode(out)?)
+}
+
+/// The walks over indirect maps: each outer index three more, and four.
+fn outer_mapped(alloc: Global, section: &mut w::NameSection) -> Result<(), Error<u32>> {
     let three = indirect_name_map(alloc, r::IndirectNameMap::new(&INDIRECT), |i: u32| {
         Ok(i.wrapping_add(3))
     })?;
+    section.labels(&three)?;
     let four = map_indirect_names(
         alloc,
         r::IndirectNameMap::new(&INDIRECT),
         &mut |i: u32| { Ok(i.wrapping_add(4)) },
     )?;
-    let mut section = w::NameSection::new(alloc, u32::MAX);
-    section.labels(&three)?;
-    section.labels(&four)?;
-    section.encode_body(&mut out)?;
-    Ok(out)
+    Ok(section.labels(&four)?)
+}
+
+/// Whether a walk ends with the refusal of the first index.
+fn is_refused(alloc: Global) -> bool {
+    match name_map(alloc, r::NameMap::new(&NAMES), |i: u32| {
+        Err(Error::UserError(i))
+    }) {
+        Err(Error::UserError(5)) => true,
+        _ => false,
+    }
 }
 
 #[test]
 fn maps_by_closures(rt: HostRuntime) -> Result<(), Error<u32>> {
-    let out = mapped(rt.alloc())?;
+    let mut out = Vec::new(rt.alloc());
+    mapped(rt.alloc(), &mut out)?;
+    let mut section = w::NameSection::new(rt.alloc(), u32::MAX);
+    outer_mapped(rt.alloc(), &mut section)?;
+    section.encode_body(&mut out)?;
     let wanted = [
         0x02u8, 0x06, 0x01, 0x61, 0x01, 0x00, 0x02, 0x07, 0x01, 0x61, 0x02, 0x00, 0x04, 0x6e, 0x61,
         0x6d, 0x65, 0x03, 0x06, 0x01, 0x06, 0x01, 0x09, 0x01, 0x62, 0x03, 0x06, 0x01, 0x07, 0x01,
         0x09, 0x01, 0x62,
     ];
     assert!(rt; out.as_slice() == wanted.as_slice());
-    let refused = match name_map(rt.alloc(), r::NameMap::new(&NAMES), |i: u32| {
-        Err(Error::UserError(i))
-    }) {
-        Err(Error::UserError(5)) => true,
-        _ => false,
-    };
-    assert!(rt; refused);
+    assert!(rt; is_refused(rt.alloc()));
     Ok(())
 }
 
