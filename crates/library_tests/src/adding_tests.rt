@@ -64,7 +64,13 @@ fn sections_are_added(rt: HostRuntime) -> Result<(), Error<Infallible>> {
     };
     let bytes = reencode_core(rt.alloc(), &mut adding, &ADDS, u32::MAX)?;
     assert!(rt; bytes.as_slice() == BEFORE_CODE.as_slice());
-    adding.sections.at = None;
+    let mut adding = Adding {
+        reencoder: RoundtripReencoder,
+        sections: Put {
+            at: None,
+            contents: &[],
+        },
+    };
     let bytes = reencode_core(rt.alloc(), &mut adding, &ADDS, u32::MAX)?;
     assert!(rt; bytes.as_slice() == AT_END.as_slice());
     Ok(())
