@@ -489,7 +489,8 @@ pub trait Reencode: ReencodeItems {
     ) -> Result<(), Error<Self::Error>>
         ensures kept { KeepsModule «module».old «module».new }
         ensures default { IsTrue Self.keeps_defaults
-            → GivesCustom (ask Self.reply Self.next) section.entry.name.now section.entry.contents.now
+            → GivesCustom (ask Self.reply Self.next)
+            section.entry.name.now section.entry.contents.now
             (self.old, «module».old) (self.new, «module».new) result }
         ensures after_error { IsTrue Self.keeps_defaults → IsTrue Self.sure
             → LeavesReading (ReadsCustom section.entry.name.now section.entry.contents.now)

@@ -43,7 +43,8 @@ fn front_placed(bytes: &[u8]) -> Option<(ConstExpr<'_>, &[u8], &[u8])>
 /// An active segment.
 #[inline]
 fn active<'a>(memory_index: u32, offset_expr: ConstExpr<'a>, contents: &'a [u8]) -> Data<'a>
-    ensures { data_tree result ≡ active_data_of memory_index (expr_tree offset_expr.entry) contents.now }
+    ensures { data_tree result
+        ≡ active_data_of memory_index (expr_tree offset_expr.entry) contents.now }
 {
     Data {
         kind: DataKind::Active {

@@ -29,7 +29,8 @@ const FUNCREF: RefType = RefType {
 fn front_kinded(alloc: Global, bytes: &[u8]) -> Result<Option<(List<u32>, &[u8])>, NoMemory>
     ensures some { IfOk result (λ o. IfSome o (λ r. Begins (lead 0x00 element_functions)
         bytes.now (led 0x00 (vector_tree (map function_index_tree r.0))) r.1.now)) }
-    ensures none { IfOk result (λ o. IfNone o (BeginsNone (lead 0x00 element_functions) bytes.now)) }
+    ensures none { IfOk result (λ o.
+        IfNone o (BeginsNone (lead 0x00 element_functions) bytes.now)) }
 {
     let Some((first, rest)) = front_byte(bytes) else {
         return Ok(None);
