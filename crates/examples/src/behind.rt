@@ -1,6 +1,6 @@
 //! A linker's step: the functions of a module move behind those of another.
-ghost use Rattle.std.specs.Prelude.{IfOk};
-ghost use Rattle.reencode_core.specs.Rules.{IsRenamed};
+ghost use Rattle.std.specs.Prelude.{IfErr, IfOk};
+ghost use Rattle.reencode_core.specs.Rules.{IfUser, IsMade, IsRefusal, IsRenamed};
 ghost use Rattle.examples.specs.Behind.{moved, moved_is_rule};
 
 use reencode_core::reencode_by_rule;
@@ -37,7 +37,9 @@ impl IndexRule for Behind {
 
 /// The module with each function moved behind `count` others.
 pub fn move_behind(alloc: Global, bytes: &[u8], count: u32) -> Result<Vec<u8>, Error<TooMany>>
-    ensures { IfOk result (λ out. IsRenamed (moved count) bytes.now out.items) }
+    ensures ok { IfOk result (λ out. IsRenamed (moved count) bytes.now out.items) }
+    ensures refused { IfErr result (λ e. IfUser e (IsRefusal (moved count) bytes.now)) }
+    ensures made { IfErr result (IsMade (moved count) 4294967295 bytes.now) }
 {
     reencode_by_rule(alloc, Behind { count }, bytes, u32::MAX)
 }

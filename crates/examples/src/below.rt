@@ -1,6 +1,6 @@
 //! A checker: no index of a function is as large as a bound.
-ghost use Rattle.std.specs.Prelude.{IfOk};
-ghost use Rattle.reencode_core.specs.Rules.{IsRenamed};
+ghost use Rattle.std.specs.Prelude.{IfErr, IfOk};
+ghost use Rattle.reencode_core.specs.Rules.{IfUser, IsMade, IsRefusal, IsRenamed};
 ghost use Rattle.examples.specs.Below.{known, known_is_rule};
 
 use reencode_core::reencode_by_rule;
@@ -37,7 +37,9 @@ impl IndexRule for Below {
 
 /// The module as it is, where each function that it names is below the bound.
 pub fn check_below(alloc: Global, bytes: &[u8], bound: u32) -> Result<Vec<u8>, Error<NotBelow>>
-    ensures { IfOk result (λ out. IsRenamed (known bound) bytes.now out.items) }
+    ensures ok { IfOk result (λ out. IsRenamed (known bound) bytes.now out.items) }
+    ensures refused { IfErr result (λ e. IfUser e (IsRefusal (known bound) bytes.now)) }
+    ensures made { IfErr result (IsMade (known bound) 4294967295 bytes.now) }
 {
     reencode_by_rule(alloc, Below { bound }, bytes, u32::MAX)
 }

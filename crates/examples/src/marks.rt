@@ -1,6 +1,6 @@
 //! An instrumenter's step: a custom section with the tool's own marks is added.
-ghost use Rattle.std.specs.Prelude.{IfOk};
-ghost use Rattle.reencode_core.specs.Interspersed.{IsInterspersed};
+ghost use Rattle.std.specs.Prelude.{IfErr, IfOk};
+ghost use Rattle.reencode_core.specs.Interspersed.{IsInterspersed, IsMadeBetween};
 ghost use Rattle.examples.specs.Marks.{behind, custom_row};
 
 use reencode_core::{Adding, SectionRule, reencode_core};
@@ -47,9 +47,12 @@ pub fn add_marks(
     bytes: &[u8],
     marks: Marks<'_>,
 ) -> Result<Vec<u8>, Error<Infallible>>
-    ensures { IfOk result (λ out. IsInterspersed
+    ensures ok { IfOk result (λ out. IsInterspersed
         (behind marks.entry.behind
         (custom_row marks.entry.name.now marks.entry.contents.now)) bytes.now out.items) }
+    ensures made { IfErr result (IsMadeBetween
+        (behind marks.entry.behind
+        (custom_row marks.entry.name.now marks.entry.contents.now)) 4294967295 bytes.now) }
 {
     let mut reencoder = Adding {
         reencoder: RoundtripReencoder,

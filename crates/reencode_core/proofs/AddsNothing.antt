@@ -13,7 +13,7 @@ use Rattle.reencode_hooks.specs.Hooks.{Gains, HasTooLarge}
 use Rattle.reencode_core.specs.Rows.{Asks}
 use Rattle.reencode_core.specs.Core.{onto, AcceptsSections, RefusesNext, StopsSections, IsCause, GivesCore, GivesBytes}
 use Rattle.reencode_core.specs.Weave.{Puts, added, put_before, weave, weave_from}
-use Rattle.reencode_core.specs.Woven.{IsOwn, IsPart, StopsNext, WeavesSections, StopsWoven, OwnNext, OwnTooLarge, IsWovenCause, GivesWoven, GivesWovenBytes, AddsFit}
+use Rattle.reencode_core.specs.Woven.{IsOwn, IsPart, StopsNext, WeavesSections, StopsWoven, OwnNext, WovenFront, OwnTooLarge, IsWovenCause, GivesWoven, GivesWovenBytes, AddsFit}
 use Rattle.reencode_core.proofs.Weaves.{weave_nothing}
 
 none_large : (c size : ℕ) → ¬ HasTooLarge c [] size
@@ -23,7 +23,7 @@ none_large c size h = go h.front h.parts
     go [] e = cc
     go (r ∷ rows) e = cc
 
-own_fits : {E : Type 0} (c : ℕ) (own : List SectionRow) (e : Error E) → ((size : ℕ) → ¬ HasTooLarge c own size) → IsOwn c own e → ⊥
+pub own_fits : {E : Type 0} (c : ℕ) (own : List SectionRow) (e : Error E) → ((size : ℕ) → ¬ HasTooLarge c own size) → IsOwn c own e → ⊥
 own_fits c own (TooLarge size) fit h = fit size h
 own_fits c own _ fit h = h
 
@@ -32,11 +32,14 @@ none_own c own e none h = own_fits c own e (λ size. let P : List SectionRow →
 
 -- where what is added fits, no section that the hook was to add is too large
 pub nothing_large : {S E : Type 0} (asked : Asks S E) (adds : Puts S SectionRow) {c : ℕ} {bytes : List ℕ} {s : S} (e : Error E) → AddsFit adds c → OwnTooLarge asked adds c bytes s e → ⊥
-nothing_large asked adds {c = c} e fit o = go o.own
+nothing_large asked adds {c = c} {bytes = bytes} {s = s} e fit o = go o.own
   where
-    go : OwnNext adds c o.last o.at o.rest e → ⊥
-    go (inl q) = own_fits c (adds o.at o.last None) e (fit o.at o.last None) q.1
-    go (inr q) = own_fits c (adds o.at o.last (Some q.0)) e (fit o.at o.last (Some q.0)) q.4
+    f : WovenFront asked adds c bytes s
+    f = o.front
+
+    go : OwnNext adds c f.last f.at f.rest e → ⊥
+    go (inl q) = own_fits c (adds f.at f.last None) e (fit f.at f.last None) q.1
+    go (inr q) = own_fits c (adds f.at f.last (Some q.0)) e (fit f.at f.last (Some q.0)) q.4
 
 no_part : {part own : List SectionRow} → IsPart part own → own ≡ [] → part ≡ []
 no_part {part = part} p none = go part p.rest (sym none ∙ p.parts)

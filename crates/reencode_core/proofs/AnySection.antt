@@ -8,7 +8,7 @@ use Rattle.wasm_shapes.specs.Place.{Begins}
 use Rattle.wasm_shapes.specs.Module.{frame, numbered_frame, custom_frame, unknown_tree_of, ReadsCustom, InFrame}
 use Rattle.wasm_shapes.specs.SectionTable.{number}
 use Rattle.wasm_shapes.proofs.SectionTable.{kind_in_frame, custom_in_frame, unknown_in_frame}
-use Rattle.wasm_write.specs.Sections.{Sections}
+use Rattle.wasm_write.specs.Sections.{Sections, SectionRow}
 use Rattle.reencode_hooks.specs.declared.error.Error.{Error}
 use Rattle.reencode_hooks.specs.Run.{accepted}
 use Rattle.reencode_hooks.specs.Walk.{walk, announced}
@@ -18,6 +18,7 @@ use Rattle.reencode_core.specs.Sections.{ReadsAs, GivesAdded, BodyFault, StopsSe
 use Rattle.reencode_core.specs.Names.{StopsCustom, GivesCustom}
 use Rattle.reencode_core.specs.Core.{StopsThere}
 use Rattle.reencode_core.specs.Weave.{Puts, put_before}
+use Rattle.reencode_core.specs.Woven.{AddedBefore}
 use Rattle.reencode_core.proofs.Counts.{walk_further, further_none, further_one, further_then}
 use Rattle.reencode_core.proofs.Known.{frame_id, section_announced}
 use Rattle.reencode_core.proofs.Usual.{IfParse-map, IfRefused-map, unless_wanting}
@@ -33,12 +34,18 @@ pub kind_put : {S A : Type 0} (put : Puts S A) (k : SectionId) {body : List ℕ}
     put_before put s last t ≡ put s last (Some k)
 kind_put put k {body = body} s last {t = t} i = let r = kind_in_frame k body t i in rw r.1 refl
 
-pub custom_put : {S A : Type 0} (put : Puts S A) {name contents : List ℕ} (s : S) (last : Option SectionId) {t : Tree} → InFrame t (custom_frame name contents) → put_before put s last t ≡ []
+custom_put : {S A : Type 0} (put : Puts S A) {name contents : List ℕ} (s : S) (last : Option SectionId) {t : Tree} → InFrame t (custom_frame name contents) → put_before put s last t ≡ []
 custom_put put {name = name} {contents = contents} s last {t = t} i = let r = custom_in_frame name contents t i in rw r.1 refl
 
-pub unknown_put : {S A : Type 0} (put : Puts S A) {id : ℕ} {contents : List ℕ} (s : S) (last : Option SectionId) {t : Tree} → 14 ≤ id → InFrame t (numbered_frame id contents) →
+unknown_put : {S A : Type 0} (put : Puts S A) {id : ℕ} {contents : List ℕ} (s : S) (last : Option SectionId) {t : Tree} → 14 ≤ id → InFrame t (numbered_frame id contents) →
     put_before put s last t ≡ []
 unknown_put put {id = id} {contents = contents} s last {t = t} low i = rw (unknown_in_frame id contents t low i) refl
+
+pub added_put : {S E : Type 0} {asked : Asks S E} {adds : Puts S SectionRow} {last : Option SectionId} {s n : S} {f : Tree} {own : List SectionRow} → AddedBefore asked adds last s f n own →
+    (t : Tree) → InFrame t f → put_before adds s last t ≡ own
+added_put {adds = adds} {last = last} {s = s} (AddedBefore.known k body n h) t i = kind_put adds k s last i
+added_put {adds = adds} {last = last} {s = s} (AddedBefore.custom name contents) t i = custom_put adds s last i
+added_put {adds = adds} {last = last} {s = s} (AddedBefore.unknown id contents low) t i = unknown_put adds s last low i
 
 framed_kind : (k : SectionId) {body : List ℕ} {t : Tree} → 1 ≤ number k → ReadsAs k body t → InFrame t (numbered_frame (number k) body)
 framed_kind k {body = body} low r =
@@ -60,25 +67,28 @@ pub record GivesFramed {S E : Type 0} (asked : Asks S E) (id : ℕ) (f : Tree) (
   pub readable : IfOk result (λ _. (t : Tree) × InFrame t f)
   pub unreadable : IfErr result (λ e. IfParse e (λ at. ((t : Tree) → InFrame t f → ⊥) × Further asked before.0 after.0))
   pub refusal : IfErr result (λ e. IfRefused e (((t : Tree) × InFrame t f) ⊎ Stops before.1.ceiling e after.0))
+  pub unchanged : IfErr result (λ _. after.1 ≡ before.1)
 
 -- the same of readings of any form
 gives_framed : {S E : Type 0} {asked : Asks S E} {id : ℕ} {f : Tree} {Reads : Tree → Type 0} {Fault : ℕ → Type 0} {Stops : ℕ → Error E → S → Type 0} {before after : S × Sections}
     (forth : (t : Tree) → InFrame t f → Reads t) (back : (t : Tree) → Reads t → InFrame t f)
     (fault : (at : ℕ) → Fault at → ((t : Tree) → Reads t → ⊥) × Further asked before.0 after.0)
     (result : Result (Unit {0}) (Error E)) → ((t : Tree) → Reads t → GivesAdded asked id before t after result) → IfOk result (λ _. (t : Tree) × Reads t) →
-    IfErr result (λ e. IfParse e Fault) → IfErr result (λ e. IfRefused e (((t : Tree) × Reads t) ⊎ Stops before.1.ceiling e after.0)) →
+    IfErr result (λ e. IfParse e Fault) → IfErr result (λ e. IfRefused e (((t : Tree) × Reads t) ⊎ Stops before.1.ceiling e after.0)) → IfErr result (λ _. after.1 ≡ before.1) →
     GivesFramed asked id f Stops before after result
-gives_framed forth back fault (Ok u) reading readable unreadable refusal = record {
+gives_framed forth back fault (Ok u) reading readable unreadable refusal unchanged = record {
   reading = λ t i. reading t (forth t i);
   readable = (readable.0, back readable.0 readable.1);
   unreadable = tt;
   refusal = tt;
+  unchanged = tt;
 }
-gives_framed {f = f} {Reads = Reads} {Stops = Stops} {before = before} {after = after} forth back fault (Err e) reading readable unreadable refusal = record {
+gives_framed {f = f} {Reads = Reads} {Stops = Stops} {before = before} {after = after} forth back fault (Err e) reading readable unreadable refusal unchanged = record {
   reading = λ t i. reading t (forth t i);
   readable = tt;
   unreadable = IfParse-map e (λ at h. let q = fault at h in ((λ t i. q.0 t (forth t i)), q.1)) unreadable;
   refusal = IfRefused-map e read refusal;
+  unchanged = unchanged;
 }
   where
     read : ((t : Tree) × Reads t) ⊎ Stops before.1.ceiling e after.0 → ((t : Tree) × InFrame t f) ⊎ Stops before.1.ceiling e after.0
@@ -98,7 +108,7 @@ module _ {S E : Type 0} {asked : Asks S E} {s m : S} {old new : Sections} (r : R
   pub kind_gives : (k : SectionId) {bytes body left : List ℕ} → Begins frame bytes (numbered_frame (number k) body) left → GivesSection asked k body (s, old) (m, new) r →
       GivesFramed asked (number k) (numbered_frame (number k) body) (λ c e n. StopsSection asked c k body s e n) (s, old) (m, new) r
   kind_gives k {body = body} there g =
-      gives_framed (kind_in_frame k body) (λ t q. framed_kind k (frame_id there).0 q) fault r g.reading g.readable g.unreadable g.refusal
+      gives_framed (kind_in_frame k body) (λ t q. framed_kind k (frame_id there).0 q) fault r g.reading g.readable g.unreadable g.refusal g.unchanged
     where
       fault : (at : ℕ) → BodyFault asked old.ceiling k body s m at → ((t : Tree) → ReadsAs k body t → ⊥) × Further asked s m
       fault at (none, inl q) = (none, nothing_further asked q.2)
@@ -108,7 +118,7 @@ module _ {S E : Type 0} {asked : Asks S E} {s m : S} {old new : Sections} (r : R
   pub custom_gives : {name contents : List ℕ} → GivesCustom asked name contents (s, old) (m, new) r →
       GivesFramed asked 0 (custom_frame name contents) (λ c e n. StopsCustom asked c name contents s e n) (s, old) (m, new) r
   custom_gives {name = name} {contents = contents} g =
-      gives_framed (custom_in_frame name contents) (λ t q. framed_custom q) (λ at q. (q.0, rows_further asked old.ceiling q.2.read q.2.made q.2.accepts q.2.further)) r g.reading g.readable g.unreadable g.refusal
+      gives_framed (custom_in_frame name contents) (λ t q. framed_custom q) (λ at q. (q.0, rows_further asked old.ceiling q.2.read q.2.made q.2.accepts q.2.further)) r g.reading g.readable g.unreadable g.refusal g.unchanged
 
   pub unknown_gives : {id : ℕ} {bytes contents left : List ℕ} → 14 ≤ id → Begins frame bytes (numbered_frame id contents) left →
       GivesAdded asked id (s, old) (unknown_tree_of id contents) (m, new) r → IfErr r (λ e. IfParse e (λ _. ⊥)) →
@@ -124,12 +134,13 @@ module _ {S E : Type 0} {asked : Asks S E} {s m : S} {old new : Sections} (r : R
 
       go : (r : Result (Unit {0}) (Error E)) → GivesAdded asked id (s, old) (unknown_tree_of id contents) (m, new) r → IfErr r (λ e. IfParse e (λ _. ⊥)) →
           GivesFramed asked id (numbered_frame id contents) (λ c e n. ⊥) (s, old) (m, new) r
-      go (Ok u) g usual = record { reading = at_tree (Ok u) g; readable = there_is; unreadable = tt; refusal = tt }
+      go (Ok u) g usual = record { reading = at_tree (Ok u) g; readable = there_is; unreadable = tt; refusal = tt; unchanged = tt }
       go (Err e) g usual = record {
         reading = at_tree (Err e) g;
         readable = tt;
         unreadable = IfParse-map e (λ at never. absurd never) usual;
         refusal = unless_wanting e (λ other. inl there_is);
+        unchanged = g.0;
       }
 
 -- ---- what was asked before it

@@ -32,11 +32,11 @@ use Rattle.reencode_core.specs.Errors.{IfParse, IfRefused, placed_at}
 use Rattle.reencode_core.specs.Rows.{Asks, Further}
 use Rattle.reencode_core.specs.Core.{hooked, onto, AcceptsSections, RefusedIn, StopsThere, BeforeFault, IsCause}
 use Rattle.reencode_core.specs.Weave.{Puts, added, put_before, woven_one, weave, weave_from}
-use Rattle.reencode_core.specs.Woven.{IsOwn, IsPart, StopsHook, StopsHooked, StopsNext, WeavesSections, StopsWoven, GivesWovenModule, OwnNext, OwnTooLarge, IsWovenCause, GivesWoven}
+use Rattle.reencode_core.specs.Woven.{IsOwn, IsPart, StopsHook, StopsHooked, StopsNext, WeavesSections, StopsWoven, GivesWovenModule, OwnNext, WovenFront, OwnTooLarge, IsWovenCause, AddedBefore, AddedThere, GainsBefore, GivesWoven}
 use Rattle.reencode_core.proofs.AddsNothing.{none_own}
 use Rattle.reencode_core.proofs.Weaves.{alsos-append}
 use Rattle.reencode_core.proofs.Counts.{further_none, further_then}
-use Rattle.reencode_core.proofs.AnySection.{GivesFramed, Reached, kind_announced, kind_put}
+use Rattle.reencode_core.proofs.AnySection.{GivesFramed, Reached, added_put, kind_announced, kind_put}
 use Rattle.reencode_core.proofs.Usual.{IfRefused-map, unless_wanting, usual_ask, stops_usual}
 use Rattle.reencode_core.proofs.Known.{section_onward, hook_visits, inside_visits, some_begun, gains_none, gains_both}
 
@@ -49,6 +49,9 @@ list_of _ = []
 list_of-alsos : (ts : List Tree) (others : Tree) → list_of (alsos ts others) ≡ ts ++ list_of others
 list_of-alsos [] others = refl
 list_of-alsos (t ∷ ts) others = ap (λ (us : List Tree). t ∷ us) (list_of-alsos ts others)
+
+pub same_sections : (ts us : List Tree) → alsos ts Tree.finish ≡ alsos us Tree.finish → ts ≡ us
+same_sections ts us e = sym (append-nil ts) ∙ sym (list_of-alsos ts Tree.finish) ∙ ap list_of e ∙ list_of-alsos us Tree.finish ∙ append-nil us
 
 -- sections, and others behind them
 joined : (ts : List Tree) {u : Tree} (x y : List ℕ) → Spells sections x (alsos ts Tree.finish) → Spells sections y u → Spells sections (x ++ y) (alsos ts u)
@@ -222,14 +225,14 @@ pub record SectionsDone {S E : Type 0} (asked : Asks S E) (adds : Puts S Section
   pub onward : (others : Tree) (m : S) → Visited asked s (visits_from last others) m → Visited asked s0 (visits (alsos read others)) m
 
 -- What the section hook puts before the section in a frame was added.
-pub record Put {S : Type 0} (adds : Puts S SectionRow) (f : Tree) (last : Option SectionId) (s : S) (new mid : Sections) : Type 0 where
+pub record Put {S E : Type 0} (asked : Asks S E) (adds : Puts S SectionRow) (f : Tree) (last : Option SectionId) (s n : S) (new mid : Sections) : Type 0 where
   pub own : List SectionRow
   pub gains : Gains new mid own
-  pub before : (t : Tree) → InFrame t f → put_before adds s last t ≡ own
+  pub before : AddedBefore asked adds last s f n own
 
 -- nothing is put before it
-pub nothing_put : {S : Type 0} {adds : Puts S SectionRow} {f : Tree} {last : Option SectionId} {s : S} {new : Sections} → ((t : Tree) → InFrame t f → put_before adds s last t ≡ []) →
-    Put adds f last s new new
+pub nothing_put : {S E : Type 0} {asked : Asks S E} {adds : Puts S SectionRow} {f : Tree} {last : Option SectionId} {s n : S} {new : Sections} → AddedBefore asked adds last s f n [] →
+    Put asked adds f last s n new new
 nothing_put none = record { own = []; gains = gains_none _; before = none }
 
 module _ {S E : Type 0} (asked : Asks S E) where
@@ -285,7 +288,7 @@ module _ {S E : Type 0} (asked : Asks S E) (adds : Puts S SectionRow) where
   }
 
   pub sections_more : {Stops : ℕ → Error E → S → Type 0} {id : ℕ} {f : Tree} {start rest rest' : List ℕ} {s0 s n s' : S} {old new mid new' : Sections} {last now : Option SectionId} →
-      SectionsDone asked adds start s0 old rest last s new → Reached asked Stops f rest rest' last now s n → Put adds f last s new mid →
+      SectionsDone asked adds start s0 old rest last s new → Reached asked Stops f rest rest' last now s n → Put asked adds f last s n new mid →
       GivesFramed asked id f Stops (n, mid) (s', new') (Ok tt) → SectionsDone asked adds start s0 old rest' now s' new'
   sections_more {Stops = Stops} {id = id} {f = f} {rest = rest} {rest' = rest'} {s0 = s0} {s = s} {n = n} {s' = s'} {old = old} {new = new} {mid = mid} {new' = new'} {last = last} {now = now} d reached put g =
       let t : Tree = g.readable.0 in
@@ -300,7 +303,7 @@ module _ {S E : Type 0} (asked : Asks S E) (adds : Puts S SectionRow) where
       let step : hooked asked old.ceiling last s t ≡ accepted q.0 s' = told_walked asked old.ceiling last s n t told ∙ walked in
       let row : SectionRow = section_row id q.1 in
       let us : List Tree = map framed_tree put.own in
-      let puts : put_before (added adds) s last t ≡ us = put_added adds s last t ∙ ap (λ (rows : List SectionRow). map framed_tree rows) (put.before t in_it) in
+      let puts : put_before (added adds) s last t ≡ us = put_added adds s last t ∙ ap (λ (rows : List SectionRow). map framed_tree rows) (added_put put.before t in_it) in
       let woven : woven_one asked (added adds) old.ceiling last s t ≡ accepted (us ++ q.0 ∷ []) s' = one_woven asked (added adds) old.ceiling last s n s' t q.0 us told walked puts in record {
         read = d.read ++ t ∷ [];
         made = d.made ++ q.0 ∷ [];
@@ -349,11 +352,6 @@ module _ {S E : Type 0} (asked : Asks S E) (adds : Puts S SectionRow) where
         let step : walk_from asked old.ceiling last s (Tree.also t u) ≡ refused e s' = also_hooked asked old.ceiling last s t u ∙ rw h refl in
         d.accepts (Tree.also t u) ∙ ap (λ (r : Step S (Error E) Tree). onto d.made r) step
 
-    -- the sections so far are those before a fault
-    all_before : (before : List Tree) → alsos before Tree.finish ≡ alsos d.read Tree.finish → before ≡ d.read
-    all_before before e =
-        sym (append-nil before) ∙ sym (list_of-alsos before Tree.finish) ∙ ap list_of e ∙ list_of-alsos d.read Tree.finish ∙ append-nil d.read
-
     more_before : (before : List Tree) (t u : Tree) → alsos before Tree.finish ≡ alsos d.read (Tree.also t u) → before ≡ d.read ++ t ∷ list_of u
     more_before before t u e = sym (append-nil before) ∙ sym (list_of-alsos before Tree.finish) ∙ ap list_of e ∙ list_of-alsos d.read (Tree.also t u)
 
@@ -382,9 +380,9 @@ module _ {S E : Type 0} (asked : Asks S E) (adds : Puts S SectionRow) where
       stops = stops;
     }
 
-    -- the section hook was to add one that is too large
-    own_large : {e : Error E} → OwnNext adds old.ceiling last s rest e → OwnTooLarge asked adds old.ceiling bytes s0 e
-    own_large h = record {
+    -- the sections so far, as they became others
+    front : WovenFront asked adds old.ceiling bytes s0
+    front = record {
       read = d.read;
       text = d.text;
       rest = rest;
@@ -394,14 +392,35 @@ module _ {S E : Type 0} (asked : Asks S E) (adds : Puts S SectionRow) where
       spells = d.spells;
       stands = reads ∙ ap (λ (z : List ℕ). core_header ++ z) d.stands;
       weaves = d.weaves;
-      own = h;
     }
+
+    -- what stands behind them of the hook's own sections
+    gained : {e : Error E} {s' : S} {new' : Sections} {part : List SectionRow} → Gains new new' part → AddedThere asked adds old.ceiling last s rest e s' part →
+        GainsBefore asked adds bytes (s0, old) (s', new') e
+    gained {new' = new'} {part = part} gains there = inr (record {
+      front = front;
+      rows = d.rows;
+      part = part;
+      gains = gains_both old new new' d.rows part d.gains gains;
+      spelled = d.spelled ∙ sym (normal-alsos d.woven);
+      there = there;
+    })
+
+    -- the section hook was to add one that is too large
+    own_large : {e : Error E} → OwnNext adds old.ceiling last s rest e → OwnTooLarge asked adds old.ceiling bytes s0 e
+    own_large h = record { front = front; own = h }
 
     own_under : (own : List SectionRow) (e : Error E) → IsOwn new.ceiling own e → IsOwn old.ceiling own e
     own_under own e h =
         let ceiling : new.ceiling ≡ old.ceiling = ap Sections.ceiling d.gains in
         let P : ℕ → Type 0 = λ c. IsOwn c own e in
         subst P ceiling h
+
+    -- the same of a refusal of the hook
+    own_or_refused : {s' : S} (own : List SectionRow) (step : Step S (Error E) ℕ) (e : Error E) → IsOwn new.ceiling own e ⊎ ((e ≢ NoMemory → step ≡ refused e s') × IfParse e (λ at. ⊥)) → e ≢ NoMemory →
+        IsOwn old.ceiling own e ⊎ (step ≡ refused e s')
+    own_or_refused own step e (inl x) other = inl (own_under own e x)
+    own_or_refused own step e (inr q) other = inr (q.0 other)
 
     -- why a section, or the hook before it, is refused, where that is not of the hook's own sections
     abbrev Refuses : Tree → Error E → S → Type 0
@@ -412,11 +431,12 @@ module _ {S E : Type 0} (asked : Asks S E) (adds : Puts S SectionRow) where
     -- a section, or the hook before it, is refused
     section_refused : {f : Tree} {left : List ℕ} {s' : S} {new' : Sections} (e : Error E) → Begins frame rest f left →
         ((t : Tree) → InFrame t f → (part : List SectionRow) × Gains new new' part × StopsHooked asked adds old.ceiling last s t part e s') →
-        OwnTooLarge asked adds old.ceiling bytes s0 e ⊎ Refuses f e s' → GivesWoven asked adds bytes (s0, old) (s', new') (Err e)
-    section_refused {f = f} {left = left_behind} {s' = s'} {new' = new'} e there stops by = record {
+        OwnTooLarge asked adds old.ceiling bytes s0 e ⊎ Refuses f e s' → GainsBefore asked adds bytes (s0, old) (s', new') e → GivesWoven asked adds bytes (s0, old) (s', new') (Err e)
+    section_refused {f = f} {left = left_behind} {s' = s'} {new' = new'} e there stops by gains = record {
       reading = λ t r. go t (read_ahead t r);
       readable = tt;
       cause = why by;
+      gained = gains;
     }
       where
         go : (t : Tree) → Ahead d.read rest t [] → StopsWoven asked adds old.ceiling (s0, old) t (s', new') e
@@ -434,7 +454,7 @@ module _ {S E : Type 0} (asked : Asks S E) (adds : Puts S SectionRow) where
             absurd (fault.front.ends.none b.text left_behind q.0 b.spells (sym r ∙ b.reads))
         either w h (inr q) before left fault (same a r) =
             let P : List ℕ → Type 0 = λ z. StopsThere asked old.ceiling z last s w s' in
-            inr (d.made, last, s, accepted_before before (all_before before a), subst P r q)
+            inr (d.made, last, s, accepted_before before (same_sections before d.read a), subst P r q)
 
         before_fault : (w : Error E) → ((t : Tree) → InFrame t f → hooked asked old.ceiling last s t ≡ refused w s') →
             ((t : Tree) × InFrame t f) ⊎ StopsThere asked old.ceiling rest last s w s' → BeforeFault asked old.ceiling bytes s0 s' w
@@ -467,17 +487,19 @@ module _ {S E : Type 0} (asked : Asks S E) (adds : Puts S SectionRow) where
 
     -- and so an error at the place, as further visits showed
     fault_behind : {s' : S} {new' : Sections} (at : ℕ) → BeginsNone section rest → rest ≢ [] → (InvalidCodeSize rest → ⊥) → at ≡ length bytes - length rest → Further asked s s' →
-        GivesWoven asked adds bytes (s0, old) (s', new') (Err (ParseError (record { at = at })))
-    fault_behind {s' = s'} {new' = new'} at none some other place further = record {
+        GainsBefore asked adds bytes (s0, old) (s', new') (ParseError (record { at = at })) → GivesWoven asked adds bytes (s0, old) (s', new') (Err (ParseError (record { at = at })))
+    fault_behind {s' = s'} {new' = new'} at none some other place further gains = record {
       reading = λ t r. absurd (no_reading none some t r);
       readable = tt;
       cause = inl (inr (d.read, rest, fault_here none some, other, place, d.made, last, s, d.accepts, further));
+      gained = gains;
     }
 
     -- no frame begins
-    pub no_frame : {new' : Sections} (f : Fault) (at : ℕ) → NoFrame f rest at → at ≡ length bytes - length rest →
-        GivesWoven asked adds bytes (s0, old) (s, new') (Err (error_of_fault f))
-    no_frame (fault.Read x) at h place = fault_behind x.at (none_section h.1) h.2 h.3 (h.0 ∙ place) (further_none asked s)
+    pub no_frame : (f : Fault) (at : ℕ) → NoFrame f rest at → at ≡ length bytes - length rest →
+        GivesWoven asked adds bytes (s0, old) (s, new) (Err (error_of_fault f))
+    no_frame (fault.Read x) at h place =
+        fault_behind x.at (none_section h.1) h.2 h.3 (h.0 ∙ place) (further_none asked s) (gained (gains_none new) (AddedThere.unframed h.1 h.2 refl))
     no_frame fault.CodeSize at h place =
         let none = none_section h.0 in
         let some = code_size_some h.1 in
@@ -485,6 +507,7 @@ module _ {S E : Type 0} (asked : Asks S E) (adds : Puts S SectionRow) where
           reading = λ t r. absurd (no_reading none some t r);
           readable = tt;
           cause = inl (d.read, rest, fault_here none some, h.1, d.made, last, d.accepts);
+          gained = gained (gains_none new) (AddedThere.unframed h.0 some refl);
         }
     no_frame (fault.Header k) at h place = absurd h
     no_frame fault.NoMemory at h place = absurd h
@@ -492,7 +515,8 @@ module _ {S E : Type 0} (asked : Asks S E) (adds : Puts S SectionRow) where
     -- the error of the hook before a section
     pub hook_refused : (k : SectionId) {left body : List ℕ} {s' : S} {new' : Sections} (e : Error E) → Begins frame rest (numbered_frame (number k) body) left →
         HookStops (asked s (Section last (Some k))) (adds s last (Some k)) s' new new' e → GivesWoven asked adds bytes (s0, old) (s', new') (Err e)
-    hook_refused k {left = left} {body = body} {s' = s'} {new' = new'} e there h = section_refused e there stops (why h.3)
+    hook_refused k {left = left} {body = body} {s' = s'} {new' = new'} e there h =
+        section_refused e there stops (why h.3) (gained h.1 (AddedThere.hook k body left there (h.2, own_or_refused own (asked s (Section last (Some k))) e h.3)))
       where
         own : List SectionRow
         own = adds s last (Some k)
@@ -500,15 +524,11 @@ module _ {S E : Type 0} (asked : Asks S E) (adds : Puts S SectionRow) where
         told : {t : Tree} → InFrame t (numbered_frame (number k) body) → announced asked s last t ≡ asked s (Section last (Some k))
         told i = (kind_announced asked k s last i).0
 
-        by : (t : Tree) → InFrame t (numbered_frame (number k) body) → IsOwn new.ceiling own e ⊎ ((e ≢ NoMemory → asked s (Section last (Some k)) ≡ refused e s') × IfParse e (λ at. ⊥)) →
-            e ≢ NoMemory → IsOwn old.ceiling own e ⊎ (announced asked s last t ≡ refused e s')
-        by t i (inl x) other = inl (own_under own e x)
-        by t i (inr q) other = inr (told i ∙ q.0 other)
-
         stops : (t : Tree) → InFrame t (numbered_frame (number k) body) → (part : List SectionRow) × Gains new new' part × StopsHooked asked adds old.ceiling last s t part e s'
         stops t i =
             let P : List SectionRow → Type 0 = λ z. StopsHook old.ceiling z h.0 (announced asked s last t) e s' in
-            (h.0, h.1, inl (subst P (sym (kind_put adds k s last i)) (h.2, by t i h.3)))
+            let Q : Step S (Error E) ℕ → Type 0 = λ z. e ≢ NoMemory → IsOwn old.ceiling own e ⊎ (z ≡ refused e s') in
+            (h.0, h.1, inl (subst P (sym (kind_put adds k s last i)) (h.2, subst Q (sym (told i)) (own_or_refused own (asked s (Section last (Some k))) e h.3))))
 
         why : IsOwn new.ceiling own e ⊎ ((e ≢ NoMemory → asked s (Section last (Some k)) ≡ refused e s') × IfParse e (λ at. ⊥)) →
             OwnTooLarge asked adds old.ceiling bytes s0 e ⊎ Refuses (numbered_frame (number k) body) e s'
@@ -521,9 +541,9 @@ module _ {S E : Type 0} (asked : Asks S E) (adds : Puts S SectionRow) where
 
     -- a section's error, at the section's place
     pub section_err : {Stops : ℕ → Error E → S → Type 0} {id : ℕ} {f : Tree} {left : List ℕ} {now : Option SectionId} {n s' : S} {mid new' : Sections} (e : Error E) (at : ℕ) →
-        Reached asked Stops f rest left last now s n → Put adds f last s new mid → GivesFramed asked id f Stops (n, mid) (s', new') (Err e) → at ≡ length bytes - length rest →
+        Reached asked Stops f rest left last now s n → Put asked adds f last s n new mid → GivesFramed asked id f Stops (n, mid) (s', new') (Err e) → at ≡ length bytes - length rest →
         GivesWoven asked adds bytes (s0, old) (s', new') (Err (placed_at e at))
-    section_err {Stops = Stops} {id = id} {f = f} {n = n} {s' = s'} {mid = mid} {new' = new'} e at reached put given place = go e given
+    section_err {Stops = Stops} {id = id} {f = f} {left = left} {n = n} {s' = s'} {mid = mid} {new' = new'} e at reached put given place = go e given
       where
         ceiling : mid.ceiling ≡ old.ceiling
         ceiling = ap Sections.ceiling put.gains ∙ ap Sections.ceiling d.gains
@@ -534,8 +554,15 @@ module _ {S E : Type 0} (asked : Asks S E) (adds : Puts S SectionRow) where
         stops : (w : Error E) → GivesFramed asked id f Stops (n, mid) (s', new') (Err w) → (t : Tree) → InFrame t f →
             (part : List SectionRow) × Gains new new' part × StopsHooked asked adds old.ceiling last s t part w s'
         stops w g t i =
-            let P : Sections → Type 0 = λ z. Gains new z put.own in
-            (put.own, subst P (sym (g.reading t i).0) put.gains, inr (n, reached.told t i, sym (put.before t i), walked w g t i))
+            (put.own, own_gains w g, inr (n, reached.told t i, sym (added_put put.before t i), walked w g t i))
+
+        own_gains : (w : Error E) → GivesFramed asked id f Stops (n, mid) (s', new') (Err w) → Gains new new' put.own
+        own_gains w g = let P : Sections → Type 0 = λ z. Gains new z put.own in subst P (sym g.unchanged) put.gains
+
+        -- all that the hook added stands
+        gains : (w v : Error E) → GivesFramed asked id f Stops (n, mid) (s', new') (Err w) → ((t : Tree) → InFrame t f → v ≢ NoMemory → walk asked old.ceiling n t ≡ refused v s') →
+            GainsBefore asked adds bytes (s0, old) (s', new') v
+        gains w v g refuses = gained (own_gains w g) (AddedThere.section f left n reached.framed put.before refuses)
 
         -- what was refused inside it
         inside : (w : Error E) → GivesFramed asked id f Stops (n, mid) (s', new') (Err w) → IfRefused w (((t : Tree) × InFrame t f) ⊎ StopsThere asked old.ceiling rest last s w s')
@@ -548,11 +575,13 @@ module _ {S E : Type 0} (asked : Asks S E) (adds : Puts S SectionRow) where
         refuses : (w : Error E) → IfParse w (λ at. ⊥) → GivesFramed asked id f Stops (n, mid) (s', new') (Err w) → GivesWoven asked adds bytes (s0, old) (s', new') (Err w)
         refuses w usual g =
             section_refused w reached.framed (stops w g) (inr ((λ t i other. told_walked asked old.ceiling last s n t (reached.told t i) ∙ walked w g t i other), usual, inside w g))
+            (gains w w g (walked w g))
 
         go : (w : Error E) → GivesFramed asked id f Stops (n, mid) (s', new') (Err w) → GivesWoven asked adds bytes (s0, old) (s', new') (Err (placed_at w at))
         go (ParseError x) g =
             fault_behind at (none_in_frame reached.framed g.unreadable.0) (some_begun reached.framed) (code_size_other reached.framed) place
             (further_then asked s n s' reached.further g.unreadable.1)
+            (gains (ParseError x) (ParseError (record { at = at })) g (λ t i. absurd (g.unreadable.0 t i)))
         go (UserError x) g = refuses (UserError x) tt g
         go (TooLarge x) g = refuses (TooLarge x) tt g
         go NoMemory g = refuses NoMemory tt g
@@ -565,6 +594,7 @@ module _ {S E : Type 0} (asked : Asks S E) (adds : Puts S SectionRow) where
       reading = λ t r. go t (read_ahead t r);
       readable = (alsos d.read Tree.finish, record { rest = start; stands = reads; spells = all });
       cause = tt;
+      gained = tt;
     }
       where
         all : Spells sections start (alsos d.read Tree.finish)
@@ -596,18 +626,17 @@ module _ {S E : Type 0} (asked : Asks S E) (adds : Puts S SectionRow) where
       reading = λ t r. go t (read_ahead t r);
       readable = tt;
       cause = why h.3;
+      gained = gained h.1 (AddedThere.at_end empty (h.2, by));
     }
       where
         own : List SectionRow
         own = adds s last None
 
-        by : IsOwn new.ceiling own e ⊎ ((e ≢ NoMemory → asked s (Section last None) ≡ refused e s') × IfParse e (λ at. ⊥)) → e ≢ NoMemory →
-            IsOwn old.ceiling own e ⊎ (asked s (Section last None) ≡ refused e s')
-        by (inl x) other = inl (own_under own e x)
-        by (inr q) other = inr (q.0 other)
+        by : e ≢ NoMemory → IsOwn old.ceiling own e ⊎ (asked s (Section last None) ≡ refused e s')
+        by = own_or_refused own (asked s (Section last None)) e h.3
 
         go : (t : Tree) → Ahead d.read rest t [] → StopsWoven asked adds old.ceiling (s0, old) t (s', new') e
-        go t (same f _) = stopped e s' new' t Tree.finish h.0 f h.1 (h.2, by h.3)
+        go t (same f _) = stopped e s' new' t Tree.finish h.0 f h.1 (h.2, by)
         go t (more u v left f b) = absurd (none_behind.none b.text left u b.spells (sym empty ∙ b.reads))
 
         no_fault : (before : List Tree) (left : List ℕ) → FaultAt bytes before left → Ahead d.read rest (alsos before Tree.finish) left → ⊥
@@ -672,11 +701,13 @@ module _ {S E : Type 0} (asked : Asks S E) (adds : Puts S SectionRow) where
     reading = λ t r. absurd (let e : core_header ++ r.rest ≡ component_header ++ there.0 = sym r.stands ∙ there.1 in cc);
     readable = tt;
     cause = inl (there.0, there.1, refl);
+    gained = inl ((λ rest stands. let e : core_header ++ rest ≡ component_header ++ there.0 = sym stands ∙ there.1 in cc), refl);
   }
   header_wrong s old (fault.Read x) none = record {
     reading = λ t r. absurd ((none.1 r.rest).0 r.stands);
     readable = tt;
     cause = inl (inl (none.1, none.0, refl));
+    gained = inl ((λ rest. (none.1 rest).0), refl);
   }
   header_wrong s old (fault.Header kinds.Module) none = absurd none
   header_wrong s old fault.CodeSize none = absurd none

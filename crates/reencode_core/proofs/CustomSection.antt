@@ -136,12 +136,13 @@ module _ {S E : Type 0} (i : Ghosts S E) {name contents : List ℕ} (s : S) (old
 
       given : (r : Result (Unit {0}) (Error E)) → AddsMapped {E = E} (section_row 0 (normal body)) old (Ok tt) new r → ContentsMade (asks i) name contents old.ceiling s m body →
           GivesCustom (asks i) name contents (s, old) (m, new) r
-      given (Ok v) adds w = record { reading = gives (Ok v) adds w; readable = read_custom w.reading.0 w.reading.1; unreadable = tt; refusal = tt }
+      given (Ok v) adds w = record { reading = gives (Ok v) adds w; readable = read_custom w.reading.0 w.reading.1; unreadable = tt; refusal = tt; unchanged = tt }
       given (Err e) adds w = record {
         reading = gives (Err e) adds w;
         readable = tt;
         unreadable = added_usual _ (section_row 0 (normal body)) old new (Err e) adds;
         refusal = unless_wanting e (λ other. inl (read_custom w.reading.0 w.reading.1));
+        unchanged = adds.0;
       }
 
   -- ---- one that is named `name`
@@ -197,6 +198,7 @@ module _ {S E : Type 0} (i : Ghosts S E) {name contents : List ℕ} (s : S) (old
           readable = tt;
           unreadable = IfParse-map e (λ at f. (λ t reads. f.none reads.0 (names_of is reads.0 reads.2), is, f)) g.unreadable;
           refusal = IfRefused-map e either g.refusal;
+          unchanged = refl;
         }
 
   -- ---- any other one
@@ -231,4 +233,5 @@ module _ {S E : Type 0} (i : Ghosts S E) {name contents : List ℕ} (s : S) (old
           readable = tt;
           unreadable = stops_usual _ (walk (asks i) old.ceiling s (named name (Tree.raw contents))) e m tt stops;
           refusal = unless_wanting e (λ some. absurd (never_refused (stops some)));
+          unchanged = refl;
         }

@@ -21,11 +21,11 @@ use Rattle.reencode_core.specs.Errors.{IfParse, placed_at}
 use Rattle.reencode_core.specs.Sections.{KeepsModule, GivesAdded, StopsSection}
 use Rattle.reencode_core.specs.Names.{StopsCustom, GivesCustom}
 use Rattle.reencode_core.specs.Core.{GivesCore}
-use Rattle.reencode_core.specs.Woven.{GivesWoven}
+use Rattle.reencode_core.specs.Woven.{AddedBefore, GivesWoven}
 use Rattle.reencode_core.specs.Leaves.{LeavesReading}
 use Rattle.reencode_core.proofs.AddsNothing.{core_given}
 use Rattle.reencode_core.proofs.CoreLoop.{SectionsDone, Put, nothing_put, core_leaves_hook, core_leaves_inside, core_leaves_none, end_given, end_left, header_wrong, hook_err, hook_refused, hook_stops, no_frame, section_err, sections_begin, sections_more}
-use Rattle.reencode_core.proofs.AnySection.{GivesFramed, Reached, kind_gives, kind_put, kind_reached, custom_gives, custom_put, custom_reached, unknown_gives, unknown_put, unknown_reached}
+use Rattle.reencode_core.proofs.AnySection.{GivesFramed, Reached, kind_gives, kind_reached, custom_gives, custom_reached, unknown_gives, unknown_reached}
 use Rattle.reencode_core.proofs.Known.{keeps_same, keeps_more, hook_keeps}
 use Rattle.reencode_core.proofs.MappedSection.{SectionClauses}
 use Rattle.reencode_core.proofs.OneRow.{answers, asks}
@@ -122,7 +122,7 @@ module _ {S E : Type 0} (i : Ghosts S E) where
         record {
           kept : KeepsModule old new';
           reached : IsTrue i.keeps_defaults → Reached (asks i) Stops f reader.rest left last now s n;
-          put : Put i.adds f last s new mid;
+          put : Put (asks i) i.adds f last s n new mid;
           gives : IsTrue i.keeps_defaults → GivesFramed (asks i) id f Stops (n, mid) (m, new') r;
           leaves : IsTrue i.keeps_defaults → IsTrue i.sure → LeavesReading (λ t. InFrame t f) (asks i) n m r;
         }
@@ -134,7 +134,7 @@ module _ {S E : Type 0} (i : Ghosts S E) where
     kind_called k {body = body} {n = n} {mid = mid} {u = u} {new' = new'} {r = r} framed hook given = record {
       kept = keeps_more old mid new' (keeps_more old new mid inv.kept (hook_keeps i.reply i.next i.adds s n new mid last (Some k) (Ok u) hook.answer)) given.kept;
       reached = λ d. kind_reached (asks i) k framed hook.answer.0;
-      put = record { own = i.adds s last (Some k); gains = hook.answer.1; before = λ t there. kind_put i.adds k s last there };
+      put = record { own = i.adds s last (Some k); gains = hook.answer.1; before = AddedBefore.known k body n hook.answer.0 };
       gives = λ d. kind_gives r k framed (given.default d);
       leaves = λ d sure t there. given.after_error d sure t (kind_in_frame k body t there);
     }
@@ -146,7 +146,7 @@ module _ {S E : Type 0} (i : Ghosts S E) where
     custom_called {name = name} {contents = contents} {new' = new'} {r = r} framed given = record {
       kept = keeps_more old new new' inv.kept given.kept;
       reached = λ d. custom_reached (asks i) framed;
-      put = nothing_put (λ t there. custom_put i.adds s last there);
+      put = nothing_put (AddedBefore.custom name contents);
       gives = λ d. custom_gives r (given.default d);
       leaves = λ d sure t there. given.after_error d sure t (custom_in_frame name contents t there);
     }
@@ -158,7 +158,7 @@ module _ {S E : Type 0} (i : Ghosts S E) where
     unknown_called {id = id} {contents = contents} {m = m} {new' = new'} {r = r} low framed given = record {
       kept = keeps_more old new new' inv.kept given.kept;
       reached = λ d. unknown_reached (asks i) low framed;
-      put = nothing_put (λ t there. unknown_put i.adds s last low there);
+      put = nothing_put (AddedBefore.unknown id contents low);
       gives = λ d. unknown_gives r low framed (given.default d) (given.usual d);
       leaves = λ d sure t there.
           let P : Tree → Type 0 = λ z. LeavesVisited (asks i) s (visits z) m r in subst P (sym (unknown_in_frame id contents t low there)) (given.after_error d sure);

@@ -1,17 +1,27 @@
 -- A fault has one place, and says which error comes.
-use Rattle.std.proofs.Common.{◌≡◌, ◌-◌, ℕ, List, [], ◌++◌, length, refl, sym, ap, ◌∙◌, subst, append-nil, ◌⊎◌, inl, inr, Option}
+use Rattle.std.proofs.Common.{◌≡◌, ◌≢◌, ◌-◌, ℕ, List, [], ◌++◌, length, refl, sym, ap, ◌∙◌, subst, append-nil, ◌⊎◌, inl, inr, Option, None, Some, Result}
 use Rattle.std.proofs.lemmas.List.{append_cancel_left}
 use Rattle.wasm_shapes.specs.declared.SectionId.{SectionId}
+use Rattle.wasm_shapes.specs.declared.Visit.{Visit}
+use Rattle.wasm_shapes.specs.declared.Visit.TheVariants.{Section}
 use Rattle.wasm_shapes.specs.Tree.{Tree}
+use Rattle.wasm_shapes.specs.Place.{Begins}
 use Rattle.wasm_shapes.specs.CodeSize.{InvalidCodeSize}
-use Rattle.wasm_shapes.specs.Module.{core_header, component_header, alsos, CoreReading, FaultAt}
+use Rattle.wasm_shapes.specs.Module.{core_header, component_header, section, alsos, CoreReading, FaultAt}
+use Rattle.wasm_shapes.proofs.SectionTable.{frame_there, none_section}
 use Rattle.wasm_read.proofs.CodeSize.{code_size_other}
+use Rattle.wasm_write.specs.Sections.{Sections, SectionRow}
 use Rattle.reencode_hooks.specs.declared.error.Error.{Error}
 use Rattle.reencode_hooks.specs.declared.error.Error.TheVariants.{InvalidCodeSectionSize, UnexpectedNonCoreModuleSection, ParseError, UserError, TooLarge, NoMemory}
+use Rattle.reencode_hooks.specs.Run.{Step, ask, refused}
+use Rattle.reencode_core.specs.Errors.{IfParse}
 use Rattle.reencode_core.specs.Rows.{Asks}
 use Rattle.reencode_core.specs.Core.{AcceptsSections, RefusedIn, StopsThere, BeforeFault, IsCause}
-use Rattle.reencode_core.specs.Faults.{FaultGives, FaultTells}
-use Rattle.reencode_core.proofs.CoreLoop.{Ahead, same, more, ahead, none_behind}
+use Rattle.reencode_core.specs.Weave.{Puts}
+use Rattle.reencode_core.specs.Woven.{AddedThere, GainsFront, IsOwn}
+use Rattle.reencode_core.specs.Faults.{FaultGains, FaultGives, FaultTells, TellsFault}
+use Rattle.reencode_core.proofs.CoreLoop.{Ahead, same, more, ahead, none_behind, same_sections}
+use Rattle.reencode_core.proofs.Usual.{Usual, stops_usual, usual_ask, usual_walk}
 
 module _ {bytes : List ℕ} {before : List Tree} {rest : List ℕ} (f : FaultAt bytes before rest) where
   -- what is left at a fault
@@ -63,3 +73,54 @@ fault_tells asked = record {
   none = λ bytes before rest f. no_reading f;
   told = λ c bytes s m e h before rest f. told f asked c s m e h;
 }
+
+-- ---- what stands in the module
+
+not_wanting : {E : Type 0} (e : Error E) → TellsFault e → e ≢ NoMemory
+not_wanting (ParseError x) tells = λ q. cc
+not_wanting InvalidCodeSectionSize tells = λ q. cc
+not_wanting _ tells = absurd tells
+
+-- no refusal is such an error
+not_usual : {E : Type 0} (e : Error E) → TellsFault e → IfParse e (λ at. ⊥) → ⊥
+not_usual (ParseError x) tells h = h
+not_usual InvalidCodeSectionSize tells h = h
+not_usual _ tells h = absurd tells
+
+not_own : {E : Type 0} (e : Error E) (c : ℕ) (own : List SectionRow) → TellsFault e → IsOwn c own e → ⊥
+not_own (ParseError x) c own tells h = h
+not_own InvalidCodeSectionSize c own tells h = h
+not_own _ c own tells h = absurd tells
+
+module _ {S E : Type 0} (reply : S → Visit → Result ℕ E) (next : S → Visit → S) (adds : Puts S SectionRow) {c : ℕ} {bytes : List ℕ} {before after : S × Sections} {e : Error E}
+    (g : GainsFront (ask reply next) adds c bytes before after e) (tells : TellsFault e) where
+  never : {A : Type 0} {step : Step S (Error E) A} → Usual step → step ≡ refused e after.0 → ⊥
+  never {step = step} usual h = not_usual e tells (stops_usual (λ at. ⊥) step e after.0 usual (λ other. h))
+
+  hook_never : (own : List SectionRow) (last now : Option SectionId) → (e ≢ NoMemory → IsOwn c own e ⊎ (ask reply next g.front.at (Section last now) ≡ refused e after.0)) → ⊥
+  hook_never own last now h = go (h (not_wanting e tells))
+    where
+      go : IsOwn c own e ⊎ (ask reply next g.front.at (Section last now) ≡ refused e after.0) → ⊥
+      go (inl x) = not_own e c own tells x
+      go (inr q) = never (usual_ask reply next g.front.at (Section last now)) q
+
+  -- no section begins where it stopped
+  none_there : (t : Tree) (left : List ℕ) → Begins section g.front.rest t left → ⊥
+  none_there t left b = go g.there
+    where
+      go : AddedThere (ask reply next) adds c g.front.last g.front.at g.front.rest e after.0 g.part → ⊥
+      go (AddedThere.at_end empty h) = none_behind.none b.text left t b.spells (sym empty ∙ b.reads)
+      go (AddedThere.hook k body others framed h) = hook_never (adds g.front.at g.front.last (Some k)) g.front.last (Some k) h.1
+      go (AddedThere.section f others n framed told refuses) =
+          never (usual_walk reply next c None n t b.text b.spells.spelled) (refuses t (frame_there framed b) (not_wanting e tells))
+      go (AddedThere.unframed none some empty) = (none_section none).none b.text left t b.spells b.reads
+
+  pub fault_gains : (read : List Tree) (rest : List ℕ) → FaultAt bytes read rest → (g.front.read ≡ read) × (g.front.rest ≡ rest)
+  fault_gains read rest f =
+      let behind : g.front.text ++ g.front.rest ≡ f.front.text ++ rest =
+      append_cancel_left core_header (g.front.text ++ g.front.rest) (f.front.text ++ rest) (sym g.front.stands ∙ f.front.stands) in
+      go (ahead g.front.read (g.front.text ++ g.front.rest) g.front.text g.front.rest f.front.text rest (alsos read Tree.finish) g.front.spells refl f.front.spells behind f.front.ends)
+    where
+      go : Ahead g.front.read g.front.rest (alsos read Tree.finish) rest → (g.front.read ≡ read) × (g.front.rest ≡ rest)
+      go (same a r) = (sym (same_sections read g.front.read a), r)
+      go (more t u left a b) = absurd (none_there t left b)

@@ -50,6 +50,7 @@ module _ {S E : Type 0} (asked : Asks S E) (k : SectionId) (s m : S) (body : Lis
     readable = b.reading;
     unreadable = tt;
     refusal = tt;
+    unchanged = tt;
   }
 
   pub section_not_given : (w : WriteFault) → IfTooLarge w (λ size. (size ≡ length (normal made)) × (old.ceiling < size)) →
@@ -59,6 +60,7 @@ module _ {S E : Type 0} (asked : Asks S E) (k : SectionId) (s m : S) (body : Lis
     readable = tt;
     unreadable = write_usual E _ w;
     refusal = unless_wanting (error_of_write w) (λ other. inl b.reading);
+    unchanged = refl;
   }
     where
       stops : (w : WriteFault) → IfTooLarge w (λ size. (size ≡ length (normal made)) × (old.ceiling < size)) → (u : Tree) →
@@ -99,6 +101,7 @@ module _ {S E : Type 0} (asked : Asks S E) (k : SectionId) (known : HasRows k) w
     readable = tt;
     unreadable = parse f none;
     refusal = fault_unrefused E _ f;
+    unchanged = refl;
   }
     where
       never : (f : Fault) → ReadsNone f 0 (BeginsNoNumber 128 32 32 body) → (t : Tree) → ReadsAs k body t → ⊥
@@ -152,6 +155,7 @@ module _ {S E : Type 0} (asked : Asks S E) (k : SectionId) (known : HasRows k) w
         readable = tt;
         unreadable = IfParse-map e (λ at f. ((λ t r. let v = rows_read there t r in f.none.none v.0 v.2), inr (inl (record { has_rows = known; reader = reader; made = rows; counted = there; fault = f })))) g.unreadable;
         refusal = IfRefused-map e (λ f. inr (record { reader = reader; made = rows; counted = there; stops = f })) g.refusal;
+        unchanged = refl;
       }
     where
       vec_refused : (u : Tree) → walk asked old.ceiling s u ≡ refused e m → walk asked old.ceiling s (Tree.vec u) ≡ refused e m
@@ -205,7 +209,7 @@ module _ {S E : Type 0} (asked : Asks S E) (k : SectionId) {space : Space} (one 
 
   -- it is missing, or bytes are left behind it
   pub item_missing : (s : S) (body : List ℕ) (old : Sections) (e : ReadError) → NoItem body e.at → GivesSection asked k body (s, old) (s, old) (Err (ParseError e))
-  item_missing s body old e none = record { reading = λ t r. absurd (no_item none t r); readable = tt; unreadable = (no_item none, place none); refusal = tt }
+  item_missing s body old e none = record { reading = λ t r. absurd (no_item none t r); readable = tt; unreadable = (no_item none, place none); refusal = tt; unchanged = refl }
     where
       place : NoItem body e.at →
           ((e.at ≡ 0) × (BeginsNoNumber 128 32 32 body ⊎ (body_of k ≡ Shape.none)) × (s ≡ s)) ⊎ RowsFaultIn asked old.ceiling k body s s e.at
@@ -221,6 +225,7 @@ module _ {S E : Type 0} (asked : Asks S E) (k : SectionId) {space : Space} (one 
     readable = tt;
     unreadable = IfParse-map e (λ at never. absurd never) usual;
     refusal = unless_wanting e (λ other. inl (tree_of k (Tree.ix space n), item_read filled));
+    unchanged = refl;
   }
 
   -- it was accepted
@@ -236,6 +241,7 @@ gives_none asked k s body old e = record {
   readable = tt;
   unreadable = ((λ t r. none r.2), inl (refl, inr e, refl));
   refusal = tt;
+  unchanged = refl;
 }
   where
     none : {u : Tree} → Spells (body_of k) body u → ⊥

@@ -71,15 +71,17 @@ module _ {S E : Type 0} (asked : Asks S E) (adds : Puts S SectionRow) where
       -- the sections before
       large : (y z : List ℕ) → r.rest ≡ y ++ z → Spells sections y (alsos g.read Tree.finish) → OwnNext adds c g.last g.at z e → OwnTooLarge asked adds c bytes s e
       large y z parts spells own = record {
-        read = g.read;
-        text = y;
-        rest = z;
-        made = g.made;
-        last = g.last;
-        at = g.at;
-        spells = spells;
-        stands = r.stands ∙ ap (λ (w : List ℕ). core_header ++ w) parts;
-        weaves = g.weaves;
+        front = record {
+          read = g.read;
+          text = y;
+          rest = z;
+          made = g.made;
+          last = g.last;
+          at = g.at;
+          spells = spells;
+          stands = r.stands ∙ ap (λ (w : List ℕ). core_header ++ w) parts;
+          weaves = g.weaves;
+        };
         own = own;
       }
 

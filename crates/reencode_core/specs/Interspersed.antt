@@ -3,8 +3,12 @@ use Rattle.std.specs.Prelude.{◌≡◌, ℕ, List, map, Option, None}
 use Rattle.wasm_shapes.specs.declared.SectionId.{SectionId}
 use Rattle.wasm_shapes.specs.Tree.{Tree, kind, normal}
 use Rattle.wasm_shapes.specs.Spells.{Spells}
+use Rattle.wasm_shapes.specs.Fits.{Fits}
 use Rattle.wasm_shapes.specs.Module.{alsos, core_module}
 use Rattle.wasm_write.specs.Sections.{SectionRow, framed_tree}
+use Rattle.reencode_hooks.specs.declared.error.Error.{Error}
+use Rattle.reencode_hooks.specs.declared.error.Error.TheVariants.{NoMemory}
+use Rattle.reencode_hooks.specs.Hooks.{HasTooLarge}
 use Rattle.reencode_core.specs.Weave.{put_before}
 
 -- what is put between a section of the first kind and one of the second, as rows or as trees
@@ -29,3 +33,10 @@ pub record IsInterspersed (sections : Between SectionRow) (bytes output : List �
   pub tree : Tree
   pub reading : Spells core_module bytes tree
   pub spelled : output ≡ normal (interspersed sections tree)
+
+-- Where the bytes are a core module, no frame of its normal spelling and no section between its own is above the ceiling, memory
+-- is the one thing that may be wanting.
+abbrev pub IsMadeBetween : {E : Type 0} → Between SectionRow → ℕ → List ℕ → Error E → Type 0
+IsMadeBetween sections ceiling bytes e =
+    (tree : Tree) → Spells core_module bytes tree → Fits tree ceiling
+    → ((after before : Option SectionId) (size : ℕ) → ¬ HasTooLarge ceiling (sections after before) size) → e ≡ NoMemory

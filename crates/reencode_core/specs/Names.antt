@@ -178,6 +178,7 @@ pub record GivesCustom {S E : Type 0} (asked : Asks S E) (name contents : List �
       × SubsectionsFault asked before.1.ceiling (contents_standing contents) before.0 after.0 at))
   pub refusal : IfErr result (λ e.
       IfRefused e (((t : Tree) × ReadsCustom name contents t) ⊎ StopsCustom asked before.1.ceiling name contents before.0 e after.0))
+  pub unchanged : IfErr result (λ _. after.1 ≡ before.1)
 
 -- A custom section that has no reading stands there in its frame, and an entry of its names is refused.
 pub record StopsInNames {S E : Type 0} (asked : Asks S E) (c : ℕ) (bytes : List ℕ) (s : S) (e : Error E) (m : S) : Type 0 where

@@ -100,3 +100,4 @@ pub record GivesSection {S E : Type 0} (asked : Asks S E) (kind : SectionId) (bo
   pub unreadable : IfErr result (λ e. IfParse e (BodyFault asked before.1.ceiling kind body before.0 after.0))
   pub refusal : IfErr result (λ e.
       IfRefused e (((t : Tree) × ReadsAs kind body t) ⊎ StopsSection asked before.1.ceiling kind body before.0 e after.0))
+  pub unchanged : IfErr result (λ _. after.1 ≡ before.1)

@@ -1,11 +1,11 @@
 -- What the calls that map a whole core module give, where the section hook may add sections.
-use Rattle.std.specs.Prelude.{◌≡◌, ◌≢◌, ◌⊎◌, ℕ, List, [], ◌++◌, Option, Some, None, Result, Ok, Err, IfOk, IfErr}
+use Rattle.std.specs.Prelude.{◌≡◌, ◌≢◌, ◌⊎◌, ◌≤◌, ℕ, List, [], ◌++◌, Option, Some, None, Result, Ok, Err, IfOk, IfErr}
 use Rattle.wasm_shapes.specs.declared.SectionId.{SectionId}
 use Rattle.wasm_shapes.specs.declared.Visit.TheVariants.{Section}
 use Rattle.wasm_shapes.specs.Tree.{Tree, normal}
 use Rattle.wasm_shapes.specs.Spells.{Spells}
-use Rattle.wasm_shapes.specs.Module.{core_header, core_module, sections, alsos, frame, CoreReading}
-use Rattle.wasm_shapes.specs.Place.{Begins}
+use Rattle.wasm_shapes.specs.Module.{core_header, core_module, sections, alsos, frame, custom_frame, InFrame, CoreReading}
+use Rattle.wasm_shapes.specs.Place.{Begins, BeginsNone}
 use Rattle.wasm_shapes.specs.SectionTable.{number}
 use Rattle.wasm_read.specs.Frames.{numbered_frame}
 use Rattle.wasm_write.specs.Sections.{Sections, SectionRow, sections_bytes}
@@ -85,8 +85,9 @@ OwnNext adds c last s rest e =
     ((rest ≡ []) × IsOwn c (adds s last None) e)
     ⊎ ((id : SectionId) × (body left : List ℕ) × Begins frame rest (numbered_frame (number id) body) left × IsOwn c (adds s last (Some id)) e)
 
--- some sections stand at the front and were accepted, and the section hook behind them was to add one that is too large
-pub record OwnTooLarge {S E : Type 0} (asked : Asks S E) (adds : Puts S SectionRow) (c : ℕ) (bytes : List ℕ) (s : S) (e : Error E) : Type 0 where
+-- Some sections stand behind the header, were accepted and became those, added ones in their places; what stands behind them is
+-- walked from here, behind a section of that kind.
+pub record WovenFront {S E : Type 0} (asked : Asks S E) (adds : Puts S SectionRow) (c : ℕ) (bytes : List ℕ) (s : S) : Type 0 where
   pub read : List Tree
   pub text : List ℕ
   pub rest : List ℕ
@@ -96,11 +97,50 @@ pub record OwnTooLarge {S E : Type 0} (asked : Asks S E) (adds : Puts S SectionR
   pub spells : Spells sections text (alsos read Tree.finish)
   pub stands : bytes ≡ core_header ++ (text ++ rest)
   pub weaves : WeavesSections asked (added adds) c s read made last at
-  pub own : OwnNext adds c last at rest e
+
+-- the section hook behind some sections that were accepted was to add one that is too large
+pub record OwnTooLarge {S E : Type 0} (asked : Asks S E) (adds : Puts S SectionRow) (c : ℕ) (bytes : List ℕ) (s : S) (e : Error E) : Type 0 where
+  pub front : WovenFront asked adds c bytes s
+  pub own : OwnNext adds c front.last front.at front.rest e
 
 -- why an error comes: as where nothing is added, or a section that the hook was to add is too large
 abbrev pub IsWovenCause : {S E : Type 0} → Asks S E → Puts S SectionRow → ℕ → List ℕ → S → S → Error E → Type 0
 IsWovenCause asked adds c bytes s m e = IsCause asked c bytes s m e ⊎ OwnTooLarge asked adds c bytes s e
+
+-- ---- what stands in the module after an error, whether the bytes have a reading or not
+
+-- What was asked before the section in a frame, and accepted, and what of its own sections the hook added there: before a section
+-- of a known kind the section hook, and all of them; before another nothing.
+pub data AddedBefore {S E : Type 0} (asked : Asks S E) (adds : Puts S SectionRow) (last : Option SectionId) (s : S) : Tree → S → List SectionRow → Type 0 where
+  known : (k : SectionId) (body : List ℕ) (n : S) → asked s (Section last (Some k)) ≡ accepted 0 n →
+      AddedBefore asked adds last s (numbered_frame (number k) body) n (adds s last (Some k))
+  custom : (name contents : List ℕ) → AddedBefore asked adds last s (custom_frame name contents) s []
+  unknown : (id : ℕ) (contents : List ℕ) → 14 ≤ id → AddedBefore asked adds last s (numbered_frame id contents) s []
+
+-- What of its own sections the hook added behind the sections that were accepted, where it stopped: a front part, where the hook
+-- at the end refused, or the one before a section; else all of them, where the section is refused or has no reading; and none
+-- where no frame begins.
+pub data AddedThere {S E : Type 0} (asked : Asks S E) (adds : Puts S SectionRow) (c : ℕ) (last : Option SectionId) (s : S) (rest : List ℕ) (e : Error E) (m : S) (part : List SectionRow) : Type 0 where
+  at_end : rest ≡ [] → StopsHook c (adds s last None) part (asked s (Section last None)) e m → AddedThere asked adds c last s rest e m part
+  hook : (k : SectionId) (body left : List ℕ) → Begins frame rest (numbered_frame (number k) body) left →
+      StopsHook c (adds s last (Some k)) part (asked s (Section last (Some k))) e m → AddedThere asked adds c last s rest e m part
+  section : (f : Tree) (left : List ℕ) (n : S) → Begins frame rest f left → AddedBefore asked adds last s f n part →
+      ((t : Tree) → InFrame t f → e ≢ NoMemory → walk asked c n t ≡ refused e m) → AddedThere asked adds c last s rest e m part
+  unframed : BeginsNone frame rest → rest ≢ [] → part ≡ [] → AddedThere asked adds c last s rest e m part
+
+-- What some sections became was added, with what the hook adds before each; and of the hook's own sections behind them these.
+pub record GainsFront {S E : Type 0} (asked : Asks S E) (adds : Puts S SectionRow) (c : ℕ) (bytes : List ℕ) (before after : S × Sections) (e : Error E) : Type 0 where
+  pub front : WovenFront asked adds c bytes before.0
+  pub rows : List SectionRow
+  pub part : List SectionRow
+  pub gains : Gains before.1 after.1 (rows ++ part)
+  pub spelled : sections_bytes rows ≡ normal (alsos front.made Tree.finish)
+  pub there : AddedThere asked adds c front.last front.at front.rest e after.0 part
+
+-- what the module gained before an error: nothing, where the header of a core module is missing
+abbrev pub GainsBefore : {S E : Type 0} → Asks S E → Puts S SectionRow → List ℕ → S × Sections → S × Sections → Error E → Type 0
+GainsBefore asked adds bytes before after e =
+    (((rest : List ℕ) → bytes ≢ core_header ++ rest) × (after.1 ≡ before.1)) ⊎ GainsFront asked adds before.1.ceiling bytes before after e
 
 -- ---- the module, and its bytes
 
@@ -108,6 +148,7 @@ pub record GivesWoven {S E : Type 0} (asked : Asks S E) (adds : Puts S SectionRo
   pub reading : (t : Tree) → CoreReading bytes t → GivesWovenModule asked adds before t after result
   pub readable : IfOk result (λ _. (t : Tree) × CoreReading bytes t)
   pub cause : IfErr result (IsWovenCause asked adds before.1.ceiling bytes before.0 after.0)
+  pub gained : IfErr result (GainsBefore asked adds bytes before after)
 
 -- The bytes of the woven tree are the answer; or its refusal, or a section that the hook was to add is too large; or memory is wanting.
 abbrev pub GivesWovenNormal : {S E A : Type 0} → Step S (Error E) Tree → (Error E → Type 0) → S → Result A (Error E) → (A → List ℕ) → Type 0

@@ -1,7 +1,7 @@
 //! Laws, each the contract of a function that does nothing.
 ghost use Rattle.std.specs.Prelude.{List, ℕ};
 ghost use Rattle.reencode_hooks.specs.Run.{ask};
-ghost use Rattle.reencode_core.specs.Faults.{FaultTells};
+ghost use Rattle.reencode_core.specs.Faults.{FaultGains, FaultTells};
 ghost use Rattle.reencode_core.specs.SectionVisits.{SectionVisitsAre};
 ghost use Rattle.reencode_core.specs.Woven.{AcceptedIsAnswered};
 ghost use Rattle.reencode_core.specs.WovenLaws.{OutputIsRead, WeaveEnds, WeaveIsRun, WeaveOfNothing};
@@ -12,6 +12,12 @@ use reencode_hooks::ReencodeIndices;
 /// says which errors may come of them.
 pub fn fault_tells<T: ReencodeIndices>(_reencoder: &T)
     ensures { FaultTells (ask T.reply T.next) }
+{}
+
+/// With an error of the bytes the module has gained what all the sections before the fault became, with what the section hook
+/// added before each, and of its own sections before what is at fault all of them.
+pub fn fault_gains<T: ReencodeIndices>(_reencoder: &T)
+    ensures { FaultGains (ask T.reply T.next) T.adds }
 {}
 
 /// In a reading of a core module with n sections of the ids 1 to 13 the section hook is asked n + 1 times: before each of these,
