@@ -381,7 +381,7 @@ module _ {S E : Type 0} (asked : Asks S E) (adds : Puts S SectionRow) where
     }
 
     -- the sections so far, as they became others
-    front : WovenFront asked adds old.ceiling bytes s0
+    abbrev front : WovenFront asked adds old.ceiling bytes s0
     front = record {
       read = d.read;
       text = d.text;
@@ -551,13 +551,13 @@ module _ {S E : Type 0} (asked : Asks S E) (adds : Puts S SectionRow) where
         walked : (w : Error E) → GivesFramed asked id f Stops (n, mid) (s', new') (Err w) → (t : Tree) → InFrame t f → w ≢ NoMemory → walk asked old.ceiling n t ≡ refused w s'
         walked w g t i other = let W : ℕ → Type 0 = λ c. walk asked c n t ≡ refused w s' in subst W ceiling ((g.reading t i).1 other)
 
+        own_gains : (w : Error E) → GivesFramed asked id f Stops (n, mid) (s', new') (Err w) → Gains new new' put.own
+        own_gains w g = let P : Sections → Type 0 = λ z. Gains new z put.own in subst P (sym g.unchanged) put.gains
+
         stops : (w : Error E) → GivesFramed asked id f Stops (n, mid) (s', new') (Err w) → (t : Tree) → InFrame t f →
             (part : List SectionRow) × Gains new new' part × StopsHooked asked adds old.ceiling last s t part w s'
         stops w g t i =
             (put.own, own_gains w g, inr (n, reached.told t i, sym (added_put put.before t i), walked w g t i))
-
-        own_gains : (w : Error E) → GivesFramed asked id f Stops (n, mid) (s', new') (Err w) → Gains new new' put.own
-        own_gains w g = let P : Sections → Type 0 = λ z. Gains new z put.own in subst P (sym g.unchanged) put.gains
 
         -- all that the hook added stands
         gains : (w v : Error E) → GivesFramed asked id f Stops (n, mid) (s', new') (Err w) → ((t : Tree) → InFrame t f → v ≢ NoMemory → walk asked old.ceiling n t ≡ refused v s') →
