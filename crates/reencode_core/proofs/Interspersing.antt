@@ -98,11 +98,9 @@ only_added {asked = asked} {adds = adds} {ceiling = ceiling} {s = s} {m = m} sam
 only_added same (Err e) g = tt
 
 -- Where nothing that is added is too large, memory alone may be wanting.
-pub made_between : {S E A : Type 0} {asked : Asks S E} {adds : Puts S SectionRow} {ceiling : ℕ} {bytes : List ℕ} {s m : S} {view : A → List ℕ} →
-    ((k : S) (v : Visit) → asked k v ≡ accepted (index_of v) k) → (r : Result A (Error E)) → GivesWovenBytes asked adds ceiling bytes s m r view →
-    IfErr r (IsMadeBetween (adds s) ceiling bytes)
-made_between same (Ok out) g = tt
-made_between {S = S} {E = E} {asked = asked} {adds = adds} {ceiling = ceiling} {bytes = bytes} {s = s} {m = m} same (Err e) g t p fits small = only e (g.reading t p)
+wanting_alone : {S E A : Type 0} {asked : Asks S E} {adds : Puts S SectionRow} {ceiling : ℕ} {bytes : List ℕ} {s m : S} {view : A → List ℕ} →
+    ((k : S) (v : Visit) → asked k v ≡ accepted (index_of v) k) → (e : Error E) → GivesWovenBytes asked adds ceiling bytes s m (Err e) view → IsMadeBetween (adds s) ceiling bytes e
+wanting_alone {S = S} {E = E} {asked = asked} {adds = adds} {ceiling = ceiling} {bytes = bytes} {s = s} {m = m} same e g t p fits small = only e (g.reading t p)
   where
     own : List ℕ
     own = map asked_index (visits t)
@@ -127,8 +125,8 @@ made_between {S = S} {E = E} {asked = asked} {adds = adds} {ceiling = ceiling} {
         f : WovenFront asked adds ceiling bytes s
         f = o.front
 
-        fit : (before : Option SectionId) (size : ℕ) → ¬ HasTooLarge ceiling (adds f.at f.last before) size
-        fit before size = let P : S → Type 0 = λ k. ¬ HasTooLarge ceiling (adds k f.last before) size in subst P (sym (stays f)) (small f.last before size)
+        fit : (now : Option SectionId) (size : ℕ) → ¬ HasTooLarge ceiling (adds f.at f.last now) size
+        fit now size = let P : S → Type 0 = λ k. ¬ HasTooLarge ceiling (adds k f.last now) size in subst P (sym (stays f)) (small f.last now size)
 
         go : OwnNext adds ceiling f.last f.at f.rest w → ⊥
         go (inl q) = own_fits ceiling (adds f.at f.last None) w (fit None) q.1
@@ -141,3 +139,9 @@ made_between {S = S} {E = E} {asked = asked} {adds = adds} {ceiling = ceiling} {
     only : (w : Error E) → (w ≢ NoMemory → OwnTooLarge asked adds ceiling bytes s w ⊎ (weave asked (added adds) ceiling s t ≡ refused w m)) → w ≡ NoMemory
     only NoMemory f = refl
     only w f = absurd (stops w (f (λ same. absurd cc)))
+
+pub made_between : {S E A : Type 0} {asked : Asks S E} {adds : Puts S SectionRow} {ceiling : ℕ} {bytes : List ℕ} {s m : S} {view : A → List ℕ} →
+    ((k : S) (v : Visit) → asked k v ≡ accepted (index_of v) k) → (r : Result A (Error E)) → GivesWovenBytes asked adds ceiling bytes s m r view →
+    IfErr r (IsMadeBetween (adds s) ceiling bytes)
+made_between same (Ok out) g = tt
+made_between same (Err e) g = wanting_alone same e g
