@@ -9,3 +9,4 @@ mod plain;
 pub mod utils;
 
 pub use items::ReencodeItems;
+pub use plain::DefaultItems;

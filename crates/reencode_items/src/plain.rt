@@ -1,9 +1,17 @@
 //! The reencoders that keep every default.
 use crate::items::ReencodeItems;
-use reencode_hooks::{ByRule, IndexRule, Renamer, RoundtripReencoder};
+use reencode_hooks::{ByRule, IndexRule, ReencodeIndices, Renamer, RoundtripReencoder};
 
-impl ReencodeItems for RoundtripReencoder {}
+/// A reencoder that keeps every default method of `ReencodeItems`.
+///
+/// To implement it is all that is needed, and costs no proof; `impl ReencodeItems for X {}` proves each default once more for
+/// `X`. A reencoder that overrides a method implements `ReencodeItems` itself.
+pub trait DefaultItems: ReencodeIndices {}
 
-impl ReencodeItems for Renamer {}
+impl<T: DefaultItems> ReencodeItems for T {}
 
-impl<R: IndexRule> ReencodeItems for ByRule<R> {}
+impl DefaultItems for RoundtripReencoder {}
+
+impl DefaultItems for Renamer {}
+
+impl<R: IndexRule> DefaultItems for ByRule<R> {}
