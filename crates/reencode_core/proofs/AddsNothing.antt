@@ -13,7 +13,7 @@ use Rattle.reencode_hooks.specs.Hooks.{Gains, HasTooLarge}
 use Rattle.reencode_core.specs.Rows.{Asks}
 use Rattle.reencode_core.specs.Core.{onto, AcceptsSections, RefusesNext, StopsSections, IsCause, GivesCore, GivesBytes}
 use Rattle.reencode_core.specs.Weave.{Puts, added, put_before, weave, weave_from}
-use Rattle.reencode_core.specs.Woven.{IsOwn, IsPart, StopsNext, WeavesSections, StopsWoven, OwnNext, WovenFront, OwnTooLarge, IsWovenCause, GivesWoven, GivesWovenBytes, AddsFit}
+use Rattle.reencode_core.specs.Woven.{IsOwn, IsPart, StopsNext, WeavesSections, StopsWoven, OwnNext, OwnTooLarge, IsWovenCause, GivesWoven, GivesWovenBytes}
 use Rattle.reencode_core.proofs.Weaves.{weave_nothing}
 
 none_large : (c size : ℕ) → ¬ HasTooLarge c [] size
@@ -30,16 +30,14 @@ own_fits c own _ fit h = h
 pub none_own : {E : Type 0} (c : ℕ) (own : List SectionRow) (e : Error E) → own ≡ [] → IsOwn c own e → ⊥
 none_own c own e none h = own_fits c own e (λ size. let P : List SectionRow → Type 0 = λ rows. ¬ HasTooLarge c rows size in subst P (sym none) (none_large c size)) h
 
--- where what is added fits, no section that the hook was to add is too large
-pub nothing_large : {S E : Type 0} (asked : Asks S E) (adds : Puts S SectionRow) {c : ℕ} {bytes : List ℕ} {s : S} (e : Error E) → AddsFit adds c → OwnTooLarge asked adds c bytes s e → ⊥
-nothing_large asked adds {c = c} {bytes = bytes} {s = s} e fit o = go o.own
+-- where what the hook was to add there fits, none of that is too large
+nothing_large : {S E : Type 0} {asked : Asks S E} {adds : Puts S SectionRow} {c : ℕ} {bytes : List ℕ} {s : S} {e : Error E} (o : OwnTooLarge asked adds c bytes s e) →
+    ((before : Option SectionId) (size : ℕ) → ¬ HasTooLarge c (adds o.front.at o.front.last before) size) → ⊥
+nothing_large {adds = adds} {c = c} {e = e} o fit = go o.own
   where
-    f : WovenFront asked adds c bytes s
-    f = o.front
-
-    go : OwnNext adds c f.last f.at f.rest e → ⊥
-    go (inl q) = own_fits c (adds f.at f.last None) e (fit f.at f.last None) q.1
-    go (inr q) = own_fits c (adds f.at f.last (Some q.0)) e (fit f.at f.last (Some q.0)) q.4
+    go : OwnNext adds c o.front.last o.front.at o.front.rest e → ⊥
+    go (inl q) = own_fits c (adds o.front.at o.front.last None) e (fit None) q.1
+    go (inr q) = own_fits c (adds o.front.at o.front.last (Some q.0)) e (fit (Some q.0)) q.4
 
 no_part : {part own : List SectionRow} → IsPart part own → own ≡ [] → part ≡ []
 no_part {part = part} p none = go part p.rest (sym none ∙ p.parts)
@@ -77,8 +75,8 @@ module _ {S E : Type 0} (asked : Asks S E) (adds : Puts S SectionRow) (none : (s
   next_refused c last s m _ part e h = absurd h
 
   no_own : {c : ℕ} {bytes : List ℕ} {s : S} {e : Error E} → OwnTooLarge asked adds c bytes s e → ⊥
-  no_own {c = c} {e = e} o =
-      nothing_large asked adds e (λ s a b size. let P : List SectionRow → Type 0 = λ rows. ¬ HasTooLarge c rows size in subst P (sym (none s a b)) (none_large c size)) o
+  no_own {c = c} o =
+      nothing_large o (λ b size. let P : List SectionRow → Type 0 = λ rows. ¬ HasTooLarge c rows size in subst P (sym (none o.front.at o.front.last b)) (none_large c size))
 
   plain_cause : (c : ℕ) (bytes : List ℕ) (s m : S) (e : Error E) → IsWovenCause asked adds c bytes s m e → IsCause asked c bytes s m e
   plain_cause c bytes s m e (inl h) = h

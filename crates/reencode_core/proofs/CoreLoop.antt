@@ -31,7 +31,7 @@ use Rattle.reencode_core.specs.Leaves.{LeavesReading}
 use Rattle.reencode_core.specs.Errors.{IfParse, IfRefused, placed_at}
 use Rattle.reencode_core.specs.Rows.{Asks, Further}
 use Rattle.reencode_core.specs.Core.{hooked, onto, AcceptsSections, RefusedIn, StopsThere, BeforeFault, IsCause}
-use Rattle.reencode_core.specs.Weave.{Puts, added, put_before, woven_one, weave, weave_from}
+use Rattle.reencode_core.specs.Weave.{Puts, added, kind_after, put_before, woven_one, weave, weave_from}
 use Rattle.reencode_core.specs.Woven.{IsOwn, IsPart, StopsHook, StopsHooked, StopsNext, WeavesSections, StopsWoven, GivesWovenModule, OwnNext, WovenFront, OwnTooLarge, IsWovenCause, AddedBefore, AddedThere, GainsBefore, GivesWoven}
 use Rattle.reencode_core.proofs.AddsNothing.{none_own}
 use Rattle.reencode_core.proofs.Weaves.{alsos-append}
@@ -52,6 +52,10 @@ list_of-alsos (t ∷ ts) others = ap (λ (us : List Tree). t ∷ us) (list_of-al
 
 pub same_sections : (ts us : List Tree) → alsos ts Tree.finish ≡ alsos us Tree.finish → ts ≡ us
 same_sections ts us e = sym (append-nil ts) ∙ sym (list_of-alsos ts Tree.finish) ∙ ap list_of e ∙ list_of-alsos us Tree.finish ∙ append-nil us
+
+kind_after-append : (last : Option SectionId) (ts : List Tree) (t : Tree) → kind_after last (ts ++ t ∷ []) ≡ kind (kind_after last ts) t
+kind_after-append last [] t = refl
+kind_after-append last (u ∷ ts) t = kind_after-append (kind last u) ts t
 
 -- sections, and others behind them
 joined : (ts : List Tree) {u : Tree} (x y : List ℕ) → Spells sections x (alsos ts Tree.finish) → Spells sections y u → Spells sections (x ++ y) (alsos ts u)
@@ -217,6 +221,7 @@ pub record SectionsDone {S E : Type 0} (asked : Asks S E) (adds : Puts S Section
   pub rows : List SectionRow
   pub spells : Spells sections text (alsos read Tree.finish)
   pub stands : start ≡ text ++ rest
+  pub ends : last ≡ kind_after None read
   pub accepts : AcceptsSections asked old.ceiling s0 read made last s
   pub weaves : WeavesSections asked (added adds) old.ceiling s0 read woven last s
   pub gains : Gains old new rows
@@ -280,6 +285,7 @@ module _ {S E : Type 0} (asked : Asks S E) (adds : Puts S SectionRow) where
     rows = [];
     spells = record { shaped = Is.finish; spelled = refl };
     stands = refl;
+    ends = refl;
     accepts = λ others. onto_nothing asked (walk asked old.ceiling s others);
     weaves = λ others. onto_nothing asked (weave asked (added adds) old.ceiling s others);
     gains = gains_none old;
@@ -312,6 +318,7 @@ module _ {S E : Type 0} (asked : Asks S E) (adds : Puts S SectionRow) where
         rows = d.rows ++ (put.own ++ row ∷ []);
         spells = rw (alsos-append d.read (t ∷ []) Tree.finish) (joined d.read d.text here.text d.spells (one_section here.spells));
         stands = d.stands ∙ ap (λ (z : List ℕ). d.text ++ z) here.reads ∙ sym (append_assoc d.text here.text _);
+        ends = sym kinds ∙ ap (λ (z : Option SectionId). kind z t) d.ends ∙ sym (kind_after-append None d.read t);
         accepts = λ others.
             let next : walk_from asked old.ceiling last s (Tree.also t others) ≡ and_then (walk_from asked old.ceiling now s' others) (λ u m. accepted (Tree.also q.0 u) m) =
             also_hooked asked old.ceiling last s t others ∙ rw (step, kinds) refl in
@@ -374,6 +381,7 @@ module _ {S E : Type 0} (asked : Asks S E) (adds : Puts S SectionRow) where
       last = last;
       at = s;
       parts = f;
+      ends = d.ends;
       weaves = d.weaves;
       gains = gains_both old new new' d.rows part d.gains gains;
       spelled = d.spelled ∙ sym (normal-alsos d.woven);
@@ -391,6 +399,7 @@ module _ {S E : Type 0} (asked : Asks S E) (adds : Puts S SectionRow) where
       at = s;
       spells = d.spells;
       stands = reads ∙ ap (λ (z : List ℕ). core_header ++ z) d.stands;
+      ends = d.ends;
       weaves = d.weaves;
     }
 

@@ -1,8 +1,8 @@
 -- What comes out of a reencoder whose state stays, and whose section hook adds.
-use Rattle.std.proofs.Common.{◌≡◌, ◌≢◌, ◌⊎◌, inl, inr, ℕ, zero, suc, List, [], ◌∷◌, ◌++◌, length, map, drop, get_or, Option, None, Some, Result, Ok, Err, IfErr, IfOk, refl, sym, ap, ap₂, ◌∙◌, subst}
+use Rattle.std.proofs.Common.{◌≡◌, ℕ, zero, suc, List, [], ◌∷◌, ◌++◌, length, map, drop, get_or, Option, None, Result, Ok, Err, IfErr, IfOk, refl, sym, ap, ap₂, ◌∙◌, subst}
 use Rattle.wasm_shapes.specs.declared.SectionId.{SectionId}
 use Rattle.wasm_shapes.specs.declared.Visit.{Visit}
-use Rattle.wasm_shapes.specs.declared.Visit.TheVariants.{Index, Outer, Section}
+use Rattle.wasm_shapes.specs.declared.Visit.TheVariants.{Index, Outer}
 use Rattle.wasm_shapes.specs.Own.{asked_index}
 use Rattle.wasm_shapes.specs.Tree.{Tree, Listed, kind, before, visits, visits_from, after, fill, aimed_at, normal}
 use Rattle.wasm_shapes.specs.Fits.{Fits}
@@ -10,15 +10,13 @@ use Rattle.wasm_shapes.specs.Module.{alsos}
 use Rattle.wasm_shapes.proofs.OwnAnswers.{fill_own}
 use Rattle.wasm_write.specs.Sections.{SectionRow}
 use Rattle.reencode_hooks.specs.declared.error.Error.{Error}
-use Rattle.reencode_hooks.specs.declared.error.Error.TheVariants.{NoMemory}
 use Rattle.reencode_hooks.specs.Hooks.{HasTooLarge, index_of}
-use Rattle.reencode_hooks.specs.Run.{Step, accepted, refused, run, state_after}
+use Rattle.reencode_hooks.specs.Run.{accepted, run, state_after}
 use Rattle.reencode_core.specs.Rows.{Asks}
-use Rattle.reencode_core.specs.Core.{onto}
 use Rattle.reencode_core.specs.Weave.{Puts, added, put_before, weave, woven, woven_from}
-use Rattle.reencode_core.specs.Woven.{OwnNext, OwnTooLarge, WovenFront, GivesWovenBytes}
+use Rattle.reencode_core.specs.Woven.{GivesWovenBytes}
 use Rattle.reencode_core.specs.Interspersed.{IsInterspersed, IsMadeBetween, interspersed, interspersed_from}
-use Rattle.reencode_core.proofs.AddsNothing.{own_fits}
+use Rattle.reencode_core.proofs.Completeness.{accepted_is_answered}
 use Rattle.reencode_core.proofs.Weaves.{weave_is_run}
 
 -- ---- a filled section is told of as it was
@@ -98,50 +96,16 @@ only_added {asked = asked} {adds = adds} {ceiling = ceiling} {s = s} {m = m} sam
 only_added same (Err e) g = tt
 
 -- Where nothing that is added is too large, memory alone may be wanting.
-wanting_alone : {S E A : Type 0} {asked : Asks S E} {adds : Puts S SectionRow} {ceiling : ℕ} {bytes : List ℕ} {s m : S} {view : A → List ℕ} →
-    ((k : S) (v : Visit) → asked k v ≡ accepted (index_of v) k) → (e : Error E) → GivesWovenBytes asked adds ceiling bytes s m (Err e) view → IsMadeBetween (adds s) ceiling bytes e
-wanting_alone {S = S} {E = E} {asked = asked} {adds = adds} {ceiling = ceiling} {bytes = bytes} {s = s} {m = m} same e g t p fits small = only e (g.reading t p)
-  where
-    own : List ℕ
-    own = map asked_index (visits t)
-
-    accepts : weave asked (added adds) ceiling s t ≡ accepted (woven asked (added adds) s t own) s
-    accepts =
-        let P : Tree → Type 0 = λ u. Fits u ceiling in
-        (weave_is_run asked).back (added adds) ceiling s s t (woven asked (added adds) s t own) bytes p.spelled
-        (record { given = own; ran = runs asked same s (visits t); wove = refl; fits = subst P (sym (fill_own t)) fits })
-
-    stays : (f : WovenFront asked adds ceiling bytes s) → f.at ≡ s
-    stays f =
-        let ended : weave asked (added adds) ceiling s (alsos f.read Tree.finish) ≡ onto f.made (accepted (alsos (added adds f.at f.last None) Tree.finish) f.at) =
-        f.weaves Tree.finish ∙ rw (same f.at (Section f.last None)) refl in
-        let a = (weave_is_run asked).forth (added adds) ceiling s f.at (alsos f.read Tree.finish) (alsos f.made (alsos (added adds f.at f.last None) Tree.finish)) ended in
-        let ran : accepted (map asked_index (visits (alsos f.read Tree.finish))) s ≡ accepted a.given f.at = sym (runs asked same s (visits (alsos f.read Tree.finish))) ∙ a.ran in
-        let states : s ≡ f.at = cc in sym states
-
-    never : (w : Error E) → OwnTooLarge asked adds ceiling bytes s w → ⊥
-    never w o = go o.own
-      where
-        f : WovenFront asked adds ceiling bytes s
-        f = o.front
-
-        fit : (now : Option SectionId) (size : ℕ) → ¬ HasTooLarge ceiling (adds f.at f.last now) size
-        fit now size = let P : S → Type 0 = λ k. ¬ HasTooLarge ceiling (adds k f.last now) size in subst P (sym (stays f)) (small f.last now size)
-
-        go : OwnNext adds ceiling f.last f.at f.rest w → ⊥
-        go (inl q) = own_fits ceiling (adds f.at f.last None) w (fit None) q.1
-        go (inr q) = own_fits ceiling (adds f.at f.last (Some q.0)) w (fit (Some q.0)) q.4
-
-    stops : (w : Error E) → OwnTooLarge asked adds ceiling bytes s w ⊎ (weave asked (added adds) ceiling s t ≡ refused w m) → ⊥
-    stops w (inl x) = never w x
-    stops w (inr step) = let both : ◌≡◌ {A = Step S (Error E) Tree} (accepted (woven asked (added adds) s t own) s) (refused w m) = sym accepts ∙ step in cc
-
-    only : (w : Error E) → (w ≢ NoMemory → OwnTooLarge asked adds ceiling bytes s w ⊎ (weave asked (added adds) ceiling s t ≡ refused w m)) → w ≡ NoMemory
-    only NoMemory f = refl
-    only w f = absurd (stops w (f (λ same. absurd cc)))
-
 pub made_between : {S E A : Type 0} {asked : Asks S E} {adds : Puts S SectionRow} {ceiling : ℕ} {bytes : List ℕ} {s m : S} {view : A → List ℕ} →
     ((k : S) (v : Visit) → asked k v ≡ accepted (index_of v) k) → (r : Result A (Error E)) → GivesWovenBytes asked adds ceiling bytes s m r view →
     IfErr r (IsMadeBetween (adds s) ceiling bytes)
 made_between same (Ok out) g = tt
-made_between same (Err e) g = wanting_alone same e g
+made_between {S = S} {asked = asked} {adds = adds} {ceiling = ceiling} {bytes = bytes} {s = s} {m = m} {view = view} same (Err e) g = λ t p fits small.
+    let own : List ℕ = map asked_index (visits t) in
+    let P : Tree → Type 0 = λ u. Fits u ceiling in
+    let accepts : weave asked (added adds) ceiling s t ≡ accepted (woven asked (added adds) s t own) s =
+    (weave_is_run asked).back (added adds) ceiling s s t (woven asked (added adds) s t own) bytes p.spelled
+    (record { given = own; ran = runs asked same s (visits t); wove = refl; fits = subst P (sym (fill_own t)) fits }) in
+    accepted_is_answered asked adds view ceiling bytes s m (Err e) g t (woven asked (added adds) s t own) s p
+    (λ front after before rest parts size. let Q : S → Type 0 = λ k. ¬ HasTooLarge ceiling (adds k after before) size in subst Q (sym (run_stays asked same s front)) (small after before size))
+    accepts

@@ -80,6 +80,7 @@ module _ {S E : Type 0} (asked : Asks S E) (adds : Puts S SectionRow) where
           at = g.at;
           spells = spells;
           stands = r.stands ∙ ap (λ (w : List ℕ). core_header ++ w) parts;
+          ends = g.ends;
           weaves = g.weaves;
         };
         own = own;

@@ -25,6 +25,11 @@ put_before put s last (Tree.row k t) = put_before put s last t
 put_before put s last (Tree.told k t) = put s last (Some k)
 put_before put s last _ = []
 
+-- the kind of the last of these sections that are of a known kind, where this was the last one before them
+abbrev pub kind_after : Option SectionId → List Tree → Option SectionId
+kind_after last [] = last
+kind_after last (t ∷ ts) = kind_after (kind last t) ts
+
 -- a section, and what was put before it
 abbrev pub woven_one : {S E : Type 0} → Asks S E → Puts S Tree → ℕ → Option SectionId → S → Tree → Step S (Error E) (List Tree)
 woven_one asked put c last s t =

@@ -1,8 +1,9 @@
 -- What the calls that map a whole core module give, where the section hook may add sections.
-use Rattle.std.specs.Prelude.{◌≡◌, ◌≢◌, ◌⊎◌, ◌≤◌, ℕ, List, [], ◌++◌, Option, Some, None, Result, Ok, Err, IfOk, IfErr}
+use Rattle.std.specs.Prelude.{◌≡◌, ◌≢◌, ◌⊎◌, ◌≤◌, ℕ, List, [], ◌∷◌, ◌++◌, Option, Some, None, Result, Ok, Err, IfOk, IfErr}
 use Rattle.wasm_shapes.specs.declared.SectionId.{SectionId}
+use Rattle.wasm_shapes.specs.declared.Visit.{Visit}
 use Rattle.wasm_shapes.specs.declared.Visit.TheVariants.{Section}
-use Rattle.wasm_shapes.specs.Tree.{Tree, normal}
+use Rattle.wasm_shapes.specs.Tree.{Tree, normal, visits}
 use Rattle.wasm_shapes.specs.Spells.{Spells}
 use Rattle.wasm_shapes.specs.Module.{core_header, core_module, sections, alsos, frame, custom_frame, InFrame, CoreReading}
 use Rattle.wasm_shapes.specs.Place.{Begins, BeginsNone}
@@ -11,12 +12,12 @@ use Rattle.wasm_read.specs.Frames.{numbered_frame}
 use Rattle.wasm_write.specs.Sections.{Sections, SectionRow, sections_bytes}
 use Rattle.reencode_hooks.specs.declared.error.Error.{Error}
 use Rattle.reencode_hooks.specs.declared.error.Error.TheVariants.{TooLarge, NoMemory}
-use Rattle.reencode_hooks.specs.Run.{Step, accepted, refused}
+use Rattle.reencode_hooks.specs.Run.{Step, accepted, refused, run, state_after}
 use Rattle.reencode_hooks.specs.Walk.{walk, announced}
 use Rattle.reencode_hooks.specs.Hooks.{Gains, HasTooLarge}
 use Rattle.reencode_core.specs.Rows.{Asks}
 use Rattle.reencode_core.specs.Core.{onto, IsCause}
-use Rattle.reencode_core.specs.Weave.{Puts, added, put_before, weave, weave_from}
+use Rattle.reencode_core.specs.Weave.{Puts, added, kind_after, put_before, weave, weave_from}
 
 -- ---- the section hook, and a section behind it
 
@@ -65,6 +66,7 @@ pub record StopsWoven {S E : Type 0} (asked : Asks S E) (adds : Puts S SectionRo
   pub last : Option SectionId
   pub at : S
   pub parts : t ≡ alsos read others
+  pub ends : last ≡ kind_after None read
   pub weaves : WeavesSections asked (added adds) c before.0 read made last at
   pub gains : Gains before.1 after.1 (rows ++ part)
   pub spelled : sections_bytes rows ≡ normal (alsos made Tree.finish)
@@ -96,6 +98,7 @@ pub record WovenFront {S E : Type 0} (asked : Asks S E) (adds : Puts S SectionRo
   pub at : S
   pub spells : Spells sections text (alsos read Tree.finish)
   pub stands : bytes ≡ core_header ++ (text ++ rest)
+  pub ends : last ≡ kind_after None read
   pub weaves : WeavesSections asked (added adds) c s read made last at
 
 -- the section hook behind some sections that were accepted was to add one that is too large
@@ -163,18 +166,22 @@ pub record GivesWovenBytes {S E A : Type 0} (asked : Asks S E) (adds : Puts S Se
 
 -- ---- completeness
 
--- no section that is added has a body above the ceiling
-abbrev pub AddsFit : {S : Type 0} → Puts S SectionRow → ℕ → Type 0
-AddsFit {S} adds c = (s : S) (after before : Option SectionId) (size : ℕ) → ¬ HasTooLarge c (adds s after before) size
+-- No section that is added at a section visit among these, at the state that the run over those before it leaves, has a body
+-- above the ceiling.
+abbrev pub AddsFit : {S E : Type 0} → Asks S E → Puts S SectionRow → ℕ → S → List Visit → Type 0
+AddsFit asked adds c s visits =
+    (front : List Visit) (after before : Option SectionId) (rest : List Visit) → visits ≡ front ++ Section after before ∷ rest
+    → (size : ℕ) → ¬ HasTooLarge c (adds (state_after (run asked s front)) after before) size
 
 -- these bytes are the answer, and this is the state that is left; or memory is wanting
 abbrev pub IsOrWants : {S E A : Type 0} → List ℕ → S → S → Result A (Error E) → (A → List ℕ) → Type 0
 IsOrWants bytes n m (Ok out) view = (view out ≡ bytes) × (m ≡ n)
 IsOrWants bytes n m (Err e) view = e ≡ NoMemory
 
--- Where the bytes have a reading, what is added fits, and the woven walk over the reading is accepted, the normal spelling of its
--- tree is the answer, in its state; or memory is wanting.
+-- Where the bytes have a reading, what is added at its visits fits, and the woven walk over it is accepted, the normal spelling of
+-- that walk's tree is the answer, in its state; or memory is wanting.
 abbrev pub AcceptedIsAnswered : {S E A : Type 0} → Asks S E → Puts S SectionRow → (A → List ℕ) → Type 0
 AcceptedIsAnswered {S} {E} {A} asked adds view =
-    (c : ℕ) (bytes : List ℕ) (s m : S) (result : Result A (Error E)) → GivesWovenBytes asked adds c bytes s m result view → AddsFit adds c
-    → (t u : Tree) (n : S) → Spells core_module bytes t → weave asked (added adds) c s t ≡ accepted u n → IsOrWants (normal u) n m result view
+    (c : ℕ) (bytes : List ℕ) (s m : S) (result : Result A (Error E)) → GivesWovenBytes asked adds c bytes s m result view
+    → (t u : Tree) (n : S) → Spells core_module bytes t → AddsFit asked adds c s (visits t) → weave asked (added adds) c s t ≡ accepted u n
+    → IsOrWants (normal u) n m result view
