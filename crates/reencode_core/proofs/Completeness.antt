@@ -5,7 +5,7 @@ use Rattle.wasm_shapes.specs.declared.SectionId.{SectionId}
 use Rattle.wasm_shapes.specs.declared.Visit.{Visit}
 use Rattle.wasm_shapes.specs.declared.Visit.TheVariants.{Section}
 use Rattle.wasm_shapes.specs.Tree.{Tree, kind, before, normal, visits, visits_from}
-use Rattle.wasm_shapes.specs.Module.{core_header, core_tree, alsos, InFrame, CoreReading}
+use Rattle.wasm_shapes.specs.Module.{core_header, alsos, InFrame, CoreReading}
 use Rattle.wasm_shapes.specs.SectionTable.{number}
 use Rattle.wasm_shapes.proofs.Laws.{module_headed}
 use Rattle.wasm_shapes.proofs.SectionTable.{frame_there, kind_in_frame}

@@ -50,8 +50,9 @@ pub fn output_is_read<T: ReencodeIndices>(_reencoder: &T)
 {}
 
 /// What answers as the clause `woven` of `reencode_core` says is complete: where the bytes have a reading, no section that the
-/// section hook adds is above the ceiling, and the walk over the reading with the added sections is accepted, the answer is the
-/// normal spelling of its tree, in its state, or memory is wanting. `A` is the answer's type; the slice may be empty.
+/// section hook adds at one of its visits is above the ceiling, and the walk over the reading with the added sections is accepted,
+/// the answer is the normal spelling of its tree, in its state, or memory is wanting. `A` is the answer's type; the slice may be
+/// empty.
 pub fn accepted_is_answered<T: ReencodeIndices, A>(_reencoder: &T, _answers: &[A])
     ensures { (view : A → List ℕ) → AcceptedIsAnswered (ask T.reply T.next) T.adds view }
 {}

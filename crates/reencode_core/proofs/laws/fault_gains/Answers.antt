@@ -1,4 +1,3 @@
-use Rattle.reencode_hooks.specs.Run.{ask}
 use Rattle.reencode_core.proofs.Faults as faults
 use Rattle.reencode_core.proofs.laws.fault_gains.Goals as goal
 
