@@ -5,12 +5,9 @@ ghost use Rattle.wasm_write.specs.Faults.{IfTooLarge};
 ghost use Rattle.wasm_write.specs.Sections.{SectionRow};
 ghost use Rattle.reencode_hooks.specs.Hooks.{Gains, GainsPart, HasTooLarge};
 
-use crate::direct;
-use crate::reencode::Reencode;
+use crate::plain::DefaultReencode;
 use reencode_hooks::{Error, ReencodeIndices};
-use reencode_items::ReencodeItems;
-use std::alloc::Global;
-use wasm_read as r;
+use reencode_items::DefaultItems;
 use wasm_shapes::SectionId;
 use wasm_write as w;
 
@@ -122,15 +119,6 @@ impl<R: ReencodeIndices, S: SectionRule> ReencodeIndices for Adding<R, S> {
     }
 }
 
-impl<R: ReencodeIndices, S: SectionRule> ReencodeItems for Adding<R, S> {}
+impl<R: ReencodeIndices, S: SectionRule> DefaultItems for Adding<R, S> {}
 
-impl<R: ReencodeIndices, S: SectionRule> Reencode for Adding<R, S> {
-    fn parse_function_body(
-        &mut self,
-        alloc: Global,
-        code: &mut w::CodeSection,
-        func: r::FunctionBody<'_>,
-    ) -> Result<(), Error<R::Error>> {
-        direct::parse_function_body(self, alloc, code, func)
-    }
-}
+impl<R: ReencodeIndices, S: SectionRule> DefaultReencode for Adding<R, S> {}

@@ -24,5 +24,6 @@ pub use laws::{
     weave_is_run, weave_of_nothing,
 };
 pub use names::{indirect_name_map, map_indirect_names, map_names, name_map};
+pub use plain::DefaultReencode;
 pub use reencode::{Reencode, reencode_core};
 pub use rule::reencode_by_rule;

@@ -1,41 +1,32 @@
 //! The reencoders that keep every default.
 use crate::direct;
 use crate::reencode::Reencode;
-use reencode_hooks::{ByRule, Error, IndexRule, Renamer, RoundtripReencoder, Unmapped};
+use reencode_hooks::{ByRule, Error, IndexRule, Renamer, RoundtripReencoder};
+use reencode_items::ReencodeItems;
 use std::alloc::Global;
-use std::convert::Infallible;
 use wasm_read as r;
 use wasm_write as w;
 
-impl Reencode for RoundtripReencoder {
+/// A reencoder that keeps every default method of `Reencode`, and of `ReencodeItems` too; its function bodies are mapped by
+/// `direct::parse_function_body`.
+///
+/// To implement it is all that is needed, and costs no proof; `impl Reencode for X {}` proves each default once more for `X`.
+/// A reencoder that overrides a method implements `Reencode` itself.
+pub trait DefaultReencode: ReencodeItems {}
+
+impl<T: DefaultReencode> Reencode for T {
     fn parse_function_body(
         &mut self,
         alloc: Global,
         code: &mut w::CodeSection,
         func: r::FunctionBody<'_>,
-    ) -> Result<(), Error<Infallible>> {
+    ) -> Result<(), Error<Self::Error>> {
         direct::parse_function_body(self, alloc, code, func)
     }
 }
 
-impl Reencode for Renamer {
-    fn parse_function_body(
-        &mut self,
-        alloc: Global,
-        code: &mut w::CodeSection,
-        func: r::FunctionBody<'_>,
-    ) -> Result<(), Error<Unmapped>> {
-        direct::parse_function_body(self, alloc, code, func)
-    }
-}
+impl DefaultReencode for RoundtripReencoder {}
 
-impl<R: IndexRule> Reencode for ByRule<R> {
-    fn parse_function_body(
-        &mut self,
-        alloc: Global,
-        code: &mut w::CodeSection,
-        func: r::FunctionBody<'_>,
-    ) -> Result<(), Error<R::Error>> {
-        direct::parse_function_body(self, alloc, code, func)
-    }
-}
+impl DefaultReencode for Renamer {}
+
+impl<R: IndexRule> DefaultReencode for ByRule<R> {}
