@@ -2,17 +2,17 @@
 use crate::direct;
 use crate::reencode::Reencode;
 use reencode_hooks::{ByRule, Error, IndexRule, Renamer, RoundtripReencoder};
-use reencode_items::ReencodeItems;
+use reencode_items::DefaultItems;
 use std::alloc::Global;
 use wasm_read as r;
 use wasm_write as w;
 
-/// A reencoder that keeps every default method of `Reencode`, and of `ReencodeItems` too; its function bodies are mapped by
+/// A reencoder that keeps every default method of `ReencodeItems` and `Reencode`. Its function bodies are mapped by
 /// `direct::parse_function_body`.
 ///
 /// To implement it is all that is needed, and costs no proof; `impl Reencode for X {}` proves each default once more for `X`.
-/// A reencoder that overrides a method implements `Reencode` itself.
-pub trait DefaultReencode: ReencodeItems {}
+/// A reencoder that overrides a method of either trait implements `Reencode` itself.
+pub trait DefaultReencode: DefaultItems {}
 
 impl<T: DefaultReencode> Reencode for T {
     fn parse_function_body(
