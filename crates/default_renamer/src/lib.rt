@@ -4,7 +4,7 @@
 
 use reencode_core::Reencode;
 use reencode_hooks::{Asked, Error, ReencodeIndices, Renamer, Unmapped};
-use reencode_items::ReencodeItems;
+use reencode_items::DefaultItems;
 use std::marker::Model;
 use wasm_shapes::{SectionId, Space};
 use wasm_write::Module;
@@ -35,7 +35,7 @@ macro_rules! ask {
     };
 }
 
-impl ReencodeItems for DefaultRenamer {}
+impl DefaultItems for DefaultRenamer {}
 
 impl Reencode for DefaultRenamer {}
 

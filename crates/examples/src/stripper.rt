@@ -12,7 +12,7 @@ ghost use Rattle.examples.specs.Stripper.{IsLeftOut, IsUnwritten};
 
 use reencode_core::Reencode;
 use reencode_hooks::{Error, ReencodeIndices};
-use reencode_items::ReencodeItems;
+use reencode_items::DefaultItems;
 use std::alloc::Global;
 use std::convert::Infallible;
 use wasm_read as r;
@@ -94,7 +94,7 @@ impl ReencodeIndices for Stripper {
     }
 }
 
-impl ReencodeItems for Stripper {}
+impl DefaultItems for Stripper {}
 
 impl Reencode for Stripper {
     /// Leaves the section out, or adds it as it is. An error changes nothing.
