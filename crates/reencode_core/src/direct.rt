@@ -43,9 +43,9 @@ fn add(function: &mut w::Function, opcode: Opcode, fresh: Fresh) -> Result<(), w
 
 /// Maps a body as `Reencode::parse_function_body` does by default, without lists.
 ///
-/// A reencoder that keeps the default methods overrides that method by this function, keeps its promises, and is faster:
-/// `direct::parse_function_body(self, alloc, code, func)`. It asks the hooks of `ReencodeIndices` themselves, so in a
-/// reencoder that overrides a method of `ReencodeItems` or `Reencode` it may pass that method by.
+/// A reencoder that keeps the default methods overrides that method by this function, as `DefaultReencode` does, keeps its
+/// promises, and is faster: `direct::parse_function_body(self, alloc, code, func)`. It asks the hooks of `ReencodeIndices`
+/// themselves, so in a reencoder that overrides a method of `ReencodeItems` or `Reencode` it may pass that method by.
 pub fn parse_function_body<R: ReencodeItems>(
     reencoder: &mut R,
     alloc: Global,

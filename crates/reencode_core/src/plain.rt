@@ -7,11 +7,11 @@ use std::alloc::Global;
 use wasm_read as r;
 use wasm_write as w;
 
-/// A reencoder that keeps every default method of `Reencode`, and of `ReencodeItems` too; its function bodies are mapped by
+/// A reencoder that keeps every default method of `ReencodeItems` and `Reencode`. Its function bodies are mapped by
 /// `direct::parse_function_body`.
 ///
 /// To implement it is all that is needed, and costs no proof; `impl Reencode for X {}` proves each default once more for `X`.
-/// A reencoder that overrides a method implements `Reencode` itself.
+/// A reencoder that overrides a method of either trait implements `Reencode` itself.
 pub trait DefaultReencode: DefaultItems {}
 
 impl<T: DefaultReencode> Reencode for T {
