@@ -8,7 +8,7 @@ use crate::report::{counts_of, tail};
 use crate::standard::FileShelf;
 use crate::tool::run;
 use reencode_hooks::{Asked, Error, Renamer, Unmapped};
-use std::alloc::{AllocError, Global};
+use std::alloc::Global;
 use std::process::Abort;
 use std::test::Fail;
 use wasm_leb::{List, NoMemory};
@@ -26,11 +26,271 @@ const REPORT: &[u8] =
 const SPACED: &[u8] =
     b"00 61 73 6D 01 00 00 00\r\n01070160027F7F017F\t0302010007\n05010166000 00A09010700200020016a0b\r\n";
 
-const PLAIN: &[&str] = &["-x", "plain"];
-
 const USAGE: &[u8] = b"usage: [-x] [-m CEILING] plain | rename FILE | generate N\n";
 
-const RENAME: &[&str] = &["-x", "rename", "r"];
+/// The header of a module, in binary.
+const BINARY: &[u8] = b"\0asm\x01\0\0\0";
+
+/// What a run says by each field that it leaves out, and so all the fields.
+const USUAL: &str = "words=-x plain
+file={}
+shelf_fails=
+text=MODULE
+most=16
+read_fails=
+write_fails=
+err_fails=
+status=0
+out=
+err=";
+
+/// Runs over memory. An empty line stands between two, and a line is a field or, behind a `#`, a
+/// remark. `file` is the text that the shelf has of the name `r`, and `text` the input. A read and a
+/// write take at most `most` bytes, and the calls of the numbers behind `_fails` fail. The run ends
+/// with the status, and the sinks then hold `out` and `err`. A `/` stands for a line end, and a word
+/// in capitals for the constant of that name.
+const CASES: &str = r#"words=rename
+status=2
+err=USAGE
+
+words=-m 6 -x plain
+status=2
+err=USAGE
+
+words=-m 01 plain
+status=2
+err=USAGE
+
+words=generate 0
+status=2
+err=USAGE
+
+words=generate 1000001
+status=2
+err=USAGE
+
+# A ceiling of 6, 8 and 9: the type section has 7 bytes, the code section 9.
+words=-x -m 6 plain
+status=10
+err=too large: 7 over 6/
+
+words=-x -m 8 plain
+status=10
+err=too large: 9 over 8/
+
+words=-x -m 9 plain
+out=REPORT
+
+# Binary input.
+words=plain
+text=BINARY
+out=0061736d01000000/asked section_hook 1/
+
+words=generate 3
+out=functions 3 input 59 output 47/asked function 3 type 3 section_hook 4/
+
+# The export names function 1.
+words=-x rename r
+file={"function":{"0":1}}
+out=0061736d0100000001070160027f7f017f03020100070501016600010a09010700200020016a0b/asked function 1 type 1 section_hook 5/
+
+words=-x rename r
+file={"strict":true,"type":{"0":0}}
+status=6
+err=refused function 0/
+
+# Indices of each kind of section, and the order in which they are asked.
+words=-x rename r
+file={"function":{"0":300}}
+text=0061736d01000000080100
+out=0061736d010000000802ac02/asked function 1 section_hook 2/
+
+words=-x rename r
+file={"type":{"0":64}}
+text=0061736d010000000a0a01080002000b1100000b
+out=0061736d010000000a0b01090002c0000b1140000b/asked table 1 type 2 section_hook 2/
+
+words=-x rename r
+file={"table":{"0":5}}
+text=0061736d010000000907010041000b0100
+out=0061736d01000000090901020541000b000100/asked function 1 table 1 section_hook 2/
+
+words=-x rename r
+file={"table":{"5":0}}
+text=0061736d01000000090901020541000b000100
+out=0061736d01000000090901020041000b000100/asked function 1 table 1 section_hook 2/
+
+words=-x rename r
+file={"function":{"0":1},"type":{"0":2}}
+text=0061736d0100000001040160000002080101610162037f000409014000700001d2000b05030100010d030100000606017f00412a0b0c0100
+out=0061736d0100000001040160000002080101610162037f000409014000700001d2010b05030100010d030100020606017f00412a0b0c0100/asked function 1 type 1 data_count 1 section_hook 8/
+
+words=-x rename r
+file={"type":{"0":1}}
+text=0061736d01000000010c014e0250005f005001005f00
+out=0061736d01000000010c014e0250005f005001015f00/asked type 1 section_hook 2/
+
+words=-x rename r
+file={"memory":{"0":1}}
+text=0061736d010000000a0a01080041002802041a0b
+out=0061736d010000000a0b0109004100284201041a0b/asked memory 1 section_hook 2/
+
+words=-x rename r
+file={"strict":true}
+text=0061736d010000000907010023000b0100
+status=6
+err=refused function 0/
+
+words=-x rename r
+file={"strict":true,"function":{"0":0}}
+text=0061736d010000000907010023000b0100
+status=6
+err=refused table 0/
+
+words=-x rename r
+file={"strict":true,"function":{"0":0},"table":{"0":0}}
+text=0061736d010000000907010023000b0100
+status=6
+err=refused global 0/
+
+words=-x rename r
+file={"strict":true}
+text=0061736d0100000009080105630001d2000b
+status=6
+err=refused function 0/
+
+# What says no renaming.
+words=-x rename r
+file={"function":{"00":1}}
+status=11
+err=bad renaming/
+
+words=-x rename r
+file={"function":{"0":1.0}}
+status=11
+err=bad renaming/
+
+words=-x rename r
+file={"function":{"0":4294967296}}
+status=11
+err=bad renaming/
+
+words=-x rename r
+file={"functions":{}}
+status=11
+err=bad renaming/
+
+words=-x rename r
+file=[]
+status=11
+err=bad renaming/
+
+words=-x rename r
+file={"strict":1}
+status=11
+err=bad renaming/
+
+# The shelf fails, and has no such name.
+words=-x rename r
+shelf_fails=1
+status=12
+err=shelf fault/
+
+words=rename q
+status=12
+err=shelf fault/
+
+words=
+status=2
+err=USAGE
+
+# The second read fails.
+read_fails=2
+status=3
+err=read fault/
+
+# The first write fails, and the fifth.
+write_fails=1
+status=4
+err=write fault/
+
+most=3
+write_fails=5
+status=4
+out=0061736d0100
+err=write fault/
+
+text=00617
+status=14
+err=not hex/
+
+text=0x
+most=1
+status=14
+err=not hex/
+
+# A failure of the last sink ends its text and changes no status.
+text=00617
+most=3
+err_fails=2
+status=14
+err=not
+
+out=REPORT
+
+text=SPACED
+most=1
+out=REPORT
+
+text=
+status=5
+err=parse error at 0/
+
+# The header of a component.
+text=0061736d0d000100
+status=8
+err=There was a section that does not belong in a core wasm module/
+
+# The second section has no reading.
+text=0061736d01000000 03020101 0303010000
+status=5
+err=parse error at 12/
+
+# The size of a code section passes the end: with a number behind it, and with none.
+text=0061736d01000000 0a0901
+status=7
+err=invalid code section size/
+
+text=0061736d01000000 0a09
+status=5
+err=parse error at 8/"#;
+
+/// The value of the first field of this name.
+fn field<'a>(lines: &'a str, name: &str) -> Option<&'a str> {
+    for line in lines.lines() {
+        match line.split_once('=') {
+            Some((of, value)) if of == name => return Some(value),
+            _ => {}
+        }
+    }
+    None
+}
+
+/// Whether a line is a remark or one of the fields.
+fn is_read(line: &str) -> bool {
+    match line.split_once('=') {
+        Some((name, _)) => field(USUAL, name).is_some(),
+        None => line.starts_with('#'),
+    }
+}
+
+/// What a run says by a field.
+fn said<'a>(case: &'a str, name: &str) -> &'a str {
+    match field(case, name) {
+        Some(value) => value,
+        None => field(USUAL, name).unwrap_or(""),
+    }
+}
 
 fn list_of<T: Copy + Drop>(alloc: Global, items: &[T]) -> Result<List<T>, NoMemory> {
     let mut list = List::new(alloc);
@@ -40,443 +300,99 @@ fn list_of<T: Copy + Drop>(alloc: Global, items: &[T]) -> Result<List<T>, NoMemo
     Ok(list)
 }
 
-fn strings(alloc: Global, words: &[&str]) -> Result<Vec<String>, AllocError> {
-    let mut strings = Vec::new(alloc);
-    for word in words {
-        strings.push(String::from_str(alloc, word)?)?;
+fn words_of(alloc: Global, value: &str) -> Option<Vec<String>> {
+    let mut words = Vec::new(alloc);
+    for word in value.split_whitespace() {
+        words.push(String::from_str(alloc, word).ok()?).ok()?;
     }
-    Ok(strings)
+    Some(words)
 }
 
-/// A run over memory. A read and a write take at most `most` bytes, and the calls of these numbers
-/// fail. The run ends with the status, and the sinks then hold these bytes.
-#[derive(Clone, Copy)]
-struct Case<'a> {
-    words: &'a [&'a str],
-    // the text that the shelf has of the name `r`
-    file: &'a [u8],
-    shelf_fails: &'a [u64],
-    text: &'a [u8],
+fn bytes_of(alloc: Global, value: &str) -> Result<List<u8>, NoMemory> {
+    let text = match value {
+        "MODULE" => MODULE,
+        "REPORT" => REPORT,
+        "SPACED" => SPACED,
+        "USAGE" => USAGE,
+        "BINARY" => BINARY,
+        _ => value.as_bytes(),
+    };
+    let mut bytes = List::new(alloc);
+    for byte in text {
+        bytes.push(if *byte == b'/' { b'\n' } else { *byte })?;
+    }
+    Ok(bytes)
+}
+
+fn numbers_of(alloc: Global, value: &str) -> Option<List<u64>> {
+    let mut numbers = List::new(alloc);
+    for word in value.split_whitespace() {
+        numbers.push(word.parse().ok()?).ok()?;
+    }
+    Some(numbers)
+}
+
+fn shelf_of(alloc: Global, case: &str) -> Option<MemShelf> {
+    let mut shelf = MemShelf::new(alloc, numbers_of(alloc, said(case, "shelf_fails"))?);
+    shelf.put("r", b"older").ok()?;
+    let text = bytes_of(alloc, said(case, "file")).ok()?;
+    shelf.put("r", text.as_slice()).ok()?;
+    Some(shelf)
+}
+
+fn source_of(alloc: Global, case: &str, most: usize) -> Option<MemSource> {
+    let text = bytes_of(alloc, said(case, "text")).ok()?;
+    let fails = numbers_of(alloc, said(case, "read_fails"))?;
+    Some(MemSource::new(text, most.max(1), fails))
+}
+
+fn sink_of(alloc: Global, room: usize, most: usize, fails: &str) -> Option<MemSink> {
+    MemSink::new(alloc, room, most.max(1), numbers_of(alloc, fails)?).ok()
+}
+
+/// Whether a sink holds the bytes of a value.
+fn holds(alloc: Global, sink: &MemSink, value: &str) -> Option<bool> {
+    Some(sink.held() == bytes_of(alloc, value).ok()?.as_slice())
+}
+
+/// The status with which a run ends.
+fn status_of(
+    alloc: Global,
+    case: &str,
     most: usize,
-    read_fails: &'a [u64],
-    write_fails: &'a [u64],
-    err_fails: &'a [u64],
-    status: u8,
-    out: &'a [u8],
-    err: &'a [u8],
+    out: &mut MemSink,
+    err: &mut MemSink,
+) -> Option<u8> {
+    let words = words_of(alloc, said(case, "words"))?;
+    let mut shelf = shelf_of(alloc, case)?;
+    let mut input = source_of(alloc, case, most)?;
+    Some(run(alloc, words.as_slice(), &mut shelf, &mut input, out, err))
 }
 
-const USUAL: Case<'static> = Case {
-    words: PLAIN,
-    file: b"{}",
-    shelf_fails: &[],
-    text: MODULE,
-    most: 16,
-    read_fails: &[],
-    write_fails: &[],
-    err_fails: &[],
-    status: 0,
-    out: b"",
-    err: b"",
-};
-
-/// It is re-encoded.
-const PRINTED: Case<'static> = Case {
-    out: REPORT,
-    ..USUAL
-};
-
-/// It has no reading from the header on.
-const NO_HEADER: Case<'static> = Case {
-    status: 5,
-    err: b"parse error at 0\n",
-    ..USUAL
-};
-
-/// It begins with the header of a component.
-const COMPONENT: Case<'static> = Case {
-    status: 8,
-    err: b"There was a section that does not belong in a core wasm module\n",
-    ..USUAL
-};
-
-/// The file says no renaming.
-const BAD: Case<'static> = Case {
-    status: 11,
-    err: b"bad renaming\n",
-    ..USUAL
-};
-
-/// The shelf failed.
-const SHELF: Case<'static> = Case {
-    status: 12,
-    err: b"shelf fault\n",
-    ..USUAL
-};
-
-fn try_case(rt: &impl Abort, alloc: Global, case: &Case) -> Result<(), Fail> {
-    let most = case.most.max(1);
-    let words = strings(alloc, case.words)?;
-    let mut shelf = MemShelf::new(alloc, list_of(alloc, case.shelf_fails)?);
-    shelf.put("r", b"older")?;
-    shelf.put("r", case.file)?;
-    let mut input = MemSource::new(
-        list_of(alloc, case.text)?,
-        most,
-        list_of(alloc, case.read_fails)?,
-    );
-    let mut out = MemSink::new(alloc, 1000, most, list_of(alloc, case.write_fails)?)?;
-    let mut err = MemSink::new(alloc, 100, most, list_of(alloc, case.err_fails)?)?;
-    let status = run(
-        alloc,
-        words.as_slice(),
-        &mut shelf,
-        &mut input,
-        &mut out,
-        &mut err,
-    );
-    assert_eq!(rt; status, case.status);
-    assert_eq!(rt; out.held(), case.out);
-    assert_eq!(rt; err.held(), case.err);
-    Ok(())
-}
-
-/// How runs end: the first of five tables, since a table's proof grows faster than the table.
-static FIRST: [Case<'static>; 9] = [
-    Case {
-        words: &["rename"],
-        status: 2,
-        err: USAGE,
-        ..USUAL
-    },
-    Case {
-        words: &["-m", "6", "-x", "plain"],
-        status: 2,
-        err: USAGE,
-        ..USUAL
-    },
-    Case {
-        words: &["-m", "01", "plain"],
-        status: 2,
-        err: USAGE,
-        ..USUAL
-    },
-    Case {
-        words: &["generate", "0"],
-        status: 2,
-        err: USAGE,
-        ..USUAL
-    },
-    Case {
-        words: &["generate", "1000001"],
-        status: 2,
-        err: USAGE,
-        ..USUAL
-    },
-    // A ceiling of 6, 8 and 9: the type section has 7 bytes, the code section 9.
-    Case {
-        words: &["-x", "-m", "6", "plain"],
-        status: 10,
-        err: b"too large: 7 over 6\n",
-        ..USUAL
-    },
-    Case {
-        words: &["-x", "-m", "8", "plain"],
-        status: 10,
-        err: b"too large: 9 over 8\n",
-        ..USUAL
-    },
-    Case {
-        words: &["-x", "-m", "9", "plain"],
-        ..PRINTED
-    },
-    // Binary input.
-    Case {
-        words: &["plain"],
-        text: b"\0asm\x01\0\0\0",
-        out: b"0061736d01000000\nasked section_hook 1\n",
-        ..USUAL
-    },
-];
-
-/// How runs end: the second of five tables, since a table's proof grows faster than the table.
-static SECOND: [Case<'static>; 9] = [
-    Case {
-        words: &["generate", "3"],
-        out: b"functions 3 input 59 output 47\nasked function 3 type 3 section_hook 4\n",
-        ..USUAL
-    },
-    // The export names function 1.
-    Case {
-        words: RENAME,
-        file: b"{\"function\":{\"0\":1}}",
-        out: b"0061736d0100000001070160027f7f017f03020100070501016600010a09010700200020016a0b\nasked function 1 type 1 section_hook 5\n",
-        ..USUAL
-    },
-    Case {
-        words: RENAME,
-        file: b"{\"strict\":true,\"type\":{\"0\":0}}",
-        status: 6,
-        err: b"refused function 0\n",
-        ..USUAL
-    },
-    // Indices of each kind of section, and the order in which they are asked.
-    Case {
-        words: RENAME,
-        file: b"{\"function\":{\"0\":300}}",
-        text: b"0061736d01000000080100",
-        out: b"0061736d010000000802ac02\nasked function 1 section_hook 2\n",
-        ..USUAL
-    },
-    Case {
-        words: RENAME,
-        file: b"{\"type\":{\"0\":64}}",
-        text: b"0061736d010000000a0a01080002000b1100000b",
-        out: b"0061736d010000000a0b01090002c0000b1140000b\nasked table 1 type 2 section_hook 2\n",
-        ..USUAL
-    },
-    Case {
-        words: RENAME,
-        file: b"{\"table\":{\"0\":5}}",
-        text: b"0061736d010000000907010041000b0100",
-        out: b"0061736d01000000090901020541000b000100\nasked function 1 table 1 section_hook 2\n",
-        ..USUAL
-    },
-    Case {
-        words: RENAME,
-        file: b"{\"table\":{\"5\":0}}",
-        text: b"0061736d01000000090901020541000b000100",
-        out: b"0061736d01000000090901020041000b000100\nasked function 1 table 1 section_hook 2\n",
-        ..USUAL
-    },
-    Case {
-        words: RENAME,
-        file: b"{\"function\":{\"0\":1},\"type\":{\"0\":2}}",
-        text: b"0061736d0100000001040160000002080101610162037f000409014000700001d2000b05030100010d030100000606017f00412a0b0c0100",
-        out: b"0061736d0100000001040160000002080101610162037f000409014000700001d2010b05030100010d030100020606017f00412a0b0c0100\nasked function 1 type 1 data_count 1 section_hook 8\n",
-        ..USUAL
-    },
-    Case {
-        words: RENAME,
-        file: b"{\"type\":{\"0\":1}}",
-        text: b"0061736d01000000010c014e0250005f005001005f00",
-        out: b"0061736d01000000010c014e0250005f005001015f00\nasked type 1 section_hook 2\n",
-        ..USUAL
-    },
-];
-
-/// How runs end: the third of five tables, since a table's proof grows faster than the table.
-static THIRD: [Case<'static>; 9] = [
-    Case {
-        words: RENAME,
-        file: b"{\"memory\":{\"0\":1}}",
-        text: b"0061736d010000000a0a01080041002802041a0b",
-        out: b"0061736d010000000a0b0109004100284201041a0b\nasked memory 1 section_hook 2\n",
-        ..USUAL
-    },
-    Case {
-        words: RENAME,
-        file: b"{\"strict\":true}",
-        text: b"0061736d010000000907010023000b0100",
-        status: 6,
-        err: b"refused function 0\n",
-        ..USUAL
-    },
-    Case {
-        words: RENAME,
-        file: b"{\"strict\":true,\"function\":{\"0\":0}}",
-        text: b"0061736d010000000907010023000b0100",
-        status: 6,
-        err: b"refused table 0\n",
-        ..USUAL
-    },
-    Case {
-        words: RENAME,
-        file: b"{\"strict\":true,\"function\":{\"0\":0},\"table\":{\"0\":0}}",
-        text: b"0061736d010000000907010023000b0100",
-        status: 6,
-        err: b"refused global 0\n",
-        ..USUAL
-    },
-    Case {
-        words: RENAME,
-        file: b"{\"strict\":true}",
-        text: b"0061736d0100000009080105630001d2000b",
-        status: 6,
-        err: b"refused function 0\n",
-        ..USUAL
-    },
-    // What says no renaming.
-    Case {
-        words: RENAME,
-        file: b"{\"function\":{\"00\":1}}",
-        ..BAD
-    },
-    Case {
-        words: RENAME,
-        file: b"{\"function\":{\"0\":1.0}}",
-        ..BAD
-    },
-    Case {
-        words: RENAME,
-        file: b"{\"function\":{\"0\":4294967296}}",
-        ..BAD
-    },
-    Case {
-        words: RENAME,
-        file: b"{\"functions\":{}}",
-        ..BAD
-    },
-];
-
-/// How runs end: the fourth of five tables, since a table's proof grows faster than the table.
-static FOURTH: [Case<'static>; 9] = [
-    Case {
-        words: RENAME,
-        file: b"[]",
-        ..BAD
-    },
-    Case {
-        words: RENAME,
-        file: b"{\"strict\":1}",
-        ..BAD
-    },
-    // The shelf fails, and has no such name.
-    Case {
-        words: RENAME,
-        shelf_fails: &[1],
-        ..SHELF
-    },
-    Case {
-        words: &["rename", "q"],
-        ..SHELF
-    },
-    Case {
-        words: &[],
-        status: 2,
-        err: USAGE,
-        ..USUAL
-    },
-    // The second read fails.
-    Case {
-        read_fails: &[2],
-        status: 3,
-        err: b"read fault\n",
-        ..USUAL
-    },
-    // The first write fails, and the fifth.
-    Case {
-        write_fails: &[1],
-        status: 4,
-        err: b"write fault\n",
-        ..USUAL
-    },
-    Case {
-        most: 3,
-        write_fails: &[5],
-        status: 4,
-        out: b"0061736d0100",
-        err: b"write fault\n",
-        ..USUAL
-    },
-    Case {
-        text: b"00617",
-        status: 14,
-        err: b"not hex\n",
-        ..USUAL
-    },
-];
-
-/// How runs end: the fifth of five tables, since a table's proof grows faster than the table.
-static FIFTH: [Case<'static>; 9] = [
-    Case {
-        text: b"0x",
-        most: 1,
-        status: 14,
-        err: b"not hex\n",
-        ..USUAL
-    },
-    // A failure of the last sink ends its text and changes no status.
-    Case {
-        text: b"00617",
-        most: 3,
-        err_fails: &[2],
-        status: 14,
-        err: b"not",
-        ..USUAL
-    },
-    PRINTED,
-    Case {
-        text: SPACED,
-        most: 1,
-        ..PRINTED
-    },
-    Case {
-        text: b"",
-        ..NO_HEADER
-    },
-    // The header of a component.
-    Case {
-        text: b"0061736d0d000100",
-        ..COMPONENT
-    },
-    // The second section has no reading.
-    Case {
-        text: b"0061736d01000000 03020101 0303010000",
-        err: b"parse error at 12\n",
-        ..NO_HEADER
-    },
-    // The size of a code section passes the end: with a number behind it, and with none.
-    Case {
-        text: b"0061736d01000000 0a0901",
-        status: 7,
-        err: b"invalid code section size\n",
-        ..USUAL
-    },
-    Case {
-        text: b"0061736d01000000 0a09",
-        err: b"parse error at 8\n",
-        ..NO_HEADER
-    },
-];
-
-#[test]
-fn first_ends(rt: HostRuntime) -> Result<(), Fail> {
-    for case in &FIRST {
-        try_case(&rt, rt.alloc(), case)?;
-    }
-    Ok(())
+/// Whether a run ends as it says.
+fn ends(alloc: Global, case: &str) -> Option<(bool, bool, bool)> {
+    let most = said(case, "most").parse().ok()?;
+    let mut out = sink_of(alloc, 1000, most, said(case, "write_fails"))?;
+    let mut err = sink_of(alloc, 100, most, said(case, "err_fails"))?;
+    let status = status_of(alloc, case, most, &mut out, &mut err)?;
+    Some((
+        said(case, "status").parse() == Ok(status),
+        holds(alloc, &out, said(case, "out"))?,
+        holds(alloc, &err, said(case, "err"))?,
+    ))
 }
 
 #[test]
-fn second_ends(rt: HostRuntime) -> Result<(), Fail> {
-    for case in &SECOND {
-        try_case(&rt, rt.alloc(), case)?;
+fn ends_of_runs(rt: HostRuntime) -> Result<(), Fail> {
+    let mut runs = 0u8;
+    for case in CASES.split("\n\n") {
+        for line in case.lines() {
+            assert!(rt; is_read(line), "{line}");
+        }
+        assert_eq!(rt; ends(rt.alloc(), case), Some((true, true, true)), "{case}");
+        runs = runs.saturating_add(1);
     }
-    Ok(())
-}
-
-#[test]
-fn third_ends(rt: HostRuntime) -> Result<(), Fail> {
-    for case in &THIRD {
-        try_case(&rt, rt.alloc(), case)?;
-    }
-    Ok(())
-}
-
-#[test]
-fn fourth_ends(rt: HostRuntime) -> Result<(), Fail> {
-    for case in &FOURTH {
-        try_case(&rt, rt.alloc(), case)?;
-    }
-    Ok(())
-}
-
-#[test]
-fn fifth_ends(rt: HostRuntime) -> Result<(), Fail> {
-    for case in &FIFTH {
-        try_case(&rt, rt.alloc(), case)?;
-    }
+    assert_eq!(rt; runs, 45);
     Ok(())
 }
 
@@ -500,7 +416,7 @@ impl Source for Endless {
 #[test]
 fn endless_input(rt: HostRuntime) -> Result<(), Fail> {
     let alloc = rt.alloc();
-    let words = strings(alloc, PLAIN)?;
+    let words = words_of(alloc, "-x plain").ok_or("no memory")?;
     let mut out = SureSink::new(alloc, 100)?;
     let mut err = SureSink::new(alloc, 100)?;
     let status = run(
@@ -517,23 +433,33 @@ fn endless_input(rt: HostRuntime) -> Result<(), Fail> {
     Ok(())
 }
 
+fn try_sure_reads(rt: &impl Abort, bytes: List<u8>) {
+    let mut source = SureSource::new(bytes, 3);
+    let mut buf = [0u8; 4];
+    for (room, n, held) in [
+        (4, 3, b"abc\0"),
+        (1, 1, b"dbc\0"),
+        (4, 1, b"ebc\0"),
+        (4, 0, b"ebc\0"),
+    ] {
+        assert_eq!(rt; source.read(&mut buf[..room.min(4)]), Ok(n));
+        assert_eq!(rt; &buf, held);
+    }
+}
+
+/// A write past the room is taken and not kept.
+fn try_sure_writes(rt: &impl Abort, sink: &mut SureSink) {
+    for (piece, n) in [(&b"abc"[..], 3), (b"def", 3), (b"gh", 2)] {
+        assert_eq!(rt; sink.write(piece), Ok(n));
+    }
+    assert_eq!(rt; sink.held(), b"abc".as_slice());
+}
+
 #[test]
 fn sure_outside(rt: HostRuntime) -> Result<(), Fail> {
     let alloc = rt.alloc();
-    let mut source = SureSource::new(list_of(alloc, b"abcde")?, 3);
-    let mut buf = [0u8; 4];
-    assert_eq!(rt; source.read(&mut buf), Ok(3));
-    assert_eq!(rt; &buf, b"abc\0");
-    assert_eq!(rt; source.read(&mut buf[..1]), Ok(1));
-    assert_eq!(rt; source.read(&mut buf), Ok(1));
-    assert_eq!(rt; &buf, b"ebc\0");
-    assert_eq!(rt; source.read(&mut buf), Ok(0));
-    // A write past the room is taken and not kept.
-    let mut sink = SureSink::new(alloc, 5)?;
-    assert_eq!(rt; sink.write(b"abc"), Ok(3));
-    assert_eq!(rt; sink.write(b"def"), Ok(3));
-    assert_eq!(rt; sink.write(b"gh"), Ok(2));
-    assert_eq!(rt; sink.held(), b"abc".as_slice());
+    try_sure_reads(&rt, list_of(alloc, b"abcde")?);
+    try_sure_writes(&rt, &mut SureSink::new(alloc, 5)?);
     // A text that is not there is empty.
     let mut shelf = SureShelf::new(alloc);
     let text = shelf.fetch(alloc, "a", 0).or(Err("no text"))?;
@@ -541,10 +467,8 @@ fn sure_outside(rt: HostRuntime) -> Result<(), Fail> {
     Ok(())
 }
 
-#[test]
-fn failing_outside(rt: HostRuntime) -> Result<(), Fail> {
-    let alloc = rt.alloc();
-    let mut source = MemSource::new(list_of(alloc, b"abcde")?, 2, list_of(alloc, &[1, 3])?);
+fn try_failing_reads(rt: &impl Abort, bytes: List<u8>, fails: List<u64>) {
+    let mut source = MemSource::new(bytes, 2, fails);
     let mut buf = [0u8; 4];
     for (answer, held) in [
         (Err(Failed), b"\0\0\0\0"),
@@ -557,7 +481,9 @@ fn failing_outside(rt: HostRuntime) -> Result<(), Fail> {
         assert_eq!(rt; source.read(&mut buf), answer);
         assert_eq!(rt; &buf, held);
     }
-    let mut sink = MemSink::new(alloc, 5, 3, list_of(alloc, &[2])?)?;
+}
+
+fn try_failing_writes(rt: &impl Abort, sink: &mut MemSink) {
     for (piece, answer) in [
         (&b"abcd"[..], Ok(3)),
         (b"d", Err(Failed)),
@@ -569,20 +495,26 @@ fn failing_outside(rt: HostRuntime) -> Result<(), Fail> {
         assert_eq!(rt; sink.write(piece), answer);
     }
     assert_eq!(rt; sink.held(), b"abcde".as_slice());
+}
+
+#[test]
+fn failing_outside(rt: HostRuntime) -> Result<(), Fail> {
+    let alloc = rt.alloc();
+    try_failing_reads(&rt, list_of(alloc, b"abcde")?, list_of(alloc, &[1, 3])?);
+    let mut sink = MemSink::new(alloc, 5, 3, list_of(alloc, &[2])?)?;
+    try_failing_writes(&rt, &mut sink);
     Ok(())
+}
+
+/// The line of the counts.
+fn line_of(alloc: Global, renamer: &Renamer) -> Option<Vec<u8>> {
+    tail(alloc, &counts_of(renamer)).ok()
 }
 
 #[test]
 fn line_of_counts(rt: HostRuntime) -> Result<(), Fail> {
-    let alloc = rt.alloc();
-    let mut renamer = Renamer::new(alloc);
-    assert_eq!(rt;
-        tail(alloc, &counts_of(&renamer))?.as_slice(),
-        b"\nasked\n".as_slice()
-    );
-    for _ in 0..10 {
-        renamer.note(Asked::SectionHook);
-    }
+    let mut renamer = Renamer::new(rt.alloc());
+    let none = line_of(rt.alloc(), &renamer).ok_or("no memory")?;
     for what in [
         Asked::Pop,
         Asked::Of(Space::Type_),
@@ -592,10 +524,33 @@ fn line_of_counts(rt: HostRuntime) -> Result<(), Fail> {
     ] {
         renamer.note(what);
     }
-    assert_eq!(rt;
-        tail(alloc, &counts_of(&renamer))?.as_slice(),
-        b"\nasked function 1 type 2 data_count 1 section_hook 10 pop 1\n".as_slice()
-    );
+    for _ in 0..10 {
+        renamer.note(Asked::SectionHook);
+    }
+    let some = line_of(rt.alloc(), &renamer).ok_or("no memory")?;
+    for (line, wanted) in [
+        (&none, &b"\nasked\n"[..]),
+        (
+            &some,
+            b"\nasked function 1 type 2 data_count 1 section_hook 10 pop 1\n",
+        ),
+    ] {
+        assert_eq!(rt; line.as_slice(), wanted);
+    }
+    Ok(())
+}
+
+fn try_answer(
+    rt: &impl Abort,
+    alloc: Global,
+    answer: Answer,
+    status: u8,
+    text: &[u8],
+) -> Result<(), NoMemory> {
+    let mut err = SureSink::new(alloc, 80)?;
+    assert_eq!(rt; answer.status(), status);
+    assert_eq!(rt; answer.say(&mut err), Ok(()));
+    assert_eq!(rt; err.held(), text);
     Ok(())
 }
 
@@ -606,11 +561,7 @@ fn place_of_a_fault(rt: HostRuntime) -> Result<(), Fail> {
         (8, b"parse error at 8\n"),
         (u64::MAX as usize, b"parse error at 18446744073709551615\n"),
     ] {
-        let mut err = SureSink::new(rt.alloc(), 40)?;
-        let answer = Answer::ParseError { at };
-        assert_eq!(rt; answer.status(), 5);
-        assert_eq!(rt; answer.say(&mut err), Ok(()));
-        assert_eq!(rt; err.held(), text);
+        try_answer(&rt, rt.alloc(), Answer::ParseError { at }, 5, text)?;
     }
     Ok(())
 }
@@ -647,10 +598,7 @@ fn ends_of_errors(rt: HostRuntime) -> Result<(), Fail> {
             b"too large: 41 over 40\n",
         ),
     ] {
-        let mut err = SureSink::new(rt.alloc(), 80)?;
-        assert_eq!(rt; answer.status(), status);
-        assert_eq!(rt; answer.say(&mut err), Ok(()));
-        assert_eq!(rt; err.held(), text);
+        try_answer(&rt, rt.alloc(), answer, status, text)?;
     }
     Ok(())
 }
@@ -705,16 +653,38 @@ fn texts_in_memory(rt: HostRuntime) -> Result<(), Fail> {
     Ok(())
 }
 
+fn fault_of(
+    shelf: &mut FileShelf<'_, HostRuntime>,
+    alloc: Global,
+    name: &str,
+    most: u32,
+) -> Option<ShelfFault> {
+    shelf.fetch(alloc, name, most).err()
+}
+
+/// Whether a file has this text.
+fn has_text(shelf: &mut FileShelf<'_, HostRuntime>, alloc: Global, text: &[u8]) -> bool {
+    match shelf.fetch(alloc, "long", 1_048_577) {
+        Ok(whole) => whole.as_slice() == text,
+        Err(_) => false,
+    }
+}
+
 #[test]
 fn long_file(rt: HostRuntime) -> Result<(), Fail> {
     let alloc = rt.alloc();
     let text = vec![in alloc; b'0'; 1_048_577]?;
     std::fs::write(&rt, "long", text.as_slice())?;
     let mut shelf = FileShelf::new(&rt);
-    assert!(rt; shelf.fetch(alloc, "long", 1_048_576).err() == Some(ShelfFault::TooLong));
-    let whole = shelf.fetch(alloc, "long", 1_048_577).or(Err("no text"))?;
-    assert!(rt; whole.as_slice() == text.as_slice());
-    assert!(rt; shelf.fetch(alloc, "none", 9).err() == Some(ShelfFault::Failed));
+    assert_eq!(rt;
+        fault_of(&mut shelf, alloc, "long", 1_048_576),
+        Some(ShelfFault::TooLong)
+    );
+    assert!(rt; has_text(&mut shelf, alloc, text.as_slice()));
+    assert_eq!(rt;
+        fault_of(&mut shelf, alloc, "none", 9),
+        Some(ShelfFault::Failed)
+    );
     std::fs::remove_file(&rt, "long")?;
     Ok(())
 }
@@ -724,11 +694,11 @@ fn renamings_of_texts(rt: HostRuntime) -> Result<(), Fail> {
     let alloc = rt.alloc();
     let text = b"{\"tag\":{\"10\":3,\"9\":4294967295,\"0\":7},\"strict\":true}";
     let mut renamer = renaming_of(alloc, text).or(Err("no renaming"))?;
-    for (from, to) in [(10, 3), (9, u32::MAX), (0, 7)] {
-        assert_eq!(rt; renamer.ask(Space::Tag, from), Ok(to));
+    for (from, to) in [(10, Some(3)), (9, Some(u32::MAX)), (0, Some(7)), (1, None)] {
+        assert_eq!(rt; renamer.ask(Space::Tag, from).ok(), to);
     }
-    assert!(rt; renamer.ask(Space::Tag, 1).is_err());
-    assert!(rt; renaming_of(alloc, b"{").err() == Some(RenamingFault::Bad));
-    assert!(rt; renaming_of(alloc, b"\xff").err() == Some(RenamingFault::Bad));
+    for text in [&b"{"[..], b"\xff"] {
+        assert!(rt; renaming_of(alloc, text).err() == Some(RenamingFault::Bad));
+    }
     Ok(())
 }
