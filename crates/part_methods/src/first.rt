@@ -1,5 +1,5 @@
 //! The kind in which modules, sections, immediates and the types of tables, globals, functions, structures and arrays ask.
-use crate::noter::{Made, Noter, Notes, noted};
+use crate::noter::{Made, Noter, Notes, UNASKED, noted};
 use reencode_core::Reencode;
 use reencode_hooks::RoundtripReencoder;
 use reencode_items::ReencodeItems;
@@ -80,6 +80,30 @@ impl ReencodeItems for Noter<First> {
 
     fn const_expr(&mut self, alloc: Global, expr: r::ConstExpr<'_>) -> Made<w::ConstExpr> {
         noted!(self, const_expr(alloc, expr))
+    }
+
+    fn external_index(&mut self, _kind: r::ExternalKind, _index: u32) -> Made<u32> {
+        Err(UNASKED)
+    }
+
+    fn abstract_heap_type(&mut self, _value: r::AbstractHeapType) -> Made<w::AbstractHeapType> {
+        Err(UNASKED)
+    }
+
+    fn export_kind(&mut self, _external_kind: r::ExternalKind) -> Made<w::ExportKind> {
+        Err(UNASKED)
+    }
+
+    fn tag_kind(&mut self, _kind: r::TagKind) -> Made<w::TagKind> {
+        Err(UNASKED)
+    }
+
+    fn entity_type(&mut self, _type_ref: r::TypeRef) -> Made<w::EntityType> {
+        Err(UNASKED)
+    }
+
+    fn ordering(&mut self, _arg: r::Ordering) -> Made<w::Ordering> {
+        Err(UNASKED)
     }
 }
 
@@ -196,5 +220,9 @@ impl Reencode for Noter<First> {
     ) -> Made<()> {
         self.note("parse_function_body");
         Ok(())
+    }
+
+    fn custom_section<'a>(&mut self, _section: r::CustomSection<'a>) -> Made<w::CustomSection<'a>> {
+        Err(UNASKED)
     }
 }

@@ -13,27 +13,53 @@ use wasm_read::{CompositeInnerType, HeapType, Imm, TypeRef};
 use wasm_shapes::Space;
 use wasm_write as w;
 
-/// A type with its supertypes, and a function.
-pub fn types<N: ReencodeItems + Notes>(of: &mut N, alloc: Global) -> Result<(), Error<N::Error>> {
-    both!(of, sub_type(alloc, v::sub_type(alloc)?));
-    both!(of, func_type(alloc, v::function(alloc)?));
-    Ok(())
+/// A type with its supertypes.
+pub fn sub_type<N: ReencodeItems + Notes>(
+    of: &mut N,
+    alloc: Global,
+) -> Result<(), Error<N::Error>> {
+    both!(of, sub_type(alloc, v::sub_type(alloc)?))
 }
 
-/// Types that hold fields, and a continuation.
-pub fn fields<N: ReencodeItems + Notes>(of: &mut N, alloc: Global) -> Result<(), Error<N::Error>> {
-    both!(of, struct_type(alloc, v::structure(alloc)?));
-    both!(of, array_type(v::ARRAY));
-    both!(of, cont_type(v::CONTINUATION));
-    Ok(())
+/// A function type.
+pub fn function<N: ReencodeItems + Notes>(
+    of: &mut N,
+    alloc: Global,
+) -> Result<(), Error<N::Error>> {
+    both!(of, func_type(alloc, v::function(alloc)?))
 }
 
-/// Types that hold a type of values.
-pub fn values<N: ReencodeItems + Notes>(of: &mut N) -> Result<(), Error<N::Error>> {
-    both!(of, storage_type(r::StorageType::Val(v::VALUE)));
-    both!(of, table_type(v::TABLE));
-    both!(of, global_type(v::GLOBAL));
-    Ok(())
+/// A structure type.
+pub fn structure<N: ReencodeItems + Notes>(
+    of: &mut N,
+    alloc: Global,
+) -> Result<(), Error<N::Error>> {
+    both!(of, struct_type(alloc, v::structure(alloc)?))
+}
+
+/// An array type.
+pub fn array<N: ReencodeItems + Notes>(of: &mut N) -> Result<(), Error<N::Error>> {
+    both!(of, array_type(v::ARRAY))
+}
+
+/// A continuation type.
+pub fn continuation<N: ReencodeItems + Notes>(of: &mut N) -> Result<(), Error<N::Error>> {
+    both!(of, cont_type(v::CONTINUATION))
+}
+
+/// A type that is stored.
+pub fn storage<N: ReencodeItems + Notes>(of: &mut N) -> Result<(), Error<N::Error>> {
+    both!(of, storage_type(r::StorageType::Val(v::VALUE)))
+}
+
+/// A table type.
+pub fn table<N: ReencodeItems + Notes>(of: &mut N) -> Result<(), Error<N::Error>> {
+    both!(of, table_type(v::TABLE))
+}
+
+/// A global type.
+pub fn global<N: ReencodeItems + Notes>(of: &mut N) -> Result<(), Error<N::Error>> {
+    both!(of, global_type(v::GLOBAL))
 }
 
 /// The line of an immediate, which is given twice.
@@ -91,8 +117,33 @@ pub fn operators<N: ReencodeItems + Notes>(
     of: &mut N,
     alloc: Global,
 ) -> Result<(), Error<N::Error>> {
-    both!(of, parse_instruction(alloc, &mut v::BODY.operators()?));
+    both!(of, parse_instruction(alloc, &mut v::BODY.operators()?))
+}
+
+/// A composite type, which is given twice.
+fn composite<N: ReencodeItems + Notes>(
+    of: &mut N,
+    alloc: Global,
+    ty: r::CompositeType,
+    again: r::CompositeType,
+) -> Result<(), Error<N::Error>> {
+    of.begin("composite_type");
+    of.composite_type(alloc, ty)?;
+    of.note("|");
+    utils::composite_type(of, alloc, again)?;
     Ok(())
+}
+
+/// The line of a composite type.
+macro_rules! composed {
+    ($noter:ident, $alloc:ident, $inner:expr) => {
+        composite(
+            $noter,
+            $alloc,
+            v::composite($inner),
+            v::composite($inner),
+        )?
+    };
 }
 
 /// Composite types.
@@ -100,61 +151,51 @@ pub fn composites<N: ReencodeItems + Notes>(
     of: &mut N,
     alloc: Global,
 ) -> Result<(), Error<N::Error>> {
-    both!(
-        of,
-        composite_type(
-            alloc,
-            v::composite(CompositeInnerType::Func(v::function(alloc)?))
-        )
-    );
-    both!(
-        of,
-        composite_type(alloc, v::composite(CompositeInnerType::Array(v::ARRAY)))
-    );
+    composed!(of, alloc, CompositeInnerType::Func(v::function(alloc)?));
+    composed!(of, alloc, CompositeInnerType::Array(v::ARRAY));
+    composed!(of, alloc, CompositeInnerType::Struct(v::structure(alloc)?));
+    composed!(of, alloc, CompositeInnerType::Cont(v::CONTINUATION));
     Ok(())
 }
 
-/// More composite types.
-pub fn more_composites<N: ReencodeItems + Notes>(
+/// A field.
+pub fn field<N: ReencodeItems + Notes>(of: &mut N) -> Result<(), Error<N::Error>> {
+    both!(of, field_type(v::FIELD))
+}
+
+/// A type of values.
+pub fn value<N: ReencodeItems + Notes>(of: &mut N) -> Result<(), Error<N::Error>> {
+    both!(of, val_type(v::VALUE))
+}
+
+/// An operator.
+pub fn operator<N: ReencodeItems + Notes>(
     of: &mut N,
     alloc: Global,
 ) -> Result<(), Error<N::Error>> {
-    both!(
-        of,
-        composite_type(
-            alloc,
-            v::composite(CompositeInnerType::Struct(v::structure(alloc)?))
-        )
-    );
-    both!(
-        of,
-        composite_type(
-            alloc,
-            v::composite(CompositeInnerType::Cont(v::CONTINUATION))
-        )
-    );
-    Ok(())
+    both!(of, instruction(alloc, v::call(alloc)?))
 }
 
-/// Types that hold one other, and an operator.
-pub fn parts<N: ReencodeItems + Notes>(of: &mut N, alloc: Global) -> Result<(), Error<N::Error>> {
-    both!(of, field_type(v::FIELD));
-    both!(of, val_type(v::VALUE));
-    both!(of, instruction(alloc, v::call(alloc)?));
-    Ok(())
+/// A heap type.
+fn heap_type<N: ReencodeItems + Notes>(of: &mut N, ty: HeapType) -> Result<(), Error<N::Error>> {
+    both!(of, heap_type(ty))
 }
 
-/// Heap types, and a tag.
+/// Heap types.
 pub fn heap_types<N: ReencodeItems + Notes>(of: &mut N) -> Result<(), Error<N::Error>> {
-    for ty in [
-        v::HEAP,
-        HeapType::Concrete(v::INDEX),
-        HeapType::Exact(v::INDEX),
-    ] {
-        both!(of, heap_type(ty));
-    }
-    both!(of, tag_type(v::TAG));
-    Ok(())
+    heap_type(of, v::HEAP)?;
+    heap_type(of, HeapType::Concrete(v::INDEX))?;
+    heap_type(of, HeapType::Exact(v::INDEX))
+}
+
+/// A tag.
+pub fn tag<N: ReencodeItems + Notes>(of: &mut N) -> Result<(), Error<N::Error>> {
+    both!(of, tag_type(v::TAG))
+}
+
+/// The type of what is imported.
+fn entity<N: ReencodeItems + Notes>(of: &mut N, ty: TypeRef) -> Result<(), Error<N::Error>> {
+    both!(of, entity_type(ty))
 }
 
 /// What is imported.
@@ -167,17 +208,27 @@ pub fn entities<N: ReencodeItems + Notes>(of: &mut N) -> Result<(), Error<N::Err
         TypeRef::Global(v::GLOBAL),
         TypeRef::Tag(v::TAG),
     ] {
-        both!(of, entity_type(ty));
+        entity(of, ty)?;
     }
     Ok(())
 }
 
-/// What is left.
-pub fn others<N: ReencodeItems + Notes>(of: &mut N, alloc: Global) -> Result<(), Error<N::Error>> {
-    both!(of, ref_type(v::REFERENCE));
-    both!(of, block_type(r::BlockType::Type_(v::VALUE)));
-    both!(of, val_types(alloc, v::one(alloc, v::VALUE)?));
-    Ok(())
+/// A reference type.
+pub fn reference<N: ReencodeItems + Notes>(of: &mut N) -> Result<(), Error<N::Error>> {
+    both!(of, ref_type(v::REFERENCE))
+}
+
+/// The type of a block.
+pub fn block<N: ReencodeItems + Notes>(of: &mut N) -> Result<(), Error<N::Error>> {
+    both!(of, block_type(r::BlockType::Type_(v::VALUE)))
+}
+
+/// A list of types of values.
+pub fn value_types<N: ReencodeItems + Notes>(
+    of: &mut N,
+    alloc: Global,
+) -> Result<(), Error<N::Error>> {
+    both!(of, val_types(alloc, v::one(alloc, v::VALUE)?))
 }
 
 /// What comes of an expression.
@@ -189,7 +240,21 @@ fn told<E: Drop>(made: Result<w::ConstExpr, Error<E>>) -> &'static str {
     }
 }
 
-/// The expression `i32.const 0`, by each way to map its operators.
+/// The expression `i32.const 0`.
+fn expression<N: ReencodeItems + Notes>(of: &mut N, alloc: Global) -> Result<(), Error<N::Error>>
+where
+    N::Error: Drop,
+{
+    of.begin("const_expr");
+    let made = of.const_expr(alloc, v::expression()?);
+    of.note(told(made));
+    of.note("|");
+    let made = utils::const_expr(of, alloc, v::expression()?);
+    of.note(told(made));
+    Ok(())
+}
+
+/// The same by each way to map its operators.
 pub fn expressions<N: ReencodeItems + Notes + Ways>(
     of: &mut N,
     alloc: Global,
@@ -197,15 +262,9 @@ pub fn expressions<N: ReencodeItems + Notes + Ways>(
 where
     N::Error: Drop,
 {
-    let bytes = [0x41, 0x00, 0x0b];
     for way in [Way::Maps, Way::Ends, Way::PassesBy, Way::Refuses] {
         of.turn(way);
-        of.begin("const_expr");
-        let made = of.const_expr(alloc, r::ConstExpr::new(&bytes)?);
-        of.note(told(made));
-        of.note("|");
-        let made = utils::const_expr(of, alloc, r::ConstExpr::new(&bytes)?);
-        of.note(told(made));
+        expression(of, alloc)?;
     }
     Ok(())
 }

@@ -24,23 +24,31 @@ use std::io;
 /// The sections of modules, where the rows are overridden.
 fn by_rows<N: Reencode + Notes>(of: &mut N, alloc: Global) -> Result<(), Error<N::Error>> {
     rows::modules(of, alloc)?;
-    rows::types(of, alloc)?;
-    rows::functions(of, alloc)?;
-    rows::memories(of, alloc)?;
-    rows::exports(of, alloc)?;
-    rows::segments(of, alloc)?;
+    rows::sections(of, alloc)?;
+    rows::import(of, alloc)?;
     rows::code(of, alloc)?;
     names::sections(of, alloc)
+}
+
+/// Types, where their parts are overridden.
+fn types_by_parts<N: Reencode + Notes>(of: &mut N, alloc: Global) -> Result<(), Error<N::Error>> {
+    items::sub_type(of, alloc)?;
+    items::function(of, alloc)?;
+    items::structure(of, alloc)?;
+    items::array(of)?;
+    items::continuation(of)?;
+    items::storage(of)?;
+    items::table(of)?;
+    items::global(of)
 }
 
 /// What is asked where parts are overridden.
 fn by_parts<N: Reencode + Notes>(of: &mut N, alloc: Global) -> Result<(), Error<N::Error>> {
     by_rows(of, alloc)?;
+    rows::locals(of, alloc)?;
+    rows::start(of)?;
     rows::items(of, alloc)?;
-    rows::expressions(of, alloc)?;
-    items::types(of, alloc)?;
-    items::fields(of, alloc)?;
-    items::values(of)?;
+    types_by_parts(of, alloc)?;
     items::immediates(of, alloc)?;
     items::more_immediates(of, alloc)?;
     items::operators(of, alloc)
@@ -49,25 +57,43 @@ fn by_parts<N: Reencode + Notes>(of: &mut N, alloc: Global) -> Result<(), Error<
 /// The rows of sections, where what they hold is overridden.
 fn by_items<N: Reencode + Notes>(of: &mut N, alloc: Global) -> Result<(), Error<N::Error>> {
     rows::bodies(of, alloc)?;
-    rows::groups(of, alloc)?;
+    rows::group(of, alloc)?;
+    rows::imported(of, alloc)?;
     rows::tables(of, alloc)?;
-    rows::globals(of, alloc)?;
-    rows::elements(of, alloc)?;
+    rows::global(of, alloc)?;
+    rows::export(of, alloc)?;
+    rows::element(of, alloc)?;
+    rows::segment(of, alloc)?;
+    rows::body(of, alloc)?;
     rows::imports(of, alloc)
+}
+
+/// Types and operators, where wholes are overridden.
+fn items_by_wholes<N: Reencode + Notes>(of: &mut N, alloc: Global) -> Result<(), Error<N::Error>> {
+    items::composites(of, alloc)?;
+    items::field(of)?;
+    items::value(of)?;
+    items::operator(of, alloc)?;
+    items::heap_types(of)?;
+    items::tag(of)
+}
+
+/// Custom sections and names, where wholes are overridden.
+fn names_by_wholes<N: Reencode + Notes>(of: &mut N, alloc: Global) -> Result<(), Error<N::Error>> {
+    names::custom(of, alloc, "name")?;
+    names::custom(of, alloc, "x")?;
+    names::unknown(of, alloc)?;
+    names::maps(of, alloc)?;
+    names::more_maps(of, alloc)?;
+    names::last_maps(of, alloc)?;
+    names::indirect_maps(of, alloc)
 }
 
 /// What is asked where wholes are overridden.
 fn by_wholes<N: Reencode + Notes>(of: &mut N, alloc: Global) -> Result<(), Error<N::Error>> {
     by_items(of, alloc)?;
-    items::composites(of, alloc)?;
-    items::more_composites(of, alloc)?;
-    items::parts(of, alloc)?;
-    items::heap_types(of)?;
-    names::custom(of, alloc)?;
-    names::maps(of, alloc)?;
-    names::more_maps(of, alloc)?;
-    names::last_maps(of, alloc)?;
-    names::indirect_maps(of, alloc)
+    items_by_wholes(of, alloc)?;
+    names_by_wholes(of, alloc)
 }
 
 /// What is asked where others are overridden.
@@ -79,7 +105,9 @@ where
     N::Error: Drop,
 {
     items::entities(of)?;
-    items::others(of, alloc)?;
+    items::reference(of)?;
+    items::block(of)?;
+    items::value_types(of, alloc)?;
     items::expressions(of, alloc)
 }
 

@@ -1,4 +1,6 @@
 //! What the methods of custom sections, name sections and sections of other ids ask.
+ghost use Rattle.wasm_read.specs.Subsections.{IsRaw};
+
 use crate::noter::{Notes, both};
 use reencode_core::{Reencode, utils};
 use reencode_hooks::Error;
@@ -15,55 +17,78 @@ const NAMES: [u8; 4] = [0x01, 0x00, 0x01, 0x66];
 /// A name of the index 0 inside the index 0.
 const INDIRECT: [u8; 6] = [0x01, 0x00, 0x01, 0x00, 0x01, 0x66];
 
-/// The line of the method of a subsection with a map.
+/// The subsections of a name section.
+pub fn sections<N: Reencode + Notes>(of: &mut N, alloc: Global) -> Result<(), Error<N::Error>> {
+    both!(
+        of,
+        custom_name_section(alloc, r::NameSectionReader::new(&CONTENTS)?, u32::MAX)
+    )
+}
+
+/// A custom section of a name.
+pub fn custom<N: Reencode + Notes>(
+    of: &mut N,
+    alloc: Global,
+    name: &str,
+) -> Result<(), Error<N::Error>> {
+    let mut module = w::Module::new(alloc, u32::MAX)?;
+    let section = r::CustomSection {
+        name,
+        contents: &CONTENTS,
+    };
+    both!(of, parse_custom_section(alloc, &mut module, section))
+}
+
+/// A section of another id.
+pub fn unknown<N: Reencode + Notes>(of: &mut N, alloc: Global) -> Result<(), Error<N::Error>> {
+    let mut module = w::Module::new(alloc, u32::MAX)?;
+    both!(of, parse_unknown_section(&mut module, 99, &CONTENTS))
+}
+
+/// A subsection of a name section, which is given twice.
+fn subsection<N: Reencode + Notes>(
+    of: &mut N,
+    alloc: Global,
+    row: r::Name<'_>,
+    again: r::Name<'_>,
+) -> Result<(), Error<N::Error>>
+    requires first { IsRaw row }
+    requires second { IsRaw again }
+{
+    of.begin("parse_custom_name_subsection");
+    of.parse_custom_name_subsection(alloc, &mut w::NameSection::new(alloc, u32::MAX), row)?;
+    of.note("|");
+    utils::parse_custom_name_subsection(
+        of,
+        alloc,
+        &mut w::NameSection::new(alloc, u32::MAX),
+        again,
+    )?;
+    Ok(())
+}
+
+/// The line of a subsection with a map.
 macro_rules! map {
     ($noter:ident, $alloc:ident, $kind:ident) => {
-        both!(
+        subsection(
             $noter,
-            parse_custom_name_subsection(
-                $alloc,
-                &mut w::NameSection::new($alloc, u32::MAX),
-                r::Name::$kind(r::NameMap::new(&NAMES))
-            )
-        )
+            $alloc,
+            r::Name::$kind(r::NameMap::new(&NAMES)),
+            r::Name::$kind(r::NameMap::new(&NAMES)),
+        )?
     };
 }
 
 /// The same with an indirect map.
 macro_rules! indirect {
     ($noter:ident, $alloc:ident, $kind:ident) => {
-        both!(
+        subsection(
             $noter,
-            parse_custom_name_subsection(
-                $alloc,
-                &mut w::NameSection::new($alloc, u32::MAX),
-                r::Name::$kind(r::IndirectNameMap::new(&INDIRECT))
-            )
-        )
+            $alloc,
+            r::Name::$kind(r::IndirectNameMap::new(&INDIRECT)),
+            r::Name::$kind(r::IndirectNameMap::new(&INDIRECT)),
+        )?
     };
-}
-
-/// The subsections of a name section.
-pub fn sections<N: Reencode + Notes>(of: &mut N, alloc: Global) -> Result<(), Error<N::Error>> {
-    both!(
-        of,
-        custom_name_section(alloc, r::NameSectionReader::new(&CONTENTS)?, u32::MAX)
-    );
-    Ok(())
-}
-
-/// Custom sections by their names, and a section of another id.
-pub fn custom<N: Reencode + Notes>(of: &mut N, alloc: Global) -> Result<(), Error<N::Error>> {
-    let mut module = w::Module::new(alloc, u32::MAX)?;
-    for name in ["name", "x"] {
-        let section = r::CustomSection {
-            name,
-            contents: &CONTENTS,
-        };
-        both!(of, parse_custom_section(alloc, &mut module, section));
-    }
-    both!(of, parse_unknown_section(&mut module, 99, &CONTENTS));
-    Ok(())
 }
 
 /// Names by their spaces.

@@ -14,6 +14,9 @@ use wasm_write::Module;
 
 pub type Made<T> = Result<T, Error<Infallible>>;
 
+/// What a method answers in a kind where nothing asks it.
+pub const UNASKED: Error<Infallible> = Error::UnsupportedCoreTypeInComponent;
+
 /// Notes each hook that is asked, and each method that its kind overrides, and answers as the reencoder that changes nothing.
 #[derive(Drop)]
 pub struct Noter<K> {
@@ -81,14 +84,16 @@ macro_rules! noted {
 
 pub(crate) use noted;
 
-/// The line of a call: what the method asks, and what its function asks.
+/// The line of a call: what the method asks, and what its function asks. Two lines in one function cost its check more than
+/// each in one of its own.
 macro_rules! both {
-    ($noter:ident, $method:ident($($arg:expr),*)) => {
+    ($noter:ident, $method:ident($($arg:expr),*)) => {{
         $noter.begin(stringify!($method));
         $noter.$method($($arg),*)?;
         $noter.note("|");
         utils::$method($noter, $($arg),*)?;
-    };
+        Ok(())
+    }};
 }
 
 pub(crate) use both;

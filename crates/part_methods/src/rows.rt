@@ -88,94 +88,166 @@ macro_rules! section {
     };
 }
 
+/// A module.
+fn module<N: Reencode + Notes>(
+    of: &mut N,
+    alloc: Global,
+    bytes: &[u8],
+) -> Result<(), Error<N::Error>> {
+    let mut module = w::Module::new(alloc, u32::MAX)?;
+    both!(of, parse_core_module(alloc, &mut module, bytes))
+}
+
 /// Modules.
 pub fn modules<N: Reencode + Notes>(of: &mut N, alloc: Global) -> Result<(), Error<N::Error>> {
-    let mut module = w::Module::new(alloc, u32::MAX)?;
-    for bytes in [&HEADER as &[u8], &MODULE, &OTHERS] {
-        both!(of, parse_core_module(alloc, &mut module, bytes));
-    }
-    Ok(())
+    module(of, alloc, &HEADER)?;
+    module(of, alloc, &MODULE)?;
+    module(of, alloc, &OTHERS)
 }
 
-/// Sections of types and of imports.
-pub fn types<N: Reencode + Notes>(of: &mut N, alloc: Global) -> Result<(), Error<N::Error>> {
-    section!(of, alloc, parse_type_section(TYPES));
-    section!(of, alloc, parse_import_section(IMPORTS));
-    Ok(())
+/// A section of types.
+fn type_section<N: Reencode + Notes>(of: &mut N, alloc: Global) -> Result<(), Error<N::Error>> {
+    section!(of, alloc, parse_type_section(TYPES))
 }
 
-/// Sections of functions and of tables.
-pub fn functions<N: Reencode + Notes>(of: &mut N, alloc: Global) -> Result<(), Error<N::Error>> {
-    section!(of, alloc, parse_function_section(FUNCTIONS));
-    section!(of, alloc, parse_table_section(TABLES));
-    Ok(())
+/// A section of imports.
+fn import_section<N: Reencode + Notes>(of: &mut N, alloc: Global) -> Result<(), Error<N::Error>> {
+    section!(of, alloc, parse_import_section(IMPORTS))
 }
 
-/// Sections of memories and of globals.
-pub fn memories<N: Reencode + Notes>(of: &mut N, alloc: Global) -> Result<(), Error<N::Error>> {
-    section!(of, alloc, parse_memory_section(MEMORIES));
-    section!(of, alloc, parse_global_section(GLOBALS));
-    Ok(())
+/// A section of functions.
+fn function_section<N: Reencode + Notes>(of: &mut N, alloc: Global) -> Result<(), Error<N::Error>> {
+    section!(of, alloc, parse_function_section(FUNCTIONS))
 }
 
-/// Sections of exports and of elements.
-pub fn exports<N: Reencode + Notes>(of: &mut N, alloc: Global) -> Result<(), Error<N::Error>> {
-    section!(of, alloc, parse_export_section(EXPORTS));
-    section!(of, alloc, parse_element_section(ELEMENTS));
-    Ok(())
+/// A section of tables.
+fn table_section<N: Reencode + Notes>(of: &mut N, alloc: Global) -> Result<(), Error<N::Error>> {
+    section!(of, alloc, parse_table_section(TABLES))
 }
 
-/// Sections of data segments and of tags.
-pub fn segments<N: Reencode + Notes>(of: &mut N, alloc: Global) -> Result<(), Error<N::Error>> {
-    section!(of, alloc, parse_data_section(SEGMENTS));
-    section!(of, alloc, parse_tag_section(TAGS));
-    Ok(())
+/// A section of memories.
+fn memory_section<N: Reencode + Notes>(of: &mut N, alloc: Global) -> Result<(), Error<N::Error>> {
+    section!(of, alloc, parse_memory_section(MEMORIES))
 }
 
-/// An import by itself, and a section of code.
-pub fn code<N: Reencode + Notes>(of: &mut N, alloc: Global) -> Result<(), Error<N::Error>> {
+/// A section of globals.
+fn global_section<N: Reencode + Notes>(of: &mut N, alloc: Global) -> Result<(), Error<N::Error>> {
+    section!(of, alloc, parse_global_section(GLOBALS))
+}
+
+/// A section of exports.
+fn export_section<N: Reencode + Notes>(of: &mut N, alloc: Global) -> Result<(), Error<N::Error>> {
+    section!(of, alloc, parse_export_section(EXPORTS))
+}
+
+/// A section of elements.
+fn element_section<N: Reencode + Notes>(of: &mut N, alloc: Global) -> Result<(), Error<N::Error>> {
+    section!(of, alloc, parse_element_section(ELEMENTS))
+}
+
+/// A section of data segments.
+fn data_section<N: Reencode + Notes>(of: &mut N, alloc: Global) -> Result<(), Error<N::Error>> {
+    section!(of, alloc, parse_data_section(SEGMENTS))
+}
+
+/// A section of tags.
+fn tag_section<N: Reencode + Notes>(of: &mut N, alloc: Global) -> Result<(), Error<N::Error>> {
+    section!(of, alloc, parse_tag_section(TAGS))
+}
+
+/// Sections of rows.
+pub fn sections<N: Reencode + Notes>(of: &mut N, alloc: Global) -> Result<(), Error<N::Error>> {
+    type_section(of, alloc)?;
+    import_section(of, alloc)?;
+    function_section(of, alloc)?;
+    table_section(of, alloc)?;
+    memory_section(of, alloc)?;
+    global_section(of, alloc)?;
+    export_section(of, alloc)?;
+    element_section(of, alloc)?;
+    data_section(of, alloc)?;
+    tag_section(of, alloc)
+}
+
+/// An import by itself.
+pub fn import<N: Reencode + Notes>(of: &mut N, alloc: Global) -> Result<(), Error<N::Error>> {
     both!(
         of,
         parse_import(alloc, &mut RowSection::new(alloc), v::IMPORT)
-    );
+    )
+}
+
+/// A section of code.
+pub fn code<N: Reencode + Notes>(of: &mut N, alloc: Global) -> Result<(), Error<N::Error>> {
     let mut code = w::CodeSection::new(alloc, u32::MAX);
     both!(
         of,
         parse_code_section(alloc, &mut code, SectionReader::new(&CODE)?)
-    );
-    Ok(())
+    )
 }
 
-/// What code, start and element sections hold.
-pub fn items<N: Reencode + Notes>(of: &mut N, alloc: Global) -> Result<(), Error<N::Error>> {
-    both!(of, new_function_with_parsed_locals(alloc, &v::BODY));
+/// The locals of a body.
+pub fn locals<N: Reencode + Notes>(of: &mut N, alloc: Global) -> Result<(), Error<N::Error>> {
+    both!(of, new_function_with_parsed_locals(alloc, &v::BODY))
+}
+
+/// The start function.
+pub fn start<N: Reencode + Notes>(of: &mut N) -> Result<(), Error<N::Error>> {
     of.begin("start_section");
     of.start_section(0)?;
-    both!(of, element_items(alloc, v::functions(alloc)?));
     Ok(())
 }
 
-/// The expressions of an element section.
-pub fn expressions<N: Reencode + Notes>(of: &mut N, alloc: Global) -> Result<(), Error<N::Error>> {
-    both!(of, element_items(alloc, v::expressions(alloc)?));
+/// What an element segment lists, which is given twice.
+fn listed<N: Reencode + Notes>(
+    of: &mut N,
+    alloc: Global,
+    items: r::ElementItems<'_>,
+    again: r::ElementItems<'_>,
+) -> Result<(), Error<N::Error>> {
+    of.begin("element_items");
+    of.element_items(alloc, items)?;
+    of.note("|");
+    utils::element_items(of, alloc, again)?;
     Ok(())
+}
+
+/// What element segments list.
+pub fn items<N: Reencode + Notes>(of: &mut N, alloc: Global) -> Result<(), Error<N::Error>> {
+    listed(of, alloc, v::functions(alloc)?, v::functions(alloc)?)?;
+    listed(of, alloc, v::expressions(alloc)?, v::expressions(alloc)?)
+}
+
+/// The body of a section.
+fn section_body<N: Reencode + Notes>(
+    of: &mut N,
+    alloc: Global,
+    module: &mut w::Module,
+    id: SectionId,
+    body: &[u8],
+) -> Result<(), Error<N::Error>> {
+    both!(of, parse_section(alloc, module, id, body))
 }
 
 /// Bodies of sections.
 pub fn bodies<N: Reencode + Notes>(of: &mut N, alloc: Global) -> Result<(), Error<N::Error>> {
     let mut module = w::Module::new(alloc, u32::MAX)?;
     for (id, body) in BODIES {
-        both!(of, parse_section(alloc, &mut module, id, body));
+        section_body(of, alloc, &mut module, id, body)?;
     }
     Ok(())
 }
 
-/// A group of types, and an import.
-pub fn groups<N: Reencode + Notes>(of: &mut N, alloc: Global) -> Result<(), Error<N::Error>> {
+/// A group of types.
+pub fn group<N: Reencode + Notes>(of: &mut N, alloc: Global) -> Result<(), Error<N::Error>> {
     both!(
         of,
         parse_recursive_type_group(alloc, r::read_group(alloc, &GROUP, 0)?.0)
-    );
+    )
+}
+
+/// An import.
+pub fn imported<N: Reencode + Notes>(of: &mut N, alloc: Global) -> Result<(), Error<N::Error>> {
     both!(
         of,
         parse_imports(
@@ -183,52 +255,68 @@ pub fn groups<N: Reencode + Notes>(of: &mut N, alloc: Global) -> Result<(), Erro
             &mut RowSection::new(alloc),
             r::Imports::Single(v::IMPORT)
         )
-    );
+    )
+}
+
+/// A table, which is given twice.
+fn table<N: Reencode + Notes>(
+    of: &mut N,
+    alloc: Global,
+    row: r::Table<'_>,
+    again: r::Table<'_>,
+) -> Result<(), Error<N::Error>> {
+    of.begin("parse_table");
+    of.parse_table(alloc, &mut RowSection::new(alloc), row)?;
+    of.note("|");
+    utils::parse_table(of, alloc, &mut RowSection::new(alloc), again)?;
     Ok(())
 }
 
 /// Tables.
 pub fn tables<N: Reencode + Notes>(of: &mut N, alloc: Global) -> Result<(), Error<N::Error>> {
-    both!(
-        of,
-        parse_table(alloc, &mut RowSection::new(alloc), v::table())
-    );
-    both!(
-        of,
-        parse_table(alloc, &mut RowSection::new(alloc), v::table_with_value()?)
-    );
-    Ok(())
+    table(of, alloc, v::table(), v::table())?;
+    table(of, alloc, v::table_with_value()?, v::table_with_value()?)
 }
 
-/// A global, and an export.
-pub fn globals<N: Reencode + Notes>(of: &mut N, alloc: Global) -> Result<(), Error<N::Error>> {
+/// A global.
+pub fn global<N: Reencode + Notes>(of: &mut N, alloc: Global) -> Result<(), Error<N::Error>> {
     both!(
         of,
         parse_global(alloc, &mut RowSection::new(alloc), v::global()?)
-    );
-    both!(of, parse_export(&mut RowSection::new(alloc), v::EXPORT));
-    Ok(())
+    )
 }
 
-/// An element segment, and a data segment.
-pub fn elements<N: Reencode + Notes>(of: &mut N, alloc: Global) -> Result<(), Error<N::Error>> {
+/// An export.
+pub fn export<N: Reencode + Notes>(of: &mut N, alloc: Global) -> Result<(), Error<N::Error>> {
+    both!(of, parse_export(&mut RowSection::new(alloc), v::EXPORT))
+}
+
+/// An element segment.
+pub fn element<N: Reencode + Notes>(of: &mut N, alloc: Global) -> Result<(), Error<N::Error>> {
     both!(
         of,
         parse_element(alloc, &mut RowSection::new(alloc), v::element(alloc)?)
-    );
+    )
+}
+
+/// A data segment.
+pub fn segment<N: Reencode + Notes>(of: &mut N, alloc: Global) -> Result<(), Error<N::Error>> {
     both!(
         of,
         parse_data(alloc, &mut RowSection::new(alloc), v::data_segment()?)
-    );
-    Ok(())
+    )
 }
 
-/// A function's body, and a section of imports by its function, which asks for no import alone.
-pub fn imports<N: Reencode + Notes>(of: &mut N, alloc: Global) -> Result<(), Error<N::Error>> {
+/// A function's body.
+pub fn body<N: Reencode + Notes>(of: &mut N, alloc: Global) -> Result<(), Error<N::Error>> {
     both!(
         of,
         parse_function_body(alloc, &mut w::CodeSection::new(alloc, u32::MAX), v::BODY)
-    );
+    )
+}
+
+/// A section of imports by its function, which asks for no import alone.
+pub fn imports<N: Reencode + Notes>(of: &mut N, alloc: Global) -> Result<(), Error<N::Error>> {
     let rows = SectionReader::new(&IMPORTS)?;
     of.begin("parse_import_section");
     utils::parse_import_section(of, alloc, &mut RowSection::new(alloc), rows)

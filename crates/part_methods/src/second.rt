@@ -1,9 +1,10 @@
 //! The kind in which bodies of sections, rows, operators, composite types and values ask.
-use crate::noter::{Made, Noter, Notes, noted};
+use crate::noter::{Made, Noter, Notes, UNASKED, noted};
 use reencode_core::Reencode;
 use reencode_hooks::RoundtripReencoder;
 use reencode_items::ReencodeItems;
 use std::alloc::Global;
+use wasm_leb::List;
 use wasm_read as r;
 use wasm_write as w;
 
@@ -86,6 +87,42 @@ impl ReencodeItems for Noter<Second> {
         reader: &mut r::OperatorsReader<'a>,
     ) -> Made<w::Instruction<'a>> {
         noted!(self, parse_instruction(alloc, reader))
+    }
+
+    fn val_types(&mut self, _alloc: Global, _val_tys: List<r::ValType>) -> Made<List<w::ValType>> {
+        Err(UNASKED)
+    }
+
+    fn memory_type(&mut self, _memory_ty: r::MemoryType) -> Made<w::MemoryType> {
+        Err(UNASKED)
+    }
+
+    fn block_type(&mut self, _arg: r::BlockType) -> Made<w::BlockType> {
+        Err(UNASKED)
+    }
+
+    fn mem_arg(&mut self, _arg: r::MemArg) -> Made<w::MemArg> {
+        Err(UNASKED)
+    }
+
+    fn catch(&mut self, _arg: r::Catch) -> Made<w::Catch> {
+        Err(UNASKED)
+    }
+
+    fn handle(&mut self, _on: r::Handle) -> Made<w::Handle> {
+        Err(UNASKED)
+    }
+
+    fn ordering(&mut self, _arg: r::Ordering) -> Made<w::Ordering> {
+        Err(UNASKED)
+    }
+
+    fn ieee32_arg(&mut self, _arg: r::Ieee32) -> Made<w::Ieee32> {
+        Err(UNASKED)
+    }
+
+    fn ieee64_arg(&mut self, _arg: r::Ieee64) -> Made<w::Ieee64> {
+        Err(UNASKED)
     }
 }
 
@@ -237,5 +274,14 @@ impl Reencode for Noter<Second> {
         ceiling: u32,
     ) -> Made<w::NameSection> {
         noted!(self, custom_name_section(alloc, section, ceiling))
+    }
+
+    fn parse_core_module(
+        &mut self,
+        _alloc: Global,
+        _module: &mut w::Module,
+        _bytes: &[u8],
+    ) -> Made<()> {
+        Err(UNASKED)
     }
 }

@@ -1,5 +1,5 @@
 //! The kind in which imports, references, block types, lists of types and constant expressions ask.
-use crate::noter::{Made, Noter, Notes, noted};
+use crate::noter::{Made, Noter, Notes, UNASKED, noted};
 use reencode_hooks::{Error, RoundtripReencoder};
 use reencode_items::ReencodeItems;
 use std::alloc::Global;
@@ -80,5 +80,97 @@ impl ReencodeItems for Noter<Third> {
             }
             Way::Refuses => Err(Error::InvalidConstExpr),
         }
+    }
+
+    fn type_index_unpacked(&mut self, _ty: r::UnpackedIndex) -> Made<u32> {
+        Err(UNASKED)
+    }
+
+    fn external_index(&mut self, _kind: r::ExternalKind, _index: u32) -> Made<u32> {
+        Err(UNASKED)
+    }
+
+    fn abstract_heap_type(&mut self, _value: r::AbstractHeapType) -> Made<w::AbstractHeapType> {
+        Err(UNASKED)
+    }
+
+    fn array_type(&mut self, _array_ty: r::ArrayType) -> Made<w::ArrayType> {
+        Err(UNASKED)
+    }
+
+    fn cont_type(&mut self, _cont_ty: r::ContType) -> Made<w::ContType> {
+        Err(UNASKED)
+    }
+
+    fn export_kind(&mut self, _external_kind: r::ExternalKind) -> Made<w::ExportKind> {
+        Err(UNASKED)
+    }
+
+    fn field_type(&mut self, _field_ty: r::FieldType) -> Made<w::FieldType> {
+        Err(UNASKED)
+    }
+
+    fn storage_type(&mut self, _storage_ty: r::StorageType) -> Made<w::StorageType> {
+        Err(UNASKED)
+    }
+
+    fn composite_type(
+        &mut self,
+        _alloc: Global,
+        _composite_ty: r::CompositeType,
+    ) -> Made<w::CompositeType> {
+        Err(UNASKED)
+    }
+
+    fn func_type(&mut self, _alloc: Global, _func_ty: r::FuncType) -> Made<w::FuncType> {
+        Err(UNASKED)
+    }
+
+    fn struct_type(&mut self, _alloc: Global, _struct_ty: r::StructType) -> Made<w::StructType> {
+        Err(UNASKED)
+    }
+
+    fn sub_type(&mut self, _alloc: Global, _sub_ty: r::SubType) -> Made<w::SubType> {
+        Err(UNASKED)
+    }
+
+    fn tag_kind(&mut self, _kind: r::TagKind) -> Made<w::TagKind> {
+        Err(UNASKED)
+    }
+
+    fn mem_arg(&mut self, _arg: r::MemArg) -> Made<w::MemArg> {
+        Err(UNASKED)
+    }
+
+    fn catch(&mut self, _arg: r::Catch) -> Made<w::Catch> {
+        Err(UNASKED)
+    }
+
+    fn handle(&mut self, _on: r::Handle) -> Made<w::Handle> {
+        Err(UNASKED)
+    }
+
+    fn ordering(&mut self, _arg: r::Ordering) -> Made<w::Ordering> {
+        Err(UNASKED)
+    }
+
+    fn ieee32_arg(&mut self, _arg: r::Ieee32) -> Made<w::Ieee32> {
+        Err(UNASKED)
+    }
+
+    fn ieee64_arg(&mut self, _arg: r::Ieee64) -> Made<w::Ieee64> {
+        Err(UNASKED)
+    }
+
+    fn immediate<'a>(&mut self, _alloc: Global, _imm: r::Imm<'a>) -> Made<w::Imm<'a>> {
+        Err(UNASKED)
+    }
+
+    fn instruction<'a>(
+        &mut self,
+        _alloc: Global,
+        _arg: r::Operator<'a>,
+    ) -> Made<w::Instruction<'a>> {
+        Err(UNASKED)
     }
 }
