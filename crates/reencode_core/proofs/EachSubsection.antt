@@ -1,11 +1,12 @@
 -- A subsection of a name section, as it is mapped and added.
-use Rattle.std.proofs.Common.{◌≡◌, ◌≢◌, ◌⊎◌, ℕ, ◌≤◌, ◌<◌, ◌^◌, ◌-◌, List, [], ◌∷◌, ◌++◌, length, map, Result, Ok, Err, IfErr, OnOk, OnErr, IsErrAnd, IsTrue, refl, sym, ap, ◌∙◌, subst, inl, inr, arith}
+use Rattle.std.proofs.Common.{◌≡◌, ◌≢◌, ◌⊎◌, ℕ, ◌≤◌, ◌<◌, ◌^◌, ◌-◌, List, [], ◌∷◌, ◌++◌, length, map, Result, Ok, Err, IfErr, OnOk, OnErr, IsErrAnd, IsTrue, refl, sym, ap, ◌∙◌, subst, inl, inr, true, arith}
 use Rattle.std.proofs.Math.Seq.{take-append_seam}
 use Rattle.wasm_shapes.specs.declared.Space.{Space}
+use Rattle.wasm_shapes.specs.declared.Space.TheVariants as space
 use Rattle.wasm_shapes.specs.declared.Visit.TheVariants.{Index}
 use Rattle.wasm_shapes.specs.Tree.{Tree, count, normal, visits}
 use Rattle.wasm_shapes.specs.Shape.{Shape}
-use Rattle.wasm_shapes.specs.Types.{rows_tree, vector_tree}
+use Rattle.wasm_shapes.specs.Types.{is_core, rows_tree, vector_tree}
 use Rattle.wasm_shapes.specs.Module.{plain_naming}
 use Rattle.wasm_shapes.specs.Namings.{asked_in, entries_trees, module_name_tree, names_tree, outers_trees, raw_names_tree}
 use Rattle.wasm_read.specs.declared.types.Name.{Name}
@@ -27,12 +28,12 @@ use Rattle.reencode_hooks.specs.Run.{Gives, LeavesVisited, NeverWants, Visited, 
 use Rattle.reencode_hooks.specs.Walk.{walk}
 use Rattle.reencode_items.proofs.Leaving.{accepted_visited, visited_left}
 use Rattle.reencode_core.specs.Bodies.{KeepsCode}
-use Rattle.reencode_core.specs.Names.{GivesSubsection, MapRow, OfMap, TooLargeNames, of_writer}
+use Rattle.reencode_core.specs.Names.{GivesSubsection, IsIndirect, MapRow, OfMap, TooLargeNames, names_id, of_writer}
 use Rattle.reencode_core.specs.NameMaps.{MapsEntries}
 use Rattle.reencode_core.specs.Rows.{Asks}
 use Rattle.reencode_core.proofs.BodyLoop.{keeps_code}
 use Rattle.reencode_core.proofs.InFrame.{framed, framed_fits, framed_large, framed_refused}
-use Rattle.reencode_core.proofs.NameCalls.{GivesMap, Quiet, gives_map_at, leaves_map_at}
+use Rattle.reencode_core.proofs.NameCalls.{GivesMap, Quiet, gives_map_at, leaves_map_at, maps_kept}
 use Rattle.reencode_core.proofs.NamesLoop.{SubsectionClauses}
 use Rattle.reencode_core.proofs.OneRow.{answers, asks}
 use Rattle.reencode_core.proofs.Usual.{IfParse-map, IfRefused-map, unless_wanting, usual_ask, write_usual}
@@ -191,6 +192,28 @@ indirect_map {n = n} {m = m} id p row is = record {
   of_map = λ P h. let Q : Content → Type 0 = λ z. OfMap z P in subst Q (sym is) (_, row, h);
 }
 
+-- the rows of a map by their id and space
+pub direct_row : (p : Space) → is_core p ≡ true → MapRow (names_id p) (asked_row p Shape.name)
+direct_row space.Data e = refl
+direct_row space.Element e = refl
+direct_row space.Function e = refl
+direct_row space.Global e = refl
+direct_row space.Memory e = refl
+direct_row space.Table e = refl
+direct_row space.Tag e = refl
+direct_row space.Type_ e = refl
+direct_row _ e = absurd cc
+
+pub indirect_row : (id : ℕ) (p : Space) → IsIndirect id p → MapRow id (asked_row p (Shape.vec plain_naming))
+indirect_row id p (inl h) = rw (h.0, h.1) refl
+indirect_row id p (inr (inl h)) = rw (h.0, h.1) refl
+indirect_row id p (inr (inr h)) = rw (h.0, h.1) refl
+
+pub indirect_core : (id : ℕ) (p : Space) → IsIndirect id p → is_core p ≡ true
+indirect_core id p (inl h) = rw h.1 refl
+indirect_core id p (inr (inl h)) = rw h.1 refl
+indirect_core id p (inr (inr h)) = rw h.1 refl
+
 -- what the calls that map a map gave
 pub record MapCalls {S E : Type 0} (i : Ghosts S E) (p : Space) (body : Shape) (m : MapStanding) (s k : S) (mapped : Result (List Tree) (Error E)) : Type 0 where
   pub gives : (c : ℕ) → GivesMap (asks i) c p body m s k mapped
@@ -248,19 +271,32 @@ module _ {S E : Type 0} (i : Ghosts S E) {n : Name} {id : ℕ} {p : Space} {body
 
 -- ---- the calls of a closure over a reencoder
 
+-- `asked f` is the space that the closure f asks for.
 module _ {F S E : Type 0} (i : Ghosts S E) (p : Space) {body : Shape} (quiet : Quiet (asks i) body)
-    (step : F → ℕ → Result ℕ (Error E) → F → Type 0) (see : F → S) (name : F → ℕ)
-    (one : (f : F) (j : ℕ) (r : Result ℕ (Error E)) (g : F) → step f j r g → Replies i.reply i.next (see f) (see g) (Index p j) r × NeverWants i.sure r × (name g ≡ name f)) where
-  answers_of : (f : F) (j : ℕ) (r : Result ℕ (Error E)) (g : F) → step f j r g → Gives (asks i (see f) (Index p j)) (λ k. k) (see g) r × (name g ≡ name f)
-  answers_of f j r g call = let h = one f j r g call in (h.0, h.2)
+    (step : F → ℕ → Result ℕ (Error E) → F → Type 0) (see : F → S) (name : F → ℕ) (asked : F → Space)
+    (one : (f : F) (j : ℕ) (r : Result ℕ (Error E)) (g : F) → step f j r g →
+    Replies i.reply i.next (see f) (see g) (Index (asked f) j) r × NeverWants i.sure r × (name g ≡ name f) × (asked g ≡ asked f)) where
+  -- a call for this space
+  abbrev Call : F → ℕ → Result ℕ (Error E) → F → Type 0
+  Call f j r g = Replies i.reply i.next (see f) (see g) (Index p j) r × NeverWants i.sure r × (name g ≡ name f)
 
-  never : IsTrue i.sure → (f : F) (j : ℕ) (g : F) → step f j (Err NoMemory) g → ⊥
-  never sure f j g call = (one f j (Err NoMemory) g call).1 sure refl
+  for_space : (f : F) (j : ℕ) (r : Result ℕ (Error E)) (g : F) → asked f ≡ p → step f j r g → Call f j r g × (asked g ≡ p)
+  for_space f j r g same call =
+      let h = one f j r g call in
+      let P : Space → Type 0 = λ z. Replies i.reply i.next (see f) (see g) (Index z j) r in
+      ((subst P same h.0, h.1, h.2), h.3 ∙ same)
+
+  answers_of : (f : F) (j : ℕ) (r : Result ℕ (Error E)) (g : F) → Call f j r g → Gives (asks i (see f) (Index p j)) (λ k. k) (see g) r × (name g ≡ name f)
+  answers_of f j r g call = (call.0, call.2)
+
+  never : IsTrue i.sure → (f : F) (j : ℕ) (g : F) → Call f j (Err NoMemory) g → ⊥
+  never sure f j g call = call.1 sure refl
 
   -- the walk over a map with the closure
-  pub map_calls : {m : MapStanding} (f g : F) (mapped : Result (List Tree) (Error E)) (last : S) → MapsEntries (plain_row body) step m f g mapped → (name f ≡ name g → last ≡ see g) →
-      MapCalls i p body m (see f) last mapped
-  map_calls {m = m} f g mapped last h kept = record {
-    gives = λ c. gives_map_at step see name (asks i) p quiet (λ s j. usual_ask i.reply i.next s (Index p j)) answers_of c m f g mapped last h kept;
-    leaves = λ sure ts w. leaves_map_at step see name (asks i) p quiet (λ s j. usual_ask i.reply i.next s (Index p j)) answers_of (never sure) m f g mapped last h kept ts w;
-  }
+  pub map_calls : {m : MapStanding} (f g : F) (mapped : Result (List Tree) (Error E)) (last : S) → asked f ≡ p → MapsEntries (plain_row body) step m f g mapped →
+      (name f ≡ name g → last ≡ see g) → MapCalls i p body m (see f) last mapped
+  map_calls {m = m} f g mapped last same h kept =
+      let calls = maps_kept step Call (λ f. asked f ≡ p) for_space (plain_row body) m f g mapped same h in record {
+        gives = λ c. gives_map_at Call see name (asks i) p quiet (λ s j. usual_ask i.reply i.next s (Index p j)) answers_of c m f g mapped last calls kept;
+        leaves = λ sure ts w. leaves_map_at Call see name (asks i) p quiet (λ s j. usual_ask i.reply i.next s (Index p j)) answers_of (never sure) m f g mapped last calls kept ts w;
+      }

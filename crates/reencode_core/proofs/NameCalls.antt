@@ -179,6 +179,33 @@ missing_asked p r = record {
   none = λ rows w. let a = asked_from w.rows_left in r.none (rows_tree a.plain) (record { count = w.count; bytes = w.bytes; due = w.due; rows_left = a.left });
 }
 
+-- ---- what each call keeps
+
+-- Where each call keeps a fact of the closure, the calls were such as it makes them.
+module _ {F E : Type 0} (step call : F → ℕ → Result ℕ (Error E) → F → Type 0) (Fact : F → Type 0)
+    (one : (f : F) (i : ℕ) (r : Result ℕ (Error E)) (g : F) → Fact f → step f i r g → call f i r g × Fact g) where
+  calls_kept : (asks : List Asked) (f g : F) → Fact f → Calls step f asks g → Calls call f asks g × Fact g
+  calls_kept [] f g h c = (c, subst Fact c h)
+  calls_kept (a ∷ asks) f g h c =
+      let first = one f a.index (Ok a.answer) c.0 h c.1 in
+      let others = calls_kept asks c.0 g first.1 c.2 in
+      ((c.0, first.0, others.0), others.1)
+
+  refused_kept : {row : Shape} {rest : MapStanding} {f g : F} {e : Error E} → Fact f → CallRefused row step rest f g e → CallRefused row call rest f g e
+  refused_kept {f = f} {g = g} {e = e} h r = record { index = r.index; named = r.named; behind = r.behind; read = r.read; call = (one f r.index (Err e) g h r.call).0 }
+
+  pub maps_kept : (row : Shape) (m : MapStanding) (f g : F) (result : Result (List Tree) (Error E)) → Fact f → MapsEntries row step m f g result → MapsEntries row call m f g result
+  maps_kept row m f g (Ok es) h w = record { asked = w.asked; whole = w.whole; calls = (calls_kept w.asked f g h w.calls).0; answers = w.answers }
+  maps_kept row m f g (Err e) h w = record { asked = w.asked; rest = w.rest; reads = w.reads; between = w.between; calls = calls.0; why = why w.why }
+    where
+      calls : Calls call f w.asked w.between × Fact w.between
+      calls = calls_kept w.asked f w.between h w.calls
+
+      why : CallRefused row step w.rest w.between g e ⊎ Unread row m w.rest w.between g e ⊎ Wants w.between g e →
+          CallRefused row call w.rest w.between g e ⊎ Unread row m w.rest w.between g e ⊎ Wants w.between g e
+      why (inl r) = inl (refused_kept calls.1 r)
+      why (inr other) = inr other
+
 -- ---- the calls and the walk
 
 module _ {F S E : Type 0} (step : F → ℕ → Result ℕ (Error E) → F → Type 0) (see : F → S) (name : F → ℕ) (asked : Asks S E) (p : Space) {body : Shape} (quiet : Quiet asked body)

@@ -2,6 +2,8 @@
 use Rattle.std.specs.Prelude.{◌≡◌, ◌≢◌, ◌-◌, ◌⊎◌, ◌<◌, ℕ, List, [], length, get_or, Result, Ok, Err, IfOk, IfErr}
 use Rattle.std.specs.List.{FoldsTo}
 use Rattle.wasm_leb.specs.Place.{BeginsNumber}
+use Rattle.wasm_shapes.specs.declared.Space.{Space}
+use Rattle.wasm_shapes.specs.declared.Space.TheVariants as space
 use Rattle.wasm_shapes.specs.Shape.{Shape}
 use Rattle.wasm_shapes.specs.Tree.{Tree}
 use Rattle.wasm_shapes.specs.Spells.{Spells}
@@ -31,6 +33,21 @@ use Rattle.reencode_core.specs.Sections.{GivesAdded}
 abbrev pub of_writer : {E : Type 0} → Result (Unit {0}) WriteFault → Result (Unit {0}) (Error E)
 of_writer (Ok u) = Ok u
 of_writer (Err f) = Err (error_of_write f)
+
+-- the id of the subsection that has the names of a space of core modules
+abbrev pub names_id : Space → ℕ
+names_id space.Function = 1
+names_id space.Type_ = 4
+names_id space.Table = 5
+names_id space.Memory = 6
+names_id space.Global = 7
+names_id space.Element = 8
+names_id space.Data = 9
+names_id _ = 11
+
+-- A subsection of the id has maps of names, by indices of the space: those of locals, of labels or of fields.
+abbrev pub IsIndirect : ℕ → Space → Type 0
+IsIndirect id s = ((id ≡ 2) × (s ≡ space.Function)) ⊎ ((id ≡ 3) × (s ≡ space.Function)) ⊎ ((id ≡ 10) × (s ≡ space.Type_))
 
 -- the rows of the map in a subsection of an id
 abbrev pub MapRow : ℕ → Shape → Type 0

@@ -6,6 +6,7 @@ mod bodies;
 pub mod direct;
 mod errors;
 mod imports;
+mod indices;
 mod laws;
 mod lists;
 mod mapped;

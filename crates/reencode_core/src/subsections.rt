@@ -1,16 +1,25 @@
 //! The subsections of a name section (WebAssembly Core Specification 3.0, section 7.4.1).
-ghost use Rattle.std.specs.Prelude.{◌≡◌, IsTrue};
-ghost use Rattle.wasm_read.specs.Subsections.{IsRaw, ReadsName};
+ghost use Rattle.std.specs.Prelude.{◌≡◌, ◌≤◌, IfErr, IsTrue, OnErr, OnOk, length, true};
+ghost use Rattle.wasm_shapes.specs.Namings.{names_tree};
+ghost use Rattle.wasm_shapes.specs.Tree.{normal};
+ghost use Rattle.wasm_shapes.specs.Types.{is_core, vector_tree};
+ghost use Rattle.wasm_read.specs.declared.types.Name.{Name};
+ghost use Rattle.wasm_read.specs.Subsections.{Content, IsRaw, ReadsName, content_of};
+ghost use Rattle.wasm_write.specs.Bodies.{with_row};
+ghost use Rattle.wasm_write.specs.Faults.{IfTooLarge};
+ghost use Rattle.wasm_write.specs.Names.{PassesCeiling};
 ghost use Rattle.reencode_hooks.specs.Run.{ask};
 ghost use Rattle.reencode_core.specs.Bodies.{KeepsCode};
 ghost use Rattle.reencode_core.specs.Leaves.{LeavesReading};
-ghost use Rattle.reencode_core.specs.Names.{GivesSubsection, of_writer};
+ghost use Rattle.reencode_core.specs.Names.{GivesSubsection, IsIndirect, names_id, of_writer};
 
+use crate::indices::ask_index;
 use crate::names::{map_indirect_names, map_names};
 use reencode_hooks::Error;
 use reencode_items::ReencodeItems;
 use std::alloc::Global;
 use wasm_read as r;
+use wasm_shapes::Space;
 use wasm_write as w;
 
 /// What a writer answered, as an answer of the reencoder.
@@ -20,6 +29,112 @@ fn written<E>(answer: Result<(), w::WriteFault>) -> Result<(), Error<E>>
     match answer {
         Ok(()) => Ok(()),
         Err(fault) => Err(Error::from(fault)),
+    }
+}
+
+/// Adds the names of the indices of a space.
+fn add_names(
+    names: &mut w::NameSection,
+    space: Space,
+    map: &w::NameMap,
+) -> Result<(), w::WriteFault>
+    requires { is_core space ≡ true }
+    ensures ok { OnOk result
+        (names.new ≡ with_row names.old (names_tree (names_id space) space map.now)) }
+    ensures fits { OnOk result (length (normal (vector_tree map.now)) ≤ names.old.ceiling) }
+    ensures err { OnErr result (names.new ≡ names.old) }
+    ensures large { IfErr result (λ e. IfTooLarge e
+        (PassesCeiling names.old.ceiling (vector_tree map.now))) }
+{
+    match space {
+        Space::Data => names.data_(map),
+        Space::Element => names.elements(map),
+        Space::Function => names.functions(map),
+        Space::Global => names.globals(map),
+        Space::Memory => names.memories(map),
+        Space::Table => names.tables(map),
+        Space::Tag => names.tags(map),
+        Space::Type_ => names.types(map),
+        _ => unreachable!(),
+    }
+}
+
+/// Adds maps of names, by the indices of a space.
+fn add_indirect_names(
+    names: &mut w::NameSection,
+    id: u8,
+    space: Space,
+    map: &w::IndirectNameMap,
+) -> Result<(), w::WriteFault>
+    requires { IsIndirect id space }
+    ensures ok { OnOk result
+        (names.new ≡ with_row names.old (names_tree id space map.now)) }
+    ensures fits { OnOk result (length (normal (vector_tree map.now)) ≤ names.old.ceiling) }
+    ensures err { OnErr result (names.new ≡ names.old) }
+    ensures large { IfErr result (λ e. IfTooLarge e
+        (PassesCeiling names.old.ceiling (vector_tree map.now))) }
+{
+    match id {
+        2 => names.locals(map),
+        3 => names.labels(map),
+        _ => names.fields(map),
+    }
+}
+
+/// Maps the names of the indices of a space and adds them.
+fn parse_names<T: ReencodeItems>(
+    reencoder: &mut T,
+    alloc: Global,
+    names: &mut w::NameSection,
+    space: Space,
+    map: r::NameMap<'_>,
+) -> Result<(), Error<T::Error>>
+    requires { is_core space ≡ true }
+    ensures kept { KeepsCode names.old names.new }
+    ensures default { IsTrue T.keeps_defaults → (n : Name)
+        → content_of n ≡ Content.direct (names_id space) space map.entry
+        → GivesSubsection (ask T.reply T.next) n (reencoder.old, names.old)
+        (reencoder.new, names.new) result }
+    ensures after_error { IsTrue T.keeps_defaults → IsTrue T.sure → (n : Name)
+        → content_of n ≡ Content.direct (names_id space) space map.entry
+        → LeavesReading (ReadsName n) (ask T.reply T.next) reencoder.old reencoder.new result }
+{
+    match map_names(
+        alloc,
+        map,
+        &mut |index| { ask_index(reencoder, space, index) },
+    ) {
+        Ok(map) => written(add_names(names, space, &map)),
+        Err(e) => Err(e),
+    }
+}
+
+/// Maps the outer indices of maps of names, which are of a space, and adds the maps.
+fn parse_indirect_names<T: ReencodeItems>(
+    reencoder: &mut T,
+    alloc: Global,
+    names: &mut w::NameSection,
+    id: u8,
+    space: Space,
+    map: r::IndirectNameMap<'_>,
+) -> Result<(), Error<T::Error>>
+    requires { IsIndirect id space }
+    ensures kept { KeepsCode names.old names.new }
+    ensures default { IsTrue T.keeps_defaults → (n : Name)
+        → content_of n ≡ Content.indirect id space map.entry
+        → GivesSubsection (ask T.reply T.next) n (reencoder.old, names.old)
+        (reencoder.new, names.new) result }
+    ensures after_error { IsTrue T.keeps_defaults → IsTrue T.sure → (n : Name)
+        → content_of n ≡ Content.indirect id space map.entry
+        → LeavesReading (ReadsName n) (ask T.reply T.next) reencoder.old reencoder.new result }
+{
+    match map_indirect_names(
+        alloc,
+        map,
+        &mut |index| { ask_index(reencoder, space, index) },
+    ) {
+        Ok(map) => written(add_indirect_names(names, id, space, &map)),
+        Err(e) => Err(e),
     }
 }
 
@@ -42,58 +157,31 @@ pub(crate) fn parse_custom_name_subsection<T: ReencodeItems>(
 {
     match section {
         r::Name::Module { name } => written(names.module(name)),
-        r::Name::Function(map) => {
-            let map = map_names(alloc, map, &mut |index| { reencoder.function_index(index) })?;
-            written(names.functions(&map))
-        }
-        r::Name::Local(map) => {
-            let map = map_indirect_names(
-                alloc,
-                map,
-                &mut |index| { reencoder.function_index(index) },
-            )?;
-            written(names.locals(&map))
-        }
-        r::Name::Label(map) => {
-            let map = map_indirect_names(
-                alloc,
-                map,
-                &mut |index| { reencoder.function_index(index) },
-            )?;
-            written(names.labels(&map))
-        }
-        r::Name::Type_(map) => {
-            let map = map_names(alloc, map, &mut |index| { reencoder.type_index(index) })?;
-            written(names.types(&map))
-        }
-        r::Name::Table(map) => {
-            let map = map_names(alloc, map, &mut |index| { reencoder.table_index(index) })?;
-            written(names.tables(&map))
-        }
-        r::Name::Memory(map) => {
-            let map = map_names(alloc, map, &mut |index| { reencoder.memory_index(index) })?;
-            written(names.memories(&map))
-        }
-        r::Name::Global(map) => {
-            let map = map_names(alloc, map, &mut |index| { reencoder.global_index(index) })?;
-            written(names.globals(&map))
-        }
-        r::Name::Element(map) => {
-            let map = map_names(alloc, map, &mut |index| { reencoder.element_index(index) })?;
-            written(names.elements(&map))
-        }
-        r::Name::Data(map) => {
-            let map = map_names(alloc, map, &mut |index| { reencoder.data_index(index) })?;
-            written(names.data_(&map))
-        }
-        r::Name::Field(map) => {
-            let map = map_indirect_names(alloc, map, &mut |index| { reencoder.type_index(index) })?;
-            written(names.fields(&map))
-        }
-        r::Name::Tag(map) => {
-            let map = map_names(alloc, map, &mut |index| { reencoder.tag_index(index) })?;
-            written(names.tags(&map))
-        }
+        r::Name::Function(map) => parse_names(reencoder, alloc, names, Space::Function, map),
+        r::Name::Local(map) => parse_indirect_names(
+            reencoder,
+            alloc,
+            names,
+            2,
+            Space::Function,
+            map,
+        ),
+        r::Name::Label(map) => parse_indirect_names(
+            reencoder,
+            alloc,
+            names,
+            3,
+            Space::Function,
+            map,
+        ),
+        r::Name::Type_(map) => parse_names(reencoder, alloc, names, Space::Type_, map),
+        r::Name::Table(map) => parse_names(reencoder, alloc, names, Space::Table, map),
+        r::Name::Memory(map) => parse_names(reencoder, alloc, names, Space::Memory, map),
+        r::Name::Global(map) => parse_names(reencoder, alloc, names, Space::Global, map),
+        r::Name::Element(map) => parse_names(reencoder, alloc, names, Space::Element, map),
+        r::Name::Data(map) => parse_names(reencoder, alloc, names, Space::Data, map),
+        r::Name::Field(map) => parse_indirect_names(reencoder, alloc, names, 10, Space::Type_, map),
+        r::Name::Tag(map) => parse_names(reencoder, alloc, names, Space::Tag, map),
         r::Name::Unknown { id, contents } => written(names.raw(id, contents)),
     }
 }

@@ -2,12 +2,9 @@
 //! says what is to be done: what stays needs no memory beside a register.
 ghost use Rattle.std.specs.Prelude.{◌≡◌, ◌<◌, ◌≤◌, ◌∷◌, IfErr, IfNone, IfOk, IfSome, Some, length, true};
 ghost use Rattle.wasm_shapes.specs.declared.ImmKind.TheVariants as kind;
-ghost use Rattle.wasm_shapes.specs.declared.Visit.TheVariants.{Index};
 ghost use Rattle.wasm_shapes.specs.Shape.{Shape};
 ghost use Rattle.wasm_shapes.specs.Tree.{Tree};
-ghost use Rattle.wasm_shapes.specs.Types.{is_core};
 ghost use Rattle.wasm_write.specs.Instructions.{imm_kind, imm_tree};
-ghost use Rattle.reencode_hooks.specs.Hooks.{Replies};
 ghost use Rattle.reencode_hooks.specs.Run.{NeverWants, ask};
 ghost use Rattle.reencode_core.specs.declared.direct.classes.Class.TheVariants as class;
 ghost use Rattle.reencode_core.specs.Direct.{HasClass, HasOne, IsHead, KeepsOperator, PassesNext, PassesS32, RefusesOperator, SkipsLeaf, imm_of};
@@ -15,6 +12,7 @@ ghost use Rattle.reencode_core.specs.Direct.{HasClass, HasOne, IsHead, KeepsOper
 use crate::direct::classes::{Class, class_by_row, class_of_byte, is_prefix, one_byte};
 use crate::direct::fronts::{front_access, front_number, front_signed};
 use crate::direct::skipping::skip_class;
+use crate::indices::ask_index;
 use reencode_hooks::{Error, ReencodeIndices};
 use wasm_leb::front_byte;
 use wasm_shapes::{Opcode, Space};
@@ -53,30 +51,6 @@ fn pass_s32<'a>(opcode: Opcode, bytes: &[u8], rest: &'a [u8], next: &mut Next) -
     }
     *next = Next::Made(opcode, Fresh::S32(number), bytes.len() - behind.len());
     None
-}
-
-/// The new index of a space of core modules.
-#[inline(always)]
-fn ask_index<R: ReencodeIndices>(
-    reencoder: &mut R,
-    space: Space,
-    index: u32,
-) -> Result<u32, Error<R::Error>>
-    requires { is_core space ≡ true }
-    ensures answer { Replies R.reply R.next reencoder.old reencoder.new (Index space index) result }
-    ensures sure { NeverWants R.sure result }
-{
-    match space {
-        Space::Data => reencoder.data_index(index),
-        Space::Element => reencoder.element_index(index),
-        Space::Function => reencoder.function_index(index),
-        Space::Global => reencoder.global_index(index),
-        Space::Memory => reencoder.memory_index(index),
-        Space::Table => reencoder.table_index(index),
-        Space::Tag => reencoder.tag_index(index),
-        Space::Type_ => reencoder.type_index(index),
-        _ => unreachable!(),
-    }
 }
 
 /// An index of a space of core modules.
