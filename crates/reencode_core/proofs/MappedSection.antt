@@ -1,5 +1,5 @@
 -- A section whose rows were mapped, as it is added to a module.
-use Rattle.std.proofs.Common.{◌≡◌, ◌≢◌, ℕ, List, [], ◌∷◌, None, Result, Ok, Err, IsErrAnd, IsTrue, refl, sym, ap, ◌∙◌, subst}
+use Rattle.std.proofs.Common.{◌≡◌, ◌≢◌, ℕ, List, [], ◌∷◌, None, Result, Ok, Err, IsErrAnd, IsTrue, refl, sym, ap, ◌∙◌, subst, inl, inr}
 use Rattle.wasm_leb.specs.declared.fault.Fault.{Fault}
 use Rattle.wasm_leb.specs.declared.fault.ReadError.{ReadError}
 use Rattle.wasm_leb.specs.Leb.{IsUnsigned}
@@ -24,9 +24,10 @@ use Rattle.reencode_hooks.specs.Hooks.{Replies}
 use Rattle.reencode_hooks.specs.Run.{NeverWants, refused}
 use Rattle.reencode_hooks.specs.Walk.{walk}
 use Rattle.reencode_items.proofs.Leaving.{none_visited}
+use Rattle.reencode_core.specs.declared.sections.Body.{Body}
 use Rattle.reencode_core.specs.Errors.{IfParse}
 use Rattle.reencode_core.specs.Rows.{GivesRows}
-use Rattle.reencode_core.specs.Sections.{AddsMapped, GivesSection, HasItem, HasRows, KeepsModule, NoItem, ReadsAs}
+use Rattle.reencode_core.specs.Sections.{AddsMapped, GivesSection, HasBody, HasItem, HasRows, KeepsModule, NoBody, NoItem, ReadsAs}
 use Rattle.reencode_core.specs.Leaves.{LeavesReading, RowsOf}
 use Rattle.reencode_core.proofs.EachBody.{CodeClauses}
 use Rattle.reencode_core.proofs.EachRow.{RowsClauses}
@@ -58,6 +59,10 @@ ItemClauses i space s n m result =
 pub hook_item : {S E : Type 0} (i : Ghosts S E) (space : Space) (s m : S) (n : ℕ) (r : Result ℕ (Error E)) →
     record { answer : Replies i.reply i.next s m (Index space n) r; sure : NeverWants i.sure r } → ItemClauses i space s n m r
 hook_item i space s m n r hook = record { default = index_maps i s m space n r hook.answer; sure = λ keeps. hook.sure }
+
+-- a body that is known
+pub held : (kind : SectionId) (bytes : List ℕ) {b k : Body} → HasBody kind bytes b → b ≡ k → HasBody kind bytes k
+held kind bytes h is = let P : Body → Type 0 = λ z. HasBody kind bytes z in subst P is h
 
 pub keeps_none : {old new : Sections} → new ≡ old → KeepsModule old new
 keeps_none {old = old} e = let P : Sections → Type 0 = λ z. KeepsModule old z in subst P (sym e) (keeps_same old)
@@ -137,6 +142,20 @@ module _ {S E : Type 0} (i : Ghosts S E) {kind : SectionId} {body : List ℕ} {s
         pub item_done : {j : ℕ} {new : Sections} (r : Result (Unit {0}) (Error E)) → ItemClauses i space s n m (Ok j) →
             AddsMapped {E = E} (section_row (number k) (normal (Tree.ix space j))) old (Ok tt) new r → SectionClauses i kind body s old m new r
         item_done r asked adds = section_added r (λ keeps. item_made (asks i) k one filled (asked.default keeps old.ceiling)) adds
+
+  -- no body of the kind was read
+  pub body_missing : (e : Error E) → NoBody kind body e → (r : Result (Unit {0}) (Error E)) → IsErrAnd r (λ y. y ≡ e) → SectionClauses i kind body s old s old r
+  body_missing e none r q = by none
+    where
+      is : {x : Error E} → e ≡ x → IsErrAnd r (λ y. y ≡ x)
+      is same = let P : Error E → Type 0 = λ z. IsErrAnd r (λ y. y ≡ z) in subst P same q
+
+      by : NoBody kind body e → SectionClauses i kind body s old s old r
+      by (inl h) =
+          let P : Result (Unit {0}) (Error E) → Type 0 = λ z. SectionClauses i kind body s old s old z in
+          subst P (answers r (is h.1)) (section_unknown h.0)
+      by (inr (inl h)) = section_unread refl h.0 h.1 h.2 r (is h.3)
+      by (inr (inr h)) = item_unread refl h.1 h.2 h.3 r (is h.4)
 
   -- the same of its bodies
   pub code_done : {c : ℕ} {reader : Standing} {start made : CodeRows} {m : S} {new : Sections} (mapped r : Result (Unit {0}) (Error E)) → kind ≡ id.Code →

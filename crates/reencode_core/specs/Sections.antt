@@ -1,23 +1,29 @@
 -- What the call that maps one section gives.
 use Rattle.std.specs.Prelude.{◌≡◌, ◌≢◌, ◌≤◌, ◌<◌, ◌-◌, ◌⊎◌, ℕ, List, [], length, Result, Ok, Err, IfOk, IfErr}
+use Rattle.wasm_leb.specs.declared.fault.Fault.{Fault}
+use Rattle.wasm_leb.specs.declared.fault.ReadError.{ReadError}
+use Rattle.wasm_leb.specs.Leb.{IsUnsigned}
 use Rattle.wasm_leb.specs.Place.{BeginsNumber, BeginsNoNumber}
 use Rattle.wasm_shapes.specs.declared.SectionId.{SectionId}
+use Rattle.wasm_shapes.specs.declared.SectionId.TheVariants as id
 use Rattle.wasm_shapes.specs.declared.Space.{Space}
 use Rattle.wasm_shapes.specs.Shape.{Shape}
 use Rattle.wasm_shapes.specs.Tree.{Tree, normal}
 use Rattle.wasm_shapes.specs.Spells.{Spells}
 use Rattle.wasm_shapes.specs.Module.{body_of, row_of, tree_of}
 use Rattle.wasm_shapes.specs.SectionTable.{number}
-use Rattle.wasm_read.specs.Reading.{Standing, CountRead}
+use Rattle.wasm_read.specs.Reading.{Standing, CountRead, ReadsNone}
 use Rattle.wasm_write.specs.declared.fault.WriteFault.{WriteFault}
 use Rattle.wasm_write.specs.Faults.{IfTooLarge}
 use Rattle.wasm_write.specs.Sections.{Sections, SectionRow, section_row, section_bytes, with_section}
 use Rattle.reencode_hooks.specs.declared.error.Error.{Error}
-use Rattle.reencode_hooks.specs.declared.error.Error.TheVariants.{NoMemory}
-use Rattle.reencode_hooks.specs.Errors.{error_of_write}
+use Rattle.reencode_hooks.specs.declared.error.Error.TheVariants.{NoMemory, ParseError}
+use Rattle.reencode_hooks.specs.Errors.{error_of_fault, error_of_write}
 use Rattle.reencode_hooks.specs.Run.{accepted, refused}
 use Rattle.reencode_hooks.specs.Walk.{walk}
 use Rattle.reencode_hooks.specs.Hooks.{Gains}
+use Rattle.reencode_core.specs.declared.sections.Body.{Body}
+use Rattle.reencode_core.specs.declared.sections.Body.TheVariants as body
 use Rattle.reencode_core.specs.Errors.{IfParse, IfRefused}
 use Rattle.reencode_core.specs.Rows.{Asks, RowsFault, StopsAtRow}
 
@@ -36,6 +42,22 @@ HasRows kind = body_of kind ≡ Shape.vec (row_of kind)
 -- they are one item each, an index of this space
 abbrev pub HasItem : SectionId → Space → Type 0
 HasItem kind space = body_of kind ≡ Shape.ix space
+
+-- The body of a section of a kind is read as this: the count of its rows stands there, or its one item fills it.
+abbrev pub HasBody : SectionId → List ℕ → Body → Type 0
+HasBody kind bytes (body.Types reader) = (kind ≡ id.Type_) × CountRead bytes reader
+HasBody kind bytes (body.Imports reader) = (kind ≡ id.Import) × CountRead bytes reader
+HasBody kind bytes (body.Functions reader) = (kind ≡ id.Function) × CountRead bytes reader
+HasBody kind bytes (body.Tables reader) = (kind ≡ id.Table) × CountRead bytes reader
+HasBody kind bytes (body.Memories reader) = (kind ≡ id.Memory) × CountRead bytes reader
+HasBody kind bytes (body.Globals reader) = (kind ≡ id.Global) × CountRead bytes reader
+HasBody kind bytes (body.Exports reader) = (kind ≡ id.Export) × CountRead bytes reader
+HasBody kind bytes (body.Elements reader) = (kind ≡ id.Element) × CountRead bytes reader
+HasBody kind bytes (body.Code reader) = (kind ≡ id.Code) × CountRead bytes reader
+HasBody kind bytes (body.Data reader) = (kind ≡ id.Data) × CountRead bytes reader
+HasBody kind bytes (body.Tags reader) = (kind ≡ id.Tag) × CountRead bytes reader
+HasBody kind bytes (body.Start item) = (kind ≡ id.Start) × IsUnsigned 32 bytes item
+HasBody kind bytes (body.DataCount item) = (kind ≡ id.DataCount) × IsUnsigned 32 bytes item
 
 -- A section whose rows were mapped was added, or it is too large, or memory is wanting; where its rows were refused, that is
 -- the answer.
@@ -77,6 +99,13 @@ pub record LeftBehind (body : List ℕ) (at : ℕ) : Type 0 where
 -- At the front the one item is due and none begins; or it stands there, and bytes are left behind it.
 abbrev pub NoItem : List ℕ → ℕ → Type 0
 NoItem body at = ((at ≡ 0) × BeginsNoNumber 128 32 32 body) ⊎ LeftBehind body at
+
+-- No body of the kind is in force, or the count of its rows or its one item is missing, and the error tells of that.
+abbrev pub NoBody : {E : Type 0} → SectionId → List ℕ → Error E → Type 0
+NoBody kind bytes e =
+    ((body_of kind ≡ Shape.none) × (e ≡ ParseError (record { at = 0 })))
+    ⊎ (HasRows kind × (f : Fault) × ReadsNone f 0 (BeginsNoNumber 128 32 32 bytes) × (e ≡ error_of_fault f))
+    ⊎ ((space : Space) × HasItem kind space × (r : ReadError) × NoItem bytes r.at × (e ≡ ParseError r))
 
 -- The body is none of its kind: at its front the count of the rows or the one item is due and none begins, or no body of the
 -- kind is in force; or the fault stands in its rows; or bytes are left behind its one item.

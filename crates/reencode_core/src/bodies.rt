@@ -76,63 +76,50 @@ macro_rules! parse_function_body {
 pub(crate) use parse_function_body;
 
 macro_rules! parse_section {
-    ($reencoder:ident, $alloc:ident, $module:ident, $id:ident, $body:ident) => {
-        match $id {
-            SectionId::Type_ => {
-                let rows = r::TypeSectionReader::new($body)?;
+    ($reencoder:ident, $alloc:ident, $module:ident, $id:ident, $body:ident) => {{
+        let content = read_body($id, $body)?;
+        match content {
+            Body::Types(rows) => {
                 let mut types = w::TypeSection::new($alloc);
                 let mapped = $reencoder.parse_type_section($alloc, &mut types, rows);
                 add_section($module, mapped, &types)
             }
-            SectionId::Import => {
-                let rows = r::ImportSectionReader::new($body)?;
+            Body::Imports(rows) => {
                 let mut imports = w::ImportSection::new($alloc);
                 let mapped = $reencoder.parse_import_section($alloc, &mut imports, rows);
                 add_section($module, mapped, &imports)
             }
-            SectionId::Function => {
-                let rows = r::FunctionSectionReader::new($body)?;
+            Body::Functions(rows) => {
                 let mut functions = w::FunctionSection::new($alloc);
                 let mapped = $reencoder.parse_function_section($alloc, &mut functions, rows);
                 add_section($module, mapped, &functions)
             }
-            SectionId::Table => {
-                let rows = r::TableSectionReader::new($body)?;
+            Body::Tables(rows) => {
                 let mut tables = w::TableSection::new($alloc);
                 let mapped = $reencoder.parse_table_section($alloc, &mut tables, rows);
                 add_section($module, mapped, &tables)
             }
-            SectionId::Memory => {
-                let rows = r::MemorySectionReader::new($body)?;
+            Body::Memories(rows) => {
                 let mut memories = w::MemorySection::new($alloc);
                 let mapped = $reencoder.parse_memory_section($alloc, &mut memories, rows);
                 add_section($module, mapped, &memories)
             }
-            SectionId::Global => {
-                let rows = r::GlobalSectionReader::new($body)?;
+            Body::Globals(rows) => {
                 let mut globals = w::GlobalSection::new($alloc);
                 let mapped = $reencoder.parse_global_section($alloc, &mut globals, rows);
                 add_section($module, mapped, &globals)
             }
-            SectionId::Export => {
-                let rows = r::ExportSectionReader::new($body)?;
+            Body::Exports(rows) => {
                 let mut exports = w::ExportSection::new($alloc);
                 let mapped = $reencoder.parse_export_section($alloc, &mut exports, rows);
                 add_section($module, mapped, &exports)
             }
-            SectionId::Start => {
-                let item = one_item($body)?;
-                let function_index = $reencoder.start_section(item)?;
-                add_section($module, Ok(()), &w::StartSection { function_index })
-            }
-            SectionId::Element => {
-                let rows = r::ElementSectionReader::new($body)?;
+            Body::Elements(rows) => {
                 let mut elements = w::ElementSection::new($alloc);
                 let mapped = $reencoder.parse_element_section($alloc, &mut elements, rows);
                 add_section($module, mapped, &elements)
             }
-            SectionId::Code => {
-                let rows = r::CodeSectionReader::new($body)?;
+            Body::Code(rows) => {
                 let ceiling = $module.ceiling();
                 let mut code = w::CodeSection::with_room(
                     $alloc,
@@ -144,27 +131,27 @@ macro_rules! parse_section {
                 let mapped = $reencoder.parse_code_section($alloc, &mut code, rows);
                 take_section($module, mapped, code.into_rows())
             }
-            SectionId::Data => {
-                let rows = r::DataSectionReader::new($body)?;
+            Body::Data(rows) => {
                 let mut segments =
                     w::DataSection::with_room($alloc, $module, rows.place(), $body.len());
                 let mapped = $reencoder.parse_data_section($alloc, &mut segments, rows);
                 take_section($module, mapped, segments)
             }
-            SectionId::DataCount => {
-                let item = one_item($body)?;
-                let count = $reencoder.data_count(item)?;
-                add_section($module, Ok(()), &w::DataCountSection { count })
-            }
-            SectionId::Tag => {
-                let rows = r::TagSectionReader::new($body)?;
+            Body::Tags(rows) => {
                 let mut tags = w::TagSection::new($alloc);
                 let mapped = $reencoder.parse_tag_section($alloc, &mut tags, rows);
                 add_section($module, mapped, &tags)
             }
-            _ => Err(Error::ParseError(ReadError { at: 0 })),
+            Body::Start(item) => {
+                let function_index = $reencoder.start_section(item)?;
+                add_section($module, Ok(()), &w::StartSection { function_index })
+            }
+            Body::DataCount(item) => {
+                let count = $reencoder.data_count(item)?;
+                add_section($module, Ok(()), &w::DataCountSection { count })
+            }
         }
-    };
+    }};
 }
 
 pub(crate) use parse_section;

@@ -22,12 +22,11 @@ ghost use Rattle.reencode_core.specs.Woven.{GivesWoven, GivesWovenBytes};
 ghost use Rattle.reencode_core.specs.Leaves.{BodyOf, LeavesReading, LocalsOf, RowsOf};
 
 use crate::errors::placed;
-use crate::sections::{add_section, one_item, take_section};
+use crate::sections::{Body, add_section, read_body, take_section};
 use crate::{bodies, mapped, shared, subsections};
 use reencode_hooks::Error;
 use reencode_items::ReencodeItems;
 use std::alloc::Global;
-use wasm_leb::ReadError;
 use wasm_read as r;
 use wasm_shapes::SectionId;
 use wasm_write as w;

@@ -4,10 +4,12 @@ ghost use Rattle.wasm_leb.specs.Leb.{IsUnsigned};
 ghost use Rattle.wasm_shapes.specs.Tree.{normal};
 ghost use Rattle.wasm_shapes.specs.Types.{vector_tree};
 ghost use Rattle.wasm_write.specs.Sections.{section_row};
-ghost use Rattle.reencode_core.specs.Sections.{AddsMapped, NoItem};
+ghost use Rattle.reencode_core.specs.Sections.{AddsMapped, HasBody, NoBody, NoItem};
 
 use reencode_hooks::Error;
 use wasm_leb::{ReadError, front_u32};
+use wasm_read as r;
+use wasm_shapes::SectionId;
 use wasm_shapes::kinds::SectionKind;
 use wasm_write::{Module, RowSection, Section};
 
@@ -23,6 +25,46 @@ pub(crate) fn one_item(body: &[u8]) -> Result<u32, ReadError>
             at: body.len().saturating_sub(rest.len()),
         }),
         None => Err(ReadError { at: 0 }),
+    }
+}
+
+/// The body of a section: a reader of its rows, or its one item.
+pub(crate) enum Body<'a> {
+    Types(r::TypeSectionReader<'a>),
+    Imports(r::ImportSectionReader<'a>),
+    Functions(r::FunctionSectionReader<'a>),
+    Tables(r::TableSectionReader<'a>),
+    Memories(r::MemorySectionReader<'a>),
+    Globals(r::GlobalSectionReader<'a>),
+    Exports(r::ExportSectionReader<'a>),
+    Elements(r::ElementSectionReader<'a>),
+    Code(r::CodeSectionReader<'a>),
+    Data(r::DataSectionReader<'a>),
+    Tags(r::TagSectionReader<'a>),
+    Start(u32),
+    DataCount(u32),
+}
+
+/// Reads the count of the rows of a section, or its one item.
+pub(crate) fn read_body<E>(id: SectionId, body: &[u8]) -> Result<Body<'_>, Error<E>>
+    ensures ok { IfOk result (HasBody id body.now) }
+    ensures err { IfErr result (NoBody id body.now) }
+{
+    match id {
+        SectionId::Type_ => Ok(Body::Types(r::TypeSectionReader::new(body)?)),
+        SectionId::Import => Ok(Body::Imports(r::ImportSectionReader::new(body)?)),
+        SectionId::Function => Ok(Body::Functions(r::FunctionSectionReader::new(body)?)),
+        SectionId::Table => Ok(Body::Tables(r::TableSectionReader::new(body)?)),
+        SectionId::Memory => Ok(Body::Memories(r::MemorySectionReader::new(body)?)),
+        SectionId::Global => Ok(Body::Globals(r::GlobalSectionReader::new(body)?)),
+        SectionId::Export => Ok(Body::Exports(r::ExportSectionReader::new(body)?)),
+        SectionId::Element => Ok(Body::Elements(r::ElementSectionReader::new(body)?)),
+        SectionId::Code => Ok(Body::Code(r::CodeSectionReader::new(body)?)),
+        SectionId::Data => Ok(Body::Data(r::DataSectionReader::new(body)?)),
+        SectionId::Tag => Ok(Body::Tags(r::TagSectionReader::new(body)?)),
+        SectionId::Start => Ok(Body::Start(one_item(body)?)),
+        SectionId::DataCount => Ok(Body::DataCount(one_item(body)?)),
+        _ => Err(Error::ParseError(ReadError { at: 0 })),
     }
 }
 

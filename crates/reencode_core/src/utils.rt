@@ -21,11 +21,10 @@ ghost use Rattle.reencode_core.specs.Leaves.{BodyOf, LeavesReading, LocalsOf, Ro
 
 use crate::errors::placed;
 use crate::reencode::Reencode;
-use crate::sections::{add_section, one_item, take_section};
+use crate::sections::{Body, add_section, read_body, take_section};
 use crate::{bodies, mapped, shared, subsections};
 use reencode_hooks::Error;
 use std::alloc::Global;
-use wasm_leb::ReadError;
 use wasm_read as r;
 use wasm_shapes::SectionId;
 use wasm_write as w;

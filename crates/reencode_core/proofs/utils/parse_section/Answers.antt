@@ -1,93 +1,51 @@
 use Rattle.std.proofs.Common.{refl}
-use Rattle.wasm_shapes.proofs.SectionTable.{not_in_force}
-use Rattle.reencode_core.proofs.MappedSection.{code_done, hook_item, item_done, item_refused, item_unread, section_done, section_unknown, section_unread}
+use Rattle.reencode_core.proofs.MappedSection.{body_missing, code_done, held, hook_item, item_done, item_refused, section_done}
 use Rattle.reencode_core.proofs.utils.parse_section.Goals as goal
 
-pub returns-in_err-rows-in-Type_ : goal.returns-in_err-rows-in-Type_
-returns-in_err-rows-in-Type_ g c = section_unread g.T.ReencodeIndices c.in-Type_.is refl _ c.in_err-rows-in-Type_.ensures.err _ c.from_residual.ensures.1
+pub returns-in_err-content : goal.returns-in_err-content
+returns-in_err-content g c = body_missing g.T.ReencodeIndices _ c.in_err-content.ensures.err _ c.from_residual.ensures.1
 
-pub returns-in_ok-rows-in-Type_ : goal.returns-in_ok-rows-in-Type_
-returns-in_ok-rows-in-Type_ g c = section_done g.T.ReencodeIndices c.in-Type_.is refl _ _ c.new-types.ensures c.in_ok-rows-in-Type_.ensures.ok c.parse_type_section-mapped.ensures c.add_section.ensures
+pub returns-in-Types : goal.returns-in-Types
+returns-in-Types g c = let b = held c.args.id c.args.body.now c.in_ok-content.ensures.ok c.in-Types.is in section_done g.T.ReencodeIndices b.0 refl _ _ c.new-types.ensures b.1 c.parse_type_section-mapped.ensures c.add_section.ensures
 
-pub returns-in_err-rows-in-Import : goal.returns-in_err-rows-in-Import
-returns-in_err-rows-in-Import g c = section_unread g.T.ReencodeIndices c.in-Import.is refl _ c.in_err-rows-in-Import.ensures.err _ c.from_residual-in_err-rows-in-Import.ensures.1
+pub returns-in-Imports : goal.returns-in-Imports
+returns-in-Imports g c = let b = held c.args.id c.args.body.now c.in_ok-content.ensures.ok c.in-Imports.is in section_done g.T.ReencodeIndices b.0 refl _ _ c.new-imports.ensures b.1 c.parse_import_section-mapped.ensures c.add_section-in-Imports.ensures
 
-pub returns-in_ok-rows-in-Import : goal.returns-in_ok-rows-in-Import
-returns-in_ok-rows-in-Import g c = section_done g.T.ReencodeIndices c.in-Import.is refl _ _ c.new-imports.ensures c.in_ok-rows-in-Import.ensures.ok c.parse_import_section-mapped.ensures c.add_section-in-Import.ensures
+pub returns-in-Functions : goal.returns-in-Functions
+returns-in-Functions g c = let b = held c.args.id c.args.body.now c.in_ok-content.ensures.ok c.in-Functions.is in section_done g.T.ReencodeIndices b.0 refl _ _ c.new-functions.ensures b.1 c.parse_function_section-mapped.ensures c.add_section-in-Functions.ensures
 
-pub returns-in_err-rows-in-Function : goal.returns-in_err-rows-in-Function
-returns-in_err-rows-in-Function g c = section_unread g.T.ReencodeIndices c.in-Function.is refl _ c.in_err-rows-in-Function.ensures.err _ c.from_residual-in_err-rows-in-Function.ensures.1
+pub returns-in-Tables : goal.returns-in-Tables
+returns-in-Tables g c = let b = held c.args.id c.args.body.now c.in_ok-content.ensures.ok c.in-Tables.is in section_done g.T.ReencodeIndices b.0 refl _ _ c.new-tables.ensures b.1 c.parse_table_section-mapped.ensures c.add_section-in-Tables.ensures
 
-pub returns-in_ok-rows-in-Function : goal.returns-in_ok-rows-in-Function
-returns-in_ok-rows-in-Function g c = section_done g.T.ReencodeIndices c.in-Function.is refl _ _ c.new-functions.ensures c.in_ok-rows-in-Function.ensures.ok c.parse_function_section-mapped.ensures c.add_section-in-Function.ensures
+pub returns-in-Memories : goal.returns-in-Memories
+returns-in-Memories g c = let b = held c.args.id c.args.body.now c.in_ok-content.ensures.ok c.in-Memories.is in section_done g.T.ReencodeIndices b.0 refl _ _ c.new-memories.ensures b.1 c.parse_memory_section-mapped.ensures c.add_section-in-Memories.ensures
 
-pub returns-in_err-rows-in-Table : goal.returns-in_err-rows-in-Table
-returns-in_err-rows-in-Table g c = section_unread g.T.ReencodeIndices c.in-Table.is refl _ c.in_err-rows-in-Table.ensures.err _ c.from_residual-in_err-rows-in-Table.ensures.1
+pub returns-in-Globals : goal.returns-in-Globals
+returns-in-Globals g c = let b = held c.args.id c.args.body.now c.in_ok-content.ensures.ok c.in-Globals.is in section_done g.T.ReencodeIndices b.0 refl _ _ c.new-globals.ensures b.1 c.parse_global_section-mapped.ensures c.add_section-in-Globals.ensures
 
-pub returns-in_ok-rows-in-Table : goal.returns-in_ok-rows-in-Table
-returns-in_ok-rows-in-Table g c = section_done g.T.ReencodeIndices c.in-Table.is refl _ _ c.new-tables.ensures c.in_ok-rows-in-Table.ensures.ok c.parse_table_section-mapped.ensures c.add_section-in-Table.ensures
+pub returns-in-Exports : goal.returns-in-Exports
+returns-in-Exports g c = let b = held c.args.id c.args.body.now c.in_ok-content.ensures.ok c.in-Exports.is in section_done g.T.ReencodeIndices b.0 refl _ _ c.new-exports.ensures b.1 c.parse_export_section-mapped.ensures c.add_section-in-Exports.ensures
 
-pub returns-in_err-rows-in-Memory : goal.returns-in_err-rows-in-Memory
-returns-in_err-rows-in-Memory g c = section_unread g.T.ReencodeIndices c.in-Memory.is refl _ c.in_err-rows-in-Memory.ensures.err _ c.from_residual-in_err-rows-in-Memory.ensures.1
+pub returns-in-Elements : goal.returns-in-Elements
+returns-in-Elements g c = let b = held c.args.id c.args.body.now c.in_ok-content.ensures.ok c.in-Elements.is in section_done g.T.ReencodeIndices b.0 refl _ _ c.new-elements.ensures b.1 c.parse_element_section-mapped.ensures c.add_section-in-Elements.ensures
 
-pub returns-in_ok-rows-in-Memory : goal.returns-in_ok-rows-in-Memory
-returns-in_ok-rows-in-Memory g c = section_done g.T.ReencodeIndices c.in-Memory.is refl _ _ c.new-memories.ensures c.in_ok-rows-in-Memory.ensures.ok c.parse_memory_section-mapped.ensures c.add_section-in-Memory.ensures
+pub returns-in-Tags : goal.returns-in-Tags
+returns-in-Tags g c = let b = held c.args.id c.args.body.now c.in_ok-content.ensures.ok c.in-Tags.is in section_done g.T.ReencodeIndices b.0 refl _ _ c.new-tags.ensures b.1 c.parse_tag_section-mapped.ensures c.add_section-in-Tags.ensures
 
-pub returns-in_err-rows-in-Global : goal.returns-in_err-rows-in-Global
-returns-in_err-rows-in-Global g c = section_unread g.T.ReencodeIndices c.in-Global.is refl _ c.in_err-rows-in-Global.ensures.err _ c.from_residual-in_err-rows-in-Global.ensures.1
+pub returns-in-Code : goal.returns-in-Code
+returns-in-Code g c = let b = held c.args.id c.args.body.now c.in_ok-content.ensures.ok c.in-Code.is in code_done g.T.ReencodeIndices _ _ b.0 c.with_room-code.ensures c.ceiling-ceiling.ensures b.1 c.parse_code_section-mapped.ensures (rw c.into_rows.ensures at c.take_section.ensures)
 
-pub returns-in_ok-rows-in-Global : goal.returns-in_ok-rows-in-Global
-returns-in_ok-rows-in-Global g c = section_done g.T.ReencodeIndices c.in-Global.is refl _ _ c.new-globals.ensures c.in_ok-rows-in-Global.ensures.ok c.parse_global_section-mapped.ensures c.add_section-in-Global.ensures
-
-pub returns-in_err-rows-in-Export : goal.returns-in_err-rows-in-Export
-returns-in_err-rows-in-Export g c = section_unread g.T.ReencodeIndices c.in-Export.is refl _ c.in_err-rows-in-Export.ensures.err _ c.from_residual-in_err-rows-in-Export.ensures.1
-
-pub returns-in_ok-rows-in-Export : goal.returns-in_ok-rows-in-Export
-returns-in_ok-rows-in-Export g c = section_done g.T.ReencodeIndices c.in-Export.is refl _ _ c.new-exports.ensures c.in_ok-rows-in-Export.ensures.ok c.parse_export_section-mapped.ensures c.add_section-in-Export.ensures
-
-pub returns-in_err-item-in-Start : goal.returns-in_err-item-in-Start
-returns-in_err-item-in-Start g c = item_unread g.T.ReencodeIndices c.in-Start.is refl _ c.in_err-item-in-Start.ensures.err _ c.from_residual-in_err-item-in-Start.ensures.1
+pub returns-in-Data : goal.returns-in-Data
+returns-in-Data g c = let b = held c.args.id c.args.body.now c.in_ok-content.ensures.ok c.in-Data.is in section_done g.T.ReencodeIndices b.0 refl _ _ c.with_room-segments.ensures b.1 c.parse_data_section-mapped.ensures c.take_section-in-Data.ensures
 
 pub returns-in_err-function_index-in-Start : goal.returns-in_err-function_index-in-Start
-returns-in_err-function_index-in-Start g c = item_refused g.T.ReencodeIndices c.in-Start.is refl c.in_ok-item-in-Start.ensures.ok _ c.in_err-function_index-in-Start.ensures _ c.from_residual-in_err-function_index-in-Start.ensures.1
+returns-in_err-function_index-in-Start g c = let b = held c.args.id c.args.body.now c.in_ok-content.ensures.ok c.in-Start.is in item_refused g.T.ReencodeIndices b.0 refl b.1 _ c.in_err-function_index-in-Start.ensures _ c.from_residual-in_err-function_index-in-Start.ensures.1
 
 pub returns-in_ok-function_index-in-Start : goal.returns-in_ok-function_index-in-Start
-returns-in_ok-function_index-in-Start g c = item_done g.T.ReencodeIndices c.in-Start.is refl c.in_ok-item-in-Start.ensures.ok _ c.in_ok-function_index-in-Start.ensures c.add_section-in-Start.ensures
-
-pub returns-in_err-rows-in-Element : goal.returns-in_err-rows-in-Element
-returns-in_err-rows-in-Element g c = section_unread g.T.ReencodeIndices c.in-Element.is refl _ c.in_err-rows-in-Element.ensures.err _ c.from_residual-in_err-rows-in-Element.ensures.1
-
-pub returns-in_ok-rows-in-Element : goal.returns-in_ok-rows-in-Element
-returns-in_ok-rows-in-Element g c = section_done g.T.ReencodeIndices c.in-Element.is refl _ _ c.new-elements.ensures c.in_ok-rows-in-Element.ensures.ok c.parse_element_section-mapped.ensures c.add_section-in-Element.ensures
-
-pub returns-in_err-rows-in-Code : goal.returns-in_err-rows-in-Code
-returns-in_err-rows-in-Code g c = section_unread g.T.ReencodeIndices c.in-Code.is refl _ c.in_err-rows-in-Code.ensures.err _ c.from_residual-in_err-rows-in-Code.ensures.1
-
-pub returns-in_ok-rows-in-Code : goal.returns-in_ok-rows-in-Code
-returns-in_ok-rows-in-Code g c = code_done g.T.ReencodeIndices _ _ c.in-Code.is c.with_room-code.ensures c.ceiling-ceiling.ensures c.in_ok-rows-in-Code.ensures.ok c.parse_code_section-mapped.ensures (rw c.into_rows.ensures at c.take_section.ensures)
-
-pub returns-in_err-rows-in-Data : goal.returns-in_err-rows-in-Data
-returns-in_err-rows-in-Data g c = section_unread g.T.ReencodeIndices c.in-Data.is refl _ c.in_err-rows-in-Data.ensures.err _ c.from_residual-in_err-rows-in-Data.ensures.1
-
-pub returns-in_ok-rows-in-Data : goal.returns-in_ok-rows-in-Data
-returns-in_ok-rows-in-Data g c = section_done g.T.ReencodeIndices c.in-Data.is refl _ _ c.with_room-segments.ensures c.in_ok-rows-in-Data.ensures.ok c.parse_data_section-mapped.ensures c.take_section-in-Data.ensures
-
-pub returns-in_err-item-in-DataCount : goal.returns-in_err-item-in-DataCount
-returns-in_err-item-in-DataCount g c = item_unread g.T.ReencodeIndices c.in-DataCount.is refl _ c.in_err-item-in-DataCount.ensures.err _ c.from_residual-in_err-item-in-DataCount.ensures.1
+returns-in_ok-function_index-in-Start g c = let b = held c.args.id c.args.body.now c.in_ok-content.ensures.ok c.in-Start.is in item_done g.T.ReencodeIndices b.0 refl b.1 _ c.in_ok-function_index-in-Start.ensures c.add_section-in-Start.ensures
 
 pub returns-in_err-count-in-DataCount : goal.returns-in_err-count-in-DataCount
-returns-in_err-count-in-DataCount g c = item_refused g.T.ReencodeIndices c.in-DataCount.is refl c.in_ok-item-in-DataCount.ensures.ok _ (hook_item g.T.ReencodeIndices _ _ _ _ _ c.in_err-count-in-DataCount.ensures) _ c.from_residual-in_err-count-in-DataCount.ensures.1
+returns-in_err-count-in-DataCount g c = let b = held c.args.id c.args.body.now c.in_ok-content.ensures.ok c.in-DataCount.is in item_refused g.T.ReencodeIndices b.0 refl b.1 _ (hook_item g.T.ReencodeIndices _ _ _ _ _ c.in_err-count-in-DataCount.ensures) _ c.from_residual-in_err-count-in-DataCount.ensures.1
 
 pub returns-in_ok-count-in-DataCount : goal.returns-in_ok-count-in-DataCount
-returns-in_ok-count-in-DataCount g c = item_done g.T.ReencodeIndices c.in-DataCount.is refl c.in_ok-item-in-DataCount.ensures.ok _ (hook_item g.T.ReencodeIndices _ _ _ _ _ c.in_ok-count-in-DataCount.ensures) c.add_section-in-DataCount.ensures
-
-pub returns-in_err-rows-in-Tag : goal.returns-in_err-rows-in-Tag
-returns-in_err-rows-in-Tag g c = section_unread g.T.ReencodeIndices c.in-Tag.is refl _ c.in_err-rows-in-Tag.ensures.err _ c.from_residual-in_err-rows-in-Tag.ensures.1
-
-pub returns-in_ok-rows-in-Tag : goal.returns-in_ok-rows-in-Tag
-returns-in_ok-rows-in-Tag g c = section_done g.T.ReencodeIndices c.in-Tag.is refl _ _ c.new-tags.ensures c.in_ok-rows-in-Tag.ensures.ok c.parse_tag_section-mapped.ensures c.add_section-in-Tag.ensures
-
-pub returns-in_default : goal.returns-in_default
-returns-in_default g c =
-    let o = c.in_default in
-    section_unknown g.T.ReencodeIndices (not_in_force _ (o.not-Type_, (o.not-Import, (o.not-Function, (o.not-Table, (o.not-Memory, (o.not-Global, (o.not-Export, (o.not-Start, (o.not-Element, (o.not-Code, (o.not-Data, (o.not-DataCount, (o.not-Tag, tt))))))))))))))
+returns-in_ok-count-in-DataCount g c = let b = held c.args.id c.args.body.now c.in_ok-content.ensures.ok c.in-DataCount.is in item_done g.T.ReencodeIndices b.0 refl b.1 _ (hook_item g.T.ReencodeIndices _ _ _ _ _ c.in_ok-count-in-DataCount.ensures) c.add_section-in-DataCount.ensures
