@@ -31,7 +31,7 @@ const USAGE: &[u8] = b"usage: [-x] [-m CEILING] plain | rename FILE | generate N
 /// The header of a module, in binary.
 const BINARY: &[u8] = b"\0asm\x01\0\0\0";
 
-/// What a run says by each field that it leaves out, and so all the fields.
+/// What a case says by each field that it leaves out, and so all the fields.
 const USUAL: &str = "words=-x plain
 file={}
 shelf_fails=
@@ -44,11 +44,12 @@ status=0
 out=
 err=";
 
-/// Runs over memory. An empty line stands between two, and a line is a field or, behind a `#`, a
-/// remark. `file` is the text that the shelf has of the name `r`, and `text` the input. A read and a
-/// write take at most `most` bytes, and the calls of the numbers behind `_fails` fail. The run ends
-/// with the status, and the sinks then hold `out` and `err`. A `/` stands for a line end, and a word
-/// in capitals for the constant of that name.
+/// Runs of the program over memory, as text, since a case more then costs no proof. An empty line
+/// stands between two cases, and a line is a field or, behind a `#`, a remark. `file` is the text
+/// that the shelf has of the name `r`, and `text` the input. A read and a write take at most `most`
+/// bytes, and the calls of the numbers in a field of failures fail. The run ends with the status, and
+/// the sinks then hold `out` and `err`. A `/` stands for a line end, and a word in capitals for the
+/// constant of that name.
 const CASES: &str = r#"words=rename
 status=2
 err=USAGE
@@ -284,7 +285,7 @@ fn is_read(line: &str) -> bool {
     }
 }
 
-/// What a run says by a field.
+/// What a case says by a field.
 fn said<'a>(case: &'a str, name: &str) -> &'a str {
     match field(case, name) {
         Some(value) => value,
@@ -355,7 +356,7 @@ fn holds(alloc: Global, sink: &MemSink, value: &str) -> Option<bool> {
     Some(sink.held() == bytes_of(alloc, value).ok()?.as_slice())
 }
 
-/// The status with which a run ends.
+/// The status with which a case's run ends.
 fn status_of(
     alloc: Global,
     case: &str,
@@ -369,7 +370,7 @@ fn status_of(
     Some(run(alloc, words.as_slice(), &mut shelf, &mut input, out, err))
 }
 
-/// Whether a run ends as it says.
+/// Whether a case's run ends as the case says: its status, and what either sink holds.
 fn ends(alloc: Global, case: &str) -> Option<(bool, bool, bool)> {
     let most = said(case, "most").parse().ok()?;
     let mut out = sink_of(alloc, 1000, most, said(case, "write_fails"))?;
