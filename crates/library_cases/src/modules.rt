@@ -12,27 +12,24 @@ use wasm_read::{CodeSectionReader, FunctionBody};
 use wasm_shapes::Space;
 use wasm_write::{CodeSection, Section};
 
-/// All that is counted, in the order in which counts are told.
-const COUNTED: [Asked; 19] = [
-    Asked::Of(Space::Data),
-    Asked::Of(Space::Element),
-    Asked::Of(Space::Function),
-    Asked::Of(Space::Global),
-    Asked::Of(Space::Memory),
-    Asked::Of(Space::Table),
-    Asked::Of(Space::Tag),
-    Asked::Of(Space::Type_),
-    Asked::Of(Space::DataCount),
-    Asked::Of(Space::ComponentType),
-    Asked::Of(Space::ComponentInstance),
-    Asked::Of(Space::ComponentFunc),
-    Asked::Of(Space::Component),
-    Asked::Of(Space::Module),
-    Asked::Of(Space::Instance),
-    Asked::Of(Space::ComponentValue),
-    Asked::SectionHook,
-    Asked::Push,
-    Asked::Pop,
+/// The spaces, in the order in which their counts are told.
+const SPACES: [Space; 16] = [
+    Space::Data,
+    Space::Element,
+    Space::Function,
+    Space::Global,
+    Space::Memory,
+    Space::Table,
+    Space::Tag,
+    Space::Type_,
+    Space::DataCount,
+    Space::ComponentType,
+    Space::ComponentInstance,
+    Space::ComponentFunc,
+    Space::Component,
+    Space::Module,
+    Space::Instance,
+    Space::ComponentValue,
 ];
 
 /// What is told of a count.
@@ -47,11 +44,9 @@ fn name(what: Asked) -> &'static str {
 
 /// The space of a name.
 fn space(word: &str) -> Result<Space, Stop> {
-    for what in COUNTED {
-        if let Asked::Of(space) = what {
-            if space.name() == word {
-                return Ok(space);
-            }
+    for space in SPACES {
+        if space.name() == word {
+            return Ok(space);
         }
     }
     Err(Stop::Unread)
@@ -107,15 +102,24 @@ fn way_of(alloc: Global, words: &str) -> Result<Way, Stop> {
     Ok(way)
 }
 
+/// Adds a count that is not 0.
+fn add_count(text: &mut String, renamer: &Renamer, what: Asked) -> Result<(), AllocError> {
+    let count = renamer.count(what);
+    if count == 0 {
+        return Ok(());
+    }
+    add_word(text, name(what))?;
+    add(text, &count)
+}
+
 /// Adds each count that is not 0.
 fn add_counts(text: &mut String, renamer: &Renamer) -> Result<(), AllocError> {
     add_word(text, "asked")?;
-    for what in COUNTED {
-        let count = renamer.count(what);
-        if count > 0 {
-            add_word(text, name(what))?;
-            add(text, &count)?;
-        }
+    for space in SPACES {
+        add_count(text, renamer, Asked::Of(space))?;
+    }
+    for what in [Asked::SectionHook, Asked::Push, Asked::Pop] {
+        add_count(text, renamer, what)?;
     }
     Ok(())
 }

@@ -4,14 +4,23 @@ use crate::stop::Stop;
 use std::alloc::Global;
 use std::fmt::Debug;
 use wasm_leb::{
-    front_byte, front_index, front_s32, front_s33, front_s64, front_u32, front_u64, len_u32,
-    read_s32, read_s33, read_s64, read_u32, read_u64, write_index, write_s32, write_s33, write_s64,
-    write_u32, write_u64,
+    ReadError, front_byte, front_index, front_s32, front_s33, front_s64, front_u32, front_u64,
+    len_u32, read_s32, read_s33, read_s64, read_u32, read_u64, write_index, write_s32, write_s33,
+    write_s64, write_u32, write_u64,
 };
 
 /// What was read, and the place after it.
 pub fn found<T: Debug + Drop>(alloc: Global, value: T, at: usize) -> Result<Option<String>, Stop> {
     Ok(Some(format!(in alloc; "{value:?} to {at}")?))
+}
+
+/// The same of what a reader gives.
+pub fn read<T: Debug + Drop>(
+    alloc: Global,
+    made: Result<(T, usize), ReadError>,
+) -> Result<Option<String>, Stop> {
+    let (value, at) = made?;
+    found(alloc, value, at)
 }
 
 /// What stands at the front, and how many bytes are left behind it.
@@ -31,26 +40,11 @@ fn front<T: Debug + Drop>(
 /// What a reader of numbers gives.
 pub fn answer(alloc: Global, call: &str, bytes: &[u8], at: usize) -> Result<Option<String>, Stop> {
     match call {
-        "read_u32" => {
-            let (value, at) = read_u32(bytes, at)?;
-            found(alloc, value, at)
-        }
-        "read_u64" => {
-            let (value, at) = read_u64(bytes, at)?;
-            found(alloc, value, at)
-        }
-        "read_s32" => {
-            let (value, at) = read_s32(bytes, at)?;
-            found(alloc, value, at)
-        }
-        "read_s33" => {
-            let (value, at) = read_s33(bytes, at)?;
-            found(alloc, value, at)
-        }
-        "read_s64" => {
-            let (value, at) = read_s64(bytes, at)?;
-            found(alloc, value, at)
-        }
+        "read_u32" => read(alloc, read_u32(bytes, at)),
+        "read_u64" => read(alloc, read_u64(bytes, at)),
+        "read_s32" => read(alloc, read_s32(bytes, at)),
+        "read_s33" => read(alloc, read_s33(bytes, at)),
+        "read_s64" => read(alloc, read_s64(bytes, at)),
         "front_byte" => front(alloc, front_byte(bytes)),
         "front_index" => front(alloc, front_index(bytes)),
         "front_u32" => front(alloc, front_u32(bytes)),

@@ -1,7 +1,7 @@
 //! The parts of a module.
 use crate::bodies::{add_operators, body};
 use crate::groups::group;
-use crate::numbers::found;
+use crate::numbers::{found, read};
 use crate::stop::Stop;
 use std::alloc::Global;
 use wasm_read::{ConstExpr, front_name, read_item, read_name, read_type_ref, read_val_type};
@@ -9,18 +9,9 @@ use wasm_read::{ConstExpr, front_name, read_item, read_name, read_type_ref, read
 /// What a reader of a part of a module gives.
 pub fn answer(alloc: Global, call: &str, bytes: &[u8], at: usize) -> Result<Option<String>, Stop> {
     match call {
-        "read_name" => {
-            let (name, at) = read_name(bytes, at)?;
-            found(alloc, name, at)
-        }
-        "read_val_type" => {
-            let (ty, at) = read_val_type(bytes, at)?;
-            found(alloc, ty, at)
-        }
-        "read_type_ref" => {
-            let (ty, at) = read_type_ref(bytes, at)?;
-            found(alloc, ty, at)
-        }
+        "read_name" => read(alloc, read_name(bytes, at)),
+        "read_val_type" => read(alloc, read_val_type(bytes, at)),
+        "read_type_ref" => read(alloc, read_type_ref(bytes, at)),
         "read_item" => {
             let (kind, index, at) = read_item(bytes, at)?;
             found(alloc, (kind, index), at)

@@ -5,11 +5,10 @@ use crate::stop::Stop;
 use crate::text::{add, add_bytes, add_place, add_refusal, add_word};
 use std::alloc::{AllocError, Global};
 use wasm_read::{
-    CodeSectionReader, Data, DataKind, DataSectionReader, Element, ElementItems, ElementKind,
-    ElementSectionReader, ExportSectionReader, FunctionSectionReader, GlobalSectionReader,
-    ImportSectionReader, MemorySectionReader, Payload, Payloads, Table, TableInit,
-    TableSectionReader, TagSectionReader, TypeSectionReader,
+    BodyFrames, Data, DataKind, Element, ElementItems, ElementKind, Export, FunctionBody, Imports,
+    MemoryType, Payload, Payloads, ReadRow, RecGroup, SectionReader, Table, TableInit, TagType,
 };
+use wasm_shapes::kinds;
 
 /// Adds the place and the bytes of a frame.
 fn add_frame(alloc: Global, text: &mut String, at: usize, bytes: &[u8]) -> Result<(), AllocError> {
@@ -59,40 +58,100 @@ fn payloads(alloc: Global, bytes: &[u8]) -> Result<String, Stop> {
     Ok(text)
 }
 
-/// Adds a table and what it starts with.
-fn add_table(alloc: Global, text: &mut String, table: &Table<'_>) -> Result<(), AllocError> {
-    add(text, &table.ty)?;
-    match &table.init {
-        TableInit::RefNull => Ok(()),
-        TableInit::Expr(expr) => add_operators(alloc, text, expr.get_operators_reader()),
+/// A row of a section, as text.
+trait AddRow {
+    /// Adds the row.
+    fn add_row(&self, alloc: Global, text: &mut String) -> Result<(), AllocError>;
+}
+
+impl AddRow for RecGroup {
+    fn add_row(&self, _alloc: Global, text: &mut String) -> Result<(), AllocError> {
+        add_group(text, self)
     }
 }
 
-/// Adds a global and what it starts with.
-fn add_global(
-    alloc: Global,
-    text: &mut String,
-    global: &wasm_read::Global<'_>,
-) -> Result<(), AllocError> {
-    add(text, &global.ty)?;
-    add_operators(alloc, text, global.init_expr.get_operators_reader())
+impl<'a> AddRow for Imports<'a> {
+    fn add_row(&self, _alloc: Global, text: &mut String) -> Result<(), AllocError> {
+        add(text, self)
+    }
 }
 
-/// Adds an element segment: where it is placed, and what it lists.
-fn add_element(alloc: Global, text: &mut String, element: &Element<'_>) -> Result<(), AllocError> {
-    match &element.kind {
+impl AddRow for u32 {
+    fn add_row(&self, _alloc: Global, text: &mut String) -> Result<(), AllocError> {
+        add(text, self)
+    }
+}
+
+impl AddRow for MemoryType {
+    fn add_row(&self, _alloc: Global, text: &mut String) -> Result<(), AllocError> {
+        add(text, self)
+    }
+}
+
+impl<'a> AddRow for Export<'a> {
+    fn add_row(&self, _alloc: Global, text: &mut String) -> Result<(), AllocError> {
+        add(text, self)
+    }
+}
+
+impl<'a> AddRow for FunctionBody<'a> {
+    fn add_row(&self, _alloc: Global, text: &mut String) -> Result<(), AllocError> {
+        add(text, self)
+    }
+}
+
+impl AddRow for TagType {
+    fn add_row(&self, _alloc: Global, text: &mut String) -> Result<(), AllocError> {
+        add(text, self)
+    }
+}
+
+// A table, and what it starts with.
+impl<'a> AddRow for Table<'a> {
+    fn add_row(&self, alloc: Global, text: &mut String) -> Result<(), AllocError> {
+        add(text, &self.ty)?;
+        match &self.init {
+            TableInit::RefNull => Ok(()),
+            TableInit::Expr(expr) => add_operators(alloc, text, expr.get_operators_reader()),
+        }
+    }
+}
+
+// A global, and what it starts with.
+impl<'a> AddRow for wasm_read::Global<'a> {
+    fn add_row(&self, alloc: Global, text: &mut String) -> Result<(), AllocError> {
+        add(text, &self.ty)?;
+        add_operators(alloc, text, self.init_expr.get_operators_reader())
+    }
+}
+
+/// Adds where an element segment is placed.
+fn add_element_kind(
+    alloc: Global,
+    text: &mut String,
+    kind: &ElementKind<'_>,
+) -> Result<(), AllocError> {
+    match kind {
         ElementKind::Active {
             table_index,
             offset_expr,
         } => {
             add_word(text, "table")?;
             add(text, table_index)?;
-            add_operators(alloc, text, offset_expr.get_operators_reader())?;
+            add_operators(alloc, text, offset_expr.get_operators_reader())
         }
-        ElementKind::Passive => add_word(text, "passive")?,
-        ElementKind::Declared => add_word(text, "declared")?,
+        ElementKind::Passive => add_word(text, "passive"),
+        ElementKind::Declared => add_word(text, "declared"),
     }
-    match &element.items {
+}
+
+/// Adds what an element segment lists.
+fn add_element_items(
+    alloc: Global,
+    text: &mut String,
+    items: &ElementItems<'_>,
+) -> Result<(), AllocError> {
+    match items {
         ElementItems::Functions(functions) => add(text, functions),
         ElementItems::Expressions(ty, expressions) => {
             add(text, ty)?;
@@ -104,62 +163,63 @@ fn add_element(alloc: Global, text: &mut String, element: &Element<'_>) -> Resul
     }
 }
 
-/// Adds a data segment: where it is placed, and its bytes.
-fn add_data(alloc: Global, text: &mut String, data_: &Data<'_>) -> Result<(), AllocError> {
-    match &data_.kind {
-        DataKind::Active {
-            memory_index,
-            offset_expr,
-        } => {
-            add_word(text, "memory")?;
-            add(text, memory_index)?;
-            add_operators(alloc, text, offset_expr.get_operators_reader())?;
-        }
-        DataKind::Passive => add_word(text, "passive")?,
+impl<'a> AddRow for Element<'a> {
+    fn add_row(&self, alloc: Global, text: &mut String) -> Result<(), AllocError> {
+        add_element_kind(alloc, text, &self.kind)?;
+        add_element_items(alloc, text, &self.items)
     }
-    add_bytes(alloc, text, data_.contents)
+}
+
+// A data segment: where it is placed, and its bytes.
+impl<'a> AddRow for Data<'a> {
+    fn add_row(&self, alloc: Global, text: &mut String) -> Result<(), AllocError> {
+        match &self.kind {
+            DataKind::Active {
+                memory_index,
+                offset_expr,
+            } => {
+                add_word(text, "memory")?;
+                add(text, memory_index)?;
+                add_operators(alloc, text, offset_expr.get_operators_reader())?;
+            }
+            DataKind::Passive => add_word(text, "passive")?,
+        }
+        add_bytes(alloc, text, self.contents)
+    }
 }
 
 /// The rows of a section with the place after each, up to the end or the first refusal.
-macro_rules! rows {
-    ($alloc:ident, $reader:ident, $bytes:ident, $text:ident, $row:ident => $step:expr) => {{
-        let mut rows = $reader::new($bytes)?;
-        let mut text = String::new($alloc);
-        'rows: for _ in 0..u64::MAX {
-            match rows.next_row($alloc) {
-                Ok(Some(row)) => {
-                    let ($text, $row) = (&mut text, &row);
-                    $step?;
-                }
-                Ok(None) => {
-                    add_word(&mut text, "end")?;
-                    break 'rows;
-                }
-                Err(fault) => {
-                    add_refusal($alloc, &mut text, fault)?;
-                    break 'rows;
-                }
+fn rows<'a, K: ReadRow<'a>>(alloc: Global, bytes: &'a [u8]) -> Result<Option<String>, Stop>
+where
+    K::Row: AddRow + Drop,
+{
+    let mut rows: SectionReader<'a, K> = SectionReader::new(bytes)?;
+    let mut text = String::new(alloc);
+    'rows: for _ in 0..u64::MAX {
+        match rows.next_row(alloc) {
+            Ok(Some(row)) => row.add_row(alloc, &mut text)?,
+            Ok(None) => {
+                add_word(&mut text, "end")?;
+                break 'rows;
             }
-            add_place(&mut text, rows.place())?;
-            add_word(&mut text, "|")?;
+            Err(fault) => {
+                add_refusal(alloc, &mut text, fault)?;
+                break 'rows;
+            }
         }
-        Ok(Some(text))
-    }};
+        add_place(&mut text, rows.place())?;
+        add_word(&mut text, "|")?;
+    }
+    Ok(Some(text))
 }
 
 /// What the reader of a section whose rows hold expressions gives.
 fn with_expressions(alloc: Global, call: &str, bytes: &[u8]) -> Result<Option<String>, Stop> {
     match call {
-        "tables" =>
-            rows!(alloc, TableSectionReader, bytes, text, row => add_table(alloc, text, row)),
-        "globals" => {
-            rows!(alloc, GlobalSectionReader, bytes, text, row => add_global(alloc, text, row))
-        }
-        "elements" => {
-            rows!(alloc, ElementSectionReader, bytes, text, row => add_element(alloc, text, row))
-        }
-        "segments" =>
-            rows!(alloc, DataSectionReader, bytes, text, row => add_data(alloc, text, row)),
+        "tables" => rows::<kinds::Tables>(alloc, bytes),
+        "globals" => rows::<kinds::Globals>(alloc, bytes),
+        "elements" => rows::<kinds::Elements>(alloc, bytes),
+        "segments" => rows::<kinds::Segments>(alloc, bytes),
         _ => Ok(None),
     }
 }
@@ -168,13 +228,13 @@ fn with_expressions(alloc: Global, call: &str, bytes: &[u8]) -> Result<Option<St
 pub fn answer(alloc: Global, call: &str, bytes: &[u8]) -> Result<Option<String>, Stop> {
     match call {
         "payloads" => Ok(Some(payloads(alloc, bytes)?)),
-        "types" => rows!(alloc, TypeSectionReader, bytes, text, row => add_group(text, row)),
-        "imports" => rows!(alloc, ImportSectionReader, bytes, text, row => add(text, row)),
-        "functions" => rows!(alloc, FunctionSectionReader, bytes, text, row => add(text, row)),
-        "memories" => rows!(alloc, MemorySectionReader, bytes, text, row => add(text, row)),
-        "exports" => rows!(alloc, ExportSectionReader, bytes, text, row => add(text, row)),
-        "code" => rows!(alloc, CodeSectionReader, bytes, text, row => add(text, row)),
-        "tags" => rows!(alloc, TagSectionReader, bytes, text, row => add(text, row)),
+        "types" => rows::<kinds::Types>(alloc, bytes),
+        "imports" => rows::<kinds::Imports>(alloc, bytes),
+        "functions" => rows::<kinds::Functions>(alloc, bytes),
+        "memories" => rows::<kinds::Memories>(alloc, bytes),
+        "exports" => rows::<kinds::Exports>(alloc, bytes),
+        "code" => rows::<BodyFrames>(alloc, bytes),
+        "tags" => rows::<kinds::Tags>(alloc, bytes),
         _ => with_expressions(alloc, call, bytes),
     }
 }

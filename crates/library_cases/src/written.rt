@@ -40,27 +40,32 @@ fn group(alloc: Global, text: &mut String, bytes: &[u8]) -> Result<Vec<u8>, Stop
     Ok(out)
 }
 
-/// What comes of a part that is written, read and written again, where it is not the same.
-macro_rules! twice {
-    ($call:ident, $alloc:ident, $bytes:ident) => {{
-        let mut first = String::new($alloc);
-        let out = $call($alloc, &mut first, $bytes)?;
-        let mut second = String::new($alloc);
-        $call($alloc, &mut second, out.as_slice())?;
-        if second.as_str() != first.as_str() {
-            add_word(&mut first, "and then")?;
-            add_word(&mut first, second.as_str())?;
-        }
-        Ok(Some(first))
-    }};
-}
-
-/// What is written again.
-pub fn answer(alloc: Global, call: &str, bytes: &[u8]) -> Result<Option<String>, Stop> {
+/// A part of a kind, as it is written again, where there is a kind of this name.
+fn once(
+    alloc: Global,
+    call: &str,
+    text: &mut String,
+    bytes: &[u8],
+) -> Result<Option<Vec<u8>>, Stop> {
     match call {
-        "val_type" => twice!(val_type, alloc, bytes),
-        "entity_type" => twice!(entity_type, alloc, bytes),
-        "group" => twice!(group, alloc, bytes),
+        "val_type" => Ok(Some(val_type(alloc, text, bytes)?)),
+        "entity_type" => Ok(Some(entity_type(alloc, text, bytes)?)),
+        "group" => Ok(Some(group(alloc, text, bytes)?)),
         _ => Ok(None),
     }
+}
+
+/// What is written again, and what comes where that is read and written once more, if it is not the same.
+pub fn answer(alloc: Global, call: &str, bytes: &[u8]) -> Result<Option<String>, Stop> {
+    let mut first = String::new(alloc);
+    let Some(out) = once(alloc, call, &mut first, bytes)? else {
+        return Ok(None);
+    };
+    let mut second = String::new(alloc);
+    once(alloc, call, &mut second, out.as_slice())?;
+    if second.as_str() != first.as_str() {
+        add_word(&mut first, "and then")?;
+        add_word(&mut first, second.as_str())?;
+    }
+    Ok(Some(first))
 }
