@@ -82,42 +82,42 @@ macro_rules! parse_section {
             Body::Types(rows) => {
                 let mut types = w::TypeSection::new($alloc);
                 let mapped = $reencoder.parse_type_section($alloc, &mut types, rows);
-                add_section($module, mapped, &types)
+                add_rows($module, mapped, types)
             }
             Body::Imports(rows) => {
                 let mut imports = w::ImportSection::new($alloc);
                 let mapped = $reencoder.parse_import_section($alloc, &mut imports, rows);
-                add_section($module, mapped, &imports)
+                add_rows($module, mapped, imports)
             }
             Body::Functions(rows) => {
                 let mut functions = w::FunctionSection::new($alloc);
                 let mapped = $reencoder.parse_function_section($alloc, &mut functions, rows);
-                add_section($module, mapped, &functions)
+                add_rows($module, mapped, functions)
             }
             Body::Tables(rows) => {
                 let mut tables = w::TableSection::new($alloc);
                 let mapped = $reencoder.parse_table_section($alloc, &mut tables, rows);
-                add_section($module, mapped, &tables)
+                add_rows($module, mapped, tables)
             }
             Body::Memories(rows) => {
                 let mut memories = w::MemorySection::new($alloc);
                 let mapped = $reencoder.parse_memory_section($alloc, &mut memories, rows);
-                add_section($module, mapped, &memories)
+                add_rows($module, mapped, memories)
             }
             Body::Globals(rows) => {
                 let mut globals = w::GlobalSection::new($alloc);
                 let mapped = $reencoder.parse_global_section($alloc, &mut globals, rows);
-                add_section($module, mapped, &globals)
+                add_rows($module, mapped, globals)
             }
             Body::Exports(rows) => {
                 let mut exports = w::ExportSection::new($alloc);
                 let mapped = $reencoder.parse_export_section($alloc, &mut exports, rows);
-                add_section($module, mapped, &exports)
+                add_rows($module, mapped, exports)
             }
             Body::Elements(rows) => {
                 let mut elements = w::ElementSection::new($alloc);
                 let mapped = $reencoder.parse_element_section($alloc, &mut elements, rows);
-                add_section($module, mapped, &elements)
+                add_rows($module, mapped, elements)
             }
             Body::Code(rows) => {
                 let ceiling = $module.ceiling();
@@ -140,7 +140,7 @@ macro_rules! parse_section {
             Body::Tags(rows) => {
                 let mut tags = w::TagSection::new($alloc);
                 let mapped = $reencoder.parse_tag_section($alloc, &mut tags, rows);
-                add_section($module, mapped, &tags)
+                add_rows($module, mapped, tags)
             }
             Body::Start(item) => {
                 let function_index = $reencoder.start_section(item)?;

@@ -22,7 +22,7 @@ ghost use Rattle.reencode_core.specs.Woven.{GivesWoven, GivesWovenBytes};
 ghost use Rattle.reencode_core.specs.Leaves.{BodyOf, LeavesReading, LocalsOf, RowsOf};
 
 use crate::errors::placed;
-use crate::sections::{Body, add_section, read_body, take_section};
+use crate::sections::{Body, add_rows, add_section, read_body, take_section};
 use crate::{bodies, mapped, shared, subsections};
 use reencode_hooks::Error;
 use reencode_items::ReencodeItems;

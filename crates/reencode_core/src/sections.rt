@@ -82,6 +82,18 @@ pub(crate) fn add_section<S: Section, E>(
     Ok(())
 }
 
+/// Adds a section of rows that were mapped, and frees its memory. Where they were refused, that is the answer.
+pub(crate) fn add_rows<K: SectionKind, E>(
+    module: &mut Module,
+    mapped: Result<(), Error<E>>,
+    section: RowSection<K>,
+) -> Result<(), Error<E>>
+    ensures { AddsMapped (section_row K.ID (normal (vector_tree section))) «module».old mapped
+        «module».new result }
+{
+    add_section(module, mapped, &section)
+}
+
 /// Adds a section of rows that were mapped, and takes over its memory. Where they were refused, that is the answer.
 pub(crate) fn take_section<K: SectionKind, E>(
     module: &mut Module,

@@ -21,7 +21,7 @@ ghost use Rattle.reencode_core.specs.Leaves.{BodyOf, LeavesReading, LocalsOf, Ro
 
 use crate::errors::placed;
 use crate::reencode::Reencode;
-use crate::sections::{Body, add_section, read_body, take_section};
+use crate::sections::{Body, add_rows, add_section, read_body, take_section};
 use crate::{bodies, mapped, shared, subsections};
 use reencode_hooks::Error;
 use std::alloc::Global;
