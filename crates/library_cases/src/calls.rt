@@ -4,6 +4,30 @@ use crate::stop::Stop;
 use crate::{modules, numbers, readers, sections, written};
 use std::alloc::{AllocError, Global};
 
+/// What a reader at a place gives, where there is one of this name.
+fn of_place(alloc: Global, call: &str, bytes: &[u8], at: usize) -> Result<Option<String>, Stop> {
+    if let Some(given) = numbers::answer(alloc, call, bytes, at)? {
+        return Ok(Some(given));
+    }
+    readers::answer(alloc, call, bytes, at)
+}
+
+/// What a reader of whole bytes gives, where there is one of this name.
+fn of_whole(alloc: Global, call: &str, bytes: &[u8]) -> Result<Option<String>, Stop> {
+    if let Some(given) = sections::answer(alloc, call, bytes)? {
+        return Ok(Some(given));
+    }
+    written::answer(alloc, call, bytes)
+}
+
+/// What a reader gives, where there is one of this name.
+fn of_reader(alloc: Global, case: &Case<'_>, bytes: &[u8]) -> Result<Option<String>, Stop> {
+    if let Some(given) = of_place(alloc, case.call, bytes, case.place()?)? {
+        return Ok(Some(given));
+    }
+    of_whole(alloc, case.call, bytes)
+}
+
 /// What comes of a call that is given bytes, where there is one of this name.
 fn of_bytes(alloc: Global, case: &Case<'_>) -> Result<Option<String>, Stop> {
     let bytes = case.bytes(alloc)?;
@@ -11,17 +35,7 @@ fn of_bytes(alloc: Global, case: &Case<'_>) -> Result<Option<String>, Stop> {
     if let Some(given) = modules::answer(alloc, case.call, case.words, bytes)? {
         return Ok(Some(given));
     }
-    let at = case.place()?;
-    if let Some(given) = numbers::answer(alloc, case.call, bytes, at)? {
-        return Ok(Some(given));
-    }
-    if let Some(given) = readers::answer(alloc, case.call, bytes, at)? {
-        return Ok(Some(given));
-    }
-    if let Some(given) = sections::answer(alloc, case.call, bytes)? {
-        return Ok(Some(given));
-    }
-    written::answer(alloc, case.call, bytes)
+    of_reader(alloc, case, bytes)
 }
 
 /// What comes of a call, where there is one of this name.

@@ -64,12 +64,23 @@ fn write_33(out: &mut Vec<u8>, value: i64) -> Result<(), Stop> {
     Ok(write_s33(out, value)?)
 }
 
-/// Writes a number of a kind behind what was written.
-fn write(out: &mut Vec<u8>, kind: &str, value: &str) -> Result<(), Stop> {
+/// Writes a number without a sign behind what was written, where the kind is one of these.
+fn write_unsigned(out: &mut Vec<u8>, kind: &str, value: &str) -> Result<bool, Stop> {
     match kind {
         "u32" => write_u32(out, number(value)?)?,
         "u64" => write_u64(out, number(value)?)?,
         "index" => write_index(out, number(value)?)?,
+        _ => return Ok(false),
+    }
+    Ok(true)
+}
+
+/// Writes a number of a kind behind what was written.
+fn write(out: &mut Vec<u8>, kind: &str, value: &str) -> Result<(), Stop> {
+    if write_unsigned(out, kind, value)? {
+        return Ok(());
+    }
+    match kind {
         "s32" => write_s32(out, number(value)?)?,
         "s33" => write_33(out, number(value)?)?,
         "s64" => write_s64(out, number(value)?)?,
