@@ -10,8 +10,8 @@ use wasm_write as w;
 /// A reencoder that keeps every default method of `ReencodeItems` and `Reencode`. Its function bodies are mapped by
 /// `direct::parse_function_body`.
 ///
-/// To implement it is all that is needed, and costs no proof; `impl Reencode for X {}` proves each default once more for `X`.
-/// A reencoder that overrides a method of either trait implements `Reencode` itself.
+/// To implement it beside `DefaultItems` is all that is needed, and costs no proof; `impl Reencode for X {}` proves each default
+/// once more for `X`. A reencoder that overrides a method of either trait implements `Reencode` itself.
 pub trait DefaultReencode: DefaultItems {}
 
 impl<T: DefaultReencode> Reencode for T {
