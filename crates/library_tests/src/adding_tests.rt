@@ -53,25 +53,20 @@ const AT_END: [u8; 43] = [
     0x00, 0x20, 0x00, 0x20, 0x01, 0x6a, 0x0b, 0x00, 0x02, 0x01, 0x78,
 ];
 
+/// The module of two numbers with the custom section `x` before a section of a kind, or at its end.
+fn with_section(alloc: Global, at: Option<SectionId>) -> Result<Vec<u8>, Error<Infallible>> {
+    let mut adding = Adding {
+        reencoder: RoundtripReencoder,
+        sections: Put { at, contents: &[] },
+    };
+    reencode_core(alloc, &mut adding, &ADDS, u32::MAX)
+}
+
 #[test]
 fn sections_are_added(rt: HostRuntime) -> Result<(), Error<Infallible>> {
-    let mut adding = Adding {
-        reencoder: RoundtripReencoder,
-        sections: Put {
-            at: Some(SectionId::Code),
-            contents: &[],
-        },
-    };
-    let bytes = reencode_core(rt.alloc(), &mut adding, &ADDS, u32::MAX)?;
+    let bytes = with_section(rt.alloc(), Some(SectionId::Code))?;
     assert!(rt; bytes.as_slice() == BEFORE_CODE.as_slice());
-    let mut adding = Adding {
-        reencoder: RoundtripReencoder,
-        sections: Put {
-            at: None,
-            contents: &[],
-        },
-    };
-    let bytes = reencode_core(rt.alloc(), &mut adding, &ADDS, u32::MAX)?;
+    let bytes = with_section(rt.alloc(), None)?;
     assert!(rt; bytes.as_slice() == AT_END.as_slice());
     Ok(())
 }

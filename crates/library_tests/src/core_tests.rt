@@ -7,8 +7,8 @@ use wasm_read as r;
 use wasm_shapes::{SectionId, Space};
 use wasm_write as w;
 
-/// The section `01 60 00 00` of types and the section `01 00` of functions.
-fn types_and_functions<R: Reencode>(
+/// The section `01 60 00 00` of types.
+fn types<R: Reencode>(
     reencoder: &mut R,
     alloc: Global,
     module: &mut w::Module,
@@ -16,12 +16,19 @@ fn types_and_functions<R: Reencode>(
     let mut types = w::TypeSection::new(alloc);
     let rows = r::TypeSectionReader::new(&[0x01, 0x60, 0x00, 0x00])?;
     utils::parse_type_section(reencoder, alloc, &mut types, rows)?;
-    module.section(&types)?;
+    Ok(module.section(&types)?)
+}
+
+/// The section `01 00` of functions.
+fn functions<R: Reencode>(
+    reencoder: &mut R,
+    alloc: Global,
+    module: &mut w::Module,
+) -> Result<(), Error<R::Error>> {
     let mut functions = w::FunctionSection::new(alloc);
     let rows = r::FunctionSectionReader::new(&[0x01, 0x00])?;
     utils::parse_function_section(reencoder, alloc, &mut functions, rows)?;
-    module.section(&functions)?;
-    Ok(())
+    Ok(module.section(&functions)?)
 }
 
 /// The section `01 01 66 00 00` of exports, and another row of it.
@@ -43,25 +50,34 @@ fn exports<R: Reencode>(
     Ok(())
 }
 
-/// The section `01 01 61 01 62 20 00` of imports, and three more rows of it.
+/// The section `01 01 61 01 62 20 00` of imports, and another row of it.
+fn import_rows<R: Reencode>(
+    reencoder: &mut R,
+    alloc: Global,
+    imports: &mut w::ImportSection,
+) -> Result<(), Error<R::Error>> {
+    let rows = r::ImportSectionReader::new(&[0x01, 0x01, 0x61, 0x01, 0x62, 0x20, 0x00])?;
+    utils::parse_import_section(reencoder, alloc, imports, rows)?;
+    utils::parse_imports(reencoder, alloc, imports, r::Imports::Single(IMPORT))
+}
+
+const IMPORT: r::Import<'_> = r::Import {
+    module: "",
+    name: "c",
+    ty: r::TypeRef::Func(0),
+};
+
+/// These, and two more rows.
 fn imports<R: Reencode>(
     reencoder: &mut R,
     alloc: Global,
     module: &mut w::Module,
 ) -> Result<(), Error<R::Error>> {
     let mut imports = w::ImportSection::new(alloc);
-    let rows = r::ImportSectionReader::new(&[0x01, 0x01, 0x61, 0x01, 0x62, 0x20, 0x00])?;
-    utils::parse_import_section(reencoder, alloc, &mut imports, rows)?;
-    let import = r::Import {
-        module: "",
-        name: "c",
-        ty: r::TypeRef::Func(0),
-    };
-    utils::parse_imports(reencoder, alloc, &mut imports, r::Imports::Single(import))?;
-    utils::parse_import(reencoder, alloc, &mut imports, import)?;
-    reencoder.parse_import(alloc, &mut imports, import)?;
-    module.section(&imports)?;
-    Ok(())
+    import_rows(reencoder, alloc, &mut imports)?;
+    utils::parse_import(reencoder, alloc, &mut imports, IMPORT)?;
+    reencoder.parse_import(alloc, &mut imports, IMPORT)?;
+    Ok(module.section(&imports)?)
 }
 
 const FUNCREF: r::RefType = r::RefType {
@@ -96,8 +112,8 @@ fn tables<R: Reencode>(
     Ok(())
 }
 
-/// The section `01 01 01 02` of memories and the section `01 00 00` of tags.
-fn memories_and_tags<R: Reencode>(
+/// The section `01 01 01 02` of memories.
+fn memories<R: Reencode>(
     reencoder: &mut R,
     alloc: Global,
     module: &mut w::Module,
@@ -105,12 +121,19 @@ fn memories_and_tags<R: Reencode>(
     let mut memories = w::MemorySection::new(alloc);
     let rows = r::MemorySectionReader::new(&[0x01, 0x01, 0x01, 0x02])?;
     utils::parse_memory_section(reencoder, alloc, &mut memories, rows)?;
-    module.section(&memories)?;
+    Ok(module.section(&memories)?)
+}
+
+/// The section `01 00 00` of tags.
+fn tags<R: Reencode>(
+    reencoder: &mut R,
+    alloc: Global,
+    module: &mut w::Module,
+) -> Result<(), Error<R::Error>> {
     let mut tags = w::TagSection::new(alloc);
     let rows = r::TagSectionReader::new(&[0x01, 0x00, 0x00])?;
     utils::parse_tag_section(reencoder, alloc, &mut tags, rows)?;
-    module.section(&tags)?;
-    Ok(())
+    Ok(module.section(&tags)?)
 }
 
 /// The section `01 70 00 d0 70 0b` of globals, and another row of it.
@@ -215,7 +238,8 @@ fn module_of_functions<R: Reencode>(
     alloc: Global,
 ) -> Result<w::Module, Error<R::Error>> {
     let mut module = w::Module::new(alloc, u32::MAX)?;
-    types_and_functions(reencoder, alloc, &mut module)?;
+    types(reencoder, alloc, &mut module)?;
+    functions(reencoder, alloc, &mut module)?;
     exports(reencoder, alloc, &mut module)?;
     code(reencoder, alloc, &mut module)?;
     Ok(module)
@@ -228,7 +252,8 @@ fn module_of_imports<R: Reencode>(
     let mut module = w::Module::new(alloc, u32::MAX)?;
     imports(reencoder, alloc, &mut module)?;
     tables(reencoder, alloc, &mut module)?;
-    memories_and_tags(reencoder, alloc, &mut module)?;
+    memories(reencoder, alloc, &mut module)?;
+    tags(reencoder, alloc, &mut module)?;
     globals(reencoder, alloc, &mut module)?;
     Ok(module)
 }

@@ -53,75 +53,120 @@ const WRITTEN_FIELD: w::FieldType = w::FieldType {
     mutable: true,
 };
 
-/// The calls on indices and heap types as methods.
-fn indices_by_methods<R: ReencodeItems>(of: &mut R) -> Result<[bool; 4], Error<R::Error>> {
-    Ok([
-        of.type_index_unpacked(ONE)? == 11,
-        of.external_index(r::ExternalKind::FuncExact, 2)? == 22,
-        of.export_kind(r::ExternalKind::FuncExact)? == w::ExportKind::Func,
-        of.cont_type(r::ContType(ONE))? == w::ContType(11),
-    ])
+/// Whether a call answers what is wanted, as a method and as a function. A function of many calls costs its check more than each
+/// call in a function of its own.
+macro_rules! both {
+    ($of:ident, $call:ident($($arg:expr),*), $wanted:expr) => {
+        Ok($of.$call($($arg),*)? == $wanted && utils::$call($of, $($arg),*)? == $wanted)
+    };
 }
 
-/// The calls on references as methods.
-fn references_by_methods<R: ReencodeItems>(of: &mut R) -> Result<[bool; 4], Error<R::Error>> {
-    Ok([
-        of.abstract_heap_type(r::AbstractHeapType::Exn)? == w::AbstractHeapType::Exn,
-        of.heap_type(r::HeapType::Exact(ONE))? == w::HeapType::Exact(11),
-        of.ref_type(REFERENCE)? == WRITTEN,
-        of.val_type(r::ValType::Ref(REFERENCE))? == w::ValType::Ref(WRITTEN),
-    ])
+/// The same of a call whose function has no error.
+macro_rules! both_plain {
+    ($of:ident, $call:ident($($arg:expr),*), $wanted:expr) => {
+        Ok($of.$call($($arg),*)? == $wanted && utils::$call($of, $($arg),*) == $wanted)
+    };
 }
 
-/// The calls on blocks and fields as methods.
-fn fields_by_methods<R: ReencodeItems>(of: &mut R) -> Result<[bool; 4], Error<R::Error>> {
-    Ok([
-        of.block_type(r::BlockType::FuncType(1))? == w::BlockType::FunctionType(11),
-        of.storage_type(r::StorageType::I16)? == w::StorageType::I16,
-        of.field_type(FIELD)? == WRITTEN_FIELD,
-        of.array_type(r::ArrayType(FIELD))? == w::ArrayType(WRITTEN_FIELD),
-    ])
+/// An index of a type.
+fn type_index<R: ReencodeItems>(of: &mut R) -> Result<bool, Error<R::Error>> {
+    both!(of, type_index_unpacked(ONE), 11)
 }
 
-/// The calls on indices and heap types as functions.
-fn indices_by_functions<R: ReencodeItems>(of: &mut R) -> Result<[bool; 4], Error<R::Error>> {
-    Ok([
-        utils::type_index_unpacked(of, ONE)? == 11,
-        utils::external_index(of, r::ExternalKind::FuncExact, 2)? == 22,
-        utils::export_kind(of, r::ExternalKind::FuncExact) == w::ExportKind::Func,
-        utils::cont_type(of, r::ContType(ONE))? == w::ContType(11),
-    ])
+/// An index of what is exported.
+fn exported_index<R: ReencodeItems>(of: &mut R) -> Result<bool, Error<R::Error>> {
+    both!(of, external_index(r::ExternalKind::FuncExact, 2), 22)
 }
 
-/// The calls on references as functions.
-fn references_by_functions<R: ReencodeItems>(of: &mut R) -> Result<[bool; 4], Error<R::Error>> {
-    Ok([
-        utils::abstract_heap_type(of, r::AbstractHeapType::Exn) == w::AbstractHeapType::Exn,
-        utils::heap_type(of, r::HeapType::Exact(ONE))? == w::HeapType::Exact(11),
-        utils::ref_type(of, REFERENCE)? == WRITTEN,
-        utils::val_type(of, r::ValType::Ref(REFERENCE))? == w::ValType::Ref(WRITTEN),
-    ])
+/// A kind of what is exported.
+fn export_kind<R: ReencodeItems>(of: &mut R) -> Result<bool, Error<R::Error>> {
+    both_plain!(
+        of,
+        export_kind(r::ExternalKind::FuncExact),
+        w::ExportKind::Func
+    )
 }
 
-/// The calls on blocks and fields as functions.
-fn fields_by_functions<R: ReencodeItems>(of: &mut R) -> Result<[bool; 4], Error<R::Error>> {
-    Ok([
-        utils::block_type(of, r::BlockType::FuncType(1))? == w::BlockType::FunctionType(11),
-        utils::storage_type(of, r::StorageType::I16)? == w::StorageType::I16,
-        utils::field_type(of, FIELD)? == WRITTEN_FIELD,
-        utils::array_type(of, r::ArrayType(FIELD))? == w::ArrayType(WRITTEN_FIELD),
-    ])
+/// A continuation.
+fn continuation<R: ReencodeItems>(of: &mut R) -> Result<bool, Error<R::Error>> {
+    both!(of, cont_type(r::ContType(ONE)), w::ContType(11))
+}
+
+/// A heap type that names no type.
+fn abstract_heap_type<R: ReencodeItems>(of: &mut R) -> Result<bool, Error<R::Error>> {
+    both_plain!(
+        of,
+        abstract_heap_type(r::AbstractHeapType::Exn),
+        w::AbstractHeapType::Exn
+    )
+}
+
+/// A heap type.
+fn heap_type<R: ReencodeItems>(of: &mut R) -> Result<bool, Error<R::Error>> {
+    both!(
+        of,
+        heap_type(r::HeapType::Exact(ONE)),
+        w::HeapType::Exact(11)
+    )
+}
+
+/// A reference type.
+fn reference<R: ReencodeItems>(of: &mut R) -> Result<bool, Error<R::Error>> {
+    both!(of, ref_type(REFERENCE), WRITTEN)
+}
+
+/// A type of values.
+fn value_type<R: ReencodeItems>(of: &mut R) -> Result<bool, Error<R::Error>> {
+    both!(
+        of,
+        val_type(r::ValType::Ref(REFERENCE)),
+        w::ValType::Ref(WRITTEN)
+    )
+}
+
+/// The type of a block.
+fn block<R: ReencodeItems>(of: &mut R) -> Result<bool, Error<R::Error>> {
+    both!(
+        of,
+        block_type(r::BlockType::FuncType(1)),
+        w::BlockType::FunctionType(11)
+    )
+}
+
+/// A type that is stored.
+fn storage<R: ReencodeItems>(of: &mut R) -> Result<bool, Error<R::Error>> {
+    both!(of, storage_type(r::StorageType::I16), w::StorageType::I16)
+}
+
+/// A field.
+fn field<R: ReencodeItems>(of: &mut R) -> Result<bool, Error<R::Error>> {
+    both!(of, field_type(FIELD), WRITTEN_FIELD)
+}
+
+/// An array.
+fn array<R: ReencodeItems>(of: &mut R) -> Result<bool, Error<R::Error>> {
+    both!(
+        of,
+        array_type(r::ArrayType(FIELD)),
+        w::ArrayType(WRITTEN_FIELD)
+    )
 }
 
 /// The calls on types.
-fn types<R: ReencodeItems + Counts>(of: &mut R) -> Result<[bool; 8], Error<R::Error>> {
+fn types<R: ReencodeItems + Counts>(of: &mut R) -> Result<[bool; 14], Error<R::Error>> {
     Ok([
-        indices_by_methods(of)? == [true; 4],
-        references_by_methods(of)? == [true; 4],
-        fields_by_methods(of)? == [true; 4],
-        indices_by_functions(of)? == [true; 4],
-        references_by_functions(of)? == [true; 4],
-        fields_by_functions(of)? == [true; 4],
+        type_index(of)?,
+        exported_index(of)?,
+        export_kind(of)?,
+        continuation(of)?,
+        abstract_heap_type(of)?,
+        heap_type(of)?,
+        reference(of)?,
+        value_type(of)?,
+        block(of)?,
+        storage(of)?,
+        field(of)?,
+        array(of)?,
         of.asked(Space::Type_) == 16,
         of.asked(Space::Function) == 2,
     ])
@@ -175,74 +220,67 @@ fn function(alloc: Global) -> Result<r::FuncType, NoMemory> {
     })
 }
 
-/// The calls on lists of types as methods.
-fn lists_by_methods<R: ReencodeItems>(
-    of: &mut R,
-    alloc: Global,
-) -> Result<[bool; 3], Error<R::Error>> {
-    let types = of.val_types(alloc, val_types(alloc)?)?;
-    let function = of.func_type(alloc, function(alloc)?)?;
-    Ok([
-        types.as_slice() == [w::ValType::Ref(WRITTEN), w::ValType::F64].as_slice(),
-        function.params.is_empty(),
-        function.results.as_slice() == [w::ValType::I32].as_slice(),
-    ])
+/// Whether these are the types that the list of two becomes.
+fn are_written(types: &[w::ValType]) -> bool {
+    types == [w::ValType::Ref(WRITTEN), w::ValType::F64].as_slice()
 }
 
-/// The calls on structures as methods.
-fn structures_by_methods<R: ReencodeItems>(
-    of: &mut R,
-    alloc: Global,
-) -> Result<[bool; 3], Error<R::Error>> {
-    let fields = of.struct_type(alloc, fields(alloc)?)?.fields;
-    let sub_type = of.sub_type(alloc, structure(alloc)?)?;
-    let composite = of.composite_type(alloc, structure(alloc)?.composite_type)?;
-    Ok([
-        fields.as_slice() == [WRITTEN_FIELD].as_slice(),
-        sub_type.supertype_idxs.as_slice() == [11].as_slice(),
-        composite.shared,
-    ])
+/// A list of types.
+fn value_types<R: ReencodeItems>(of: &mut R, alloc: Global) -> Result<bool, Error<R::Error>> {
+    let by_method = of.val_types(alloc, val_types(alloc)?)?;
+    let by_function = utils::val_types(of, alloc, val_types(alloc)?)?;
+    Ok(are_written(by_method.as_slice()) && are_written(by_function.as_slice()))
 }
 
-/// The calls on lists of types as functions.
-fn lists_by_functions<R: ReencodeItems>(
-    of: &mut R,
-    alloc: Global,
-) -> Result<[bool; 3], Error<R::Error>> {
-    let types = utils::val_types(of, alloc, val_types(alloc)?)?;
-    let function = utils::func_type(of, alloc, function(alloc)?)?;
-    Ok([
-        types.as_slice() == [w::ValType::Ref(WRITTEN), w::ValType::F64].as_slice(),
-        function.params.is_empty(),
-        function.results.as_slice() == [w::ValType::I32].as_slice(),
-    ])
+/// Whether it is what the function becomes.
+fn is_function(ty: &w::FuncType) -> bool {
+    ty.params.is_empty() && ty.results.as_slice() == [w::ValType::I32].as_slice()
 }
 
-/// The calls on structures as functions.
-fn structures_by_functions<R: ReencodeItems>(
-    of: &mut R,
-    alloc: Global,
-) -> Result<[bool; 3], Error<R::Error>> {
-    let fields = utils::struct_type(of, alloc, fields(alloc)?)?.fields;
-    let sub_type = utils::sub_type(of, alloc, structure(alloc)?)?;
-    let composite = utils::composite_type(of, alloc, structure(alloc)?.composite_type)?;
-    Ok([
-        fields.as_slice() == [WRITTEN_FIELD].as_slice(),
-        sub_type.supertype_idxs.as_slice() == [11].as_slice(),
-        composite.shared,
-    ])
+/// A function type.
+fn function_type<R: ReencodeItems>(of: &mut R, alloc: Global) -> Result<bool, Error<R::Error>> {
+    let by_method = of.func_type(alloc, function(alloc)?)?;
+    let by_function = utils::func_type(of, alloc, function(alloc)?)?;
+    Ok(is_function(&by_method) && is_function(&by_function))
+}
+
+/// A structure.
+fn structure_type<R: ReencodeItems>(of: &mut R, alloc: Global) -> Result<bool, Error<R::Error>> {
+    let by_method = of.struct_type(alloc, fields(alloc)?)?.fields;
+    let by_function = utils::struct_type(of, alloc, fields(alloc)?)?.fields;
+    Ok(
+        by_method.as_slice() == [WRITTEN_FIELD].as_slice()
+            && by_function.as_slice() == [WRITTEN_FIELD].as_slice(),
+    )
+}
+
+/// A structure with a supertype.
+fn sub_type<R: ReencodeItems>(of: &mut R, alloc: Global) -> Result<bool, Error<R::Error>> {
+    let by_method = of.sub_type(alloc, structure(alloc)?)?.supertype_idxs;
+    let by_function = utils::sub_type(of, alloc, structure(alloc)?)?.supertype_idxs;
+    Ok(by_method.as_slice() == [11].as_slice() && by_function.as_slice() == [11].as_slice())
+}
+
+/// A composite type.
+fn composite<R: ReencodeItems>(of: &mut R, alloc: Global) -> Result<bool, Error<R::Error>> {
+    let by_method = of
+        .composite_type(alloc, structure(alloc)?.composite_type)?
+        .shared;
+    let by_function = utils::composite_type(of, alloc, structure(alloc)?.composite_type)?.shared;
+    Ok(by_method && by_function)
 }
 
 /// The calls on lists of types, behind those on types.
 fn lists<R: ReencodeItems + Counts>(
     of: &mut R,
     alloc: Global,
-) -> Result<[bool; 5], Error<R::Error>> {
+) -> Result<[bool; 6], Error<R::Error>> {
     Ok([
-        lists_by_methods(of, alloc)? == [true; 3],
-        structures_by_methods(of, alloc)? == [true; 3],
-        lists_by_functions(of, alloc)? == [true; 3],
-        structures_by_functions(of, alloc)? == [true; 3],
+        value_types(of, alloc)?,
+        function_type(of, alloc)?,
+        structure_type(of, alloc)?,
+        sub_type(of, alloc)?,
+        composite(of, alloc)?,
         of.asked(Space::Type_) == 16 + 10,
     ])
 }
@@ -301,29 +339,41 @@ const WRITTEN_TAG: w::TagType = w::TagType {
     func_type_idx: 11,
 };
 
-/// The calls on what is imported as methods.
-fn externals_by_methods<R: ReencodeItems>(of: &mut R) -> Result<[bool; 5], Error<R::Error>> {
-    Ok([
-        of.table_type(TABLE)? == WRITTEN_TABLE,
-        of.memory_type(MEMORY)? == WRITTEN_MEMORY,
-        of.global_type(GLOBAL)? == WRITTEN_GLOBAL,
-        of.tag_kind(r::TagKind::Exception)? == w::TagKind::Exception,
-        of.tag_type(TAG)? == WRITTEN_TAG,
-    ])
+/// A table type.
+fn table<R: ReencodeItems>(of: &mut R) -> Result<bool, Error<R::Error>> {
+    both!(of, table_type(TABLE), WRITTEN_TABLE)
 }
 
-/// The same as functions.
-fn externals_by_functions<R: ReencodeItems>(of: &mut R) -> Result<[bool; 5], Error<R::Error>> {
-    Ok([
-        utils::table_type(of, TABLE)? == WRITTEN_TABLE,
-        utils::memory_type(of, MEMORY) == WRITTEN_MEMORY,
-        utils::global_type(of, GLOBAL)? == WRITTEN_GLOBAL,
-        utils::tag_kind(of, r::TagKind::Exception) == w::TagKind::Exception,
-        utils::tag_type(of, TAG)? == WRITTEN_TAG,
-    ])
+/// A memory type.
+fn memory<R: ReencodeItems>(of: &mut R) -> Result<bool, Error<R::Error>> {
+    both_plain!(of, memory_type(MEMORY), WRITTEN_MEMORY)
 }
 
-/// Whether an import becomes this one.
+/// A global type.
+fn global<R: ReencodeItems>(of: &mut R) -> Result<bool, Error<R::Error>> {
+    both!(of, global_type(GLOBAL), WRITTEN_GLOBAL)
+}
+
+/// A kind of tag.
+fn tag_kind<R: ReencodeItems>(of: &mut R) -> Result<bool, Error<R::Error>> {
+    both_plain!(of, tag_kind(r::TagKind::Exception), w::TagKind::Exception)
+}
+
+/// A tag.
+fn tag<R: ReencodeItems>(of: &mut R) -> Result<bool, Error<R::Error>> {
+    both!(of, tag_type(TAG), WRITTEN_TAG)
+}
+
+/// Whether what is imported becomes this.
+fn entity<R: ReencodeItems>(
+    of: &mut R,
+    read: r::TypeRef,
+    written: w::EntityType,
+) -> Result<bool, Error<R::Error>> {
+    both!(of, entity_type(read), written)
+}
+
+/// Whether each kind of import becomes what it is to.
 fn entities<R: ReencodeItems>(of: &mut R) -> Result<bool, Error<R::Error>> {
     for (read, written) in [
         (r::TypeRef::Func(1), w::EntityType::Function(11)),
@@ -342,7 +392,7 @@ fn entities<R: ReencodeItems>(of: &mut R) -> Result<bool, Error<R::Error>> {
         ),
         (r::TypeRef::Tag(TAG), w::EntityType::Tag(WRITTEN_TAG)),
     ] {
-        if of.entity_type(read)? != written || utils::entity_type(of, read)? != written {
+        if !entity(of, read, written)? {
             return Ok(false);
         }
     }
@@ -350,10 +400,13 @@ fn entities<R: ReencodeItems>(of: &mut R) -> Result<bool, Error<R::Error>> {
 }
 
 /// The calls on what is imported, behind those on lists.
-fn externals<R: ReencodeItems + Counts>(of: &mut R) -> Result<[bool; 4], Error<R::Error>> {
+fn externals<R: ReencodeItems + Counts>(of: &mut R) -> Result<[bool; 7], Error<R::Error>> {
     Ok([
-        externals_by_methods(of)? == [true; 5],
-        externals_by_functions(of)? == [true; 5],
+        table(of)?,
+        memory(of)?,
+        global(of)?,
+        tag_kind(of)?,
+        tag(of)?,
         entities(of)?,
         of.asked(Space::Type_) == 26 + 16,
     ])
@@ -379,37 +432,53 @@ const HANDLE: r::Handle = r::Handle::OnLabel { tag: 3, label: 3 };
 
 const WRITTEN_HANDLE: w::Handle = w::Handle::OnLabel { tag: 33, label: 3 };
 
-/// The calls on parts of immediates as methods.
-fn parts_by_methods<R: ReencodeItems>(of: &mut R) -> Result<[bool; 7], Error<R::Error>> {
-    Ok([
-        of.mem_arg(ACCESS)? == WRITTEN_ACCESS,
-        of.catch(CATCH)? == WRITTEN_CATCH,
-        of.catch(r::Catch::All { label: 3 })? == w::Catch::All { label: 3 },
-        of.handle(HANDLE)? == WRITTEN_HANDLE,
-        of.ordering(r::Ordering::AcqRel)? == w::Ordering::AcqRel,
-        of.ieee32_arg(r::Ieee32(7))? == w::Ieee32(7),
-        of.ieee64_arg(r::Ieee64(7))? == w::Ieee64(7),
-    ])
+/// An access.
+fn access<R: ReencodeItems>(of: &mut R) -> Result<bool, Error<R::Error>> {
+    both!(of, mem_arg(ACCESS), WRITTEN_ACCESS)
 }
 
-/// The same as functions.
-fn parts_by_functions<R: ReencodeItems>(of: &mut R) -> Result<[bool; 7], Error<R::Error>> {
-    Ok([
-        utils::mem_arg(of, ACCESS)? == WRITTEN_ACCESS,
-        utils::catch(of, CATCH)? == WRITTEN_CATCH,
-        utils::catch(of, r::Catch::AllRef { label: 3 })? == w::Catch::AllRef { label: 3 },
-        utils::handle(of, HANDLE)? == WRITTEN_HANDLE,
-        utils::ordering(of, r::Ordering::AcqRel) == w::Ordering::AcqRel,
-        utils::ieee32_arg(of, r::Ieee32(7)) == w::Ieee32(7),
-        utils::ieee64_arg(of, r::Ieee64(7)) == w::Ieee64(7),
-    ])
+/// A clause that catches one tag.
+fn catch<R: ReencodeItems>(of: &mut R) -> Result<bool, Error<R::Error>> {
+    both!(of, catch(CATCH), WRITTEN_CATCH)
+}
+
+/// Clauses that catch all.
+fn catch_all<R: ReencodeItems>(of: &mut R) -> Result<bool, Error<R::Error>> {
+    let by_method = of.catch(r::Catch::All { label: 3 })?;
+    let by_function = utils::catch(of, r::Catch::AllRef { label: 3 })?;
+    Ok(by_method == w::Catch::All { label: 3 } && by_function == w::Catch::AllRef { label: 3 })
+}
+
+/// A handler.
+fn handler<R: ReencodeItems>(of: &mut R) -> Result<bool, Error<R::Error>> {
+    both!(of, handle(HANDLE), WRITTEN_HANDLE)
+}
+
+/// The order of an access.
+fn ordering<R: ReencodeItems>(of: &mut R) -> Result<bool, Error<R::Error>> {
+    both_plain!(of, ordering(r::Ordering::AcqRel), w::Ordering::AcqRel)
+}
+
+/// A number of 32 bits.
+fn four<R: ReencodeItems>(of: &mut R) -> Result<bool, Error<R::Error>> {
+    both_plain!(of, ieee32_arg(r::Ieee32(7)), w::Ieee32(7))
+}
+
+/// A number of 64 bits.
+fn eight<R: ReencodeItems>(of: &mut R) -> Result<bool, Error<R::Error>> {
+    both_plain!(of, ieee64_arg(r::Ieee64(7)), w::Ieee64(7))
 }
 
 /// The calls on parts of immediates.
-fn parts<R: ReencodeItems + Counts>(of: &mut R) -> Result<[bool; 4], Error<R::Error>> {
+fn parts<R: ReencodeItems + Counts>(of: &mut R) -> Result<[bool; 9], Error<R::Error>> {
     Ok([
-        parts_by_methods(of)? == [true; 7],
-        parts_by_functions(of)? == [true; 7],
+        access(of)?,
+        catch(of)?,
+        catch_all(of)?,
+        handler(of)?,
+        ordering(of)?,
+        four(of)?,
+        eight(of)?,
         of.asked(Space::Memory) == 2,
         of.asked(Space::Tag) == 4,
     ])
@@ -621,10 +690,10 @@ fn operators<R: ReencodeItems + Counts>(
 /// Which calls answer what they are to.
 #[derive(Clone, Copy, PartialEq, Debug)]
 struct Answered {
-    types: [bool; 8],
-    lists: [bool; 5],
-    externals: [bool; 4],
-    parts: [bool; 4],
+    types: [bool; 14],
+    lists: [bool; 6],
+    externals: [bool; 7],
+    parts: [bool; 9],
     immediates: [bool; 7],
     operators: [bool; 4],
 }
@@ -649,10 +718,10 @@ fn items(rt: HostRuntime) -> Result<(), NoMemory> {
     let mut renamer = renamer(rt.alloc())?;
     let answers = answers(&mut renamer, rt.alloc()).ok();
     let right = Answered {
-        types: [true; 8],
-        lists: [true; 5],
-        externals: [true; 4],
-        parts: [true; 4],
+        types: [true; 14],
+        lists: [true; 6],
+        externals: [true; 7],
+        parts: [true; 9],
         immediates: [true; 7],
         operators: [true; 4],
     };

@@ -212,26 +212,34 @@ fn maps_by_closures(rt: HostRuntime) -> Result<(), Error<u32>> {
     Ok(())
 }
 
-/// Custom sections and one of the id 99 through the functions and the methods.
-fn custom<R: Reencode>(
+const CUSTOM: r::CustomSection<'_> = r::CustomSection {
+    name: "x",
+    contents: &[0xff],
+};
+
+/// A custom section through the function and the method.
+fn custom<R: Reencode>(reencoder: &mut R, module: &mut w::Module) -> Result<(), Error<R::Error>> {
+    module.section(&utils::custom_section(reencoder, CUSTOM))?;
+    Ok(module.section(&reencoder.custom_section(CUSTOM)?)?)
+}
+
+/// The same where it is added.
+fn added_custom<R: Reencode>(
     reencoder: &mut R,
     alloc: Global,
     module: &mut w::Module,
 ) -> Result<(), Error<R::Error>> {
-    let section = r::CustomSection {
-        name: "x",
-        contents: &[0xff],
-    };
-    module.section(&utils::custom_section(reencoder, section))?;
-    module.section(&reencoder.custom_section(section)?)?;
-    utils::parse_custom_section(reencoder, alloc, module, section)?;
-    reencoder.parse_custom_section(alloc, module, section)?;
-    utils::parse_unknown_section(reencoder, module, 99, &[0xaa])?;
-    reencoder.parse_unknown_section(module, 99, &[0xaa])?;
-    Ok(())
+    utils::parse_custom_section(reencoder, alloc, module, CUSTOM)?;
+    reencoder.parse_custom_section(alloc, module, CUSTOM)
 }
 
-/// Name sections through the functions and the methods.
+/// A section of the id 99 through the function and the method.
+fn unknown<R: Reencode>(reencoder: &mut R, module: &mut w::Module) -> Result<(), Error<R::Error>> {
+    utils::parse_unknown_section(reencoder, module, 99, &[0xaa])?;
+    reencoder.parse_unknown_section(module, 99, &[0xaa])
+}
+
+/// Name sections through the function and the method.
 fn named<R: Reencode>(
     reencoder: &mut R,
     alloc: Global,
@@ -240,14 +248,21 @@ fn named<R: Reencode>(
     let reader = r::NameSectionReader::new(&CONTENTS)?;
     module.section(&utils::custom_name_section(reencoder, alloc, reader, 6)?)?;
     let reader = r::NameSectionReader::new(&CONTENTS)?;
-    module.section(&reencoder.custom_name_section(alloc, reader, 6)?)?;
+    Ok(module.section(&reencoder.custom_name_section(alloc, reader, 6)?)?)
+}
+
+/// A section of subsections, one through the function and one through the method.
+fn subsections_of<R: Reencode>(
+    reencoder: &mut R,
+    alloc: Global,
+    module: &mut w::Module,
+) -> Result<(), Error<R::Error>> {
     let mut section = w::NameSection::new(alloc, 6);
     let name = r::Name::Tag(r::NameMap::new(&NAMES));
     utils::parse_custom_name_subsection(reencoder, alloc, &mut section, name)?;
     let name = r::Name::Field(r::IndirectNameMap::new(&INDIRECT));
     reencoder.parse_custom_name_subsection(alloc, &mut section, name)?;
-    module.section(&section)?;
-    Ok(())
+    Ok(module.section(&section)?)
 }
 
 /// Modules of custom sections, and of name sections.
@@ -256,9 +271,12 @@ fn modules<R: Reencode>(
     alloc: Global,
 ) -> Result<(w::Module, w::Module), Error<R::Error>> {
     let mut of_custom = w::Module::new(alloc, u32::MAX)?;
-    custom(reencoder, alloc, &mut of_custom)?;
+    custom(reencoder, &mut of_custom)?;
+    added_custom(reencoder, alloc, &mut of_custom)?;
+    unknown(reencoder, &mut of_custom)?;
     let mut of_names = w::Module::new(alloc, u32::MAX)?;
     named(reencoder, alloc, &mut of_names)?;
+    subsections_of(reencoder, alloc, &mut of_names)?;
     Ok((of_custom, of_names))
 }
 
