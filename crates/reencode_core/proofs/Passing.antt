@@ -17,7 +17,8 @@ use Rattle.wasm_shapes.specs.declared.Visit.{Visit}
 use Rattle.wasm_shapes.specs.declared.Visit.TheVariants.{Index}
 use Rattle.wasm_shapes.specs.Operators.{code_of, is_code, is_prefix, kinds_of, look_up, one_byte_operators, plain}
 use Rattle.wasm_shapes.proofs.TableRows.{code_is}
-use Rattle.wasm_shapes.specs.Shape.{Named, Shape, block_type, shape_of, shape_of_kind, shape_of_kinds, shape_of_row}
+use Rattle.wasm_shapes.specs.Shape.{Named, Shape, block_type, shape_of_kind, shape_of_kinds, shape_of_row}
+use Rattle.wasm_shapes.specs.NamedShapes.{shape_of}
 use Rattle.wasm_shapes.specs.Tree.{Tree, code_bytes, normal}
 use Rattle.wasm_shapes.specs.Spells.{Is, Spelled}
 use Rattle.wasm_shapes.specs.Place.{Begins}

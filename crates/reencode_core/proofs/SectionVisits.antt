@@ -14,7 +14,8 @@ use Rattle.wasm_shapes.specs.declared.Visit.TheVariants.{Index, Section, Pop}
 use Rattle.wasm_shapes.specs.Operators.{kinds_among}
 use Rattle.wasm_shapes.specs.Tree as trees
 use Rattle.wasm_shapes.specs.Tree.{Tree, Listed, normal, visits, visits_from, before}
-use Rattle.wasm_shapes.specs.Shape.{Shape, Named, shape_of, shape_of_kind, shape_of_kinds, shape_of_row, listing}
+use Rattle.wasm_shapes.specs.Shape.{Shape, Named, flat, shape_of_kind, shape_of_kinds, shape_of_row, listing}
+use Rattle.wasm_shapes.specs.NamedShapes.{shape_of}
 use Rattle.wasm_shapes.specs.Spells.{Is, Spelled, Spells}
 use Rattle.wasm_shapes.specs.SectionTable.{number}
 use Rattle.wasm_shapes.specs.Module.{in_force, section, sections, core_header, alsos, CoreReading, InFrame}
@@ -25,7 +26,7 @@ use Rattle.reencode_core.specs.SectionVisits.{HasSections, kind_of_id, kind_of_t
 
 -- ---- no sections stand within a section
 
--- no sections stand in it; nor do they in a named shape, or in the immediates of an operator
+-- no sections stand in it; nor do they in the immediates of an operator
 abbrev sectionless : Shape → Bool
 sectionless (Shape.seq a b) = sectionless a && sectionless b
 sectionless (Shape.swap a b) = sectionless a && sectionless b
@@ -41,13 +42,15 @@ sectionless (Shape.until b a) = sectionless a
 sectionless (Shape.active w a r b) = sectionless a && (sectionless r && sectionless b)
 sectionless (Shape.placed a b) = sectionless a && sectionless b
 sectionless (Shape.by_name n a) = sectionless a
+sectionless (Shape.begun fs a) = sectionless a
 sectionless (Shape.told k a) = sectionless a
 sectionless (Shape.sections a) = false
+sectionless (Shape.ref n) = flat n
 sectionless _ = true
 
-named_sectionless : (n : Named) → sectionless (shape_of n) ≡ true
-named_sectionless Named.value = refl
-named_sectionless _ = refl
+named_sectionless : (n : Named) → flat n ≡ true → sectionless (shape_of n) ≡ true
+named_sectionless Named.nested h = absurd cc
+named_sectionless _ h = refl
 
 kind_sectionless : (k : ImmKind) → sectionless (shape_of_kind k) ≡ true
 kind_sectionless kind.Block = refl
@@ -79,7 +82,7 @@ none_within (Is.present d) h = none_within d h
 none_within (Is.sized d) h = none_within d h
 none_within (Is.first {a = a} {b = b} d) h = none_within d (both (sectionless a) (sectionless b) h).0
 none_within (Is.later {a = a} {b = b} d) h = none_within d (both (sectionless a) (sectionless b) h).1
-none_within (Is.ref {n = n} d) h = none_within d (named_sectionless n)
+none_within (Is.ref {n = n} d) h = none_within d (named_sectionless n h)
 none_within (Is.scope {t = t} d) h = none_of_both (visits t) (Pop ∷ []) (none_within d h) refl
 none_within (Is.spare {a = a} {c = c} d) h = none_within d (both (sectionless a) (sectionless c) h).0
 none_within (Is.kept {a = a} {c = c} d) h = none_within d (both (sectionless a) (sectionless c) h).1
@@ -96,6 +99,7 @@ none_within (Is.aimed {w = w} {a = a} {r = r} {b = b} {i = i} {o = o} {t = t} d 
 none_within (Is.placed {a = a} {b = b} {o = o} {t = t} d e) h =
     let p = both (sectionless a) (sectionless b) h in none_of_both (visits o) (visits t) (none_within d p.0) (none_within e p.1)
 none_within (Is.named d) h = none_within d h
+none_within (Is.led d) h = none_within d h
 none_within (Is.told d) h = none_within d h
 none_within Is.finish h = absurd cc
 none_within (Is.also d e) h = absurd cc

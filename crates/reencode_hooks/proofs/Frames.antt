@@ -6,7 +6,8 @@ use Rattle.wasm_shapes.specs.declared.ImmKind.{ImmKind}
 use Rattle.wasm_shapes.specs.declared.ImmKind.TheVariants as kind
 use Rattle.wasm_shapes.specs.Operators.{kinds_among}
 use Rattle.wasm_shapes.specs.Tree.{Tree, Listed, frames, normal}
-use Rattle.wasm_shapes.specs.Shape.{Shape, Named, shape_of, shape_of_kind, shape_of_kinds, shape_of_row, listing}
+use Rattle.wasm_shapes.specs.Shape.{Shape, Named, flat, shape_of_kind, shape_of_kinds, shape_of_row, listing}
+use Rattle.wasm_shapes.specs.NamedShapes.{shape_of}
 use Rattle.wasm_shapes.specs.Spells.{Is}
 use Rattle.wasm_shapes.proofs.Lists.{both}
 use Rattle.wasm_shapes.proofs.ReadBack.{fill_is}
@@ -14,9 +15,13 @@ use Rattle.reencode_hooks.specs.Moments.{closings}
 use Rattle.reencode_hooks.specs.Frames as statements
 use Rattle.reencode_hooks.specs.Frames.{unframed, in_order}
 
-named_unframed : (n : Named) → unframed (shape_of n) ≡ true
-named_unframed Named.value = refl
-named_unframed _ = refl
+named_unframed : (n : Named) → flat n ≡ true → unframed (shape_of n) ≡ true
+named_unframed Named.nested h = absurd (false≢true h)
+named_unframed _ h = refl
+
+named_in_order : (n : Named) → in_order (shape_of n) ≡ true
+named_in_order Named.value = refl
+named_in_order _ = refl
 
 kind_unframed : (k : ImmKind) → unframed (shape_of_kind k) ≡ true
 kind_unframed kind.Block = refl
@@ -84,7 +89,7 @@ unframed_is (Is.present d) k = let e = unframed_is d k in leaf_bare e.none e.clo
 unframed_is (Is.sized d) k = absurd (false≢true k)
 unframed_is (Is.first {a = a} {b = b} d) k = let e = unframed_is d (both (unframed a) (unframed b) k).0 in leaf_bare e.none e.closes
 unframed_is (Is.later {a = a} {b = b} d) k = let e = unframed_is d (both (unframed a) (unframed b) k).1 in leaf_bare e.none e.closes
-unframed_is (Is.ref {n = n} d) k = unframed_is d (named_unframed n)
+unframed_is (Is.ref {n = n} d) k = unframed_is d (named_unframed n k)
 unframed_is (Is.scope d) k = let e = unframed_is d k in leaf_bare e.none e.closes
 unframed_is (Is.spare {a = a} {c = c} d) k = let e = unframed_is d (both (unframed a) (unframed c) k).0 in leaf_bare e.none e.closes
 unframed_is (Is.kept {a = a} {c = c} d) k = let e = unframed_is d (both (unframed a) (unframed c) k).1 in leaf_bare e.none e.closes
@@ -103,6 +108,8 @@ unframed_is (Is.placed {a = a} {b = b} {o = o} {t = t} d d') k =
     let p = both (unframed a) (unframed b) k in let e = bare_two o t (unframed_is d p.0) (unframed_is d' p.1) in leaf_bare e.0 e.1
 unframed_is (Is.named d) k = let e = unframed_is d k in leaf_bare e.none e.closes
 unframed_is (Is.other o) k = leaf_bare refl refl
+unframed_is (Is.led d) k = let e = unframed_is d k in leaf_bare e.none e.closes
+unframed_is (Is.not_led o) k = leaf_bare refl refl
 unframed_is (Is.told d) k = let e = unframed_is d k in leaf_bare e.none e.closes
 unframed_is Is.finish k = leaf_bare refl refl
 unframed_is (Is.also {t = t} {u = u} d d') k = let e = bare_two t u (unframed_is d k) (unframed_is d' k) in leaf_bare e.0 e.1
@@ -152,7 +159,7 @@ in_order_is (Is.present d) k = level (in_order_is d k).is
 in_order_is (Is.sized {t = t} d) k = level (ap (λ (z : List ℕ). z ++ (length (normal t) ∷ [])) (in_order_is d k).is)
 in_order_is (Is.first {a = a} {b = b} d) k = level (in_order_is d (both (in_order a) (in_order b) k).0).is
 in_order_is (Is.later {a = a} {b = b} d) k = level (in_order_is d (both (in_order a) (in_order b) k).1).is
-in_order_is (Is.ref {n = n} d) k = level_of_bare (unframed_is d (named_unframed n))
+in_order_is (Is.ref {n = n} d) k = level (in_order_is d (named_in_order n)).is
 in_order_is (Is.scope d) k = level (in_order_is d k).is
 in_order_is (Is.spare {a = a} {c = c} d) k = level (in_order_is d (both (in_order a) (in_order c) k).0).is
 in_order_is (Is.kept {a = a} {c = c} d) k = level (in_order_is d (both (in_order a) (in_order c) k).1).is
@@ -166,6 +173,8 @@ in_order_is (Is.placed {a = a} {b = b} {o = o} {t = t} d d') k =
     let p = both (in_order a) (in_order b) k in level (level_two o t (in_order_is d p.0) (in_order_is d' p.1))
 in_order_is (Is.named d) k = level (in_order_is d k).is
 in_order_is (Is.other o) k = level refl
+in_order_is (Is.led d) k = level (in_order_is d k).is
+in_order_is (Is.not_led o) k = level refl
 in_order_is (Is.told d) k = level (in_order_is d k).is
 in_order_is Is.finish k = level refl
 in_order_is (Is.also {t = t} {u = u} d d') k = level (level_two t u (in_order_is d k) (in_order_is d' k))
@@ -174,4 +183,5 @@ pub frames_in_order : statements.FramesAreInOrder
 frames_in_order = record {
   filled = λ s bytes t given k p. (in_order_is (fill_is p.shaped given) k).is;
   core = refl;
+  component = refl;
 }

@@ -2,7 +2,8 @@
 use Rattle.std.proofs.Common.{◌≡◌, ◌≢◌, ℕ, ◌<◌, List, ◌∷◌, refl, false, arith}
 use Rattle.std.proofs.lemmas.Bool.Decides.{nat_tests}
 use Rattle.wasm_leb.specs.Place.{BeginsNumber, BeginsNoNumber}
-use Rattle.wasm_shapes.specs.Shape.{Shape, Named, shape_of}
+use Rattle.wasm_shapes.specs.Shape.{Shape, Named}
+use Rattle.wasm_shapes.specs.NamedShapes.{shape_of}
 use Rattle.wasm_shapes.specs.Sound.{contains, first_bytes}
 use Rattle.wasm_shapes.specs.Place.{Begins, BeginsNone}
 use Rattle.wasm_shapes.proofs.Begins.{begins_ref, begins_row, begins_seq, begins_byte, begins_ix, none_here, none_ref, none_choice, none_lead, none_seq_second, none_ix, none_by_front}

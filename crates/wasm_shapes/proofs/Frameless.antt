@@ -4,13 +4,14 @@ use Rattle.wasm_shapes.specs.declared.ImmKind.{ImmKind}
 use Rattle.wasm_shapes.specs.declared.ImmKind.TheVariants as kind
 use Rattle.wasm_shapes.specs.Operators.{kinds_among}
 use Rattle.wasm_shapes.specs.Tree.{Tree, Listed, frames, normal}
-use Rattle.wasm_shapes.specs.Shape.{Named, Shape, shape_of, shape_of_kind, shape_of_kinds, shape_of_row, listing}
+use Rattle.wasm_shapes.specs.Shape.{Named, Shape, flat, shape_of_kind, shape_of_kinds, shape_of_row, listing}
+use Rattle.wasm_shapes.specs.NamedShapes.{shape_of}
 use Rattle.wasm_shapes.specs.Spells.{Is, Spells}
 use Rattle.wasm_shapes.specs.Fits.{InRange, Fits}
 use Rattle.wasm_shapes.proofs.Lists.{both}
 use Rattle.wasm_shapes.proofs.ReadBack.{read_back}
 
--- no sized body stands in it; what it names has none, and immediates have none
+-- no sized body stands in it; what it names has none but where it is a frame, and immediates have none
 abbrev pub frameless : Shape → Bool
 frameless (Shape.seq a b) = frameless a && frameless b
 frameless (Shape.swap a b) = frameless a && frameless b
@@ -26,13 +27,15 @@ frameless (Shape.until b a) = frameless a
 frameless (Shape.active w a r b) = frameless a && (frameless r && frameless b)
 frameless (Shape.placed a b) = frameless a && frameless b
 frameless (Shape.by_name n a) = frameless a
+frameless (Shape.begun fs a) = frameless a
 frameless (Shape.told k a) = frameless a
 frameless (Shape.sections a) = frameless a
+frameless (Shape.ref n) = flat n
 frameless _ = true
 
-named_frameless : (n : Named) → frameless (shape_of n) ≡ true
-named_frameless Named.value = refl
-named_frameless _ = refl
+named_frameless : (n : Named) → flat n ≡ true → frameless (shape_of n) ≡ true
+named_frameless Named.nested h = absurd cc
+named_frameless _ h = refl
 
 kind_frameless : (k : ImmKind) → frameless (shape_of_kind k) ≡ true
 kind_frameless kind.Block = refl
@@ -62,7 +65,7 @@ no_frames (Is.present d) h = no_frames d h
 no_frames (Is.sized d) h = absurd cc
 no_frames (Is.first {a = a} {b = b} d) h = no_frames d (both (frameless a) (frameless b) h).0
 no_frames (Is.later {a = a} {b = b} d) h = no_frames d (both (frameless a) (frameless b) h).1
-no_frames (Is.ref {n = n} d) h = no_frames d (named_frameless n)
+no_frames (Is.ref {n = n} d) h = no_frames d (named_frameless n h)
 no_frames (Is.scope d) h = no_frames d h
 no_frames (Is.spare {a = a} {c = c} d) h = no_frames d (both (frameless a) (frameless c) h).0
 no_frames (Is.kept {a = a} {c = c} d) h = no_frames d (both (frameless a) (frameless c) h).1
@@ -77,6 +80,7 @@ no_frames (Is.aimed {w = w} {a = a} {r = r} {b = b} d e) h =
     none_of_both (no_frames d p.0) (no_frames e (listing_frameless w r b p.1))
 no_frames (Is.placed {a = a} {b = b} d e) h = let p = both (frameless a) (frameless b) h in none_of_both (no_frames d p.0) (no_frames e p.1)
 no_frames (Is.named d) h = no_frames d h
+no_frames (Is.led d) h = no_frames d h
 no_frames (Is.told d) h = no_frames d h
 no_frames (Is.also d e) h = none_of_both (no_frames d h) (no_frames e h)
 no_frames _ h = refl

@@ -5,7 +5,8 @@ use Rattle.wasm_leb.specs.Leb.{IsLeb, IsUnsigned}
 use Rattle.wasm_leb.proofs.Unique.{leb_fills, leb_front, signed_fills, signed_front}
 use Rattle.wasm_shapes.specs.Operators.{Code, plain, prefixed, is_code, Operators, look_up, one_byte_operators}
 use Rattle.wasm_shapes.specs.Tree.{Tree, count, left_flag, aimed_flag, kind_bytes}
-use Rattle.wasm_shapes.specs.Shape.{Shape, Named, shape_of, immediates, shape_of_row}
+use Rattle.wasm_shapes.specs.Shape.{Shape, Named, immediates, shape_of_row}
+use Rattle.wasm_shapes.specs.NamedShapes.{shape_of}
 use Rattle.wasm_shapes.specs.Sound.{Front, contains, apart_from, apart, nullable, operators_front, front_with, front_of, flag_front, is_known}
 use Rattle.wasm_shapes.specs.Spells.{Is, Spelled, SpelledCode, SpelledPlace}
 use Rattle.wasm_shapes.proofs.Lists.{both, either, or_left, or_right, first_byte, no_bytes}
@@ -124,6 +125,8 @@ nullable_sound (Is.named d) x p e =
 nullable_sound (Is.other o) x p e =
     let none : (p.0 ≡ []) × (p.1 ≡ []) = no_bytes p.0 p.1 (sym p.2 ∙ e) in
     absurd (leb_fills 128 p.3.0 _ p.3.2.spelled (no_bytes p.3.0 _ (sym p.3.1 ∙ none.0)).0)
+nullable_sound (Is.led d) x p e = refl
+nullable_sound (Is.not_led o) x p e = refl
 nullable_sound (Is.told d) x p e = nullable_sound d x p e
 nullable_sound Is.finish x p e = refl
 nullable_sound (Is.also d d') x p e = refl
@@ -294,6 +297,8 @@ front_sound (Is.placed {i = i} d d') deep x b r p e =
     ]
 front_sound (Is.named d) deep x b r p e = named_front x p.0 p.1 p.3.0 _ _ b r p.2 p.3.1 p.3.2.spelled e
 front_sound (Is.other o) deep x b r p e = named_front x p.0 p.1 p.3.0 _ _ b r p.2 p.3.1 p.3.2.spelled e
+front_sound (Is.led d) deep x b r p e = refl
+front_sound (Is.not_led o) deep x b r p e = refl
 front_sound (Is.told d) deep x b r p e = front_sound d deep x b r p e
 front_sound Is.finish deep x b r p e = absurd cc
 front_sound (Is.also d d') deep x b r p e =

@@ -1,4 +1,8 @@
 pub mod Begins
+pub mod ComponentFrames
+pub mod ComponentLaws
+pub mod ComponentParts
+pub mod Depth
 pub mod Expressions
 pub mod Frameless
 pub mod Framing
@@ -7,11 +11,16 @@ pub mod SectionTable
 pub mod Laws
 pub mod Lists
 pub mod Namings
+pub mod Nested
 pub mod OperatorRows
 pub mod Operations
 pub mod OwnAnswers
 pub mod Parts
 pub mod ReadBack
 pub mod Rows
+pub mod Scopes
 pub mod TableRows
 pub mod Unique
+pub mod Unscoped
+pub mod Worked
+pub mod WorkedRows

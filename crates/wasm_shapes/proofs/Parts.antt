@@ -1,7 +1,8 @@
 -- What bytes begin with: parts that are visited in the other order, rows among others, and bytes that may be left out.
 use Rattle.std.proofs.Common.{◌≡◌, ◌≢◌, ℕ, zero, suc, List, [], ◌∷◌, ◌++◌, refl, sym, ap, ◌∙◌, append_assoc, inl, inr, ◌⊎◌, arith}
 use Rattle.wasm_shapes.specs.Tree.{Tree, count}
-use Rattle.wasm_shapes.specs.Shape.{Shape, Named, shape_of, choice, rows_and, lead}
+use Rattle.wasm_shapes.specs.Shape.{Shape, Named, choice, rows_and, lead}
+use Rattle.wasm_shapes.specs.NamedShapes.{shape_of}
 use Rattle.wasm_shapes.specs.Spells.{Is, Spelled}
 use Rattle.wasm_shapes.specs.Place.{Begins, BeginsNone}
 

@@ -354,6 +354,8 @@ fill_is (Is.aimed {t = t} d d') answers = Is.aimed (fill_is d (drop 1 (after t a
 fill_is (Is.placed {o = o} d d') answers = Is.placed (fill_is d (drop 1 answers)) (fill_is d' (after o (drop 1 answers)))
 fill_is (Is.named {n = n} d) answers = Is.named (fill_is d (after (Tree.name n) answers))
 fill_is (Is.other o) answers = Is.other o
+fill_is (Is.led d) answers = Is.led (fill_is d answers)
+fill_is (Is.not_led o) answers = Is.not_led o
 fill_is (Is.told d) answers = Is.told (fill_is d answers)
 fill_is Is.finish answers = Is.finish
 fill_is (Is.also {t = t} d d') answers =

@@ -1,15 +1,17 @@
 -- Bytes have one reading, and no spelling of a closed shape begins another.
-use Rattle.std.proofs.Common.{◌≡◌, ℕ, zero, suc, ◌+◌, ◌<◌, List, [], ◌∷◌, ◌++◌, length, Bool, true, false, not, ◌&&◌, refl, sym, ap, ap₂, ◌∙◌, append_assoc, append-nil, arith, ◌⊎◌, inl, inr, subst, Option, Some, None}
+use Rattle.std.proofs.Common.{◌≡◌, ℕ, zero, suc, ◌+◌, ◌<◌, List, [], ◌∷◌, ◌++◌, length, Bool, true, false, not, ◌&&◌, ◌||◌, nat_eq, if◌then◌else◌, refl, sym, ap, ap₂, ◌∙◌, append_assoc, append-nil, arith, ◌⊎◌, inl, inr, subst, Option, Some, None}
+use Rattle.std.proofs.lemmas.Bool.{false≢true}
 use Rattle.wasm_leb.proofs.Unique.{unsigned_unique, signed_index_unique, signed_unique}
 use Rattle.wasm_shapes.specs.declared.Space.TheVariants as space
 use Rattle.wasm_shapes.specs.declared.ImmKind.{ImmKind}
 use Rattle.wasm_shapes.specs.declared.ImmKind.TheVariants as kind
 use Rattle.wasm_shapes.specs.Operators.{Code, plain, prefixed, is_code, is_prefix, kinds_among}
 use Rattle.wasm_shapes.specs.Tree.{Tree, count, Listed, left_flag, aimed_flag, kind_bytes}
-use Rattle.wasm_shapes.specs.Shape.{Shape, Named, shape_of, closed, listing, immediates, shape_of_kind, shape_of_kinds, shape_of_row}
-use Rattle.wasm_shapes.specs.Sound.{Front, apart, nullable, first_bytes, deepest, flag_front, is_known, contains, bytes_apart, flags_apart, rows_apart, free_of, sound}
+use Rattle.wasm_shapes.specs.Shape.{Shape, Named, begins_with, begins_with_one, closed, listing, immediates, shape_of_kind, shape_of_kinds, shape_of_row}
+use Rattle.wasm_shapes.specs.NamedShapes.{shape_of}
+use Rattle.wasm_shapes.specs.Sound.{Front, apart, nullable, first_bytes, deepest, flag_front, is_known, contains, bytes_apart, flags_apart, rows_apart, free_of, behind_byte, has_empty, led_by, sound}
 use Rattle.wasm_shapes.specs.Spells.{Is, Spelled, SpelledCode, SpelledPlace}
-use Rattle.wasm_shapes.proofs.Lists.{both, either, spelled_out, same_length, two_parts, no_bytes}
+use Rattle.wasm_shapes.proofs.Lists.{both, either, or_left, or_right, spelled_out, same_length, two_parts, no_bytes}
 use Rattle.wasm_shapes.proofs.Fronts.{flag_sound, front_sound, nullable_sound, apart_sound, within}
 
 pub named_sound : (n : Named) → sound (shape_of n) ≡ true
@@ -122,6 +124,54 @@ none_counted Is.nil Is.nil k l p q = (p, q, refl)
 none_counted (Is.cons {u = u} d d') f k l p q = let some : suc (count u) ≡ 0 = k in absurd (omega arith)
 none_counted Is.nil (Is.cons {u = u} f f') k l p q = let some : suc (count u) ≡ 0 = l in absurd (omega arith)
 
+-- ---- tests
+
+and_three : (p q r : Bool) → p ≡ true → q ≡ true → r ≡ true → (p && q && r) ≡ true
+and_three true true r e f g = g
+and_three true false r e f g = absurd cc
+and_three false q r e f g = absurd cc
+
+and_two : (p q : Bool) → p ≡ true → q ≡ true → (p && q) ≡ true
+and_two true q e f = f
+and_two false q e f = absurd cc
+
+-- ---- bytes that begin with one of some texts
+
+empty_begins : (fs : List (List ℕ)) (x : List ℕ) → has_empty fs ≡ true → begins_with_one fs x ≡ true
+empty_begins [] x h = absurd cc
+empty_begins ([] ∷ fs) x h = refl
+empty_begins ((c ∷ f) ∷ fs) x h = or_right (begins_with (c ∷ f) x) (begins_with_one fs x) (empty_begins fs x h)
+
+behind_begins : (b : ℕ) (fs : List (List ℕ)) (x : List ℕ) → begins_with_one (behind_byte b fs) x ≡ true → begins_with_one fs (b ∷ x) ≡ true
+behind_begins b [] x h = absurd cc
+behind_begins b ([] ∷ fs) x h = refl
+behind_begins b ((c ∷ f) ∷ fs) x h = go (nat_eq c b) refl h (behind_begins b fs x)
+  where
+    go : (same : Bool) → nat_eq c b ≡ same → begins_with_one (if same then f ∷ behind_byte b fs else behind_byte b fs) x ≡ true →
+        (begins_with_one (behind_byte b fs) x ≡ true → begins_with_one fs (b ∷ x) ≡ true) → ((nat_eq c b && begins_with f x) || begins_with_one fs (b ∷ x)) ≡ true
+    go true e h others = elim (either (begins_with f x) (begins_with_one (behind_byte b fs) x) h) [
+      | inl here ↦ or_left (nat_eq c b && begins_with f x) (begins_with_one fs (b ∷ x)) (and_two (nat_eq c b) (begins_with f x) e here)
+      | inr there ↦ or_right (nat_eq c b && begins_with f x) (begins_with_one fs (b ∷ x)) (others there)
+    ]
+    go false e h others = or_right (nat_eq c b && begins_with f x) (begins_with_one fs (b ∷ x)) (others h)
+
+led_begins : {s : Shape} {t : Tree} → Is s t → (fs : List (List ℕ)) (x : List ℕ) → led_by fs s ≡ true → Spelled t x → begins_with_one fs x ≡ true
+led_begins (Is.seq {a = Shape.fixed c} {b = s} Is.fixed d) fs x h p =
+    elim (either (has_empty fs) (led_by (behind_byte c fs) s) h) [
+      | inl here ↦ empty_begins fs x here
+      | inr there ↦
+          let out : x ≡ c ∷ p.1 = p.2 ∙ ap (λ (z : List ℕ). z ++ p.1) p.3 in
+          ap (begins_with_one fs) out ∙ behind_begins c fs p.1 (led_begins d (behind_byte c fs) p.1 there p.4)
+    ]
+led_begins (Is.first {a = a} {b = b} d) fs x h p = led_begins d fs x (both (led_by fs a) (led_by fs b) h).0 p
+led_begins (Is.later {a = a} {b = b} d) fs x h p = led_begins d fs x (both (led_by fs a) (led_by fs b) h).1 p
+led_begins _ fs x h p = empty_begins fs x h
+
+led_apart : {s : Shape} {t : Tree} → Is s t → (fs : List (List ℕ)) (x bs : List ℕ) → led_by fs s ≡ true → Spelled t x → begins_with_one fs bs ≡ false → x ≡ bs → ⊥
+led_apart d fs x bs h p o e =
+    let yes : begins_with_one fs bs ≡ true = ap (begins_with_one fs) (sym e) ∙ led_begins d fs x h p in
+    false≢true (sym o ∙ yes)
+
 -- ---- operators
 
 code_unique : (c d : Code) (x y a b : List ℕ) → is_code c ≡ true → is_code d ≡ true → SpelledCode c x → SpelledCode d y → x ++ a ≡ y ++ b → (x ≡ y) × (c ≡ d)
@@ -154,15 +204,6 @@ code_unique (prefixed c n) (prefixed d m) x y a b k l p q e =
 kind_sound : (k : ImmKind) → (sound (shape_of_kind k) ≡ true) × (closed (shape_of_kind k) ≡ true)
 kind_sound kind.Block = (refl, refl)
 kind_sound _ = (refl, refl)
-
-and_three : (p q r : Bool) → p ≡ true → q ≡ true → r ≡ true → (p && q && r) ≡ true
-and_three true true r e f g = g
-and_three true false r e f g = absurd cc
-and_three false q r e f g = absurd cc
-
-and_two : (p q : Bool) → p ≡ true → q ≡ true → (p && q) ≡ true
-and_two true q e f = f
-and_two false q e f = absurd cc
 
 kinds_sound : (ks : List ImmKind) → (sound (shape_of_kinds ks) ≡ true) × (closed (shape_of_kinds ks) ≡ true)
 kinds_sound [] = (refl, refl)
@@ -592,6 +633,18 @@ mutual
       (name_unique bs bs' p.0 q.0 (p.1 ++ a) (q.1 ++ b) p.3 q.3)
       (λ l m. let rest : p.1 ≡ q.1 = no_ends p.1 q.1 a b m h in (rest, ap Tree.raw (sym p.4 ∙ rest ∙ q.4))) e in
       (same.0, ap₂ Tree.pair same.1 same.2)
+  unique (Is.led d) (Is.led f) x y a b k (inl h) p q e = absurd cc
+  unique (Is.led {fs = fs} {a = r} d) (Is.led f) x y a b k (inr h) p q e = unique d f x y a b (both (led_by fs r) (sound r) k).1 (inr h) p q e
+  unique (Is.led d) (Is.not_led o) x y a b k (inl h) p q e = absurd cc
+  unique (Is.led {fs = fs} {a = r} d) (Is.not_led o) x y a b k (inr h) p q e =
+      absurd (led_apart d fs x _ (both (led_by fs r) (sound r) k).0 p o (no_ends x y a b e h ∙ q))
+  unique (Is.not_led o) (Is.led f) x y a b k (inl h) p q e = absurd cc
+  unique (Is.not_led {fs = fs} {a = r} o) (Is.led f) x y a b k (inr h) p q e =
+      absurd (led_apart f fs y _ (both (led_by fs r) (sound r) k).0 q o (sym (no_ends x y a b e h) ∙ p))
+  unique (Is.not_led o) (Is.not_led o') x y a b k (inl h) p q e = absurd cc
+  unique (Is.not_led o) (Is.not_led o') x y a b k (inr h) p q e =
+      let same : x ≡ y = no_ends x y a b e h in
+      (same, ap Tree.raw (sym p ∙ same ∙ q))
   unique (Is.told {k = id} {t = t} d) (Is.told {t = t'} f) x y a b k h p q e =
       let same : (x ≡ y) × (t ≡ t') = unique d f x y a b k h p q e in
       (same.0, ap (λ (w : Tree). Tree.told id w) same.1)

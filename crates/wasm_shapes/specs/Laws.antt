@@ -1,7 +1,8 @@
 -- The laws of spelling.
 use Rattle.std.specs.Prelude.{◌≡◌, ℕ, ◌^◌, ◌-◌, ◌<◌, List, ◌++◌, get_or, true}
 use Rattle.wasm_shapes.specs.Tree.{Tree, normal, fill}
-use Rattle.wasm_shapes.specs.Shape.{Shape, Named, shape_of, closed}
+use Rattle.wasm_shapes.specs.Shape.{Shape, Named, closed}
+use Rattle.wasm_shapes.specs.NamedShapes.{shape_of}
 use Rattle.wasm_shapes.specs.Sound.{sound}
 use Rattle.wasm_shapes.specs.Spells.{Spells}
 use Rattle.wasm_shapes.specs.Fits.{Fits}

@@ -1,9 +1,14 @@
 pub mod CodeSize
+pub mod Component
+pub mod ComponentLaws
+pub mod ComponentReadings
+pub mod Depth
 pub mod Fits
 pub mod Immediates
 pub mod SectionTable
 pub mod Laws
 pub mod Module
+pub mod NamedShapes
 pub mod Names
 pub mod Namings
 pub mod OperatorRows
@@ -11,6 +16,8 @@ pub mod Operators
 pub mod Own
 pub mod Place
 pub mod Rows
+pub mod Scopes
+pub mod Sections
 pub mod Shape
 pub mod Sound
 pub mod Spells

@@ -1,5 +1,5 @@
 -- The shapes of the tables.
-use Rattle.std.specs.Prelude.{ℕ, ◌+◌, List, [], ◌∷◌, Bool, true, false, ◌&&◌, Option, Some, None}
+use Rattle.std.specs.Prelude.{ℕ, ◌+◌, List, [], ◌∷◌, Bool, true, false, ◌&&◌, ◌||◌, nat_eq, Option, Some, None}
 use Rattle.wasm_shapes.specs.declared.SectionId.{SectionId}
 use Rattle.wasm_shapes.specs.declared.Space.{Space}
 use Rattle.wasm_shapes.specs.declared.Space.TheVariants as space
@@ -11,6 +11,13 @@ use Rattle.wasm_shapes.specs.Tree.{Listed}
 -- the shapes that others name
 pub data Named : Type 0 where
   value composite sub group item expression : Named
+  -- those of components: the last one is a component in its frame
+  component_value core_type component_type alias type_ref nested : Named
+
+-- neither a frame nor a section stands in it
+abbrev pub flat : Named → Bool
+flat Named.nested = false
+flat _ = true
 
 pub data Shape : Type 0 where
   -- ---- leaves
@@ -58,6 +65,8 @@ pub data Shape : Type 0 where
   placed : Shape → Shape → Shape
   -- a name, and the shape where it is this one, or else any bytes
   by_name : List ℕ → Shape → Shape
+  -- the shape where the bytes begin with one of these texts, or else any bytes
+  begun : List (List ℕ) → Shape → Shape
   told : SectionId → Shape → Shape
   sections : Shape → Shape
 
@@ -72,6 +81,16 @@ choice (s ∷ ss) = Shape.or s (choice ss)
 
 abbrev pub lead : ℕ → Shape → Shape
 lead b s = Shape.seq (Shape.fixed b) s
+
+-- a list begins with a text, and with one of some texts
+abbrev pub begins_with : List ℕ → List ℕ → Bool
+begins_with [] xs = true
+begins_with (f ∷ fs) [] = false
+begins_with (f ∷ fs) (x ∷ xs) = nat_eq f x && begins_with fs xs
+
+abbrev pub begins_with_one : List (List ℕ) → List ℕ → Bool
+begins_with_one [] xs = false
+begins_with_one (f ∷ fs) xs = begins_with f xs || begins_with_one fs xs
 
 -- what an element segment lists, behind the type where it lists expressions
 abbrev pub listing : Listed → Shape → Shape → Shape
@@ -131,14 +150,22 @@ composite_rows = rows_and describing_rows (lead 0x65 (choice describing_rows) �
 
 -- A composite type with its supertypes: final or open. A final one without supertypes is spelled as the composite type
 -- alone.
-abbrev pub sub_rows : List Shape
-sub_rows =
-    Shape.final (Shape.ix space.Type_) (Shape.ref Named.composite) ∷
-    lead 0x50 (Shape.seq (Shape.vec (Shape.ix space.Type_)) (Shape.ref Named.composite)) ∷ []
+abbrev pub final_sub : Shape
+final_sub = Shape.final (Shape.ix space.Type_) (Shape.ref Named.composite)
 
--- a type alone, and types that may refer to each other
+abbrev pub open_sub : Shape
+open_sub = lead 0x50 (Shape.seq (Shape.vec (Shape.ix space.Type_)) (Shape.ref Named.composite))
+
+abbrev pub sub_rows : List Shape
+sub_rows = final_sub ∷ open_sub ∷ []
+
+-- types that may refer to each other
+abbrev pub explicit_group : Shape
+explicit_group = lead 0x4e (Shape.vec (Shape.ref Named.sub))
+
+-- those, and a type alone
 abbrev pub group_rows : List Shape
-group_rows = rows_and sub_rows (lead 0x4e (Shape.vec (Shape.ref Named.sub)) ∷ [])
+group_rows = rows_and sub_rows (explicit_group ∷ [])
 
 -- ---- limits
 
@@ -187,19 +214,6 @@ abbrev pub entity : Shape
 entity = choice (
     lead 0x00 (Shape.ix space.Type_) ∷ lead 0x01 table_type ∷ lead 0x02 memory_type ∷ lead 0x03 global_type ∷
     lead 0x04 tag_type ∷ lead 0x20 (Shape.ix space.Type_) ∷ [])
-
--- ---- the named shapes
-
-abbrev pub shape_of : Named → Shape
-shape_of Named.value = choice (Shape.fixed 0x7f ∷ Shape.fixed 0x7e ∷ Shape.fixed 0x7d ∷ Shape.fixed 0x7c ∷ Shape.fixed 0x7b ∷ reference ∷ [])
-shape_of Named.composite = choice composite_rows
-shape_of Named.sub = choice sub_rows
-shape_of Named.group = choice group_rows
--- an item by its kind and its index: a function of exactly its type is read as a function
-shape_of Named.item = choice (
-    Shape.seq (Shape.alike 0x00 0x20) (Shape.ix space.Function) ∷ lead 0x01 (Shape.ix space.Table) ∷ lead 0x02 (Shape.ix space.Memory) ∷
-    lead 0x03 (Shape.ix space.Global) ∷ lead 0x04 (Shape.ix space.Tag) ∷ [])
-shape_of Named.expression = Shape.until 0x0b (Shape.op false)
 
 -- ---- immediates
 
@@ -256,6 +270,7 @@ closed Shape.rest = false
 closed (Shape.many a) = false
 closed (Shape.sections a) = false
 closed (Shape.by_name n a) = false
+closed (Shape.begun fs a) = false
 closed (Shape.told k a) = closed a
 closed (Shape.seq a b) = closed a && closed b
 closed (Shape.swap a b) = closed a && closed b

@@ -1,8 +1,9 @@
 -- The computed test of a table: by which bytes or flags its rows are told apart.
-use Rattle.std.specs.Prelude.{ℕ, zero, suc, List, [], ◌∷◌, Bool, true, false, not, ◌&&◌, ◌||◌, nat_le, if◌then◌else◌}
+use Rattle.std.specs.Prelude.{ℕ, zero, suc, List, [], ◌∷◌, Bool, true, false, not, ◌&&◌, ◌||◌, nat_eq, nat_le, if◌then◌else◌}
 use Rattle.wasm_shapes.specs.Operators.{Operators, one_byte_operators}
 use Rattle.wasm_shapes.specs.Tree.{left_flag, aimed_flag}
-use Rattle.wasm_shapes.specs.Shape.{Shape, Named, shape_of, closed}
+use Rattle.wasm_shapes.specs.Shape.{Shape, Named, closed}
+use Rattle.wasm_shapes.specs.NamedShapes.{shape_of}
 
 -- ---- first bytes
 
@@ -44,6 +45,7 @@ nullable (Shape.or a b) = nullable a || nullable b
 nullable (Shape.scope a) = nullable a
 nullable (Shape.spare b a c) = nullable a
 nullable (Shape.final a b) = nullable b
+nullable (Shape.begun fs a) = true
 nullable (Shape.told k a) = nullable a
 nullable (Shape.sections a) = true
 nullable _ = false
@@ -74,6 +76,7 @@ front_with named (Shape.spare b a c) = Front.join (Front.range b b) (front_with 
 front_with named (Shape.final a b) = Front.join (Front.range 0x4f 0x4f) (front_with named b)
 front_with named (Shape.until b a) = Front.join (front_with named a) (Front.range b b)
 front_with named (Shape.op ends) = Front.join (operators_front (one_byte_operators ends)) (Front.range 0xfb 0xfe)
+front_with named (Shape.begun fs a) = Front.any
 front_with named (Shape.told k a) = front_with named a
 front_with named (Shape.sections a) = front_with named a
 front_with named _ = Front.range 0 255
@@ -123,6 +126,24 @@ rows_apart a b = bytes_apart a b || flags_apart a b
 abbrev pub free_of : ℕ → Shape → Bool
 free_of b a = not (nullable a) && apart (Front.range b b) (first_bytes a)
 
+-- what is left of the texts that begin with a byte
+abbrev pub behind_byte : ℕ → List (List ℕ) → List (List ℕ)
+behind_byte b [] = []
+behind_byte b ([] ∷ fs) = behind_byte b fs
+behind_byte b ((c ∷ f) ∷ fs) = if nat_eq c b then f ∷ behind_byte b fs else behind_byte b fs
+
+abbrev pub has_empty : List (List ℕ) → Bool
+has_empty [] = false
+has_empty ([] ∷ fs) = true
+has_empty ((c ∷ f) ∷ fs) = has_empty fs
+
+-- Each spelling of a shape begins with one of some texts.
+abbrev pub led_by : List (List ℕ) → Shape → Bool
+led_by fs (Shape.seq (Shape.fixed b) a) = has_empty fs || led_by (behind_byte b fs) a
+led_by fs (Shape.or a b) = led_by fs a && led_by fs b
+led_by fs Shape.none = true
+led_by fs _ = has_empty fs
+
 -- A shape whose bytes have one reading: what is followed by something is closed, items take a byte, and rows are apart.
 abbrev pub sound : Shape → Bool
 sound (Shape.seq a b) = closed a && sound a && sound b
@@ -139,6 +160,7 @@ sound (Shape.until b a) = closed a && free_of b a && sound a
 sound (Shape.active w a r b) = closed a && sound a && closed b && sound b && closed r && sound r
 sound (Shape.placed a b) = closed a && sound a && sound b
 sound (Shape.by_name n a) = sound a
+sound (Shape.begun fs a) = led_by fs a && sound a
 sound (Shape.told k a) = sound a
 sound (Shape.sections a) = closed a && not (nullable a) && sound a
 sound _ = true

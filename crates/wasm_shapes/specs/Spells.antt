@@ -1,11 +1,12 @@
 -- Which bytes spell which tree of which shape.
-use Rattle.std.specs.Prelude.{◌≡◌, ◌≢◌, ℕ, ℤ, zero, suc, ◌+◌, ◌<◌, ◌≤◌, List, [], ◌∷◌, ◌++◌, length, IsUtf8, true, Bool, ◌⊎◌}
+use Rattle.std.specs.Prelude.{◌≡◌, ◌≢◌, ℕ, ℤ, zero, suc, ◌+◌, ◌<◌, ◌≤◌, List, [], ◌∷◌, ◌++◌, length, IsUtf8, true, false, Bool, ◌⊎◌}
 use Rattle.wasm_leb.specs.Leb.{IsUnsigned, IsSignedIndex, IsSigned}
 use Rattle.wasm_shapes.specs.declared.SectionId.{SectionId}
 use Rattle.wasm_shapes.specs.declared.Space.{Space}
 use Rattle.wasm_shapes.specs.Tree.{Tree, count, Listed, typed, left_flag, aimed_flag, kind_bytes}
 use Rattle.wasm_shapes.specs.Operators.{Code, plain, prefixed, is_code}
-use Rattle.wasm_shapes.specs.Shape.{Shape, Named, shape_of, immediates, listing}
+use Rattle.wasm_shapes.specs.Shape.{Shape, Named, immediates, listing, begins_with_one}
+use Rattle.wasm_shapes.specs.NamedShapes.{shape_of}
 
 -- The tree has the shape.
 pub data Is : Shape → Tree → Type 0 where
@@ -49,6 +50,8 @@ pub data Is : Shape → Tree → Type 0 where
   placed : {a b : Shape} {i : ℕ} {o t : Tree} → Is a o → Is b t → Is (Shape.placed a b) (Tree.placed i o t)
   named : {n : List ℕ} {a : Shape} {t : Tree} → Is a t → Is (Shape.by_name n a) (Tree.pair (Tree.name n) t)
   other : {n bs r : List ℕ} {a : Shape} → bs ≢ n → Is (Shape.by_name n a) (Tree.pair (Tree.name bs) (Tree.raw r))
+  led : {fs : List (List ℕ)} {a : Shape} {t : Tree} → Is a t → Is (Shape.begun fs a) t
+  not_led : {fs : List (List ℕ)} {bs : List ℕ} {a : Shape} → begins_with_one fs bs ≡ false → Is (Shape.begun fs a) (Tree.raw bs)
   told : {k : SectionId} {a : Shape} {t : Tree} → Is a t → Is (Shape.told k a) (Tree.told k t)
   finish : {a : Shape} → Is (Shape.sections a) Tree.finish
   also : {a : Shape} {t u : Tree} → Is a t → Is (Shape.sections a) u → Is (Shape.sections a) (Tree.also t u)

@@ -1,11 +1,16 @@
 //! The shapes of WebAssembly binaries, and what bytes spell: the tables of the formats and the definitions over them.
 #![tactic(auto)]
 
+mod components;
 pub mod kinds;
 mod operator_rows;
 mod operators;
 mod spelling;
 
+pub use components::{
+    answers_open_no_scope, bytes_have_one_reading, component_header_spells, component_reads_back,
+    components_are_sound, nested_readings, opens_is_deepest, scopes_are_bracketed,
+};
 pub use operators::{
     BLOCK, BR, CALL, CALL_INDIRECT, DROP, END, GLOBAL_GET, I32_ADD, I32_CONST, I32_LOAD, LOCAL_GET,
     NOP, REF_FUNC, UNREACHABLE, row_of,
