@@ -28,6 +28,7 @@ pub use name_section::NameSectionReader;
 pub use names::{IndirectNameMap, NameMap};
 pub use operators::{Operator, OperatorsReader};
 pub use payloads::Payloads;
+pub use rows::Rows;
 pub use section_reader::{ReadRow, SectionReader};
 pub use sections::{
     BodyFrames, CodeSectionReader, DataSectionReader, ElementSectionReader, ExportSectionReader,

@@ -1,4 +1,4 @@
-//! A reader of the rows of a section (WebAssembly Core Specification 3.0, section 5.5).
+//! A reader of rows, as those of a section (WebAssembly Core Specification 3.0, section 5.5).
 ghost use Rattle.std.specs.Prelude.{◌≡◌, ℕ, List, Bool, true, false, IfOk, IfErr, IfSome, IfNone, IsTrue};
 ghost use Rattle.wasm_leb.specs.Place.{BeginsNoNumber};
 ghost use Rattle.wasm_shapes.specs.Place.{Begins, BeginsNone};
@@ -9,10 +9,10 @@ use crate::rows::Rows;
 use std::alloc::Global;
 use std::marker::{Model, PhantomData};
 use wasm_leb::{Fault, NoMemory};
-use wasm_shapes::kinds::SectionKind;
+use wasm_shapes::kinds::RowKind;
 
-/// A kind of section whose rows can be read.
-pub trait ReadRow<'a>: SectionKind {
+/// A kind of rows that can be read.
+pub trait ReadRow<'a>: RowKind {
     /// A row.
     type Row;
 
@@ -34,7 +34,7 @@ pub trait ReadRow<'a>: SectionKind {
         ensures wants { IfErr result (λ _. IsTrue takes_memory) };
 }
 
-/// A reader of the rows of a kind of section.
+/// A reader of rows of a kind.
 #[derive(Drop)]
 pub struct SectionReader<'a, K> {
     rows: Rows<'a>,

@@ -19,7 +19,7 @@ use crate::types::{
 use std::alloc::Global;
 use wasm_leb::NoMemory;
 use wasm_shapes::kinds;
-use wasm_shapes::kinds::SectionKind;
+use wasm_shapes::kinds::RowKind;
 
 /// A reader of the rows of a type section: groups of types (section 5.5.4). A row takes memory.
 pub type TypeSectionReader<'a> = SectionReader<'a, kinds::Types>;
@@ -160,27 +160,17 @@ impl<'a> ReadRow<'a> for kinds::Elements {
 /// read.
 pub struct BodyFrames;
 
-impl SectionKind for BodyFrames {
+impl RowKind for BodyFrames {
     ghost use Rattle.std.specs.Prelude.{refl};
-    ghost use Rattle.std.proofs.Common.{lit≤};
-    ghost use Rattle.wasm_shapes.specs.declared.SectionId.TheVariants as id;
     ghost use Rattle.wasm_read.specs.Operations.{frame_row};
 
-    ghost kind = { id.Code };
-
     ghost shape = { frame_row };
-
-    ghost ID = { 10 };
-
-    const ID: u8 = 10;
 
     ghost is_sound = { refl };
 
     ghost is_closed = { refl };
 
     ghost rows_sound = { refl };
-
-    ghost small = { lit≤ tt };
 }
 
 /// A reader of the rows of a code section: the frames of function bodies, of whose contents nothing is said (section

@@ -2,6 +2,7 @@ pub mod CodeSize
 pub mod Component
 pub mod ComponentLaws
 pub mod ComponentReadings
+pub mod ComponentTypes
 pub mod Depth
 pub mod Fits
 pub mod Immediates

@@ -1,30 +1,28 @@
-//! The kinds of sections whose body is a vector of rows (WebAssembly Core Specification 3.0, section 5.5).
+//! The kinds of rows, and of sections whose body is a vector of them (WebAssembly Core Specification 3.0, section 5.5).
 ghost use Rattle.std.specs.Prelude.{◌≡◌, ◌≤◌, ℕ, true, refl};
 ghost use Rattle.std.proofs.Common.{lit≤};
-ghost use Rattle.wasm_shapes.specs.declared.SectionId.{SectionId};
-ghost use Rattle.wasm_shapes.specs.declared.SectionId.TheVariants as id;
 ghost use Rattle.wasm_shapes.specs.Shape.{Shape, Named, closed, memory_type, tag_type};
 ghost use Rattle.wasm_shapes.specs.Module.{code_row, data_row, element_row, export_row, function_row, global_row, import_row, table_row};
 ghost use Rattle.wasm_shapes.specs.Sound.{sound};
 
-/// A kind of section whose body is a vector of rows.
-pub trait SectionKind {
-    // Its name.
-    ghost kind: { SectionId };
-
+/// A kind of rows, which stand in a vector.
+pub trait RowKind {
     // The shape of a row.
     ghost shape: { Shape };
-
-    ghost ID: { ℕ };
-
-    /// Its id.
-    const ID: u8;
 
     ghost is_sound: { sound shape ≡ true };
 
     ghost is_closed: { closed shape ≡ true };
 
     ghost rows_sound: { sound (Shape.many shape) ≡ true };
+}
+
+/// A kind of section whose body is a vector of rows.
+pub trait SectionKind: RowKind {
+    ghost ID: { ℕ };
+
+    /// Its id.
+    const ID: u8;
 
     ghost small: { ID ≤ 127 };
 }
@@ -32,20 +30,20 @@ pub trait SectionKind {
 /// A type section.
 pub struct Types;
 
-impl SectionKind for Types {
-    ghost kind = { id.Type_ };
-
+impl RowKind for Types {
     ghost shape = { Shape.ref Named.group };
-
-    ghost ID = { 1 };
-
-    const ID: u8 = 1;
 
     ghost is_sound = { refl };
 
     ghost is_closed = { refl };
 
     ghost rows_sound = { refl };
+}
+
+impl SectionKind for Types {
+    ghost ID = { 1 };
+
+    const ID: u8 = 1;
 
     ghost small = { lit≤ tt };
 }
@@ -53,20 +51,20 @@ impl SectionKind for Types {
 /// An import section.
 pub struct Imports;
 
-impl SectionKind for Imports {
-    ghost kind = { id.Import };
-
+impl RowKind for Imports {
     ghost shape = { import_row };
-
-    ghost ID = { 2 };
-
-    const ID: u8 = 2;
 
     ghost is_sound = { refl };
 
     ghost is_closed = { refl };
 
     ghost rows_sound = { refl };
+}
+
+impl SectionKind for Imports {
+    ghost ID = { 2 };
+
+    const ID: u8 = 2;
 
     ghost small = { lit≤ tt };
 }
@@ -74,20 +72,20 @@ impl SectionKind for Imports {
 /// A function section.
 pub struct Functions;
 
-impl SectionKind for Functions {
-    ghost kind = { id.Function };
-
+impl RowKind for Functions {
     ghost shape = { function_row };
-
-    ghost ID = { 3 };
-
-    const ID: u8 = 3;
 
     ghost is_sound = { refl };
 
     ghost is_closed = { refl };
 
     ghost rows_sound = { refl };
+}
+
+impl SectionKind for Functions {
+    ghost ID = { 3 };
+
+    const ID: u8 = 3;
 
     ghost small = { lit≤ tt };
 }
@@ -95,20 +93,20 @@ impl SectionKind for Functions {
 /// A table section.
 pub struct Tables;
 
-impl SectionKind for Tables {
-    ghost kind = { id.Table };
-
+impl RowKind for Tables {
     ghost shape = { table_row };
-
-    ghost ID = { 4 };
-
-    const ID: u8 = 4;
 
     ghost is_sound = { refl };
 
     ghost is_closed = { refl };
 
     ghost rows_sound = { refl };
+}
+
+impl SectionKind for Tables {
+    ghost ID = { 4 };
+
+    const ID: u8 = 4;
 
     ghost small = { lit≤ tt };
 }
@@ -116,20 +114,20 @@ impl SectionKind for Tables {
 /// A memory section.
 pub struct Memories;
 
-impl SectionKind for Memories {
-    ghost kind = { id.Memory };
-
+impl RowKind for Memories {
     ghost shape = { memory_type };
-
-    ghost ID = { 5 };
-
-    const ID: u8 = 5;
 
     ghost is_sound = { refl };
 
     ghost is_closed = { refl };
 
     ghost rows_sound = { refl };
+}
+
+impl SectionKind for Memories {
+    ghost ID = { 5 };
+
+    const ID: u8 = 5;
 
     ghost small = { lit≤ tt };
 }
@@ -137,20 +135,20 @@ impl SectionKind for Memories {
 /// A global section.
 pub struct Globals;
 
-impl SectionKind for Globals {
-    ghost kind = { id.Global };
-
+impl RowKind for Globals {
     ghost shape = { global_row };
-
-    ghost ID = { 6 };
-
-    const ID: u8 = 6;
 
     ghost is_sound = { refl };
 
     ghost is_closed = { refl };
 
     ghost rows_sound = { refl };
+}
+
+impl SectionKind for Globals {
+    ghost ID = { 6 };
+
+    const ID: u8 = 6;
 
     ghost small = { lit≤ tt };
 }
@@ -158,20 +156,20 @@ impl SectionKind for Globals {
 /// An export section.
 pub struct Exports;
 
-impl SectionKind for Exports {
-    ghost kind = { id.Export };
-
+impl RowKind for Exports {
     ghost shape = { export_row };
-
-    ghost ID = { 7 };
-
-    const ID: u8 = 7;
 
     ghost is_sound = { refl };
 
     ghost is_closed = { refl };
 
     ghost rows_sound = { refl };
+}
+
+impl SectionKind for Exports {
+    ghost ID = { 7 };
+
+    const ID: u8 = 7;
 
     ghost small = { lit≤ tt };
 }
@@ -179,20 +177,20 @@ impl SectionKind for Exports {
 /// An element section.
 pub struct Elements;
 
-impl SectionKind for Elements {
-    ghost kind = { id.Element };
-
+impl RowKind for Elements {
     ghost shape = { element_row };
-
-    ghost ID = { 9 };
-
-    const ID: u8 = 9;
 
     ghost is_sound = { refl };
 
     ghost is_closed = { refl };
 
     ghost rows_sound = { refl };
+}
+
+impl SectionKind for Elements {
+    ghost ID = { 9 };
+
+    const ID: u8 = 9;
 
     ghost small = { lit≤ tt };
 }
@@ -200,20 +198,20 @@ impl SectionKind for Elements {
 /// A code section.
 pub struct Code;
 
-impl SectionKind for Code {
-    ghost kind = { id.Code };
-
+impl RowKind for Code {
     ghost shape = { code_row };
-
-    ghost ID = { 10 };
-
-    const ID: u8 = 10;
 
     ghost is_sound = { refl };
 
     ghost is_closed = { refl };
 
     ghost rows_sound = { refl };
+}
+
+impl SectionKind for Code {
+    ghost ID = { 10 };
+
+    const ID: u8 = 10;
 
     ghost small = { lit≤ tt };
 }
@@ -221,20 +219,20 @@ impl SectionKind for Code {
 /// A data section.
 pub struct Segments;
 
-impl SectionKind for Segments {
-    ghost kind = { id.Data };
-
+impl RowKind for Segments {
     ghost shape = { data_row };
-
-    ghost ID = { 11 };
-
-    const ID: u8 = 11;
 
     ghost is_sound = { refl };
 
     ghost is_closed = { refl };
 
     ghost rows_sound = { refl };
+}
+
+impl SectionKind for Segments {
+    ghost ID = { 11 };
+
+    const ID: u8 = 11;
 
     ghost small = { lit≤ tt };
 }
@@ -242,20 +240,20 @@ impl SectionKind for Segments {
 /// A tag section.
 pub struct Tags;
 
-impl SectionKind for Tags {
-    ghost kind = { id.Tag };
-
+impl RowKind for Tags {
     ghost shape = { tag_type };
-
-    ghost ID = { 13 };
-
-    const ID: u8 = 13;
 
     ghost is_sound = { refl };
 
     ghost is_closed = { refl };
 
     ghost rows_sound = { refl };
+}
+
+impl SectionKind for Tags {
+    ghost ID = { 13 };
+
+    const ID: u8 = 13;
 
     ghost small = { lit≤ tt };
 }

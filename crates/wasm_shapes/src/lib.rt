@@ -1,6 +1,7 @@
 //! The shapes of WebAssembly binaries, and what bytes spell: the tables of the formats and the definitions over them.
 #![tactic(auto)]
 
+pub mod component_kinds;
 mod components;
 pub mod kinds;
 mod operator_rows;

@@ -15,10 +15,10 @@ use crate::section::Section;
 use std::alloc::{AllocError, Global};
 use std::marker::{Model, PhantomData};
 use wasm_leb::{NoMemory, len_u32, write_u32};
-use wasm_shapes::kinds::SectionKind;
+use wasm_shapes::kinds::{RowKind, SectionKind};
 
-/// A row of a section of this kind.
-pub trait RowOf<K: SectionKind> {
+/// A row of this kind.
+pub trait RowOf<K: RowKind> {
     // What it stands for.
     ghost tree: { Self → Tree };
 
@@ -37,7 +37,7 @@ pub trait RowOf<K: SectionKind> {
 ///
 /// Contracts see it as the list of its rows. It holds their number and their normal spelling.
 #[derive(Drop)]
-pub struct RowSection<K: SectionKind> {
+pub struct RowSection<K: RowKind> {
     count: u32,
     // so many bytes in front of the rows are room for what a module has in front of them
     front: usize,
@@ -47,7 +47,7 @@ pub struct RowSection<K: SectionKind> {
     ghost held: { Held K.shape count (drop front bytes.items) } by { Held-prop K.shape K.rows_sound count (drop front bytes.items) },
 }
 
-impl<K: SectionKind> Model for RowSection<K> {
+impl<K: RowKind> Model for RowSection<K> {
     ghost use Rattle.std.specs.Prelude.{List, drop};
     ghost use Rattle.wasm_shapes.specs.Tree.{Tree};
     ghost use Rattle.wasm_shapes.specs.TreeCode.{trees_code};
@@ -60,7 +60,7 @@ impl<K: SectionKind> Model for RowSection<K> {
     ghost view = { λ s. held_rows K.shape s.count (drop s.front s.bytes.items) s.held };
 }
 
-impl<K: SectionKind> RowSection<K> {
+impl<K: RowKind> RowSection<K> {
     /// A section without rows. It takes no memory.
     #[inline]
     pub fn new(alloc: Global) -> Self
@@ -150,7 +150,7 @@ fn room(alloc: Global, front: usize, more: usize) -> Result<Vec<u8>, AllocError>
     Ok(bytes)
 }
 
-impl<K: SectionKind> RowSection<K> {
+impl<K: RowKind> RowSection<K> {
     /// How many bytes the body has.
     pub(crate) fn body_len(&self) -> usize
         ensures { result ≡ length (normal (vector_tree self.now)) }

@@ -10,7 +10,7 @@ rows-init g c = rows_begun g.T.ReencodeIndices
 pub rows-preserved : goal.rows-preserved
 rows-preserved g c =
     let i = g.T.ReencodeIndices in
-    let kind = g.K.SectionKind in
+    let kind = g.K.RowKind in
     let row = rw c.in-Some.is at c.in_ok-row.ensures.row in
     rows_added i c.rows.invariant kind.is_sound kind.is_closed row (row_mapped i (g.K.ReadRow.tree c.in-Some.row) g.B.RowOf.tree _ _ c.in_ok-made.made c.in_ok-made.ensures.default c.in_ok-add.ensures.ok)
 
@@ -20,7 +20,7 @@ returns-in_err-row g c = rows_stuck g.T.ReencodeIndices c.rows.invariant _ (none
 pub returns-in_err-made : goal.returns-in_err-made
 returns-in_err-made g c =
     let i = g.T.ReencodeIndices in
-    let kind = g.K.SectionKind in
+    let kind = g.K.RowKind in
     let t = g.K.ReadRow.tree c.in-Some.row in
     let row = rw c.in-Some.is at c.in_ok-row.ensures.row in
     let maps = c.in_err-made.ensures.default in
@@ -29,7 +29,7 @@ returns-in_err-made g c =
 pub returns-in_err-add : goal.returns-in_err-add
 returns-in_err-add g c =
     let i = g.T.ReencodeIndices in
-    let kind = g.K.SectionKind in
+    let kind = g.K.RowKind in
     let row = rw c.in-Some.is at c.in_ok-row.ensures.row in
     let gone = c.in_err-add.ensures in
     rows_refused_at i c.rows.invariant kind.is_sound kind.is_closed row _ (row_not_added i (g.K.ReadRow.tree c.in-Some.row) g.B.RowOf.tree _ _ c.in_ok-made.made _ c.in_ok-made.ensures.default gone.err gone.large (Err _) refl) _ c.from_residual-in_err-add.ensures.1

@@ -21,7 +21,7 @@ pub returns-in-Ok-clause-ok : goal.returns-in-Ok-clause-ok
 returns-in-Ok-clause-ok g c =
     let t = g.R.RowOf.tree c.args.row.now in
     let grown = behind_grown _ _ c.self.inside.room c.in-Ok.ensures.ok in
-    held_grown_is c.self.inside.held t g.K.SectionKind.rows_sound _ grown c.in-Ok.ensures.spells ∙ ap (λ l. l ++ t ∷ []) c.self.view_is
+    held_grown_is c.self.inside.held t g.K.RowKind.rows_sound _ grown c.in-Ok.ensures.spells ∙ ap (λ l. l ++ t ∷ []) c.self.view_is
 
 pub returns-in-Ok-clause-in_range : goal.returns-in-Ok-clause-in_range
 returns-in-Ok-clause-in_range g c =
@@ -36,7 +36,7 @@ returns-in-Ok-clause-fits g c =
 pub returns-in-Err-clause-err : goal.returns-in-Err-clause-err
 returns-in-Err-clause-err g c =
     let same = c.truncate.ensures.items ∙ rw c.len-len.ensures c.in-Err.ensures.err in
-    held_same_is c.self.inside.held g.K.SectionKind.rows_sound _ (ap (drop c.self.inside.front) same) ∙ c.self.view_is
+    held_same_is c.self.inside.held g.K.RowKind.rows_sound _ (ap (drop c.self.inside.front) same) ∙ c.self.view_is
 
 pub returns-in-Err-clause-large : goal.returns-in-Err-clause-large
 returns-in-Err-clause-large g c = large_left c.in-Err.fault (counts (g.R.RowOf.tree c.args.row.now)) _ c.in-Err.ensures.large

@@ -1,0 +1,2 @@
+pub mod AliasSorts
+pub mod ScopedRows
