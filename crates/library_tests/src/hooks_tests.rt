@@ -53,7 +53,7 @@ fn errors_print(rt: HostRuntime) -> Result<(), AllocError> {
 }
 
 /// The sum of the answers of all hooks, or the first refusal.
-fn asks_all<R: ReencodeIndices>(
+pub fn asks_all<R: ReencodeIndices>(
     reencoder: &mut R,
     module: &mut Module,
 ) -> Result<u64, Error<R::Error>> {
@@ -72,7 +72,7 @@ fn asks_all<R: ReencodeIndices>(
 }
 
 /// A renamer that adds 1000 to an index of each space, and 2000 to function 4.
-fn thousands(alloc: Global) -> Result<Renamer, NoMemory> {
+pub fn thousands(alloc: Global) -> Result<Renamer, NoMemory> {
     let mut renamer = Renamer::new(alloc);
     for (space, from, to) in [
         (Space::Data, 1u32, 1001u32),

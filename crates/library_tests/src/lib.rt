@@ -5,6 +5,8 @@
 #[cfg(test)]
 mod adding_tests;
 #[cfg(test)]
+mod chain_tests;
+#[cfg(test)]
 mod core_tests;
 #[cfg(test)]
 mod examples_tests;

@@ -11,7 +11,6 @@ pub mod AnySection
 pub mod AddsNothing
 pub mod CoreLoop
 pub mod Faults
-pub mod SectionVisits
 pub mod WholeBytes
 pub mod Completeness
 pub mod OneRow

@@ -11,7 +11,6 @@ pub mod Weave
 pub mod Woven
 pub mod WovenLaws
 pub mod Faults
-pub mod SectionVisits
 pub mod Leaves
 pub mod Rules
 pub mod Interspersed

@@ -2,7 +2,6 @@
 ghost use Rattle.std.specs.Prelude.{List, ℕ};
 ghost use Rattle.reencode_hooks.specs.Run.{ask};
 ghost use Rattle.reencode_core.specs.Faults.{FaultGains, FaultTells};
-ghost use Rattle.reencode_core.specs.SectionVisits.{SectionVisitsAre};
 ghost use Rattle.reencode_core.specs.Woven.{AcceptedIsAnswered};
 ghost use Rattle.reencode_core.specs.WovenLaws.{OutputIsRead, WeaveEnds, WeaveIsRun, WeaveOfNothing};
 
@@ -18,13 +17,6 @@ pub fn fault_tells<T: ReencodeIndices>(_reencoder: &T)
 /// added before each, and of its own sections before what is at fault all of them.
 pub fn fault_gains<T: ReencodeIndices>(_reencoder: &T)
     ensures { FaultGains (ask T.reply T.next) T.adds }
-{}
-
-/// In a reading of a core module with n sections of the ids 1 to 13 the section hook is asked n + 1 times: before each of these,
-/// with the kind of the one before it among them and its own, and at the end, with that of the last.
-#[tactic(auto, using(crate::proofs::SectionVisits::section_visits_are))]
-pub fn section_visits_are()
-    ensures { SectionVisitsAre }
 {}
 
 /// Where a section hook adds nothing, the walk with what it adds is the plain walk.

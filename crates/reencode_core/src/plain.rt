@@ -1,7 +1,9 @@
 //! The reencoders that keep every default.
 use crate::direct;
 use crate::reencode::Reencode;
-use reencode_hooks::{ByRule, Error, IndexRule, Renamer, RoundtripReencoder};
+use reencode_hooks::{
+    ByRule, Chain, Error, IndexRule, ReencodeIndices, Renamer, RoundtripReencoder,
+};
 use reencode_items::DefaultItems;
 use std::alloc::Global;
 use wasm_read as r;
@@ -30,3 +32,5 @@ impl DefaultReencode for RoundtripReencoder {}
 impl DefaultReencode for Renamer {}
 
 impl<R: IndexRule> DefaultReencode for ByRule<R> {}
+
+impl<A: ReencodeIndices, B: ReencodeIndices> DefaultReencode for Chain<A, B> {}

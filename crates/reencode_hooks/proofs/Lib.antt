@@ -4,3 +4,5 @@ pub mod Walks
 pub mod Tables
 pub mod Frames
 pub mod Leaving
+pub mod Chained
+pub mod InRange

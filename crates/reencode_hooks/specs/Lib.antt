@@ -3,6 +3,7 @@ pub mod Run
 pub mod Walk
 pub mod Moments
 pub mod Hooks
+pub mod Chains
 pub mod Laws
 pub mod Frames
 pub mod Tables

@@ -1,6 +1,6 @@
 //! The reencoders that keep every default.
 use crate::items::ReencodeItems;
-use reencode_hooks::{ByRule, IndexRule, ReencodeIndices, Renamer, RoundtripReencoder};
+use reencode_hooks::{ByRule, Chain, IndexRule, ReencodeIndices, Renamer, RoundtripReencoder};
 
 /// A reencoder that keeps every default method of `ReencodeItems`.
 ///
@@ -15,3 +15,5 @@ impl DefaultItems for RoundtripReencoder {}
 impl DefaultItems for Renamer {}
 
 impl<R: IndexRule> DefaultItems for ByRule<R> {}
+
+impl<A: ReencodeIndices, B: ReencodeIndices> DefaultItems for Chain<A, B> {}

@@ -22,7 +22,7 @@ use Rattle.wasm_shapes.specs.Module.{in_force, section, sections, core_header, a
 use Rattle.wasm_shapes.proofs.Lists.{both}
 use Rattle.wasm_shapes.proofs.SectionTable.{in_frame}
 use Rattle.wasm_shapes.proofs.Laws.{module_headed}
-use Rattle.reencode_core.specs.SectionVisits.{HasSections, kind_of_id, kind_of_text, kinds_of_texts, is_section, section_visits, SectionVisitsAre}
+use Rattle.reencode_laws.specs.SectionVisits.{HasSections, kind_of_id, kind_of_text, kinds_of_texts, is_section, section_visits, SectionVisitsAre}
 
 -- ---- no sections stand within a section
 

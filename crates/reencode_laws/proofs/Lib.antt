@@ -1,0 +1,8 @@
+pub mod Twice
+pub mod Shorter
+pub mod Runs
+pub mod Kept
+pub mod Itself
+pub mod Written
+pub mod Walked
+pub mod SectionVisits

@@ -1,0 +1,8 @@
+use Rattle.reencode_laws.proofs.Runs as runs
+use Rattle.reencode_laws.proofs.chained.chain_refuses.Goals as goal
+
+pub returns : goal.returns
+returns g c =
+    let a = g.A.ReencodeIndices in
+    let b = g.B.ReencodeIndices in
+    runs.chain_refuses a.reply a.next b.reply b.next

@@ -1,0 +1,4 @@
+pub mod Own
+pub mod Kept
+pub mod Chained
+pub mod SectionVisits

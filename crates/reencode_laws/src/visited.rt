@@ -1,0 +1,9 @@
+//! Laws of what is visited.
+ghost use Rattle.reencode_laws.specs.SectionVisits.{SectionVisitsAre};
+
+/// In a reading of a core module with n sections of the ids 1 to 13 the section hook is asked n + 1 times: before each of these,
+/// with the kind of the one before it among them and its own, and at the end, with that of the last.
+#[tactic(auto, using(crate::proofs::SectionVisits::section_visits_are))]
+pub fn section_visits_are()
+    ensures { SectionVisitsAre }
+{}
