@@ -11,7 +11,7 @@ use Rattle.wasm_write.specs.Sections.{SectionRow, Sections}
 use Rattle.reencode_hooks.specs.declared.error.Error.{Error}
 use Rattle.reencode_hooks.specs.declared.error.Error.TheVariants.{TooLarge, NoMemory}
 use Rattle.reencode_hooks.specs.Errors.{error_of_write}
-use Rattle.reencode_hooks.specs.Run.{accepted, refused, answered}
+use Rattle.reencode_hooks.specs.Run.{refused, answered}
 use Rattle.reencode_hooks.specs.Hooks.{Gains, GainsPart, HasTooLarge, RefusesSection, RepliesSection}
 use Rattle.reencode_core.specs.declared.adding.Adding.{Adding}
 

@@ -1,25 +1,26 @@
 -- A section of any sort by its frame: of a known kind, a custom one, or one of another id.
-use Rattle.std.proofs.Common.{◌≡◌, ℕ, ◌≤◌, List, [], Option, Some, Result, Ok, Err, IfOk, IfErr, refl, sym, ◌∙◌, subst, ◌⊎◌, inl, inr}
+use Rattle.std.proofs.Common.{◌≡◌, ℕ, ◌≤◌, List, [], ◌∷◌, Option, Some, Result, Ok, Err, IfOk, IfErr, refl, sym, ◌∙◌, subst, ◌⊎◌, inl, inr}
 use Rattle.wasm_shapes.specs.declared.SectionId.{SectionId}
 use Rattle.wasm_shapes.specs.declared.Visit.TheVariants.{Section}
-use Rattle.wasm_shapes.specs.Tree.{Tree, kind}
-use Rattle.wasm_shapes.specs.Rows.{rows_then}
+use Rattle.wasm_shapes.specs.declared.Visit.{Visit}
+use Rattle.wasm_shapes.specs.Drawn.{Drawn}
+use Rattle.wasm_shapes.specs.Tree.{Tree, before, kind}
+use Rattle.wasm_shapes.proofs.Drawn.{drawn_hook, drawn_none}
 use Rattle.wasm_shapes.specs.Place.{Begins}
 use Rattle.wasm_shapes.specs.Module.{frame, numbered_frame, custom_frame, unknown_tree_of, ReadsCustom, InFrame}
 use Rattle.wasm_shapes.specs.SectionTable.{number}
 use Rattle.wasm_shapes.proofs.SectionTable.{kind_in_frame, custom_in_frame, unknown_in_frame}
 use Rattle.wasm_write.specs.Sections.{Sections, SectionRow}
 use Rattle.reencode_hooks.specs.declared.error.Error.{Error}
-use Rattle.reencode_hooks.specs.Run.{accepted}
-use Rattle.reencode_hooks.specs.Walk.{walk, announced}
+use Rattle.reencode_hooks.specs.Run.{accepted, run}
+use Rattle.reencode_hooks.specs.Walk.{announced}
 use Rattle.reencode_core.specs.Errors.{IfParse, IfRefused}
-use Rattle.reencode_core.specs.Rows.{Asks, AcceptsRows, Further}
-use Rattle.reencode_core.specs.Sections.{ReadsAs, GivesAdded, BodyFault, StopsSection, GivesSection}
+use Rattle.reencode_core.specs.Rows.{Asks}
+use Rattle.reencode_core.specs.Sections.{ReadsAs, GivesAdded, StopsSection, GivesSection}
 use Rattle.reencode_core.specs.Names.{StopsCustom, GivesCustom}
 use Rattle.reencode_core.specs.Core.{StopsThere}
 use Rattle.reencode_core.specs.Weave.{Puts, put_before}
 use Rattle.reencode_core.specs.Woven.{AddedBefore}
-use Rattle.reencode_core.proofs.Counts.{walk_further, further_none, further_one, further_then}
 use Rattle.reencode_core.proofs.Known.{frame_id, section_announced}
 use Rattle.reencode_core.proofs.Usual.{IfParse-map, IfRefused-map, unless_wanting}
 
@@ -28,6 +29,9 @@ use Rattle.reencode_core.proofs.Usual.{IfParse-map, IfRefused-map, unless_wantin
 pub kind_announced : {S E : Type 0} (asked : Asks S E) (k : SectionId) {body : List ℕ} (s : S) (last : Option SectionId) {t : Tree} → InFrame t (numbered_frame (number k) body) →
     (announced asked s last t ≡ asked s (Section last (Some k))) × (kind last t ≡ Some k)
 kind_announced asked k {body = body} s last {t = t} i = let r = kind_in_frame k body t i in rw r.1 (section_announced k asked s last r.0)
+
+pub kind_before : (k : SectionId) {body : List ℕ} (last : Option SectionId) {t : Tree} → InFrame t (numbered_frame (number k) body) → before last t ≡ Section last (Some k) ∷ []
+kind_before k {body = body} last {t = t} i = let r = kind_in_frame k body t i in rw r.1 refl
 
 -- what the section hook puts before it
 pub kind_put : {S A : Type 0} (put : Puts S A) (k : SectionId) {body : List ℕ} (s : S) (last : Option SectionId) {t : Tree} → InFrame t (numbered_frame (number k) body) →
@@ -65,14 +69,14 @@ framed_unknown {id = id} {contents = contents} low high r =
 pub record GivesFramed {S E : Type 0} (asked : Asks S E) (id : ℕ) (f : Tree) (Stops : ℕ → Error E → S → Type 0) (before after : S × Sections) (result : Result (Unit {0}) (Error E)) : Type 0 where
   pub reading : (t : Tree) → InFrame t f → GivesAdded asked id before t after result
   pub readable : IfOk result (λ _. (t : Tree) × InFrame t f)
-  pub unreadable : IfErr result (λ e. IfParse e (λ at. ((t : Tree) → InFrame t f → ⊥) × Further asked before.0 after.0))
+  pub unreadable : IfErr result (λ e. IfParse e (λ at. (t : Tree) → InFrame t f → ⊥))
   pub refusal : IfErr result (λ e. IfRefused e (((t : Tree) × InFrame t f) ⊎ Stops before.1.ceiling e after.0))
   pub unchanged : IfErr result (λ _. after.1 ≡ before.1)
 
 -- the same of readings of any form
 gives_framed : {S E : Type 0} {asked : Asks S E} {id : ℕ} {f : Tree} {Reads : Tree → Type 0} {Fault : ℕ → Type 0} {Stops : ℕ → Error E → S → Type 0} {before after : S × Sections}
     (forth : (t : Tree) → InFrame t f → Reads t) (back : (t : Tree) → Reads t → InFrame t f)
-    (fault : (at : ℕ) → Fault at → ((t : Tree) → Reads t → ⊥) × Further asked before.0 after.0)
+    (fault : (at : ℕ) → Fault at → (t : Tree) → Reads t → ⊥)
     (result : Result (Unit {0}) (Error E)) → ((t : Tree) → Reads t → GivesAdded asked id before t after result) → IfOk result (λ _. (t : Tree) × Reads t) →
     IfErr result (λ e. IfParse e Fault) → IfErr result (λ e. IfRefused e (((t : Tree) × Reads t) ⊎ Stops before.1.ceiling e after.0)) → IfErr result (λ _. after.1 ≡ before.1) →
     GivesFramed asked id f Stops before after result
@@ -86,7 +90,7 @@ gives_framed forth back fault (Ok u) reading readable unreadable refusal unchang
 gives_framed {f = f} {Reads = Reads} {Stops = Stops} {before = before} {after = after} forth back fault (Err e) reading readable unreadable refusal unchanged = record {
   reading = λ t i. reading t (forth t i);
   readable = tt;
-  unreadable = IfParse-map e (λ at h. let q = fault at h in ((λ t i. q.0 t (forth t i)), q.1)) unreadable;
+  unreadable = IfParse-map e (λ at h t i. fault at h t (forth t i)) unreadable;
   refusal = IfRefused-map e read refusal;
   unchanged = unchanged;
 }
@@ -95,30 +99,16 @@ gives_framed {f = f} {Reads = Reads} {Stops = Stops} {before = before} {after = 
     read (inl q) = inl (q.0, back q.0 q.1)
     read (inr q) = inr q
 
--- the visits of rows that were accepted, and further ones
-rows_further : {S E : Type 0} (asked : Asks S E) (c : ℕ) {s n m : S} (read made : List Tree) → AcceptsRows asked c s read made n → Further asked n m → Further asked s m
-rows_further asked c {s = s} {n = n} {m = m} read made accepts further =
-    let walked : walk asked c s (rows_then read Tree.nil) ≡ accepted (rows_then made Tree.nil) n = accepts Tree.nil in
-    further_then asked s n m (walk_further asked c s n (rows_then read Tree.nil) (rows_then made Tree.nil) walked) further
-
-nothing_further : {S E : Type 0} (asked : Asks S E) {s m : S} → m ≡ s → Further asked s m
-nothing_further {S = S} asked {s = s} same = let P : S → Type 0 = λ z. Further asked s z in subst P (sym same) (further_none asked s)
-
 module _ {S E : Type 0} {asked : Asks S E} {s m : S} {old new : Sections} (r : Result (Unit {0}) (Error E)) where
   pub kind_gives : (k : SectionId) {bytes body left : List ℕ} → Begins frame bytes (numbered_frame (number k) body) left → GivesSection asked k body (s, old) (m, new) r →
       GivesFramed asked (number k) (numbered_frame (number k) body) (λ c e n. StopsSection asked c k body s e n) (s, old) (m, new) r
   kind_gives k {body = body} there g =
-      gives_framed (kind_in_frame k body) (λ t q. framed_kind k (frame_id there).0 q) fault r g.reading g.readable g.unreadable g.refusal g.unchanged
-    where
-      fault : (at : ℕ) → BodyFault asked old.ceiling k body s m at → ((t : Tree) → ReadsAs k body t → ⊥) × Further asked s m
-      fault at (none, inl q) = (none, nothing_further asked q.2)
-      fault at (none, inr (inl q)) = (none, rows_further asked old.ceiling q.fault.read q.fault.made q.fault.accepts q.fault.further)
-      fault at (none, inr (inr q)) = (none, nothing_further asked q.3)
+      gives_framed (kind_in_frame k body) (λ t q. framed_kind k (frame_id there).0 q) (λ at q. q.0) r g.reading g.readable g.unreadable g.refusal g.unchanged
 
   pub custom_gives : {name contents : List ℕ} → GivesCustom asked name contents (s, old) (m, new) r →
       GivesFramed asked 0 (custom_frame name contents) (λ c e n. StopsCustom asked c name contents s e n) (s, old) (m, new) r
   custom_gives {name = name} {contents = contents} g =
-      gives_framed (custom_in_frame name contents) (λ t q. framed_custom q) (λ at q. (q.0, rows_further asked old.ceiling q.2.read q.2.made q.2.accepts q.2.further)) r g.reading g.readable g.unreadable g.refusal g.unchanged
+      gives_framed (custom_in_frame name contents) (λ t q. framed_custom q) (λ at q. q.0) r g.reading g.readable g.unreadable g.refusal g.unchanged
 
   pub unknown_gives : {id : ℕ} {bytes contents left : List ℕ} → 14 ≤ id → Begins frame bytes (numbered_frame id contents) left →
       GivesAdded asked id (s, old) (unknown_tree_of id contents) (m, new) r → IfErr r (λ e. IfParse e (λ _. ⊥)) →
@@ -151,7 +141,12 @@ pub record Reached {S E : Type 0} (asked : Asks S E) (Stops : ℕ → Error E �
   pub framed : Begins frame bytes f left
   pub told : (t : Tree) → InFrame t f → announced asked s last t ≡ accepted 0 n
   pub kinds : (t : Tree) → InFrame t f → kind last t ≡ now
-  pub further : Further asked s n
+  -- the visit of the section hook, where it was asked
+  pub hook : List Visit
+  pub given : List ℕ
+  pub ran : run asked s hook ≡ accepted given n
+  pub visited : (t : Tree) → InFrame t f → before last t ≡ hook
+  pub drawn : (x : List ℕ) → Drawn x hook
   pub stops : (c : ℕ) (e : Error E) (m : S) → Stops c e m → StopsThere asked c bytes last s e m
 
 module _ {S E : Type 0} (asked : Asks S E) {bytes left : List ℕ} {last : Option SectionId} {s : S} where
@@ -162,7 +157,11 @@ module _ {S E : Type 0} (asked : Asks S E) {bytes left : List ℕ} {last : Optio
     framed = there;
     told = λ t i. (kind_announced asked k s last i).0 ∙ h;
     kinds = λ t i. (kind_announced asked k s last i).1;
-    further = further_one asked s n (Section last (Some k)) 0 h;
+    hook = Section last (Some k) ∷ [];
+    given = 0 ∷ [];
+    ran = rw h refl;
+    visited = λ t i. kind_before k last i;
+    drawn = λ x. drawn_hook;
     stops = λ c e m q. inl (record { id = k; body = body; left = left; framed = there; stops = inr (n, h, q) });
   }
 
@@ -173,7 +172,11 @@ module _ {S E : Type 0} (asked : Asks S E) {bytes left : List ℕ} {last : Optio
     framed = there;
     told = λ t i. let r = custom_in_frame name contents t i in rw r.1 refl;
     kinds = λ t i. let r = custom_in_frame name contents t i in rw r.1 refl;
-    further = further_none asked s;
+    hook = [];
+    given = [];
+    ran = refl;
+    visited = λ t i. let r = custom_in_frame name contents t i in rw r.1 refl;
+    drawn = λ x. drawn_none;
     stops = λ c e m q.
         let P : List ℕ → Type 0 = λ z. Begins frame bytes (custom_frame z contents) left in
         inr (record { contents = contents; left = left; framed = subst P q.0 there; stops = q.1 });
@@ -185,6 +188,10 @@ module _ {S E : Type 0} (asked : Asks S E) {bytes left : List ℕ} {last : Optio
     framed = there;
     told = λ t i. rw (unknown_in_frame id contents t low i) refl;
     kinds = λ t i. rw (unknown_in_frame id contents t low i) refl;
-    further = further_none asked s;
+    hook = [];
+    given = [];
+    ran = refl;
+    visited = λ t i. rw (unknown_in_frame id contents t low i) refl;
+    drawn = λ x. drawn_none;
     stops = λ c e m q. absurd q;
   }

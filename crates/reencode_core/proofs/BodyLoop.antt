@@ -228,7 +228,7 @@ module _ {S E : Type 0} (reply : S → Visit → Result ℕ E) (next : S → Vis
           subst P (sym f.1) (subst N same q)) (ap CodeRows.rows g.unchanged) usual (refuses e g)
 
       go : (e : Error E) → GivesBody (ask reply next) bytes (s, mid) (s', new) (Err e) → GivesRows (ask reply next) c code_row start (s0, old) (s', new.rows) (Err (placed_at e at))
-      go (ParseError x) g = rows_faulty reply next d at (code_unread r g.unreadable.0) place g.unreadable.2 (ap CodeRows.rows g.unchanged)
+      go (ParseError x) g = rows_faulty reply next d at (code_unread r g.unreadable.0) place (ap CodeRows.rows g.unchanged)
       go (UserError x) g = refusal (UserError x) g tt
       go (TooLarge x) g = refusal (TooLarge x) g tt
       go NoMemory g = refusal NoMemory g tt
@@ -238,12 +238,12 @@ pub keeps_code : (code : CodeRows) → KeepsCode code code
 keeps_code code = record { ceiling = refl; rows = take-length code.rows }
 
 -- no frame is there
+pub frames_missing : (f : Fault) (reader : Standing) → ReadsNone f (place_of reader) (RowMissing frame_row reader) → ReadsNoneOrWants f (place_of reader) (RowMissing code_row reader)
+frames_missing (fault.Read x) reader h = (h.0, code_missing h.1)
+frames_missing fault.NoMemory reader h = tt
+frames_missing fault.CodeSize reader h = h
+frames_missing (fault.Header k) reader h = h
+
 pub frames_unread : {S E : Type 0} (asked : Asks S E) {c : ℕ} {start reader : Standing} {s0 s : S} {old new : List Tree} (f : Fault) → RowsDone asked c code_row start s0 old reader s new →
     ReadsNone f (place_of reader) (RowMissing frame_row reader) → GivesRows asked c code_row start (s0, old) (s, new) (Err (error_of_fault f))
-frames_unread asked {reader = reader} f d none = rows_unread asked f d (go f none)
-  where
-    go : (f : Fault) → ReadsNone f (place_of reader) (RowMissing frame_row reader) → ReadsNoneOrWants f (place_of reader) (RowMissing code_row reader)
-    go (fault.Read x) h = (h.0, code_missing h.1)
-    go fault.NoMemory h = tt
-    go fault.CodeSize h = h
-    go (fault.Header k) h = h
+frames_unread asked {reader = reader} f d none = rows_unread asked f d (frames_missing f reader none)

@@ -1,5 +1,5 @@
 -- The loop over the sections of a module.
-use Rattle.std.proofs.Common.{◌≡◌, ◌≢◌, ◌-◌, ℕ, List, [], ◌∷◌, ◌++◌, length, map, Option, Some, None, Result, Ok, Err, refl, sym, ap, ◌∙◌, subst, append_assoc, append-nil, ◌⊎◌, inl, inr, Bool, IsTrue}
+use Rattle.std.proofs.Common.{◌≡◌, ◌≢◌, ◌-◌, ℕ, List, [], ◌∷◌, ◌++◌, length, map, Option, Some, None, Result, Ok, Err, refl, sym, ap, ◌∙◌, subst, append_assoc, append-nil, ◌⊎◌, inl, inr, Bool}
 use Rattle.std.proofs.lemmas.List.{append_cancel_left}
 use Rattle.wasm_leb.specs.declared.fault.Fault.{Fault}
 use Rattle.wasm_leb.specs.declared.fault.Fault.TheVariants as fault
@@ -7,7 +7,9 @@ use Rattle.wasm_leb.specs.declared.fault.Kind.TheVariants as kinds
 use Rattle.wasm_shapes.specs.declared.SectionId.{SectionId}
 use Rattle.wasm_shapes.specs.declared.Visit.{Visit}
 use Rattle.wasm_shapes.specs.declared.Visit.TheVariants.{Section}
-use Rattle.wasm_shapes.specs.Tree.{Tree, kind, normal, visits, visits_from}
+use Rattle.wasm_shapes.specs.Drawn.{Drawn}
+use Rattle.wasm_shapes.specs.Tree.{Tree, before, kind, normal, visits, visits_from}
+use Rattle.wasm_shapes.proofs.Drawn.{drawn_behind, drawn_front, drawn_hook, drawn_joined, drawn_none}
 use Rattle.wasm_shapes.specs.Spells.{Is, Spelled, Spells}
 use Rattle.wasm_shapes.specs.Place.{Begins, BeginsNone}
 use Rattle.wasm_shapes.specs.CodeSize.{InvalidCodeSize}
@@ -23,22 +25,23 @@ use Rattle.wasm_write.specs.Sections.{Sections, SectionRow, section_row, section
 use Rattle.reencode_hooks.specs.declared.error.Error.{Error}
 use Rattle.reencode_hooks.specs.declared.error.Error.TheVariants.{CanonicalizedHeapTypeReference, InvalidConstExpr, InvalidCodeSectionSize, UnexpectedNonCoreModuleSection, UnexpectedNonComponentSection, UnsupportedCoreTypeInComponent, ParseError, UserError, TooLarge, NoMemory}
 use Rattle.reencode_hooks.specs.Errors.{error_of_fault}
-use Rattle.reencode_hooks.specs.Run.{Step, accepted, refused, and_then, ask, Visited, NeverWants}
+use Rattle.reencode_hooks.specs.Run.{Step, accepted, refused, and_then, ask, NeverWants}
 use Rattle.reencode_hooks.specs.Walk.{walk, walk_from, announced}
-use Rattle.reencode_hooks.specs.Hooks.{RepliesSection, Gains}
-use Rattle.reencode_items.proofs.Leaving.{never_wants, none_visited, one_visited}
-use Rattle.reencode_core.specs.Leaves.{LeavesReading}
+use Rattle.reencode_hooks.specs.Hooks.{KeepsAdds, RepliesSection, Gains}
+use Rattle.reencode_hooks.proofs.Walks.{walk_is_run}
+use Rattle.reencode_core.specs.Leaves.{CoreUpTo, EndsBy, IsFront, IsSize, Leaves, LeavesCore, MadeUpTo, TellsFault, module_in}
 use Rattle.reencode_core.specs.Errors.{IfParse, IfRefused, placed_at}
-use Rattle.reencode_core.specs.Rows.{Asks, Further}
+use Rattle.reencode_core.specs.Rows.{Asks}
 use Rattle.reencode_core.specs.Core.{hooked, onto, AcceptsSections, RefusedIn, StopsThere, BeforeFault, IsCause}
 use Rattle.reencode_core.specs.Weave.{Puts, added, kind_after, put_before, woven_one, weave, weave_from}
 use Rattle.reencode_core.specs.Woven.{IsOwn, IsPart, StopsHook, StopsHooked, StopsNext, WeavesSections, StopsWoven, GivesWovenModule, OwnNext, WovenFront, OwnTooLarge, IsWovenCause, AddedBefore, AddedThere, GainsBefore, GivesWoven}
 use Rattle.reencode_core.proofs.AddsNothing.{none_own}
 use Rattle.reencode_core.proofs.Weaves.{alsos-append}
-use Rattle.reencode_core.proofs.Counts.{further_none, further_then}
-use Rattle.reencode_core.proofs.AnySection.{GivesFramed, Reached, added_put, kind_announced, kind_put}
+use Rattle.reencode_core.proofs.AnySection.{GivesFramed, Reached, added_put, kind_announced, kind_before, kind_put}
+use Rattle.reencode_core.proofs.Made.{ended_all, ended_behind, ended_placed, fault_unasked, front_all, front_first, front_none, front_same, front_then, not_wanting, one_ended, tells_placed}
+use Rattle.reencode_core.proofs.SectionMade.{before_drawn, in_frame_drawn}
 use Rattle.reencode_core.proofs.Usual.{IfRefused-map, unless_wanting, usual_ask, stops_usual}
-use Rattle.reencode_core.proofs.Known.{section_onward, hook_visits, inside_visits, some_begun, gains_none, gains_both}
+use Rattle.reencode_core.proofs.Known.{some_begun, gains_none, gains_both}
 
 -- ---- lists of sections
 
@@ -128,6 +131,32 @@ ahead (t ∷ ts) start text rest text' rest' all p e q f none =
 pub none_behind : BeginsNone section []
 none_behind = none_at_end refl
 
+-- the visits of sections, and of those behind them
+visits_alsos : (last : Option SectionId) (ts : List Tree) (others : Tree) → visits_from last (alsos ts others) ≡ visits_from last (alsos ts Tree.empty) ++ visits_from (kind_after last ts) others
+visits_alsos last [] others = refl
+visits_alsos last (t ∷ ts) others =
+    let front : List Visit = visits_from (kind last t) (alsos ts Tree.empty) in
+    let behind : List Visit = visits_from (kind_after (kind last t) ts) others in
+    ap (λ (z : List Visit). before last t ++ (visits t ++ z)) (visits_alsos (kind last t) ts others)
+    ∙ ap (λ (z : List Visit). before last t ++ z) (sym (append_assoc (visits t) front behind))
+    ∙ sym (append_assoc (before last t) (visits t ++ front) behind)
+
+-- the section in a frame, and its visits, which are drawn from its text
+section_here : {f t : Tree} {bytes left : List ℕ} → InFrame t f → Begins frame bytes f left → (b : Begins section bytes t left) × Drawn b.text (visits t)
+section_here {f = f} {t = t} i there =
+    let whole : Begins frame there.text f [] = record { text = there.text; spells = there.spells; reads = sym (append-nil there.text) } in
+    let one = section_there i whole in
+    let same : one.text ≡ there.text = sym (one.reads ∙ append-nil one.text) in
+    let P : List ℕ → Type 0 = λ z. Spells section z t in
+    (record { text = there.text; spells = subst P same one.spells; reads = there.reads }, in_frame_drawn i whole)
+
+-- A section in a frame was asked in part: these visits were made, drawn from these bytes, and of each reading of it they are a front part.
+pub record FrameLeaves {S E : Type 0} (asked : Asks S E) (bytes : List ℕ) (f : Tree) (s : S) (e : Error E) (m : S) : Type 0 where
+  pub made : List Visit
+  pub ended : EndsBy asked s made e m
+  pub drawn : Drawn bytes made
+  pub reading : (t : Tree) → InFrame t f → IsFront made (visits t)
+
 -- ---- the spelling of sections
 
 abbrev normals : List Tree → List ℕ
@@ -190,7 +219,7 @@ module _ {S E : Type 0} (reply : S → Visit → Result ℕ E) (next : S → Vis
   hook_own UnsupportedCoreTypeInComponent r = inr (λ other. r.0)
 
   -- its error says nothing of the bytes that are read
-  hook_usual : (e : Error E) → (e ≢ NoMemory → ask reply next s (Section a b) ≡ refused e m) → IfParse e (λ at. ⊥)
+  pub hook_usual : (e : Error E) → (e ≢ NoMemory → ask reply next s (Section a b) ≡ refused e m) → IfParse e (λ at. ⊥)
   hook_usual e h = stops_usual (λ at. ⊥) (ask reply next s (Section a b)) e m (usual_ask reply next s (Section a b)) h
 
   pub hook_stops : (e : Error E) → RepliesSection reply next adds s m old new a b (Err e) → HookStops (ask reply next s (Section a b)) (adds s a b) m old new e
@@ -201,13 +230,18 @@ module _ {S E : Type 0} (reply : S → Visit → Result ℕ E) (next : S → Vis
       why (inl own) = inl own
       why (inr h) = inr (h, hook_usual e h)
 
-  -- where it adds nothing, it refused as it replies
-  pub hook_err : adds s a b ≡ [] → (e : Error E) → RepliesSection reply next adds s m old new a b (Err e) → e ≢ NoMemory → ask reply next s (Section a b) ≡ refused e m
-  hook_err none e r = go (hook_own e r)
-    where
-      go : IsOwn old.ceiling (adds s a b) e ⊎ (e ≢ NoMemory → ask reply next s (Section a b) ≡ refused e m) → e ≢ NoMemory → ask reply next s (Section a b) ≡ refused e m
-      go (inl own) = absurd (none_own old.ceiling (adds s a b) e none own)
-      go (inr h) = h
+  -- where a size is none of its own sections', it refused as it replies
+  pub hook_told : (e : Error E) → RepliesSection reply next adds s m old new a b (Err e) → (IsSize e → adds s a b ≡ []) → e ≢ NoMemory → ask reply next s (Section a b) ≡ refused e m
+  hook_told (TooLarge n) r none other = absurd (none_own {E = E} old.ceiling (adds s a b) (TooLarge n) (none tt) r.0)
+  hook_told NoMemory r none other = absurd (other refl)
+  hook_told (ParseError x) r none other = r.0
+  hook_told (UserError x) r none other = r.0
+  hook_told CanonicalizedHeapTypeReference r none other = r.0
+  hook_told InvalidConstExpr r none other = r.0
+  hook_told InvalidCodeSectionSize r none other = r.0
+  hook_told UnexpectedNonCoreModuleSection r none other = r.0
+  hook_told UnexpectedNonComponentSection r none other = r.0
+  hook_told UnsupportedCoreTypeInComponent r none other = r.0
 
 -- ---- the loop
 
@@ -226,8 +260,7 @@ pub record SectionsDone {S E : Type 0} (asked : Asks S E) (adds : Puts S Section
   pub weaves : WeavesSections asked (added adds) old.ceiling s0 read woven last s
   pub gains : Gains old new rows
   pub spelled : sections_bytes rows ≡ normals woven
-  -- what was asked of the others was asked behind the first
-  pub onward : (others : Tree) (m : S) → Visited asked s (visits_from last others) m → Visited asked s0 (visits (alsos read others)) m
+  pub drawn : Drawn text (visits (alsos read Tree.empty))
 
 -- What the section hook puts before the section in a frame was added.
 pub record Put {S E : Type 0} (asked : Asks S E) (adds : Puts S SectionRow) (f : Tree) (last : Option SectionId) (s n : S) (new mid : Sections) : Type 0 where
@@ -290,7 +323,7 @@ module _ {S E : Type 0} (asked : Asks S E) (adds : Puts S SectionRow) where
     weaves = λ others. onto_nothing asked (weave asked (added adds) old.ceiling s others);
     gains = gains_none old;
     spelled = refl;
-    onward = λ others m v. v;
+    drawn = drawn_none;
   }
 
   pub sections_more : {Stops : ℕ → Error E → S → Type 0} {id : ℕ} {f : Tree} {start rest rest' : List ℕ} {s0 s n s' : S} {old new mid new' : Sections} {last now : Option SectionId} →
@@ -299,7 +332,8 @@ module _ {S E : Type 0} (asked : Asks S E) (adds : Puts S SectionRow) where
   sections_more {Stops = Stops} {id = id} {f = f} {rest = rest} {rest' = rest'} {s0 = s0} {s = s} {n = n} {s' = s'} {old = old} {new = new} {mid = mid} {new' = new'} {last = last} {now = now} d reached put g =
       let t : Tree = g.readable.0 in
       let in_it : InFrame t f = g.readable.1 in
-      let here = section_there in_it reached.framed in
+      let found = section_here in_it reached.framed in
+      let here = found.0 in
       let told : announced asked s last t ≡ accepted 0 n = reached.told t in_it in
       let kinds : kind last t ≡ now = reached.kinds t in_it in
       let q = g.reading t in_it in
@@ -334,10 +368,15 @@ module _ {S E : Type 0} (asked : Asks S E) (adds : Puts S SectionRow) where
             let one : sections_bytes (row ∷ []) ≡ normals (q.0 ∷ []) = ap (λ (z : List ℕ). z ++ []) q.4 in
             let both : sections_bytes (put.own ++ row ∷ []) ≡ normals (us ++ q.0 ∷ []) = spelled_both put.own (row ∷ []) us (q.0 ∷ []) (spelled_added put.own) one in
             spelled_both d.rows (put.own ++ row ∷ []) d.woven (us ++ q.0 ∷ []) d.spelled both;
-        onward = λ others m v.
-            let P : Tree → Type 0 = λ z. Visited asked s0 (visits z) m in
-            subst P (sym (alsos-append d.read (t ∷ []) others))
-            (d.onward (Tree.also t others) m (section_onward asked old.ceiling last t others told kinds walked v));
+        drawn =
+            let P : Tree → Type 0 = λ z. Drawn (d.text ++ here.text) (visits z) in
+            let Q : List Visit → Type 0 = λ z. Drawn (d.text ++ here.text) z in
+            let one : Drawn here.text (before last t ++ (visits t ++ [])) =
+            drawn_joined here.text (before last t) (visits t ++ []) (before_drawn last t) (drawn_joined here.text (visits t) [] found.1 drawn_none) in
+            let both : Drawn (d.text ++ here.text) (visits (alsos d.read Tree.empty) ++ (before last t ++ (visits t ++ []))) =
+            drawn_joined (d.text ++ here.text) (visits (alsos d.read Tree.empty)) (before last t ++ (visits t ++ [])) (drawn_front d.text here.text refl d.drawn) (drawn_behind d.text here.text refl one) in
+            let V : Option SectionId → Type 0 = λ z. Drawn (d.text ++ here.text) (visits (alsos d.read Tree.empty) ++ visits_from z (Tree.also t Tree.empty)) in
+            subst P (sym (alsos-append d.read (t ∷ []) Tree.empty)) (subst Q (sym (visits_alsos None d.read (Tree.also t Tree.empty))) (subst V d.ends both));
       }
 
   -- ---- the ends of the loop
@@ -494,13 +533,13 @@ module _ {S E : Type 0} (asked : Asks S E) (adds : Puts S SectionRow) where
       some = some;
     }
 
-    -- and so an error at the place, as further visits showed
-    fault_behind : {s' : S} {new' : Sections} (at : ℕ) → BeginsNone section rest → rest ≢ [] → (InvalidCodeSize rest → ⊥) → at ≡ length bytes - length rest → Further asked s s' →
+    -- and so an error at the place
+    fault_behind : {s' : S} {new' : Sections} (at : ℕ) → BeginsNone section rest → rest ≢ [] → (InvalidCodeSize rest → ⊥) → at ≡ length bytes - length rest →
         GainsBefore asked adds bytes (s0, old) (s', new') (ParseError (record { at = at })) → GivesWoven asked adds bytes (s0, old) (s', new') (Err (ParseError (record { at = at })))
-    fault_behind {s' = s'} {new' = new'} at none some other place further gains = record {
+    fault_behind {s' = s'} {new' = new'} at none some other place gains = record {
       reading = λ t r. absurd (no_reading none some t r);
       readable = tt;
-      cause = inl (inr (d.read, rest, fault_here none some, other, place, d.made, last, s, d.accepts, further));
+      cause = inl (inr (d.read, rest, fault_here none some, other, place, d.made, last, s, d.accepts));
       gained = gains;
     }
 
@@ -508,7 +547,7 @@ module _ {S E : Type 0} (asked : Asks S E) (adds : Puts S SectionRow) where
     pub no_frame : (f : Fault) (at : ℕ) → NoFrame f rest at → at ≡ length bytes - length rest →
         GivesWoven asked adds bytes (s0, old) (s, new) (Err (error_of_fault f))
     no_frame (fault.Read x) at h place =
-        fault_behind x.at (none_section h.1) h.2 h.3 (h.0 ∙ place) (further_none asked s) (gained (gains_none new) (AddedThere.unframed h.1 h.2 refl))
+        fault_behind x.at (none_section h.1) h.2 h.3 (h.0 ∙ place) (gained (gains_none new) (AddedThere.unframed h.1 h.2 refl))
     no_frame fault.CodeSize at h place =
         let none = none_section h.0 in
         let some = code_size_some h.1 in
@@ -588,9 +627,8 @@ module _ {S E : Type 0} (asked : Asks S E) (adds : Puts S SectionRow) where
 
         go : (w : Error E) → GivesFramed asked id f Stops (n, mid) (s', new') (Err w) → GivesWoven asked adds bytes (s0, old) (s', new') (Err (placed_at w at))
         go (ParseError x) g =
-            fault_behind at (none_in_frame reached.framed g.unreadable.0) (some_begun reached.framed) (code_size_other reached.framed) place
-            (further_then asked s n s' reached.further g.unreadable.1)
-            (gains (ParseError x) (ParseError (record { at = at })) g (λ t i. absurd (g.unreadable.0 t i)))
+            fault_behind at (none_in_frame reached.framed g.unreadable) (some_begun reached.framed) (code_size_other reached.framed) place
+            (gains (ParseError x) (ParseError (record { at = at })) g (λ t i. absurd (g.unreadable t i)))
         go (UserError x) g = refuses (UserError x) tt g
         go (TooLarge x) g = refuses (TooLarge x) tt g
         go NoMemory g = refuses NoMemory tt g
@@ -665,46 +703,90 @@ module _ {S E : Type 0} (asked : Asks S E) (adds : Puts S SectionRow) where
         why (inl x) = inr (own_large {e = e} (inl (empty, own_under own e x)))
         why (inr q) = inl (cause e q.1)
 
-    -- ---- the state that is left
+    -- ---- the visits that were made
 
-    leaves_at : {m : S} (t others : Tree) → t ≡ alsos d.read others → Visited asked s (visits_from last others) m → Visited asked s0 (visits t) m
-    leaves_at {m = m} t others e v = let P : Tree → Type 0 = λ z. Visited asked s0 (visits z) m in subst P (sym e) (d.onward others m v)
+    abbrev read_visits : List Visit
+    read_visits = visits (alsos d.read Tree.empty)
 
-    -- no further section was asked
-    pub core_leaves_none : (t : Tree) → CoreReading bytes t → Visited asked s0 (visits t) s
-    core_leaves_none t r = go t (read_ahead t r)
+    -- the visits of the sections so far, and of those behind them
+    visits_are : (others : Tree) → visits (alsos d.read others) ≡ read_visits ++ visits_from last others
+    visits_are others = visits_alsos None d.read others ∙ ap (λ (z : Option SectionId). read_visits ++ visits_from z others) (sym d.ends)
+
+    -- these visits were made behind them
+    pub core_leaves : {m : S} (e : Error E) (mid : List Visit) → EndsBy asked s mid e m → Drawn rest mid → (rest ≡ [] → IsFront mid (Section last None ∷ [])) →
+        ((t : Tree) (left : List ℕ) → Begins section rest t left → (¬ TellsFault e) × IsFront mid (before last t ++ visits t)) → Leaves asked (module_in bytes) s0 e m
+    core_leaves {m = m} e mid ended drawn at_end next = record {
+      made = read_visits ++ mid;
+      ended = ended_behind asked e read_visits mid ((walk_is_run asked).forth old.ceiling s0 s (alsos d.read Tree.empty) (alsos d.made Tree.empty) (d.accepts Tree.empty)).ran ended;
+      drawn = drawn_behind core_header start reads (drawn_joined start read_visits mid (drawn_front d.text rest d.stands d.drawn) (drawn_behind d.text rest d.stands drawn));
+      reading = λ t r. whole t (read_ahead t r);
+      fault = λ none t left f. up_to t left f;
+    }
       where
-        go : (t : Tree) → Ahead d.read rest t [] → Visited asked s0 (visits t) s
-        go t (same f _) = leaves_at t Tree.finish f (none_visited s (visits_from last Tree.finish))
-        go t (more u v left f b) = leaves_at t (Tree.also u v) f (none_visited s (visits_from last (Tree.also u v)))
+        -- of the next section
+        section_front : (u v : Tree) → IsFront mid (before last u ++ visits u) → IsFront (read_visits ++ mid) (visits (alsos d.read (Tree.also u v)))
+        section_front u v f =
+            let behind : List Visit = visits_from (kind last u) v in
+            let parts : visits (alsos d.read (Tree.also u v)) ≡ read_visits ++ ((before last u ++ visits u) ++ behind) =
+            visits_are (Tree.also u v) ∙ ap (λ (z : List Visit). read_visits ++ z) (sym (append_assoc (before last u) (visits u) behind)) in
+            front_same (sym parts) (front_then read_visits (front_first behind f))
 
-    -- the next section, or the hook before it, was asked in part
-    leaves_section : {m : S} {f : Tree} {left : List ℕ} → Begins frame rest f left →
-        ((t others : Tree) → InFrame t f → Visited asked s (visits_from last (Tree.also t others)) m) → (t : Tree) → CoreReading bytes t → Visited asked s0 (visits t) m
-    leaves_section {m = m} there leaves t r = go t (read_ahead t r)
+        whole : (t : Tree) → Ahead d.read rest t [] → IsFront (read_visits ++ mid) (visits t)
+        whole t (same f empty) = front_same (sym (ap visits f ∙ visits_are Tree.finish)) (front_then read_visits (at_end empty))
+        whole t (more u v left f b) = front_same (sym (ap visits f)) (section_front u v (next u left b).1)
+
+        up_to : (t : Tree) (left : List ℕ) → CoreUpTo bytes t left → MadeUpTo e (read_visits ++ mid) (visits t) left
+        up_to t left (CoreUpTo.sections before left' fault) = go (fault_ahead before left' fault)
+          where
+            go : Ahead d.read rest (alsos before Tree.finish) left' → MadeUpTo e (read_visits ++ mid) (visits (alsos before Tree.empty)) left'
+            go (same a r) =
+                let P : List ℕ → Type 0 = λ z. Drawn z mid in
+                let are : before ≡ d.read = same_sections before d.read a in
+                inr (mid, ap (λ (z : List Tree). visits (alsos z Tree.empty) ++ mid) (sym are), subst P r drawn)
+            go (more u v behind a b) =
+                let n = next u behind b in
+                let are : alsos before Tree.empty ≡ alsos d.read (Tree.also u (alsos (list_of v) Tree.empty)) =
+                ap (λ (z : List Tree). alsos z Tree.empty) (more_before before u v a) ∙ alsos-append d.read (u ∷ list_of v) Tree.empty in
+                inl (n.0, front_same (sym (ap visits are)) (section_front u (alsos (list_of v) Tree.empty) n.1))
+
+    -- no frame begins
+    pub core_leaves_none : (f : Fault) (at : ℕ) → NoFrame f rest at → Leaves asked (module_in bytes) s0 (error_of_fault f) s
+    core_leaves_none f at h =
+        core_leaves (error_of_fault f) [] (ended_all {a = []} (error_of_fault f) (fault_unasked E f) refl) drawn_none (λ empty. front_none (Section last None ∷ []))
+        (λ t left b. absurd ((none f h).none b.text left t b.spells b.reads))
       where
-        go : (t : Tree) → Ahead d.read rest t [] → Visited asked s0 (visits t) m
-        go t (same f empty) = absurd (some_begun there empty)
-        go t (more u v left f b) = leaves_at t (Tree.also u v) f (leaves u v (frame_there there b))
+        none : (f : Fault) → NoFrame f rest at → BeginsNone section rest
+        none (fault.Read x) h = none_section h.1
+        none fault.CodeSize h = none_section h.0
+        none (fault.Header k) h = absurd h
+        none fault.NoMemory h = absurd h
 
-    pub core_leaves_hook : {m : S} {e : Error E} (k : SectionId) {left body : List ℕ} → Begins frame rest (numbered_frame (number k) body) left →
-        asked s (Section last (Some k)) ≡ refused e m → (t : Tree) → CoreReading bytes t → Visited asked s0 (visits t) m
-    core_leaves_hook k there h = leaves_section there (λ t others i. hook_visits asked last t others ((kind_announced asked k s last i).0 ∙ h))
+    -- the hook before a section was refused
+    pub core_leaves_hook : {m : S} (k : SectionId) (e : Error E) {left body : List ℕ} → Begins frame rest (numbered_frame (number k) body) left → EndsBy asked s (Section last (Some k) ∷ []) e m →
+        ¬ TellsFault e → Leaves asked (module_in bytes) s0 e m
+    core_leaves_hook k e there ended tells =
+        core_leaves e (Section last (Some k) ∷ []) ended drawn_hook (λ empty. absurd (some_begun there empty))
+        (λ t left b. (tells, front_first (visits t) (front_same (sym (kind_before k last (frame_there there b))) (front_all (Section last (Some k) ∷ [])))))
 
-    pub core_leaves_inside : {Stops : ℕ → Error E → S → Type 0} {f : Tree} {left : List ℕ} {now : Option SectionId} {m n : S} → Reached asked Stops f rest left last now s n →
-        ((t : Tree) → InFrame t f → Visited asked n (visits t) m) → (t : Tree) → CoreReading bytes t → Visited asked s0 (visits t) m
-    core_leaves_inside reached leaves = leaves_section reached.framed (λ t others i. inside_visits asked last t others (reached.told t i) (leaves t i))
+    -- a section was asked in part
+    pub core_leaves_inside : {Stops : ℕ → Error E → S → Type 0} {f : Tree} {left : List ℕ} {now : Option SectionId} {m n : S} → Reached asked Stops f rest left last now s n → (e : Error E) (at : ℕ) →
+        ((t : Tree) → InFrame t f → ¬ TellsFault e) → FrameLeaves asked rest f n e m → Leaves asked (module_in bytes) s0 (placed_at e at) m
+    core_leaves_inside reached e at tells l =
+        core_leaves (placed_at e at) (reached.hook ++ l.made) (ended_placed e at (ended_behind asked e reached.hook l.made reached.ran l.ended)) (drawn_joined rest reached.hook l.made (reached.drawn rest) l.drawn)
+        (λ empty. absurd (some_begun reached.framed empty))
+        (λ t left b.
+        let i = frame_there reached.framed b in
+        let P : List Visit → Type 0 = λ z. IsFront (reached.hook ++ l.made) (z ++ visits t) in
+        ((λ h. tells t i (tells_placed e at h)), subst P (sym (reached.visited t i)) (front_then reached.hook (l.reading t i))))
 
     -- the hook at the end was refused
-    pub core_leaves_end : {m : S} {e : Error E} → rest ≡ [] → asked s (Section last None) ≡ refused e m → (t : Tree) → CoreReading bytes t → Visited asked s0 (visits t) m
-    core_leaves_end {m = m} empty h t r = go t (read_ahead t r)
-      where
-        go : (t : Tree) → Ahead d.read rest t [] → Visited asked s0 (visits t) m
-        go t (same f _) = leaves_at t Tree.finish f (one_visited (Section last None) h)
-        go t (more u v left f b) = absurd (none_behind.none b.text left u b.spells (sym empty ∙ b.reads))
+    pub core_leaves_end : {m : S} (e : Error E) → rest ≡ [] → EndsBy asked s (Section last None ∷ []) e m → Leaves asked (module_in bytes) s0 e m
+    core_leaves_end e empty ended =
+        core_leaves e (Section last None ∷ []) ended drawn_hook (λ same. front_all (Section last None ∷ [])) (λ t left b. absurd (none_behind.none b.text left t b.spells (sym empty ∙ b.reads)))
 
   -- ---- no module
 
+  -- the header is missing
   pub header_wrong : {bytes : List ℕ} (s : S) (old : Sections) (f : Fault) → NoCoreHeader f bytes → GivesWoven asked adds bytes (s, old) (s, old) (Err (error_of_fault f))
   header_wrong {bytes = bytes} s old (fault.Header kinds.Component) there = record {
     reading = λ t r. absurd (let e : core_header ++ r.rest ≡ component_header ++ there.0 = sym r.stands ∙ there.1 in cc);
@@ -722,6 +804,14 @@ module _ {S E : Type 0} (asked : Asks S E) (adds : Puts S SectionRow) where
   header_wrong s old fault.CodeSize none = absurd none
   header_wrong s old fault.NoMemory none = absurd none
 
+-- no header of a core module stands there
+pub no_header : (f : Fault) {bytes : List ℕ} → NoCoreHeader f bytes → (rest : List ℕ) → bytes ≡ core_header ++ rest → ⊥
+no_header (fault.Header kinds.Component) there rest stands = let e : core_header ++ rest ≡ component_header ++ there.0 = sym stands ∙ there.1 in cc
+no_header (fault.Read x) none rest stands = (none.1 rest).0 stands
+no_header (fault.Header kinds.Module) none rest stands = none
+no_header fault.CodeSize none rest stands = none
+no_header fault.NoMemory none rest stands = none
+
 -- the section hook at the end
 pub end_given : {S E : Type 0} (reply : S → Visit → Result ℕ E) (next : S → Visit → S) (adds : Puts S SectionRow) {start bytes rest : List ℕ} {s0 s : S} {old new : Sections} {last : Option SectionId} →
     bytes ≡ core_header ++ start → SectionsDone (ask reply next) adds start s0 old rest last s new → rest ≡ [] → (s' : S) (new' : Sections) (r : Result (Unit {0}) (Error E)) →
@@ -730,10 +820,11 @@ end_given reply next adds {s = s} {new = new} {last = last} reads d empty s' new
 end_given reply next adds {s = s} {new = new} {last = last} reads d empty s' new' (Err e) h =
     end_refused (ask reply next) adds reads d e empty (hook_stops reply next adds s s' new new' last None e h)
 
-pub end_left : {S E : Type 0} (reply : S → Visit → Result ℕ E) (next : S → Visit → S) (adds : Puts S SectionRow) (none : (s : S) (a b : Option SectionId) → adds s a b ≡ [])
+pub end_left : {S E : Type 0} (reply : S → Visit → Result ℕ E) (next : S → Visit → S) (adds : Puts S SectionRow) {sure nothing : Bool} → KeepsAdds adds nothing →
     {start bytes rest : List ℕ} {s0 s : S} {old new : Sections} {last : Option SectionId} → bytes ≡ core_header ++ start →
     SectionsDone (ask reply next) adds start s0 old rest last s new → rest ≡ [] → (s' : S) (new' : Sections) (r : Result (Unit {0}) (Error E)) →
-    RepliesSection reply next adds s s' new new' last None r → {sure : Bool} → NeverWants sure r → IsTrue sure → LeavesReading (CoreReading bytes) (ask reply next) s0 s' r
-end_left reply next adds none reads d empty s' new' (Ok u) h never k = λ t r. tt
-end_left reply next adds none {s = s} {new = new} {last = last} reads d empty s' new' (Err e) h never k =
-    core_leaves_end (ask reply next) adds reads d empty (hook_err reply next adds s s' new new' last None (none s last None) e h (never_wants e never k))
+    RepliesSection reply next adds s s' new new' last None r → NeverWants sure r → LeavesCore sure nothing (ask reply next) (module_in bytes) s0 s' r
+end_left reply next adds keeps reads d empty s' new' (Ok u) h never = tt
+end_left reply next adds keeps {s = s} {new = new} {last = last} reads d empty s' new' (Err e) h never =
+    λ told size. core_leaves_end (ask reply next) adds reads d e empty
+    (one_ended reply next e (Section last None) (hook_told reply next adds s s' new new' last None e h (λ q. keeps (size q) s last None) (not_wanting e never told)))

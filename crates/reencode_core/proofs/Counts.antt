@@ -2,16 +2,15 @@
 use Rattle.std.proofs.Common.{◌≡◌, ℕ, zero, suc, ◌-◌, ◌<◌, ◌^◌, List, [], ◌∷◌, ◌++◌, length, drop, get_or, All, Contains, None, refl, sym, ap, ◌∙◌, arith, subst, inl, inr}
 use Rattle.std.proofs.lemmas.List.Elements.{All-nil, All-cons, All-append, All-contains, Contains-append_cases}
 use Rattle.wasm_shapes.specs.declared.Visit.{Visit}
-use Rattle.wasm_shapes.specs.Tree.{Tree, count, visits, fill, after, before, aimed_at, typed, Listed}
+use Rattle.wasm_shapes.specs.Tree.{Tree, count, fill, after, before, aimed_at, typed, Listed}
 use Rattle.wasm_shapes.specs.Spells.{Spelled}
 use Rattle.wasm_shapes.specs.Fits.{InRange}
 use Rattle.wasm_shapes.proofs.ReadBack.{spelled_in_range, count-fill}
 use Rattle.wasm_write.specs.Counts.{counts, IsTooLarge}
-use Rattle.reencode_hooks.specs.Run.{accepted, and_then, run, answers}
+use Rattle.reencode_hooks.specs.Run.{accepted, and_then, run}
 use Rattle.reencode_hooks.specs.Walk.{walk}
-use Rattle.reencode_hooks.specs.Moments.{moments_from, asked_in}
-use Rattle.reencode_hooks.proofs.Agrees.{agrees, inv, given, passed-run}
-use Rattle.reencode_core.specs.Rows.{Asks, Further}
+use Rattle.reencode_hooks.proofs.Agrees.{agrees, inv, given}
+use Rattle.reencode_core.specs.Rows.{Asks}
 
 abbrev pub IsSmall : ℕ → Type 0
 IsSmall n = n < 2 ^ 32
@@ -126,16 +125,6 @@ walk_fills asked c s m t u h =
     let i = inv _ (λ a n. accepted (fill t a) n) (sym passes ∙ h) in
     (i.0, sym (given i.3).0)
 
--- what was asked on an accepted walk
-pub walk_further : {S E : Type 0} (asked : Asks S E) (c : ℕ) (s m : S) (t u : Tree) → walk asked c s t ≡ accepted u m → Further asked s m
-walk_further asked c s m t u h =
-    let passes = (agrees asked c None t).same s [] in
-    let i = inv _ (λ a n. accepted (fill t a) n) (sym passes ∙ h) in record {
-      visits = asked_in (moments_from None t (answers asked s (visits t) ++ []));
-      given = i.0;
-      ran = passed-run asked c s (moments_from None t (answers asked s (visits t) ++ [])) i.0 i.1 i.2 ∙ ap (λ (n : _). accepted i.0 n) (given i.3).1;
-    }
-
 -- ---- accepted visits one behind another
 
 pub run_then : {S E : Type 0} (asked : Asks S E) (s n m : S) (xs ys : List Visit) (a b : List ℕ) → run asked s xs ≡ accepted a n → run asked n ys ≡ accepted b m →
@@ -146,15 +135,6 @@ run_then asked s n m (v ∷ xs) ys a b h k =
     let j = inv (run asked i.1 xs) (λ ns l. accepted (i.0 ∷ ns) l) i.3 in
     let g = given j.3 in
     rw (i.2, run_then asked i.1 n m xs ys j.0 b (j.2 ∙ ap (λ (z : _). accepted j.0 z) g.1) k) (ap (λ (z : List ℕ). accepted (z ++ b) m) g.0)
-
-pub further_none : {S E : Type 0} (asked : Asks S E) (s : S) → Further asked s s
-further_none asked s = record { visits = []; given = []; ran = refl }
-
-pub further_one : {S E : Type 0} (asked : Asks S E) (s m : S) (v : Visit) (n : ℕ) → asked s v ≡ accepted n m → Further asked s m
-further_one asked s m v n h = record { visits = v ∷ []; given = n ∷ []; ran = rw h refl }
-
-pub further_then : {S E : Type 0} (asked : Asks S E) (s n m : S) → Further asked s n → Further asked n m → Further asked s m
-further_then asked s n m p q = record { visits = p.visits ++ q.visits; given = p.given ++ q.given; ran = run_then asked s n m p.visits q.visits p.given q.given p.ran q.ran }
 
 walk_counts_small : {S E : Type 0} (asked : Asks S E) (c : ℕ) (s m : S) (t u : Tree) (x : List ℕ) → Spelled t x → walk asked c s t ≡ accepted u m → All IsSmall (counts u)
 walk_counts_small asked c s m t u x p h =

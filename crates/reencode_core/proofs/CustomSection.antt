@@ -3,7 +3,7 @@ use Rattle.std.proofs.Common.{◌≡◌, ◌≢◌, ◌⊎◌, ℕ, ◌≤◌, �
 use Rattle.wasm_leb.specs.Leb.{leb}
 use Rattle.wasm_shapes.specs.Tree.{Tree, normal, visits}
 use Rattle.wasm_shapes.specs.Types.{rows_tree}
-use Rattle.wasm_shapes.specs.Module.{ReadsContents, ReadsCustom, custom_tree_of, names_name, unknown_tree_of}
+use Rattle.wasm_shapes.specs.Module.{ReadsContents, ReadsCustom, custom_tree_of, names, names_name, unknown_tree_of}
 use Rattle.wasm_read.specs.Names.{NamesStanding}
 use Rattle.wasm_write.specs.declared.fault.WriteFault.{WriteFault}
 use Rattle.wasm_write.specs.declared.fault.WriteFault.TheVariants as write
@@ -15,20 +15,23 @@ use Rattle.reencode_hooks.specs.declared.error.Error.{Error}
 use Rattle.reencode_hooks.specs.declared.error.Error.TheVariants.{NoMemory, TooLarge}
 use Rattle.reencode_hooks.specs.declared.indices.ReencodeIndices.{Ghosts}
 use Rattle.reencode_hooks.specs.Errors.{error_of_write}
-use Rattle.reencode_hooks.specs.Run.{LeavesVisited, NeverWants, Visited, accepted, refused}
+use Rattle.reencode_hooks.specs.Run.{LeavesVisited, NeverWants, accepted, refused}
 use Rattle.reencode_hooks.specs.Walk.{walk}
-use Rattle.reencode_items.proofs.Leaving.{accepted_visited, none_visited, visited_left}
+use Rattle.reencode_items.proofs.Leaving.{none_visited, visited_left}
 use Rattle.reencode_core.specs.Errors.{IfParse}
-use Rattle.reencode_core.specs.Leaves.{LeavesReading}
+use Rattle.reencode_core.specs.Leaves.{Leaves, LeavesMade, custom_in, names_in}
+use Rattle.reencode_core.proofs.Made.{PartMade, Unasked, drawn_made, front_same, not_wanting, tree_made, write_unasked}
+use Rattle.reencode_core.proofs.SectionMade.{contents_drawn}
+use Rattle.wasm_shapes.proofs.Laws.{one_tree}
 use Rattle.reencode_core.specs.Names.{GivesCustom, GivesNames, SubsectionsLeft, contents_standing}
 use Rattle.reencode_core.specs.Rows.{Asks}
 use Rattle.reencode_core.specs.Sections.{AddsMapped, GivesAdded, KeepsModule}
 use Rattle.reencode_core.proofs.InFrame.{framed, framed_fits, framed_large, framed_refused}
 use Rattle.reencode_core.proofs.Known.{keeps_same}
-use Rattle.reencode_core.proofs.Leaving.{Leaves, never_refused}
+use Rattle.reencode_core.proofs.Leaving.{never_refused}
 use Rattle.reencode_core.proofs.MappedSection.{keeps_none}
 use Rattle.reencode_core.proofs.NamesLoop.{NamesClauses}
-use Rattle.reencode_core.proofs.OneRow.{MapsIf, answers, asks, sure_left}
+use Rattle.reencode_core.proofs.OneRow.{MapsIf, answers, asks}
 use Rattle.reencode_core.proofs.Usual.{IfParse-map, IfRefused-map, stops_usual, unless_wanting, write_usual}
 
 -- ---- a section in its frame
@@ -90,7 +93,7 @@ CustomClauses i name contents s old m new result =
     record {
       kept : KeepsModule old new;
       default : IsTrue i.keeps_defaults → GivesCustom (asks i) name contents (s, old) (m, new) result;
-      after_error : IsTrue i.keeps_defaults → IsTrue i.sure → LeavesReading (ReadsCustom name contents) (asks i) s m result;
+      after_error : IsTrue i.keeps_defaults → LeavesMade i.sure (asks i) (custom_in name contents) s m result;
     }
 
 -- the body of a custom section of a name
@@ -115,6 +118,13 @@ raw_of : {name contents : List ℕ} → name ≢ names_name → (u : Tree) → R
 raw_of other u (inl q) = absurd (other q.0)
 raw_of other u (inr q) = q.1
 
+-- the contents are read as one tree
+one_contents : {name contents : List ℕ} {u v : Tree} → ReadsContents name contents u → ReadsContents name contents v → u ≡ v
+one_contents {contents = contents} {u = u} {v = v} (inl p) (inl q) = one_tree names refl contents u v p.1 q.1
+one_contents (inl p) (inr q) = absurd (q.0 p.0)
+one_contents (inr p) (inl q) = absurd (p.0 q.0)
+one_contents (inr p) (inr q) = p.1 ∙ sym q.1
+
 module _ {S E : Type 0} (i : Ghosts S E) {name contents : List ℕ} (s : S) (old : Sections) where
   -- its contents were accepted: it is added, or it is too large
   custom_added : {m : S} {new : Sections} {body : Tree} (r : Result (Unit {0}) (Error E)) → (IsTrue i.keeps_defaults → ContentsMade (asks i) name contents old.ceiling s m body) →
@@ -122,12 +132,23 @@ module _ {S E : Type 0} (i : Ghosts S E) {name contents : List ℕ} (s : S) (old
   custom_added {m = m} {new = new} {body = body} r made adds = record {
     kept = keeps_added (section_row 0 (normal body)) old new r adds;
     default = λ k. given r adds (made k);
-    after_error = λ k sure t reads.
-        let walked = (made k).becomes reads.0 reads.2 in
-        let P : Tree → Type 0 = λ z. Visited (asks i) s (visits z) m in
-        visited_left r (subst P (sym reads.1) (accepted_visited old.ceiling (named name reads.0) walked));
+    after_error = λ k. left r adds (made k);
   }
     where
+      left : (r : Result (Unit {0}) (Error E)) → AddsMapped {E = E} (section_row 0 (normal body)) old (Ok tt) new r → ContentsMade (asks i) name contents old.ceiling s m body →
+          LeavesMade i.sure (asks i) (custom_in name contents) s m r
+      left (Ok v) adds w = tt
+      left (Err e) adds w = λ told.
+          let u = w.reading.0 in
+          let Q : Error E → Type 0 = λ z. Unasked z in
+          let p : PartMade (asks i) s (visits u) e m = tree_made (asks i) old.ceiling e (named name u) (subst Q (sym adds.2) (write_unasked E adds.1)) (w.becomes u w.reading.1) in record {
+            made = p.part;
+            ended = p.ended;
+            drawn = drawn_made p.front (contents_drawn w.reading.1);
+            reading = λ t reads. front_same (ap visits (one_contents w.reading.1 reads.2) ∙ sym (ap visits reads.1)) p.front;
+            fault = λ none t rest f. let q = read_custom u w.reading.1 in absurd (none q.0 q.1);
+          }
+
       gives : (r : Result (Unit {0}) (Error E)) → AddsMapped {E = E} (section_row 0 (normal body)) old (Ok tt) new r → ContentsMade (asks i) name contents old.ceiling s m body →
           (t : Tree) → ReadsCustom name contents t → GivesAdded (asks i) 0 (s, old) t (m, new) r
       gives r adds w t q =
@@ -173,15 +194,19 @@ module _ {S E : Type 0} (i : Ghosts S E) {name contents : List ℕ} (s : S) (old
         CustomClauses i name contents s old m old r
     names_not_added {c = c} {m = m} e ceiling given r q =
         let P : Result (Unit {0}) (Error E) → Type 0 = λ z. CustomClauses i name contents s old m old z in
-        subst P (answers r q) (record { kept = keeps_same old; default = λ k. custom (at_start ceiling (given.default k)); after_error = λ k sure. left (left_at (given.after_error k sure)) })
+        subst P (answers r q) (record { kept = keeps_same old; default = λ k. custom (at_start ceiling (given.default k)); after_error = λ k told. left (left_at (given.after_error k told)) })
       where
-        left_at : Leaves (SubsectionsLeft reader) (asks i) s m → Leaves (SubsectionsLeft (contents_standing contents)) (asks i) s m
-        left_at leaves = let P : NamesStanding → Type 0 = λ z. Leaves (SubsectionsLeft z) (asks i) s m in subst P fresh leaves
+        left_at : Leaves (asks i) (names_in reader) s e m → Leaves (asks i) (names_in (contents_standing contents)) s e m
+        left_at leaves = let P : NamesStanding → Type 0 = λ z. Leaves (asks i) (names_in z) s e m in subst P fresh leaves
 
-        left : Leaves (SubsectionsLeft (contents_standing contents)) (asks i) s m → Leaves (ReadsCustom name contents) (asks i) s m
-        left leaves t reads =
-            let P : Tree → Type 0 = λ z. Visited (asks i) s (visits z) m in
-            subst P (sym reads.1) (leaves reads.0 (names_of is reads.0 reads.2))
+        left : Leaves (asks i) (names_in (contents_standing contents)) s e m → Leaves (asks i) (custom_in name contents) s e m
+        left l = record {
+          made = l.made;
+          ended = l.ended;
+          drawn = l.drawn;
+          reading = λ t reads. front_same (sym (ap visits reads.1)) (l.reading reads.0 (names_of is reads.0 reads.2));
+          fault = λ none t rest f. l.fault (λ rows all. let q = read_custom rows (inl (is, all)) in none q.0 q.1) t rest f.1;
+        }
 
         refuses : (u : Tree) → walk (asks i) old.ceiling s u ≡ refused e m → walk (asks i) old.ceiling s (custom_tree_of (named name u)) ≡ refused e m
         refuses u h = let body : walk (asks i) old.ceiling s (named name u) ≡ refused e m = rw h refl in framed_refused (asks i) 13 (Tree.fixed 0) old.ceiling s m (named name u) refl e body
@@ -219,14 +244,8 @@ module _ {S E : Type 0} (i : Ghosts S E) {name contents : List ℕ} (s : S) (old
         (r : Result (Unit {0}) (Error E)) → IsErrAnd r (λ y. y ≡ e) → CustomClauses i name contents s old m old r
     other_not_mapped {A = A} view {m = m} e maps sure r q =
         let P : Result (Unit {0}) (Error E) → Type 0 = λ z. CustomClauses i name contents s old m old z in
-        subst P (answers r q) (record { kept = keeps_same old; default = λ k. custom (maps k old.ceiling); after_error = λ k is t reads. left k is t reads })
+        subst P (answers r q) (record { kept = keeps_same old; default = λ k. custom (maps k old.ceiling); after_error = λ k told. absurd (never_refused (maps k old.ceiling (not_wanting e (sure k) told))) })
       where
-        left : IsTrue i.keeps_defaults → IsTrue i.sure → Leaves (ReadsCustom name contents) (asks i) s m
-        left k is t reads =
-            let P : Tree → Type 0 = λ z. Visited (asks i) s (visits z) m in
-            let Q : Tree → Type 0 = λ z. Visited (asks i) s (visits (custom_tree_of (named name z))) m in
-            subst P (sym reads.1) (subst Q (sym (raw_of other reads.0 reads.2)) (sure_left i (named name (Tree.raw contents)) view s m e maps sure k is))
-
         custom : (e ≢ NoMemory → walk (asks i) old.ceiling s (named name (Tree.raw contents)) ≡ refused e m) → GivesCustom (asks i) name contents (s, old) (m, old) (Err e)
         custom stops = record {
           reading = λ t reads. (refl, λ some. absurd (never_refused (stops some)));

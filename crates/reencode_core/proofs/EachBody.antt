@@ -1,7 +1,9 @@
 -- Function bodies: the loops over the rows of a code section and over the operators of a body, and what the calls give at their ends.
-use Rattle.std.proofs.Common.{◌≡◌, ◌≢◌, ◌<◌, ◌≤◌, ◌^◌, ◌+◌, ◌-◌, ◌⊎◌, ℕ, List, [], ◌∷◌, length, Result, Ok, Err, IsErrAnd, IsTrue, refl, sym, ap, ◌∙◌, subst}
+use Rattle.std.proofs.Common.{◌≡◌, ◌≢◌, ◌<◌, ◌≤◌, ◌^◌, ◌+◌, ◌-◌, ◌⊎◌, ℕ, List, [], ◌∷◌, length, Result, Ok, Err, IsErrAnd, IsTrue, refl, sym, ap, ◌∙◌, subst, inr}
 use Rattle.std.proofs.Math.Seq.{take-append_seam}
 use Rattle.wasm_leb.specs.declared.fault.Fault.{Fault}
+use Rattle.wasm_shapes.specs.declared.SectionId.TheVariants as id
+use Rattle.wasm_shapes.specs.Drawn.{IsItem}
 use Rattle.wasm_shapes.specs.Tree.{Tree, normal}
 use Rattle.wasm_shapes.specs.Place.{Begins, BeginsNone}
 use Rattle.wasm_shapes.specs.Module.{code_row}
@@ -13,21 +15,23 @@ use Rattle.wasm_write.specs.Bodies.{Body, CodeRows, code_tree, function_body, wi
 use Rattle.wasm_write.specs.Faults.{IfTooLarge}
 use Rattle.wasm_shapes.specs.Types.{vector_tree}
 use Rattle.reencode_hooks.specs.declared.error.Error.{Error}
+use Rattle.reencode_hooks.specs.declared.error.Error.TheVariants.{NoMemory}
 use Rattle.reencode_hooks.specs.declared.indices.ReencodeIndices.{Ghosts}
 use Rattle.reencode_hooks.specs.Errors.{error_of_fault, error_of_write}
 use Rattle.reencode_hooks.specs.Run.{accepted}
 use Rattle.reencode_hooks.specs.Walk.{walk}
 use Rattle.reencode_items.specs.Maps.{LeavesOperator, MovesOn, ParsesOperator}
-use Rattle.reencode_items.proofs.Leaving.{accepted_visited}
 use Rattle.reencode_core.specs.Errors.{placed_at}
 use Rattle.reencode_core.specs.Rows.{GivesRows, locals}
 use Rattle.reencode_core.specs.Bodies.{GivesBody, GivesLocals, KeepsCode}
-use Rattle.reencode_core.specs.Leaves.{BodyOf, LeavesReading, LocalsOf, RowsOf}
-use Rattle.reencode_core.proofs.BodyLoop.{OperatorsDone, body_err, body_more, frames_unread, keeps_code}
-use Rattle.reencode_core.proofs.Leaving.{reading_left, body_leaves_locals, body_leaves_next, body_leaves_none, body_leaves_operator, code_leaves_next, rows_leave_none}
+use Rattle.reencode_core.specs.Leaves.{LeavesMade, body_in, locals_in, rows_in}
+use Rattle.reencode_core.proofs.BodyLoop.{OperatorsDone, body_err, body_more, frames_missing, frames_unread, keeps_code}
+use Rattle.reencode_core.proofs.FunctionMade.{body_leaves_locals, body_leaves_next, body_leaves_none, body_leaves_operator, code_leaves_next}
+use Rattle.reencode_core.proofs.Made.{ended_all, fault_known, tells_if, tree_made, wants_placed, wants_tells_none, write_tells_none, write_unasked}
+use Rattle.reencode_core.proofs.RowsMade.{rows_leave_none}
 use Rattle.reencode_core.proofs.OneRow.{answers, asks}
 use Rattle.reencode_core.proofs.RowLoop.{RowsDone, kept_on, rows_all, rows_begin}
-use Rattle.reencode_core.proofs.WholeBody.{body_given, body_locals_refused, body_not_added, body_wants, operator_err, operators_found, operators_none, operators_on}
+use Rattle.reencode_core.proofs.WholeBody.{body_given, body_locals_refused, body_not_added, body_wants, operator_err, operators_never, operators_none, operators_on}
 
 -- ---- a code section
 
@@ -42,7 +46,7 @@ CodeClauses i start s old m new result =
     record {
       kept : KeepsCode old new;
       default : IsTrue i.keeps_defaults → GivesRows (asks i) old.ceiling code_row start (s, old.rows) (m, new.rows) result;
-      after_error : IsTrue i.keeps_defaults → IsTrue i.sure → LeavesReading (RowsOf code_row start) (asks i) s m result;
+      after_error : IsTrue i.keeps_defaults → LeavesMade i.sure (asks i) (rows_in code_row start) s m result;
     }
 
 -- the clauses of the call that maps a body
@@ -51,7 +55,7 @@ BodyClauses i bytes s old m new result =
     record {
       kept : KeepsCode old new;
       default : IsTrue i.keeps_defaults → GivesBody (asks i) bytes (s, old) (m, new) result;
-      after_error : IsTrue i.keeps_defaults → IsTrue i.sure → LeavesReading (BodyOf bytes) (asks i) s m result;
+      after_error : IsTrue i.keeps_defaults → LeavesMade i.sure (asks i) (body_in bytes) s m result;
     }
 
 -- the clauses of the call that maps its locals
@@ -59,7 +63,7 @@ abbrev pub LocalsClauses : {S E : Type 0} → Ghosts S E → List ℕ → S → 
 LocalsClauses i bytes s m result =
     record {
       default : IsTrue i.keeps_defaults → GivesLocals (asks i) bytes s m result (λ f. f);
-      after_error : IsTrue i.keeps_defaults → IsTrue i.sure → LeavesReading (LocalsOf bytes) (asks i) s m result;
+      after_error : IsTrue i.keeps_defaults → LeavesMade i.sure (asks i) (locals_in bytes) s m result;
     }
 
 module _ {S E : Type 0} (i : Ghosts S E) {start : Standing} {s0 : S} {old : CodeRows} where
@@ -68,7 +72,7 @@ module _ {S E : Type 0} (i : Ghosts S E) {start : Standing} {s0 : S} {old : Code
 
   module _ {reader : Standing} {s : S} {new : CodeRows} (inv : CodeKept i start s0 old reader s new) where
     pub code_ended : {reader' : Standing} → RowsEnded reader reader' → CodeClauses i start s0 old s new (Ok tt)
-    code_ended ended = record { kept = inv.kept; default = λ k. rows_all (asks i) (inv.default k) ended; after_error = λ k sure t reads. tt }
+    code_ended ended = record { kept = inv.kept; default = λ k. rows_all (asks i) (inv.default k) ended; after_error = λ k. tt }
 
     -- no frame is there
     pub code_stuck : (f : Fault) → ReadsNone f (place_of reader) (RowMissing frame_row reader) → (r : Result (Unit {0}) (Error E)) → IsErrAnd r (λ y. y ≡ error_of_fault f) →
@@ -78,7 +82,7 @@ module _ {S E : Type 0} (i : Ghosts S E) {start : Standing} {s0 : S} {old : Code
         subst P (answers r q) (record {
           kept = inv.kept;
           default = λ k. frames_unread (asks i) f (inv.default k) missing;
-          after_error = λ k sure. rows_leave_none (inv.default k);
+          after_error = λ k told. rows_leave_none (inv.default k) (IsItem.row id.Code) refl refl f (frames_missing f reader missing);
         })
 
     module _ {reader' : Standing} {bytes : List ℕ} (read : RowRead frame_row reader (Tree.sized (Tree.raw bytes)) reader') where
@@ -95,7 +99,7 @@ module _ {S E : Type 0} (i : Ghosts S E) {start : Standing} {s0 : S} {old : Code
           subst P (sym q) (record {
             kept = grown given.kept;
             default = λ k. body_err i.reply i.next inv.kept.ceiling (inv.default k) read e at (given.default k) place;
-            after_error = λ k sure. code_leaves_next (inv.default k) read (given.after_error k sure);
+            after_error = λ k told. code_leaves_next (inv.default k) read e at (λ t p. tells_if e (λ at h. h.0 t p) (given.default k).unreadable) (given.after_error k (λ h. told (wants_placed e at h)));
           })
 
 -- ---- a body
@@ -114,7 +118,7 @@ module _ {S E : Type 0} (i : Ghosts S E) {bytes : List ℕ} {s0 : S} (old : Code
       subst P (answers r q) (record {
         kept = keeps_code old;
         default = λ k. body_locals_refused (asks i) bytes s0 m old e (given.default k);
-        after_error = λ k sure. body_leaves_locals (given.after_error k sure);
+        after_error = λ k told. body_leaves_locals e (λ h. (fault_known e (given.default k).unreadable h).1.1) (given.after_error k told);
       })
 
   module _ {m : S} {f0 : Body} (made : LocalsClauses i bytes s0 m (Ok f0)) where
@@ -122,8 +126,8 @@ module _ {S E : Type 0} (i : Ghosts S E) {bytes : List ℕ} {s0 : S} (old : Code
     pub body_found : (f : Fault) → ReadsNone f 0 (BeginsNone locals bytes) → (r : Result (Unit {0}) (Error E)) → BodyClauses i bytes s0 old m old r
     body_found f none r = record {
       kept = keeps_code old;
-      default = λ k. operators_found (asks i) bytes s0 m old old f0 f r (made.default k) none;
-      after_error = λ k sure. reading_left r (body_leaves_locals (λ t p. accepted_visited 0 t ((made.default k).reading 0 t p.0 p.1)));
+      default = λ k. absurd (operators_never (asks i) bytes s0 m f0 f (made.default k) none);
+      after_error = λ k. absurd (operators_never (asks i) bytes s0 m f0 f (made.default k) none);
     }
 
     pub operators_begun : (start : Reading) → OperatorsKept i start m f0 start m f0
@@ -145,7 +149,7 @@ module _ {S E : Type 0} (i : Ghosts S E) {bytes : List ℕ} {s0 : S} (old : Code
           subst P (answers r q) (record {
             kept = keeps_code old;
             default = λ k. operator_err i.reply i.next s0 m s f0 f.operators old begins (made.default k) (inv.default k) B view reader behind n e refl (inv.bytes ∙ is_bytes) some (parses k);
-            after_error = λ k sure. body_leaves_operator begins (walked k) (inv.default k 0) reader refl (leaves k sure);
+            after_error = λ k told. body_leaves_operator i.reply i.next begins (walked k) (inv.default k 0) view reader behind e refl (parses k) (λ h. leaves k (told h));
           })
 
       module _ {B : Type 0} (view : B → Tree) (b : B) {behind : Reading} {n : S} (parses : IsTrue i.keeps_defaults → ParsesOperator i.reply i.next s reader view n behind (Ok b)) where
@@ -165,7 +169,7 @@ module _ {S E : Type 0} (i : Ghosts S E) {bytes : List ℕ} {s0 : S} (old : Code
             subst P (answers r q) (subst Q (sym wants) (record {
               kept = keeps_code old;
               default = λ k. body_wants (asks i) bytes s0 n old;
-              after_error = λ k sure. let p = parses k in body_leaves_next begins (walked k) (inv.default k 0) p.begins (accepted_visited 0 p.operator (p.maps 0));
+              after_error = λ k told. let p = parses k in body_leaves_next begins (walked k) (inv.default k 0) NoMemory p.begins (tree_made (asks i) 0 NoMemory p.operator tt (p.maps 0)) (wants_tells_none E);
             }))
 
       module _ (ended : rest_of reader ≡ []) where
@@ -174,7 +178,7 @@ module _ {S E : Type 0} (i : Ghosts S E) {bytes : List ℕ} {s0 : S} (old : Code
         body_added {new = new} added fits = record {
           kept = let P : CodeRows → Type 0 = λ z. KeepsCode old z in subst P (sym added) (record { ceiling = refl; rows = take-append_seam old.rows (code_tree f ∷ []) });
           default = λ k. body_given i.reply i.next s0 m s f0 f.operators old begins (made.default k) (inv.default k) new f ended inv.same_locals refl added fits;
-          after_error = λ k sure t reads. tt;
+          after_error = λ k. tt;
         }
 
         -- it was not added
@@ -187,5 +191,5 @@ module _ {S E : Type 0} (i : Ghosts S E) {bytes : List ℕ} {s0 : S} (old : Code
             subst P (answers r q) (subst Q (sym unchanged) (record {
               kept = keeps_code old;
               default = λ k. body_not_added i.reply i.next s0 m s f0 f.operators old begins (made.default k) (inv.default k) f w ended inv.same_locals refl large;
-              after_error = λ k sure. body_leaves_none begins (walked k) (inv.default k 0);
+              after_error = λ k told. body_leaves_none begins (walked k) (inv.default k 0) (error_of_write w) (ended_all {a = []} (error_of_write w) (write_unasked E w) refl) (inr (write_tells_none E w));
             }))

@@ -1,10 +1,13 @@
 -- The loop over the sections of a module, and what the call gives at each of its ends.
-use Rattle.std.proofs.Common.{◌≡◌, ◌-◌, ◌≤◌, ℕ, List, [], length, Option, Some, None, Result, Ok, Err, IfErr, IsErrAnd, IsTrue, refl, sym, ap, ◌∙◌, subst}
+use Rattle.std.proofs.Common.{◌≡◌, ◌-◌, ◌≤◌, ℕ, List, [], ◌++◌, length, Bool, Option, Some, None, Result, Ok, Err, IfErr, IsErrAnd, IsTrue, refl, sym, ap, ◌∙◌, subst}
 use Rattle.wasm_leb.specs.declared.fault.Fault.{Fault}
 use Rattle.wasm_shapes.specs.declared.SectionId.{SectionId}
+use Rattle.wasm_shapes.specs.declared.Visit.{Visit}
+use Rattle.wasm_shapes.specs.declared.Visit.TheVariants.{Section}
+use Rattle.wasm_shapes.proofs.Drawn.{drawn_none}
 use Rattle.wasm_shapes.specs.Tree.{Tree, visits}
 use Rattle.wasm_shapes.specs.Place.{Begins}
-use Rattle.wasm_shapes.specs.Module.{frame, numbered_frame, custom_frame, unknown_tree_of, ReadsCustom, InFrame, CoreReading}
+use Rattle.wasm_shapes.specs.Module.{frame, numbered_frame, custom_frame, unknown_tree_of}
 use Rattle.wasm_shapes.specs.SectionTable.{number}
 use Rattle.wasm_shapes.proofs.SectionTable.{kind_in_frame, custom_in_frame, unknown_in_frame}
 use Rattle.wasm_read.specs.Frames.{sections_place, HeaderRead, NoCoreHeader}
@@ -12,19 +15,22 @@ use Rattle.wasm_read.specs.Frames as read
 use Rattle.wasm_read.specs.Payloads.{NoFrame}
 use Rattle.wasm_write.specs.Sections.{Sections}
 use Rattle.reencode_hooks.specs.declared.error.Error.{Error}
+use Rattle.reencode_hooks.specs.declared.error.Error.TheVariants.{NoMemory}
+use Rattle.reencode_core.specs.Rows.{Asks}
 use Rattle.reencode_hooks.specs.declared.indices.ReencodeIndices.{Ghosts}
 use Rattle.reencode_hooks.specs.Errors.{error_of_fault}
 use Rattle.reencode_hooks.specs.Hooks.{RepliesSection, KeepsAdds}
-use Rattle.reencode_hooks.specs.Run.{NeverWants, LeavesVisited}
-use Rattle.reencode_items.proofs.Leaving.{never_wants, none_visited}
+use Rattle.reencode_hooks.specs.Run.{NeverWants, LeavesVisited, ask}
+use Rattle.reencode_core.proofs.Made.{drawn_made, either_made, ended_all, fault_unasked, front_none, front_same, not_wanting, one_ended, tells_if, tells_none, wants_placed}
+use Rattle.reencode_core.proofs.SectionMade.{custom_drawn, numbered_drawn}
 use Rattle.reencode_core.specs.Errors.{IfParse, placed_at}
 use Rattle.reencode_core.specs.Sections.{KeepsModule, GivesAdded, StopsSection}
 use Rattle.reencode_core.specs.Names.{StopsCustom, GivesCustom}
 use Rattle.reencode_core.specs.Core.{GivesCore}
 use Rattle.reencode_core.specs.Woven.{AddedBefore, GivesWoven}
-use Rattle.reencode_core.specs.Leaves.{LeavesReading}
+use Rattle.reencode_core.specs.Leaves.{CoreUpTo, Leaves, LeavesCore, NoCoreHeading, LeavesMade, custom_in, module_in, section_in}
 use Rattle.reencode_core.proofs.AddsNothing.{core_given}
-use Rattle.reencode_core.proofs.CoreLoop.{SectionsDone, Put, nothing_put, core_leaves_hook, core_leaves_inside, core_leaves_none, end_given, end_left, header_wrong, hook_err, hook_refused, hook_stops, no_frame, section_err, sections_begin, sections_more}
+use Rattle.reencode_core.proofs.CoreLoop.{FrameLeaves, SectionsDone, Put, nothing_put, core_leaves_hook, core_leaves_inside, core_leaves_none, end_given, end_left, header_wrong, hook_refused, hook_told, hook_usual, no_header, hook_stops, no_frame, section_err, sections_begin, sections_more}
 use Rattle.reencode_core.proofs.AnySection.{GivesFramed, Reached, kind_gives, kind_reached, custom_gives, custom_reached, unknown_gives, unknown_reached}
 use Rattle.reencode_core.proofs.Known.{keeps_same, keeps_more, hook_keeps}
 use Rattle.reencode_core.proofs.MappedSection.{SectionClauses}
@@ -43,7 +49,8 @@ CoreClauses i bytes s old m new result =
       kept : KeepsModule old new;
       default : IsTrue i.keeps_defaults → IsTrue i.adds_nothing → GivesCore (asks i) bytes (s, old) (m, new) result;
       woven : IsTrue i.keeps_defaults → GivesWoven (asks i) i.adds bytes (s, old) (m, new) result;
-      after_error : IsTrue i.keeps_defaults → IsTrue i.adds_nothing → IsTrue i.sure → LeavesReading (CoreReading bytes) (asks i) s m result;
+      after_error : IsTrue i.keeps_defaults → LeavesCore i.sure i.adds_nothing (asks i) (module_in bytes) s m result;
+      headless : IsTrue i.keeps_defaults → NoCoreHeading bytes → m ≡ s;
     }
 
 -- the clauses of the section hook
@@ -57,7 +64,7 @@ CustomClauses i name contents s old m new result =
     record {
       kept : KeepsModule old new;
       default : IsTrue i.keeps_defaults → GivesCustom (asks i) name contents (s, old) (m, new) result;
-      after_error : IsTrue i.keeps_defaults → IsTrue i.sure → LeavesReading (ReadsCustom name contents) (asks i) s m result;
+      after_error : IsTrue i.keeps_defaults → LeavesMade i.sure (asks i) (custom_in name contents) s m result;
     }
 
 -- of the one that adds a section of another id
@@ -70,29 +77,76 @@ UnknownClauses i id contents s old m new result =
       usual : IsTrue i.keeps_defaults → IfErr result (λ e. IfParse e (λ _. ⊥));
     }
 
+-- ---- what an error of a section leaves
+
+module _ {S E : Type 0} (asked : Asks S E) {bytes left : List ℕ} (n m : S) (sure : Bool) where
+  kind_leaves : (k : SectionId) {body : List ℕ} → Begins frame bytes (numbered_frame (number k) body) left → (r : Result (Unit {0}) (Error E)) →
+      LeavesMade sure asked (section_in k body) n m r → IfErr r (λ e. (e ≡ NoMemory → IsTrue sure) → FrameLeaves asked bytes (numbered_frame (number k) body) n e m)
+  kind_leaves k framed (Ok u) given = tt
+  kind_leaves k {body = body} framed (Err e) given = λ told.
+      let l = given told in
+      record { made = l.made; ended = l.ended; drawn = numbered_drawn framed l.drawn; reading = λ t there. l.reading t (kind_in_frame k body t there) }
+
+  custom_leaves : {name contents : List ℕ} → Begins frame bytes (custom_frame name contents) left → (r : Result (Unit {0}) (Error E)) →
+      LeavesMade sure asked (custom_in name contents) n m r → IfErr r (λ e. (e ≡ NoMemory → IsTrue sure) → FrameLeaves asked bytes (custom_frame name contents) n e m)
+  custom_leaves framed (Ok u) given = tt
+  custom_leaves {name = name} {contents = contents} framed (Err e) given = λ told.
+      let l = given told in
+      record { made = l.made; ended = l.ended; drawn = custom_drawn framed l.drawn; reading = λ t there. l.reading t (custom_in_frame name contents t there) }
+
+unknown_leaves : {S E : Type 0} (reply : S → Visit → Result ℕ E) (next : S → Visit → S) {id : ℕ} (bytes contents : List ℕ) (s m : S) (old new : Sections) (sure : Bool) → 14 ≤ id → (r : Result (Unit {0}) (Error E)) →
+    GivesAdded (ask reply next) id (s, old) (unknown_tree_of id contents) (m, new) r → (IsTrue sure → LeavesVisited (ask reply next) s [] m r) →
+    IfErr r (λ e. (e ≡ NoMemory → IsTrue sure) → FrameLeaves (ask reply next) bytes (numbered_frame id contents) s e m)
+unknown_leaves reply next bytes contents s m old new sure low (Ok u) gives given = tt
+unknown_leaves reply next {id = id} bytes contents s m old new sure low (Err e) gives given = λ told.
+    let p = either_made reply next old.ceiling (unknown_tree_of id contents) e gives.1 (λ h. given (told h)) in
+    record {
+      made = p.part;
+      ended = p.ended;
+      drawn = drawn_made p.front drawn_none;
+      reading = λ t there. front_same (sym (ap visits (unknown_in_frame id contents t low there))) p.front;
+    }
+
+-- no header stands there
+headless_leaves : {S E : Type 0} (asked : Asks S E) {bytes : List ℕ} (s : S) (f : Fault) → NoCoreHeader f bytes → Leaves asked (module_in bytes) s (error_of_fault f) s
+headless_leaves {E = E} asked {bytes = bytes} s f wrong = record {
+  made = [];
+  ended = ended_all {a = []} (error_of_fault f) (fault_unasked E f) refl;
+  drawn = drawn_none;
+  reading = λ t r. front_none (visits t);
+  fault = λ none t rest up. absurd (by t rest up);
+}
+  where
+    by : (t : Tree) (rest : List ℕ) → CoreUpTo bytes t rest → ⊥
+    by t rest (CoreUpTo.sections before left fault) = no_header f wrong (fault.front.text ++ left) fault.front.stands
+
 module _ {S E : Type 0} (i : Ghosts S E) where
   -- what holds where sections are added says what holds where none is
   core_clauses : KeepsAdds i.adds i.adds_nothing → {bytes : List ℕ} {s m : S} {old new : Sections} (r : Result (Unit {0}) (Error E)) → KeepsModule old new →
       (IsTrue i.keeps_defaults → GivesWoven (asks i) i.adds bytes (s, old) (m, new) r) →
-      (IsTrue i.keeps_defaults → IsTrue i.adds_nothing → IsTrue i.sure → LeavesReading (CoreReading bytes) (asks i) s m r) → CoreClauses i bytes s old m new r
-  core_clauses keeps {bytes = bytes} {s = s} {m = m} {old = old} {new = new} r kept woven leaves = record {
+      (IsTrue i.keeps_defaults → LeavesCore i.sure i.adds_nothing (asks i) (module_in bytes) s m r) → (NoCoreHeading bytes → m ≡ s) → CoreClauses i bytes s old m new r
+  core_clauses keeps {bytes = bytes} {s = s} {m = m} {old = old} {new = new} r kept woven leaves headless = record {
     kept = kept;
     default = λ k none. core_given (asks i) i.adds (keeps none) bytes (s, old) (m, new) r (woven k);
     woven = woven;
     after_error = leaves;
+    headless = λ k. headless;
   }
 
   pub core_headless : KeepsAdds i.adds i.adds_nothing → {bytes : List ℕ} {s : S} {old : Sections} (f : Fault) → NoCoreHeader f bytes → (r : Result (Unit {0}) (Error E)) → IsErrAnd r (λ y. y ≡ error_of_fault f) →
       CoreClauses i bytes s old s old r
   core_headless keeps {bytes = bytes} {s = s} {old = old} f wrong r q =
       let P : Result (Unit {0}) (Error E) → Type 0 = λ z. CoreClauses i bytes s old s old z in
-      subst P (answers r q) (core_clauses keeps (Err (error_of_fault f)) (keeps_same old) (λ k. header_wrong (asks i) i.adds s old f wrong) (λ k n sure t reads. none_visited s (visits t)))
+      subst P (answers r q) (core_clauses keeps (Err (error_of_fault f)) (keeps_same old) (λ k. header_wrong (asks i) i.adds s old f wrong) (λ k told size. headless_leaves (asks i) s f wrong) (λ none. refl))
 
   pub sections_begun : (start : read.Sections) (s : S) (old : Sections) → SectionsKept i start s old start None s old
   sections_begun start s old = record { kept = keeps_same old; len = refl; done = λ k. sections_begin (asks i) i.adds start.rest s old }
 
   module _ (keeps : KeepsAdds i.adds i.adds_nothing) {bytes : List ℕ} {start : read.Sections} (header : HeaderRead bytes start) {s0 : S} {old : Sections}
       {reader : read.Sections} {last : Option SectionId} {s : S} {new : Sections} (inv : SectionsKept i start s0 old reader last s new) where
+    headed : {m : S} → NoCoreHeading bytes → m ≡ s0
+    headed none = absurd (none start.rest header.stands)
+
     -- a place, counted from the first byte
     counted : {at : ℕ} → at ≡ sections_place reader → at ≡ length bytes - length reader.rest
     counted e = e ∙ ap (λ (n : ℕ). n - length reader.rest) (inv.len ∙ header.len)
@@ -103,7 +157,7 @@ module _ {S E : Type 0} (i : Ghosts S E) where
         let P : Result (Unit {0}) (Error E) → Type 0 = λ z. CoreClauses i bytes s0 old s new z in
         subst P (answers r q)
         (core_clauses keeps (Err (error_of_fault f)) inv.kept (λ k. no_frame (asks i) i.adds header.stands (inv.done k) f _ none (counted refl))
-        (λ k n sure. core_leaves_none (asks i) i.adds header.stands (inv.done k)))
+        (λ k told size. core_leaves_none (asks i) i.adds header.stands (inv.done k) f _ none) headed)
 
     -- the hook before a section is refused
     pub core_hook_refused : (k : SectionId) {body left : List ℕ} {n : S} {mid : Sections} (e : Error E) → Begins frame reader.rest (numbered_frame (number k) body) left →
@@ -113,8 +167,10 @@ module _ {S E : Type 0} (i : Ghosts S E) where
         subst P (answers r q)
         (core_clauses keeps (Err e) (keeps_more old new mid inv.kept (hook_keeps i.reply i.next i.adds s n new mid last (Some k) (Err e) hook.answer))
         (λ d. hook_refused (asks i) i.adds header.stands (inv.done d) k e framed (hook_stops i.reply i.next i.adds s n new mid last (Some k) e hook.answer))
-        (λ d none sure. core_leaves_hook (asks i) i.adds header.stands (inv.done d) k framed
-        (hook_err i.reply i.next i.adds s n new mid last (Some k) (keeps none s last (Some k)) e hook.answer (never_wants e hook.sure sure))))
+        (λ d told size.
+        let stops = hook_told i.reply i.next i.adds s n new mid last (Some k) e hook.answer (λ h. keeps (size h) s last (Some k)) in
+        core_leaves_hook (asks i) i.adds header.stands (inv.done d) k e framed (one_ended i.reply i.next e (Section last (Some k)) (stops (not_wanting e hook.sure told)))
+        (tells_none e (hook_usual i.reply i.next i.adds s n new mid last (Some k) e stops))) headed)
 
     -- the section in a frame is reached, and the call that maps it gave this
     abbrev pub Called : (ℕ → Error E → S → Type 0) → ℕ → Tree → List ℕ → Option SectionId → S → Sections → S → Sections → Result (Unit {0}) (Error E) → Type 0
@@ -124,7 +180,7 @@ module _ {S E : Type 0} (i : Ghosts S E) where
           reached : IsTrue i.keeps_defaults → Reached (asks i) Stops f reader.rest left last now s n;
           put : Put (asks i) i.adds f last s n new mid;
           gives : IsTrue i.keeps_defaults → GivesFramed (asks i) id f Stops (n, mid) (m, new') r;
-          leaves : IsTrue i.keeps_defaults → IsTrue i.sure → LeavesReading (λ t. InFrame t f) (asks i) n m r;
+          leaves : IsTrue i.keeps_defaults → IfErr r (λ e. (e ≡ NoMemory → IsTrue i.sure) → FrameLeaves (asks i) reader.rest f n e m);
         }
 
     -- one of a known kind, behind the section hook
@@ -136,7 +192,7 @@ module _ {S E : Type 0} (i : Ghosts S E) where
       reached = λ d. kind_reached (asks i) k framed hook.answer.0;
       put = record { own = i.adds s last (Some k); gains = hook.answer.1; before = AddedBefore.known k body n hook.answer.0 };
       gives = λ d. kind_gives r k framed (given.default d);
-      leaves = λ d sure t there. given.after_error d sure t (kind_in_frame k body t there);
+      leaves = λ d. kind_leaves (asks i) _ _ i.sure k framed r (given.after_error d);
     }
 
     -- a custom one
@@ -148,7 +204,7 @@ module _ {S E : Type 0} (i : Ghosts S E) where
       reached = λ d. custom_reached (asks i) framed;
       put = nothing_put (AddedBefore.custom name contents);
       gives = λ d. custom_gives r (given.default d);
-      leaves = λ d sure t there. given.after_error d sure t (custom_in_frame name contents t there);
+      leaves = λ d. custom_leaves (asks i) _ _ i.sure framed r (given.after_error d);
     }
 
     -- one of another id
@@ -160,8 +216,7 @@ module _ {S E : Type 0} (i : Ghosts S E) where
       reached = λ d. unknown_reached (asks i) low framed;
       put = nothing_put (AddedBefore.unknown id contents low);
       gives = λ d. unknown_gives r low framed (given.default d) (given.usual d);
-      leaves = λ d sure t there.
-          let P : Tree → Type 0 = λ z. LeavesVisited (asks i) s (visits z) m r in subst P (sym (unknown_in_frame id contents t low there)) (given.after_error d sure);
+      leaves = λ d. unknown_leaves i.reply i.next _ _ _ _ _ _ i.sure low r (given.default d) (given.after_error d);
     }
 
     module _ {Stops : ℕ → Error E → S → Type 0} {id : ℕ} {f : Tree} {left : List ℕ} {now : Option SectionId} {n m : S} {mid new' : Sections} where
@@ -182,11 +237,11 @@ module _ {S E : Type 0} (i : Ghosts S E) where
           let P : Error E → Type 0 = λ z. CoreClauses i bytes s0 old m new' (Err z) in
           subst P (sym q)
           (core_clauses keeps (Err (placed_at e at)) call.kept (λ d. section_err (asks i) i.adds header.stands (inv.done d) e at (call.reached d) call.put (call.gives d) (counted place))
-          (λ d none sure. core_leaves_inside (asks i) i.adds header.stands (inv.done d) (call.reached d) (call.leaves d sure)))
+          (λ d told size. core_leaves_inside (asks i) i.adds header.stands (inv.done d) (call.reached d) e at (λ t i. tells_if e (λ at h. h t i) (call.gives d).unreadable) (call.leaves d (λ h. told (wants_placed e at h)))) headed)
 
     -- the hook at the end
     pub core_ended : {n : S} {mid : Sections} → reader.rest ≡ [] → (r : Result (Unit {0}) (Error E)) → HookClauses i s n new mid last None r → CoreClauses i bytes s0 old n mid r
     core_ended {n = n} {mid = mid} empty r hook =
         core_clauses keeps r (keeps_more old new mid inv.kept (hook_keeps i.reply i.next i.adds s n new mid last None r hook.answer))
         (λ d. end_given i.reply i.next i.adds header.stands (inv.done d) empty n mid r hook.answer)
-        (λ d none sure. end_left i.reply i.next i.adds (keeps none) header.stands (inv.done d) empty n mid r hook.answer hook.sure sure)
+        (λ d. end_left i.reply i.next i.adds keeps header.stands (inv.done d) empty n mid r hook.answer hook.sure) headed

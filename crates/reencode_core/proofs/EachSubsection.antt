@@ -3,16 +3,19 @@ use Rattle.std.proofs.Common.{◌≡◌, ◌≢◌, ◌⊎◌, ℕ, ◌≤◌, �
 use Rattle.std.proofs.Math.Seq.{take-append_seam}
 use Rattle.wasm_shapes.specs.declared.Space.{Space}
 use Rattle.wasm_shapes.specs.declared.Space.TheVariants as space
+use Rattle.wasm_shapes.specs.declared.Visit.{Visit}
 use Rattle.wasm_shapes.specs.declared.Visit.TheVariants.{Index}
+use Rattle.wasm_shapes.specs.Drawn.{Drawn, IsItem}
+use Rattle.wasm_shapes.proofs.Drawn.{drawn_none}
 use Rattle.wasm_shapes.specs.Tree.{Tree, count, normal, visits}
 use Rattle.wasm_shapes.specs.Shape.{Shape}
 use Rattle.wasm_shapes.specs.Types.{is_core, rows_tree, vector_tree}
 use Rattle.wasm_shapes.specs.Module.{plain_naming}
-use Rattle.wasm_shapes.specs.Namings.{asked_in, entries_trees, module_name_tree, names_tree, outers_trees, raw_names_tree}
+use Rattle.wasm_shapes.specs.Namings.{Entry, Outer, asked_in, entries_trees, module_name_tree, names_tree, outers_trees, raw_names_tree}
 use Rattle.wasm_read.specs.declared.types.Name.{Name}
 use Rattle.wasm_read.specs.Names.{EntriesLeft, MapStanding}
 use Rattle.wasm_read.specs.Subsections.{Content, ReadsContent, ReadsName, content_of}
-use Rattle.wasm_read.proofs.NameMaps.{asked_row, entries_of, outers_of, plain_row}
+use Rattle.wasm_read.proofs.NameMaps.{asked_left, asked_row, entries_of, names_one, outers_left_one, outers_of, plain_row}
 use Rattle.wasm_write.specs.declared.fault.WriteFault.{WriteFault}
 use Rattle.wasm_write.specs.declared.fault.WriteFault.TheVariants as write
 use Rattle.wasm_write.specs.Bodies.{CodeRows, with_row}
@@ -24,16 +27,18 @@ use Rattle.reencode_hooks.specs.declared.error.Error.TheVariants.{NoMemory, TooL
 use Rattle.reencode_hooks.specs.declared.indices.ReencodeIndices.{Ghosts}
 use Rattle.reencode_hooks.specs.Errors.{error_of_write}
 use Rattle.reencode_hooks.specs.Hooks.{Replies}
-use Rattle.reencode_hooks.specs.Run.{Gives, LeavesVisited, NeverWants, Visited, accepted, refused}
+use Rattle.reencode_hooks.specs.Run.{Gives, NeverWants, accepted, refused}
 use Rattle.reencode_hooks.specs.Walk.{walk}
-use Rattle.reencode_items.proofs.Leaving.{accepted_visited, visited_left}
 use Rattle.reencode_core.specs.Bodies.{KeepsCode}
 use Rattle.reencode_core.specs.Names.{GivesSubsection, IsIndirect, MapRow, OfMap, TooLargeNames, names_id, of_writer}
 use Rattle.reencode_core.specs.NameMaps.{MapsEntries}
 use Rattle.reencode_core.specs.Rows.{Asks}
 use Rattle.reencode_core.proofs.BodyLoop.{keeps_code}
 use Rattle.reencode_core.proofs.InFrame.{framed, framed_fits, framed_large, framed_refused}
-use Rattle.reencode_core.proofs.NameCalls.{GivesMap, Quiet, gives_map_at, leaves_map_at, maps_kept}
+use Rattle.reencode_core.proofs.NameCalls.{GivesMap, MapLeaves, Quiet, due_drawn, gives_map_at, map_leaves_at, maps_kept}
+use Rattle.reencode_core.specs.Leaves.{Leaves, LeavesMade, entries_bytes, subsection_in}
+use Rattle.reencode_core.proofs.Made.{PartMade, drawn_made, front_same, one_ended, tree_made, write_unasked}
+use Rattle.reencode_core.proofs.RowsMade.{drawn_rows}
 use Rattle.reencode_core.proofs.NamesLoop.{SubsectionClauses}
 use Rattle.reencode_core.proofs.OneRow.{answers, asks}
 use Rattle.reencode_core.proofs.Usual.{IfParse-map, IfRefused-map, unless_wanting, usual_ask, write_usual}
@@ -44,6 +49,20 @@ use Rattle.reencode_core.proofs.Usual.{IfParse-map, IfRefused-map, unless_wantin
 pub record NamingMade {S E : Type 0} (asked : Asks S E) (n : Name) (s k : S) (row : ℕ) (head made : Tree) : Type 0 where
   pub reading : (t : Tree) × ReadsName n t
   pub becomes : (t : Tree) → ReadsName n t → (v : Tree) × (t ≡ framed row head v) × ((c : ℕ) → walk asked c s v ≡ accepted made k)
+
+-- The subsection is read as one tree, whose visits are drawn from the entries of its map.
+pub record NamingKnown (n : Name) : Type 0 where
+  pub drawn : (t : Tree) → ReadsName n t → Drawn (entries_bytes (content_of n)) (visits t)
+  pub one : (t u : Tree) → ReadsName n t → ReadsName n u → t ≡ u
+
+-- the same of one that is read as this tree, of which nothing is asked
+known_tree : {n : Name} (v : Tree) → visits v ≡ [] → ((t : Tree) → ReadsName n t → t ≡ v) → NamingKnown n
+known_tree {n = n} v none is = record {
+  drawn = λ t reads.
+      let P : List Visit → Type 0 = λ z. Drawn (entries_bytes (content_of n)) z in
+      subst P (sym (ap visits (is t reads) ∙ none)) drawn_none;
+  one = λ t u p q. is t p ∙ sym (is u q);
+}
 
 -- the size that a writer tells of
 abbrev pub TooLargeBody : ℕ → Tree → ℕ → Type 0
@@ -84,17 +103,29 @@ module _ {S E : Type 0} (i : Ghosts S E) (n : Name) (s k : S) (old new : CodeRow
           let above : old.ceiling < size = q.1 in
           inl (rw v.1 (framed_large (asks i) row head old.ceiling s k v.0 (still old.ceiling s) made (v.2 old.ceiling) (omega arith)) ∙ ap (λ (z : ℕ). refused (TooLarge z) k) (sym same))
 
-  pub naming_written : (IsTrue i.keeps_defaults → NamingMade (asks i) n s k row head made) → (w : Result (Unit {0}) WriteFault) → OnOk w (new ≡ with_row old (framed row head made)) →
+  pub naming_written : NamingKnown n → (IsTrue i.keeps_defaults → NamingMade (asks i) n s k row head made) → (w : Result (Unit {0}) WriteFault) → OnOk w (new ≡ with_row old (framed row head made)) →
       OnOk w (length (normal made) ≤ old.ceiling) → OnErr w (new ≡ old) → IfErr w (λ f. IfTooLarge f (TooLargeBody old.ceiling made)) → (r : Result (Unit {0}) (Error E)) → r ≡ of_writer w →
       SubsectionClauses i n s old k new r
-  naming_written b w gains fits unchanged large r is =
+  naming_written known b w gains fits unchanged large r is =
       let P : Result (Unit {0}) (Error E) → Type 0 = λ z. SubsectionClauses i n s old k new z in
       subst P (sym is) (record {
         kept = kept w gains unchanged;
         default = λ keeps. naming_given (b keeps) w gains fits unchanged large;
-        after_error = λ keeps sure t reads. visited_left (of_writer w) (accepted_visited (length (normal made)) t (all_accepted (b keeps) t reads));
+        after_error = λ keeps. left w (b keeps);
       })
     where
+      left : (w : Result (Unit {0}) WriteFault) → NamingMade (asks i) n s k row head made → LeavesMade i.sure (asks i) (subsection_in n) s k (of_writer {E = E} w)
+      left (Ok u) b = tt
+      left (Err f) b = λ told.
+          let t = b.reading.0 in
+          let p : PartMade (asks i) s (visits t) (error_of_write f) k = tree_made (asks i) (length (normal made)) (error_of_write f) t (write_unasked E f) (all_accepted b t b.reading.1) in record {
+            made = p.part;
+            ended = p.ended;
+            drawn = drawn_made p.front (known.drawn t b.reading.1);
+            reading = λ u reads. front_same (ap visits (known.one t u b.reading.1 reads)) p.front;
+            fault = λ none u rest x. absurd x;
+          }
+
       kept : (w : Result (Unit {0}) WriteFault) → OnOk w (new ≡ with_row old (framed row head made)) → OnErr w (new ≡ old) → KeepsCode old new
       kept (Ok u) gains unchanged = let P : CodeRows → Type 0 = λ z. KeepsCode old z in subst P (sym gains) (record { ceiling = refl; rows = take-append_seam old.rows (framed row head made ∷ []) })
       kept (Err f) gains unchanged = let P : CodeRows → Type 0 = λ z. KeepsCode old z in subst P (sym unchanged) (keeps_code old)
@@ -107,7 +138,8 @@ module _ {S E : Type 0} (i : Ghosts S E) {n : Name} {s : S} {old new : CodeRows}
       IfErr w (λ f. IfTooLarge f (λ size. ((size ≡ length name) × (2 ^ 32 - 1 < size)) ⊎ PassesCeiling old.ceiling (Tree.name name) size)) → (r : Result (Unit {0}) (Error E)) → r ≡ of_writer w →
       SubsectionClauses i n s old s new r
   module_written name is w gains fits unchanged large r q =
-      naming_written i n s s old new 0 (Tree.fixed 0) (Tree.name name) (λ c s. refl) refl (λ keeps. made) w gains fits unchanged (sizes w large) r q
+      naming_written i n s s old new 0 (Tree.fixed 0) (Tree.name name) (λ c s. refl) refl
+      (known_tree (module_name_tree name) refl (λ t reads. let Q : Content → Type 0 = λ z. ReadsContent z t in subst Q is reads)) (λ keeps. made) w gains fits unchanged (sizes w large) r q
     where
       made : NamingMade (asks i) n s s 0 (Tree.fixed 0) (Tree.name name)
       made =
@@ -127,7 +159,8 @@ module _ {S E : Type 0} (i : Ghosts S E) {n : Name} {s : S} {old new : CodeRows}
       OnOk w (length contents ≤ old.ceiling) → OnErr w (new ≡ old) → IfErr w (λ f. IfTooLarge f (PassesCeiling old.ceiling (Tree.raw contents))) → (r : Result (Unit {0}) (Error E)) → r ≡ of_writer w →
       SubsectionClauses i n s old s new r
   raw_written id contents is w gains fits unchanged large r q =
-      naming_written i n s s old new 12 (Tree.byte id) (Tree.raw contents) (λ c s. refl) refl (λ keeps. made) w gains fits unchanged (sizes w large) r q
+      naming_written i n s s old new 12 (Tree.byte id) (Tree.raw contents) (λ c s. refl) refl
+      (known_tree (raw_names_tree id contents) refl (λ t reads. let Q : Content → Type 0 = λ z. ReadsContent z t in subst Q is reads)) (λ keeps. made) w gains fits unchanged (sizes w large) r q
     where
       made : NamingMade (asks i) n s s 12 (Tree.byte id) (Tree.raw contents)
       made =
@@ -165,6 +198,8 @@ pub record IsMap (n : Name) (id : ℕ) (p : Space) (body : Shape) (m : MapStandi
   pub read : (ts : List Tree) → EntriesLeft (plain_row body) m (rows_tree ts) → (t : Tree) × ReadsName n t
   pub row : MapRow id (asked_row p body)
   pub of_map : (P : Shape → MapStanding → Type 0) → P (asked_row p body) m → OfMap (content_of n) P
+  pub bytes : entries_bytes (content_of n) ≡ m.rest
+  pub one : (t u : Tree) → ReadsName n t → ReadsName n u → t ≡ u
 
 pub direct_map : {n : Name} {m : MapStanding} (id : ℕ) (p : Space) → MapRow id (asked_row p Shape.name) → content_of n ≡ Content.direct id p m → IsMap n id p Shape.name m
 direct_map {n = n} {m = m} id p row is = record {
@@ -177,6 +212,12 @@ direct_map {n = n} {m = m} id p row is = record {
       (t, subst Q (sym is) (es.0, subst L es.1 w, refl));
   row = row;
   of_map = λ P h. let Q : Content → Type 0 = λ z. OfMap z P in subst Q (sym is) (_, row, h);
+  bytes = ap entries_bytes is;
+  one = λ t u p_t p_u.
+      let Q : Tree → Content → Type 0 = λ v z. ReadsContent z v in
+      let x = subst (Q t) is p_t in
+      let y = subst (Q u) is p_u in
+      x.2 ∙ ap (λ (es : List Entry). names_tree id p (entries_trees es)) (names_one x.0 y.0 x.1 y.1) ∙ sym y.2;
 }
 
 pub indirect_map : {n : Name} {m : MapStanding} (id : ℕ) (p : Space) → MapRow id (asked_row p (Shape.vec plain_naming)) → content_of n ≡ Content.indirect id p m → IsMap n id p (Shape.vec plain_naming) m
@@ -190,6 +231,12 @@ indirect_map {n = n} {m = m} id p row is = record {
       (t, subst Q (sym is) (os.0, subst L os.1 w, refl));
   row = row;
   of_map = λ P h. let Q : Content → Type 0 = λ z. OfMap z P in subst Q (sym is) (_, row, h);
+  bytes = ap entries_bytes is;
+  one = λ t u p_t p_u.
+      let Q : Tree → Content → Type 0 = λ v z. ReadsContent z v in
+      let x = subst (Q t) is p_t in
+      let y = subst (Q u) is p_u in
+      x.2 ∙ ap (λ (os : List Outer). names_tree id p (outers_trees os)) (outers_left_one x.0 y.0 x.1 y.1) ∙ sym y.2;
 }
 
 -- the rows of a map by their id and space
@@ -217,14 +264,14 @@ indirect_core id p (inr (inr h)) = rw h.1 refl
 -- what the calls that map a map gave
 pub record MapCalls {S E : Type 0} (i : Ghosts S E) (p : Space) (body : Shape) (m : MapStanding) (s k : S) (mapped : Result (List Tree) (Error E)) : Type 0 where
   pub gives : (c : ℕ) → GivesMap (asks i) c p body m s k mapped
-  pub leaves : IsTrue i.sure → (ts : List Tree) → EntriesLeft (plain_row body) m (rows_tree ts) → LeavesVisited (asks i) s (visits (vector_tree (map (asked_in p) ts))) k mapped
+  pub leaves : IsItem (asked_row p body) → IfErr mapped (λ e. (e ≡ NoMemory → IsTrue i.sure) → MapLeaves (asks i) p body m s e k)
 
 module _ {S E : Type 0} (i : Ghosts S E) {n : Name} {id : ℕ} {p : Space} {body : Shape} {m : MapStanding} (is : IsMap n id p body m) {s k : S} {old : CodeRows} where
   -- an entry is refused, or there is none
   pub map_stopped : (e : Error E) → MapCalls i p body m s k (Err e) → (r : Result (Unit {0}) (Error E)) → IsErrAnd r (λ y. y ≡ e) → SubsectionClauses i n s old k old r
   map_stopped e calls r q =
       let P : Result (Unit {0}) (Error E) → Type 0 = λ z. SubsectionClauses i n s old k old z in
-      subst P (answers r q) (record { kept = keeps_code old; default = λ keeps. stopped; after_error = λ keeps sure t reads. left sure t reads })
+      subst P (answers r q) (record { kept = keeps_code old; default = λ keeps. stopped; after_error = λ keeps. left })
     where
       stopped : GivesSubsection (asks i) n (s, old) (k, old) (Err e)
       stopped =
@@ -237,19 +284,38 @@ module _ {S E : Type 0} (i : Ghosts S E) {n : Name} {id : ℕ} {p : Space} {body
             refusal = IfRefused-map e (λ d. inr (refl, is.of_map _ d)) g.refusal;
           }
 
-      left : IsTrue i.sure → (t : Tree) → ReadsName n t → Visited (asks i) s (visits t) k
-      left sure t reads =
-          let b = is.entries t reads in
-          let P : Tree → Type 0 = λ z. Visited (asks i) s (visits z) k in
-          subst P (sym b.2) (calls.leaves sure b.0 b.1)
+      left : (e ≡ NoMemory → IsTrue i.sure) → Leaves (asks i) (subsection_in n) s e k
+      left told =
+          let l = calls.leaves (IsItem.entry id (asked_row p body) is.row) told in
+          let P : List ℕ → Type 0 = λ z. Drawn z l.made in record {
+            made = l.made;
+            ended = l.ended;
+            drawn = subst P (sym is.bytes) l.drawn;
+            reading = λ t reads. let b = is.entries t reads in front_same (ap visits (sym b.2)) (l.reading b.0 b.1);
+            fault = λ none t rest f. absurd f;
+          }
 
   -- all entries were accepted, and the map was added or not
   pub map_written : {new : CodeRows} (es : List Tree) → MapCalls i p body m s k (Ok es) → (w : Result (Unit {0}) WriteFault) → OnOk w (new ≡ with_row old (names_tree id p es)) →
       OnOk w (length (normal (vector_tree es)) ≤ old.ceiling) → OnErr w (new ≡ old) → IfErr w (λ f. IfTooLarge f (PassesCeiling old.ceiling (vector_tree es))) → (r : Result (Unit {0}) (Error E)) →
       r ≡ of_writer w → SubsectionClauses i n s old k new r
   map_written {new = new} es calls w gains fits unchanged large r q =
-      naming_written i n s k old new id (Tree.fixed id) (vector_tree (map (asked_in p) es)) (λ c s. refl) refl (λ keeps. made) w gains (fit w fits) unchanged (sizes w large) r q
+      naming_written i n s k old new id (Tree.fixed id) (vector_tree (map (asked_in p) es)) (λ c s. refl) refl known (λ keeps. made) w gains (fit w fits) unchanged (sizes w large) r q
     where
+      known : NamingKnown n
+      known = record {
+        drawn = λ t reads.
+            let b = is.entries t reads in
+            let rows = asked_left p b.0 b.1.rows_left in
+            let entries : List Visit = visits (rows_tree (map (asked_in p) b.0)) in
+            let here : Drawn m.rest entries =
+            due_drawn m b.1.count b.1.bytes entries b.1.due (drawn_rows (IsItem.entry id (asked_row p body) is.row) (rows_tree (map (asked_in p) b.0)) b.1.bytes rows.shaped rows.spelled) in
+            let P : List ℕ → Type 0 = λ z. Drawn z entries in
+            let Q : Tree → Type 0 = λ z. Drawn (entries_bytes (content_of n)) (visits z) in
+            subst Q (sym b.2) (subst P (sym is.bytes) here);
+        one = is.one;
+      }
+
       made : NamingMade (asks i) n s k id (Tree.fixed id) (vector_tree (map (asked_in p) es))
       made = record {
         reading = let b = (calls.gives 0).readable in is.read b.0 b.1;
@@ -289,8 +355,12 @@ module _ {F S E : Type 0} (i : Ghosts S E) (p : Space) {body : Shape} (quiet : Q
   answers_of : (f : F) (j : ℕ) (r : Result ℕ (Error E)) (g : F) → Call f j r g → Gives (asks i (see f) (Index p j)) (λ k. k) (see g) r × (name g ≡ name f)
   answers_of f j r g call = (call.0, call.2)
 
-  never : IsTrue i.sure → (f : F) (j : ℕ) (g : F) → Call f j (Err NoMemory) g → ⊥
-  never sure f j g call = call.1 sure refl
+  calls_leave : (m : MapStanding) (f g : F) (mapped : Result (List Tree) (Error E)) (last : S) → MapsEntries (plain_row body) Call m f g mapped → (name f ≡ name g → last ≡ see g) → IsItem (asked_row p body) →
+      IfErr mapped (λ e. (e ≡ NoMemory → IsTrue i.sure) → MapLeaves (asks i) p body m (see f) e last)
+  calls_leave m f g (Ok es) last calls kept item = tt
+  calls_leave m f g (Err e) last calls kept item = λ told.
+      map_leaves_at Call see name (asks i) p quiet (λ s j. usual_ask i.reply i.next s (Index p j)) answers_of item (λ s k v e. one_ended i.reply i.next e v) m f g e last calls kept
+      (λ same f j g call. call.1 (told same) refl)
 
   -- the walk over a map with the closure
   pub map_calls : {m : MapStanding} (f g : F) (mapped : Result (List Tree) (Error E)) (last : S) → asked f ≡ p → MapsEntries (plain_row body) step m f g mapped →
@@ -298,5 +368,5 @@ module _ {F S E : Type 0} (i : Ghosts S E) (p : Space) {body : Shape} (quiet : Q
   map_calls {m = m} f g mapped last same h kept =
       let calls = maps_kept step Call (λ f. asked f ≡ p) for_space (plain_row body) m f g mapped same h in record {
         gives = λ c. gives_map_at Call see name (asks i) p quiet (λ s j. usual_ask i.reply i.next s (Index p j)) answers_of c m f g mapped last calls kept;
-        leaves = λ sure ts w. leaves_map_at Call see name (asks i) p quiet (λ s j. usual_ask i.reply i.next s (Index p j)) answers_of (never sure) m f g mapped last calls kept ts w;
+        leaves = calls_leave m f g mapped last calls kept;
       }

@@ -19,7 +19,8 @@ use Rattle.reencode_core.specs.Rows.{Asks}
 use Rattle.reencode_core.specs.Core.{AcceptsSections, RefusedIn, StopsThere, BeforeFault, IsCause}
 use Rattle.reencode_core.specs.Weave.{Puts}
 use Rattle.reencode_core.specs.Woven.{AddedThere, GainsFront, IsOwn}
-use Rattle.reencode_core.specs.Faults.{FaultGives, FaultTells, TellsFault}
+use Rattle.reencode_core.specs.Faults.{FaultGives, FaultTells}
+use Rattle.reencode_core.specs.Leaves.{TellsFault}
 use Rattle.reencode_core.proofs.CoreLoop.{Ahead, same, more, ahead, none_behind, same_sections}
 use Rattle.reencode_core.proofs.Usual.{Usual, stops_usual, usual_ask, usual_walk}
 

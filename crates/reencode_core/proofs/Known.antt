@@ -1,5 +1,5 @@
 -- Sections by their kind.
-use Rattle.std.proofs.Common.{◌≡◌, ◌≢◌, ℕ, ◌≤◌, ◌<◌, List, [], ◌∷◌, ◌++◌, length, Bool, true, false, nat_le, if◌then◌else◌, Option, Some, Result, Ok, Err, refl, sym, ap, ◌∙◌, append_assoc, append-nil, arith, subst}
+use Rattle.std.proofs.Common.{◌≡◌, ◌≢◌, ℕ, ◌≤◌, ◌<◌, List, [], ◌++◌, length, Bool, true, false, nat_le, if◌then◌else◌, Option, Some, Result, Ok, Err, refl, sym, ap, ◌∙◌, append_assoc, append-nil, arith, subst}
 use Rattle.std.proofs.lemmas.Bool.{le-leb, leb-true}
 use Rattle.std.proofs.lemmas.List.{append_cancel_left}
 use Rattle.wasm_leb.specs.Place.{BeginsNumber}
@@ -7,7 +7,7 @@ use Rattle.wasm_leb.proofs.Unique.{unsigned_unique}
 use Rattle.wasm_shapes.specs.declared.SectionId.{SectionId}
 use Rattle.wasm_shapes.specs.declared.Visit.{Visit}
 use Rattle.wasm_shapes.specs.declared.Visit.TheVariants.{Section}
-use Rattle.wasm_shapes.specs.Tree.{Tree, normal, count, kind, before, visits, visits_from}
+use Rattle.wasm_shapes.specs.Tree.{Tree, normal, count, kind, visits}
 use Rattle.wasm_shapes.specs.Shape.{Shape}
 use Rattle.wasm_shapes.specs.Spells.{Is, Spelled, Spells}
 use Rattle.wasm_shapes.specs.Place.{Begins, BeginsNone}
@@ -20,10 +20,8 @@ use Rattle.wasm_write.specs.Sections.{Sections, SectionRow, section_row, section
 use Rattle.reencode_hooks.specs.Hooks.{Gains, RepliesSection}
 use Rattle.reencode_hooks.specs.declared.error.Error.{Error}
 use Rattle.reencode_hooks.specs.declared.error.Error.TheVariants.{TooLarge}
-use Rattle.reencode_hooks.specs.Run.{Step, accepted, refused, run, Visited}
+use Rattle.reencode_hooks.specs.Run.{Step, accepted, refused}
 use Rattle.reencode_hooks.specs.Walk.{walk, closed, announced}
-use Rattle.reencode_hooks.proofs.Walks.{visited_then}
-use Rattle.reencode_items.proofs.Leaving.{first_visited, one_visited, second_visited}
 use Rattle.reencode_core.specs.Rows.{Asks}
 use Rattle.reencode_core.specs.Sections.{KeepsModule}
 
@@ -64,37 +62,6 @@ module _ (k : SectionId) where
     pub section_large : (c : ℕ) (s m : S) (t u : Tree) → walk asked c s t ≡ accepted u m → c < length (normal u) →
         walk asked c s (tree_of k t) ≡ refused (TooLarge (length (normal u))) m
     section_large c s m t u h l = rw (h, closed_large {E = E} c u m l) refl
-
--- ---- what is asked before a section
-
-module _ {S E : Type 0} (asked : Asks S E) where
-  told_accepted : (s n : S) (a : ℕ) (last : Option SectionId) (t : Tree) → announced asked s last t ≡ accepted a n → (b : List ℕ) × (run asked s (before last t) ≡ accepted b n)
-  told_accepted s n a last (Tree.row k t) h = told_accepted s n a last t h
-  told_accepted s n a last (Tree.told k t) h = (a ∷ [], rw h refl)
-  told_accepted s n a last _ h = let same : s ≡ n = cc in ([], ap (λ (z : S). accepted [] z) same)
-
-  told_refused : (s m : S) (e : Error E) (last : Option SectionId) (t : Tree) → announced asked s last t ≡ refused e m → Visited asked s (before last t) m
-  told_refused s m e last (Tree.row k t) h = told_refused s m e last t h
-  told_refused s m e last (Tree.told k t) h = one_visited (Section last (Some k)) h
-  told_refused s m e last _ h = absurd cc
-
-  -- what stands before a section, and the section, were accepted
-  pub section_onward : (c : ℕ) (last : Option SectionId) {now : Option SectionId} {s n m j : S} (t : Tree) {v : Tree} (others : Tree) →
-      announced asked s last t ≡ accepted 0 n → kind last t ≡ now → walk asked c n t ≡ accepted v m → Visited asked m (visits_from now others) j →
-      Visited asked s (visits_from last (Tree.also t others)) j
-  section_onward c last {s = s} {n = n} t others told kinds w u =
-      let ran = told_accepted s n 0 last t told in rw kinds (visited_then asked (before last t) ran.1 (second_visited c t w u))
-
-  -- the first was accepted, and the section was asked in part
-  pub inside_visits : (last : Option SectionId) {s n m : S} (t others : Tree) → announced asked s last t ≡ accepted 0 n → Visited asked n (visits t) m →
-      Visited asked s (visits_from last (Tree.also t others)) m
-  inside_visits last {s = s} {n = n} t others told v =
-      let ran = told_accepted s n 0 last t told in visited_then asked (before last t) ran.1 (first_visited (visits_from (kind last t) others) v)
-
-  -- the first was refused
-  pub hook_visits : (last : Option SectionId) {s m : S} {e : Error E} (t others : Tree) → announced asked s last t ≡ refused e m →
-      Visited asked s (visits_from last (Tree.also t others)) m
-  hook_visits last {s = s} {m = m} {e = e} t others told = first_visited (visits t ++ visits_from (kind last t) others) (told_refused s m e last t told)
 
 -- ---- frames
 

@@ -21,6 +21,12 @@ pub mod BodyLoop
 pub mod Locals
 pub mod WholeBody
 pub mod Leaving
+pub mod Made
+pub mod RowsMade
+pub mod FunctionMade
+pub mod SectionMade
+pub mod BytesMade
+pub mod Refusals
 pub mod RuleRuns
 pub mod MappedSection
 pub mod EachSection

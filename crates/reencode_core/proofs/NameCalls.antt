@@ -3,12 +3,14 @@
 -- `see f` is the reencoder that the closure f holds, and `name f` the name of its reference. A call of the closure answers what
 -- `asked` gives at an index of the space, and keeps the name: that is `one`. The entries of the map are an index, and behind it
 -- `body`, which asks nothing.
-use Rattle.std.proofs.Common.{◌≡◌, ◌≢◌, ℕ, ◌+◌, ◌<◌, ◌⊎◌, List, [], ◌∷◌, ◌++◌, length, map, true, Result, Ok, Err, IfOk, IfErr, refl, sym, ap, ap₂, subst, ◌∙◌, append_assoc, inl, inr, arith}
+use Rattle.std.proofs.Common.{◌≡◌, ◌≢◌, ℕ, ◌+◌, ◌<◌, ◌⊎◌, List, [], ◌∷◌, ◌++◌, length, map, true, Option, Some, None, Result, Ok, Err, IfOk, IfErr, refl, sym, ap, ap₂, subst, ◌∙◌, append_assoc, inl, inr, arith}
 use Rattle.std.proofs.lemmas.List.{length-map}
 use Rattle.wasm_shapes.specs.declared.Space.{Space}
 use Rattle.wasm_shapes.specs.declared.Visit.{Visit}
 use Rattle.wasm_shapes.specs.declared.Visit.TheVariants.{Index}
+use Rattle.wasm_shapes.specs.Drawn.{Drawn, IsItem}
 use Rattle.wasm_shapes.specs.Tree.{Tree, visits}
+use Rattle.wasm_shapes.proofs.Drawn.{drawn_begun, drawn_behind, drawn_joined, drawn_none, drawn_part}
 use Rattle.wasm_shapes.specs.Shape.{Shape, closed}
 use Rattle.wasm_shapes.specs.Sound.{sound}
 use Rattle.wasm_shapes.specs.Spells.{Is, Spelled}
@@ -17,19 +19,21 @@ use Rattle.wasm_shapes.specs.Rows.{rows_then}
 use Rattle.wasm_shapes.specs.Types.{rows_tree, vector_tree}
 use Rattle.wasm_shapes.specs.Module.{plain_naming}
 use Rattle.wasm_shapes.specs.Namings.{asked_in}
-use Rattle.wasm_read.specs.Names.{MapStanding, map_place, Due, EntriesLeft, FaultHere, EntryMissing, EntryRead}
+use Rattle.wasm_read.specs.Names.{MapStanding, map_place, Due, DueFrom, EntriesLeft, FaultHere, EntryMissing, EntryRead}
 use Rattle.wasm_read.proofs.NameMaps.{plain_row, asked_row, asked_from, due_behind, due_one, left_less, left_one, lists_one}
 use Rattle.reencode_hooks.specs.declared.error.Error.{Error}
 use Rattle.reencode_hooks.specs.declared.error.Error.TheVariants.{NoMemory}
-use Rattle.reencode_hooks.specs.Run.{Step, accepted, refused, and_then, Gives, Visited, LeavesVisited}
+use Rattle.reencode_hooks.specs.Run.{Step, accepted, refused, and_then, Gives, run}
 use Rattle.reencode_hooks.specs.Walk.{walk}
-use Rattle.reencode_items.proofs.Leaving.{accepted_visited, first_visited, refused_visited}
+use Rattle.reencode_hooks.proofs.Walks.{walk_is_run}
 use Rattle.reencode_core.specs.Errors.{IfParse, IfRefused}
 use Rattle.reencode_core.specs.Rows.{Asks, AcceptsRows, RowsBefore, onto_rows}
 use Rattle.reencode_core.specs.NameMaps.{Asked, entry_of, entries_of, renamed, Calls, ReadTo, CallRefused, Unread, Wants, MapsEntries}
 use Rattle.reencode_core.specs.Names.{EntriesRead, MapFault, StopsMap}
 use Rattle.reencode_core.proofs.BodyLoop.{rows_missing}
-use Rattle.reencode_core.proofs.Leaving.{visits_behind}
+use Rattle.reencode_core.specs.Leaves.{EndsBy, IsFront}
+use Rattle.reencode_core.proofs.Made.{Unasked, ended_all, ended_behind, front_none, front_same, front_then}
+use Rattle.reencode_core.proofs.RowsMade.{visits_behind}
 use Rattle.reencode_core.proofs.NameWalks.{left_front}
 use Rattle.reencode_core.proofs.RowLoop.{onto_nothing}
 use Rattle.reencode_core.proofs.Usual.{Usual, stops_usual, unless_wanting}
@@ -49,6 +53,32 @@ pub record Quiet {S E : Type 0} (asked : Asks S E) (body : Shape) : Type 0 where
   pub passes : sound (plain_row body) ≡ true
   pub ends : closed (plain_row body) ≡ true
   pub walks : (c : ℕ) (s : S) (t : Tree) → Is body t → walk asked c s t ≡ accepted t s
+
+-- These visits were made when an error came: drawn from what the map has left, and of its entries, if it is such, a front part.
+pub record MapLeaves {S E : Type 0} (asked : Asks S E) (p : Space) (body : Shape) (m : MapStanding) (s : S) (e : Error E) (k : S) : Type 0 where
+  pub made : List Visit
+  pub ended : EndsBy asked s made e k
+  pub drawn : Drawn m.rest made
+  pub reading : (ts : List Tree) → EntriesLeft (plain_row body) m (rows_tree ts) → IsFront made (visits (rows_tree (map (asked_in p) ts)))
+
+-- what is drawn from where entries are due is drawn from what the map has left
+pub due_drawn : (m : MapStanding) (n : ℕ) (bytes : List ℕ) (vs : List Visit) → Due m n bytes → Drawn bytes vs → Drawn m.rest vs
+due_drawn m n bytes vs d drawn = go m.left d
+  where
+    go : (left : Option ℕ) → DueFrom m.rest left n bytes → Drawn m.rest vs
+    go None d = drawn_behind d.0 bytes d.2 drawn
+    go (Some k) d = let P : List ℕ → Type 0 = λ z. Drawn z vs in subst P d.1 drawn
+
+-- the visits of entries that were read, and others behind them
+entries_drawn : {row : Shape} → IsItem row → (ts : List Tree) (m n : MapStanding) (vs : List Visit) → EntriesRead row m ts n → Drawn n.rest vs → Drawn m.rest (visits (rows_tree ts) ++ vs)
+entries_drawn item [] m n vs r d = let P : MapStanding → Type 0 = λ z. Drawn z.rest vs in subst P (sym r) d
+entries_drawn item (t ∷ ts) m n vs r d =
+    let one = r.1 in
+    let others = entries_drawn item ts r.0 n vs r.2 d in
+    let here : Drawn one.bytes (visits t ++ (visits (rows_tree ts) ++ vs)) =
+    drawn_joined one.bytes (visits t) (visits (rows_tree ts) ++ vs) (drawn_begun item one.begins) (drawn_behind one.begins.text r.0.rest one.begins.reads others) in
+    let P : List Visit → Type 0 = λ z. Drawn m.rest z in
+    subst P (sym (append_assoc (visits t) (visits (rows_tree ts)) vs)) (due_drawn m (one.left + 1) one.bytes (visits t ++ (visits (rows_tree ts) ++ vs)) one.due here)
 
 -- ---- what asks nothing
 
@@ -377,38 +407,51 @@ module _ {F S E : Type 0} (step : F → ℕ → Result ℕ (Error E) → F → T
       refusal (inr (inl u)) = let P : Error E → Type 0 = λ x. IfRefused x (StopsMap asked c (asked_row p body) m (see f) e (see g)) in subst P (sym u.parse) tt
       refusal (inr (inr k)) = let P : Error E → Type 0 = λ x. IfRefused x (StopsMap asked c (asked_row p body) m (see f) e (see g)) in subst P (sym k.memory) tt
 
-  -- The state that an error leaves, where no call answers want of memory.
-  pub leaves_map : (never : (f : F) (i : ℕ) (g : F) → step f i (Err NoMemory) g → ⊥) (m : MapStanding) (f g : F) (result : Result (List Tree) (Error E)) →
-      MapsEntries (plain_row body) step m f g result → (ts : List Tree) → EntriesLeft (plain_row body) m (rows_tree ts) →
-      LeavesVisited asked (see f) (visits (vector_tree (map (asked_in p) ts))) (see g) result
-  leaves_map never m f g (Ok es) h ts w = tt
-  leaves_map never m f g (Err e) h ts w = by h.why
+  -- The visits that were made when an error came, where no call answers want of memory.
+  pub map_leaves : IsItem (asked_row p body) → ((s k : S) (v : Visit) (e : Error E) → asked s v ≡ refused e k → EndsBy asked s (v ∷ []) e k) → (m : MapStanding) (f g : F) (e : Error E) →
+      MapsEntries (plain_row body) step m f g (Err e) → (e ≡ NoMemory → (f : F) (i : ℕ) (g : F) → step f i (Err NoMemory) g → ⊥) → MapLeaves asked p body m (see f) e (see g)
+  map_leaves item ends m f g e h never = by h.why
     where
-      by : CallRefused (plain_row body) step h.rest h.between g e ⊎ Unread (plain_row body) m h.rest h.between g e ⊎ Wants h.between g e →
-          Visited asked (see f) (visits (vector_tree (map (asked_in p) ts))) (see g)
-      by (inl r) =
-          let wants : e ≢ NoMemory = λ same. never h.between r.index g (subst (λ (x : Error E). step h.between r.index (Err x) g) same r.call) in
-          refused_visited 0 (vector_tree (map (asked_in p) ts)) (reading_err 0 m h.rest r.behind f h.between g h.asked r.index r.named e ts h.reads h.calls r.read r.call w wants)
-      by (inr (inl u)) = absurd (u.none (rows_tree ts) w)
-      by (inr (inr k)) =
-          let q = parts m h.rest h.asked ts h.reads w in
+      -- behind the entries that were asked for
+      build : (mid : List Visit) → EndsBy asked (see h.between) mid e (see g) → Drawn h.rest.rest mid →
+          ((us : List Tree) → EntriesLeft (plain_row body) h.rest (rows_tree us) → IsFront mid (visits (rows_tree (map (asked_in p) us)))) → MapLeaves asked p body m (see f) e (see g)
+      build mid ended drawn whole =
           let front : List Tree = map (asked_in p) (entries_of h.asked) in
-          let others : Tree = rows_tree (map (asked_in p) q.0) in
-          let all : walk asked 0 (see f) (rows_then front Tree.nil) ≡ accepted (rows_tree (map (asked_in p) (renamed h.asked))) (see h.between) =
-          calls_walk 0 h.asked f h.between (reads_are h.asked m h.rest h.reads) h.calls Tree.nil in
-          let v = first_visited (visits others) (accepted_visited 0 (rows_then front Tree.nil) all) in
-          let P : List Visit → Type 0 = λ z. Visited asked (see f) z (see h.between) in
-          let Q : Tree → Type 0 = λ z. Visited asked (see f) (visits z) (see h.between) in
-          let R : F → Type 0 = λ z. Visited asked (see f) (visits (rows_tree (map (asked_in p) ts))) (see z) in
-          subst R (sym k.state) (subst Q q.2 (subst P (sym (visits_behind front others)) v))
+          let walked : walk asked 0 (see f) (rows_tree front) ≡ accepted (rows_tree (map (asked_in p) (renamed h.asked))) (see h.between) =
+          calls_walk 0 h.asked f h.between (reads_are h.asked m h.rest h.reads) h.calls Tree.nil in record {
+            made = visits (rows_tree front) ++ mid;
+            ended = ended_behind asked e (visits (rows_tree front)) mid ((walk_is_run asked).forth 0 (see f) (see h.between) (rows_tree front) (rows_tree (map (asked_in p) (renamed h.asked))) walked).ran ended;
+            drawn = entries_drawn item front m h.rest mid (read_asked p body h.asked m h.rest h.reads) drawn;
+            reading = λ ts w.
+                let q = parts m h.rest h.asked ts h.reads w in
+                front_same (sym (visits_behind front (rows_tree (map (asked_in p) q.0))) ∙ ap visits q.2) (front_then (visits (rows_tree front)) (whole q.0 q.1));
+          }
+
+      -- nothing more was asked for
+      stands : Unasked e → g ≡ h.between → MapLeaves asked p body m (see f) e (see g)
+      stands u same =
+          let ran : run asked (see h.between) [] ≡ accepted [] (see g) = ap (λ (z : F). accepted [] (see z)) (sym same) in
+          build [] (ended_all e u ran) drawn_none (λ us w. front_none (visits (rows_tree (map (asked_in p) us))))
+
+      refused_by : CallRefused (plain_row body) step h.rest h.between g e → MapLeaves asked p body m (see f) e (see g)
+      refused_by r =
+          let wants : e ≢ NoMemory = λ same. never same h.between r.index g (subst (λ (x : Error E). step h.between r.index (Err x) g) same r.call) in
+          let v : Visit = Index p r.index in
+          build (v ∷ []) (ends (see h.between) (see g) v e ((one h.between r.index (Err e) g r.call).0 wants))
+          (due_drawn h.rest (r.read.left + 1) r.read.bytes (v ∷ []) r.read.due (drawn_part (v ∷ []) (visits r.named) (drawn_begun item (begins_asked p r.read.begins))))
+          (λ us w. let z = next_part h.rest r.behind r.index r.named us r.read w in front_same (ap visits z.1) (record { rest = visits r.named ++ visits z.0; parts = refl }))
+
+      by : CallRefused (plain_row body) step h.rest h.between g e ⊎ Unread (plain_row body) m h.rest h.between g e ⊎ Wants h.between g e → MapLeaves asked p body m (see f) e (see g)
+      by (inl r) = refused_by r
+      by (inr (inl u)) = let P : Error E → Type 0 = λ z. Unasked z in stands (subst P (sym u.parse) tt) u.state
+      by (inr (inr k)) = let P : Error E → Type 0 = λ z. Unasked z in stands (subst P (sym k.memory) tt) k.state
 
   -- the same, where the reencoder's last value is known by the name of its reference
   pub gives_map_at : (c : ℕ) (m : MapStanding) (f g : F) (result : Result (List Tree) (Error E)) (last : S) → MapsEntries (plain_row body) step m f g result →
       (name f ≡ name g → last ≡ see g) → GivesMap asked c p body m (see f) last result
   gives_map_at c m f g result last h k = subst (λ (s : S). GivesMap asked c p body m (see f) s result) (sym (k (sym (keeps_name m f g result h)))) (gives_map c m f g result h)
 
-  pub leaves_map_at : (never : (f : F) (i : ℕ) (g : F) → step f i (Err NoMemory) g → ⊥) (m : MapStanding) (f g : F) (result : Result (List Tree) (Error E)) (last : S) →
-      MapsEntries (plain_row body) step m f g result → (name f ≡ name g → last ≡ see g) → (ts : List Tree) → EntriesLeft (plain_row body) m (rows_tree ts) →
-      LeavesVisited asked (see f) (visits (vector_tree (map (asked_in p) ts))) last result
-  leaves_map_at never m f g result last h k ts w =
-      subst (λ (s : S). LeavesVisited asked (see f) (visits (vector_tree (map (asked_in p) ts))) s result) (sym (k (sym (keeps_name m f g result h)))) (leaves_map never m f g result h ts w)
+  pub map_leaves_at : IsItem (asked_row p body) → ((s k : S) (v : Visit) (e : Error E) → asked s v ≡ refused e k → EndsBy asked s (v ∷ []) e k) → (m : MapStanding) (f g : F) (e : Error E) (last : S) →
+      MapsEntries (plain_row body) step m f g (Err e) → (name f ≡ name g → last ≡ see g) → (e ≡ NoMemory → (f : F) (i : ℕ) (g : F) → step f i (Err NoMemory) g → ⊥) →
+      MapLeaves asked p body m (see f) e last
+  map_leaves_at item ends m f g e last h k never = subst (λ (s : S). MapLeaves asked p body m (see f) e s) (sym (k (sym (keeps_name m f g (Err e) h)))) (map_leaves item ends m f g e h never)

@@ -3,6 +3,9 @@ use Rattle.std.proofs.Common.{◌≡◌, ◌≢◌, ◌⊎◌, ℕ, ◌-◌, ◌
 use Rattle.std.proofs.lemmas.List.Elements.{Contains-append_left}
 use Rattle.wasm_leb.specs.declared.fault.Fault.{Fault}
 use Rattle.wasm_leb.specs.declared.fault.Fault.TheVariants as fault
+use Rattle.wasm_shapes.specs.declared.Visit.{Visit}
+use Rattle.wasm_shapes.specs.Drawn.{Drawn}
+use Rattle.wasm_shapes.proofs.Drawn.{drawn_behind, drawn_front, drawn_joined, drawn_none}
 use Rattle.wasm_shapes.specs.Shape.{Shape}
 use Rattle.wasm_shapes.specs.Tree.{Tree, visits}
 use Rattle.wasm_shapes.specs.Spells.{Is, Spelled, Spells}
@@ -22,16 +25,18 @@ use Rattle.reencode_hooks.specs.declared.error.Error.{Error}
 use Rattle.reencode_hooks.specs.declared.error.Error.TheVariants.{ParseError, UserError, TooLarge, NoMemory}
 use Rattle.reencode_hooks.specs.declared.indices.ReencodeIndices.{Ghosts}
 use Rattle.reencode_hooks.specs.Errors.{error_of_fault}
-use Rattle.reencode_hooks.specs.Run.{accepted, refused, Visited}
+use Rattle.reencode_hooks.specs.Run.{accepted, refused}
 use Rattle.reencode_hooks.specs.Walk.{walk}
-use Rattle.reencode_items.proofs.Leaving.{first_visited, none_visited}
+use Rattle.reencode_hooks.proofs.Walks.{walk_is_run}
 use Rattle.reencode_core.specs.Bodies.{KeepsCode}
 use Rattle.reencode_core.specs.Errors.{IfParse, IfRefused, placed_at}
-use Rattle.reencode_core.specs.Leaves.{LeavesReading}
-use Rattle.reencode_core.specs.Names.{ContentFault, GivesNames, GivesSubsection, MapFault, MapRow, RefusesEntry, RefusesSubsection, StopsContent, StopsMap, StopsNames, SubsectionsFault, SubsectionsLeft, TooLargeNames}
-use Rattle.reencode_core.specs.Rows.{Asks, Further}
-use Rattle.reencode_core.proofs.Counts.{further_none, only_rows, walk_further}
-use Rattle.reencode_core.proofs.Leaving.{Leaves, behind_visited}
+use Rattle.reencode_core.specs.Leaves.{EndsBy, IsFront, Leaves, LeavesMade, MadeUpTo, NamesUpTo, TellsFault, entries_bytes, names_in, subsection_in}
+use Rattle.reencode_core.specs.Names.{GivesNames, GivesSubsection, MapRow, RefusesEntry, RefusesSubsection, StopsContent, StopsMap, StopsNames, SubsectionsFault, SubsectionsLeft, TooLargeNames}
+use Rattle.reencode_core.specs.Rows.{Asks}
+use Rattle.reencode_core.proofs.Counts.{only_rows}
+use Rattle.reencode_core.proofs.Made.{ended_all, ended_behind, ended_placed, fault_unasked, front_first, front_none, front_same, front_then, tells_if, tells_placed, wants_placed}
+use Rattle.reencode_core.proofs.RowsMade.{RowsAhead, rows_ahead, visits_behind, visits_more}
+use Rattle.reencode_core.proofs.SectionMade.{names_drawn}
 use Rattle.reencode_core.proofs.ManyLoop.{ManyDone, many_begun, many_more, many_read, many_refused, many_stuck, many_walked}
 use Rattle.reencode_core.proofs.OneRow.{answers, asks}
 use Rattle.reencode_core.proofs.Usual.{IfParse-map, fault_unrefused}
@@ -44,7 +49,7 @@ SubsectionClauses i n s old m new result =
     record {
       kept : KeepsCode old new;
       default : IsTrue i.keeps_defaults → GivesSubsection (asks i) n (s, old) (m, new) result;
-      after_error : IsTrue i.keeps_defaults → IsTrue i.sure → LeavesReading (ReadsName n) (asks i) s m result;
+      after_error : IsTrue i.keeps_defaults → LeavesMade i.sure (asks i) (subsection_in n) s m result;
     }
 
 -- those of the call that maps the subsections of a section
@@ -52,7 +57,7 @@ abbrev pub NamesClauses : {S E : Type 0} → Ghosts S E → ℕ → NamesStandin
 NamesClauses i c start s m result =
     record {
       default : IsTrue i.keeps_defaults → GivesNames (asks i) c start s m result (λ z. z);
-      after_error : IsTrue i.keeps_defaults → IsTrue i.sure → LeavesReading (SubsectionsLeft start) (asks i) s m result;
+      after_error : IsTrue i.keeps_defaults → LeavesMade i.sure (asks i) (names_in start) s m result;
     }
 
 -- the subsections so far are walked and added
@@ -85,6 +90,13 @@ some_begun {reader' = reader'} r empty =
     let none : BeginsNone subsection_frame [] = none_at_end refl in
     none.none r.begins.text reader'.rest (subsection_frame_tree r.id r.body) r.begins.spells (sym empty ∙ r.begins.reads)
 
+-- what is drawn from the entries of a map is drawn from its bytes
+held_drawn : (id : ℕ) (body : List ℕ) (k : Content) (vs : List Visit) → Holds id body k → Drawn (entries_bytes k) vs → Drawn body vs
+held_drawn id body (Content.direct j space m) vs h d = let P : List ℕ → Type 0 = λ z. Drawn z vs in subst P (ap MapStanding.rest h.1) d
+held_drawn id body (Content.indirect j space m) vs h d = let P : List ℕ → Type 0 = λ z. Drawn z vs in subst P (ap MapStanding.rest h.1) d
+held_drawn id body (Content.text n) vs h d = drawn_front [] body refl d
+held_drawn id body (Content.raw j c) vs h d = drawn_front [] body refl d
+
 module _ {S E : Type 0} (asked : Asks S E) where
   -- no number in what was read is too large
   none_large : (s m : S) (t : Tree) (x : List ℕ) (e : Error E) → Spelled t x → TooLargeNames asked s t e m → ⊥
@@ -116,20 +128,10 @@ module _ {S E : Type 0} (asked : Asks S E) where
   entry_refused (Content.text n) c id bytes body left s m e there h q = absurd q
   entry_refused (Content.raw j b) c id bytes body left s m e there h q = absurd q
 
-  -- what was read of its map was accepted
-  map_further : {row : Shape} (c : ℕ) (s m : S) (at : ℕ) (w : MapStanding) → MapFault asked c row w s m at → Further asked s m
-  map_further c s m at w q = walk_further asked c s m (rows_tree q.read) (rows_tree q.made) (q.accepts Tree.nil)
-
-  fault_further : (k : Content) (c : ℕ) (s m : S) (at : ℕ) → ContentFault asked c k s m at → Further asked s m
-  fault_further (Content.direct j space w) c s m at q = map_further c s m at w q.2
-  fault_further (Content.indirect j space w) c s m at q = map_further c s m at w q.2
-  fault_further (Content.text n) c s m at q = absurd q
-  fault_further (Content.raw j b) c s m at q = absurd q
-
   module _ {c : ℕ} {start reader : NamesStanding} {s0 s : S} {made : List Tree} (len : reader.len ≡ start.len) (d : ManyDone asked c name_subsection start.rest s0 reader.rest s made) where
     -- no subsection is there
-    names_fault : {m : S} (at : ℕ) → BeginsNone name_subsection reader.rest → reader.rest ≢ [] → at ≡ names_place reader → Further asked s m → SubsectionsFault asked c start s0 m at
-    names_fault {m = m} at missing some place further = record {
+    names_fault : (at : ℕ) → BeginsNone name_subsection reader.rest → reader.rest ≢ [] → at ≡ names_place reader → SubsectionsFault asked c start s0 at
+    names_fault at missing some place = record {
       none = many_stuck asked c refl refl refl d missing some;
       read = d.read;
       rest = reader.rest;
@@ -140,7 +142,6 @@ module _ {S E : Type 0} (asked : Asks S E) where
       missing = missing;
       place = place ∙ ap (λ (n : ℕ). n - length reader.rest) len;
       accepts = d.accepts;
-      further = further;
     }
 
     pub names_unread : (f : Fault) → ReadsNone f (names_place reader) (NameMissing reader) → GivesNames {A = CodeRows} asked c start s0 s (Err (error_of_fault f)) (λ z. z)
@@ -157,8 +158,8 @@ module _ {S E : Type 0} (asked : Asks S E) where
         never fault.CodeSize h rows r = h
         never (fault.Header k) h rows r = h
 
-        parse : (f : Fault) → ReadsNone f (names_place reader) (NameMissing reader) → IfParse (error_of_fault {E = E} f) (SubsectionsFault asked c start s0 s)
-        parse (fault.Read x) h = names_fault x.at h.1.none h.1.some h.0 (further_none asked s)
+        parse : (f : Fault) → ReadsNone f (names_place reader) (NameMissing reader) → IfParse (error_of_fault {E = E} f) (SubsectionsFault asked c start s0)
+        parse (fault.Read x) h = names_fault x.at h.1.none h.1.some h.0
         parse fault.NoMemory h = absurd h
         parse fault.CodeSize h = absurd h
         parse (fault.Header k) h = absurd h
@@ -239,7 +240,7 @@ module _ {S E : Type 0} (asked : Asks S E) where
               let missing = none_subsection r g.unreadable.0 in record {
                 reading = λ rows all. absurd (many_stuck asked c refl refl refl d missing (some_begun r) rows all);
                 readable = tt;
-                unreadable = names_fault at missing (some_begun r) place (fault_further (content_of n) old.ceiling s m x.at g.unreadable.2);
+                unreadable = names_fault at missing (some_begun r) place;
                 refusal = tt;
               }
           go (UserError x) g = given (UserError x) g tt
@@ -247,27 +248,64 @@ module _ {S E : Type 0} (asked : Asks S E) where
           go NoMemory g = given NoMemory g tt
           go _ g = absurd g.unreadable
 
-  -- ---- the state that is left
+  -- ---- the visits that were made
 
   module _ {c : ℕ} (start reader : NamesStanding) {s0 s : S} {made : List Tree} (d : ManyDone asked c name_subsection start.rest s0 reader.rest s made) where
-    names_leave : {m : S} → Leaves (SubsectionsLeft reader) asked s m → Leaves (SubsectionsLeft start) asked s0 m
-    names_leave {m = m} leaves = λ rows all.
-        let b = d.back rows all in
-        let P : Tree → Type 0 = λ z. Visited asked s0 (visits z) m in
-        subst P (sym b.1) (behind_visited c d.read b.0 (d.accepts Tree.nil) (leaves b.0 b.2))
+    -- these were made behind the subsections so far
+    names_leave : {m : S} (e : Error E) (mid : List Visit) → EndsBy asked s mid e m → Drawn reader.rest mid → ((others : Tree) → Spells names reader.rest others → IsFront mid (visits others)) →
+        ((t : Tree) (left : List ℕ) → Begins name_subsection reader.rest t left → (¬ TellsFault e) × IsFront mid (visits t)) → Leaves asked (names_in start) s0 e m
+    names_leave {m = m} e mid ended drawn whole next = record {
+      made = visits (rows_tree d.read) ++ mid;
+      ended = ended_behind asked e (visits (rows_tree d.read)) mid ((walk_is_run asked).forth c s0 s (rows_tree d.read) (rows_tree made) (d.accepts Tree.nil)).ran ended;
+      drawn =
+          let front : Drawn start.rest (visits (rows_tree d.read)) = drawn_front d.before.text reader.rest d.before.stands (names_drawn (rows_tree d.read) d.before.text d.before.shaped d.before.spelled) in
+          drawn_joined start.rest (visits (rows_tree d.read)) mid front (drawn_behind d.before.text reader.rest d.before.stands drawn);
+      reading = λ rows all.
+          let b = d.back rows all in
+          front_same (sym (ap visits b.1 ∙ visits_behind d.read b.0)) (front_then (visits (rows_tree d.read)) (whole b.0 b.2));
+      fault = λ none t rest f. up_to t rest f (rows_ahead refl refl d.before f.front (λ h. f.missing));
+    }
+      where
+        up_to : (t : Tree) (rest : List ℕ) (f : NamesUpTo start.rest t rest) → RowsAhead name_subsection d.read reader.rest f.rows rest → MadeUpTo e (visits (rows_tree d.read) ++ mid) (visits t) rest
+        up_to t rest f (RowsAhead.same p q) =
+            let P : List ℕ → Type 0 = λ z. Drawn z mid in
+            let are : visits t ≡ visits (rows_tree d.read) = ap visits f.are ∙ ap (λ (z : List Tree). visits (rows_tree z)) p in
+            inr (mid, ap (λ (z : List Visit). z ++ mid) (sym are), subst P (sym q) drawn)
+        up_to t rest f (RowsAhead.more u others left p b) =
+            let n = next u left b in
+            let are : visits t ≡ visits (rows_tree d.read) ++ (visits u ++ visits (rows_tree others)) = ap visits f.are ∙ ap (λ (z : List Tree). visits (rows_tree z)) p ∙ visits_more d.read u others in
+            inl (n.0, front_same (sym are) (front_then (visits (rows_tree d.read)) (front_first (visits (rows_tree others)) n.1)))
 
-    pub names_leave_none : Leaves (SubsectionsLeft start) asked s0 s
-    names_leave_none = names_leave (λ others all. none_visited s (visits others))
+    pub names_leave_none : (f : Fault) → ReadsNone f (names_place reader) (NameMissing reader) → Leaves asked (names_in start) s0 (error_of_fault f) s
+    names_leave_none f missing =
+        names_leave (error_of_fault f) [] (ended_all {a = []} (error_of_fault f) (fault_unasked E f) refl) drawn_none (λ others all. front_none (visits others))
+        (λ t left there. absurd (none f missing t left there))
+      where
+        none : (f : Fault) → ReadsNone f (names_place reader) (NameMissing reader) → (t : Tree) (left : List ℕ) → Begins name_subsection reader.rest t left → ⊥
+        none (fault.Read x) h t left there = h.1.none.none there.text left t there.spells there.reads
+        none fault.NoMemory h t left there = h
+        none fault.CodeSize h t left there = h
+        none (fault.Header k) h t left there = h
 
     -- the next subsection was asked in part
-    pub names_leave_next : {m : S} {reader' : NamesStanding} {n : Name} → NameRead reader n reader' → Leaves (ReadsName n) asked s m → Leaves (SubsectionsLeft start) asked s0 m
-    names_leave_next {m = m} r leaves = names_leave (λ others all. go others all.shaped all.spelled)
+    pub names_leave_next : {m : S} {reader' : NamesStanding} {n : Name} → NameRead reader n reader' → (e : Error E) (at : ℕ) → ((t : Tree) → ReadsName n t → ¬ TellsFault e) →
+        Leaves asked (subsection_in n) s e m → Leaves asked (names_in start) s0 (placed_at e at) m
+    names_leave_next {m = m} {reader' = reader'} {n = n} r e at tells l =
+        names_leave (placed_at e at) l.made (ended_placed e at l.ended) drawn (λ others all. whole others all.shaped all.spelled)
+        (λ t left there. let reads = (reads_subsection r there).0 in ((λ h. tells t reads (tells_placed e at h)), l.reading t reads))
       where
-        go : (others : Tree) → Is names others → Spelled others reader.rest → Visited asked s (visits others) m
-        go others Is.nil p = absurd (some_begun r p)
-        go others (Is.cons {t = t} {u = u} i j) p =
+        drawn : Drawn reader.rest l.made
+        drawn =
+            let p = r.begins.spells.spelled in
+            let q = p.4 in
+            let P : List ℕ → Type 0 = λ z. Drawn z l.made in
+            drawn_front r.begins.text reader'.rest r.begins.reads (drawn_behind p.0 p.1 p.2 (drawn_behind q.0 q.1 q.2 (subst P (sym q.4) (held_drawn r.id r.body (content_of n) l.made r.holds l.drawn))))
+
+        whole : (others : Tree) → Is names others → Spelled others reader.rest → IsFront l.made (visits others)
+        whole others Is.nil p = absurd (some_begun r p)
+        whole others (Is.cons {t = t} {u = u} i j) p =
             let there : Begins name_subsection reader.rest t p.1 = record { text = p.0; spells = record { shaped = i; spelled = p.3 }; reads = p.2 } in
-            first_visited (visits u) (leaves t (reads_subsection r there).0)
+            front_first (visits u) (l.reading t (reads_subsection r there).0)
 
 -- ---- the loop
 
@@ -279,13 +317,13 @@ module _ {S E : Type 0} (i : Ghosts S E) {c : ℕ} {start : NamesStanding} {s0 :
 
   module _ {reader : NamesStanding} {s : S} {new : CodeRows} (inv : NamesKept i c start s0 reader s new) where
     pub names_ended : reader.rest ≡ [] → NamesClauses i c start s0 s (Ok new)
-    names_ended ended = record { default = λ k. names_all (asks i) inv.len (inv.default k) new inv.ceiling refl ended; after_error = λ k sure t reads. tt }
+    names_ended ended = record { default = λ k. names_all (asks i) inv.len (inv.default k) new inv.ceiling refl ended; after_error = λ k. tt }
 
     -- no subsection is there
     pub names_stuck : (f : Fault) → ReadsNone f (names_place reader) (NameMissing reader) → (r : Result CodeRows (Error E)) → IsErrAnd r (λ y. y ≡ error_of_fault f) → NamesClauses i c start s0 s r
     names_stuck f missing r q =
         let P : Result CodeRows (Error E) → Type 0 = λ z. NamesClauses i c start s0 s z in
-        subst P (answers r q) (record { default = λ k. names_unread (asks i) inv.len (inv.default k) f missing; after_error = λ k sure. names_leave_none (asks i) start reader (inv.default k) })
+        subst P (answers r q) (record { default = λ k. names_unread (asks i) inv.len (inv.default k) f missing; after_error = λ k told. names_leave_none (asks i) start reader (inv.default k) f missing })
 
     module _ {reader' : NamesStanding} {n : Name} (read : NameRead reader n reader') where
       pub names_on : {m : S} {new' : CodeRows} → SubsectionClauses i n s new m new' (Ok tt) → NamesKept i c start s0 reader' m new'
@@ -302,5 +340,5 @@ module _ {S E : Type 0} (i : Ghosts S E) {c : ℕ} {start : NamesStanding} {s0 :
           let P : Error E → Type 0 = λ z. NamesClauses i c start s0 m (Err z) in
           subst P (sym q) (record {
             default = λ k. names_err (asks i) inv.len (inv.default k) read inv.ceiling e at (given.default k) place;
-            after_error = λ k sure. names_leave_next (asks i) start reader (inv.default k) read (given.after_error k sure);
+            after_error = λ k told. names_leave_next (asks i) start reader (inv.default k) read e at (λ t reads. tells_if e (λ at h. h.0 t reads) (given.default k).unreadable) (given.after_error k (λ h. told (wants_placed e at h)));
           })

@@ -87,7 +87,7 @@ module _ {S E : Type 0} (asked : Asks S E) (k : SectionId) (known : HasRows k) w
       let v = vec_is there.counted r.0 (subst P known r.2) in
       (v.0, r.1 ∙ ap (tree_of k) v.1, v.2)
 
-  section_read : {body : List ℕ} {reader : Standing} → CountRead body reader → (rows : Tree) → RowsLeft (row_of k) reader.left reader.rest rows → (t : Tree) × ReadsAs k body t
+  pub section_read : {body : List ℕ} {reader : Standing} → CountRead body reader → (rows : Tree) → RowsLeft (row_of k) reader.left reader.rest rows → (t : Tree) × ReadsAs k body t
   section_read {body = body} there rows r =
       let P : Shape → Type 0 = λ s. Spells s body (Tree.vec rows) in
       (tree_of k (Tree.vec rows), (Tree.vec rows, refl, subst P (sym known) (vec_spelled there.counted r)))
@@ -181,7 +181,7 @@ module _ {S E : Type 0} (asked : Asks S E) (k : SectionId) (known : HasRows k) w
 
 module _ {S E : Type 0} (asked : Asks S E) (k : SectionId) {space : Space} (one : HasItem k space) where
   -- the one reading of a body that the item fills
-  item_read : {body : List ℕ} {n : ℕ} → IsUnsigned 32 body n → ReadsAs k body (tree_of k (Tree.ix space n))
+  pub item_read : {body : List ℕ} {n : ℕ} → IsUnsigned 32 body n → ReadsAs k body (tree_of k (Tree.ix space n))
   item_read {body = body} {n = n} filled =
       let P : Shape → Type 0 = λ z. Spells z body (Tree.ix space n) in (Tree.ix space n, refl, subst P (sym one) (record { shaped = Is.ix; spelled = filled }))
 

@@ -18,7 +18,7 @@ use Rattle.reencode_hooks.specs.declared.error.Error.TheVariants.{CanonicalizedH
 use Rattle.reencode_hooks.specs.Run.{Step, accepted, refused, and_then, ask}
 use Rattle.reencode_hooks.specs.Walk.{walk}
 use Rattle.reencode_core.specs.Errors.{IfParse, IfRefused}
-use Rattle.reencode_core.specs.Rows.{Asks, KeepsFront, AcceptedHooks, TooLargeMade, TooLargeRow, GivesRow, onto_rows, AcceptsRows, TooMany, RowsBefore, RowsFault, Further, RefusesWhole, RefusesInside, StopsAtRow, GivesRows}
+use Rattle.reencode_core.specs.Rows.{Asks, KeepsFront, AcceptedHooks, TooLargeMade, TooLargeRow, GivesRow, onto_rows, AcceptsRows, TooMany, RowsBefore, RowsFault, RefusesWhole, RefusesInside, StopsAtRow, GivesRows}
 use Rattle.reencode_core.proofs.Usual.{IfParse-map, IfRefused-map, unless_wanting, fault_unrefused, usual_walk, stops_usual}
 use Rattle.reencode_core.proofs.Counts.{only_rows}
 
@@ -154,8 +154,8 @@ module _ {S E : Type 0} (asked : Asks S E) where
 
   -- no row is there
   pub rows_fault : {c : ℕ} {row : Shape} {start reader : Standing} {s0 s m : S} {old new new' : List Tree} (at : ℕ) → RowsDone asked c row start s0 old reader s new →
-      RowMissing row reader → at ≡ place_of reader → Further asked s m → new' ≡ new → RowsFault asked c row start (s0, old) (m, new') at
-  rows_fault {start = start} {reader = reader} {s = s} at d missing place further unchanged = record {
+      RowMissing row reader → at ≡ place_of reader → new' ≡ new → RowsFault asked c row start (s0, old) (m, new') at
+  rows_fault {start = start} {reader = reader} {s = s} at d missing place unchanged = record {
     none = so_far_stuck d.so_far missing.rows;
     read = d.read;
     rest = reader.rest;
@@ -165,7 +165,6 @@ module _ {S E : Type 0} (asked : Asks S E) where
     missing = missing_after (length d.read) start.left reader d.numbered missing.here;
     place = place ∙ ap (λ (n : ℕ). n - length reader.rest) d.len;
     accepts = d.accepts;
-    further = further;
     gains = unchanged ∙ d.gains;
   }
 
@@ -196,7 +195,7 @@ module _ {S E : Type 0} (asked : Asks S E) where
       never (fault.Header k) h other t r = h
 
       parse : (f : Fault) → ReadsNoneOrWants f (place_of reader) (RowMissing row reader) → IfParse (error_of_fault {E = E} f) (RowsFault asked c row start (s0, old) (s, new))
-      parse (fault.Read x) h = rows_fault x.at d h.1 h.0 (record { visits = []; given = []; ran = refl }) refl
+      parse (fault.Read x) h = rows_fault x.at d h.1 h.0 refl
       parse fault.NoMemory h = tt
       parse fault.CodeSize h = absurd h
       parse (fault.Header k) h = absurd h
@@ -267,29 +266,31 @@ large_is_many {E = E} asked c s m t x n e p (inr q) = inr (q.accepts, many e q.a
     many (TooLarge size) k u h q = only_rows asked k s m t u x (n + 1) size p h q
     many _ k u h q = absurd q
 
+-- its refusal says nothing of the bytes
+pub row_usual : {S E : Type 0} (reply : S → Visit → Result ℕ E) (next : S → Visit → S) {n : ℕ} {row : Shape} {reader reader' : Standing} {s m : S} {t : Tree} (c : ℕ) (e : Error E) → RowRead row reader t reader' →
+    (e ≢ NoMemory → (walk (ask reply next) c s t ≡ refused e m) ⊎ TooLargeMade (ask reply next) s t n e m) → IfParse e (λ at. ⊥)
+row_usual reply next c (TooLarge size) r q = tt
+row_usual reply next c (UserError x) r q = tt
+row_usual reply next c NoMemory r q = tt
+row_usual reply next {n = n} {s = s} {m = m} {t = t} c (ParseError x) r q = row_usual_at reply next c s m t r.begins.text n (ParseError x) r.begins.spells.spelled (q (λ b. cc)) (λ u b. b)
+row_usual reply next {n = n} {s = s} {m = m} {t = t} c CanonicalizedHeapTypeReference r q = row_usual_at reply next c s m t r.begins.text n CanonicalizedHeapTypeReference r.begins.spells.spelled (q (λ b. cc)) (λ u b. b)
+row_usual reply next {n = n} {s = s} {m = m} {t = t} c InvalidConstExpr r q = row_usual_at reply next c s m t r.begins.text n InvalidConstExpr r.begins.spells.spelled (q (λ b. cc)) (λ u b. b)
+row_usual reply next {n = n} {s = s} {m = m} {t = t} c InvalidCodeSectionSize r q = row_usual_at reply next c s m t r.begins.text n InvalidCodeSectionSize r.begins.spells.spelled (q (λ b. cc)) (λ u b. b)
+row_usual reply next {n = n} {s = s} {m = m} {t = t} c UnexpectedNonCoreModuleSection r q = row_usual_at reply next c s m t r.begins.text n UnexpectedNonCoreModuleSection r.begins.spells.spelled (q (λ b. cc)) (λ u b. b)
+row_usual reply next {n = n} {s = s} {m = m} {t = t} c UnexpectedNonComponentSection r q = row_usual_at reply next c s m t r.begins.text n UnexpectedNonComponentSection r.begins.spells.spelled (q (λ b. cc)) (λ u b. b)
+row_usual reply next {n = n} {s = s} {m = m} {t = t} c UnsupportedCoreTypeInComponent r q = row_usual_at reply next c s m t r.begins.text n UnsupportedCoreTypeInComponent r.begins.spells.spelled (q (λ b. cc)) (λ u b. b)
+
 -- the next row is refused, by the call that maps it
 pub row_refused : {S E : Type 0} (reply : S → Visit → Result ℕ E) (next : S → Visit → S) {c : ℕ} {row : Shape} {start reader reader' : Standing} {s0 s s' : S} {old new new' : List Tree} {t : Tree}
     {e : Error E} → sound row ≡ true → closed row ≡ true → RowsDone (ask reply next) c row start s0 old reader s new → RowRead row reader t reader' →
     GivesRow (ask reply next) c (s, new) t (s', new') (Err e) → GivesRows (ask reply next) c row start (s0, old) (s', new') (Err e)
 row_refused {E = E} reply next {c = c} {row = row} {start = start} {reader = reader} {s0 = s0} {s = s} {s' = s'} {old = old} {new = new} {new' = new'} {t = t} {e = e} k h d r given =
     let P : List Tree → Type 0 = λ z. GivesRows (ask reply next) c row start (s0, old) (s', z) (Err e) in
-    subst P (sym given.0) (rows_refused (ask reply next) e k h d r (λ other. either (given.1 other)) (usual e given.1))
+    subst P (sym given.0) (rows_refused (ask reply next) e k h d r (λ other. either (given.1 other)) (row_usual reply next c e r given.1))
   where
     either : (walk (ask reply next) c s t ≡ refused e s') ⊎ TooLargeMade (ask reply next) s t (length new) e s' →
         (walk (ask reply next) c s t ≡ refused e s') ⊎ (AcceptedHooks (ask reply next) s t s' × TooMany e (length new))
     either q = large_is_many (ask reply next) c s s' t r.begins.text (length new) e r.begins.spells.spelled q
-
-    usual : (e : Error E) → (e ≢ NoMemory → (walk (ask reply next) c s t ≡ refused e s') ⊎ TooLargeMade (ask reply next) s t (length new) e s') → IfParse e (λ at. ⊥)
-    usual (TooLarge size) q = tt
-    usual (UserError x) q = tt
-    usual NoMemory q = tt
-    usual (ParseError x) q = row_usual_at reply next c s s' t r.begins.text (length new) (ParseError x) r.begins.spells.spelled (q (λ b. cc)) (λ u b. b)
-    usual CanonicalizedHeapTypeReference q = row_usual_at reply next c s s' t r.begins.text (length new) CanonicalizedHeapTypeReference r.begins.spells.spelled (q (λ b. cc)) (λ u b. b)
-    usual InvalidConstExpr q = row_usual_at reply next c s s' t r.begins.text (length new) InvalidConstExpr r.begins.spells.spelled (q (λ b. cc)) (λ u b. b)
-    usual InvalidCodeSectionSize q = row_usual_at reply next c s s' t r.begins.text (length new) InvalidCodeSectionSize r.begins.spells.spelled (q (λ b. cc)) (λ u b. b)
-    usual UnexpectedNonCoreModuleSection q = row_usual_at reply next c s s' t r.begins.text (length new) UnexpectedNonCoreModuleSection r.begins.spells.spelled (q (λ b. cc)) (λ u b. b)
-    usual UnexpectedNonComponentSection q = row_usual_at reply next c s s' t r.begins.text (length new) UnexpectedNonComponentSection r.begins.spells.spelled (q (λ b. cc)) (λ u b. b)
-    usual UnsupportedCoreTypeInComponent q = row_usual_at reply next c s s' t r.begins.text (length new) UnsupportedCoreTypeInComponent r.begins.spells.spelled (q (λ b. cc)) (λ u b. b)
 
 -- ---- a row that is read in part
 
@@ -303,13 +304,13 @@ first_of {row = row} {n = n} {m = m} {bytes = bytes} rows k r = go rows r.shaped
 
 module _ {S E : Type 0} (reply : S → Visit → Result ℕ E) (next : S → Visit → S) {c : ℕ} {row : Shape} {start reader : Standing} {s0 s s' : S} {old new new' : List Tree}
     (d : RowsDone (ask reply next) c row start s0 old reader s new) where
-  -- no row is there, as further visits showed
-  pub rows_faulty : (at : ℕ) → RowMissing row reader → at ≡ place_of reader → Further (ask reply next) s s' → new' ≡ new →
+  -- no row is there, as what stands in it showed
+  pub rows_faulty : (at : ℕ) → RowMissing row reader → at ≡ place_of reader → new' ≡ new →
       GivesRows (ask reply next) c row start (s0, old) (s', new') (Err (ParseError (record { at = at })))
-  rows_faulty at missing place further unchanged = record {
+  rows_faulty at missing place unchanged = record {
     reading = λ t r. absurd ((so_far_stuck d.so_far missing.rows).none t r);
     readable = tt;
-    unreadable = rows_fault (ask reply next) at d missing place further unchanged;
+    unreadable = rows_fault (ask reply next) at d missing place unchanged;
     refusal = tt;
   }
 

@@ -1,5 +1,5 @@
 -- Runs of operators that stay as they stand, and the body that they are a part of.
-use Rattle.std.proofs.Common.{◌≡◌, ◌<◌, ◌+◌, ◌-◌, ℕ, List, [], ◌∷◌, ◌++◌, length, length-append, true, Result, Ok, Err, IsErrAnd, IsTrue, refl, sym, ap, ap₂, ◌∙◌, drop, take, append_assoc, subst, arith}
+use Rattle.std.proofs.Common.{◌≡◌, ◌<◌, ◌+◌, ◌-◌, ℕ, List, [], ◌∷◌, ◌++◌, length, length-append, true, Result, Ok, Err, IsErrAnd, IsTrue, refl, sym, ap, ap₂, ◌∙◌, drop, take, append_assoc, subst, arith, inr}
 use Rattle.std.proofs.Math.Seq.{drop-append_seam, take-append_seam}
 use Rattle.std.proofs.lemmas.List.{drop-drop}
 use Rattle.wasm_shapes.specs.declared.Opcode.{Opcode}
@@ -24,8 +24,7 @@ use Rattle.reencode_hooks.specs.declared.indices.ReencodeIndices.{Ghosts}
 use Rattle.reencode_hooks.specs.Errors.{error_of_write}
 use Rattle.reencode_hooks.specs.Run.{NeverWants, Step, accepted, refused, and_then}
 use Rattle.reencode_hooks.specs.Walk.{walk}
-use Rattle.reencode_items.proofs.Leaving.{accepted_visited, never_wants, refused_visited}
-use Rattle.reencode_core.specs.Leaves.{BodyOf}
+use Rattle.reencode_core.specs.Leaves.{Leaves, body_in}
 use Rattle.reencode_core.specs.Rows.{Asks, locals, onto_rows}
 use Rattle.reencode_core.specs.declared.direct.passing.Fresh.{Fresh}
 use Rattle.reencode_core.specs.declared.direct.passing.Next.{Next}
@@ -34,7 +33,8 @@ use Rattle.reencode_core.specs.Direct.{IsWithin, KeepsOperator, KeepsOperators, 
 use Rattle.reencode_core.proofs.BodyLoop.{ManyLeft, OperatorsDone, keeps_code, many_first, operators_more}
 use Rattle.reencode_core.proofs.EachBody.{BodyClauses, LocalsClauses, OperatorsKept}
 use Rattle.reencode_core.proofs.Group.{rows_then-both}
-use Rattle.reencode_core.proofs.Leaving.{Leaves, body_leaves_next, body_leaves_none, reading_left}
+use Rattle.reencode_core.proofs.FunctionMade.{body_leaves_next, body_leaves_none, body_leaves_refused}
+use Rattle.reencode_core.proofs.Made.{not_wanting, tree_made, wants_tells_none}
 use Rattle.reencode_core.proofs.OneRow.{answers, asks}
 use Rattle.reencode_core.proofs.RowLoop.{onto_nothing, one_onto}
 use Rattle.reencode_core.proofs.WholeBody.{body_wants, operator_refused}
@@ -234,7 +234,7 @@ module _ {S E : Type 0} (i : Ghosts S E) {bytes : List ℕ} {s0 : S} (old : Code
       subst P (answers r q) (record {
         kept = keeps_code old;
         default = λ k. operator_refused i.reply i.next s0 m p.mid f0 (f.operators ++ p.kept.operators) old begins (made.default k) (d k) n e t.operator t.left t.begins t.refuses;
-        after_error = λ k never. reading_left {A = Unit {0}} (Err e) (body_leaves_next begins (walked k) (d k 0) t.begins (refused_visited 0 t.operator (t.refuses 0 (never_wants e sure never))));
+        after_error = λ k told. body_leaves_refused i.reply i.next begins (walked k) (d k 0) e t.begins (t.refuses 0 (not_wanting e sure told));
       })
 
   -- there is no memory for a run, or for the operator behind it
@@ -246,18 +246,18 @@ module _ {S E : Type 0} (i : Ghosts S E) {bytes : List ℕ} {s0 : S} (old : Code
       subst P (answers r q) (subst Q (sym wants) (record {
         kept = keeps_code old;
         default = λ k. body_wants (asks i) bytes s0 n old;
-        after_error = λ k never. reading_left {A = Unit {0}} (Err NoMemory) (leaves run p k);
+        after_error = λ k told. leaves run p k;
       }))
     where
-      leaves : (run : Run) → PassesRun (asks i) s (rest_of reader) n run → IsTrue i.keeps_defaults → Leaves (BodyOf bytes) (asks i) s0 n
+      leaves : (run : Run) → PassesRun (asks i) s (rest_of reader) n run → IsTrue i.keeps_defaults → Leaves (asks i) (body_in bytes) s0 NoMemory n
       leaves run p k = go run.next p.onward
         where
-          go : (z : Next) → PassesNext (asks i) p.mid p.left n z → Leaves (BodyOf bytes) (asks i) s0 n
+          go : (z : Next) → PassesNext (asks i) p.mid p.left n z → Leaves (asks i) (body_in bytes) s0 NoMemory n
           go (next.Made op fresh len) o =
-              body_leaves_next begins (walked k) (operators_many (asks i) 0 (inv.default k 0) p.kept) o.there.begins (accepted_visited 0 o.there.operator (o.walks 0))
+              body_leaves_next begins (walked k) (operators_many (asks i) 0 (inv.default k 0) p.kept) NoMemory o.there.begins (tree_made (asks i) 0 NoMemory o.there.operator tt (o.walks 0)) (wants_tells_none E)
           go next.Other o =
-              let M : S → Type 0 = λ z. Leaves (BodyOf bytes) (asks i) s0 z in
-              subst M (sym o) (body_leaves_none begins (walked k) (operators_many (asks i) 0 (inv.default k 0) p.kept))
+              let M : S → Type 0 = λ z. Leaves (asks i) (body_in bytes) s0 NoMemory z in
+              subst M (sym o) (body_leaves_none begins (walked k) (operators_many (asks i) 0 (inv.default k 0) p.kept) NoMemory (record { by = refl }) (inr (wants_tells_none E)))
 
 -- a run of the bytes from a place on, by what is next
 pub run_is : {S E : Type 0} (asked : Asks S E) {s m : S} {bytes rest : List ℕ} (n : ℕ) {y : Next} (z : Next) → y ≡ z → bytes ≡ rest →

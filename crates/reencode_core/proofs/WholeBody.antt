@@ -29,7 +29,6 @@ use Rattle.reencode_core.specs.Errors.{IfRefused}
 use Rattle.reencode_core.specs.Rows.{Asks, onto_rows, TooLargeMade, locals, StopsBody}
 use Rattle.reencode_core.specs.Bodies.{GivesLocals, GivesBody}
 use Rattle.reencode_core.proofs.Usual.{IfParse-map, unless_wanting, usual_walk, stops_usual, write_usual}
-use Rattle.reencode_core.proofs.Counts.{walk_further}
 use Rattle.reencode_core.proofs.BodyLoop.{ManyLeft, OperatorsDone, operators_begin, operators_more, body_is, body_spelled, no_locals, many_first, many_none, no_many, pair_accepted, sized_refused, pair_refused, first_refused, sized_fits, sized_large}
 
 -- nothing is said of want of memory
@@ -43,7 +42,7 @@ body_locals_refused {S = S} {E = E} asked bytes s m old e g = record {
   reading = λ t p. (refl, λ other. inl (stops t p other));
   readable = tt;
   unchanged = refl;
-  unreadable = IfParse-map e (λ at h. (no_locals h.1, inl (h.0, h.1), rw h.2 (record { visits = []; given = []; ran = refl }))) g.unreadable;
+  unreadable = IfParse-map e (λ at h. (no_locals h.1, inl (h.0, h.1))) g.unreadable;
   refusal = refuses e g;
 }
   where
@@ -61,15 +60,11 @@ body_locals_refused {S = S} {E = E} asked bytes s m old e g = record {
             (first_refused asked old.ceiling s m l u e (g.reading old.ceiling l q.1 (record { text = q.0; spells = record { shaped = d; spelled = q.3 }; reads = q.2 }) other))
 
 -- where locals were read, the operators are found
-pub operators_found : {S E : Type 0} (asked : Asks S E) (bytes : List ℕ) (s m : S) (old new : CodeRows) (f : Body) (x : Fault) (result : Result (Unit {0}) (Error E)) →
-    GivesLocals {E = E} {A = Body} asked bytes s m (Ok f) (λ f. f) → ReadsNone x 0 (BeginsNone locals bytes) → GivesBody asked bytes (s, old) (m, new) result
-operators_found asked bytes s m old new f x result g none = absurd (go x none)
-  where
-    go : (x : Fault) → ReadsNone x 0 (BeginsNone locals bytes) → ⊥
-    go (fault.Read y) h = let b = g.readable.2 in h.1.none b.text g.readable.1 g.readable.0 b.spells b.reads
-    go fault.NoMemory h = h
-    go fault.CodeSize h = h
-    go (fault.Header k) h = h
+pub operators_never : {S E : Type 0} (asked : Asks S E) (bytes : List ℕ) (s m : S) (f : Body) (x : Fault) → GivesLocals {E = E} {A = Body} asked bytes s m (Ok f) (λ f. f) → ReadsNone x 0 (BeginsNone locals bytes) → ⊥
+operators_never asked bytes s m f (fault.Read y) g h = let b = g.readable.2 in h.1.none b.text g.readable.1 g.readable.0 b.spells b.reads
+operators_never asked bytes s m f fault.NoMemory g h = h
+operators_never asked bytes s m f fault.CodeSize g h = h
+operators_never asked bytes s m f (fault.Header k) g h = h
 
 some_length : (xs : List ℕ) → xs ≢ [] → 0 < length xs
 some_length [] h = absurd (h refl)
@@ -201,17 +196,11 @@ module _ {S E : Type 0} (reply : S → Visit → Result ℕ E) (next : S → Vis
   no_operator : (at : ℕ) → BeginsNone (Shape.op true) rest → rest ≢ [] → at ≡ length bytes - length rest → GivesBody (ask reply next) bytes (s0, old) (s, old) (Err (ParseError (record { at = at })))
   no_operator at none some place =
       let never = λ (t : Tree) (p : Spells body bytes t). let o = others_of 0 t p in no_many none some o.1 o.3 in
-      let d = done 0 in
-      let read : walk (ask reply next) 0 m (rows_then d.read Tree.nil) ≡ accepted (rows_tree ops) s = d.accepts Tree.nil in record {
+      let d = done 0 in record {
         reading = λ t p. absurd (never t p);
         readable = tt;
         unchanged = refl;
-        unreadable = (
-          never,
-          inr (l, d.read, start, rest, begins, d.before, place, none, some),
-          walk_further (ask reply next) 0 s0 s (Tree.pair l (rows_then d.read Tree.nil)) (Tree.pair (vector_tree f0.locals) (rows_tree ops))
-              (pair_accepted (ask reply next) 0 s0 m s l (vector_tree f0.locals) (rows_then d.read Tree.nil) (rows_tree ops) (walked 0) read),
-        );
+        unreadable = (never, inr (l, d.read, start, rest, begins, d.before, place, none, some));
         refusal = tt;
       }
 

@@ -11,7 +11,7 @@ use Rattle.reencode_hooks.specs.declared.error.Error.{Error}
 use Rattle.reencode_hooks.specs.Run.{Gives}
 use Rattle.reencode_hooks.specs.Walk.{walk}
 use Rattle.reencode_core.specs.Errors.{IfParse, IfRefused}
-use Rattle.reencode_core.specs.Rows.{Asks, KeepsFront, GivesRow, RowsBefore, Further, locals, StopsBody}
+use Rattle.reencode_core.specs.Rows.{Asks, KeepsFront, GivesRow, RowsBefore, locals, StopsBody}
 
 -- the second has the first's ceiling and rows, and perhaps more rows after them
 pub record KeepsCode (old new : CodeRows) : Type 0 where
@@ -42,6 +42,6 @@ pub record GivesBody {S E : Type 0} (asked : Asks S E) (bytes : List ℕ) (befor
       → GivesRow asked before.1.ceiling (before.0, before.1.rows) (Tree.sized t) (after.0, after.1.rows) result
   pub readable : IfOk result (λ _. (t : Tree) × Spells body bytes t)
   pub unchanged : IfErr result (λ _. after.1 ≡ before.1)
-  pub unreadable : IfErr result (λ e. IfParse e (λ at. ((t : Tree) → Spells body bytes t → ⊥) × NoOperator bytes at × Further asked before.0 after.0))
+  pub unreadable : IfErr result (λ e. IfParse e (λ at. ((t : Tree) → Spells body bytes t → ⊥) × NoOperator bytes at))
   pub refusal : IfErr result (λ e.
       IfRefused e (((t : Tree) × Spells body bytes t) ⊎ StopsBody asked before.1.ceiling bytes before.0 e after.0))

@@ -15,7 +15,7 @@ use Rattle.reencode_hooks.specs.declared.error.Error.TheVariants.{InvalidCodeSec
 use Rattle.reencode_hooks.specs.Run.{Step, accepted, refused, and_then}
 use Rattle.reencode_hooks.specs.Walk.{walk, walk_from, announced}
 use Rattle.reencode_hooks.specs.Hooks.{Gains}
-use Rattle.reencode_core.specs.Rows.{Asks, Further}
+use Rattle.reencode_core.specs.Rows.{Asks}
 use Rattle.reencode_core.specs.Sections.{StopsSection}
 use Rattle.reencode_core.specs.Names.{StopsInNames}
 
@@ -77,13 +77,12 @@ abbrev pub NonCore : {S : Type 0} → List ℕ → S → S → Type 0
 NonCore bytes s m = (rest : List ℕ) × (bytes ≡ component_header ++ rest) × (m ≡ s)
 
 -- Neither header stands there, the place is 0 and nothing was asked; or the place is the first where no section begins, no size of
--- a code section is at fault there, and all sections before it were accepted; further visits may follow, of a section that is read
--- in part.
+-- a code section is at fault there, and all sections before it were accepted.
 abbrev pub FaultThere : {S E : Type 0} → Asks S E → ℕ → List ℕ → S → S → ℕ → Type 0
 FaultThere {S} asked c bytes s m at =
     (NoHeader bytes × (at ≡ 0) × (m ≡ s))
     ⊎ ((before : List Tree) × (rest : List ℕ) × FaultAt bytes before rest × ¬ InvalidCodeSize rest × (at ≡ length bytes - length rest)
-    × (made : List Tree) × (last : Option SectionId) × (n : S) × AcceptsSections asked c s before made last n × Further asked n m)
+    × (made : List Tree) × (last : Option SectionId) × (n : S) × AcceptsSections asked c s before made last n)
 
 -- At the first place where no section begins the size of a code section is at fault; all sections before it were accepted, and
 -- nothing further was asked.

@@ -6,6 +6,7 @@ use Rattle.wasm_shapes.specs.Module.{FaultAt, NoCoreReading}
 use Rattle.wasm_write.specs.Sections.{Sections, SectionRow}
 use Rattle.reencode_hooks.specs.declared.error.Error.{Error}
 use Rattle.reencode_hooks.specs.declared.error.Error.TheVariants.{InvalidCodeSectionSize, ParseError, UserError, TooLarge, NoMemory}
+use Rattle.reencode_core.specs.Leaves.{TellsFault}
 use Rattle.reencode_core.specs.Rows.{Asks}
 use Rattle.reencode_core.specs.Core.{RefusedIn, IsCause}
 use Rattle.reencode_core.specs.Weave.{Puts}
@@ -27,13 +28,7 @@ pub record FaultTells {S E : Type 0} (asked : Asks S E) : Type 0 where
   pub told : (c : ℕ) (bytes : List ℕ) (s m : S) (e : Error E) → IsCause asked c bytes s m e → (before : List Tree) (rest : List ℕ) → FaultAt bytes before rest →
       FaultGives asked c bytes s m before rest e
 
--- an error of the bytes: the place of a fault, or the size of a code section
-abbrev pub TellsFault : {E : Type 0} → Error E → Type 0
-TellsFault (ParseError _) = Unit {0}
-TellsFault InvalidCodeSectionSize = Unit {0}
-TellsFault _ = ⊥
-
--- With such an error the sections of which the module gained what they became are all those before the fault.
+-- With an error of the bytes the sections of which the module gained what they became are all those before the fault.
 abbrev pub FaultGains : {S E : Type 0} → Asks S E → Puts S SectionRow → Type 0
 FaultGains {S} {E} asked adds =
     (c : ℕ) (bytes : List ℕ) (before after : S × Sections) (e : Error E) (g : GainsFront asked adds c bytes before after e) → TellsFault e

@@ -12,5 +12,6 @@ pub mod Woven
 pub mod WovenLaws
 pub mod Faults
 pub mod Leaves
+pub mod Refusals
 pub mod Rules
 pub mod Interspersed

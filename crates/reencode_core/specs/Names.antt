@@ -24,7 +24,7 @@ use Rattle.reencode_hooks.specs.Errors.{error_of_write}
 use Rattle.reencode_hooks.specs.Run.{accepted, refused}
 use Rattle.reencode_hooks.specs.Walk.{walk}
 use Rattle.reencode_core.specs.Errors.{IfParse, IfRefused}
-use Rattle.reencode_core.specs.Rows.{Asks, AcceptsRows, AcceptedHooks, RowsBefore, Further, StopsEach}
+use Rattle.reencode_core.specs.Rows.{Asks, AcceptsRows, AcceptedHooks, RowsBefore, StopsEach}
 use Rattle.reencode_core.specs.Sections.{GivesAdded}
 
 -- ---- one subsection
@@ -119,9 +119,8 @@ pub record GivesSubsection {S E : Type 0} (asked : Asks S E) (n : Name) (before 
 abbrev pub SubsectionsLeft : NamesStanding → Tree → Type 0
 SubsectionsLeft reader rows = Spells names reader.rest rows
 
--- At this place a subsection is due and none begins. All subsections before it were accepted; further visits may follow, of one
--- that is read in part.
-pub record SubsectionsFault {S E : Type 0} (asked : Asks S E) (c : ℕ) (reader : NamesStanding) (s m : S) (at : ℕ) : Type 0 where
+-- At this place a subsection is due and none begins. All subsections before it were accepted.
+pub record SubsectionsFault {S E : Type 0} (asked : Asks S E) (c : ℕ) (reader : NamesStanding) (s : S) (at : ℕ) : Type 0 where
   pub none : (rows : Tree) → SubsectionsLeft reader rows → ⊥
   pub read : List Tree
   pub rest : List ℕ
@@ -132,7 +131,6 @@ pub record SubsectionsFault {S E : Type 0} (asked : Asks S E) (c : ℕ) (reader 
   pub missing : BeginsNone name_subsection rest
   pub place : at ≡ reader.len - length rest
   pub accepts : AcceptsRows asked c s read made state
-  pub further : Further asked state m
 
 -- A subsection stands whole there, and it is refused.
 pub record RefusesSubsection {S E : Type 0} (asked : Asks S E) (c : ℕ) (bytes : List ℕ) (s : S) (e : Error E) (m : S) : Type 0 where
@@ -174,7 +172,7 @@ GivesSubsections asked c s rows m (Err e) view = e ≢ NoMemory → walk asked c
 pub record GivesNames {S E A : Type 0} (asked : Asks S E) (c : ℕ) (reader : NamesStanding) (s m : S) (result : Result A (Error E)) (view : A → CodeRows) : Type 0 where
   pub reading : (rows : Tree) → SubsectionsLeft reader rows → GivesSubsections asked c s rows m result view
   pub readable : IfOk result (λ _. (rows : Tree) × SubsectionsLeft reader rows)
-  pub unreadable : IfErr result (λ e. IfParse e (SubsectionsFault asked c reader s m))
+  pub unreadable : IfErr result (λ e. IfParse e (SubsectionsFault asked c reader s))
   pub refusal : IfErr result (λ e. IfRefused e (((rows : Tree) × SubsectionsLeft reader rows) ⊎ StopsNames asked c reader s e m))
 
 -- ---- a custom section
@@ -192,7 +190,7 @@ pub record GivesCustom {S E : Type 0} (asked : Asks S E) (name contents : List �
   pub readable : IfOk result (λ _. (t : Tree) × ReadsCustom name contents t)
   pub unreadable : IfErr result (λ e. IfParse e (λ at.
       ((t : Tree) → ReadsCustom name contents t → ⊥) × (name ≡ names_name)
-      × SubsectionsFault asked before.1.ceiling (contents_standing contents) before.0 after.0 at))
+      × SubsectionsFault asked before.1.ceiling (contents_standing contents) before.0 at))
   pub refusal : IfErr result (λ e.
       IfRefused e (((t : Tree) × ReadsCustom name contents t) ⊎ StopsCustom asked before.1.ceiling name contents before.0 e after.0))
   pub unchanged : IfErr result (λ _. after.1 ≡ before.1)

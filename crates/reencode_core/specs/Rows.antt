@@ -12,7 +12,7 @@ use Rattle.wasm_read.specs.Reading.{Standing}
 use Rattle.wasm_write.specs.Counts.{counts, IsTooLarge}
 use Rattle.reencode_hooks.specs.declared.error.Error.{Error}
 use Rattle.reencode_hooks.specs.declared.error.Error.TheVariants.{TooLarge, NoMemory}
-use Rattle.reencode_hooks.specs.Run.{Step, accepted, refused, and_then, run}
+use Rattle.reencode_hooks.specs.Run.{Step, accepted, refused, and_then}
 use Rattle.reencode_hooks.specs.Walk.{walk}
 use Rattle.reencode_core.specs.Errors.{IfParse, IfRefused}
 
@@ -96,14 +96,8 @@ pub record RowsBefore (row : Shape) (bytes : List ℕ) (rows : List Tree) (rest 
   pub spelled : Spelled (rows_then rows Tree.nil) text
   pub stands : bytes ≡ text ++ rest
 
--- Some further visits, all accepted, lead from the first state to the second.
-pub record Further {S E : Type 0} (asked : Asks S E) (s m : S) : Type 0 where
-  pub visits : List Visit
-  pub given : List ℕ
-  pub ran : run asked s visits ≡ accepted given m
-
 -- At this place a row is due and none begins, or bytes are left behind the last row. All rows before it were accepted, and
--- what they became was added; further visits may follow, of a row that is read in part.
+-- what they became was added.
 pub record RowsFault {S E : Type 0} (asked : Asks S E) (c : ℕ) (row : Shape) (reader : Standing) (before after : S × List Tree) (at : ℕ) : Type 0 where
   pub none : NoRows row reader.left reader.rest
   pub read : List Tree
@@ -114,7 +108,6 @@ pub record RowsFault {S E : Type 0} (asked : Asks S E) (c : ℕ) (row : Shape) (
   pub missing : ((length read < reader.left) × BeginsNone row rest) ⊎ ((length read ≡ reader.left) × (rest ≢ []))
   pub place : at ≡ reader.len - length rest
   pub accepts : AcceptsRows asked c before.0 read made state
-  pub further : Further asked state after.0
   pub gains : after.1 ≡ before.1 ++ made
 
 -- ---- what was refused

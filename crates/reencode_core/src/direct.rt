@@ -8,7 +8,7 @@ ghost use Rattle.wasm_write.specs.declared.fault.WriteFault.TheVariants as write
 ghost use Rattle.reencode_hooks.specs.Run.{ask};
 ghost use Rattle.reencode_core.specs.Bodies.{GivesBody, KeepsCode};
 ghost use Rattle.reencode_core.specs.Direct.{imm_of};
-ghost use Rattle.reencode_core.specs.Leaves.{BodyOf, LeavesReading};
+ghost use Rattle.reencode_core.specs.Leaves.{LeavesMade, body_in};
 
 mod classes;
 mod fronts;
@@ -56,8 +56,7 @@ pub fn parse_function_body<R: ReencodeItems>(
     ensures default { IsTrue R.keeps_defaults
         → GivesBody (ask R.reply R.next) func.entry.bytes.now (reencoder.old, code.old)
         (reencoder.new, code.new) result }
-    ensures after_error { IsTrue R.keeps_defaults → IsTrue R.sure
-        → LeavesReading (BodyOf func.entry.bytes.now) (ask R.reply R.next)
+    ensures after_error { IsTrue R.keeps_defaults → LeavesMade R.sure (ask R.reply R.next) (body_in func.entry.bytes.now)
         reencoder.old reencoder.new result }
 {
     let mut function = new_function_with_parsed_locals(reencoder, alloc, &func)?;

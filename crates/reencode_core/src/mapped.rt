@@ -1,9 +1,10 @@
 //! Sections whose rows are mapped by hooks and by methods of items alone: one loop for all of them.
 ghost use Rattle.std.specs.Prelude.{IsTrue, ℕ};
+ghost use Rattle.wasm_shapes.specs.Drawn.{IsItem};
 ghost use Rattle.reencode_hooks.specs.Run.{NeverWants, ask};
 ghost use Rattle.reencode_items.specs.Maps.{Maps};
 ghost use Rattle.reencode_core.specs.Rows.{KeepsFront, GivesRows};
-ghost use Rattle.reencode_core.specs.Leaves.{LeavesReading, RowsOf};
+ghost use Rattle.reencode_core.specs.Leaves.{LeavesMade, rows_in};
 
 use reencode_hooks::Error;
 use reencode_items::ReencodeItems;
@@ -58,12 +59,12 @@ where
     T: ReencodeItems,
     K: MapRow<'a, B>,
     B: RowOf<K> + Drop,
+    requires { IsItem K.shape }
     ensures kept { KeepsFront sink.old sink.new }
     ensures default { IsTrue T.keeps_defaults → (c : ℕ)
         → GivesRows (ask T.reply T.next) c K.shape section.entry (reencoder.old, sink.old)
         (reencoder.new, sink.new) result }
-    ensures after_error { IsTrue T.keeps_defaults → IsTrue T.sure
-        → LeavesReading (RowsOf K.shape section.entry) (ask T.reply T.next) reencoder.old
+    ensures after_error { IsTrue T.keeps_defaults → LeavesMade T.sure (ask T.reply T.next) (rows_in K.shape section.entry) reencoder.old
         reencoder.new result }
 {
     let mut rows = section;

@@ -19,7 +19,7 @@ ghost use Rattle.reencode_core.specs.Errors.{IfParse};
 ghost use Rattle.reencode_core.specs.Names.{GivesCustom, GivesNames, GivesSubsection, SubsectionsLeft};
 ghost use Rattle.reencode_core.specs.Core.{GivesCore, GivesBytes};
 ghost use Rattle.reencode_core.specs.Woven.{GivesWoven, GivesWovenBytes};
-ghost use Rattle.reencode_core.specs.Leaves.{BodyOf, LeavesReading, LocalsOf, RowsOf};
+ghost use Rattle.reencode_core.specs.Leaves.{LeavesCore, LeavesMade, NoCoreHeading, body_in, core_in, custom_in, locals_in, module_in, names_in, rows_in, section_in, subsection_in};
 
 use crate::errors::placed;
 use crate::sections::{Body, add_rows, add_section, read_body, take_section};
@@ -49,8 +49,7 @@ pub trait Reencode: ReencodeItems {
         ensures default { IsTrue Self.keeps_defaults → (c : ℕ)
             → GivesRows (ask Self.reply Self.next) c (row_of kinds.Type_) section.entry
             (self.old, types.old) (self.new, types.new) result }
-        ensures after_error { IsTrue Self.keeps_defaults → IsTrue Self.sure
-            → LeavesReading (RowsOf (row_of kinds.Type_) section.entry) (ask Self.reply Self.next)
+        ensures after_error { IsTrue Self.keeps_defaults → LeavesMade Self.sure (ask Self.reply Self.next) (rows_in (row_of kinds.Type_) section.entry)
             self.old self.new result }
     {
         bodies::each_row!(section, alloc, row => types.group(&self.parse_recursive_type_group(alloc, row)?))
@@ -83,9 +82,7 @@ pub trait Reencode: ReencodeItems {
         ensures default { IsTrue Self.keeps_defaults → (c : ℕ)
             → GivesRows (ask Self.reply Self.next) c (row_of kinds.Function) section.entry
             (self.old, functions.old) (self.new, functions.new) result }
-        ensures after_error { IsTrue Self.keeps_defaults → IsTrue Self.sure
-            → LeavesReading (RowsOf (row_of kinds.Function) section.entry)
-            (ask Self.reply Self.next) self.old self.new result }
+        ensures after_error { IsTrue Self.keeps_defaults → LeavesMade Self.sure (ask Self.reply Self.next) (rows_in (row_of kinds.Function) section.entry) self.old self.new result }
     {
         mapped::map_section(self, alloc, functions, section)
     }
@@ -101,8 +98,7 @@ pub trait Reencode: ReencodeItems {
         ensures default { IsTrue Self.keeps_defaults → (c : ℕ)
             → GivesRows (ask Self.reply Self.next) c (row_of kinds.Import) section.entry
             (self.old, imports.old) (self.new, imports.new) result }
-        ensures after_error { IsTrue Self.keeps_defaults → IsTrue Self.sure
-            → LeavesReading (RowsOf (row_of kinds.Import) section.entry) (ask Self.reply Self.next)
+        ensures after_error { IsTrue Self.keeps_defaults → LeavesMade Self.sure (ask Self.reply Self.next) (rows_in (row_of kinds.Import) section.entry)
             self.old self.new result }
     {
         bodies::each_row!(section, alloc, row => self.parse_imports(alloc, imports, row))
@@ -155,8 +151,7 @@ pub trait Reencode: ReencodeItems {
         ensures default { IsTrue Self.keeps_defaults → (c : ℕ)
             → GivesRows (ask Self.reply Self.next) c (row_of kinds.Table) section.entry
             (self.old, tables.old) (self.new, tables.new) result }
-        ensures after_error { IsTrue Self.keeps_defaults → IsTrue Self.sure
-            → LeavesReading (RowsOf (row_of kinds.Table) section.entry) (ask Self.reply Self.next)
+        ensures after_error { IsTrue Self.keeps_defaults → LeavesMade Self.sure (ask Self.reply Self.next) (rows_in (row_of kinds.Table) section.entry)
             self.old self.new result }
     {
         bodies::each_row!(section, alloc, row => self.parse_table(alloc, tables, row))
@@ -191,8 +186,7 @@ pub trait Reencode: ReencodeItems {
         ensures default { IsTrue Self.keeps_defaults → (c : ℕ)
             → GivesRows (ask Self.reply Self.next) c (row_of kinds.Memory) section.entry
             (self.old, memories.old) (self.new, memories.new) result }
-        ensures after_error { IsTrue Self.keeps_defaults → IsTrue Self.sure
-            → LeavesReading (RowsOf (row_of kinds.Memory) section.entry) (ask Self.reply Self.next)
+        ensures after_error { IsTrue Self.keeps_defaults → LeavesMade Self.sure (ask Self.reply Self.next) (rows_in (row_of kinds.Memory) section.entry)
             self.old self.new result }
     {
         mapped::map_section(self, alloc, memories, section)
@@ -209,8 +203,7 @@ pub trait Reencode: ReencodeItems {
         ensures default { IsTrue Self.keeps_defaults → (c : ℕ)
             → GivesRows (ask Self.reply Self.next) c (row_of kinds.Global) section.entry
             (self.old, globals.old) (self.new, globals.new) result }
-        ensures after_error { IsTrue Self.keeps_defaults → IsTrue Self.sure
-            → LeavesReading (RowsOf (row_of kinds.Global) section.entry) (ask Self.reply Self.next)
+        ensures after_error { IsTrue Self.keeps_defaults → LeavesMade Self.sure (ask Self.reply Self.next) (rows_in (row_of kinds.Global) section.entry)
             self.old self.new result }
     {
         bodies::each_row!(section, alloc, row => self.parse_global(alloc, globals, row))
@@ -245,8 +238,7 @@ pub trait Reencode: ReencodeItems {
         ensures default { IsTrue Self.keeps_defaults → (c : ℕ)
             → GivesRows (ask Self.reply Self.next) c (row_of kinds.Tag) section.entry
             (self.old, tags.old) (self.new, tags.new) result }
-        ensures after_error { IsTrue Self.keeps_defaults → IsTrue Self.sure
-            → LeavesReading (RowsOf (row_of kinds.Tag) section.entry) (ask Self.reply Self.next)
+        ensures after_error { IsTrue Self.keeps_defaults → LeavesMade Self.sure (ask Self.reply Self.next) (rows_in (row_of kinds.Tag) section.entry)
             self.old self.new result }
     {
         mapped::map_section(self, alloc, tags, section)
@@ -263,8 +255,7 @@ pub trait Reencode: ReencodeItems {
         ensures default { IsTrue Self.keeps_defaults → (c : ℕ)
             → GivesRows (ask Self.reply Self.next) c (row_of kinds.Export) section.entry
             (self.old, exports.old) (self.new, exports.new) result }
-        ensures after_error { IsTrue Self.keeps_defaults → IsTrue Self.sure
-            → LeavesReading (RowsOf (row_of kinds.Export) section.entry) (ask Self.reply Self.next)
+        ensures after_error { IsTrue Self.keeps_defaults → LeavesMade Self.sure (ask Self.reply Self.next) (rows_in (row_of kinds.Export) section.entry)
             self.old self.new result }
     {
         bodies::each_row!(section, alloc, row => self.parse_export(exports, row))
@@ -308,8 +299,7 @@ pub trait Reencode: ReencodeItems {
         ensures default { IsTrue Self.keeps_defaults → (c : ℕ)
             → GivesRows (ask Self.reply Self.next) c (row_of kinds.Element) section.entry
             (self.old, elements.old) (self.new, elements.new) result }
-        ensures after_error { IsTrue Self.keeps_defaults → IsTrue Self.sure
-            → LeavesReading (RowsOf (row_of kinds.Element) section.entry) (ask Self.reply Self.next)
+        ensures after_error { IsTrue Self.keeps_defaults → LeavesMade Self.sure (ask Self.reply Self.next) (rows_in (row_of kinds.Element) section.entry)
             self.old self.new result }
     {
         bodies::each_row!(section, alloc, row => self.parse_element(alloc, elements, row))
@@ -364,8 +354,7 @@ pub trait Reencode: ReencodeItems {
         ensures default { IsTrue Self.keeps_defaults
             → GivesRows (ask Self.reply Self.next) code.old.ceiling (row_of kinds.Code)
             section.entry (self.old, code.old.rows) (self.new, code.new.rows) result }
-        ensures after_error { IsTrue Self.keeps_defaults → IsTrue Self.sure
-            → LeavesReading (RowsOf (row_of kinds.Code) section.entry) (ask Self.reply Self.next)
+        ensures after_error { IsTrue Self.keeps_defaults → LeavesMade Self.sure (ask Self.reply Self.next) (rows_in (row_of kinds.Code) section.entry)
             self.old self.new result }
     {
         bodies::parse_code_section!(self, alloc, code, section)
@@ -383,8 +372,7 @@ pub trait Reencode: ReencodeItems {
         ensures default { IsTrue Self.keeps_defaults
             → GivesBody (ask Self.reply Self.next) func.entry.bytes.now (self.old, code.old)
             (self.new, code.new) result }
-        ensures after_error { IsTrue Self.keeps_defaults → IsTrue Self.sure
-            → LeavesReading (BodyOf func.entry.bytes.now) (ask Self.reply Self.next) self.old
+        ensures after_error { IsTrue Self.keeps_defaults → LeavesMade Self.sure (ask Self.reply Self.next) (body_in func.entry.bytes.now) self.old
             self.new result }
     {
         bodies::parse_function_body!(self, alloc, code, func)
@@ -399,8 +387,7 @@ pub trait Reencode: ReencodeItems {
         ensures default { IsTrue Self.keeps_defaults
             → GivesLocals (ask Self.reply Self.next) func.now.bytes.now self.old self.new result
             (λ f. f) }
-        ensures after_error { IsTrue Self.keeps_defaults → IsTrue Self.sure
-            → LeavesReading (LocalsOf func.now.bytes.now) (ask Self.reply Self.next) self.old
+        ensures after_error { IsTrue Self.keeps_defaults → LeavesMade Self.sure (ask Self.reply Self.next) (locals_in func.now.bytes.now) self.old
             self.new result }
     {
         shared::new_function_with_parsed_locals(self, alloc, func)
@@ -417,8 +404,7 @@ pub trait Reencode: ReencodeItems {
         ensures default { IsTrue Self.keeps_defaults → (c : ℕ)
             → GivesRows (ask Self.reply Self.next) c (row_of kinds.Data) section.entry
             (self.old, segments.old) (self.new, segments.new) result }
-        ensures after_error { IsTrue Self.keeps_defaults → IsTrue Self.sure
-            → LeavesReading (RowsOf (row_of kinds.Data) section.entry) (ask Self.reply Self.next)
+        ensures after_error { IsTrue Self.keeps_defaults → LeavesMade Self.sure (ask Self.reply Self.next) (rows_in (row_of kinds.Data) section.entry)
             self.old self.new result }
     {
         bodies::each_row!(section, alloc, row => self.parse_data(alloc, segments, row))
@@ -455,8 +441,7 @@ pub trait Reencode: ReencodeItems {
         ensures default { IsTrue Self.keeps_defaults
             → GivesSection (ask Self.reply Self.next) id body.now (self.old, «module».old)
             (self.new, «module».new) result }
-        ensures after_error { IsTrue Self.keeps_defaults → IsTrue Self.sure
-            → LeavesReading (ReadsAs id body.now) (ask Self.reply Self.next)
+        ensures after_error { IsTrue Self.keeps_defaults → LeavesMade Self.sure (ask Self.reply Self.next) (section_in id body.now)
             self.old self.new result }
     {
         bodies::parse_section!(self, alloc, module, id, body)
@@ -491,9 +476,7 @@ pub trait Reencode: ReencodeItems {
             → GivesCustom (ask Self.reply Self.next)
             section.entry.name.now section.entry.contents.now
             (self.old, «module».old) (self.new, «module».new) result }
-        ensures after_error { IsTrue Self.keeps_defaults → IsTrue Self.sure
-            → LeavesReading (ReadsCustom section.entry.name.now section.entry.contents.now)
-            (ask Self.reply Self.next) self.old self.new result }
+        ensures after_error { IsTrue Self.keeps_defaults → LeavesMade Self.sure (ask Self.reply Self.next) (custom_in section.entry.name.now section.entry.contents.now) self.old self.new result }
     {
         bodies::parse_custom_section!(self, alloc, module, section)
     }
@@ -528,8 +511,7 @@ pub trait Reencode: ReencodeItems {
         ensures default { IsTrue Self.keeps_defaults
             → GivesNames (ask Self.reply Self.next) ceiling section.entry self.old self.new result
             (λ names. names) }
-        ensures after_error { IsTrue Self.keeps_defaults → IsTrue Self.sure
-            → LeavesReading (SubsectionsLeft section.entry) (ask Self.reply Self.next)
+        ensures after_error { IsTrue Self.keeps_defaults → LeavesMade Self.sure (ask Self.reply Self.next) (names_in section.entry)
             self.old self.new result }
     {
         bodies::custom_name_section!(self, alloc, section, ceiling)
@@ -548,8 +530,7 @@ pub trait Reencode: ReencodeItems {
         ensures default { IsTrue Self.keeps_defaults
             → GivesSubsection (ask Self.reply Self.next) section.entry (self.old, names.old)
             (self.new, names.new) result }
-        ensures after_error { IsTrue Self.keeps_defaults → IsTrue Self.sure
-            → LeavesReading (ReadsName section.entry) (ask Self.reply Self.next)
+        ensures after_error { IsTrue Self.keeps_defaults → LeavesMade Self.sure (ask Self.reply Self.next) (subsection_in section.entry)
             self.old self.new result }
     {
         subsections::parse_custom_name_subsection(self, alloc, names, section)
@@ -569,10 +550,9 @@ pub trait Reencode: ReencodeItems {
         ensures woven { IsTrue Self.keeps_defaults
             → GivesWoven (ask Self.reply Self.next) Self.adds bytes.now (self.old, «module».old)
             (self.new, «module».new) result }
-        ensures after_error { IsTrue Self.keeps_defaults → IsTrue Self.adds_nothing
-            → IsTrue Self.sure
-            → LeavesReading (CoreReading bytes.now) (ask Self.reply Self.next)
+        ensures after_error { IsTrue Self.keeps_defaults → LeavesCore Self.sure Self.adds_nothing (ask Self.reply Self.next) (module_in bytes.now)
             self.old self.new result }
+        ensures headless { IsTrue Self.keeps_defaults → NoCoreHeading bytes.now → self.new ≡ self.old }
     {
         bodies::parse_core_module!(self, alloc, module, bytes)
     }
@@ -590,8 +570,8 @@ pub fn reencode_core<R: Reencode>(
     ensures woven { IsTrue R.keeps_defaults
         → GivesWovenBytes (ask R.reply R.next) R.adds ceiling bytes.now r.old r.new result
         (λ v. v.items) }
-    ensures after_error { IsTrue R.keeps_defaults → IsTrue R.adds_nothing → IsTrue R.sure
-        → LeavesReading (Spells core_module bytes.now) (ask R.reply R.next) r.old r.new result }
+    ensures after_error { IsTrue R.keeps_defaults → LeavesCore R.sure R.adds_nothing (ask R.reply R.next) (core_in bytes.now) r.old r.new result }
+    ensures headless { IsTrue R.keeps_defaults → NoCoreHeading bytes.now → r.new ≡ r.old }
 {
     let mut module = w::Module::new(alloc, ceiling)?;
     r.parse_core_module(alloc, &mut module, bytes)?;

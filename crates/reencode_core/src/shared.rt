@@ -15,7 +15,7 @@ ghost use Rattle.reencode_core.specs.Sections.{KeepsModule, ReadsAs, GivesAdded,
 ghost use Rattle.reencode_core.specs.Errors.{IfParse};
 ghost use Rattle.reencode_core.specs.Core.{GivesCore};
 ghost use Rattle.reencode_core.specs.Elements.{answered_table, asked_table};
-ghost use Rattle.reencode_core.specs.Leaves.{BodyOf, LeavesReading, LocalsOf, RowsOf};
+ghost use Rattle.reencode_core.specs.Leaves.{LeavesMade, locals_in};
 
 use crate::imports::single;
 use crate::lists::map_items;
@@ -238,8 +238,7 @@ pub(crate) fn new_function_with_parsed_locals<T: ReencodeItems>(
     ensures default { IsTrue T.keeps_defaults
         → GivesLocals (ask T.reply T.next) func.now.bytes.now reencoder.old reencoder.new result
         (λ f. f) }
-    ensures after_error { IsTrue T.keeps_defaults → IsTrue T.sure
-        → LeavesReading (LocalsOf func.now.bytes.now) (ask T.reply T.next) reencoder.old
+    ensures after_error { IsTrue T.keeps_defaults → LeavesMade T.sure (ask T.reply T.next) (locals_in func.now.bytes.now) reencoder.old
         reencoder.new result }
 {
     let locals = func.locals(alloc)?;

@@ -10,7 +10,7 @@ ghost use Rattle.wasm_write.specs.Faults.{IfTooLarge};
 ghost use Rattle.wasm_write.specs.Names.{PassesCeiling};
 ghost use Rattle.reencode_hooks.specs.Run.{ask};
 ghost use Rattle.reencode_core.specs.Bodies.{KeepsCode};
-ghost use Rattle.reencode_core.specs.Leaves.{LeavesReading};
+ghost use Rattle.reencode_core.specs.Leaves.{LeavesMade, subsection_in};
 ghost use Rattle.reencode_core.specs.Names.{GivesSubsection, IsIndirect, names_id, of_writer};
 
 use crate::indices::ask_index;
@@ -95,9 +95,9 @@ fn parse_names<T: ReencodeItems>(
         → content_of n ≡ Content.direct (names_id space) space map.entry
         → GivesSubsection (ask T.reply T.next) n (reencoder.old, names.old)
         (reencoder.new, names.new) result }
-    ensures after_error { IsTrue T.keeps_defaults → IsTrue T.sure → (n : Name)
+    ensures after_error { IsTrue T.keeps_defaults → (n : Name)
         → content_of n ≡ Content.direct (names_id space) space map.entry
-        → LeavesReading (ReadsName n) (ask T.reply T.next) reencoder.old reencoder.new result }
+        → LeavesMade T.sure (ask T.reply T.next) (subsection_in n) reencoder.old reencoder.new result }
 {
     match map_names(
         alloc,
@@ -124,9 +124,9 @@ fn parse_indirect_names<T: ReencodeItems>(
         → content_of n ≡ Content.indirect id space map.entry
         → GivesSubsection (ask T.reply T.next) n (reencoder.old, names.old)
         (reencoder.new, names.new) result }
-    ensures after_error { IsTrue T.keeps_defaults → IsTrue T.sure → (n : Name)
+    ensures after_error { IsTrue T.keeps_defaults → (n : Name)
         → content_of n ≡ Content.indirect id space map.entry
-        → LeavesReading (ReadsName n) (ask T.reply T.next) reencoder.old reencoder.new result }
+        → LeavesMade T.sure (ask T.reply T.next) (subsection_in n) reencoder.old reencoder.new result }
 {
     match map_indirect_names(
         alloc,
@@ -151,8 +151,7 @@ pub(crate) fn parse_custom_name_subsection<T: ReencodeItems>(
     ensures default { IsTrue T.keeps_defaults
         → GivesSubsection (ask T.reply T.next) section.entry (reencoder.old, names.old)
         (reencoder.new, names.new) result }
-    ensures after_error { IsTrue T.keeps_defaults → IsTrue T.sure
-        → LeavesReading (ReadsName section.entry) (ask T.reply T.next)
+    ensures after_error { IsTrue T.keeps_defaults → LeavesMade T.sure (ask T.reply T.next) (subsection_in section.entry)
         reencoder.old reencoder.new result }
 {
     match section {

@@ -17,7 +17,7 @@ ghost use Rattle.reencode_core.specs.Errors.{IfParse};
 ghost use Rattle.reencode_core.specs.Names.{GivesCustom, GivesNames, GivesSubsection, SubsectionsLeft};
 ghost use Rattle.reencode_core.specs.Core.{GivesCore};
 ghost use Rattle.reencode_core.specs.Woven.{GivesWoven};
-ghost use Rattle.reencode_core.specs.Leaves.{BodyOf, LeavesReading, LocalsOf, RowsOf};
+ghost use Rattle.reencode_core.specs.Leaves.{LeavesCore, LeavesMade, NoCoreHeading, body_in, custom_in, locals_in, module_in, names_in, rows_in, section_in, subsection_in};
 
 use crate::errors::placed;
 use crate::reencode::Reencode;
@@ -40,8 +40,7 @@ pub fn parse_type_section<T: Reencode>(
     ensures default { IsTrue T.keeps_defaults → (c : ℕ)
         → GivesRows (ask T.reply T.next) c (row_of kinds.Type_) section.entry
         (reencoder.old, types.old) (reencoder.new, types.new) result }
-    ensures after_error { IsTrue T.keeps_defaults → IsTrue T.sure
-        → LeavesReading (RowsOf (row_of kinds.Type_) section.entry) (ask T.reply T.next)
+    ensures after_error { IsTrue T.keeps_defaults → LeavesMade T.sure (ask T.reply T.next) (rows_in (row_of kinds.Type_) section.entry)
         reencoder.old reencoder.new result }
 {
     bodies::each_row!(section, alloc, row => types.group(&reencoder.parse_recursive_type_group(alloc, row)?))
@@ -74,8 +73,7 @@ pub fn parse_function_section<T: Reencode>(
     ensures default { IsTrue T.keeps_defaults → (c : ℕ)
         → GivesRows (ask T.reply T.next) c (row_of kinds.Function) section.entry
         (reencoder.old, functions.old) (reencoder.new, functions.new) result }
-    ensures after_error { IsTrue T.keeps_defaults → IsTrue T.sure
-        → LeavesReading (RowsOf (row_of kinds.Function) section.entry) (ask T.reply T.next)
+    ensures after_error { IsTrue T.keeps_defaults → LeavesMade T.sure (ask T.reply T.next) (rows_in (row_of kinds.Function) section.entry)
         reencoder.old reencoder.new result }
 {
     mapped::map_section(reencoder, alloc, functions, section)
@@ -92,8 +90,7 @@ pub fn parse_import_section<T: Reencode>(
     ensures default { IsTrue T.keeps_defaults → (c : ℕ)
         → GivesRows (ask T.reply T.next) c (row_of kinds.Import) section.entry
         (reencoder.old, imports.old) (reencoder.new, imports.new) result }
-    ensures after_error { IsTrue T.keeps_defaults → IsTrue T.sure
-        → LeavesReading (RowsOf (row_of kinds.Import) section.entry) (ask T.reply T.next)
+    ensures after_error { IsTrue T.keeps_defaults → LeavesMade T.sure (ask T.reply T.next) (rows_in (row_of kinds.Import) section.entry)
         reencoder.old reencoder.new result }
 {
     bodies::each_row!(section, alloc, row => reencoder.parse_imports(alloc, imports, row))
@@ -146,8 +143,7 @@ pub fn parse_table_section<T: Reencode>(
     ensures default { IsTrue T.keeps_defaults → (c : ℕ)
         → GivesRows (ask T.reply T.next) c (row_of kinds.Table) section.entry
         (reencoder.old, tables.old) (reencoder.new, tables.new) result }
-    ensures after_error { IsTrue T.keeps_defaults → IsTrue T.sure
-        → LeavesReading (RowsOf (row_of kinds.Table) section.entry) (ask T.reply T.next)
+    ensures after_error { IsTrue T.keeps_defaults → LeavesMade T.sure (ask T.reply T.next) (rows_in (row_of kinds.Table) section.entry)
         reencoder.old reencoder.new result }
 {
     bodies::each_row!(section, alloc, row => reencoder.parse_table(alloc, tables, row))
@@ -182,8 +178,7 @@ pub fn parse_memory_section<T: Reencode>(
     ensures default { IsTrue T.keeps_defaults → (c : ℕ)
         → GivesRows (ask T.reply T.next) c (row_of kinds.Memory) section.entry
         (reencoder.old, memories.old) (reencoder.new, memories.new) result }
-    ensures after_error { IsTrue T.keeps_defaults → IsTrue T.sure
-        → LeavesReading (RowsOf (row_of kinds.Memory) section.entry) (ask T.reply T.next)
+    ensures after_error { IsTrue T.keeps_defaults → LeavesMade T.sure (ask T.reply T.next) (rows_in (row_of kinds.Memory) section.entry)
         reencoder.old reencoder.new result }
 {
     mapped::map_section(reencoder, alloc, memories, section)
@@ -200,8 +195,7 @@ pub fn parse_global_section<T: Reencode>(
     ensures default { IsTrue T.keeps_defaults → (c : ℕ)
         → GivesRows (ask T.reply T.next) c (row_of kinds.Global) section.entry
         (reencoder.old, globals.old) (reencoder.new, globals.new) result }
-    ensures after_error { IsTrue T.keeps_defaults → IsTrue T.sure
-        → LeavesReading (RowsOf (row_of kinds.Global) section.entry) (ask T.reply T.next)
+    ensures after_error { IsTrue T.keeps_defaults → LeavesMade T.sure (ask T.reply T.next) (rows_in (row_of kinds.Global) section.entry)
         reencoder.old reencoder.new result }
 {
     bodies::each_row!(section, alloc, row => reencoder.parse_global(alloc, globals, row))
@@ -236,8 +230,7 @@ pub fn parse_tag_section<T: Reencode>(
     ensures default { IsTrue T.keeps_defaults → (c : ℕ)
         → GivesRows (ask T.reply T.next) c (row_of kinds.Tag) section.entry
         (reencoder.old, tags.old) (reencoder.new, tags.new) result }
-    ensures after_error { IsTrue T.keeps_defaults → IsTrue T.sure
-        → LeavesReading (RowsOf (row_of kinds.Tag) section.entry) (ask T.reply T.next) reencoder.old
+    ensures after_error { IsTrue T.keeps_defaults → LeavesMade T.sure (ask T.reply T.next) (rows_in (row_of kinds.Tag) section.entry) reencoder.old
         reencoder.new result }
 {
     mapped::map_section(reencoder, alloc, tags, section)
@@ -254,8 +247,7 @@ pub fn parse_export_section<T: Reencode>(
     ensures default { IsTrue T.keeps_defaults → (c : ℕ)
         → GivesRows (ask T.reply T.next) c (row_of kinds.Export) section.entry
         (reencoder.old, exports.old) (reencoder.new, exports.new) result }
-    ensures after_error { IsTrue T.keeps_defaults → IsTrue T.sure
-        → LeavesReading (RowsOf (row_of kinds.Export) section.entry) (ask T.reply T.next)
+    ensures after_error { IsTrue T.keeps_defaults → LeavesMade T.sure (ask T.reply T.next) (rows_in (row_of kinds.Export) section.entry)
         reencoder.old reencoder.new result }
 {
     bodies::each_row!(section, alloc, row => reencoder.parse_export(exports, row))
@@ -289,8 +281,7 @@ pub fn parse_element_section<T: Reencode>(
     ensures default { IsTrue T.keeps_defaults → (c : ℕ)
         → GivesRows (ask T.reply T.next) c (row_of kinds.Element) section.entry
         (reencoder.old, elements.old) (reencoder.new, elements.new) result }
-    ensures after_error { IsTrue T.keeps_defaults → IsTrue T.sure
-        → LeavesReading (RowsOf (row_of kinds.Element) section.entry) (ask T.reply T.next)
+    ensures after_error { IsTrue T.keeps_defaults → LeavesMade T.sure (ask T.reply T.next) (rows_in (row_of kinds.Element) section.entry)
         reencoder.old reencoder.new result }
 {
     bodies::each_row!(section, alloc, row => reencoder.parse_element(alloc, elements, row))
@@ -345,8 +336,7 @@ pub fn parse_code_section<T: Reencode>(
     ensures default { IsTrue T.keeps_defaults
         → GivesRows (ask T.reply T.next) code.old.ceiling (row_of kinds.Code) section.entry
         (reencoder.old, code.old.rows) (reencoder.new, code.new.rows) result }
-    ensures after_error { IsTrue T.keeps_defaults → IsTrue T.sure
-        → LeavesReading (RowsOf (row_of kinds.Code) section.entry) (ask T.reply T.next)
+    ensures after_error { IsTrue T.keeps_defaults → LeavesMade T.sure (ask T.reply T.next) (rows_in (row_of kinds.Code) section.entry)
         reencoder.old reencoder.new result }
 {
     bodies::parse_code_section!(reencoder, alloc, code, section)
@@ -364,8 +354,7 @@ pub fn parse_function_body<T: Reencode>(
     ensures default { IsTrue T.keeps_defaults
         → GivesBody (ask T.reply T.next) func.entry.bytes.now (reencoder.old, code.old)
         (reencoder.new, code.new) result }
-    ensures after_error { IsTrue T.keeps_defaults → IsTrue T.sure
-        → LeavesReading (BodyOf func.entry.bytes.now) (ask T.reply T.next) reencoder.old
+    ensures after_error { IsTrue T.keeps_defaults → LeavesMade T.sure (ask T.reply T.next) (body_in func.entry.bytes.now) reencoder.old
         reencoder.new result }
 {
     bodies::parse_function_body!(reencoder, alloc, code, func)
@@ -380,8 +369,7 @@ pub fn new_function_with_parsed_locals<T: Reencode>(
     ensures default { IsTrue T.keeps_defaults
         → GivesLocals (ask T.reply T.next) func.now.bytes.now reencoder.old reencoder.new result
         (λ f. f) }
-    ensures after_error { IsTrue T.keeps_defaults → IsTrue T.sure
-        → LeavesReading (LocalsOf func.now.bytes.now) (ask T.reply T.next) reencoder.old
+    ensures after_error { IsTrue T.keeps_defaults → LeavesMade T.sure (ask T.reply T.next) (locals_in func.now.bytes.now) reencoder.old
         reencoder.new result }
 {
     shared::new_function_with_parsed_locals(reencoder, alloc, func)
@@ -398,8 +386,7 @@ pub fn parse_data_section<T: Reencode>(
     ensures default { IsTrue T.keeps_defaults → (c : ℕ)
         → GivesRows (ask T.reply T.next) c (row_of kinds.Data) section.entry
         (reencoder.old, segments.old) (reencoder.new, segments.new) result }
-    ensures after_error { IsTrue T.keeps_defaults → IsTrue T.sure
-        → LeavesReading (RowsOf (row_of kinds.Data) section.entry) (ask T.reply T.next)
+    ensures after_error { IsTrue T.keeps_defaults → LeavesMade T.sure (ask T.reply T.next) (rows_in (row_of kinds.Data) section.entry)
         reencoder.old reencoder.new result }
 {
     bodies::each_row!(section, alloc, row => reencoder.parse_data(alloc, segments, row))
@@ -436,8 +423,7 @@ pub fn parse_section<T: Reencode>(
     ensures default { IsTrue T.keeps_defaults
         → GivesSection (ask T.reply T.next) id body.now (reencoder.old, «module».old)
         (reencoder.new, «module».new) result }
-    ensures after_error { IsTrue T.keeps_defaults → IsTrue T.sure
-        → LeavesReading (ReadsAs id body.now) (ask T.reply T.next)
+    ensures after_error { IsTrue T.keeps_defaults → LeavesMade T.sure (ask T.reply T.next) (section_in id body.now)
         reencoder.old reencoder.new result }
 {
     bodies::parse_section!(reencoder, alloc, module, id, body)
@@ -469,9 +455,7 @@ pub fn parse_custom_section<T: Reencode>(
     ensures default { IsTrue T.keeps_defaults
         → GivesCustom (ask T.reply T.next) section.entry.name.now section.entry.contents.now
         (reencoder.old, «module».old) (reencoder.new, «module».new) result }
-    ensures after_error { IsTrue T.keeps_defaults → IsTrue T.sure
-        → LeavesReading (ReadsCustom section.entry.name.now section.entry.contents.now)
-        (ask T.reply T.next) reencoder.old reencoder.new result }
+    ensures after_error { IsTrue T.keeps_defaults → LeavesMade T.sure (ask T.reply T.next) (custom_in section.entry.name.now section.entry.contents.now) reencoder.old reencoder.new result }
 {
     bodies::parse_custom_section!(reencoder, alloc, module, section)
 }
@@ -506,8 +490,7 @@ pub fn custom_name_section<T: Reencode>(
     ensures default { IsTrue T.keeps_defaults
         → GivesNames (ask T.reply T.next) ceiling section.entry reencoder.old reencoder.new result
         (λ names. names) }
-    ensures after_error { IsTrue T.keeps_defaults → IsTrue T.sure
-        → LeavesReading (SubsectionsLeft section.entry) (ask T.reply T.next)
+    ensures after_error { IsTrue T.keeps_defaults → LeavesMade T.sure (ask T.reply T.next) (names_in section.entry)
         reencoder.old reencoder.new result }
 {
     bodies::custom_name_section!(reencoder, alloc, section, ceiling)
@@ -526,8 +509,7 @@ pub fn parse_custom_name_subsection<T: Reencode>(
     ensures default { IsTrue T.keeps_defaults
         → GivesSubsection (ask T.reply T.next) section.entry (reencoder.old, names.old)
         (reencoder.new, names.new) result }
-    ensures after_error { IsTrue T.keeps_defaults → IsTrue T.sure
-        → LeavesReading (ReadsName section.entry) (ask T.reply T.next)
+    ensures after_error { IsTrue T.keeps_defaults → LeavesMade T.sure (ask T.reply T.next) (subsection_in section.entry)
         reencoder.old reencoder.new result }
 {
     subsections::parse_custom_name_subsection(reencoder, alloc, names, section)
@@ -547,9 +529,9 @@ pub fn parse_core_module<T: Reencode>(
     ensures woven { IsTrue T.keeps_defaults
         → GivesWoven (ask T.reply T.next) T.adds bytes.now (reencoder.old, «module».old)
         (reencoder.new, «module».new) result }
-    ensures after_error { IsTrue T.keeps_defaults → IsTrue T.adds_nothing → IsTrue T.sure
-        → LeavesReading (CoreReading bytes.now) (ask T.reply T.next)
+    ensures after_error { IsTrue T.keeps_defaults → LeavesCore T.sure T.adds_nothing (ask T.reply T.next) (module_in bytes.now)
         reencoder.old reencoder.new result }
+    ensures headless { IsTrue T.keeps_defaults → NoCoreHeading bytes.now → reencoder.new ≡ reencoder.old }
 {
     bodies::parse_core_module!(reencoder, alloc, module, bytes)
 }

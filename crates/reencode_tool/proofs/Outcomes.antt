@@ -7,7 +7,7 @@ use Rattle.wasm_shapes.specs.declared.Visit.TheVariants.{Section}
 use Rattle.wasm_shapes.specs.Tree.{Tree, fill, normal, visits}
 use Rattle.wasm_shapes.specs.Fits.{Fits}
 use Rattle.wasm_shapes.specs.Types.{is_core}
-use Rattle.wasm_shapes.specs.Module.{core_header, component_header, core_tree, CoreReading}
+use Rattle.wasm_shapes.specs.Module.{core_header, component_header, alsos, core_tree, CoreReading}
 use Rattle.wasm_shapes.proofs.Laws.{module_headed}
 use Rattle.wasm_shapes.proofs.OwnAnswers.{fill_own}
 use Rattle.reencode_hooks.specs.declared.asked.Unmapped.{Unmapped}
@@ -15,17 +15,20 @@ use Rattle.reencode_hooks.specs.declared.error.Error.{Error}
 use Rattle.reencode_hooks.specs.declared.error.Error.TheVariants as error
 use Rattle.reencode_hooks.specs.Renamings.{Renaming, entry_of, no_renaming, renamed}
 use Rattle.reencode_hooks.specs.Rules.{by_rule}
-use Rattle.reencode_hooks.specs.Run.{refused}
+use Rattle.reencode_hooks.specs.Run.{refused, run}
+use Rattle.reencode_core.specs.Leaves.{Leaves, core_in}
+use Rattle.reencode_core.specs.Refusals.{RefusedUpTo}
+use Rattle.reencode_core.proofs.Refusals.{refusal_tells}
 use Rattle.reencode_hooks.specs.Walk.{walk}
 use Rattle.reencode_hooks.proofs.Walks.{walk_is_run, walk_refuses}
 use Rattle.reencode_core.specs.Core.{GivesBytes, FaultThere, CodeSizeThere, BeforeFault}
 use Rattle.reencode_tool.specs.Counts.{counted, raised, visit_place}
 use Rattle.reencode_tool.specs.declared.answer.Answer.{Answer}
 use Rattle.reencode_tool.specs.Plain.{IsPlain}
-use Rattle.reencode_tool.specs.Reencoded.{asks, IsReencoded, IsMade, IsRefused, IsRefusedAt, IsCodeSize, IsComponent, IsUnmapped, IsRefusal, IsTooLarge}
+use Rattle.reencode_tool.specs.Reencoded.{asks, IsReencoded, IsMade, IsRefused, IsRefusedAt, IsCodeSize, IsComponent, IsUnmapped, IsFirstUpTo, IsRefusal, IsTooLarge}
 use Rattle.reencode_tool.specs.Answer.{EndsAs, HasStatus}
 use Rattle.reencode_tool.proofs.Blank.{Blank, Large, blank_new, blank_next, run_is, walk_blank, counts_after, only_large}
-use Rattle.reencode_tool.proofs.Renamers.{Like, Told, like_itself, like_next, ran, runs, stops, told_walk, walk_like}
+use Rattle.reencode_tool.proofs.Renamers.{Like, Told, like_after, like_itself, like_next, ran, runs, stops, told_walk, walk_like}
 use Rattle.reencode_tool.proofs.Refusals.{Tells, refusal_is_told}
 
 -- ---- output
@@ -159,25 +162,35 @@ large {c = c} {r = r} {bytes = bytes} {m = m} {e = e} other h before same = go (
         (λ t reading. let p = module_headed.forth bytes t reading in only_large c (core_tree t) bytes blank p.spelled (h.reading (core_tree t) p other))
         (λ l. never l.long))
 
-pub why_given : {A : Type 0} (c : ℕ) (r : Renaming) (bytes : List ℕ) (m : Renaming) (e : Error Unmapped) (view : A → List ℕ) → GivesBytes asks c bytes r m (Err e) view → Why c r bytes e
-why_given c r bytes m error.InvalidCodeSectionSize view h = code_size c h.cause (λ t reading. reading_told (λ same. cc) h t reading)
-why_given c r bytes m error.UnexpectedNonCoreModuleSection view h = (h.cause.0, h.cause.1)
-why_given c r bytes m (error.ParseError e) view h = fault_place c h.cause (λ t reading. reading_told (λ same. cc) h t reading)
-why_given c r bytes m (error.UserError u) view h = record {
+-- the first visit without an answer, of those before a fault and of further ones
+first_up_to : (r : Renaming) (vs : List Visit) (rest : List ℕ) {m : Renaming} {u : Unmapped} → RefusedUpTo asks r vs rest (error.UserError u) m → IsFirstUpTo r vs rest u
+first_up_to r vs rest (inl h) = inl (stops vs (like_itself r) h)
+first_up_to r vs rest {m = m} {u = u} (inr h) =
+    let n = ran vs (like_itself r) h.3 in
+    let P : Renaming → Type 0 = λ z. run asks z h.2 ≡ refused (error.UserError u) m in
+    inr (h.0, h.2, n.answers, h.4, stops h.2 (like_after vs (like_itself r)) (subst P n.state h.5))
+
+pub why_given : {A : Type 0} (c : ℕ) (r : Renaming) (bytes : List ℕ) (m : Renaming) (e : Error Unmapped) (view : A → List ℕ) → GivesBytes asks c bytes r m (Err e) view →
+    Leaves asks (core_in bytes) r e m → Why c r bytes e
+why_given c r bytes m error.InvalidCodeSectionSize view h left = code_size c h.cause (λ t reading. reading_told (λ same. cc) h t reading)
+why_given c r bytes m error.UnexpectedNonCoreModuleSection view h left = (h.cause.0, h.cause.1)
+why_given c r bytes m (error.ParseError e) view h left = fault_place c h.cause (λ t reading. reading_told (λ same. cc) h t reading)
+why_given c r bytes m (error.UserError u) view h left = record {
   unmapped = told (error.UserError u) (λ same. cc) h h.cause;
   first = λ t reading.
       let p = module_headed.forth bytes t reading in
       stops (visits (core_tree t)) (like_itself r) ((walk_refuses asks).forth c r m (core_tree t) u (h.reading (core_tree t) p (λ same. cc)));
+  fault = λ sections rest f. first_up_to r (visits (alsos sections Tree.empty)) rest ((refusal_tells asks).fault bytes r m u left sections rest f);
   before = (m, h.cause);
 }
-why_given c r bytes m (error.TooLarge size) view h = record {
+why_given c r bytes m (error.TooLarge size) view h left = record {
   above = told (error.TooLarge size) (λ same. cc) h h.cause;
   first = λ t reading. (m, h.reading (core_tree t) (module_headed.forth bytes t reading) (λ same. cc));
   before = (m, h.cause);
   longer = large (λ same. cc) h h.cause;
 }
-why_given c r bytes m error.NoMemory view h = tt
-why_given c r bytes m _ view h = h.cause
+why_given c r bytes m error.NoMemory view h left = tt
+why_given c r bytes m _ view h left = h.cause
 
 -- ---- ends
 

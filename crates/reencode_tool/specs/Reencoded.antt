@@ -2,11 +2,12 @@
 use Rattle.std.specs.Prelude.{◌≡◌, ◌⊎◌, ◌-◌, ◌<◌, ◌++◌, ℕ, true, List, length, map, Option, None, Ok}
 use Rattle.wasm_shapes.specs.declared.SectionId.{SectionId}
 use Rattle.wasm_shapes.specs.declared.Visit.{Visit}
+use Rattle.wasm_shapes.specs.Drawn.{Drawn}
 use Rattle.wasm_shapes.specs.Tree.{Tree, fill, normal, visits}
 use Rattle.wasm_shapes.specs.Fits.{Fits}
 use Rattle.wasm_shapes.specs.Types.{is_core}
 use Rattle.wasm_shapes.specs.CodeSize.{InvalidCodeSize}
-use Rattle.wasm_shapes.specs.Module.{core_header, component_header, core_tree, CoreReading, NoCoreReading, FaultAt}
+use Rattle.wasm_shapes.specs.Module.{core_header, component_header, alsos, core_tree, CoreReading, NoCoreReading, FaultAt}
 use Rattle.reencode_hooks.specs.declared.asked.Unmapped.{Unmapped}
 use Rattle.reencode_hooks.specs.declared.error.Error.{Error}
 use Rattle.reencode_hooks.specs.declared.error.Error.TheVariants.{UserError}
@@ -82,12 +83,24 @@ pub record IsUnmapped (renaming : Renaming) (u : Unmapped) : Type 0 where
   pub core : is_core u.space ≡ true
   pub none : entry_of renaming u.space u.index ≡ None
 
+-- some of these visits have no answer, and this is the first such
+abbrev pub IsFirst : Renaming → List Visit → Unmapped → Type 0
+IsFirst renaming vs u = Refuses (by_rule (renamed renaming)) vs u
+
+-- The first visit without an answer is one of these; or all of these have one, and it is the first such of some further visits, which
+-- are drawn from these bytes.
+abbrev pub IsFirstUpTo : Renaming → List Visit → List ℕ → Unmapped → Type 0
+IsFirstUpTo renaming vs rest u =
+    IsFirst renaming vs u
+    ⊎ ((answers : List ℕ) × (further : List Visit) × (map (by_rule (renamed renaming)) vs ≡ map Ok answers) × Drawn rest further × IsFirst renaming further u)
+
 -- The renaming is strict and has no entry for this index. Where the bytes have a reading, it is the first of its visits that has
--- none. Where they have none, it is one of the sections before the fault, or all of these were accepted, and it stands in the
--- section in fault.
+-- none. Where they have a fault, it is that of the visits of the sections before it, or all of these have answers, and it is that of
+-- visits that are drawn from the bytes from the fault on.
 pub record IsRefusal (ceiling : ℕ) (renaming : Renaming) (bytes : List ℕ) (u : Unmapped) : Type 0 where
   pub unmapped : IsUnmapped renaming u
-  pub first : (tree : Tree) → CoreReading bytes tree → Refuses (by_rule (renamed renaming)) (visits tree) u
+  pub first : (tree : Tree) → CoreReading bytes tree → IsFirst renaming (visits tree) u
+  pub fault : (sections : List Tree) (rest : List ℕ) → FaultAt bytes sections rest → IsFirstUpTo renaming (visits (alsos sections Tree.empty)) rest u
   pub before : (after : Renaming) × BeforeFault asks ceiling bytes renaming after (UserError u)
 
 -- The size is above the ceiling. Where the bytes have a reading, it is that of the first frame above the ceiling that closes on the

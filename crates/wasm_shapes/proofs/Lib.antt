@@ -3,6 +3,7 @@ pub mod ComponentFrames
 pub mod ComponentLaws
 pub mod ComponentParts
 pub mod Depth
+pub mod Drawn
 pub mod Expressions
 pub mod Frameless
 pub mod Framing

@@ -4,6 +4,7 @@ pub mod ComponentLaws
 pub mod ComponentReadings
 pub mod ComponentTypes
 pub mod Depth
+pub mod Drawn
 pub mod Fits
 pub mod Immediates
 pub mod SectionTable

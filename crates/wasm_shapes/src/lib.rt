@@ -17,8 +17,8 @@ pub use operators::{
     NOP, REF_FUNC, UNREACHABLE, row_of,
 };
 pub use spelling::{
-    header_spells, normal_reads_back, own_answers_change_nothing, spelling_is_unique,
-    tables_are_sound, text_has_one_tree,
+    drawn_from_a_stretch, drawn_lists_join, header_spells, normal_reads_back,
+    own_answers_change_nothing, spelling_is_unique, tables_are_sound, text_has_one_tree,
 };
 
 /// An index space. The first eight are those of core modules (WebAssembly Core Specification 3.0, section 5.5.1);

@@ -1,4 +1,5 @@
 //! The laws of spelling, as functions that do nothing: each one's contract is the law.
+ghost use Rattle.wasm_shapes.specs.Drawn.{IsDrawnFromWhole, IsDrawnJoined};
 ghost use Rattle.wasm_shapes.specs.Own.{IsOwn};
 ghost use Rattle.wasm_shapes.specs.Laws.{IsUnique, HasOneTree, IsReadBack, IsReadBackAsIs, AreSound, IsHeaded};
 
@@ -37,4 +38,15 @@ pub fn header_spells()
 #[tactic(auto, using(crate::proofs::OwnAnswers::fill_own))]
 pub fn own_answers_change_nothing()
     ensures { IsOwn }
+{}
+
+/// Visits that are drawn from a stretch of some bytes are drawn from the bytes.
+pub fn drawn_from_a_stretch()
+    ensures { IsDrawnFromWhole }
+{}
+
+/// Lists of visits that are drawn from the same bytes are drawn from them when joined.
+#[tactic(auto, using(crate::proofs::Drawn::drawn_joined))]
+pub fn drawn_lists_join()
+    ensures { IsDrawnJoined }
 {}

@@ -18,10 +18,10 @@ returns-in-Err-clause-default g c = λ keeps n is.
     (map_stopped g.T.ReencodeIndices (indirect_map _ c.args.space (indirect_row c.args.id c.args.space c.requires) is) _ (map_calls g.T.ReencodeIndices c.args.space (quiet_map _) _ (λ f. f.0.now) (λ f. f.0.ghost_name) (λ f. f.1.now) (λ f j r f' k. search rules) _ _ _ _ refl c.in-Err.ensures (λ e. search rules)) _ refl).default keeps
 
 pub returns-in-Ok-clause-after_error : goal.returns-in-Ok-clause-after_error
-returns-in-Ok-clause-after_error g c = λ keeps sure n is.
+returns-in-Ok-clause-after_error g c = λ keeps n is.
     let w = c.add_indirect_names.ensures in
-    (map_written g.T.ReencodeIndices (indirect_map _ c.args.space (indirect_row c.args.id c.args.space c.requires) is) _ (map_calls g.T.ReencodeIndices c.args.space (quiet_map _) _ (λ f. f.0.now) (λ f. f.0.ghost_name) (λ f. f.1.now) (λ f j r f' k. search rules) _ _ _ _ refl c.in-Ok.ensures (λ e. search rules)) _ w.ok w.fits w.err w.large _ c.written.ensures).after_error keeps sure
+    (map_written g.T.ReencodeIndices (indirect_map _ c.args.space (indirect_row c.args.id c.args.space c.requires) is) _ (map_calls g.T.ReencodeIndices c.args.space (quiet_map _) _ (λ f. f.0.now) (λ f. f.0.ghost_name) (λ f. f.1.now) (λ f j r f' k. search rules) _ _ _ _ refl c.in-Ok.ensures (λ e. search rules)) _ w.ok w.fits w.err w.large _ c.written.ensures).after_error keeps
 
 pub returns-in-Err-clause-after_error : goal.returns-in-Err-clause-after_error
-returns-in-Err-clause-after_error g c = λ keeps sure n is.
-    (map_stopped g.T.ReencodeIndices (indirect_map _ c.args.space (indirect_row c.args.id c.args.space c.requires) is) {old = c.args.names.now} _ (map_calls g.T.ReencodeIndices c.args.space (quiet_map _) _ (λ f. f.0.now) (λ f. f.0.ghost_name) (λ f. f.1.now) (λ f j r f' k. search rules) _ _ _ _ refl c.in-Err.ensures (λ e. search rules)) (Err c.in-Err.e) refl).after_error keeps sure
+returns-in-Err-clause-after_error g c = λ keeps n is.
+    (map_stopped g.T.ReencodeIndices (indirect_map _ c.args.space (indirect_row c.args.id c.args.space c.requires) is) {old = c.args.names.now} _ (map_calls g.T.ReencodeIndices c.args.space (quiet_map _) _ (λ f. f.0.now) (λ f. f.0.ghost_name) (λ f. f.1.now) (λ f j r f' k. search rules) _ _ _ _ refl c.in-Err.ensures (λ e. search rules)) (Err c.in-Err.e) refl).after_error keeps

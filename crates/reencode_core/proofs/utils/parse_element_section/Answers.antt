@@ -1,14 +1,16 @@
 use Rattle.std.proofs.Common.{refl}
+use Rattle.wasm_shapes.specs.declared.SectionId.TheVariants as id
+use Rattle.wasm_shapes.specs.Drawn.{IsItem}
 use Rattle.reencode_core.proofs.EachRow.{rows_begun, rows_ended, rows_stuck, rows_added, rows_refused_at}
 use Rattle.reencode_core.proofs.utils.parse_element_section.Goals as goal
 
 pub rows-init : goal.rows-init
-rows-init g c = rows_begun g.T.ReencodeIndices
+rows-init g c = rows_begun g.T.ReencodeIndices (IsItem.row id.Element) refl refl
 
 pub rows-preserved : goal.rows-preserved
 rows-preserved g c =
     let row = rw c.in-Some.is at c.in_ok-row.ensures.row in
-    rows_added g.T.ReencodeIndices c.rows.invariant refl refl row c.in_ok-parse_element.ensures
+    rows_added g.T.ReencodeIndices c.rows.invariant row c.in_ok-parse_element.ensures
 
 pub returns-in_err-row : goal.returns-in_err-row
 returns-in_err-row g c = rows_stuck g.T.ReencodeIndices c.rows.invariant _ c.in_err-row.ensures.err _ c.from_residual.ensures.1
@@ -16,7 +18,7 @@ returns-in_err-row g c = rows_stuck g.T.ReencodeIndices c.rows.invariant _ c.in_
 pub returns-in_err-parse_element : goal.returns-in_err-parse_element
 returns-in_err-parse_element g c =
     let row = rw c.in-Some.is at c.in_ok-row.ensures.row in
-    rows_refused_at g.T.ReencodeIndices c.rows.invariant refl refl row _ c.in_err-parse_element.ensures _ c.from_residual-in_err-parse_element.ensures.1
+    rows_refused_at g.T.ReencodeIndices c.rows.invariant row _ c.in_err-parse_element.ensures _ c.from_residual-in_err-parse_element.ensures.1
 
 pub returns : goal.returns
 returns g c = rows_ended g.T.ReencodeIndices c.rows.invariant (rw c.in_default.is at c.in_ok-row.ensures.ended)

@@ -11,11 +11,12 @@ returns-in-Ok-clause-ok c =
 
 pub answer_of-requires : goal.answer_of-requires
 answer_of-requires c =
-    has_status c.args.ceiling c.args.renamer c.args.bytes.now c.in-Err.e (why_given c.args.ceiling c.args.renamer c.args.bytes.now c.reencode_core.new.r c.in-Err.e (λ v. v.items) (c.in-Err.ensures.default refl refl))
+    has_status c.args.ceiling c.args.renamer c.args.bytes.now c.in-Err.e (why_given c.args.ceiling c.args.renamer c.args.bytes.now c.reencode_core.new.r c.in-Err.e (λ v. v.items) (c.in-Err.ensures.default refl refl)
+    (c.in-Err.ensures.after_error refl (λ h. refl) (λ h. refl)))
 
 pub returns-clause-refused : goal.returns-clause-refused
 returns-clause-refused c =
-    let why = why_given c.args.ceiling c.args.renamer c.args.bytes.now c.reencode_core.new.r c.in-Err.e (λ v. v.items) (c.in-Err.ensures.default refl refl) in
+    let why = why_given c.args.ceiling c.args.renamer c.args.bytes.now c.reencode_core.new.r c.in-Err.e (λ v. v.items) (c.in-Err.ensures.default refl refl) (c.in-Err.ensures.after_error refl (λ h. refl) (λ h. refl)) in
     refused_as c.args.ceiling c.args.renamer c.args.bytes.now c.in-Err.e c.answer_of.result why c.answer_of.ensures
 
 pub returns-clause-made : goal.returns-clause-made

@@ -1,0 +1,6 @@
+use Rattle.reencode_hooks.specs.Run.{ask}
+use Rattle.reencode_core.proofs.Refusals as refusals
+use Rattle.reencode_core.proofs.laws.refusal_tells.Goals as goal
+
+pub returns : goal.returns
+returns g c = let t = g.T.ReencodeIndices in refusals.refusal_tells (ask t.reply t.next)
