@@ -379,6 +379,18 @@ module _ {S E : Type 0} (asked : Asks S E) (adds : Puts S SectionRow) where
             subst P (sym (alsos-append d.read (t ∷ []) Tree.empty)) (subst Q (sym (visits_alsos None d.read (Tree.also t Tree.empty))) (subst V d.ends both));
       }
 
+  -- what is read and made then
+  pub sections_begin_parts : (start : List ℕ) (s : S) (old : Sections) → let d = sections_begin start s old in (d.read ≡ []) × (d.made ≡ []) × (d.text ≡ [])
+  unfolding sections_begin
+  sections_begin_parts start s old = (refl, refl, refl)
+
+  pub sections_more_parts : {Stops : ℕ → Error E → S → Type 0} {id : ℕ} {f : Tree} {start rest rest' : List ℕ} {s0 s n s' : S} {old new mid new' : Sections} {last now : Option SectionId} →
+      (d : SectionsDone asked adds start s0 old rest last s new) (reached : Reached asked Stops f rest rest' last now s n) (put : Put asked adds f last s n new mid)
+      (g : GivesFramed asked id f Stops (n, mid) (s', new') (Ok tt)) → let e = sections_more d reached put g in
+      (e.read ≡ d.read ++ g.readable.0 ∷ []) × (e.made ≡ d.made ++ (g.reading g.readable.0 g.readable.1).0 ∷ []) × (e.text ≡ d.text ++ reached.framed.text)
+  unfolding sections_more section_here
+  sections_more_parts d reached put g = (refl, refl, refl)
+
   -- ---- the ends of the loop
 
   module _ {start bytes rest : List ℕ} {s0 s : S} {old new : Sections} {last : Option SectionId} (reads : bytes ≡ core_header ++ start)

@@ -119,7 +119,7 @@ raw_of other u (inl q) = absurd (other q.0)
 raw_of other u (inr q) = q.1
 
 -- the contents are read as one tree
-one_contents : {name contents : List ℕ} {u v : Tree} → ReadsContents name contents u → ReadsContents name contents v → u ≡ v
+pub one_contents : {name contents : List ℕ} {u v : Tree} → ReadsContents name contents u → ReadsContents name contents v → u ≡ v
 one_contents {contents = contents} {u = u} {v = v} (inl p) (inl q) = one_tree names refl contents u v p.1 q.1
 one_contents (inl p) (inr q) = absurd (q.0 p.0)
 one_contents (inr p) (inl q) = absurd (p.0 q.0)

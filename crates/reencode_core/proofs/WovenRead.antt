@@ -1,5 +1,5 @@
 -- What comes out of a reading and of added sections that have readings is read as what is woven of these, and as nothing else.
-use Rattle.std.proofs.Common.{◌≡◌, ◌≤◌, ◌^◌, ◌-◌, ℕ, List, [], ◌∷◌, ◌++◌, length, drop, map, Option, Some, None, Result, refl, sym, ap, ◌∙◌, subst, All}
+use Rattle.std.proofs.Common.{◌≡◌, ◌<◌, ◌≤◌, ◌^◌, ◌-◌, ℕ, List, [], ◌∷◌, ◌++◌, length, get_or, drop, map, Option, Some, None, Result, refl, sym, ap, ◌∙◌, subst, All}
 use Rattle.std.proofs.lemmas.List.Elements.{All-nil, All-cons, All-head, All-tail}
 use Rattle.wasm_shapes.specs.declared.SectionId.{SectionId}
 use Rattle.wasm_shapes.specs.declared.Visit.{Visit}
@@ -10,13 +10,18 @@ use Rattle.wasm_shapes.specs.Module.{core_header, section, sections, core_module
 use Rattle.wasm_shapes.proofs.Laws.{filled_read_back, head_forth, module_headed, one_tree, tables_sound}
 use Rattle.wasm_shapes.proofs.ReadBack.{spelled_in_range}
 use Rattle.wasm_write.specs.Sections.{SectionRow, section_bytes, framed_tree}
-use Rattle.reencode_hooks.specs.Run.{ask, run, state_after}
+use Rattle.reencode_hooks.specs.Run.{accepted, ask, run, state_after}
 use Rattle.reencode_hooks.specs.Hooks.{KeepsAnswers}
 use Rattle.reencode_hooks.proofs.InRange.{Small, all_small, answers_small, below, small_behind, visits_in_range}
 use Rattle.reencode_core.specs.Rows.{Asks}
 use Rattle.reencode_core.specs.Weave.{Puts, added, put_before, woven_from, woven}
 use Rattle.reencode_core.specs.WovenLaws.{AreReadings, ReadsAdded, OutputIsRead}
 use Rattle.reencode_core.proofs.Weaves.{forth, woven_alike}
+
+-- the answers to the visits of what bytes spell
+pub reading_small : {S E : Type 0} (reply : S → Visit → Result ℕ E) (next : S → Visit → S) → KeepsAnswers reply → (s m : S) (t : Tree) (bytes told : List ℕ) → Spelled t bytes →
+    run (ask reply next) s (visits t) ≡ accepted told m → (k : ℕ) → get_or told k 0 < 2 ^ 32
+reading_small reply next keeps s m t bytes told p ran = all_small told (answers_small reply next keeps s m (visits t) told (visits_in_range None t (spelled_in_range t bytes p)) ran)
 
 -- ---- frames that fit
 

@@ -50,8 +50,8 @@ impl<'a> Payloads<'a> {
         }
     }
 
-    /// The place where it stands.
-    fn place(&self) -> usize
+    /// The place where it stands, counted from the first byte of the header.
+    pub fn place(&self) -> usize
         ensures { result ≡ sections_place self.now }
     {
         self.len.saturating_sub(self.rest.len())

@@ -74,6 +74,17 @@ module _ {s : Shape} {n : ℕ} {bytes : List ℕ} (h : Held s n bytes) where
       ap₂ (λ (k : ℕ) (z : List ℕ). leb k ++ z) (count_rows h.0 ∙ held_length)
       (∥∥₁_elim h.1 (Coded-set (coded_list coded_ℕ) (normal (rows_tree h.0)) bytes) (λ r. r.normally))
 
+  pub held_rows_normal : normal (rows_tree (held_rows s n bytes h)) ≡ bytes
+  unfolding held_rows
+  held_rows_normal = ∥∥₁_elim h.1 (Coded-set (coded_list coded_ℕ) (normal (rows_tree h.0)) bytes) (λ r. r.normally)
+
+  -- it spells rows one behind another
+  pub held_many : ∥ Spells (Shape.many s) (normal (rows_tree (held_rows s n bytes h))) (rows_tree (held_rows s n bytes h)) ∥₁
+  unfolding held_rows
+  held_many =
+      let P : List Tree → List ℕ → Type 0 = λ rows z. Spelled (rows_tree rows) z in
+      ∥∥₁_map h.1 (λ r. record { shaped = r.shaped; spelled = subst (P h.0) (sym r.normally) r.spelled })
+
   -- it spells a vector of rows
   pub held_spells : n < 2 ^ 32 → BodySpells s (held_rows s n bytes h)
   unfolding held_rows

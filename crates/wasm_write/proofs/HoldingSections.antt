@@ -1,5 +1,5 @@
 -- The sections of a module, and one more.
-use Rattle.std.proofs.Common.{◌≡◌, ℕ, suc, ◌+◌, ◌<◌, ◌≤◌, ◌^◌, List, [], ◌∷◌, ◌++◌, length, map, refl, sym, ap, ◌∙◌, append_assoc, arith, length-append}
+use Rattle.std.proofs.Common.{◌≡◌, ℕ, suc, ◌+◌, ◌<◌, ◌≤◌, ◌^◌, List, [], ◌∷◌, ◌++◌, length, map, refl, sym, ap, ◌∙◌, append_assoc, arith, length-append, subst}
 use Rattle.std.specs.Coded.{Coded-set, coded_ℕ, coded_list}
 use mathlib.Core.Logic.{∥∥₁_elim, ∥∥₁_map}
 use Rattle.wasm_leb.specs.Leb.{leb}
@@ -9,6 +9,7 @@ use Rattle.wasm_shapes.specs.Spells.{Is, Spells}
 use Rattle.wasm_shapes.specs.Module.{core_header}
 use Rattle.wasm_shapes.specs.Types.{rows_tree}
 use Rattle.wasm_write.specs.Sections.{SectionRow, Sections, with_section, section_bytes, sections_bytes, module_bytes, framed, framed_tree, AreSections, HeldSections, HeldSections-one, held_sections}
+use Rattle.wasm_write.specs.Held.{AreHeld}
 use Rattle.wasm_write.proofs.Holding.{are_none, are_more}
 
 -- an id that is a byte, and a length that has a spelling
@@ -71,6 +72,16 @@ module _ {n : ℕ} {bytes : List ℕ} (h : HeldSections n bytes) where
   sections_are =
       ∥∥₁_elim h.1 (Coded-set (coded_list coded_ℕ) bytes (module_bytes h.0)) (λ r.
       r.stands ∙ ap (λ (z : List ℕ). core_header ++ z) (sym r.held.normally ∙ normal_sections h.0))
+
+  -- behind the header stand these sections
+  pub sections_held : ∥ AreHeld framed (length (held_sections n bytes h)) (sections_bytes (held_sections n bytes h)) (map framed_tree (held_sections n bytes h)) ∥₁
+  unfolding held_sections
+  sections_held =
+      let P : List SectionRow → ℕ → List ℕ → Type 0 = λ rows k z. AreHeld framed k z (map framed_tree rows) in
+      ∥∥₁_map h.1 (λ r.
+      let count : n ≡ length h.0 = sym r.held.counted ∙ length_sections h.0 in
+      let text : r.rest ≡ sections_bytes h.0 = sym r.held.normally ∙ normal_sections h.0 in
+      subst (λ (k : ℕ). P h.0 k (sections_bytes h.0)) count (subst (λ (z : List ℕ). P h.0 n z) text r.held))
 
   -- there are no more than bytes
   pub sections_few : n + 8 ≤ length bytes

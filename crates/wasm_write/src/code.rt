@@ -2,7 +2,9 @@
 ghost use Rattle.std.specs.Prelude.{◌≡◌, ◌++◌, ◌+◌, ◌-◌, ◌^◌, ◌<◌, ◌≤◌, ◌⊎◌, [], length, take, vec_len, OnOk, OnErr, IfErr};
 ghost use Rattle.std.proofs.Common.{lit≤};
 ghost use Rattle.wasm_shapes.specs.Tree.{normal};
-ghost use Rattle.wasm_shapes.specs.Types.{vector_tree};
+ghost use Rattle.wasm_shapes.specs.Types.{rows_tree, vector_tree};
+ghost use Rattle.wasm_shapes.specs.Shape.{Shape};
+ghost use Rattle.wasm_shapes.specs.Spells.{Spells};
 ghost use Rattle.wasm_shapes.specs.Module.{code_row};
 ghost use Rattle.wasm_write.specs.Faults.{IfTooLarge};
 ghost use Rattle.wasm_write.specs.Held.{BodySpells};
@@ -85,6 +87,30 @@ impl CodeSection {
             ceiling,
             rows: RowSection::with_room(alloc, module, counted, len),
         }
+    }
+
+    /// Takes its rows out. Its memory stays for others.
+    pub fn clear(&mut self)
+        ensures { self.new ≡ record self.old { rows = [] } }
+    {
+        self.rows.clear();
+    }
+
+    /// How many rows it has.
+    #[inline(always)]
+    pub fn len(&self) -> u32
+        ensures { result ≡ length self.now.rows }
+    {
+        self.rows.len()
+    }
+
+    /// Its rows one behind another, without their number: see `RowSection::as_slice`.
+    #[inline(always)]
+    pub fn as_slice(&self) -> &[u8]
+        ensures value { result.now ≡ normal (rows_tree self.now.rows) }
+        ensures spells { ∥ Spells (Shape.many code_row) (normal (rows_tree self.now.rows)) (rows_tree self.now.rows) ∥₁ }
+    {
+        self.rows.as_slice()
     }
 
     /// Its rows, as a section that `Module::take` takes.

@@ -1,14 +1,15 @@
 //! A core module under construction.
-ghost use Rattle.std.specs.Prelude.{◌≡◌, ◌++◌, ◌∷◌, ◌<◌, ◌≤◌, [], length, take, slice_range, vec_len, OnOk, OnErr, IfOk, IfErr};
+ghost use Rattle.std.specs.Prelude.{◌≡◌, ◌++◌, ◌∷◌, ◌<◌, ◌≤◌, [], length, map, take, slice_range, vec_len, OnOk, OnErr, IfOk, IfErr};
 ghost use Rattle.std.specs.List.{remove_range};
 ghost use Rattle.wasm_leb.specs.Leb.{leb};
 ghost use Rattle.wasm_shapes.specs.Tree.{normal};
 ghost use Rattle.wasm_shapes.specs.Types.{vector_tree};
 ghost use Rattle.wasm_write.specs.Faults.{IfTooLarge};
-ghost use Rattle.wasm_write.specs.Sections.{section_row, with_section, section_bytes, module_bytes, HeldSections, HeldSections-prop};
+ghost use Rattle.wasm_write.specs.Held.{AreHeld};
+ghost use Rattle.wasm_write.specs.Sections.{section_row, with_section, section_bytes, sections_bytes, module_bytes, framed, framed_tree, HeldSections, HeldSections-prop};
 
 use crate::fault::WriteFault;
-use crate::row_section::RowSection;
+use crate::row_section::{RowSection, behind};
 use crate::section::Section;
 use std::alloc::Global;
 use std::marker::Model;
@@ -134,6 +135,15 @@ impl Module {
         ensures { result.now ≡ module_bytes self.now.sections }
     {
         &self.bytes
+    }
+
+    /// The sections, without the header: they read back as they were added.
+    pub fn sections_as_slice(&self) -> &[u8]
+        ensures value { result.now ≡ sections_bytes self.now.sections }
+        ensures held { ∥ AreHeld framed (length self.now.sections) (sections_bytes self.now.sections)
+            (map framed_tree self.now.sections) ∥₁ }
+    {
+        behind(&self.bytes, 8)
     }
 
     /// The header and the sections. It takes no memory.

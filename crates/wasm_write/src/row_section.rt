@@ -1,7 +1,8 @@
 //! Sections of rows.
 ghost use Rattle.std.specs.Prelude.{◌≡◌, ◌++◌, ◌∷◌, ◌+◌, ◌^◌, ◌<◌, ◌≤◌, [], length, take, drop, vec_len, IfOk, OnOk, OnErr, IfErr};
 ghost use Rattle.wasm_shapes.specs.Tree.{Tree, normal};
-ghost use Rattle.wasm_shapes.specs.Types.{vector_tree};
+ghost use Rattle.wasm_shapes.specs.Types.{rows_tree, vector_tree};
+ghost use Rattle.wasm_shapes.specs.Shape.{Shape};
 ghost use Rattle.wasm_shapes.specs.Spells.{Spells};
 ghost use Rattle.wasm_shapes.specs.Fits.{InRange};
 ghost use Rattle.wasm_write.specs.Counts.{counts, IsTooLarge};
@@ -126,7 +127,7 @@ impl<K: RowKind> RowSection<K> {
 }
 
 /// The bytes behind so many.
-fn behind(bytes: &[u8], front: usize) -> &[u8]
+pub(crate) fn behind(bytes: &[u8], front: usize) -> &[u8]
     requires { front ≤ length bytes.now }
     ensures { result.now ≡ drop front bytes.now }
 {
@@ -151,6 +152,32 @@ fn room(alloc: Global, front: usize, more: usize) -> Result<Vec<u8>, AllocError>
 }
 
 impl<K: RowKind> RowSection<K> {
+    /// Takes its rows out. Its memory stays for others.
+    pub fn clear(&mut self)
+        ensures { self.new ≡ [] }
+    {
+        self.count = 0;
+        self.front = 0;
+        self.bytes.clear();
+    }
+
+    /// How many rows it has.
+    #[inline(always)]
+    pub fn len(&self) -> u32
+        ensures { result ≡ length self.now }
+    {
+        self.count
+    }
+
+    /// The rows one behind another, without their number: they read back as they were added.
+    #[inline(always)]
+    pub fn as_slice(&self) -> &[u8]
+        ensures value { result.now ≡ normal (rows_tree self.now) }
+        ensures spells { ∥ Spells (Shape.many K.shape) (normal (rows_tree self.now)) (rows_tree self.now) ∥₁ }
+    {
+        behind(&self.bytes, self.front)
+    }
+
     /// How many bytes the body has.
     pub(crate) fn body_len(&self) -> usize
         ensures { result ≡ length (normal (vector_tree self.now)) }

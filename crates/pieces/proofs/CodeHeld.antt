@@ -1,0 +1,68 @@
+-- The rows of a code section that are held, and others behind them.
+use Rattle.std.proofs.Common.{◌≡◌, ℕ, ◌+◌, ◌<◌, ◌^◌, List, [], ◌∷◌, ◌++◌, length, true, ◌-◌, take, refl, sym, ap, ap₂, ◌∙◌, append_assoc, append-nil, length-append, arith}
+use mathlib.Core.Logic.{∥∥₁_elim, ∥∥₁_map, ∥∥₁_prop}
+use Rattle.wasm_leb.specs.Leb.{leb}
+use Rattle.wasm_leb.specs.Place.{BeginsNumber, BeginsNoNumber}
+use Rattle.wasm_leb.proofs.Shortest.{leb_spells}
+use Rattle.wasm_leb.proofs.Unique.{leb_fills, unsigned_unique}
+use Rattle.wasm_leb.specs.Leb.{IsUnsigned}
+use Rattle.std.proofs.lemmas.List.{append_cancel_left}
+use Rattle.std.proofs.Math.Seq.{take-append_seam}
+use Rattle.wasm_shapes.specs.Tree.{Tree, normal}
+use Rattle.wasm_shapes.specs.Shape.{Shape}
+use Rattle.wasm_shapes.specs.Sound.{sound}
+use Rattle.wasm_shapes.specs.Spells.{Spells}
+use Rattle.wasm_shapes.specs.Types.{rows_tree}
+use Rattle.wasm_write.specs.Held.{AreHeld, Held, Held-one, held_rows}
+use Rattle.wasm_write.proofs.HoldingBodies.{many_is, many_spelled}
+
+many_normal : (xs ys : List Tree) → normal (rows_tree (xs ++ ys)) ≡ normal (rows_tree xs) ++ normal (rows_tree ys)
+many_normal [] ys = refl
+many_normal (u ∷ xs) ys = ap (λ (z : List ℕ). normal u ++ z) (many_normal xs ys) ∙ sym (append_assoc (normal u) (normal (rows_tree xs)) (normal (rows_tree ys)))
+
+are_both : {s : Shape} {n : ℕ} {bytes : List ℕ} {rows : List Tree} (ts : List Tree) → AreHeld s n bytes rows → Spells (Shape.many s) (normal (rows_tree ts)) (rows_tree ts) →
+    AreHeld s (n + length ts) (bytes ++ normal (rows_tree ts)) (rows ++ ts)
+are_both {bytes = bytes} {rows = rows} ts r p = record {
+  shaped = many_is rows ts r.shaped p.shaped;
+  counted = length-append rows ts ∙ ap (λ (k : ℕ). k + length ts) r.counted;
+  spelled = many_spelled rows ts bytes (normal (rows_tree ts)) r.spelled p.spelled;
+  normally = many_normal rows ts ∙ ap (λ (z : List ℕ). z ++ normal (rows_tree ts)) r.normally;
+}
+
+module _ {s : Shape} {n : ℕ} {bytes : List ℕ} (h : Held s n bytes) (ts : List Tree) where
+  -- the bytes have grown by rows
+  pub held_both : {m : ℕ} {new : List ℕ} → m ≡ n + length ts → new ≡ bytes ++ normal (rows_tree ts) → ∥ Spells (Shape.many s) (normal (rows_tree ts)) (rows_tree ts) ∥₁ → Held s m new
+  held_both c e p = (h.0 ++ ts, ∥∥₁_elim h.1 ∥∥₁_prop (λ r. ∥∥₁_map p (λ q. rw (c, e) (are_both ts r q))))
+
+  pub held_both_is : {m : ℕ} {new : List ℕ} → sound (Shape.many s) ≡ true → (k : Held s m new) → m ≡ n + length ts → new ≡ bytes ++ normal (rows_tree ts) →
+      ∥ Spells (Shape.many s) (normal (rows_tree ts)) (rows_tree ts) ∥₁ → held_rows s m new k ≡ held_rows s n bytes h ++ ts
+  unfolding held_rows held_both
+  held_both_is {m} {new} passes k c e p = Held-one s passes m new k (held_both c e p)
+
+-- ---- one row
+
+-- behind its number stands the body
+pub body_behind : (u : Tree) (rows left : List ℕ) (n : ℕ) → length (normal u) < 2 ^ 32 → rows ≡ normal (rows_tree (Tree.sized u ∷ [])) → BeginsNumber 128 32 32 rows n left → left ≡ normal u
+body_behind u rows left n short is b =
+    let number : List ℕ = leb (length (normal u)) in
+    let parts : number ++ normal u ≡ b.0 ++ left = sym (append-nil (number ++ normal u)) ∙ sym is ∙ b.2 in
+    let same = unsigned_unique (normal u) left (leb_spells (length (normal u)) short) b.1 parts in
+    sym (append_cancel_left b.0 (normal u) left (ap (λ (z : List ℕ). z ++ normal u) (sym same.0) ∙ parts))
+
+pub body_begins : (u : Tree) (rows : List ℕ) → length (normal u) < 2 ^ 32 → rows ≡ normal (rows_tree (Tree.sized u ∷ [])) → BeginsNoNumber 128 32 32 rows → ⊥
+body_begins u rows short is none =
+    none (leb (length (normal u))) (normal u) (length (normal u)) (leb_spells (length (normal u)) short) (is ∙ append-nil (leb (length (normal u)) ++ normal u))
+
+-- a number takes a byte
+pub some_number : {n : ℕ} {text : List ℕ} → IsUnsigned 32 text n → 0 < length text
+some_number {n = n} {text = []} p = absurd (leb_fills 128 [] n p.spelled refl)
+some_number {text = b ∷ text} p = omega arith
+
+-- what stands in front of what is left is the number
+pub left_behind : {n : ℕ} (rows left body head : List ℕ) → BeginsNumber 128 32 32 rows n left → head ≡ take (length rows - length left) rows → left ≡ body →
+    (rows ≡ head ++ body) × (0 < length head)
+left_behind rows left body head b e same =
+    let len : length rows ≡ length b.0 + length left = ap length b.2 ∙ length-append b.0 left in
+    let counted : length rows - length left ≡ length b.0 = omega (arith, len) in
+    let is : head ≡ b.0 = e ∙ ap (λ (k : ℕ). take k rows) counted ∙ ap (take (length b.0)) b.2 ∙ take-append_seam b.0 left in
+    (b.2 ∙ ap₂ (λ (x y : List ℕ). x ++ y) (sym is) same, rw is (some_number b.1))

@@ -1,0 +1,11 @@
+pub mod Joining
+pub mod CodeHeld
+pub mod Standing
+pub mod ModuleHeld
+pub mod Left
+pub mod Moved
+pub mod Walking
+pub mod Frames
+pub mod Ranges
+pub mod KeptLaws
+pub mod Answered
