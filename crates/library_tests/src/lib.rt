@@ -21,6 +21,8 @@ mod names_tests;
 #[cfg(test)]
 mod read_tests;
 #[cfg(test)]
+mod refusing_tests;
+#[cfg(test)]
 mod shapes_tests;
 #[cfg(test)]
 mod write_tests;
