@@ -7,6 +7,7 @@ mod case;
 mod groups;
 mod modules;
 mod numbers;
+mod pieces;
 mod readers;
 mod sections;
 mod stop;

@@ -61,10 +61,10 @@ enum What {
 
 /// How it is re-encoded.
 #[derive(Drop)]
-struct Way {
-    renamer: Renamer,
-    ceiling: u32,
-    is_counted: bool,
+pub struct Way {
+    pub renamer: Renamer,
+    pub ceiling: u32,
+    pub is_counted: bool,
 }
 
 impl Way {
@@ -90,7 +90,7 @@ impl Way {
 }
 
 /// The way of some words.
-fn way_of(alloc: Global, words: &str) -> Result<Way, Stop> {
+pub fn way_of(alloc: Global, words: &str) -> Result<Way, Stop> {
     let mut way = Way {
         renamer: Renamer::new(alloc),
         ceiling: u32::MAX,
@@ -113,7 +113,7 @@ fn add_count(text: &mut String, renamer: &Renamer, what: Asked) -> Result<(), Al
 }
 
 /// Adds each count that is not 0.
-fn add_counts(text: &mut String, renamer: &Renamer) -> Result<(), AllocError> {
+pub fn add_counts(text: &mut String, renamer: &Renamer) -> Result<(), AllocError> {
     add_word(text, "asked")?;
     for space in SPACES {
         add_count(text, renamer, Asked::Of(space))?;

@@ -130,8 +130,9 @@ sections_kept (t ∷ ts) (u ∷ us) at x answers old new small e fits k =
       k.1,
       k.2,
       k.3,
-      one at k.0 t u own old k.2 own_small first halves.0 k.4,
-      sections_kept ts us (at + length k.0) k.1 (after t own) k.2 new (drop_small (length (visits t)) own own_small) others halves.1 k.5,
+      k.4,
+      one at k.0 t u own old k.2 own_small first halves.0 k.5,
+      sections_kept ts us (at + length k.0) k.1 (after t own) k.2 new (drop_small (length (visits t)) own own_small) others halves.1 k.6,
     )
   where
     one : (at : ℕ) (x : List ℕ) (t u : Tree) (own : List ℕ) (old mid : List Range) → Small own → fill t own ≡ u → Short u → InCode at x t u old mid ⊎ (NotCode t × (mid ≡ old)) →

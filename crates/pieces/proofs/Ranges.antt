@@ -9,10 +9,10 @@ use Rattle.wasm_shapes.specs.Fits.{Fits}
 use Rattle.wasm_shapes.specs.Tree.{Tree, fill, frames, visits}
 use Rattle.wasm_shapes.specs.Place.{Begins}
 use Rattle.wasm_shapes.specs.Spells.{Spells}
-use Rattle.wasm_shapes.specs.Module.{body_of, core_header, core_module, core_tree, custom_frame, frame, numbered_frame, tree_of, alsos, InFrame}
+use Rattle.wasm_shapes.specs.Module.{body_of, core_header, core_module, core_tree, custom_frame, frame, numbered_frame, section, tree_of, alsos, InFrame}
 use Rattle.wasm_shapes.specs.SectionTable.{number}
 use Rattle.wasm_shapes.proofs.Laws.{module_headed}
-use Rattle.wasm_shapes.proofs.SectionTable.{custom_in_frame, kind_in_frame, unknown_in_frame}
+use Rattle.wasm_shapes.proofs.SectionTable.{custom_in_frame, kind_in_frame, of_frame, unknown_in_frame}
 use Rattle.wasm_write.specs.Sections.{SectionRow, Sections}
 use Rattle.reencode_hooks.specs.declared.error.Error.{Error}
 use Rattle.wasm_shapes.specs.declared.Visit.TheVariants.{Section}
@@ -39,21 +39,21 @@ use Rattle.pieces.specs.Sinks.{InCode, KeepsCodeSection, KeepsFrames, KeepsKind,
 abbrev pub KeepsOne : ℕ → List ℕ → Tree → Tree → List Range → List Range → Type 0
 KeepsOne at x t u old new = InCode at x t u old new ⊎ (NotCode t × (new ≡ old))
 
-sections_snoc : (ts us : List Tree) (at at' : ℕ) (text x : List ℕ) (t u : Tree) (old mid new : List Range) → at' ≡ at + length text → KeepsSections at text ts us old mid → KeepsOne at' x t u mid new →
+sections_snoc : (ts us : List Tree) (at at' : ℕ) (text x : List ℕ) (t u : Tree) (old mid new : List Range) → at' ≡ at + length text → Spells section x t → KeepsSections at text ts us old mid → KeepsOne at' x t u mid new →
     KeepsSections at (text ++ x) (ts ++ t ∷ []) (us ++ u ∷ []) old new
-sections_snoc [] [] at at' text x t u old mid new e p q =
+sections_snoc [] [] at at' text x t u old mid new e sp p q =
     let empty : text ≡ [] = p.0 in
     let here : at' ≡ at = omega (arith, e, ap length empty) in
     let B : ℕ → List Range → Type 0 = λ n o. KeepsOne n x t u o new in
     let kept : B at old = subst (λ (n : ℕ). B n old) here (subst (λ (o : List Range). B at' o) p.1 q) in
-    (x, [], new, ap (λ (z : List ℕ). z ++ x) empty ∙ sym (append-nil x), kept, (refl, refl))
-sections_snoc [] (v ∷ us) at at' text x t u old mid new e p q = absurd p
-sections_snoc (s ∷ ts) [] at at' text x t u old mid new e p q = absurd p
-sections_snoc (s ∷ ts) (v ∷ us) at at' text x t u old mid new e p q =
+    (x, [], new, ap (λ (z : List ℕ). z ++ x) empty ∙ sym (append-nil x), sp, kept, (refl, refl))
+sections_snoc [] (v ∷ us) at at' text x t u old mid new e sp p q = absurd p
+sections_snoc (s ∷ ts) [] at at' text x t u old mid new e sp p q = absurd p
+sections_snoc (s ∷ ts) (v ∷ us) at at' text x t u old mid new e sp p q =
     let a = ap length p.3 ∙ length-append p.0 p.1 in
     let next : at' ≡ at + length p.0 + length p.1 = omega (arith, e, a) in
     let whole : text ++ x ≡ p.0 ++ (p.1 ++ x) = ap (λ (z : List ℕ). z ++ x) p.3 ∙ append_assoc p.0 p.1 x in
-    (p.0, p.1 ++ x, p.2, whole, p.4, sections_snoc ts us (at + length p.0) at' p.1 x t u p.2 mid new next p.5 q)
+    (p.0, p.1 ++ x, p.2, whole, p.4, p.5, sections_snoc ts us (at + length p.0) at' p.1 x t u p.2 mid new next sp p.6 q)
 
 -- ---- what a section is
 
@@ -134,7 +134,7 @@ module _ {S E : Type 0} (asked : Asks S E) (adds : Puts S SectionRow) where
       let q = g.reading t in_it in
       let e = sections_more asked adds d reached put g in
       let parts = sections_more_parts asked adds d reached put g in
-      let next = sections_snoc d.read d.made 8 (8 + length d.text) d.text here.text t q.0 k0 k1 k2 refl p.1 (one d.text here.text t q.0 d.stands here.reads in_it q.2) in
+      let next = sections_snoc d.read d.made 8 (8 + length d.text) d.text here.text t q.0 k0 k1 k2 refl (of_frame in_it here.spells) p.1 (one d.text here.text t q.0 d.stands here.reads in_it q.2) in
       (e, more e.text (d.text ++ here.text) e.read (d.read ++ t ∷ []) e.made (d.made ++ q.0 ∷ []) k0 k2 parts.2 parts.0 parts.1 next)
     where
       more : (x y : List ℕ) (a b u v : List Tree) (k0 k2 : List Range) → x ≡ y → a ≡ b → u ≡ v → KeepsSections 8 y b v k0 k2 → KeepsSections 8 x a u k0 k2

@@ -9,7 +9,7 @@ use Rattle.wasm_shapes.specs.Shape.{Shape}
 use Rattle.wasm_shapes.specs.Sound.{sound}
 use Rattle.wasm_shapes.specs.Spells.{Spelled, Spells}
 use Rattle.wasm_shapes.specs.Fits.{Fits}
-use Rattle.wasm_shapes.specs.Module.{alsos, core_header, core_tree, tree_of}
+use Rattle.wasm_shapes.specs.Module.{alsos, core_header, core_tree, section, tree_of}
 use Rattle.pieces.specs.Pieces.{Range, range}
 use Rattle.pieces.specs.Sinks.{KeptOf, NotCode}
 
@@ -72,7 +72,7 @@ pub record KeptInCode (at : ℕ) (x : List ℕ) (t : Tree) (answers : List ℕ) 
 abbrev pub KeptSections : ℕ → List ℕ → List Tree → List ℕ → List Range → List Range → Type 0
 KeptSections at x [] answers old new = (x ≡ []) × (new ≡ old)
 KeptSections at x (t ∷ ts) answers old new =
-    (y z : List ℕ) × (mid : List Range) × (x ≡ y ++ z) × (KeptInCode at y t (drop (length (before None t)) answers) old mid ⊎ (NotCode t × (mid ≡ old)))
+    (y z : List ℕ) × (mid : List Range) × (x ≡ y ++ z) × Spells section y t × (KeptInCode at y t (drop (length (before None t)) answers) old mid ⊎ (NotCode t × (mid ≡ old)))
     × KeptSections (at + length y) z ts (after t (drop (length (before None t)) answers)) mid new
 
 -- the ranges of the function bodies of a module that are spelled normally and each of whose visits was answered by the index asked

@@ -14,7 +14,7 @@ use Rattle.wasm_shapes.specs.declared.Visit.{Visit}
 use Rattle.wasm_shapes.specs.Spells.{Spells}
 use Rattle.wasm_shapes.specs.declared.SectionId.{SectionId}
 use Rattle.wasm_shapes.specs.declared.SectionId.TheVariants as id
-use Rattle.wasm_shapes.specs.Module.{CoreReading, alsos, body, body_of, code_row, core_header, core_tree, tree_of}
+use Rattle.wasm_shapes.specs.Module.{CoreReading, alsos, body, body_of, code_row, core_header, core_tree, section, tree_of}
 use Rattle.reencode_core.specs.Sections.{ReadsAs}
 use Rattle.wasm_read.specs.Reading.{Standing, place_of}
 use Rattle.wasm_write.specs.Bodies.{CodeRows, code_rows_code}
@@ -222,7 +222,8 @@ NotCode t = (body : Tree) → t ≢ tree_of id.Code body
 abbrev pub KeepsSections : ℕ → List ℕ → List Tree → List Tree → List Range → List Range → Type 0
 KeepsSections at x [] [] old new = (x ≡ []) × (new ≡ old)
 KeepsSections at x (t ∷ ts) (u ∷ us) old new =
-    (y z : List ℕ) × (mid : List Range) × (x ≡ y ++ z) × (InCode at y t u old mid ⊎ (NotCode t × (mid ≡ old))) × KeepsSections (at + length y) z ts us mid new
+    (y z : List ℕ) × (mid : List Range) × (x ≡ y ++ z) × Spells section y t × (InCode at y t u old mid ⊎ (NotCode t × (mid ≡ old)))
+    × KeepsSections (at + length y) z ts us mid new
 KeepsSections at x _ _ old new = ⊥
 
 -- of the bytes of a module, which are read as this and become that
