@@ -1,23 +1,22 @@
 -- The laws of `specs/Refusals.antt`.
-use Rattle.std.proofs.Common.{◌≡◌, ℕ, List, Result, Ok, Err, [], ◌∷◌, ◌++◌, refl, sym, ap, ◌∙◌, subst, ◌⊎◌, inl, inr}
+use Rattle.std.proofs.Common.{◌≡◌, ℕ, Bool, IfOk, IfErr, IsTrue, List, Result, Ok, Err, [], ◌∷◌, ◌++◌, refl, sym, ap, ◌∙◌, subst, ◌⊎◌, inl, inr}
 use Rattle.wasm_shapes.specs.declared.Visit.{Visit}
 use Rattle.wasm_shapes.specs.Tree.{Tree}
 use Rattle.wasm_shapes.specs.CodeSize.{InvalidCodeSize}
-use Rattle.wasm_shapes.specs.Module.{alsos, core_module}
-use Rattle.wasm_shapes.specs.Spells.{Spells}
+use Rattle.wasm_shapes.specs.Module.{FaultAt, alsos}
 use Rattle.wasm_write.specs.Sections.{SectionRow}
 use Rattle.wasm_shapes.proofs.Laws.{module_headed}
 use Rattle.reencode_hooks.specs.declared.error.Error.{Error}
 use Rattle.reencode_hooks.specs.declared.error.Error.TheVariants.{CanonicalizedHeapTypeReference, InvalidConstExpr, InvalidCodeSectionSize, UnexpectedNonCoreModuleSection, UnexpectedNonComponentSection, UnsupportedCoreTypeInComponent, ParseError, UserError, TooLarge, NoMemory}
 use Rattle.reencode_hooks.specs.Run.{Step, accepted, refused, and_then, run}
-use Rattle.reencode_core.specs.Leaves.{CoreUpTo, IsFront, LeavesCore, MadeUpTo, core_in}
+use Rattle.reencode_core.specs.Leaves.{CoreUpTo, IsFront, IsSize, Leaves, LeavesCore, MadeUpTo, Text, core_in, module_in}
 use Rattle.reencode_core.specs.Refusals as statements
 use Rattle.reencode_core.specs.Refusals.{IsFaultOr, RefusedUpTo, RefusesNone}
 use Rattle.reencode_core.specs.Rows.{Asks}
 use Rattle.reencode_core.specs.Core.{IsCause}
 use Rattle.reencode_core.specs.Faults.{FaultGives}
 use Rattle.reencode_core.specs.Weave.{Puts}
-use Rattle.reencode_core.specs.Woven.{GivesWovenBytes, IsOwn, OwnNext, OwnTooLarge}
+use Rattle.reencode_core.specs.Woven.{IsOwn, IsWovenCause, OwnNext, OwnTooLarge}
 use Rattle.reencode_core.proofs.Faults.{fault_tells}
 
 module _ {S E : Type 0} (asked : Asks S E) where
@@ -87,71 +86,87 @@ module _ {S E : Type 0} (asked : Asks S E) where
       let others = all_accepted none one.1 vs in
       (one.0 ∷ others.0, others.1, rw (one.2, others.2) refl)
 
-  pub refusal_tells : statements.RefusalTells asked
+  never_refused : RefusesNone asked → (text : Text) (s m : S) (x : E) → Leaves asked text s (UserError x) m → ⊥
+  never_refused none text s m x l =
+      let all = all_accepted none s l.made in
+      let apart : ◌≡◌ {A = Step S (Error E) (List ℕ)} (accepted all.0 all.1) (refused (UserError x) m) = sym all.2 ∙ l.ended.by in absurd cc
+
+  pub refusal_tells : statements.RefusalTells asked core_in
   refusal_tells = record {
     reading = λ bytes s m x l t p. front_refused s (l.reading t p) l.ended.by;
     fault = λ bytes s m x l before rest f.
         let unread = (fault_tells asked).none bytes before rest f in
         up_to s (l.fault (λ t p. let r = module_headed.back bytes t p in unread r.0 r.2) (alsos before Tree.empty) rest (CoreUpTo.sections before rest f)) l.ended.by;
-    never = λ none bytes s m x l.
-        let all = all_accepted none s l.made in
-        let apart : ◌≡◌ {A = Step S (Error E) (List ℕ)} (accepted all.0 all.1) (refused (UserError x) m) = sym all.2 ∙ l.ended.by in absurd cc;
+    never = λ none bytes s m x l. never_refused none (core_in bytes) s m x l;
   }
 
+  pub refusal_tells_sections : statements.RefusalTells asked module_in
+  refusal_tells_sections = record {
+    reading = λ bytes s m x l t p. front_refused s (l.reading t p) l.ended.by;
+    fault = λ bytes s m x l before rest f.
+        up_to s (l.fault ((fault_tells asked).none bytes before rest f) (alsos before Tree.empty) rest (CoreUpTo.sections before rest f)) l.ended.by;
+    never = λ none bytes s m x l. never_refused none (module_in bytes) s m x l;
+  }
+
+-- what an error of a cause is, where the reencoder refuses no visit: by each error
+module _ {S E : Type 0} (asked : Asks S E) (adds : Puts S SectionRow) (c : ℕ) (bytes : List ℕ) (s m : S) (before : List Tree) (rest : List ℕ) (f : FaultAt bytes before rest) where
+  caused : (e : Error E) → IsCause asked c bytes s m e → FaultGives asked c bytes s m before rest e
+  caused e h = (fault_tells asked).told c bytes s m e h before rest f
+
+  -- a size of the section hook's own is another error
+  own : (e : Error E) → ((own : List SectionRow) → IsOwn c own e → ⊥) → OwnTooLarge asked adds c bytes s e → ⊥
+  own e never o = by o.own
+    where
+      by : OwnNext adds c o.front.last o.front.at o.front.rest e → ⊥
+      by (inl q) = never _ q.1
+      by (inr q) = never _ q.4
+
+  told : (A : Type 0) (e : Error E) → ((x : E) → e ≡ UserError x → ⊥) → IsWovenCause asked adds c bytes s m e → IsFaultOr {E = E} {A = A} bytes rest (Err e)
+  told A (UserError x) unasked h = absurd (unasked x refl)
+  told A (TooLarge x) unasked h = tt
+  told A NoMemory unasked h = tt
+  told A (ParseError x) unasked (inl h) = caused (ParseError x) h
+  told A (ParseError x) unasked (inr o) = absurd (own (ParseError x) (λ own h. h) o)
+  told A InvalidCodeSectionSize unasked (inl h) = caused InvalidCodeSectionSize h
+  told A InvalidCodeSectionSize unasked (inr o) = absurd (own InvalidCodeSectionSize (λ own h. h) o)
+  told A UnexpectedNonCoreModuleSection unasked (inl h) = caused UnexpectedNonCoreModuleSection h
+  told A UnexpectedNonCoreModuleSection unasked (inr o) = own UnexpectedNonCoreModuleSection (λ own h. h) o
+  told A CanonicalizedHeapTypeReference unasked (inl h) = h
+  told A CanonicalizedHeapTypeReference unasked (inr o) = own CanonicalizedHeapTypeReference (λ own h. h) o
+  told A InvalidConstExpr unasked (inl h) = h
+  told A InvalidConstExpr unasked (inr o) = own InvalidConstExpr (λ own h. h) o
+  told A UnexpectedNonComponentSection unasked (inl h) = h
+  told A UnexpectedNonComponentSection unasked (inr o) = own UnexpectedNonComponentSection (λ own h. h) o
+  told A UnsupportedCoreTypeInComponent unasked (inl h) = h
+  told A UnsupportedCoreTypeInComponent unasked (inr o) = own UnsupportedCoreTypeInComponent (λ own h. h) o
+
+  -- the same of what a call answers, where bytes with a fault have no reading and no refusal comes
+  answered : {A : Type 0} (result : Result A (Error E)) → IfOk result (λ _. ⊥) → IfErr result (IsWovenCause asked adds c bytes s m) → IfErr result (λ e. (x : E) → e ≡ UserError x → ⊥) → IsFaultOr {E = E} {A = A} bytes rest result
+  answered (Ok a) none cause unasked = absurd none
+  answered {A = A} (Err e) none cause unasked = told A e unasked cause
+
 pub fault_is_answered : {S E A : Type 0} (asked : Asks S E) (adds : Puts S SectionRow) (view : A → List ℕ) → statements.FaultIsAnswered asked adds view
-fault_is_answered {S = S} {E = E} {A = A} asked adds view none c bytes s m result given sure nothing left before rest f = go result given left
+fault_is_answered {S = S} {E = E} {A = A} asked adds view = record {
+  bytes = λ none c bytes s m result given sure nothing left before rest f.
+      answered asked adds c bytes s m before rest f result
+      (ok_none result given.readable (λ r. let q = module_headed.back bytes r.0 r.1 in (fault_tells asked).none bytes before rest f q.0 q.2))
+      given.cause
+      (unrefused none (core_in bytes) sure nothing s m result left);
+  sections = λ none bytes before after result given sure nothing left read rest f.
+      answered asked adds before.1.ceiling bytes before.0 after.0 read rest f result
+      (ok_none result given.readable (λ r. (fault_tells asked).none bytes read rest f r.0 r.1))
+      given.cause
+      (unrefused none (module_in bytes) sure nothing before.0 after.0 result left);
+}
   where
-    unread : (t : Tree) → Spells core_module bytes t → ⊥
-    unread t p = let r = module_headed.back bytes t p in (fault_tells asked).none bytes before rest f r.0 r.2
+    ok_none : {B P : Type 0} (result : Result B (Error E)) → IfOk result (λ _. P) → (P → ⊥) → IfOk result (λ _. ⊥)
+    ok_none (Ok b) p never = never p
+    ok_none (Err e) p never = tt
 
-    caused : (e : Error E) → IsCause asked c bytes s m e → FaultGives asked c bytes s m before rest e
-    caused e h = (fault_tells asked).told c bytes s m e h before rest f
-
-    -- a size of the section hook's own is another error
-    own : (e : Error E) → ((own : List SectionRow) → IsOwn c own e → ⊥) → OwnTooLarge asked adds c bytes s e → ⊥
-    own e never o = by o.own
-      where
-        by : OwnNext adds c o.front.last o.front.at o.front.rest e → ⊥
-        by (inl q) = never _ q.1
-        by (inr q) = never _ q.4
-
-    go : (result : Result A (Error E)) → GivesWovenBytes asked adds c bytes s m result view → LeavesCore sure nothing asked (core_in bytes) s m result → IsFaultOr bytes rest result
-    go (Ok a) g l = absurd (unread g.readable.0 g.readable.1)
-    go (Err (UserError x)) g l = absurd ((refusal_tells asked).never none bytes s m x (l (λ h. absurd cc) (λ h. absurd h)))
-    go (Err (TooLarge x)) g l = tt
-    go (Err NoMemory) g l = tt
-    go (Err (ParseError x)) g l = by g.cause
-      where
-        by : IsCause asked c bytes s m (ParseError x) ⊎ OwnTooLarge asked adds c bytes s (ParseError x) → IsFaultOr {E = E} {A = A} bytes rest (Err (ParseError x))
-        by (inl h) = caused (ParseError x) h
-        by (inr o) = absurd (own (ParseError x) (λ own h. h) o)
-    go (Err InvalidCodeSectionSize) g l = by g.cause
-      where
-        by : IsCause asked c bytes s m InvalidCodeSectionSize ⊎ OwnTooLarge asked adds c bytes s InvalidCodeSectionSize → InvalidCodeSize rest
-        by (inl h) = caused InvalidCodeSectionSize h
-        by (inr o) = absurd (own InvalidCodeSectionSize (λ own h. h) o)
-    go (Err UnexpectedNonCoreModuleSection) g l = by g.cause
-      where
-        by : IsCause asked c bytes s m UnexpectedNonCoreModuleSection ⊎ OwnTooLarge asked adds c bytes s UnexpectedNonCoreModuleSection → ⊥
-        by (inl h) = caused UnexpectedNonCoreModuleSection h
-        by (inr o) = own UnexpectedNonCoreModuleSection (λ own h. h) o
-    go (Err CanonicalizedHeapTypeReference) g l = by g.cause
-      where
-        by : IsCause asked c bytes s m CanonicalizedHeapTypeReference ⊎ OwnTooLarge asked adds c bytes s CanonicalizedHeapTypeReference → ⊥
-        by (inl h) = h
-        by (inr o) = own CanonicalizedHeapTypeReference (λ own h. h) o
-    go (Err InvalidConstExpr) g l = by g.cause
-      where
-        by : IsCause asked c bytes s m InvalidConstExpr ⊎ OwnTooLarge asked adds c bytes s InvalidConstExpr → ⊥
-        by (inl h) = h
-        by (inr o) = own InvalidConstExpr (λ own h. h) o
-    go (Err UnexpectedNonComponentSection) g l = by g.cause
-      where
-        by : IsCause asked c bytes s m UnexpectedNonComponentSection ⊎ OwnTooLarge asked adds c bytes s UnexpectedNonComponentSection → ⊥
-        by (inl h) = h
-        by (inr o) = own UnexpectedNonComponentSection (λ own h. h) o
-    go (Err UnsupportedCoreTypeInComponent) g l = by g.cause
-      where
-        by : IsCause asked c bytes s m UnsupportedCoreTypeInComponent ⊎ OwnTooLarge asked adds c bytes s UnsupportedCoreTypeInComponent → ⊥
-        by (inl h) = h
-        by (inr o) = own UnsupportedCoreTypeInComponent (λ own h. h) o
+    unrefused : {B : Type 0} → RefusesNone asked → (text : Text) (sure nothing : Bool) (s m : S) (result : Result B (Error E)) → LeavesCore sure nothing asked text s m result →
+        IfErr result (λ e. (x : E) → e ≡ UserError x → ⊥)
+    unrefused none text sure nothing s m (Ok b) left = tt
+    unrefused none text sure nothing s m (Err e) left =
+        λ x is.
+        let L : Error E → Type 0 = λ z. (z ≡ NoMemory → IsTrue sure) → (IsSize z → IsTrue nothing) → Leaves asked text s z m in
+        never_refused asked none text s m x (subst L is left (λ h. absurd cc) (λ h. absurd h))

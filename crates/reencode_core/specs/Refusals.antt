@@ -3,17 +3,16 @@ use Rattle.std.specs.Prelude.{◌≡◌, ◌⊎◌, ◌-◌, ℕ, Bool, List, le
 use Rattle.wasm_shapes.specs.declared.Visit.{Visit}
 use Rattle.wasm_shapes.specs.Drawn.{Drawn}
 use Rattle.wasm_shapes.specs.Tree.{Tree, visits}
-use Rattle.wasm_shapes.specs.Spells.{Spells}
 use Rattle.wasm_shapes.specs.CodeSize.{InvalidCodeSize}
-use Rattle.wasm_shapes.specs.Module.{alsos, core_module, FaultAt}
-use Rattle.wasm_write.specs.Sections.{SectionRow}
+use Rattle.wasm_shapes.specs.Module.{alsos, FaultAt}
+use Rattle.wasm_write.specs.Sections.{SectionRow, Sections}
 use Rattle.reencode_hooks.specs.declared.error.Error.{Error}
 use Rattle.reencode_hooks.specs.declared.error.Error.TheVariants.{InvalidCodeSectionSize, ParseError, UserError, TooLarge, NoMemory}
 use Rattle.reencode_hooks.specs.Run.{accepted, refused, run}
-use Rattle.reencode_core.specs.Leaves.{Leaves, LeavesCore, core_in}
+use Rattle.reencode_core.specs.Leaves.{Leaves, LeavesCore, Text, core_in, module_in}
 use Rattle.reencode_core.specs.Rows.{Asks}
 use Rattle.reencode_core.specs.Weave.{Puts}
-use Rattle.reencode_core.specs.Woven.{GivesWovenBytes}
+use Rattle.reencode_core.specs.Woven.{GivesWoven, GivesWovenBytes}
 
 -- The run over these visits ends in the refusal; or it accepts them all, and then some further visits, drawn from these bytes, end in it.
 abbrev pub RefusedUpTo : {S E : Type 0} → Asks S E → S → List Visit → List ℕ → Error E → S → Type 0
@@ -25,14 +24,14 @@ RefusedUpTo {S} asked s vs rest e m =
 abbrev pub RefusesNone : {S E : Type 0} → Asks S E → Type 0
 RefusesNone {S} asked = (s : S) (v : Visit) → (n : ℕ) × (m : S) × (asked s v ≡ accepted n m)
 
--- What a refusal of the reencoder tells: where the bytes have a reading, the run over its visits ends in it; where they have a fault,
--- the run over the visits of the sections before it, or over further ones behind these, which are drawn from the bytes from the fault
--- on. It never comes of a reencoder that refuses no visit.
-pub record RefusalTells {S E : Type 0} (asked : Asks S E) : Type 0 where
-  pub reading : (bytes : List ℕ) (s m : S) (x : E) → Leaves asked (core_in bytes) s (UserError x) m → (t : Tree) → Spells core_module bytes t → run asked s (visits t) ≡ refused (UserError x) m
-  pub fault : (bytes : List ℕ) (s m : S) (x : E) → Leaves asked (core_in bytes) s (UserError x) m → (before : List Tree) (rest : List ℕ) → FaultAt bytes before rest →
+-- What a refusal of the reencoder tells, of a call that reads its bytes so: where they have a reading, the run over its visits ends in
+-- it; where they have a fault, the run over the visits of the sections before it, or over further ones behind these, which are drawn
+-- from the bytes from the fault on. It never comes of a reencoder that refuses no visit.
+pub record RefusalTells {S E : Type 0} (asked : Asks S E) (text : List ℕ → Text) : Type 0 where
+  pub reading : (bytes : List ℕ) (s m : S) (x : E) → Leaves asked (text bytes) s (UserError x) m → (t : Tree) → (text bytes).reads t → run asked s (visits t) ≡ refused (UserError x) m
+  pub fault : (bytes : List ℕ) (s m : S) (x : E) → Leaves asked (text bytes) s (UserError x) m → (before : List Tree) (rest : List ℕ) → FaultAt bytes before rest →
       RefusedUpTo asked s (visits (alsos before Tree.empty)) rest (UserError x) m
-  pub never : RefusesNone asked → (bytes : List ℕ) (s m : S) (x : E) → Leaves asked (core_in bytes) s (UserError x) m → ⊥
+  pub never : RefusesNone asked → (bytes : List ℕ) (s m : S) (x : E) → Leaves asked (text bytes) s (UserError x) m → ⊥
 
 -- what bytes with a fault come to where no visit is refused: the fault's error, or a size that is too large, or want of memory
 abbrev pub IsFaultOr : {E A : Type 0} → List ℕ → List ℕ → Result A (Error E) → Type 0
@@ -42,9 +41,12 @@ IsFaultOr bytes rest (Err (TooLarge size)) = Unit {0}
 IsFaultOr bytes rest (Err NoMemory) = Unit {0}
 IsFaultOr bytes rest _ = ⊥
 
--- Where no visit is refused, bytes with a fault give its error, or a size that is too large, or want of memory.
-abbrev pub FaultIsAnswered : {S E A : Type 0} → Asks S E → Puts S SectionRow → (A → List ℕ) → Type 0
-FaultIsAnswered {S} {E} {A} asked adds view =
-    RefusesNone asked → (c : ℕ) (bytes : List ℕ) (s m : S) (result : Result A (Error E)) → GivesWovenBytes asked adds c bytes s m result view
-    → (sure nothing : Bool) → LeavesCore sure nothing asked (core_in bytes) s m result → (before : List Tree) (rest : List ℕ) → FaultAt bytes before rest
-    → IsFaultOr bytes rest result
+-- Where no visit is refused, bytes with a fault give its error, or a size that is too large, or want of memory: of a call that gives a
+-- module's bytes, and of one that adds its sections to a module.
+pub record FaultIsAnswered {S E A : Type 0} (asked : Asks S E) (adds : Puts S SectionRow) (view : A → List ℕ) : Type 0 where
+  pub bytes : RefusesNone asked → (c : ℕ) (bytes : List ℕ) (s m : S) (result : Result A (Error E)) → GivesWovenBytes asked adds c bytes s m result view →
+      (sure nothing : Bool) → LeavesCore sure nothing asked (core_in bytes) s m result → (before : List Tree) (rest : List ℕ) → FaultAt bytes before rest →
+      IsFaultOr bytes rest result
+  pub sections : RefusesNone asked → (bytes : List ℕ) (before after : S × Sections) (result : Result (Unit {0}) (Error E)) → GivesWoven asked adds bytes before after result →
+      (sure nothing : Bool) → LeavesCore sure nothing asked (module_in bytes) before.0 after.0 result → (read : List Tree) (rest : List ℕ) → FaultAt bytes read rest →
+      IsFaultOr bytes rest result

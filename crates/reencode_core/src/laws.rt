@@ -2,6 +2,7 @@
 ghost use Rattle.std.specs.Prelude.{List, ℕ};
 ghost use Rattle.reencode_hooks.specs.Run.{ask};
 ghost use Rattle.reencode_core.specs.Faults.{FaultGains, FaultTells};
+ghost use Rattle.reencode_core.specs.Leaves.{core_in, module_in};
 ghost use Rattle.reencode_core.specs.Refusals.{FaultIsAnswered, RefusalTells};
 ghost use Rattle.reencode_core.specs.Woven.{AcceptedIsAnswered};
 ghost use Rattle.reencode_core.specs.WovenLaws.{OutputIsRead, WeaveEnds, WeaveIsRun, WeaveOfNothing};
@@ -22,13 +23,15 @@ pub fn fault_gains<T: ReencodeIndices>(_reencoder: &T)
 
 /// With a refusal of the reencoder the run of its hooks over the visits of the reading ends; or where the bytes have none, the run
 /// over the visits of the sections before the fault, or over further ones behind these, which are drawn from the bytes from the
-/// fault on. None comes of a reencoder that refuses no visit.
+/// fault on. None comes of a reencoder that refuses no visit. The first is of `reencode_core`, the second of `parse_core_module`.
 pub fn refusal_tells<T: ReencodeIndices>(_reencoder: &T)
-    ensures { RefusalTells (ask T.reply T.next) }
+    ensures bytes { RefusalTells (ask T.reply T.next) core_in }
+    ensures sections { RefusalTells (ask T.reply T.next) module_in }
 {}
 
 /// Bytes with a fault give the fault's error of a reencoder that refuses no visit, or a size that is too large, or want of memory:
-/// where the clauses `woven` and `after_error` of `reencode_core` hold. `A` is the answer's type; the slice may be empty.
+/// where the clauses `woven` and `after_error` of `reencode_core` hold, or of `parse_core_module`. `A` is the answer's type; the
+/// slice may be empty.
 pub fn fault_is_answered<T: ReencodeIndices, A>(_reencoder: &T, _answers: &[A])
     ensures { (view : A → List ℕ) → FaultIsAnswered (ask T.reply T.next) T.adds view }
 {}
