@@ -128,6 +128,22 @@ fn module_that_adds(rt: HostRuntime) -> Made<()> {
 }
 
 #[test]
+fn bodies_and_sections(rt: HostRuntime) -> Made<()> {
+    let body = [0x00u8, 0x20, 0x00, 0x20, 0x01, 0x6a, 0x0b];
+    let mut code = CodeSection::new(rt.alloc(), 7);
+    code.function(&Function::new(rt.alloc(), &List::new(rt.alloc()))?)?;
+    code.function(&adding(rt.alloc())?)?;
+    assert_eq!(rt; code.body(0), Some([0x00u8].as_slice()));
+    assert_eq!(rt; code.body(1), Some(body.as_slice()));
+    assert_eq!(rt; code.body(2), None);
+    let section = [0x01u8, 0x07, 0x00, 0x20, 0x00, 0x20, 0x01, 0x6a, 0x0b];
+    let module = adding_module(rt.alloc())?;
+    assert_eq!(rt; module.section_at(3), Some((10, section.as_slice())));
+    assert_eq!(rt; module.section_at(4), None);
+    Ok(())
+}
+
+#[test]
 fn ceilings(rt: HostRuntime) -> Made<()> {
     let body = adding(rt.alloc())?;
     let mut code = CodeSection::new(rt.alloc(), 6);

@@ -13,7 +13,7 @@ use Rattle.reencode_hooks.specs.Walk.{walk}
 use Rattle.reencode_hooks.proofs.Agrees.{given}
 use Rattle.reencode_hooks.proofs.Walks.{walk_is_run}
 use Rattle.reencode_laws.specs.Own as statements
-use Rattle.reencode_laws.proofs.Shorter.{shorter}
+use Rattle.wasm_write.proofs.Shorter.{shorter}
 
 one_index : (v : Visit) → index_of v ≡ asked_index v
 one_index (Index p i) = refl

@@ -1,5 +1,4 @@
 pub mod Twice
-pub mod Shorter
 pub mod Runs
 pub mod Kept
 pub mod Itself

@@ -5,7 +5,7 @@ use Rattle.wasm_leb.specs.Leb.{leb}
 use Rattle.wasm_shapes.specs.Tree.{Tree, Listed, count, normal, frames, before, after, typed, kind_bytes, final_bytes, left_flag, aimed_flag, placed_bytes, code_bytes}
 use Rattle.wasm_shapes.specs.Fits.{Fits}
 use Rattle.reencode_laws.specs.Chained.{written_at, written}
-use Rattle.reencode_laws.proofs.Shorter.{leb_shorter}
+use Rattle.wasm_write.proofs.Shorter.{leb_shorter}
 
 count-written_at : (w : Listed) (n : ℕ) (o t : Tree) → count (written_at w n o t) ≡ 0
 count-written_at w zero o t = refl

@@ -21,7 +21,7 @@ use Rattle.wasm_write.specs.declared.fault.WriteFault.TheVariants.{TooLarge, NoM
 use Rattle.wasm_write.specs.Counts.{counts, IsTooLarge}
 use Rattle.wasm_write.specs.Faults.{IfTooLarge}
 use Rattle.wasm_write.specs.Instructions.{Parts, imms_tree, instruction_tree}
-use Rattle.wasm_write.specs.Bodies.{AreOperators, Body, local_tree, with_operator, with_operators, function_body, code_tree, IsBody, HeldBody, HeldBody-one, held_body, HeldOperators, HeldOperators-one, held_operators}
+use Rattle.wasm_write.specs.Bodies.{AreOperators, Body, CodeRows, GainsBody, code_rows_code, with_row, local_tree, with_operator, with_operators, function_body, code_tree, IsBody, HeldBody, HeldBody-one, held_body, HeldOperators, HeldOperators-one, held_operators}
 use Rattle.wasm_write.proofs.Holding.{snoc_is, snoc_spelled, snoc_normal, are_none, are_many_more}
 use Rattle.wasm_write.proofs.SmallCounts.{counts_small, last_is_large}
 use Rattle.wasm_write.proofs.TypeShapes.{items_are, value_is}
@@ -144,6 +144,29 @@ module _ {bytes : List ℕ} (h : HeldBody bytes) where
 
 -- ---- a code section
 
+-- the function that these bytes spell
+pub body_is : {bytes : List ℕ} (h : HeldBody bytes) (f : Body) → IsBody bytes f → held_body bytes h ≡ f
+unfolding held_body
+body_is {bytes = bytes} h f p = HeldBody-one bytes h (f, ∣ p ∣₁)
+
+-- what a function holds
+pub body_held : {bytes : List ℕ} (f : Body) → bytes ≡ normal (function_body f) → ∥ Spells body_shape (normal (function_body f)) (function_body f) ∥₁ → HeldBody bytes
+body_held f e p = (f, ∥∥₁_map p (λ q. rw e (record { shaped = q.shaped; spelled = q.spelled; normally = refl })))
+
+-- a section gains that row
+pub gains_row : {bytes : List ℕ} (h : HeldBody bytes) (old new : CodeRows) → new ≡ with_row old (code_tree (held_body bytes h)) → GainsBody old bytes new
+gains_row h old new e f p = e ∙ ap (λ (g : Body). with_row old (code_tree g)) (body_is h f p)
+
+pub gained_row : {bytes : List ℕ} (f : Body) (old new : CodeRows) → bytes ≡ normal (function_body f) → ∥ Spells body_shape (normal (function_body f)) (function_body f) ∥₁ → GainsBody old bytes new →
+    new ≡ with_row old (code_tree f)
+unfolding body_held
+gained_row f old new e p gains =
+    ∥∥₁_elim (body_held f e p).1 (Coded-set code_rows_code new (with_row old (code_tree f))) (λ b. gains f b)
+
+-- its spelling
+pub row_normal : {bytes : List ℕ} (h : HeldBody bytes) → normal (code_tree (held_body bytes h)) ≡ leb (length bytes) ++ bytes
+row_normal h = ap (λ (z : List ℕ). leb (length z) ++ z) (body_normal h)
+
 -- a function in its frame
 pub framed_spells : (f : Body) → length (normal (function_body f)) < 2 ^ 32 → ∥ Spells body_shape (normal (function_body f)) (function_body f) ∥₁ →
     ∥ Spells code_row (normal (code_tree f)) (code_tree f) ∥₁
@@ -155,16 +178,14 @@ framed_spells f small p =
     })
 
 -- a function that fits is refused for the number of the rows alone
-pub code_large : {A : Type 0} (r : Result A WriteFault) (f : Body) (ceiling n : ℕ) →
-    ∥ Spells body_shape (normal (function_body f)) (function_body f) ∥₁ → length (normal (function_body f)) ≤ ceiling →
-    IfErr r (λ e. IfTooLarge e (IsTooLarge (counts (code_tree f) ++ n ∷ []))) →
-    IfErr r (λ e. IfTooLarge e (λ size. ((size ≡ length (normal (function_body f))) × (ceiling < size))
-    ⊎ ((size ≡ n) × (2 ^ 32 - 1 < size) × (length (normal (function_body f)) ≤ ceiling))))
-code_large (Ok a) f ceiling n p fits q = tt
-code_large (Err NoMemory) f ceiling n p fits q = tt
-code_large (Err (TooLarge size)) f ceiling n p fits q =
-    let body = function_body f in
-    let ranged = in_range_had body (∥∥₁_map p (λ s. spelled_in_range body (normal body) s.spelled)) in
+pub code_large : {A : Type 0} {bytes : List ℕ} (r : Result A WriteFault) (h : HeldBody bytes) (ceiling n : ℕ) → length bytes ≤ ceiling →
+    IfErr r (λ e. IfTooLarge e (IsTooLarge (counts (code_tree (held_body bytes h)) ++ n ∷ []))) →
+    IfErr r (λ e. IfTooLarge e (λ size. ((size ≡ length bytes) × (ceiling < size)) ⊎ ((size ≡ n) × (2 ^ 32 - 1 < size) × (length bytes ≤ ceiling))))
+code_large (Ok a) h ceiling n fits q = tt
+code_large (Err NoMemory) h ceiling n fits q = tt
+code_large {bytes = bytes} (Err (TooLarge size)) h ceiling n fits q =
+    let body = function_body (held_body bytes h) in
+    let ranged = in_range_had body (∥∥₁_map (body_spells h) (λ s. spelled_in_range body (normal body) s.spelled)) in
     let last = last_is_large (counts body) n size (counts_small body ranged) q in
     inr (last.0, last.1, fits)
 

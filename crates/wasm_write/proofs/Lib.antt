@@ -15,3 +15,5 @@ pub mod SmallCounts
 pub mod InitRows
 pub mod DataRows
 pub mod NameRows
+pub mod Shorter
+pub mod FramesFound

@@ -118,6 +118,10 @@ code_rows_code = code_by (ℕ × List Tree) (coded× coded_ℕ trees_code) (λ s
 abbrev pub with_row : CodeRows → Tree → CodeRows
 with_row s t = record s { rows = s.rows ++ t ∷ [] }
 
+-- the second section has the row more whose function these bytes spell
+abbrev pub GainsBody : CodeRows → List ℕ → CodeRows → Type 0
+GainsBody old bytes new = (f : Body) → IsBody bytes f → new ≡ with_row old (code_tree f)
+
 -- ---- a constant expression
 
 pub expression_sound : sound (Shape.many (Shape.op false)) ≡ true

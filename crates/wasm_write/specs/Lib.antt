@@ -1,6 +1,7 @@
 pub mod Bodies
 pub mod Counts
 pub mod Faults
+pub mod Frames
 pub mod Held
 pub mod Instructions
 pub mod Names

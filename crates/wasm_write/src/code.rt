@@ -1,5 +1,5 @@
 //! Code sections.
-ghost use Rattle.std.specs.Prelude.{◌≡◌, ◌++◌, ◌+◌, ◌-◌, ◌^◌, ◌<◌, ◌≤◌, ◌⊎◌, [], length, take, vec_len, OnOk, OnErr, IfErr};
+ghost use Rattle.std.specs.Prelude.{◌≡◌, ◌++◌, ◌+◌, ◌-◌, ◌^◌, ◌<◌, ◌≤◌, ◌⊎◌, [], length, take, vec_len, OnOk, OnErr, IfErr, IfSome, IfNone};
 ghost use Rattle.std.proofs.Common.{lit≤};
 ghost use Rattle.wasm_shapes.specs.Tree.{normal};
 ghost use Rattle.wasm_shapes.specs.Types.{rows_tree, vector_tree};
@@ -8,11 +8,13 @@ ghost use Rattle.wasm_shapes.specs.Spells.{Spells};
 ghost use Rattle.wasm_shapes.specs.Module.{code_row};
 ghost use Rattle.wasm_write.specs.Faults.{IfTooLarge};
 ghost use Rattle.wasm_write.specs.Held.{BodySpells};
-ghost use Rattle.wasm_write.specs.Bodies.{code_tree, function_body, with_row};
+ghost use Rattle.wasm_write.specs.Bodies.{GainsBody, HeldBody, HeldBody-prop, code_tree, function_body, held_body, with_row};
+ghost use Rattle.wasm_write.specs.Frames.{IsBodyOf};
 
 use crate::bodies::Function;
 use crate::fault::WriteFault;
 use crate::fields::write_behind;
+use crate::frames::frame_at;
 use crate::module::Module;
 use crate::row_section::{RowOf, RowSection};
 use crate::section::Section;
@@ -41,20 +43,19 @@ impl Model for CodeSection {
     ghost view = { λ s. record { ceiling = s.ceiling; rows = s.rows } };
 }
 
-/// A function whose locals and operators have a length that can be written.
+/// The normal spelling of a function, of a length that can be written.
 #[derive(Drop)]
 struct Framed<'a> {
-    function: &'a Function,
-    ghost short: { length (normal (function_body function.now)) < 2 ^ 32 },
+    body: &'a [u8],
+    ghost held: { HeldBody body.now } by { HeldBody-prop body.now },
+    ghost short: { length body.now < 2 ^ 32 },
 }
 
 impl<'a> RowOf<kinds::Code> for Framed<'a> {
-    ghost tree = { λ row. code_tree row.function.now };
+    ghost tree = { λ row. code_tree (held_body row.body.now row.held) };
 
-    #[tactic(auto, using(crate::proofs::HoldingBodies::framed_spells))]
     fn write(&self, out: &mut Vec<u8>) -> Result<(), WriteFault> {
-        let body = self.function.as_bytes();
-        match write_behind(out, body.len() as u32, body) {
+        match write_behind(out, self.body.len() as u32, self.body) {
             Ok(()) => Ok(()),
             Err(NoMemory) => Err(WriteFault::NoMemory),
         }
@@ -113,6 +114,17 @@ impl CodeSection {
         self.rows.as_slice()
     }
 
+    /// The bytes of a row without its size, by its number, counted from 0. None exactly where there is no such row.
+    pub fn body(&self, i: usize) -> Option<&[u8]>
+        ensures some { IfSome result (λ body. IsBodyOf self.now.rows i body.now) }
+        ensures none { IfNone result (length self.now.rows ≤ i) }
+    {
+        match frame_at(self.as_slice(), 0, i) {
+            Some((_, body)) => Some(body),
+            None => None,
+        }
+    }
+
     /// Its rows, as a section that `Module::take` takes.
     pub fn into_rows(self) -> RowSection<kinds::Code>
         ensures { result ≡ self.rows }
@@ -134,11 +146,26 @@ impl CodeSection {
             ⊎ ((size ≡ length self.old.rows + 1) × (2 ^ 32 - 1 < size)
             × (length (normal (function_body f.now)) ≤ self.old.ceiling)))) }
     {
-        let size = f.as_bytes().len() as u64;
+        self.spelled(f.as_bytes())
+    }
+
+    /// Adds the function whose normal spelling these bytes are, as `function` does.
+    pub fn spelled(&mut self, body: &[u8]) -> Result<(), WriteFault>
+        requires { HeldBody body.now }
+        ensures ok { OnOk result (GainsBody self.old body.now self.new) }
+        ensures fits { OnOk result ((length body.now ≤ self.old.ceiling)
+            × (length self.old.rows + 1 < 2 ^ 32)) }
+        ensures err { OnErr result (self.new ≡ self.old) }
+        ensures large { IfErr result (λ e. IfTooLarge e (λ size.
+            ((size ≡ length body.now) × (self.old.ceiling < size))
+            ⊎ ((size ≡ length self.old.rows + 1) × (2 ^ 32 - 1 < size)
+            × (length body.now ≤ self.old.ceiling)))) }
+    {
+        let size = body.len() as u64;
         if size > u64::from(self.ceiling) {
             return Err(WriteFault::TooLarge { size });
         }
-        self.rows.add(&Framed { function: f })
+        self.rows.add(&Framed { body })
     }
 }
 

@@ -8,6 +8,7 @@ mod expressions;
 mod externals;
 mod fault;
 mod fields;
+mod frames;
 mod groups;
 mod immediates;
 mod instructions;

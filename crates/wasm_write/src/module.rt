@@ -1,5 +1,5 @@
 //! A core module under construction.
-ghost use Rattle.std.specs.Prelude.{◌≡◌, ◌++◌, ◌∷◌, ◌<◌, ◌≤◌, [], length, map, take, slice_range, vec_len, OnOk, OnErr, IfOk, IfErr};
+ghost use Rattle.std.specs.Prelude.{◌≡◌, ◌++◌, ◌∷◌, ◌<◌, ◌≤◌, [], length, map, take, slice_get, slice_range, vec_len, OnOk, OnErr, IfOk, IfErr, IfSome, IfNone, Some};
 ghost use Rattle.std.specs.List.{remove_range};
 ghost use Rattle.wasm_leb.specs.Leb.{leb};
 ghost use Rattle.wasm_shapes.specs.Tree.{normal};
@@ -9,6 +9,7 @@ ghost use Rattle.wasm_write.specs.Held.{AreHeld};
 ghost use Rattle.wasm_write.specs.Sections.{section_row, with_section, section_bytes, sections_bytes, module_bytes, framed, framed_tree, HeldSections, HeldSections-prop};
 
 use crate::fault::WriteFault;
+use crate::frames::frame_at;
 use crate::row_section::{RowSection, behind};
 use crate::section::Section;
 use std::alloc::Global;
@@ -144,6 +145,18 @@ impl Module {
             (map framed_tree self.now.sections) ∥₁ }
     {
         behind(&self.bytes, 8)
+    }
+
+    /// The id and the body of a section, by its number, counted from 0. None exactly where there is no such section.
+    pub fn section_at(&self, i: usize) -> Option<(u8, &[u8])>
+        ensures some { IfSome result (λ s.
+            slice_get self.now.sections i ≡ Some (section_row s.0 s.1.now)) }
+        ensures none { IfNone result (length self.now.sections ≤ i) }
+    {
+        match frame_at(self.sections_as_slice(), 1, i) {
+            Some((head, body)) => Some((head[0], body)),
+            None => None,
+        }
     }
 
     /// The header and the sections. It takes no memory.

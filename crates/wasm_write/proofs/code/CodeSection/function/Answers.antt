@@ -1,8 +1,9 @@
-use Rattle.std.proofs.Common.{◌+◌, length, ap, arith}
-use Rattle.wasm_write.proofs.HoldingBodies.{code_large}
+use Rattle.wasm_write.proofs.Holding.{OnOk-map}
+use Rattle.wasm_write.proofs.HoldingBodies.{body_held, gained_row}
 use Rattle.wasm_write.proofs.code.CodeSection.function.Goals as goal
 
-pub returns-clause-large : goal.returns-clause-large
-returns-clause-large c =
-    rw (← c.self.view_is) (code_large c.add.result c.args.f.now c.self.inside.ceiling (length c.self.inside.rows + 1) c.as_bytes.ensures.spells
-    (omega (arith, ap length c.as_bytes.ensures.value)) c.add.ensures.large)
+pub spelled-requires : goal.spelled-requires
+spelled-requires c = body_held c.args.f.now c.as_bytes.ensures.value c.as_bytes.ensures.spells
+
+pub returns-clause-ok : goal.returns-clause-ok
+returns-clause-ok c = OnOk-map c.spelled.result c.spelled.ensures.ok (gained_row c.args.f.now _ _ c.as_bytes.ensures.value c.as_bytes.ensures.spells)
