@@ -32,7 +32,7 @@ free_is false false at s i f h = h
 pub refuses_call-given : (calls at : ℕ) (v : Visit) → IsInRange v → IsAnswer v (refuses_call calls at v)
 refuses_call-given calls at (Index s i) h = free_is (is_of_components s) (nat_eq (next_call calls) at) at s i refl h
 refuses_call-given calls at (Section after before) h =
-    elim nat_eq (next_call calls) at as (λ due. IsAnswer (Section after before) (unless_due due at 0)) [ true ↦ tt | false ↦ refl ]
+    elim (nat_eq (next_call calls) at) as (λ due. IsAnswer (Section after before) (unless_due due at 0)) [ true ↦ tt | false ↦ refl ]
 refuses_call-given calls at (Outer s c i) h = h.1
 refuses_call-given calls at Push h = refl
 refuses_call-given calls at Pop h = refl

@@ -4,7 +4,8 @@ use reencode_core::reencode_core;
 use reencode_hooks::{Chain, ChainError, Error, Renamer, RoundtripReencoder, Unmapped};
 use reencode_laws::{
     chain_is_both, chain_refuses, chained_walks, filled_keeps_leaves, filled_keeps_parts,
-    filled_twice, own_answers, own_is_normal, own_is_not_longer, section_visits_are,
+    filled_twice, own_answers, own_is_normal, own_is_not_longer, scopes_are_bracketed,
+    section_visits_are,
 };
 use std::alloc::Global;
 use wasm_leb::NoMemory;
@@ -103,5 +104,6 @@ fn tables_left_out(rt: HostRuntime) -> Result<(), NoMemory> {
     filled_keeps_leaves();
     filled_twice();
     section_visits_are();
+    scopes_are_bracketed();
     Ok(())
 }

@@ -34,9 +34,12 @@ use wasm_write as w;
 /// What a re-encoder does with each section of a core module.
 ///
 /// The clauses `default` and `after_error` of each method hold where the reencoder keeps the defaults. `after_error` says
-/// that, where it is sure too, every error leaves the state after a front part of the visits of what was to be read, want
-/// of memory too. `start_section` takes no memory, and has `sure` in its place: memory is never wanting where no hook wants
-/// any.
+/// that every error leaves the state after the visits that were made. Of what has a reading these are a front part of its
+/// visits; of bytes without one, a front part of the visits of what stands before the fault, or all of these and then some
+/// that are drawn from the bytes from there on. After want of memory it wants a reencoder that is sure, and of
+/// `parse_core_module`, after a size that is too large, one that adds nothing; of a method that is handed a row it speaks
+/// of sure reencoders alone. `start_section` takes no memory, and has `sure` in its place: memory is never wanting where no
+/// hook wants any.
 pub trait Reencode: ReencodeItems {
     /// Maps the rows that the reader still has, each by `parse_recursive_type_group`, and adds each row once it is mapped.
     fn parse_type_section(

@@ -21,7 +21,7 @@ drop_nothing : (n : ℕ) → drop {A = ℕ} n [] ≡ []
 drop_nothing zero = refl
 drop_nothing (suc n) = refl
 
-drop_one_more : (n : ℕ) (a : List ℕ) → drop n (drop 1 a) ≡ drop (suc n) a
+pub drop_one_more : (n : ℕ) (a : List ℕ) → drop n (drop 1 a) ≡ drop (suc n) a
 drop_one_more n [] = drop_nothing n
 drop_one_more n (x ∷ a) = refl
 
@@ -36,7 +36,7 @@ before-again l (Tree.row k t) a = before-again l t a
 before-again l (Tree.told k t) a = refl
 before-again l _ a = refl
 
-length-before : (t : Tree) (l m : Option SectionId) → length (before l t) ≡ length (before m t)
+pub length-before : (t : Tree) (l m : Option SectionId) → length (before l t) ≡ length (before m t)
 length-before (Tree.row k t) l m = length-before t l m
 length-before _ l m = refl
 
@@ -50,7 +50,7 @@ kind-aimed_at : (l : Option SectionId) (w : Listed) (n : ℕ) (o t : Tree) → k
 kind-aimed_at l w zero o t = refl
 kind-aimed_at l w (suc n) o t = refl
 
-before-fill : (l : Option SectionId) (t : Tree) (a : List ℕ) → before l (fill t a) ≡ before l t
+pub before-fill : (l : Option SectionId) (t : Tree) (a : List ℕ) → before l (fill t a) ≡ before l t
 before-fill l (Tree.row k t) a = before-fill l t a
 before-fill l (Tree.left w o t) a = before-aimed_at l w (get_or (after t a) 0 0) (fill o (drop 1 (after t a))) (fill t a)
 before-fill l _ a = refl

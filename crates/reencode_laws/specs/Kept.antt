@@ -1,11 +1,43 @@
 -- What a filled tree has of the tree.
-use Rattle.std.specs.Prelude.{◌≡◌, ◌⊎◌, ◌++◌, ◌∷◌, ℕ, List, [], filter_map, Option, Some, None}
+use Rattle.std.specs.Prelude.{◌≡◌, ◌⊎◌, ◌++◌, ◌∷◌, ◌+◌, ◌||◌, ℕ, zero, suc, nat_eq, if◌then◌else◌, List, [], length, drop, get_or, map, filter_map, Option, Some, None}
 use Rattle.std.specs.List.{AllZip}
 use Rattle.wasm_shapes.specs.declared.SectionId.{SectionId}
 use Rattle.wasm_shapes.specs.declared.Space.{Space}
 use Rattle.wasm_shapes.specs.declared.Space.TheVariants as space
+use Rattle.wasm_shapes.specs.declared.Visit.{Visit}
 use Rattle.wasm_shapes.specs.Operators.{Code}
-use Rattle.wasm_shapes.specs.Tree.{Tree, Listed, count, kind, fill, left_flag, aimed_flag}
+use Rattle.wasm_shapes.specs.Tree.{Tree, Listed, count, kind, before, visits, fill, typed, left_flag, aimed_flag}
+
+-- ---- a tree without its indices
+
+-- The tree with 0 for each index that is asked, in its own space and spelling, and with each left-out table written as 0. All else
+-- stands in it, and where it stands: which sections, rows and operators there are, in which component, and how many items.
+abbrev pub erased : Tree → Tree
+erased (Tree.ix s i) = Tree.ix s 0
+erased (Tree.sx s i) = Tree.sx s 0
+erased (Tree.outer s c i) = Tree.outer s c 0
+erased (Tree.mem a i o) = Tree.mem a 0 o
+erased (Tree.pair t u) = Tree.pair (erased t) (erased u)
+erased (Tree.swap t u) = Tree.swap (erased t) (erased u)
+erased (Tree.cons t u) = Tree.cons (erased t) (erased u)
+erased (Tree.vec t) = Tree.vec (erased t)
+erased (Tree.present t) = Tree.present (erased t)
+erased (Tree.sized t) = Tree.sized (erased t)
+erased (Tree.row k t) = Tree.row k (erased t)
+erased (Tree.scope t) = Tree.scope (erased t)
+erased (Tree.spare b t) = Tree.spare b (erased t)
+erased (Tree.kept b t) = Tree.kept b (erased t)
+erased (Tree.final t u) = Tree.final (erased t) (erased u)
+erased (Tree.until b t) = Tree.until b (erased t)
+erased (Tree.op c t) = Tree.op c (erased t)
+erased (Tree.left w o t) = Tree.aimed w 0 (erased o) (typed w (erased t))
+erased (Tree.aimed w i o t) = Tree.aimed w 0 (erased o) (erased t)
+erased (Tree.placed i o t) = Tree.placed 0 (erased o) (erased t)
+erased (Tree.told k t) = Tree.told k (erased t)
+erased (Tree.also t u) = Tree.also (erased t) (erased u)
+erased t = t
+
+-- ---- its parts, as lists
 
 -- What stands in a tree, but for the indices that are asked and the flags of segments.
 pub data Part : Type 0 where
@@ -85,7 +117,8 @@ abbrev pub space_of : Part → Option Space
 space_of (Part.index s) = Some s
 space_of _ = None
 
--- the kinds of the sections, in order
+-- The kinds of the sections of core modules, in order: none where the section hook is not told of one. The sections of components
+-- are rows.
 abbrev pub sections_in : Tree → List (Option SectionId)
 sections_in t = filter_map section_of (parts t)
 
@@ -136,11 +169,55 @@ flags_in _ = []
 abbrev pub BecomesFlag : ℕ → ℕ → Type 0
 BecomesFlag n m = (m ≡ n) ⊎ ((n ≡ 0) × (m ≡ 2)) ⊎ ((n ≡ 4) × (m ≡ 6))
 
+-- For each visit of a tree, in order: the flag of the active element segment whose table it asks, or none where it asks no such table.
+abbrev pub flags_asked : Tree → List (Option ℕ)
+flags_asked (Tree.ix s i) = None ∷ []
+flags_asked (Tree.sx s i) = None ∷ []
+flags_asked (Tree.outer s c i) = None ∷ []
+flags_asked (Tree.mem a i o) = None ∷ []
+flags_asked (Tree.pair t u) = flags_asked t ++ flags_asked u
+flags_asked (Tree.swap t u) = flags_asked u ++ flags_asked t
+flags_asked (Tree.cons t u) = flags_asked t ++ flags_asked u
+flags_asked (Tree.vec t) = flags_asked t
+flags_asked (Tree.present t) = flags_asked t
+flags_asked (Tree.sized t) = flags_asked t
+flags_asked (Tree.row k t) = flags_asked t
+flags_asked (Tree.scope t) = None ∷ flags_asked t ++ (None ∷ [])
+flags_asked (Tree.spare b t) = flags_asked t
+flags_asked (Tree.kept b t) = flags_asked t
+flags_asked (Tree.final t u) = flags_asked t ++ flags_asked u
+flags_asked (Tree.until b t) = flags_asked t
+flags_asked (Tree.op c t) = flags_asked t
+flags_asked (Tree.left w o t) = flags_asked t ++ (Some (left_flag w) ∷ flags_asked o)
+flags_asked (Tree.aimed w i o t) = flags_asked t ++ (Some (aimed_flag w) ∷ flags_asked o)
+flags_asked (Tree.placed i o t) = None ∷ (flags_asked o ++ flags_asked t)
+flags_asked (Tree.told k t) = flags_asked t
+flags_asked Tree.finish = None ∷ []
+flags_asked (Tree.also t u) = map (λ (v : Visit). None) (before None t) ++ (flags_asked t ++ flags_asked u)
+flags_asked _ = []
+
+-- what a flag becomes by the answer to the visit of its table: 0 and 4, which leave the table out, become 2 and 6 where this is not 0
+abbrev pub flag_by : ℕ → ℕ → ℕ
+flag_by flag zero = flag
+flag_by flag (suc n) = if nat_eq flag 0 || nat_eq flag 4 then flag + 2 else flag
+
+-- the same of the flags of some visits, each by the answer to its visit
+abbrev pub flags_by : List (Option ℕ) → List ℕ → List (Option ℕ)
+flags_by [] answers = []
+flags_by (None ∷ fs) answers = None ∷ flags_by fs (drop 1 answers)
+flags_by (Some f ∷ fs) answers = Some (flag_by f (get_or answers 0 0)) ∷ flags_by fs (drop 1 answers)
+
 -- ---- the laws
 
--- Whatever the answers, a filled tree has the parts of the tree, in their order: but for the indices that are asked, and for the
--- flags of element segments, nothing changes.
+-- Whatever the answers, a filled tree is the tree but for the indices that are asked and for the flags of active element segments.
 pub record KeepsParts : Type 0 where
+  -- Without the indices, and with the tables written that are left out, both are the same tree;
+  pub erases : (t : Tree) (answers : List ℕ) → erased (fill t answers) ≡ erased t
+  -- and a flag becomes 2 from 0 or 6 from 4 exactly where its table was left out, and the answer to the visit of it is not 0.
+  pub flags_become : (t : Tree) (answers : List ℕ) → flags_asked (fill t answers) ≡ flags_by (flags_asked t) answers
+  pub flags_each : (t : Tree) → length (flags_asked t) ≡ length (visits t)
+  -- So the lists of parts stay, which are those of the erased tree too.
+  pub erased_parts : (t : Tree) → parts (erased t) ≡ parts t
   pub all : (t : Tree) (answers : List ℕ) → parts (fill t answers) ≡ parts t
   pub sections : (t : Tree) (answers : List ℕ) → sections_in (fill t answers) ≡ sections_in t
   pub rows : (t : Tree) (answers : List ℕ) → rows_in (fill t answers) ≡ rows_in t

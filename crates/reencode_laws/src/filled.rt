@@ -2,8 +2,9 @@
 ghost use Rattle.reencode_laws.specs.Chained.{FilledTwice};
 ghost use Rattle.reencode_laws.specs.Kept.{KeepsLeaves, KeepsParts};
 
-/// Whatever the answers, filling keeps the kind, the number and the order of all sections, rows and operators. The flag of an element
-/// segment changes alone where its table is written that was left out.
+/// Whatever the answers, filling keeps the kind, the number and the order of all sections, rows and operators, and in which component
+/// each stands: the whole tree but for its indices. The flag of an element segment changes exactly where its table was left out and
+/// the answer to the visit of it is not 0: then the table is written.
 #[tactic(auto, using(crate::proofs::Kept::keeps_parts))]
 pub fn filled_keeps_parts()
     ensures { KeepsParts }

@@ -10,4 +10,4 @@ mod visited;
 pub use chained::{chain_is_both, chain_refuses, chained_walks};
 pub use filled::{filled_keeps_leaves, filled_keeps_parts, filled_twice};
 pub use own::{own_answers, own_is_normal, own_is_not_longer};
-pub use visited::section_visits_are;
+pub use visited::{scopes_are_bracketed, section_visits_are};

@@ -1,13 +1,13 @@
 //! Laws of re-encoding with no index renamed.
 ghost use Rattle.reencode_hooks.specs.Run.{ask};
-ghost use Rattle.reencode_laws.specs.Own.{OwnAnswers, OwnIsNormal, OwnIsNotLonger};
+ghost use Rattle.reencode_laws.specs.Own.{NothingRenamed, OwnIsNormal, OwnIsNotLonger};
 
 use reencode_hooks::{ReencodeIndices, RoundtripReencoder};
 
 /// `RoundtripReencoder` answers each visit by the index that it asks, and the tree filled with these is the tree. The normal spelling
-/// of a reading that fits is read as it alone, so `RoundtripReencoder` gives its own output again.
+/// of a reading that fits is read as it alone, of a component at the same depth, so `RoundtripReencoder` gives its own output again.
 pub fn own_answers(_reencoder: &RoundtripReencoder)
-    ensures { OwnAnswers (ask ⟦<RoundtripReencoder as ReencodeIndices>⟧.reply
+    ensures { NothingRenamed (ask ⟦<RoundtripReencoder as ReencodeIndices>⟧.reply
         ⟦<RoundtripReencoder as ReencodeIndices>⟧.next) }
 {}
 

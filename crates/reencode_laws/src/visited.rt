@@ -1,4 +1,5 @@
 //! Laws of what is visited.
+ghost use Rattle.wasm_shapes.specs.Scopes.{AreBracketed};
 ghost use Rattle.reencode_laws.specs.SectionVisits.{SectionVisitsAre};
 
 /// In a reading of a core module with n sections of the ids 1 to 13 the section hook is asked n + 1 times: before each of these,
@@ -6,4 +7,11 @@ ghost use Rattle.reencode_laws.specs.SectionVisits.{SectionVisitsAre};
 #[tactic(auto, using(crate::proofs::SectionVisits::section_visits_are))]
 pub fn section_visits_are()
     ensures { SectionVisitsAre }
+{}
+
+/// Each nested scope is opened once before its own visits and closed once behind them, and the outermost module or component is
+/// neither opened nor closed.
+#[tactic(auto, using(wasm_shapes::proofs::Scopes::bracketed))]
+pub fn scopes_are_bracketed()
+    ensures { AreBracketed }
 {}

@@ -1,9 +1,16 @@
 //! The kinds of rows of components, and of their sections whose body is a vector of these.
-ghost use Rattle.std.specs.Prelude.{refl};
+ghost use Rattle.std.specs.Prelude.{◌≡◌, refl};
 ghost use Rattle.std.proofs.Common.{lit≤};
-ghost use Rattle.wasm_shapes.specs.Component.{alias, canonical_function, component_declaration, component_export_row, component_instance_row, component_type, core_type, extern_row, instance_declaration, instance_row, module_declaration};
+ghost use Rattle.wasm_shapes.specs.Shape.{Shape};
+ghost use Rattle.wasm_shapes.specs.Component.{alias, canonical_function, component_body_of, component_declaration, component_export_row, component_instance_row, component_type, core_type, extern_row, instance_declaration, instance_row, module_declaration};
 
 use crate::kinds::{RowKind, SectionKind};
+
+/// A kind of sections of components.
+pub trait ComponentSectionKind: SectionKind {
+    // The body of a section of its id is a vector of its rows.
+    ghost is_body: { component_body_of Self.SectionKind.ID ≡ Shape.vec Self.SectionKind.shape };
+}
 
 /// A section of core instances.
 pub struct Instances;
@@ -24,6 +31,10 @@ impl SectionKind for Instances {
     const ID: u8 = 2;
 
     ghost small = { lit≤ tt };
+}
+
+impl ComponentSectionKind for Instances {
+    ghost is_body = { refl };
 }
 
 /// A section of core types.
@@ -47,6 +58,10 @@ impl SectionKind for CoreTypes {
     ghost small = { lit≤ tt };
 }
 
+impl ComponentSectionKind for CoreTypes {
+    ghost is_body = { refl };
+}
+
 /// A section of instances.
 pub struct ComponentInstances;
 
@@ -66,6 +81,10 @@ impl SectionKind for ComponentInstances {
     const ID: u8 = 5;
 
     ghost small = { lit≤ tt };
+}
+
+impl ComponentSectionKind for ComponentInstances {
+    ghost is_body = { refl };
 }
 
 /// A section of aliases.
@@ -89,6 +108,10 @@ impl SectionKind for Aliases {
     ghost small = { lit≤ tt };
 }
 
+impl ComponentSectionKind for Aliases {
+    ghost is_body = { refl };
+}
+
 /// A section of types.
 pub struct ComponentTypes;
 
@@ -108,6 +131,10 @@ impl SectionKind for ComponentTypes {
     const ID: u8 = 7;
 
     ghost small = { lit≤ tt };
+}
+
+impl ComponentSectionKind for ComponentTypes {
+    ghost is_body = { refl };
 }
 
 /// A section of canonical functions.
@@ -131,6 +158,10 @@ impl SectionKind for CanonicalFunctions {
     ghost small = { lit≤ tt };
 }
 
+impl ComponentSectionKind for CanonicalFunctions {
+    ghost is_body = { refl };
+}
+
 /// A section of imports.
 pub struct ComponentImports;
 
@@ -152,6 +183,10 @@ impl SectionKind for ComponentImports {
     ghost small = { lit≤ tt };
 }
 
+impl ComponentSectionKind for ComponentImports {
+    ghost is_body = { refl };
+}
+
 /// A section of exports.
 pub struct ComponentExports;
 
@@ -171,6 +206,10 @@ impl SectionKind for ComponentExports {
     const ID: u8 = 11;
 
     ghost small = { lit≤ tt };
+}
+
+impl ComponentSectionKind for ComponentExports {
+    ghost is_body = { refl };
 }
 
 /// The declarations of a module type.

@@ -1,6 +1,6 @@
 //! The laws of components, as functions that do nothing: each one's contract is the law.
 ghost use Rattle.wasm_shapes.specs.ComponentLaws.{AreComponentsSound, AreNested, AreOneReading, IsAsDeep, IsComponentHeaded, IsReadBackAt};
-ghost use Rattle.wasm_shapes.specs.Scopes.{AreBracketed, AreDeepest};
+ghost use Rattle.wasm_shapes.specs.Scopes.{AreDeepest};
 
 /// The tables of components pass the test.
 #[tactic(auto, using(crate::proofs::ComponentLaws::components_sound))]
@@ -36,12 +36,6 @@ pub fn component_reads_back()
 #[tactic(auto, using(crate::proofs::ComponentLaws::as_deep))]
 pub fn answers_open_no_scope()
     ensures { IsAsDeep }
-{}
-
-/// Each scope of a tree is opened once before its own visits and closed once behind them.
-#[tactic(auto, using(crate::proofs::Scopes::bracketed))]
-pub fn scopes_are_bracketed()
-    ensures { AreBracketed }
 {}
 
 /// As many scopes are open at once as the tree opens within each other.

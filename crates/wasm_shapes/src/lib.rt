@@ -10,7 +10,7 @@ mod spelling;
 
 pub use components::{
     answers_open_no_scope, bytes_have_one_reading, component_header_spells, component_reads_back,
-    components_are_sound, nested_readings, opens_is_deepest, scopes_are_bracketed,
+    components_are_sound, nested_readings, opens_is_deepest,
 };
 pub use operators::{
     BLOCK, BR, CALL, CALL_INDIRECT, DROP, END, GLOBAL_GET, I32_ADD, I32_CONST, I32_LOAD, LOCAL_GET,
