@@ -31,6 +31,7 @@ use Rattle.reencode_hooks.specs.Hooks.{KeepsAdds, RepliesSection, Gains}
 use Rattle.reencode_hooks.proofs.Walks.{walk_is_run}
 use Rattle.reencode_core.specs.Leaves.{CoreUpTo, EndsBy, IsFront, IsSize, Leaves, LeavesCore, MadeUpTo, TellsFault, module_in}
 use Rattle.reencode_core.specs.Errors.{IfParse, IfRefused, placed_at}
+use Rattle.reencode_core.specs.Holds.{FrameLeaves, HoldsSections}
 use Rattle.reencode_core.specs.Rows.{Asks}
 use Rattle.reencode_core.specs.Core.{hooked, onto, AcceptsSections, RefusedIn, StopsThere, BeforeFault, IsCause}
 use Rattle.reencode_core.specs.Weave.{Puts, added, kind_after, put_before, woven_one, weave, weave_from}
@@ -149,13 +150,6 @@ section_here {f = f} {t = t} i there =
     let same : one.text ≡ there.text = sym (one.reads ∙ append-nil one.text) in
     let P : List ℕ → Type 0 = λ z. Spells section z t in
     (record { text = there.text; spells = subst P same one.spells; reads = there.reads }, in_frame_drawn i whole)
-
--- A section in a frame was asked in part: these visits were made, drawn from these bytes, and of each reading of it they are a front part.
-pub record FrameLeaves {S E : Type 0} (asked : Asks S E) (bytes : List ℕ) (f : Tree) (s : S) (e : Error E) (m : S) : Type 0 where
-  pub made : List Visit
-  pub ended : EndsBy asked s made e m
-  pub drawn : Drawn bytes made
-  pub reading : (t : Tree) → InFrame t f → IsFront made (visits t)
 
 -- ---- the spelling of sections
 
@@ -645,6 +639,28 @@ module _ {S E : Type 0} (asked : Asks S E) (adds : Puts S SectionRow) where
         go (TooLarge x) g = refuses (TooLarge x) tt g
         go NoMemory g = refuses NoMemory tt g
         go _ g = absurd g.unreadable
+
+    -- where memory is wanting in a section, all that the hook added before it stands, and nothing of the section
+    pub section_held : {Stops : ℕ → Error E → S → Type 0} {f : Tree} {left : List ℕ} {now : Option SectionId} {n s' : S} {mid new' : Sections} → Reached asked Stops f rest left last now s n →
+        Put asked adds f last s n new mid → new' ≡ mid → FrameLeaves asked rest f n NoMemory s' → HoldsSections asked adds old.ceiling bytes (s0, old) (s', new')
+    section_held {f = f} {left = left} {n = n} {new' = new'} reached put unchanged inside = record {
+      front = front;
+      parts = λ t r. go t (read_ahead t r);
+      rows = d.rows;
+      own = put.own;
+      next = f;
+      left = left;
+      state = n;
+      framed = reached.framed;
+      hooked = put.before;
+      spelled = d.spelled ∙ sym (normal-alsos d.woven);
+      gains = let P : Sections → Type 0 = λ z. Gains new z put.own in gains_both old new new' d.rows put.own d.gains (subst P (sym unchanged) put.gains);
+      inside = inside;
+    }
+      where
+        go : (t : Tree) → Ahead d.read rest t [] → (others : Tree) × (t ≡ alsos d.read others)
+        go t (same e empty) = (Tree.finish, e)
+        go t (more u v left e b) = (Tree.also u v, e)
 
     -- the end
     pub sections_end : {s' : S} {new' : Sections} → rest ≡ [] → (asked s (Section last None) ≡ accepted 0 s') × Gains new new' (adds s last None) →

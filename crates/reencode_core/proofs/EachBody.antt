@@ -1,5 +1,5 @@
 -- Function bodies: the loops over the rows of a code section and over the operators of a body, and what the calls give at their ends.
-use Rattle.std.proofs.Common.{◌≡◌, ◌≢◌, ◌<◌, ◌≤◌, ◌^◌, ◌+◌, ◌-◌, ◌⊎◌, ℕ, List, [], ◌∷◌, length, Result, Ok, Err, IsErrAnd, IsTrue, refl, sym, ap, ◌∙◌, subst, inr}
+use Rattle.std.proofs.Common.{arith, ◌≡◌, ◌≢◌, ◌<◌, ◌≤◌, ◌^◌, ◌+◌, ◌-◌, ◌⊎◌, ℕ, List, [], ◌∷◌, length, Result, Ok, Err, IsErrAnd, IsTrue, refl, sym, ap, ◌∙◌, subst, inr}
 use Rattle.std.proofs.Math.Seq.{take-append_seam}
 use Rattle.wasm_leb.specs.declared.fault.Fault.{Fault}
 use Rattle.wasm_shapes.specs.declared.SectionId.TheVariants as id
@@ -24,11 +24,12 @@ use Rattle.reencode_items.specs.Maps.{LeavesOperator, MovesOn, ParsesOperator}
 use Rattle.reencode_core.specs.Errors.{placed_at}
 use Rattle.reencode_core.specs.Rows.{GivesRows, locals}
 use Rattle.reencode_core.specs.Bodies.{GivesBody, GivesLocals, KeepsCode}
-use Rattle.reencode_core.specs.Leaves.{LeavesMade, body_in, locals_in, rows_in}
+use Rattle.reencode_core.specs.Holds.{AskedRow, HoldsRows}
+use Rattle.reencode_core.specs.Leaves.{Leaves, LeavesMade, body_in, locals_in, rows_in}
 use Rattle.reencode_core.proofs.BodyLoop.{OperatorsDone, body_err, body_more, frames_missing, frames_unread, keeps_code}
 use Rattle.reencode_core.proofs.FunctionMade.{body_leaves_locals, body_leaves_next, body_leaves_none, body_leaves_operator, code_leaves_next}
-use Rattle.reencode_core.proofs.Made.{ended_all, fault_known, tells_if, tree_made, wants_placed, wants_tells_none, write_tells_none, write_unasked}
-use Rattle.reencode_core.proofs.RowsMade.{rows_leave_none}
+use Rattle.reencode_core.proofs.Made.{ended_all, fault_known, placed_wants, tells_if, tree_made, wants_placed, wants_tells_none, write_tells_none, write_unasked}
+use Rattle.reencode_core.proofs.RowsMade.{rows_held, rows_leave_none}
 use Rattle.reencode_core.proofs.OneRow.{answers, asks}
 use Rattle.reencode_core.proofs.RowLoop.{RowsDone, kept_on, rows_all, rows_begin}
 use Rattle.reencode_core.proofs.WholeBody.{body_given, body_locals_refused, body_not_added, body_wants, operator_err, operators_never, operators_none, operators_on}
@@ -48,6 +49,20 @@ CodeClauses i start s old m new result =
       default : IsTrue i.keeps_defaults → GivesRows (asks i) old.ceiling code_row start (s, old.rows) (m, new.rows) result;
       after_error : IsTrue i.keeps_defaults → LeavesMade i.sure (asks i) (rows_in code_row start) s m result;
     }
+
+-- the same with what the section holds where memory was wanting
+abbrev pub CodeSectionClauses : {S E : Type 0} → Ghosts S E → Standing → S → CodeRows → S → CodeRows → Result (Unit {0}) (Error E) → Type 0
+CodeSectionClauses i start s old m new result =
+    record {
+      kept : KeepsCode old new;
+      default : IsTrue i.keeps_defaults → GivesRows (asks i) old.ceiling code_row start (s, old.rows) (m, new.rows) result;
+      after_error : IsTrue i.keeps_defaults → LeavesMade i.sure (asks i) (rows_in code_row start) s m result;
+      wants : IsTrue i.keeps_defaults → IsTrue i.sure → HoldsRows (asks i) old.ceiling code_row start (s, old.rows) (m, new.rows) result;
+    }
+
+pub code_clauses : {S E : Type 0} (i : Ghosts S E) {start : Standing} {s m : S} {old new : CodeRows} {result : Result (Unit {0}) (Error E)} →
+    CodeSectionClauses i start s old m new result → CodeClauses i start s old m new result
+code_clauses i given = record { kept = given.kept; default = given.default; after_error = given.after_error }
 
 -- the clauses of the call that maps a body
 abbrev pub BodyClauses : {S E : Type 0} → Ghosts S E → List ℕ → S → CodeRows → S → CodeRows → Result (Unit {0}) (Error E) → Type 0
@@ -101,6 +116,34 @@ module _ {S E : Type 0} (i : Ghosts S E) {start : Standing} {s0 : S} {old : Code
             default = λ k. body_err i.reply i.next inv.kept.ceiling (inv.default k) read e at (given.default k) place;
             after_error = λ k told. code_leaves_next (inv.default k) read e at (λ t p. tells_if e (λ at h. h.0 t p) (given.default k).unreadable) (given.after_error k (λ h. told (wants_placed e at h)));
           })
+
+-- the same with what the section holds
+
+module _ {S E : Type 0} (i : Ghosts S E) {start : Standing} {s0 : S} {old : CodeRows} where
+  both : {m : S} {new : CodeRows} {r : Result (Unit {0}) (Error E)} → CodeClauses i start s0 old m new r →
+      (IsTrue i.keeps_defaults → IsTrue i.sure → HoldsRows (asks i) old.ceiling code_row start (s0, old.rows) (m, new.rows) r) → CodeSectionClauses i start s0 old m new r
+  both given wants = record { kept = given.kept; default = given.default; after_error = given.after_error; wants = wants }
+
+  module _ {reader : Standing} {s : S} {new : CodeRows} (inv : CodeKept i start s0 old reader s new) where
+    pub code_section_ended : {reader' : Standing} → RowsEnded reader reader' → CodeSectionClauses i start s0 old s new (Ok tt)
+    code_section_ended ended = both (code_ended i inv ended) (λ k sure. tt)
+
+    pub code_section_stuck : (f : Fault) → ReadsNone f (place_of reader) (RowMissing frame_row reader) → (r : Result (Unit {0}) (Error E)) → IsErrAnd r (λ y. y ≡ error_of_fault f) →
+        CodeSectionClauses i start s0 old s new r
+    code_section_stuck f missing r q =
+        let P : Result (Unit {0}) (Error E) → Type 0 = λ z. HoldsRows (asks i) old.ceiling code_row start (s0, old.rows) (s, new.rows) z in
+        both (code_stuck i inv f missing r q) (λ k sure. subst P (answers r q) (λ h. rows_held (inv.default k) refl (AskedRow.nothing refl)))
+
+    pub code_section_refused : {reader' : Standing} {bytes : List ℕ} → RowRead frame_row reader (Tree.sized (Tree.raw bytes)) reader' → {m : S} {new' : CodeRows} (e : Error E) (at : ℕ) →
+        BodyClauses i bytes s new m new' (Err e) → at ≡ place_of reader → (r : Error E) → r ≡ placed_at e at → CodeSectionClauses i start s0 old m new' (Err r)
+    code_section_refused {reader' = reader'} {bytes = bytes} read {m = m} {new' = new'} e at given place r q =
+        both (code_refused i inv read e at given place r q)
+        (λ k sure h.
+        let P : Error E → Type 0 = λ z. Leaves (asks i) (body_in bytes) s z m in
+        let less = read.counted in
+        let wants : e ≡ NoMemory = placed_wants e at (sym q ∙ h) in
+        rows_held (inv.default k) (ap CodeRows.rows (given.default k).unchanged)
+        (AskedRow.framed bytes reader'.rest (omega arith) refl read.begins (subst P wants (given.after_error k (λ h. sure)))))
 
 -- ---- a body
 

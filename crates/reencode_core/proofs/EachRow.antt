@@ -1,5 +1,5 @@
 -- The loop over the rows of a section, and what the call gives at each of its ends.
-use Rattle.std.proofs.Common.{◌≡◌, ℕ, List, Result, Ok, Err, IsErrAnd, IsTrue, true, subst}
+use Rattle.std.proofs.Common.{◌≡◌, arith, refl, ℕ, List, Result, Ok, Err, IsErrAnd, IsTrue, true, subst}
 use Rattle.std.proofs.Math.Seq.{take-length}
 use Rattle.wasm_leb.specs.declared.fault.Fault.{Fault}
 use Rattle.wasm_shapes.specs.Tree.{Tree}
@@ -12,8 +12,9 @@ use Rattle.reencode_hooks.specs.declared.indices.ReencodeIndices.{Ghosts}
 use Rattle.reencode_hooks.specs.Errors.{error_of_fault}
 use Rattle.reencode_core.specs.Rows.{KeepsFront, GivesRows}
 use Rattle.reencode_core.specs.Leaves.{LeavesMade, rows_in}
+use Rattle.reencode_core.specs.Holds.{AskedRow, HoldsRows}
 use Rattle.reencode_core.proofs.Made.{tells_none}
-use Rattle.reencode_core.proofs.RowsMade.{row_made, rows_leave_next, rows_leave_none}
+use Rattle.reencode_core.proofs.RowsMade.{row_made, rows_held, rows_leave_next, rows_leave_none}
 use Rattle.reencode_core.proofs.OneRow.{RowClauses, answers, asks}
 use Rattle.reencode_core.proofs.RowLoop.{RowsDone, kept_on, row_refused, row_usual, rows_all, rows_begin, rows_more, rows_unread}
 
@@ -32,6 +33,7 @@ RowsClauses i row start s old m new result =
       kept : KeepsFront old new;
       default : IsTrue i.keeps_defaults → (c : ℕ) → GivesRows (asks i) c row start (s, old) (m, new) result;
       after_error : IsTrue i.keeps_defaults → LeavesMade i.sure (asks i) (rows_in row start) s m result;
+      wants : IsTrue i.keeps_defaults → IsTrue i.sure → (c : ℕ) → HoldsRows (asks i) c row start (s, old) (m, new) result;
     }
 
 module _ {S E : Type 0} (i : Ghosts S E) {row : Shape} {start : Standing} {s0 : S} {old : List Tree} where
@@ -40,7 +42,7 @@ module _ {S E : Type 0} (i : Ghosts S E) {row : Shape} {start : Standing} {s0 : 
 
   module _ {reader : Standing} {s : S} {new : List Tree} (inv : RowsKept i row start s0 old reader s new) where
     pub rows_ended : {reader' : Standing} → RowsEnded reader reader' → RowsClauses i row start s0 old s new (Ok tt)
-    rows_ended ended = record { kept = inv.kept; default = λ k c. rows_all (asks i) (inv.default k c) ended; after_error = λ k. tt }
+    rows_ended ended = record { kept = inv.kept; default = λ k c. rows_all (asks i) (inv.default k c) ended; after_error = λ k. tt; wants = λ k sure c. tt }
 
     -- no row is there
     pub rows_stuck : (f : Fault) → ReadsNoneOrWants f (place_of reader) (RowMissing row reader) → (r : Result (Unit {0}) (Error E)) → IsErrAnd r (λ y. y ≡ error_of_fault f) →
@@ -51,6 +53,7 @@ module _ {S E : Type 0} (i : Ghosts S E) {row : Shape} {start : Standing} {s0 : 
           kept = inv.kept;
           default = λ k c. rows_unread (asks i) f (inv.default k c) missing;
           after_error = λ k told. rows_leave_none (inv.default k 0) inv.item inv.is_sound inv.is_closed f missing;
+          wants = λ k sure c h. rows_held (inv.default k c) refl (AskedRow.nothing refl);
         })
 
     module _ {reader' : Standing} {t : Tree} (read : RowRead row reader t reader') {m : S} {new' : List Tree} where
@@ -75,4 +78,5 @@ module _ {S E : Type 0} (i : Ghosts S E) {row : Shape} {start : Standing} {s0 : 
                 let stops = (given.default k 0).1 in
                 rows_leave_next (inv.default k 0) inv.item inv.is_sound inv.is_closed e read
                 (row_made i.reply i.next 0 e stops (λ h. given.after_error k (told h))) (tells_none e (row_usual i.reply i.next 0 e read stops));
+            wants = λ k sure c h. let less = read.counted in rows_held (inv.default k c) (given.default k c).0 (AskedRow.whole t reader'.rest (omega arith) read.begins (given.after_error k sure));
           })

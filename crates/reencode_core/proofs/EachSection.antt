@@ -1,6 +1,8 @@
 -- The loop over the sections of a module, and what the call gives at each of its ends.
-use Rattle.std.proofs.Common.{◌≡◌, ◌-◌, ◌≤◌, ℕ, List, [], ◌++◌, length, Bool, Option, Some, None, Result, Ok, Err, IfErr, IsErrAnd, IsTrue, refl, sym, ap, ◌∙◌, subst}
+use Rattle.std.proofs.Common.{◌≡◌, ◌≢◌, ◌-◌, ◌≤◌, ℕ, List, [], ◌++◌, length, Bool, Option, Some, None, Result, Ok, Err, IfErr, IsErrAnd, IsTrue, refl, sym, ap, ◌∙◌, subst}
 use Rattle.wasm_leb.specs.declared.fault.Fault.{Fault}
+use Rattle.wasm_leb.specs.declared.fault.Fault.TheVariants as fault
+use Rattle.wasm_leb.specs.declared.fault.Kind.TheVariants as kinds
 use Rattle.wasm_shapes.specs.declared.SectionId.{SectionId}
 use Rattle.wasm_shapes.specs.declared.Visit.{Visit}
 use Rattle.wasm_shapes.specs.declared.Visit.TheVariants.{Section}
@@ -21,16 +23,17 @@ use Rattle.reencode_hooks.specs.declared.indices.ReencodeIndices.{Ghosts}
 use Rattle.reencode_hooks.specs.Errors.{error_of_fault}
 use Rattle.reencode_hooks.specs.Hooks.{RepliesSection, KeepsAdds}
 use Rattle.reencode_hooks.specs.Run.{NeverWants, LeavesVisited, ask}
-use Rattle.reencode_core.proofs.Made.{drawn_made, either_made, ended_all, fault_unasked, front_none, front_same, not_wanting, one_ended, tells_if, tells_none, wants_placed}
+use Rattle.reencode_core.proofs.Made.{drawn_made, either_made, ended_all, fault_unasked, front_none, front_same, not_wanting, one_ended, placed_wants, tells_if, tells_none, wants_placed}
 use Rattle.reencode_core.proofs.SectionMade.{custom_drawn, numbered_drawn}
 use Rattle.reencode_core.specs.Errors.{IfParse, placed_at}
 use Rattle.reencode_core.specs.Sections.{KeepsModule, GivesAdded, StopsSection}
 use Rattle.reencode_core.specs.Names.{StopsCustom, GivesCustom}
 use Rattle.reencode_core.specs.Core.{GivesCore}
 use Rattle.reencode_core.specs.Woven.{AddedBefore, GivesWoven}
+use Rattle.reencode_core.specs.Holds.{FrameLeaves, HoldsCore}
 use Rattle.reencode_core.specs.Leaves.{CoreUpTo, Leaves, LeavesCore, NoCoreHeading, LeavesMade, custom_in, module_in, section_in}
 use Rattle.reencode_core.proofs.AddsNothing.{core_given}
-use Rattle.reencode_core.proofs.CoreLoop.{FrameLeaves, SectionsDone, Put, nothing_put, core_leaves_hook, core_leaves_inside, core_leaves_none, end_given, end_left, header_wrong, hook_refused, hook_told, hook_usual, no_header, hook_stops, no_frame, section_err, sections_begin, sections_more}
+use Rattle.reencode_core.proofs.CoreLoop.{SectionsDone, Put, nothing_put, core_leaves_hook, core_leaves_inside, core_leaves_none, end_given, end_left, header_wrong, hook_refused, hook_told, hook_usual, no_header, hook_stops, no_frame, section_err, section_held, sections_begin, sections_more}
 use Rattle.reencode_core.proofs.AnySection.{GivesFramed, Reached, kind_gives, kind_reached, custom_gives, custom_reached, unknown_gives, unknown_reached}
 use Rattle.reencode_core.proofs.Known.{keeps_same, keeps_more, hook_keeps}
 use Rattle.reencode_core.proofs.MappedSection.{SectionClauses}
@@ -51,6 +54,18 @@ CoreClauses i bytes s old m new result =
       woven : IsTrue i.keeps_defaults → GivesWoven (asks i) i.adds bytes (s, old) (m, new) result;
       after_error : IsTrue i.keeps_defaults → LeavesCore i.sure i.adds_nothing (asks i) (module_in bytes) s m result;
       headless : IsTrue i.keeps_defaults → NoCoreHeading bytes → m ≡ s;
+    }
+
+-- the same with what the module holds where memory was wanting
+abbrev pub ModuleClauses : {S E : Type 0} → Ghosts S E → List ℕ → S → Sections → S → Sections → Result (Unit {0}) (Error E) → Type 0
+ModuleClauses i bytes s old m new result =
+    record {
+      kept : KeepsModule old new;
+      default : IsTrue i.keeps_defaults → IsTrue i.adds_nothing → GivesCore (asks i) bytes (s, old) (m, new) result;
+      woven : IsTrue i.keeps_defaults → GivesWoven (asks i) i.adds bytes (s, old) (m, new) result;
+      after_error : IsTrue i.keeps_defaults → LeavesCore i.sure i.adds_nothing (asks i) (module_in bytes) s m result;
+      headless : IsTrue i.keeps_defaults → NoCoreHeading bytes → m ≡ s;
+      wants : IsTrue i.keeps_defaults → IsTrue i.sure → HoldsCore (asks i) i.adds bytes (s, old) (m, new) result;
     }
 
 -- the clauses of the section hook
@@ -245,3 +260,59 @@ module _ {S E : Type 0} (i : Ghosts S E) where
         core_clauses keeps r (keeps_more old new mid inv.kept (hook_keeps i.reply i.next i.adds s n new mid last None r hook.answer))
         (λ d. end_given i.reply i.next i.adds header.stands (inv.done d) empty n mid r hook.answer)
         (λ d. end_left i.reply i.next i.adds keeps header.stands (inv.done d) empty n mid r hook.answer hook.sure) headed
+
+-- ---- the same with what the module holds
+
+module _ {S E : Type 0} (i : Ghosts S E) (keeps : KeepsAdds i.adds i.adds_nothing) where
+  both : {bytes : List ℕ} {s m : S} {old new : Sections} {r : Result (Unit {0}) (Error E)} → CoreClauses i bytes s old m new r →
+      (IsTrue i.keeps_defaults → IsTrue i.sure → HoldsCore (asks i) i.adds bytes (s, old) (m, new) r) → ModuleClauses i bytes s old m new r
+  both given wants = record { kept = given.kept; default = given.default; woven = given.woven; after_error = given.after_error; headless = given.headless; wants = wants }
+
+  -- memory is not what was wanting
+  unwanted : {bytes : List ℕ} {s m : S} {old new : Sections} (e : Error E) (r : Result (Unit {0}) (Error E)) → IsErrAnd r (λ y. y ≡ e) → CoreClauses i bytes s old m new r →
+      (IsTrue i.sure → e ≢ NoMemory) → ModuleClauses i bytes s old m new r
+  unwanted {bytes = bytes} {s = s} {m = m} {old = old} {new = new} e r q given other =
+      let P : Result (Unit {0}) (Error E) → Type 0 = λ z. HoldsCore (asks i) i.adds bytes (s, old) (m, new) z in
+      both given (λ k sure. subst P (answers r q) (λ h. absurd (other sure h)))
+
+  pub module_headless : {bytes : List ℕ} {s : S} {old : Sections} (f : Fault) → NoCoreHeader f bytes → (r : Result (Unit {0}) (Error E)) → IsErrAnd r (λ y. y ≡ error_of_fault f) →
+      ModuleClauses i bytes s old s old r
+  module_headless {bytes = bytes} f wrong r q = unwanted (error_of_fault f) r q (core_headless i keeps f wrong r q) (λ sure. known f wrong)
+    where
+      known : (f : Fault) → NoCoreHeader f bytes → error_of_fault {E = E} f ≢ NoMemory
+      known (fault.Read x) h = λ q. cc
+      known (fault.Header kinds.Component) h = λ q. cc
+      known (fault.Header kinds.Module) h = absurd h
+      known fault.CodeSize h = absurd h
+      known fault.NoMemory h = absurd h
+
+  module _ {bytes : List ℕ} {start : read.Sections} (header : HeaderRead bytes start) {s0 : S} {old : Sections} {reader : read.Sections} {last : Option SectionId} {s : S} {new : Sections}
+      (inv : SectionsKept i start s0 old reader last s new) where
+    pub module_unframed : (f : Fault) → NoFrame f reader.rest (sections_place reader) → (r : Result (Unit {0}) (Error E)) → IsErrAnd r (λ y. y ≡ error_of_fault f) → ModuleClauses i bytes s0 old s new r
+    module_unframed f none r q = unwanted (error_of_fault f) r q (core_unframed i keeps header inv f none r q) (λ sure. known f none)
+      where
+        known : (f : Fault) → NoFrame f reader.rest (sections_place reader) → error_of_fault {E = E} f ≢ NoMemory
+        known (fault.Read x) h = λ q. cc
+        known fault.CodeSize h = λ q. cc
+        known (fault.Header k) h = absurd h
+        known fault.NoMemory h = absurd h
+
+    pub module_hook_refused : (k : SectionId) {body left : List ℕ} {n : S} {mid : Sections} (e : Error E) → Begins frame reader.rest (numbered_frame (number k) body) left →
+        HookClauses i s n new mid last (Some k) (Err e) → (r : Result (Unit {0}) (Error E)) → IsErrAnd r (λ y. y ≡ e) → ModuleClauses i bytes s0 old n mid r
+    module_hook_refused k e framed hook r q = unwanted e r q (core_hook_refused i keeps header inv k e framed hook r q) (λ sure. not_wanting e hook.sure (λ h. sure))
+
+    pub module_section_refused : {Stops : ℕ → Error E → S → Type 0} {id : ℕ} {f : Tree} {left : List ℕ} {now : Option SectionId} {n m : S} {mid new' : Sections} (e : Error E) (at : ℕ) →
+        Called i keeps header inv Stops id f left now n mid m new' (Err e) → at ≡ sections_place reader → (r : Error E) → r ≡ placed_at e at → ModuleClauses i bytes s0 old m new' (Err r)
+    module_section_refused {f = f} {n = n} {m = m} e at call place r q =
+        both (core_section_refused i keeps header inv e at call place r q)
+        (λ k sure h.
+        let P : Error E → Type 0 = λ z. FrameLeaves (asks i) reader.rest f n z m in
+        let wants : e ≡ NoMemory = placed_wants e at (sym q ∙ h) in
+        section_held (asks i) i.adds header.stands (inv.done k) (call.reached k) call.put (call.gives k).unchanged (subst P wants (call.leaves k (λ h. sure))))
+
+    pub module_ended : {n : S} {mid : Sections} → reader.rest ≡ [] → (r : Result (Unit {0}) (Error E)) → HookClauses i s n new mid last None r → ModuleClauses i bytes s0 old n mid r
+    module_ended {n = n} {mid = mid} empty r hook = both (core_ended i keeps header inv empty r hook) (λ k sure. never r hook.sure sure)
+      where
+        never : (r : Result (Unit {0}) (Error E)) → NeverWants i.sure r → IsTrue i.sure → HoldsCore (asks i) i.adds bytes (s0, old) (n, mid) r
+        never (Ok u) wants sure = tt
+        never (Err e) wants sure = λ h. absurd (not_wanting e wants (λ h. sure) h)

@@ -43,6 +43,14 @@ use Rattle.reencode_core.proofs.NamesLoop.{SubsectionClauses}
 use Rattle.reencode_core.proofs.OneRow.{answers, asks}
 use Rattle.reencode_core.proofs.Usual.{IfParse-map, IfRefused-map, unless_wanting, usual_ask, write_usual}
 
+-- with an error of a writer nothing was added
+none_written : (E : Type 0) (old new : CodeRows) (w : Result (Unit {0}) WriteFault) → OnErr w (new ≡ old) → IfErr (of_writer {E = E} w) (λ _. new ≡ old)
+none_written E old new (Ok u) unchanged = tt
+none_written E old new (Err f) unchanged = unchanged
+
+pub not_written : {E : Type 0} (old new : CodeRows) (w : Result (Unit {0}) WriteFault) → OnErr w (new ≡ old) → (r : Result (Unit {0}) (Error E)) → r ≡ of_writer w → IfErr r (λ _. new ≡ old)
+not_written {E = E} old new w unchanged r is = let P : Result (Unit {0}) (Error E) → Type 0 = λ z. IfErr z (λ _. new ≡ old) in subst P (sym is) (none_written E old new w unchanged)
+
 -- ---- a subsection that is accepted
 
 -- The subsection has a reading, and the body of each is accepted and becomes this.
@@ -112,6 +120,7 @@ module _ {S E : Type 0} (i : Ghosts S E) (n : Name) (s k : S) (old new : CodeRow
         kept = kept w gains unchanged;
         default = λ keeps. naming_given (b keeps) w gains fits unchanged large;
         after_error = λ keeps. left w (b keeps);
+        unchanged = λ keeps. none_written E old new w unchanged;
       })
     where
       left : (w : Result (Unit {0}) WriteFault) → NamingMade (asks i) n s k row head made → LeavesMade i.sure (asks i) (subsection_in n) s k (of_writer {E = E} w)
@@ -271,7 +280,7 @@ module _ {S E : Type 0} (i : Ghosts S E) {n : Name} {id : ℕ} {p : Space} {body
   pub map_stopped : (e : Error E) → MapCalls i p body m s k (Err e) → (r : Result (Unit {0}) (Error E)) → IsErrAnd r (λ y. y ≡ e) → SubsectionClauses i n s old k old r
   map_stopped e calls r q =
       let P : Result (Unit {0}) (Error E) → Type 0 = λ z. SubsectionClauses i n s old k old z in
-      subst P (answers r q) (record { kept = keeps_code old; default = λ keeps. stopped; after_error = λ keeps. left })
+      subst P (answers r q) (record { kept = keeps_code old; default = λ keeps. stopped; after_error = λ keeps. left; unchanged = λ keeps. refl })
     where
       stopped : GivesSubsection (asks i) n (s, old) (k, old) (Err e)
       stopped =

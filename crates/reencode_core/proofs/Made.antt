@@ -189,6 +189,18 @@ tells_placed UnsupportedCoreTypeInComponent at h = h
 pub wants_placed : {E : Type 0} (e : Error E) (at : ℕ) → e ≡ NoMemory → placed_at e at ≡ NoMemory
 wants_placed e at h = rw h refl
 
+pub placed_wants : {E : Type 0} (e : Error E) (at : ℕ) → placed_at e at ≡ NoMemory → e ≡ NoMemory
+placed_wants (ParseError x) at h = absurd cc
+placed_wants (UserError x) at h = h
+placed_wants (TooLarge x) at h = h
+placed_wants NoMemory at h = h
+placed_wants CanonicalizedHeapTypeReference at h = h
+placed_wants InvalidConstExpr at h = h
+placed_wants InvalidCodeSectionSize at h = h
+placed_wants UnexpectedNonCoreModuleSection at h = h
+placed_wants UnexpectedNonComponentSection at h = h
+placed_wants UnsupportedCoreTypeInComponent at h = h
+
 -- ---- an item that stands whole
 
 -- A front part of these visits was made when the error came.

@@ -1,5 +1,5 @@
 -- The loop over the subsections of a name section.
-use Rattle.std.proofs.Common.{◌≡◌, ◌≢◌, ◌⊎◌, ℕ, ◌-◌, ◌<◌, ◌+◌, ◌^◌, List, [], ◌∷◌, ◌++◌, length, length-append, Result, Ok, Err, IsErrAnd, IsTrue, refl, sym, ap, ◌∙◌, subst, inl, inr, arith}
+use Rattle.std.proofs.Common.{◌≡◌, ◌≢◌, ◌⊎◌, ℕ, ◌-◌, ◌<◌, ◌+◌, ◌^◌, List, [], ◌∷◌, ◌++◌, length, length-append, Result, Ok, Err, IfErr, IsErrAnd, IsTrue, refl, sym, ap, ◌∙◌, subst, inl, inr, arith}
 use Rattle.std.proofs.lemmas.List.Elements.{Contains-append_left}
 use Rattle.wasm_leb.specs.declared.fault.Fault.{Fault}
 use Rattle.wasm_leb.specs.declared.fault.Fault.TheVariants as fault
@@ -50,6 +50,7 @@ SubsectionClauses i n s old m new result =
       kept : KeepsCode old new;
       default : IsTrue i.keeps_defaults → GivesSubsection (asks i) n (s, old) (m, new) result;
       after_error : IsTrue i.keeps_defaults → LeavesMade i.sure (asks i) (subsection_in n) s m result;
+      unchanged : IsTrue i.keeps_defaults → IfErr result (λ _. new ≡ old);
     }
 
 -- those of the call that maps the subsections of a section

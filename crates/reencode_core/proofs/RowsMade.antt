@@ -23,6 +23,7 @@ use Rattle.reencode_hooks.specs.Run.{refused, ask, Visited}
 use Rattle.reencode_hooks.specs.Walk.{walk}
 use Rattle.reencode_hooks.proofs.Walks.{walk_is_run}
 use Rattle.reencode_core.specs.Leaves.{EndsBy, IsFront, Leaves, MadeUpTo, RowsUpTo, TellsFault, rows_in}
+use Rattle.reencode_core.specs.Holds.{AskedRow, HoldsMade}
 use Rattle.reencode_core.specs.Rows.{Asks, RowsBefore, TooLargeMade}
 use Rattle.reencode_core.proofs.Group.{rows_then-both}
 use Rattle.reencode_core.proofs.Made.{PartMade, drawn_made, ended_all, ended_behind, fault_unasked, front_first, front_none, front_same, front_then, is_wanting, refused_made, tree_made, wants_made}
@@ -220,3 +221,23 @@ row_made {S = S} {E = E} reply next {n = n} {s = s} {m = m} {t = t} c e stops wa
     go : (e ≡ NoMemory) ⊎ (e ≢ NoMemory) → PartMade (ask reply next) s (visits t) e m
     go (inl h) = let P : Error E → Type 0 = λ z. PartMade (ask reply next) s (visits t) z m in subst P (sym h) (wants_made (ask reply next) (wants h))
     go (inr h) = either (stops h)
+
+-- ---- what the sink holds
+
+-- what the rows so far became, and no more
+pub rows_held : {S E : Type 0} {asked : Asks S E} {c : ℕ} {row : Shape} {start reader : Standing} {s0 s m : S} {old new new' : List Tree} → RowsDone asked c row start s0 old reader s new → new' ≡ new →
+    AskedRow asked row reader.left reader.rest s m → HoldsMade asked c row start (s0, old) (m, new')
+rows_held {reader = reader} {s = s} d unchanged next = record {
+  read = d.read;
+  rest = reader.rest;
+  due = reader.left;
+  made = d.made;
+  state = s;
+  front = d.before;
+  numbered = d.numbered;
+  parts = λ rows all. let b = d.so_far.back rows all in (b.0, b.1);
+  accepts = d.accepts;
+  counted = d.counted;
+  gains = unchanged ∙ d.gains;
+  next = next;
+}

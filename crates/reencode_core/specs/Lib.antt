@@ -12,6 +12,7 @@ pub mod Woven
 pub mod WovenLaws
 pub mod Faults
 pub mod Leaves
+pub mod Holds
 pub mod Refusals
 pub mod Rules
 pub mod Interspersed

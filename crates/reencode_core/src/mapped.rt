@@ -4,6 +4,7 @@ ghost use Rattle.wasm_shapes.specs.Drawn.{IsItem};
 ghost use Rattle.reencode_hooks.specs.Run.{NeverWants, ask};
 ghost use Rattle.reencode_items.specs.Maps.{Maps};
 ghost use Rattle.reencode_core.specs.Rows.{KeepsFront, GivesRows};
+ghost use Rattle.reencode_core.specs.Holds.{HoldsRows};
 ghost use Rattle.reencode_core.specs.Leaves.{LeavesMade, rows_in};
 
 use reencode_hooks::Error;
@@ -66,6 +67,9 @@ where
         (reencoder.new, sink.new) result }
     ensures after_error { IsTrue T.keeps_defaults → LeavesMade T.sure (ask T.reply T.next) (rows_in K.shape section.entry) reencoder.old
         reencoder.new result }
+    ensures wants { IsTrue T.keeps_defaults → IsTrue T.sure → (c : ℕ)
+        → HoldsRows (ask T.reply T.next) c K.shape section.entry (reencoder.old, sink.old)
+        (reencoder.new, sink.new) result }
 {
     let mut rows = section;
     'rows: while let Some(row) = rows.next_row(alloc)? {

@@ -19,6 +19,7 @@ ghost use Rattle.reencode_core.specs.Errors.{IfParse};
 ghost use Rattle.reencode_core.specs.Names.{GivesCustom, GivesNames, GivesSubsection, SubsectionsLeft};
 ghost use Rattle.reencode_core.specs.Core.{GivesCore, GivesBytes};
 ghost use Rattle.reencode_core.specs.Woven.{GivesWoven, GivesWovenBytes};
+ghost use Rattle.reencode_core.specs.Holds.{HoldsCore, HoldsRows};
 ghost use Rattle.reencode_core.specs.Leaves.{LeavesCore, LeavesMade, NoCoreHeading, body_in, core_in, custom_in, locals_in, module_in, names_in, rows_in, section_in, subsection_in};
 
 use crate::errors::placed;
@@ -40,6 +41,8 @@ use wasm_write as w;
 /// `parse_core_module`, after a size that is too large, one that adds nothing; of a method that is handed a row it speaks
 /// of sure reencoders alone. `start_section` takes no memory, and has `sure` in its place: memory is never wanting where no
 /// hook wants any.
+/// `wants` says what a sink holds where the reencoder is sure and memory was wanting: what the rows or sections before the one
+/// at which it was wanting became, and no more.
 pub trait Reencode: ReencodeItems {
     /// Maps the rows that the reader still has, each by `parse_recursive_type_group`, and adds each row once it is mapped.
     fn parse_type_section(
@@ -54,6 +57,9 @@ pub trait Reencode: ReencodeItems {
             (self.old, types.old) (self.new, types.new) result }
         ensures after_error { IsTrue Self.keeps_defaults → LeavesMade Self.sure (ask Self.reply Self.next) (rows_in (row_of kinds.Type_) section.entry)
             self.old self.new result }
+        ensures wants { IsTrue Self.keeps_defaults → IsTrue Self.sure → (c : ℕ)
+            → HoldsRows (ask Self.reply Self.next) c (row_of kinds.Type_) section.entry
+            (self.old, types.old) (self.new, types.new) result }
     {
         bodies::each_row!(section, alloc, row => types.group(&self.parse_recursive_type_group(alloc, row)?))
     }
@@ -86,6 +92,9 @@ pub trait Reencode: ReencodeItems {
             → GivesRows (ask Self.reply Self.next) c (row_of kinds.Function) section.entry
             (self.old, functions.old) (self.new, functions.new) result }
         ensures after_error { IsTrue Self.keeps_defaults → LeavesMade Self.sure (ask Self.reply Self.next) (rows_in (row_of kinds.Function) section.entry) self.old self.new result }
+        ensures wants { IsTrue Self.keeps_defaults → IsTrue Self.sure → (c : ℕ)
+            → HoldsRows (ask Self.reply Self.next) c (row_of kinds.Function) section.entry
+            (self.old, functions.old) (self.new, functions.new) result }
     {
         mapped::map_section(self, alloc, functions, section)
     }
@@ -103,6 +112,9 @@ pub trait Reencode: ReencodeItems {
             (self.old, imports.old) (self.new, imports.new) result }
         ensures after_error { IsTrue Self.keeps_defaults → LeavesMade Self.sure (ask Self.reply Self.next) (rows_in (row_of kinds.Import) section.entry)
             self.old self.new result }
+        ensures wants { IsTrue Self.keeps_defaults → IsTrue Self.sure → (c : ℕ)
+            → HoldsRows (ask Self.reply Self.next) c (row_of kinds.Import) section.entry
+            (self.old, imports.old) (self.new, imports.new) result }
     {
         bodies::each_row!(section, alloc, row => self.parse_imports(alloc, imports, row))
     }
@@ -156,6 +168,9 @@ pub trait Reencode: ReencodeItems {
             (self.old, tables.old) (self.new, tables.new) result }
         ensures after_error { IsTrue Self.keeps_defaults → LeavesMade Self.sure (ask Self.reply Self.next) (rows_in (row_of kinds.Table) section.entry)
             self.old self.new result }
+        ensures wants { IsTrue Self.keeps_defaults → IsTrue Self.sure → (c : ℕ)
+            → HoldsRows (ask Self.reply Self.next) c (row_of kinds.Table) section.entry
+            (self.old, tables.old) (self.new, tables.new) result }
     {
         bodies::each_row!(section, alloc, row => self.parse_table(alloc, tables, row))
     }
@@ -191,6 +206,9 @@ pub trait Reencode: ReencodeItems {
             (self.old, memories.old) (self.new, memories.new) result }
         ensures after_error { IsTrue Self.keeps_defaults → LeavesMade Self.sure (ask Self.reply Self.next) (rows_in (row_of kinds.Memory) section.entry)
             self.old self.new result }
+        ensures wants { IsTrue Self.keeps_defaults → IsTrue Self.sure → (c : ℕ)
+            → HoldsRows (ask Self.reply Self.next) c (row_of kinds.Memory) section.entry
+            (self.old, memories.old) (self.new, memories.new) result }
     {
         mapped::map_section(self, alloc, memories, section)
     }
@@ -208,6 +226,9 @@ pub trait Reencode: ReencodeItems {
             (self.old, globals.old) (self.new, globals.new) result }
         ensures after_error { IsTrue Self.keeps_defaults → LeavesMade Self.sure (ask Self.reply Self.next) (rows_in (row_of kinds.Global) section.entry)
             self.old self.new result }
+        ensures wants { IsTrue Self.keeps_defaults → IsTrue Self.sure → (c : ℕ)
+            → HoldsRows (ask Self.reply Self.next) c (row_of kinds.Global) section.entry
+            (self.old, globals.old) (self.new, globals.new) result }
     {
         bodies::each_row!(section, alloc, row => self.parse_global(alloc, globals, row))
     }
@@ -243,6 +264,9 @@ pub trait Reencode: ReencodeItems {
             (self.old, tags.old) (self.new, tags.new) result }
         ensures after_error { IsTrue Self.keeps_defaults → LeavesMade Self.sure (ask Self.reply Self.next) (rows_in (row_of kinds.Tag) section.entry)
             self.old self.new result }
+        ensures wants { IsTrue Self.keeps_defaults → IsTrue Self.sure → (c : ℕ)
+            → HoldsRows (ask Self.reply Self.next) c (row_of kinds.Tag) section.entry
+            (self.old, tags.old) (self.new, tags.new) result }
     {
         mapped::map_section(self, alloc, tags, section)
     }
@@ -260,6 +284,9 @@ pub trait Reencode: ReencodeItems {
             (self.old, exports.old) (self.new, exports.new) result }
         ensures after_error { IsTrue Self.keeps_defaults → LeavesMade Self.sure (ask Self.reply Self.next) (rows_in (row_of kinds.Export) section.entry)
             self.old self.new result }
+        ensures wants { IsTrue Self.keeps_defaults → IsTrue Self.sure → (c : ℕ)
+            → HoldsRows (ask Self.reply Self.next) c (row_of kinds.Export) section.entry
+            (self.old, exports.old) (self.new, exports.new) result }
     {
         bodies::each_row!(section, alloc, row => self.parse_export(exports, row))
     }
@@ -304,6 +331,9 @@ pub trait Reencode: ReencodeItems {
             (self.old, elements.old) (self.new, elements.new) result }
         ensures after_error { IsTrue Self.keeps_defaults → LeavesMade Self.sure (ask Self.reply Self.next) (rows_in (row_of kinds.Element) section.entry)
             self.old self.new result }
+        ensures wants { IsTrue Self.keeps_defaults → IsTrue Self.sure → (c : ℕ)
+            → HoldsRows (ask Self.reply Self.next) c (row_of kinds.Element) section.entry
+            (self.old, elements.old) (self.new, elements.new) result }
     {
         bodies::each_row!(section, alloc, row => self.parse_element(alloc, elements, row))
     }
@@ -359,6 +389,9 @@ pub trait Reencode: ReencodeItems {
             section.entry (self.old, code.old.rows) (self.new, code.new.rows) result }
         ensures after_error { IsTrue Self.keeps_defaults → LeavesMade Self.sure (ask Self.reply Self.next) (rows_in (row_of kinds.Code) section.entry)
             self.old self.new result }
+        ensures wants { IsTrue Self.keeps_defaults → IsTrue Self.sure
+            → HoldsRows (ask Self.reply Self.next) code.old.ceiling (row_of kinds.Code) section.entry
+            (self.old, code.old.rows) (self.new, code.new.rows) result }
     {
         bodies::parse_code_section!(self, alloc, code, section)
     }
@@ -409,6 +442,9 @@ pub trait Reencode: ReencodeItems {
             (self.old, segments.old) (self.new, segments.new) result }
         ensures after_error { IsTrue Self.keeps_defaults → LeavesMade Self.sure (ask Self.reply Self.next) (rows_in (row_of kinds.Data) section.entry)
             self.old self.new result }
+        ensures wants { IsTrue Self.keeps_defaults → IsTrue Self.sure → (c : ℕ)
+            → HoldsRows (ask Self.reply Self.next) c (row_of kinds.Data) section.entry
+            (self.old, segments.old) (self.new, segments.new) result }
     {
         bodies::each_row!(section, alloc, row => self.parse_data(alloc, segments, row))
     }
@@ -535,6 +571,7 @@ pub trait Reencode: ReencodeItems {
             (self.new, names.new) result }
         ensures after_error { IsTrue Self.keeps_defaults → LeavesMade Self.sure (ask Self.reply Self.next) (subsection_in section.entry)
             self.old self.new result }
+        ensures unchanged { IsTrue Self.keeps_defaults → IfErr result (λ _. names.new ≡ names.old) }
     {
         subsections::parse_custom_name_subsection(self, alloc, names, section)
     }
@@ -556,6 +593,9 @@ pub trait Reencode: ReencodeItems {
         ensures after_error { IsTrue Self.keeps_defaults → LeavesCore Self.sure Self.adds_nothing (ask Self.reply Self.next) (module_in bytes.now)
             self.old self.new result }
         ensures headless { IsTrue Self.keeps_defaults → NoCoreHeading bytes.now → self.new ≡ self.old }
+        ensures wants { IsTrue Self.keeps_defaults → IsTrue Self.sure
+            → HoldsCore (ask Self.reply Self.next) Self.adds bytes.now (self.old, «module».old)
+            (self.new, «module».new) result }
     {
         bodies::parse_core_module!(self, alloc, module, bytes)
     }

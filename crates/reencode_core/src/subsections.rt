@@ -98,6 +98,7 @@ fn parse_names<T: ReencodeItems>(
     ensures after_error { IsTrue T.keeps_defaults → (n : Name)
         → content_of n ≡ Content.direct (names_id space) space map.entry
         → LeavesMade T.sure (ask T.reply T.next) (subsection_in n) reencoder.old reencoder.new result }
+    ensures unchanged { IsTrue T.keeps_defaults → IfErr result (λ _. names.new ≡ names.old) }
 {
     match map_names(
         alloc,
@@ -127,6 +128,7 @@ fn parse_indirect_names<T: ReencodeItems>(
     ensures after_error { IsTrue T.keeps_defaults → (n : Name)
         → content_of n ≡ Content.indirect id space map.entry
         → LeavesMade T.sure (ask T.reply T.next) (subsection_in n) reencoder.old reencoder.new result }
+    ensures unchanged { IsTrue T.keeps_defaults → IfErr result (λ _. names.new ≡ names.old) }
 {
     match map_indirect_names(
         alloc,
@@ -153,6 +155,7 @@ pub(crate) fn parse_custom_name_subsection<T: ReencodeItems>(
         (reencoder.new, names.new) result }
     ensures after_error { IsTrue T.keeps_defaults → LeavesMade T.sure (ask T.reply T.next) (subsection_in section.entry)
         reencoder.old reencoder.new result }
+    ensures unchanged { IsTrue T.keeps_defaults → IfErr result (λ _. names.new ≡ names.old) }
 {
     match section {
         r::Name::Module { name } => written(names.module(name)),

@@ -17,6 +17,7 @@ ghost use Rattle.reencode_core.specs.Errors.{IfParse};
 ghost use Rattle.reencode_core.specs.Names.{GivesCustom, GivesNames, GivesSubsection, SubsectionsLeft};
 ghost use Rattle.reencode_core.specs.Core.{GivesCore};
 ghost use Rattle.reencode_core.specs.Woven.{GivesWoven};
+ghost use Rattle.reencode_core.specs.Holds.{HoldsCore, HoldsRows};
 ghost use Rattle.reencode_core.specs.Leaves.{LeavesCore, LeavesMade, NoCoreHeading, body_in, custom_in, locals_in, module_in, names_in, rows_in, section_in, subsection_in};
 
 use crate::errors::placed;
@@ -42,6 +43,9 @@ pub fn parse_type_section<T: Reencode>(
         (reencoder.old, types.old) (reencoder.new, types.new) result }
     ensures after_error { IsTrue T.keeps_defaults → LeavesMade T.sure (ask T.reply T.next) (rows_in (row_of kinds.Type_) section.entry)
         reencoder.old reencoder.new result }
+    ensures wants { IsTrue T.keeps_defaults → IsTrue T.sure → (c : ℕ)
+        → HoldsRows (ask T.reply T.next) c (row_of kinds.Type_) section.entry
+        (reencoder.old, types.old) (reencoder.new, types.new) result }
 {
     bodies::each_row!(section, alloc, row => types.group(&reencoder.parse_recursive_type_group(alloc, row)?))
 }
@@ -75,6 +79,9 @@ pub fn parse_function_section<T: Reencode>(
         (reencoder.old, functions.old) (reencoder.new, functions.new) result }
     ensures after_error { IsTrue T.keeps_defaults → LeavesMade T.sure (ask T.reply T.next) (rows_in (row_of kinds.Function) section.entry)
         reencoder.old reencoder.new result }
+    ensures wants { IsTrue T.keeps_defaults → IsTrue T.sure → (c : ℕ)
+        → HoldsRows (ask T.reply T.next) c (row_of kinds.Function) section.entry
+        (reencoder.old, functions.old) (reencoder.new, functions.new) result }
 {
     mapped::map_section(reencoder, alloc, functions, section)
 }
@@ -92,6 +99,9 @@ pub fn parse_import_section<T: Reencode>(
         (reencoder.old, imports.old) (reencoder.new, imports.new) result }
     ensures after_error { IsTrue T.keeps_defaults → LeavesMade T.sure (ask T.reply T.next) (rows_in (row_of kinds.Import) section.entry)
         reencoder.old reencoder.new result }
+    ensures wants { IsTrue T.keeps_defaults → IsTrue T.sure → (c : ℕ)
+        → HoldsRows (ask T.reply T.next) c (row_of kinds.Import) section.entry
+        (reencoder.old, imports.old) (reencoder.new, imports.new) result }
 {
     bodies::each_row!(section, alloc, row => reencoder.parse_imports(alloc, imports, row))
 }
@@ -145,6 +155,9 @@ pub fn parse_table_section<T: Reencode>(
         (reencoder.old, tables.old) (reencoder.new, tables.new) result }
     ensures after_error { IsTrue T.keeps_defaults → LeavesMade T.sure (ask T.reply T.next) (rows_in (row_of kinds.Table) section.entry)
         reencoder.old reencoder.new result }
+    ensures wants { IsTrue T.keeps_defaults → IsTrue T.sure → (c : ℕ)
+        → HoldsRows (ask T.reply T.next) c (row_of kinds.Table) section.entry
+        (reencoder.old, tables.old) (reencoder.new, tables.new) result }
 {
     bodies::each_row!(section, alloc, row => reencoder.parse_table(alloc, tables, row))
 }
@@ -180,6 +193,9 @@ pub fn parse_memory_section<T: Reencode>(
         (reencoder.old, memories.old) (reencoder.new, memories.new) result }
     ensures after_error { IsTrue T.keeps_defaults → LeavesMade T.sure (ask T.reply T.next) (rows_in (row_of kinds.Memory) section.entry)
         reencoder.old reencoder.new result }
+    ensures wants { IsTrue T.keeps_defaults → IsTrue T.sure → (c : ℕ)
+        → HoldsRows (ask T.reply T.next) c (row_of kinds.Memory) section.entry
+        (reencoder.old, memories.old) (reencoder.new, memories.new) result }
 {
     mapped::map_section(reencoder, alloc, memories, section)
 }
@@ -197,6 +213,9 @@ pub fn parse_global_section<T: Reencode>(
         (reencoder.old, globals.old) (reencoder.new, globals.new) result }
     ensures after_error { IsTrue T.keeps_defaults → LeavesMade T.sure (ask T.reply T.next) (rows_in (row_of kinds.Global) section.entry)
         reencoder.old reencoder.new result }
+    ensures wants { IsTrue T.keeps_defaults → IsTrue T.sure → (c : ℕ)
+        → HoldsRows (ask T.reply T.next) c (row_of kinds.Global) section.entry
+        (reencoder.old, globals.old) (reencoder.new, globals.new) result }
 {
     bodies::each_row!(section, alloc, row => reencoder.parse_global(alloc, globals, row))
 }
@@ -232,6 +251,9 @@ pub fn parse_tag_section<T: Reencode>(
         (reencoder.old, tags.old) (reencoder.new, tags.new) result }
     ensures after_error { IsTrue T.keeps_defaults → LeavesMade T.sure (ask T.reply T.next) (rows_in (row_of kinds.Tag) section.entry) reencoder.old
         reencoder.new result }
+    ensures wants { IsTrue T.keeps_defaults → IsTrue T.sure → (c : ℕ)
+        → HoldsRows (ask T.reply T.next) c (row_of kinds.Tag) section.entry
+        (reencoder.old, tags.old) (reencoder.new, tags.new) result }
 {
     mapped::map_section(reencoder, alloc, tags, section)
 }
@@ -249,6 +271,9 @@ pub fn parse_export_section<T: Reencode>(
         (reencoder.old, exports.old) (reencoder.new, exports.new) result }
     ensures after_error { IsTrue T.keeps_defaults → LeavesMade T.sure (ask T.reply T.next) (rows_in (row_of kinds.Export) section.entry)
         reencoder.old reencoder.new result }
+    ensures wants { IsTrue T.keeps_defaults → IsTrue T.sure → (c : ℕ)
+        → HoldsRows (ask T.reply T.next) c (row_of kinds.Export) section.entry
+        (reencoder.old, exports.old) (reencoder.new, exports.new) result }
 {
     bodies::each_row!(section, alloc, row => reencoder.parse_export(exports, row))
 }
@@ -283,6 +308,9 @@ pub fn parse_element_section<T: Reencode>(
         (reencoder.old, elements.old) (reencoder.new, elements.new) result }
     ensures after_error { IsTrue T.keeps_defaults → LeavesMade T.sure (ask T.reply T.next) (rows_in (row_of kinds.Element) section.entry)
         reencoder.old reencoder.new result }
+    ensures wants { IsTrue T.keeps_defaults → IsTrue T.sure → (c : ℕ)
+        → HoldsRows (ask T.reply T.next) c (row_of kinds.Element) section.entry
+        (reencoder.old, elements.old) (reencoder.new, elements.new) result }
 {
     bodies::each_row!(section, alloc, row => reencoder.parse_element(alloc, elements, row))
 }
@@ -338,6 +366,9 @@ pub fn parse_code_section<T: Reencode>(
         (reencoder.old, code.old.rows) (reencoder.new, code.new.rows) result }
     ensures after_error { IsTrue T.keeps_defaults → LeavesMade T.sure (ask T.reply T.next) (rows_in (row_of kinds.Code) section.entry)
         reencoder.old reencoder.new result }
+    ensures wants { IsTrue T.keeps_defaults → IsTrue T.sure
+        → HoldsRows (ask T.reply T.next) code.old.ceiling (row_of kinds.Code) section.entry
+        (reencoder.old, code.old.rows) (reencoder.new, code.new.rows) result }
 {
     bodies::parse_code_section!(reencoder, alloc, code, section)
 }
@@ -388,6 +419,9 @@ pub fn parse_data_section<T: Reencode>(
         (reencoder.old, segments.old) (reencoder.new, segments.new) result }
     ensures after_error { IsTrue T.keeps_defaults → LeavesMade T.sure (ask T.reply T.next) (rows_in (row_of kinds.Data) section.entry)
         reencoder.old reencoder.new result }
+    ensures wants { IsTrue T.keeps_defaults → IsTrue T.sure → (c : ℕ)
+        → HoldsRows (ask T.reply T.next) c (row_of kinds.Data) section.entry
+        (reencoder.old, segments.old) (reencoder.new, segments.new) result }
 {
     bodies::each_row!(section, alloc, row => reencoder.parse_data(alloc, segments, row))
 }
@@ -511,6 +545,7 @@ pub fn parse_custom_name_subsection<T: Reencode>(
         (reencoder.new, names.new) result }
     ensures after_error { IsTrue T.keeps_defaults → LeavesMade T.sure (ask T.reply T.next) (subsection_in section.entry)
         reencoder.old reencoder.new result }
+    ensures unchanged { IsTrue T.keeps_defaults → IfErr result (λ _. names.new ≡ names.old) }
 {
     subsections::parse_custom_name_subsection(reencoder, alloc, names, section)
 }
@@ -532,6 +567,9 @@ pub fn parse_core_module<T: Reencode>(
     ensures after_error { IsTrue T.keeps_defaults → LeavesCore T.sure T.adds_nothing (ask T.reply T.next) (module_in bytes.now)
         reencoder.old reencoder.new result }
     ensures headless { IsTrue T.keeps_defaults → NoCoreHeading bytes.now → reencoder.new ≡ reencoder.old }
+    ensures wants { IsTrue T.keeps_defaults → IsTrue T.sure
+        → HoldsCore (ask T.reply T.next) T.adds bytes.now (reencoder.old, «module».old)
+        (reencoder.new, «module».new) result }
 {
     bodies::parse_core_module!(reencoder, alloc, module, bytes)
 }

@@ -1,4 +1,4 @@
-use Rattle.reencode_core.proofs.EachBody.{code_begun, code_ended, code_more, code_refused, code_stuck}
+use Rattle.reencode_core.proofs.EachBody.{code_begun, code_more, code_section_ended, code_section_refused, code_section_stuck}
 use Rattle.reencode_core.proofs.reencode.Reencode.parse_code_section.Goals as goal
 
 pub rows-init : goal.rows-init
@@ -8,12 +8,12 @@ pub rows-preserved : goal.rows-preserved
 rows-preserved g c = code_more g.Self.ReencodeIndices c.rows.invariant (rw c.in-Some.is at c.in_ok-func.ensures.row) c.in-Ok.ensures
 
 pub returns-in_err-func : goal.returns-in_err-func
-returns-in_err-func g c = code_stuck g.Self.ReencodeIndices c.rows.invariant _ c.in_err-func.ensures.err _ c.from_residual.ensures.1
+returns-in_err-func g c = code_section_stuck g.Self.ReencodeIndices c.rows.invariant _ c.in_err-func.ensures.err _ c.from_residual.ensures.1
 
 pub returns-in-Err : goal.returns-in-Err
 returns-in-Err g c =
     let row = rw c.in-Some.is at c.in_ok-func.ensures.row in
-    code_refused g.Self.ReencodeIndices c.rows.invariant row c.in-Err.e c.place-at.result c.in-Err.ensures c.place-at.ensures _ c.placed.ensures
+    code_section_refused g.Self.ReencodeIndices c.rows.invariant row c.in-Err.e c.place-at.result c.in-Err.ensures c.place-at.ensures _ c.placed.ensures
 
 pub returns-in-None : goal.returns-in-None
-returns-in-None g c = code_ended g.Self.ReencodeIndices c.rows.invariant (rw c.in-None.is at c.in_ok-func.ensures.ended)
+returns-in-None g c = code_section_ended g.Self.ReencodeIndices c.rows.invariant (rw c.in-None.is at c.in_ok-func.ensures.ended)

@@ -1,10 +1,10 @@
 use Rattle.std.proofs.Common.{refl}
-use Rattle.reencode_core.proofs.EachSection.{core_ended, core_headless, core_hook_refused, core_more, core_section_refused, core_unframed, custom_called, kind_called, sections_begun, unknown_called}
+use Rattle.reencode_core.proofs.EachSection.{module_ended, module_headless, module_hook_refused, core_more, module_section_refused, module_unframed, custom_called, kind_called, sections_begun, unknown_called}
 use Rattle.reencode_core.proofs.Known.{frame_id}
 use Rattle.reencode_core.proofs.reencode.Reencode.parse_core_module.Goals as goal
 
 pub returns-in_err-payloads : goal.returns-in_err-payloads
-returns-in_err-payloads g c = core_headless g.Self.ReencodeIndices g.met.Self.ReencodeIndices.adds_ok _ c.in_err-payloads.ensures.err _ c.from_residual.ensures.1
+returns-in_err-payloads g c = module_headless g.Self.ReencodeIndices g.met.Self.ReencodeIndices.adds_ok _ c.in_err-payloads.ensures.err _ c.from_residual.ensures.1
 
 pub sections-init : goal.sections-init
 sections-init g c = sections_begun g.Self.ReencodeIndices _ _ _
@@ -12,13 +12,13 @@ sections-init g c = sections_begun g.Self.ReencodeIndices _ _ _
 pub returns-in_err-id : goal.returns-in_err-id
 returns-in_err-id g c =
     let keeps = g.met.Self.ReencodeIndices.adds_ok in
-    core_unframed g.Self.ReencodeIndices keeps c.in_ok-payloads.ensures.ok c.sections.invariant _ c.in_err-id.ensures.err _ c.from_residual-in_err-id.ensures.1
+    module_unframed g.Self.ReencodeIndices keeps c.in_ok-payloads.ensures.ok c.sections.invariant _ c.in_err-id.ensures.err _ c.from_residual-in_err-id.ensures.1
 
 pub returns-in_err-intersperse_section_hook-in-Some-Section : goal.returns-in_err-intersperse_section_hook-in-Some-Section
 returns-in_err-intersperse_section_hook-in-Some-Section g c =
     let keeps = g.met.Self.ReencodeIndices.adds_ok in
     let frame = rw (c.in-Some-Section.is, c.in-Some-Section.field-0-is) at c.in_ok-id.ensures.some in
-    core_hook_refused g.Self.ReencodeIndices keeps c.in_ok-payloads.ensures.ok c.sections.invariant c.in-Some-Section.id _ frame
+    module_hook_refused g.Self.ReencodeIndices keeps c.in_ok-payloads.ensures.ok c.sections.invariant c.in-Some-Section.id _ frame
     c.in_err-intersperse_section_hook-in-Some-Section.ensures _ c.from_residual-in_err-intersperse_section_hook-in-Some-Section.ensures.1
 
 pub sections-preserved-in-Ok : goal.sections-preserved-in-Ok
@@ -33,7 +33,7 @@ returns-in-Err g c =
     let keeps = g.met.Self.ReencodeIndices.adds_ok in
     let frame = rw (c.in-Some-Section.is, c.in-Some-Section.field-0-is) at c.in_ok-id.ensures.some in
     let at = rw (c.in-Some-Section.is, c.in-Some-Section.field-0-is) at c.in_ok-id.ensures.at in
-    core_section_refused g.Self.ReencodeIndices keeps c.in_ok-payloads.ensures.ok c.sections.invariant c.in-Err.e c.in-Some-Section.at
+    module_section_refused g.Self.ReencodeIndices keeps c.in_ok-payloads.ensures.ok c.sections.invariant c.in-Err.e c.in-Some-Section.at
     (kind_called g.Self.ReencodeIndices keeps c.in_ok-payloads.ensures.ok c.sections.invariant c.in-Some-Section.id frame c.in_ok-intersperse_section_hook-in-Some-Section.ensures c.in-Err.ensures) at _ c.placed.ensures
 
 pub sections-preserved-in-Ok-parse_custom_section : goal.sections-preserved-in-Ok-parse_custom_section
@@ -48,7 +48,7 @@ returns-in-Err-parse_custom_section g c =
     let keeps = g.met.Self.ReencodeIndices.adds_ok in
     let frame = rw (c.in-Some-Custom.is, c.in-Some-Custom.field-0-is) at c.in_ok-id.ensures.some in
     let at = rw (c.in-Some-Custom.is, c.in-Some-Custom.field-0-is) at c.in_ok-id.ensures.at in
-    core_section_refused g.Self.ReencodeIndices keeps c.in_ok-payloads.ensures.ok c.sections.invariant c.in-Err-parse_custom_section.e c.in-Some-Custom.at
+    module_section_refused g.Self.ReencodeIndices keeps c.in_ok-payloads.ensures.ok c.sections.invariant c.in-Err-parse_custom_section.e c.in-Some-Custom.at
     (custom_called g.Self.ReencodeIndices keeps c.in_ok-payloads.ensures.ok c.sections.invariant frame c.in-Err-parse_custom_section.ensures) at _ c.placed-in-Err-parse_custom_section.ensures
 
 pub sections-preserved : goal.sections-preserved
@@ -65,7 +65,7 @@ returns-in-Err-parse_unknown_section g c =
     let frame = rw (c.in-Some-Unknown.is, c.in-Some-Unknown.field-0-is) at c.in_ok-id.ensures.some in
     let at = rw (c.in-Some-Unknown.is, c.in-Some-Unknown.field-0-is) at c.in_ok-id.ensures.at in
     let low = rw (c.in-Some-Unknown.is, c.in-Some-Unknown.field-0-is) at c.in_ok-id.ensures.unknown in
-    core_section_refused g.Self.ReencodeIndices keeps c.in_ok-payloads.ensures.ok c.sections.invariant c.in-Err-parse_unknown_section.e c.in-Some-Unknown.at
+    module_section_refused g.Self.ReencodeIndices keeps c.in_ok-payloads.ensures.ok c.sections.invariant c.in-Err-parse_unknown_section.e c.in-Some-Unknown.at
     (unknown_called g.Self.ReencodeIndices keeps c.in_ok-payloads.ensures.ok c.sections.invariant low frame c.in-Err-parse_unknown_section.ensures) at _ c.placed-in-Err-parse_unknown_section.ensures
 
 pub parse_unknown_section-requires : goal.parse_unknown_section-requires
@@ -75,4 +75,4 @@ pub returns-in-None : goal.returns-in-None
 returns-in-None g c =
     let keeps = g.met.Self.ReencodeIndices.adds_ok in
     let ended = rw c.in-None.is at c.in_ok-id.ensures.ended in
-    core_ended g.Self.ReencodeIndices keeps c.in_ok-payloads.ensures.ok c.sections.invariant ended.0 _ c.intersperse_section_hook-in-None.ensures
+    module_ended g.Self.ReencodeIndices keeps c.in_ok-payloads.ensures.ok c.sections.invariant ended.0 _ c.intersperse_section_hook-in-None.ensures

@@ -1,4 +1,5 @@
 use Rattle.std.proofs.Common.{refl}
+use Rattle.reencode_core.proofs.EachBody.{code_clauses}
 use Rattle.reencode_core.proofs.MappedSection.{body_missing, code_done, held, hook_item, item_done, item_refused, section_done}
 use Rattle.reencode_core.proofs.reencode.Reencode.parse_section.Goals as goal
 
@@ -33,7 +34,7 @@ pub returns-in-Tags : goal.returns-in-Tags
 returns-in-Tags g c = let b = held c.args.id c.args.body.now c.in_ok-content.ensures.ok c.in-Tags.is in section_done g.Self.ReencodeIndices b.0 refl _ _ c.new-tags.ensures b.1 c.parse_tag_section-mapped.ensures c.add_rows-in-Tags.ensures
 
 pub returns-in-Code : goal.returns-in-Code
-returns-in-Code g c = let b = held c.args.id c.args.body.now c.in_ok-content.ensures.ok c.in-Code.is in code_done g.Self.ReencodeIndices _ _ b.0 c.with_room-code.ensures c.ceiling-ceiling.ensures b.1 c.parse_code_section-mapped.ensures (rw c.into_rows.ensures at c.take_section.ensures)
+returns-in-Code g c = let b = held c.args.id c.args.body.now c.in_ok-content.ensures.ok c.in-Code.is in code_done g.Self.ReencodeIndices _ _ b.0 c.with_room-code.ensures c.ceiling-ceiling.ensures b.1 (code_clauses g.Self.ReencodeIndices c.parse_code_section-mapped.ensures) (rw c.into_rows.ensures at c.take_section.ensures)
 
 pub returns-in-Data : goal.returns-in-Data
 returns-in-Data g c = let b = held c.args.id c.args.body.now c.in_ok-content.ensures.ok c.in-Data.is in section_done g.Self.ReencodeIndices b.0 refl _ _ c.with_room-segments.ensures b.1 c.parse_data_section-mapped.ensures c.take_section-in-Data.ensures
