@@ -1,4 +1,4 @@
-pub mod Joining
+pub mod Cutting
 pub mod CodeHeld
 pub mod Standing
 pub mod ModuleHeld

@@ -1,5 +1,6 @@
 -- Pieces of an output: kept ranges of the input, and made bytes.
-use Rattle.std.specs.Prelude.{◌≡◌, ◌≢◌, ℕ, ◌+◌, ◌-◌, ◌≤◌, List, [], ◌∷◌, ◌++◌, length, slice_range}
+use Rattle.std.specs.Prelude.{◌≡◌, ◌≢◌, ℕ, ◌+◌, ◌-◌, ◌<◌, ◌≤◌, List, [], ◌∷◌, ◌++◌, length, take, drop, slice_range}
+use Rattle.pieces.specs.declared.cuts.Cut.{Cut}
 use Rattle.pieces.specs.declared.pieces.Piece.{Piece}
 use Rattle.pieces.specs.declared.pieces.Piece.TheVariants.{Kept, Made}
 
@@ -76,22 +77,54 @@ with_kept g head start end = record g {
 abbrev pub with_grown : Grown → Grown → Grown
 with_grown g h = record g { bytes = g.bytes ++ h.bytes; kept = g.kept ++ h.kept }
 
--- made bytes and kept ranges in pairs
-abbrev pub Paired : List Piece → Type 0
-Paired [] = Unit {0}
-Paired (Kept start end ∷ ps) = ⊥
-Paired (Made bytes ∷ []) = ⊥
-Paired (Made bytes ∷ Made more ∷ ps) = ⊥
-Paired (Made bytes ∷ Kept start end ∷ ps) = (bytes ≢ []) × Paired ps
+-- ---- made bytes, and kept ranges that are cut into them
 
--- the bytes behind the pairs are the last piece, where there are any
+-- the bytes: in front of each range stand so many made ones as it says, and behind the last those that are left
+abbrev pub cut_bytes : List ℕ → List ℕ → List Cut → List ℕ
+cut_bytes input made [] = made
+cut_bytes input made (c ∷ cs) = take c.made made ++ (slice_range input c.start c.end ++ cut_bytes input (drop c.made made) cs)
+
+-- the kept ranges
+abbrev pub cut_ranges : List Cut → List Range
+cut_ranges [] = []
+cut_ranges (c ∷ cs) = range c.start c.end ∷ cut_ranges cs
+
+-- how many made bytes stand in front of the ranges, and between them
+abbrev pub cut_made : List Cut → ℕ
+cut_made [] = 0
+cut_made (c ∷ cs) = c.made + cut_made cs
+
+-- Each range lies within an input of so many bytes, and has made bytes in front of it.
+abbrev pub AreCuts : ℕ → List Cut → Type 0
+AreCuts len [] = Unit {0}
+AreCuts len (c ∷ cs) = ((0 < c.made) × ((c.start ≤ c.end) × (c.end ≤ len))) × AreCuts len cs
+
+-- with so many made bytes more in front of the first range
+abbrev pub raised : ℕ → List Cut → List Cut
+raised more [] = []
+raised more (c ∷ cs) = record c { made = more + c.made } ∷ cs
+
+-- where the last range stands, with these behind one at a place, and so many bytes in front of them
+abbrev pub last_of : List Cut → ℕ → ℕ → ℕ
+last_of [] last begun = last
+last_of (c ∷ cs) last begun = begun + cut_made (c ∷ cs)
+
+-- the bytes behind the last range are the last piece, where there are any
 abbrev pub last_made : List ℕ → List Piece
 last_made [] = []
 last_made (b ∷ bytes) = Made (b ∷ bytes) ∷ []
 
--- made bytes, and pieces behind them
-abbrev pub behind_made : List ℕ → List Piece → List Piece
-behind_made bytes ps = Made bytes ∷ ps
+-- the pieces
+abbrev pub cut_pieces : List ℕ → List Cut → List Piece
+cut_pieces made [] = last_made made
+cut_pieces made (c ∷ cs) = Made (take c.made made) ∷ Kept c.start c.end ∷ cut_pieces (drop c.made made) cs
+
+-- Ranges are cut into made bytes, of which the first are room: the last range stands at a place, and all have so many bytes.
+pub record AreCut (input made : List ℕ) (front last size : ℕ) (cuts : List Cut) : Type 0 where
+  pub placed : front + cut_made cuts ≡ last
+  pub shown : last ≤ length made
+  pub cuts_are : AreCuts (length input) cuts
+  pub sized : size ≡ length (cut_bytes input (drop front made) cuts)
 
 -- the pieces are those of what was grown
 pub record AreGrown (g : Grown) (pieces : List Piece) : Type 0 where

@@ -76,7 +76,6 @@ fn kept_head<'a>(count: u32, rows: &'a [u8], body: &[u8]) -> Option<&'a [u8]>
 /// Adds the rows of a section. Where they are one, of the body that stands in the input up to a place, the body is kept.
 fn add_rows(
     pieces: &mut Growing<'_>,
-    alloc: Global,
     count: u32,
     rows: &[u8],
     body: &[u8],
@@ -91,20 +90,21 @@ fn add_rows(
     ensures err { OnErr result (pieces.new ≡ pieces.old) }
 {
     match kept_head(count, rows, body) {
-        Some(head) => pieces.keep(alloc, head, end - body.len(), end),
+        Some(head) => pieces.keep(head, end - body.len(), end),
         None => pieces.add(rows),
     }
 }
 
 impl<'a> CodePieces<'a> {
-    /// A section without rows, and the greatest length that a function's locals and operators may have. It takes no memory.
-    pub fn new(alloc: Global, input: &'a [u8], ceiling: u32) -> CodePieces<'a>
+    /// A section without rows, and the greatest length that a function's locals and operators may have. It has room for so many
+    /// bytes in front of its rows, where there is memory for it.
+    pub fn new(alloc: Global, input: &'a [u8], ceiling: u32, front: usize) -> CodePieces<'a>
         ensures { result ≡ record { input = input.now; code = record { ceiling = ceiling; rows = [] }; kept = [] } }
     {
         CodePieces {
             ceiling,
             count: 0,
-            pieces: Growing::new(alloc, input),
+            pieces: Growing::with_room(alloc, input, front),
         }
     }
 
@@ -125,7 +125,6 @@ impl<'a> CodePieces<'a> {
     /// Adds the rows of a section. Where they are one, of the body that stands in the input up to a place, the body is kept.
     pub fn add(
         &mut self,
-        alloc: Global,
         code: &w::CodeSection,
         body: &[u8],
         end: usize,
@@ -146,7 +145,7 @@ impl<'a> CodePieces<'a> {
             });
         };
         let rows = code.as_slice();
-        let added = add_rows(&mut self.pieces, alloc, code.len(), rows, body, end);
+        let added = add_rows(&mut self.pieces, code.len(), rows, body, end);
         match added {
             Ok(()) => {
                 self.count = count;

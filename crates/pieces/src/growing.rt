@@ -1,12 +1,12 @@
 //! Pieces under construction.
-ghost use Rattle.std.specs.Prelude.{◌≡◌, ◌++◌, ◌-◌, ◌<◌, ◌≤◌, ◌^◌, [], length, drop, vec_len, OnOk, OnErr, IfOk, IfSome, IfNone};
-ghost use Rattle.pieces.specs.Pieces.{AreGrown, Paired, behind_made, last_made, with_bytes, with_grown, with_kept};
+ghost use Rattle.std.specs.Prelude.{◌≡◌, ◌++◌, ◌-◌, ◌<◌, ◌≤◌, ◌^◌, [], length, OnOk, OnErr, IfOk};
+ghost use Rattle.pieces.specs.Pieces.{AreGrown, with_bytes, with_grown, with_kept};
 
-use crate::pieces::{Piece, Pieces};
+use crate::cuts::{Cut, cut_out, joined_cuts, last_behind, raise, take_over};
+use crate::pieces::Pieces;
 use std::alloc::Global;
 use std::marker::Model;
-use std::mem;
-use wasm_leb::{List, NoMemory};
+use wasm_leb::NoMemory;
 
 /// Pieces under construction over an input.
 ///
@@ -14,27 +14,28 @@ use wasm_leb::{List, NoMemory};
 #[derive(Drop)]
 pub(crate) struct Growing<'a> {
     input: &'a [u8],
-    // pairs of made bytes and kept ranges
-    pieces: Vec<Piece>,
-    // the bytes behind them
+    // all made bytes, behind so many that are room for what others have in front of them
     made: Vec<u8>,
+    front: usize,
+    // the ranges that are kept between them, and where the made bytes behind the last of these begin
+    cuts: Vec<Cut>,
+    last: usize,
     size: u64,
 }
 
 impl<'a> Model for Growing<'a> {
-    ghost use Rattle.std.specs.Prelude.{◌≡◌, ◌++◌, length};
-    ghost use Rattle.pieces.specs.Pieces.{AreWithin, Grown, Paired, joined, kept_ranges};
+    ghost use Rattle.std.specs.Prelude.{drop};
+    ghost use Rattle.pieces.specs.Pieces.{AreCut, Grown, cut_bytes, cut_ranges};
 
     ghost Value = { Grown };
 
     ghost view = { λ g. record {
       input = g.input.now;
-      bytes = joined g.input.now g.pieces.items ++ g.made.items;
-      kept = kept_ranges g.pieces.items;
+      bytes = cut_bytes g.input.now (drop g.front g.made.items) g.cuts.items;
+      kept = cut_ranges g.cuts.items;
     } };
 
-    ghost invariant = { λ g. (g.size ≡ length (joined g.input.now g.pieces.items ++ g.made.items)) × Paired g.pieces.items
-        × AreWithin (length g.input.now) g.pieces.items };
+    ghost invariant = { λ g. AreCut g.input.now g.made.items g.front g.last g.size g.cuts.items };
 }
 
 impl<'a> Growing<'a> {
@@ -44,9 +45,29 @@ impl<'a> Growing<'a> {
     {
         Growing {
             input,
-            pieces: Vec::new(alloc),
             made: Vec::new(alloc),
+            front: 0,
+            cuts: Vec::new(alloc),
+            last: 0,
             size: 0,
+        }
+    }
+
+    /// No pieces, with room for so many bytes in front of them, where there is memory for it.
+    pub fn with_room(alloc: Global, input: &'a [u8], front: usize) -> Growing<'a>
+        ensures { result ≡ record { input = input.now; bytes = []; kept = [] } }
+    {
+        let mut made = Vec::new(alloc);
+        match made.resize(front, 0) {
+            Ok(()) => Growing {
+                input,
+                made,
+                front,
+                cuts: Vec::new(alloc),
+                last: front,
+                size: 0,
+            },
+            Err(_) => Growing::new(alloc, input),
         }
     }
 
@@ -62,6 +83,11 @@ impl<'a> Growing<'a> {
         ensures { result.now ≡ self.now.input }
     {
         self.input
+    }
+
+    /// How many made bytes there are, those of room among them.
+    pub fn made_len(&self) -> usize {
+        self.made.len()
     }
 
     /// Adds bytes.
@@ -82,13 +108,7 @@ impl<'a> Growing<'a> {
     }
 
     /// Keeps a range of the input, behind some bytes.
-    pub fn keep(
-        &mut self,
-        alloc: Global,
-        head: &[u8],
-        start: usize,
-        end: usize,
-    ) -> Result<(), NoMemory>
+    pub fn keep(&mut self, head: &[u8], start: usize, end: usize) -> Result<(), NoMemory>
         requires ordered { start ≤ end }
         requires within { end ≤ length self.old.input }
         requires some { 0 < length head.now }
@@ -101,7 +121,7 @@ impl<'a> Growing<'a> {
         let Some(size) = size.checked_add((end - start) as u64) else {
             return Err(NoMemory);
         };
-        match self.pieces.reserve(2) {
+        match self.cuts.reserve(1) {
             Ok(()) => {}
             Err(_) => return Err(NoMemory),
         }
@@ -109,42 +129,42 @@ impl<'a> Growing<'a> {
             Ok(()) => {}
             Err(_) => return Err(NoMemory),
         }
-        let made = mem::replace(&mut self.made, Vec::new(alloc));
-        self.pieces.push_reserved(Piece::Made(List::from_vec(made)));
-        self.pieces.push_reserved(Piece::Kept { start, end });
+        let made = self.made.len() - self.last;
+        self.cuts.push_reserved(Cut { made, start, end });
+        self.last += made;
         self.size = size;
         Ok(())
     }
 
-    /// Adds the pieces of another over the same input.
-    pub fn append(&mut self, other: Growing<'_>) -> Result<(), NoMemory>
+    /// Adds bytes, and the pieces of another over the same input behind them.
+    ///
+    /// Where these have room for just the made bytes in front of them, none of theirs is copied.
+    pub fn append(&mut self, head: &[u8], other: Growing<'_>) -> Result<(), NoMemory>
         requires { other.input ≡ self.old.input }
-        ensures ok { OnOk result (self.new ≡ with_grown self.old other.entry) }
+        ensures ok { OnOk result (self.new ≡ with_grown (with_bytes self.old head.now) other.entry) }
         ensures err { OnErr result (self.new ≡ self.old) }
     {
-        let Some(size) = self.size.checked_add(other.size) else {
+        let Some(size) = self.size.checked_add(head.len() as u64) else {
             return Err(NoMemory);
         };
-        let mut pieces = other.pieces;
-        match self.pieces.reserve(pieces.len()) {
-            Ok(()) => {}
-            Err(_) => return Err(NoMemory),
-        }
-        let Some(first) = first_made(&pieces) else {
-            match self.made.extend_from_slice(&other.made) {
-                Ok(()) => {}
-                Err(_) => return Err(NoMemory),
-            }
-            self.size = size;
-            return Ok(());
+        let Some(size) = size.checked_add(other.size) else {
+            return Err(NoMemory);
         };
-        match self.made.extend_from_slice(first) {
+        let mut cuts = other.cuts;
+        match self.cuts.reserve(cuts.len()) {
             Ok(()) => {}
             Err(_) => return Err(NoMemory),
         }
-        let made = mem::replace(&mut self.made, other.made);
-        put_first(&mut pieces, made);
-        match self.pieces.append(&mut pieces) {
+        let begun = self.made.len();
+        match take_over(&mut self.made, head, other.made, other.front) {
+            Ok(()) => {}
+            Err(NoMemory) => return Err(NoMemory),
+        }
+        let begun = begun + head.len();
+        let last = last_behind(&cuts, self.last, begun, other.last - other.front);
+        raise(&mut cuts, begun - self.last);
+        self.last = last;
+        match self.cuts.append(&mut cuts) {
             Ok(()) => {}
             Err(_) => return Err(NoMemory),
         }
@@ -153,46 +173,27 @@ impl<'a> Growing<'a> {
     }
 
     /// The pieces.
-    pub fn finish(self) -> Result<Pieces, NoMemory>
+    pub fn finish(self, alloc: Global) -> Result<Pieces, NoMemory>
         ensures { IfOk result (AreGrown self.entry) }
     {
         let size = self.size;
-        match with_last(self.pieces, self.made) {
+        match cut_out(alloc, self.made, self.front, &self.cuts) {
             Ok(pieces) => Ok(Pieces::of(pieces, size)),
             Err(NoMemory) => Err(NoMemory),
         }
     }
-}
 
-/// The made bytes that some pieces begin with.
-fn first_made(pieces: &[Piece]) -> Option<&[u8]>
-    ensures some { IfSome result (λ first. pieces.now ≡ behind_made first.now (drop 1 pieces.now)) }
-    ensures none { IfNone result (Paired pieces.now → pieces.now ≡ []) }
-{
-    match pieces {
-        [Piece::Made(first), ..] => Some(first.as_slice()),
-        _ => None,
-    }
-}
-
-/// Puts bytes in the place of the first piece.
-fn put_first(pieces: &mut Vec<Piece>, made: Vec<u8>)
-    requires { 0 < vec_len pieces.old }
-    ensures { pieces.new.items ≡ behind_made made.items (drop 1 pieces.old.items) }
-{
-    pieces[0] = Piece::Made(List::from_vec(made));
-}
-
-/// The pieces, and the bytes behind them as the last one, where there are any.
-fn with_last(pieces: Vec<Piece>, made: Vec<u8>) -> Result<Vec<Piece>, NoMemory>
-    ensures { IfOk result (λ all. all.items ≡ pieces.items ++ last_made made.items) }
-{
-    let mut pieces = pieces;
-    if made.is_empty() {
-        return Ok(pieces);
-    }
-    match pieces.push(Piece::Made(List::from_vec(made))) {
-        Ok(()) => Ok(pieces),
-        Err(_) => Err(NoMemory),
+    /// The bytes. Where no range is kept they are those that were made, in their own memory.
+    pub fn join(self, alloc: Global) -> Result<Vec<u8>, NoMemory>
+        ensures { IfOk result (λ out. out.items ≡ self.entry.bytes) }
+    {
+        if self.front == 0 && self.cuts.len() == 0 {
+            return Ok(self.made);
+        }
+        let Ok(size) = usize::try_from(self.size) else {
+            return Err(NoMemory);
+        };
+        let made = &self.made[self.front..];
+        joined_cuts(alloc, self.input, made, &self.cuts, size)
     }
 }

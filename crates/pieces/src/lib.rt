@@ -2,13 +2,14 @@
 #![tactic(auto)]
 
 mod code;
+mod cuts;
 mod growing;
 mod module;
 mod pieces;
 mod reencode;
 
 pub use pieces::{Piece, Pieces};
-pub use reencode::reencode_pieces;
+pub use reencode::{reencode_joined, reencode_pieces};
 
 mod laws;
 

@@ -4,6 +4,7 @@ ghost use Rattle.wasm_leb.specs.Leb.{leb};
 ghost use Rattle.wasm_shapes.specs.Tree.{normal};
 ghost use Rattle.wasm_shapes.specs.Types.{vector_tree};
 ghost use Rattle.wasm_write.specs.Faults.{IfTooLarge};
+ghost use Rattle.wasm_write.specs.Sections.{module_bytes};
 ghost use Rattle.pieces.specs.Sinks.{AreModule, HeldModule, HeldModule-prop, with_code, with_sections};
 
 use crate::code::CodePieces;
@@ -86,6 +87,19 @@ impl<'a> ModulePieces<'a> {
         self.pieces.input()
     }
 
+    /// A code section without rows. Where its body comes out as long as `len`, of which the first `counted` are the number of the
+    /// rows, and is longer than the made bytes are now, `add_code` copies none of its rows.
+    pub fn new_code(&self, alloc: Global, counted: usize, len: usize) -> CodePieces<'a>
+        ensures { result ≡ record {
+          input = self.now.input;
+          code = record { ceiling = self.now.sections.ceiling; rows = [] };
+          kept = [];
+        } }
+    {
+        let front = room_for(self.pieces.made_len(), counted, len);
+        CodePieces::new(alloc, self.pieces.input(), self.ceiling, front)
+    }
+
     /// Adds the sections of a module.
     pub fn add(&mut self, module: &w::Module) -> Result<(), NoMemory>
         ensures ok { OnOk result (self.new
@@ -126,14 +140,34 @@ impl<'a> ModulePieces<'a> {
     }
 
     /// The pieces.
-    pub fn finish(self) -> Result<Pieces, NoMemory>
+    pub fn finish(self, alloc: Global) -> Result<Pieces, NoMemory>
         ensures { IfOk result (AreModule self.entry) }
     {
-        match self.pieces.finish() {
+        match self.pieces.finish(alloc) {
             Ok(pieces) => Ok(pieces),
             Err(NoMemory) => Err(NoMemory),
         }
     }
+
+    /// Its bytes.
+    pub fn join(self, alloc: Global) -> Result<Vec<u8>, NoMemory>
+        ensures { IfOk result (λ out. out.items ≡ module_bytes self.entry.sections.sections) }
+    {
+        match self.pieces.join(alloc) {
+            Ok(out) => Ok(out),
+            Err(NoMemory) => Err(NoMemory),
+        }
+    }
+}
+
+/// How many bytes stand in front of the rows of a section behind so many bytes, where its body has so many, of which the first
+/// are the number of the rows; or 0 where the body is no longer than the bytes in front.
+fn room_for(held: usize, counted: usize, len: usize) -> usize {
+    if len <= held || len > u32::MAX as usize {
+        return 0;
+    }
+    held.saturating_add(1 + len_u32(len as u32))
+        .saturating_add(counted)
 }
 
 /// Adds a code section whose body has so many bytes.
@@ -151,8 +185,5 @@ fn add_framed(
     ensures err { OnErr result (pieces.new ≡ pieces.old) }
 {
     let head = code_head(alloc, len, code.len())?;
-    let mut framed = Growing::new(alloc, pieces.input());
-    framed.add(&head)?;
-    framed.append(code.into_rows())?;
-    pieces.append(framed)
+    pieces.append(&head, code.into_rows())
 }

@@ -72,7 +72,7 @@ fn add_body<R: Reencode>(
         Ok(()) => {}
         Err(e) => return Err(e),
     }
-    match code.add(alloc, own, body, end) {
+    match code.add(own, body, end) {
         Ok(()) => Ok(()),
         Err(fault) => Err(Error::from(fault)),
     }
@@ -163,7 +163,7 @@ fn add_code_section<R: Reencode>(
 {
     let section = r::CodeSectionReader::new(body)?;
     let input = sink.input();
-    let mut code = CodePieces::new(alloc, input, sink.ceiling());
+    let mut code = sink.new_code(alloc, section.place(), body.len());
     let mapped = add_bodies(reencoder, alloc, &mut code, section, input, start);
     add_mapped(alloc, sink, mapped, code)
 }
@@ -380,8 +380,9 @@ pub fn reencode_pieces<R: Reencode>(
     ensures woven { IsTrue R.keeps_defaults
         → GivesWovenBytes (ask R.reply R.next) R.adds ceiling bytes.now r.old r.new result
         (joined bytes.now) }
-    ensures after_error { IsTrue R.keeps_defaults → LeavesCore R.sure R.adds_nothing (ask R.reply R.next)
-        (core_in bytes.now) r.old r.new result }
+    ensures after_error { IsTrue R.keeps_defaults
+        → LeavesCore R.sure R.adds_nothing (ask R.reply R.next) (core_in bytes.now)
+        r.old r.new result }
     ensures headless { IsTrue R.keeps_defaults → NoCoreHeading bytes.now → r.new ≡ r.old }
     ensures within { IfOk result (AreWithin (length bytes.now)) }
     ensures alternate { IfOk result Alternate }
@@ -393,5 +394,28 @@ pub fn reencode_pieces<R: Reencode>(
 {
     let mut sink = ModulePieces::new(alloc, bytes, ceiling)?;
     walk(r, alloc, &mut sink, bytes)?;
-    Ok(sink.finish()?)
+    Ok(sink.finish(alloc)?)
+}
+
+/// Re-encodes a core module as `reencode_core` does, by way of pieces: a function body that stays as it stands is copied once, from
+/// the input to where it stands in the end.
+pub fn reencode_joined<R: Reencode>(
+    alloc: Global,
+    r: &mut R,
+    bytes: &[u8],
+    ceiling: u32,
+) -> Result<Vec<u8>, Error<R::Error>>
+    ensures default { IsTrue R.keeps_defaults → IsTrue R.adds_nothing
+        → GivesBytes (ask R.reply R.next) ceiling bytes.now r.old r.new result (λ v. v.items) }
+    ensures woven { IsTrue R.keeps_defaults
+        → GivesWovenBytes (ask R.reply R.next) R.adds ceiling bytes.now r.old r.new result
+        (λ v. v.items) }
+    ensures after_error { IsTrue R.keeps_defaults
+        → LeavesCore R.sure R.adds_nothing (ask R.reply R.next) (core_in bytes.now)
+        r.old r.new result }
+    ensures headless { IsTrue R.keeps_defaults → NoCoreHeading bytes.now → r.new ≡ r.old }
+{
+    let mut sink = ModulePieces::new(alloc, bytes, ceiling)?;
+    walk(r, alloc, &mut sink, bytes)?;
+    Ok(sink.join(alloc)?)
 }

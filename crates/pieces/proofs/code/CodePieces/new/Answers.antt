@@ -7,9 +7,9 @@ use Rattle.pieces.specs.Sinks.{CodeGrown, code_sound}
 use Rattle.pieces.proofs.code.CodePieces.new.Goals as goal
 
 pub invariant_of-result : goal.invariant_of-result
-invariant_of-result c = (held_none code_row (ap Grown.bytes c.new.ensures), tt)
+invariant_of-result c = (held_none code_row (ap Grown.bytes c.with_room.ensures), tt)
 
 pub returns : goal.returns
 returns c =
     let made : Grown → List Tree → CodeGrown = λ g z. record { input = g.input; code = record { ceiling = c.args.ceiling; rows = z }; kept = g.kept } in
-    ap₂ made c.new.ensures (held_none_is code_row code_sound _ (ap Grown.bytes c.new.ensures))
+    ap₂ made c.with_room.ensures (held_none_is code_row code_sound _ (ap Grown.bytes c.with_room.ensures))

@@ -1,30 +1,44 @@
-use Rattle.std.proofs.Common.{◌++◌, length, ap, sym, ◌∙◌}
-use Rattle.pieces.specs.Pieces.{last_made, total}
-use Rattle.pieces.proofs.Joining.{alternate_last, joined_last, ranges_last, total_joined, within_last}
+use Rattle.std.proofs.Common.{◌≡◌, ◌≤◌, List, length, drop, ap, sym, ◌∙◌, arith, length-drop}
+use Rattle.pieces.specs.Pieces.{cut_made, cut_pieces, total}
+use Rattle.pieces.specs.declared.cuts.Cut.{Cut}
+use Rattle.pieces.proofs.Cutting.{alternate_pieces, joined_pieces, ranges_pieces, total_joined, within_pieces}
 use Rattle.pieces.proofs.growing.Growing.finish.Goals as goal
 
 pub of-requires-clause-size : goal.of-requires-clause-size
 of-requires-clause-size c =
-    let ps = c.self.inside.pieces.items in
-    let made = c.self.inside.made.items in
+    let made = drop c.self.inside.front c.self.inside.made.items in
     let input = c.self.inside.input.now in
-    let within = within_last (length input) ps made c.self.invariant.2 in
-    c.self.invariant.0 ∙ ap length (sym (joined_last input ps made)) ∙ sym (total_joined input (ps ++ last_made made) within) ∙ ap total (sym c.in-Ok.ensures)
+    let cs = c.self.inside.cuts.items in
+    let p = c.self.invariant in
+    let within = within_pieces (length input) made cs p.cuts_are in
+    let items = c.in-Ok.ensures ∙ ap (λ (z : List Cut). cut_pieces made z) c.deref.ensures.value in
+    p.sized ∙ ap length (sym (joined_pieces input made cs)) ∙ sym (total_joined input (cut_pieces made cs) within) ∙ ap total (sym items)
 
 pub of-requires-clause-alternate : goal.of-requires-clause-alternate
 of-requires-clause-alternate c =
-    rw c.in-Ok.ensures (alternate_last c.self.inside.pieces.items c.self.inside.made.items c.self.invariant.1)
+    let made = drop c.self.inside.front c.self.inside.made.items in
+    let p = c.self.invariant in
+    let a = p.placed in
+    let b = p.shown in
+    let l = length-drop c.self.inside.front c.self.inside.made.items in
+    let items = c.in-Ok.ensures ∙ ap (λ (z : List Cut). cut_pieces made z) c.deref.ensures.value in
+    rw items (alternate_pieces (length c.self.inside.input.now) made c.self.inside.cuts.items p.cuts_are (omega (arith, a, b, l)))
 
 pub returns-in-Ok : goal.returns-in-Ok
 returns-in-Ok c =
-    let ps = c.self.inside.pieces.items in
-    let made = c.self.inside.made.items in
+    let made = drop c.self.inside.front c.self.inside.made.items in
     let input = c.self.inside.input.now in
-    let within = within_last (length input) ps made c.self.invariant.2 in
-    rw (c.of.ensures, c.in-Ok.ensures, ← c.self.view_is) (record {
-      joins = joined_last input ps made;
-      ranges = ranges_last ps made;
+    let cs = c.self.inside.cuts.items in
+    let p = c.self.invariant in
+    let a = p.placed in
+    let b = p.shown in
+    let l = length-drop c.self.inside.front c.self.inside.made.items in
+    let within = within_pieces (length input) made cs p.cuts_are in
+    let items = c.in-Ok.ensures ∙ ap (λ (z : List Cut). cut_pieces made z) c.deref.ensures.value in
+    rw (c.of.ensures, items, ← c.self.view_is) (record {
+      joins = joined_pieces input made cs;
+      ranges = ranges_pieces made cs;
       within = within;
-      alternate = alternate_last ps made c.self.invariant.1;
-      size = total_joined input (ps ++ last_made made) within ∙ ap length (joined_last input ps made);
+      alternate = alternate_pieces (length input) made cs p.cuts_are (omega (arith, a, b, l));
+      size = total_joined input (cut_pieces made cs) within ∙ ap length (joined_pieces input made cs);
     })
