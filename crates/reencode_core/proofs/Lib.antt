@@ -42,3 +42,7 @@ pub mod Weaves
 pub mod WovenRead
 pub mod Additions
 pub mod Interspersing
+pub mod SkippedLocals
+pub mod MapsOn
+pub mod MapsRest
+pub mod MapsWhole

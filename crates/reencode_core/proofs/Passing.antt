@@ -218,7 +218,7 @@ skips_no_type {rest = rest} e same = record {
 }
 
 -- the types of numbers, by how far they stand before the last one
-number_is : (k b : ℕ) → b + k ≡ 0x7f → k < 5 → Is (shape_of Named.value) (Tree.row k (Tree.fixed b))
+pub number_is : (k b : ℕ) → b + k ≡ 0x7f → k < 5 → Is (shape_of Named.value) (Tree.row k (Tree.fixed b))
 number_is zero b e small = let P : ℕ → Type 0 = λ z. Is (shape_of Named.value) (Tree.row 0 (Tree.fixed z)) in let same : 0x7f ≡ b = omega arith in subst P same (Is.first Is.fixed)
 number_is (suc zero) b e small = let P : ℕ → Type 0 = λ z. Is (shape_of Named.value) (Tree.row 1 (Tree.fixed z)) in let same : 0x7e ≡ b = omega arith in subst P same (Is.later {k = 0} (Is.first Is.fixed))
 number_is (suc (suc zero)) b e small =
@@ -307,7 +307,7 @@ module _ {S E : Type 0} (asked : Asks S E) (s m : S) {bytes rest behind : List �
 
 -- ---- operators that ask nothing
 
-unasked_walk : {S E : Type 0} (asked : Asks S E) (s : S) (t : Tree) → IsUnasked t → (c : ℕ) → walk asked c s t ≡ accepted t s
+pub unasked_walk : {S E : Type 0} (asked : Asks S E) (s : S) (t : Tree) → IsUnasked t → (c : ℕ) → walk asked c s t ≡ accepted t s
 unasked_walk asked s (Tree.u32 n) h c = refl
 unasked_walk asked s (Tree.s32 z) h c = refl
 unasked_walk asked s (Tree.s64 z) h c = refl
@@ -317,6 +317,9 @@ unasked_walk asked s Tree.empty h c = refl
 unasked_walk asked s (Tree.row k t) h c = rw (unasked_walk asked s t h c) refl
 unasked_walk asked s (Tree.pair t u) h c = rw (unasked_walk asked s t h.0 c, unasked_walk asked s u h.1 c) refl
 unasked_walk asked s (Tree.op k t) h c = rw (unasked_walk asked s t h c) refl
+unasked_walk asked s (Tree.vec t) h c = rw (unasked_walk asked s t h c) refl
+unasked_walk asked s Tree.nil h c = refl
+unasked_walk asked s (Tree.cons t u) h c = rw (unasked_walk asked s t h.0 c, unasked_walk asked s u h.1 c) refl
 unasked_walk asked s _ h c = absurd h
 
 -- nothing is asked, so the operator stays for every reencoder

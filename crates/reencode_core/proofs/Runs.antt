@@ -50,6 +50,10 @@ no_run asked s bytes = record {
   walks = λ c others. onto_nothing asked (walk asked c s others);
 }
 
+pub no_run_counted : {S E : Type 0} (asked : Asks S E) (s : S) (bytes : List ℕ) → length (no_run asked s bytes).text ≡ 0
+unfolding no_run
+no_run_counted asked s bytes = refl
+
 module _ {S E : Type 0} {asked : Asks S E} {s m : S} {bytes left : List ℕ} (n : ℕ) (d : KeepsOperators asked s bytes left m) (counted : length d.text ≡ n) where
   -- what stands behind so many bytes
   pub run_left : drop n bytes ≡ left
@@ -117,7 +121,7 @@ next_within {bytes = bytes} n (next.Made op f k) p =
 
 -- ---- the body
 
-many_front : (rows : List Tree) (text left bytes : List ℕ) → Is (Shape.many (Shape.op true)) (rows_tree rows) → Spelled (rows_tree rows) text → bytes ≡ text ++ left →
+pub many_front : (rows : List Tree) (text left bytes : List ℕ) → Is (Shape.many (Shape.op true)) (rows_tree rows) → Spelled (rows_tree rows) text → bytes ≡ text ++ left →
     (t : Tree) → ManyLeft bytes t → (others : Tree) × (t ≡ rows_then rows others) × ManyLeft left others
 many_front [] text left bytes d p e t r =
     let P : List ℕ → Type 0 = λ z. ManyLeft z t in (t, refl, subst P (e ∙ ap (λ (z : List ℕ). z ++ left) p) r)

@@ -66,7 +66,7 @@ operators_never asked bytes s m f fault.NoMemory g h = h
 operators_never asked bytes s m f fault.CodeSize g h = h
 operators_never asked bytes s m f (fault.Header k) g h = h
 
-some_length : (xs : List ℕ) → xs ≢ [] → 0 < length xs
+pub some_length : (xs : List ℕ) → xs ≢ [] → 0 < length xs
 some_length [] h = absurd (h refl)
 some_length (x ∷ xs) h = omega arith
 

@@ -8,17 +8,18 @@ use Rattle.wasm_shapes.specs.Shape.{Shape, block_type, shape_of_kind}
 use Rattle.wasm_shapes.specs.Tree.{Tree, code_bytes, normal}
 use Rattle.wasm_shapes.specs.Spells.{Is, Spelled, SpelledCode}
 use Rattle.wasm_shapes.specs.Place.{Begins}
-use Rattle.wasm_shapes.specs.Types.{is_core}
+use Rattle.wasm_shapes.specs.Types.{is_core, vector_tree}
 use Rattle.wasm_write.specs.declared.types.Imm.{Imm}
 use Rattle.wasm_write.specs.declared.types.Imm.TheVariants as imm
-use Rattle.wasm_write.specs.Bodies.{AreOperators}
+use Rattle.wasm_read.specs.Operations.{Reading, rest_of}
+use Rattle.wasm_write.specs.Bodies.{AreOperators, Body}
 use Rattle.wasm_shapes.specs.Immediates.{HasKinds}
 use Rattle.wasm_write.specs.Instructions.{imm_kind, imm_tree, operator_tree}
 use Rattle.reencode_hooks.specs.declared.error.Error.{Error}
 use Rattle.reencode_hooks.specs.declared.error.Error.TheVariants.{NoMemory}
 use Rattle.reencode_hooks.specs.Run.{accepted, refused}
 use Rattle.reencode_hooks.specs.Walk.{walk}
-use Rattle.reencode_core.specs.Rows.{Asks, AcceptsRows}
+use Rattle.reencode_core.specs.Rows.{Asks, AcceptsRows, RowsBefore, locals as locals_shape}
 use Rattle.reencode_core.specs.declared.direct.classes.Class.{Class}
 use Rattle.reencode_core.specs.declared.direct.classes.Class.TheVariants as class
 use Rattle.reencode_core.specs.declared.direct.passing.Fresh.{Fresh}
@@ -139,6 +140,10 @@ abbrev pub PassesNext : {S E : Type 0} → Asks S E → S → List ℕ → S →
 PassesNext asked s bytes m (next.Made op f n) = MakesOperator asked s bytes n op (imm_of f) m
 PassesNext asked s bytes m next.Other = m ≡ s
 
+-- the same of some state in front of it
+abbrev pub DealsWith : {S E : Type 0} → Asks S E → List ℕ → S → Next → Type 0
+DealsWith {S} asked bytes m next = (s : S) × PassesNext asked s bytes m next
+
 -- ---- immediates that ask nothing
 
 -- nothing is asked of these
@@ -152,6 +157,9 @@ IsUnasked Tree.empty = Unit {0}
 IsUnasked (Tree.row k t) = IsUnasked t
 IsUnasked (Tree.pair t u) = IsUnasked t × IsUnasked u
 IsUnasked (Tree.op k t) = IsUnasked t
+IsUnasked (Tree.vec t) = IsUnasked t
+IsUnasked Tree.nil = Unit {0}
+IsUnasked (Tree.cons t u) = IsUnasked t × IsUnasked u
 IsUnasked _ = ⊥
 
 -- One stands at the front of some bytes in its normal spelling.
@@ -226,3 +234,30 @@ pub record StopsRun {S E : Type 0} (asked : Asks S E) (s : S) (bytes : List ℕ)
   pub left : List ℕ
   pub kept : KeepsOperators asked s bytes left mid
   pub stops : RefusesOperator asked mid left e m
+
+-- ---- a body
+
+-- Locals stand at the front of some bytes in their normal spelling, and nothing is asked of them.
+pub record SkipsLocals (bytes left : List ℕ) : Type 0 where
+  pub rows : List Tree
+  pub begins : BeginsNormal locals_shape bytes (vector_tree rows) left
+  pub unasked : IsUnasked (vector_tree rows)
+
+-- Operators stand in front of these bytes and were accepted, and became those.
+pub record AcceptsFront {S E : Type 0} (asked : Asks S E) (c : ℕ) (start : List ℕ) (s : S) (rest : List ℕ) (m : S) (made : List Tree) : Type 0 where
+  pub read : List Tree
+  pub before : RowsBefore (Shape.op true) start read rest
+  pub accepts : AcceptsRows asked c s read made m
+
+-- The locals of a body and the operators in front of a reader's place were accepted, and the function holds what they became; and this
+-- is what is done with the next operator.
+pub record MapsFront {S E : Type 0} (asked : Asks S E) (bytes : List ℕ) (first : S) (reader : Reading) (f : Body) (s : S) (next : Next) : Type 0 where
+  pub locals : Tree
+  pub start : List ℕ
+  pub begins : Begins locals_shape bytes locals start
+  pub of : reader.bytes ≡ bytes
+  pub behind_locals : S
+  pub walked : (c : ℕ) → walk asked c first locals ≡ accepted (vector_tree f.locals) behind_locals
+  pub mid : S
+  pub front : (c : ℕ) → AcceptsFront asked c start behind_locals (rest_of reader) mid f.operators
+  pub onward : PassesNext asked mid (rest_of reader) s next

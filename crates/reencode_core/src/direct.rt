@@ -1,13 +1,14 @@
 //! The body of a function, mapped as `Reencode::parse_function_body` does by default, and without lists: operators that do
-//! not change are passed by and added as they stand, run by run.
-ghost use Rattle.std.specs.Prelude.{◌≡◌, ◌∷◌, [], IfErr, IsTrue, OnOk};
+//! not change are passed by and added as they stand, run by run, or the whole body at once.
+ghost use Rattle.std.specs.Prelude.{◌≡◌, ◌∷◌, [], IfErr, IsTrue, List, OnOk, ℕ};
 ghost use Rattle.wasm_write.specs.Bodies.{with_operator};
+ghost use Rattle.wasm_read.specs.Operations.{rest_of};
 ghost use Rattle.wasm_shapes.specs.Immediates.{HasKinds};
 ghost use Rattle.wasm_write.specs.Instructions.{imm_kind, operator_tree};
 ghost use Rattle.wasm_write.specs.declared.fault.WriteFault.TheVariants as write;
 ghost use Rattle.reencode_hooks.specs.Run.{ask};
 ghost use Rattle.reencode_core.specs.Bodies.{GivesBody, KeepsCode};
-ghost use Rattle.reencode_core.specs.Direct.{imm_of};
+ghost use Rattle.reencode_core.specs.Direct.{DealsWith, MapsFront, imm_of};
 ghost use Rattle.reencode_core.specs.Leaves.{LeavesMade, body_in};
 
 mod classes;
@@ -18,6 +19,7 @@ mod skipping;
 
 use crate::direct::passing::{Fresh, Next};
 use crate::direct::runs::pass_run;
+use crate::direct::skipping::skip_locals;
 use crate::shared::new_function_with_parsed_locals;
 use reencode_hooks::Error;
 use reencode_items::ReencodeItems;
@@ -41,7 +43,48 @@ fn add(function: &mut w::Function, opcode: Opcode, fresh: Fresh) -> Result<(), w
     }
 }
 
-/// Maps a body as `Reencode::parse_function_body` does by default, without lists.
+/// Maps the operators of a body that are left, of which the first is dealt with as `next` says, and adds the function.
+fn map_rest<R: ReencodeItems>(
+    reencoder: &mut R,
+    alloc: Global,
+    code: &mut w::CodeSection,
+    mut function: w::Function,
+    mut reader: r::OperatorsReader<'_>,
+    mut next: Next,
+) -> Result<(), Error<R::Error>>
+    requires { DealsWith (ask R.reply R.next) (rest_of reader) reencoder.old next }
+    ensures kept { KeepsCode code.old code.new }
+    ensures default { IsTrue R.keeps_defaults → (bytes : List ℕ) (first : R)
+        → MapsFront (ask R.reply R.next) bytes first reader.entry function reencoder.old next
+        → GivesBody (ask R.reply R.next) bytes (first, code.old) (reencoder.new, code.new) result }
+    ensures after_error { IsTrue R.keeps_defaults → (bytes : List ℕ) (first : R)
+        → MapsFront (ask R.reply R.next) bytes first reader.entry function reencoder.old next
+        → LeavesMade R.sure (ask R.reply R.next) (body_in bytes) first reencoder.new result }
+{
+    'operators: loop {
+        match next {
+            Next::Made(opcode, fresh, count) => {
+                add(&mut function, opcode, fresh)?;
+                reader.pass(count);
+            }
+            Next::Other => {
+                if reader.eof() {
+                    code.function(&function)?;
+                    return Ok(());
+                }
+                let instruction = reencoder.parse_instruction(alloc, &mut reader)?;
+                function.instruction(&instruction)?;
+            }
+        }
+        let bytes = reader.rest();
+        let kept = pass_run(reencoder, bytes, &mut next)?;
+        function.spelled(&bytes[..kept])?;
+        reader.pass(kept);
+    }
+}
+
+/// Maps a body as `Reencode::parse_function_body` does by default, without lists. One that stays as it stands is added so, and
+/// held by no function.
 ///
 /// A reencoder that keeps the default methods overrides that method by this function, as `DefaultReencode` does, keeps its
 /// promises, and is faster: `direct::parse_function_body(self, alloc, code, func)`. It asks the hooks of `ReencodeIndices`
@@ -59,27 +102,21 @@ pub fn parse_function_body<R: ReencodeItems>(
     ensures after_error { IsTrue R.keeps_defaults → LeavesMade R.sure (ask R.reply R.next) (body_in func.entry.bytes.now)
         reencoder.old reencoder.new result }
 {
-    let mut function = new_function_with_parsed_locals(reencoder, alloc, &func)?;
-    let mut reader = func.operators()?;
-    'operators: while !reader.eof() {
-        let bytes = reader.rest();
-        let mut next = Next::Other;
-        let kept = pass_run(reencoder, bytes, &mut next)?;
-        function.spelled(&bytes[..kept])?;
-        match next {
-            Next::Made(opcode, fresh, count) => {
-                add(&mut function, opcode, fresh)?;
-                reader.pass(kept + count);
-            }
-            Next::Other => {
-                reader.pass(kept);
-                if !reader.eof() {
-                    let instruction = reencoder.parse_instruction(alloc, &mut reader)?;
-                    function.instruction(&instruction)?;
-                }
-            }
-        }
+    let bytes = func.bytes;
+    let Some(operators) = skip_locals(bytes) else {
+        let function = new_function_with_parsed_locals(reencoder, alloc, &func)?;
+        let reader = func.operators()?;
+        return map_rest(reencoder, alloc, code, function, reader, Next::Other);
+    };
+    let mut next = Next::Other;
+    let kept = pass_run(reencoder, operators, &mut next)?;
+    if kept == operators.len() {
+        code.spelled(bytes)?;
+        return Ok(());
     }
-    code.function(&function)?;
-    Ok(())
+    let passed = bytes.len() - operators.len() + kept;
+    let function = w::Function::of_spelled(alloc, &bytes[..passed], bytes.len())?;
+    let mut reader = func.operators()?;
+    reader.pass(kept);
+    map_rest(reencoder, alloc, code, function, reader, next)
 }

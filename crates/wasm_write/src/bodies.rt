@@ -8,7 +8,7 @@ ghost use Rattle.wasm_shapes.specs.Immediates.{HasKinds};
 ghost use Rattle.wasm_write.specs.declared.types.Imm.TheVariants as imm;
 ghost use Rattle.wasm_write.specs.Instructions.{imm_kind, instruction_tree, operator_tree};
 ghost use Rattle.wasm_shapes.specs.Module.{body as body_shape};
-ghost use Rattle.wasm_write.specs.Bodies.{HasOperators, HeldBody, HeldBody-prop, function_body, local_tree, with_operator, GainsOperators};
+ghost use Rattle.wasm_write.specs.Bodies.{Body, HasOperators, HeldBody, HeldBody-prop, IsBody, function_body, local_tree, with_operator, GainsOperators};
 
 use crate::fault::WriteFault;
 use crate::immediates::write_bytes;
@@ -91,6 +91,21 @@ impl Function {
             Ok(()) => Ok(Function { bytes }),
             Err(NoMemory) => Err(WriteFault::NoMemory),
         }
+    }
+
+    /// The function whose normal spelling these bytes are, with room for so many. The one refusal is want of memory.
+    pub fn of_spelled(alloc: Global, bytes: &[u8], room: usize) -> Result<Function, WriteFault>
+        requires { HeldBody bytes.now }
+        ensures ok { IfOk result (λ f. (g : Body) → IsBody bytes.now g → f ≡ g) }
+        ensures wants { IfErr result (λ e. e ≡ WriteFault.NoMemory) }
+    {
+        let Ok(mut held) = Vec::with_capacity(alloc, room) else {
+            return Err(WriteFault::NoMemory);
+        };
+        let Ok(()) = write_bytes(&mut held, bytes) else {
+            return Err(WriteFault::NoMemory);
+        };
+        Ok(Function { bytes: held })
     }
 
     /// Adds an operator. The one refusal is want of memory, and changes nothing.

@@ -1,7 +1,8 @@
-//! Operators of which nothing is asked, and which stand in their normal spelling: they are passed by.
+//! Locals and operators of which nothing is asked, and which stand in their normal spelling: they are passed by.
 ghost use Rattle.std.specs.Prelude.{IfSome};
+ghost use Rattle.wasm_shapes.specs.Module.{local_row};
 ghost use Rattle.wasm_shapes.specs.Shape.{Shape, block_type};
-ghost use Rattle.reencode_core.specs.Direct.{SkipsClass, SkipsLeaf, SkipsOperator};
+ghost use Rattle.reencode_core.specs.Direct.{SkipsClass, SkipsLeaf, SkipsLocals, SkipsOperator};
 
 use crate::direct::classes::{Class, class_of_byte};
 use crate::direct::fronts::{front_long, front_number, front_signed};
@@ -113,4 +114,38 @@ pub fn skip_operator(bytes: &[u8]) -> Option<&[u8]>
         return None;
     };
     skip_class(class_of_byte(first), rest)
+}
+
+/// The bytes behind so many locals of a type of numbers that stand in their normal spelling.
+#[inline(always)]
+fn skip_local(bytes: &[u8]) -> Option<&[u8]>
+    ensures { IfSome result (λ rest. SkipsLeaf local_row bytes.now rest.now) }
+{
+    let Some(types) = skip_number(bytes) else {
+        return None;
+    };
+    match front_byte(types) {
+        Some((ty, rest)) if 0x7b <= ty && ty < 0x80 => Some(rest),
+        _ => None,
+    }
+}
+
+/// The bytes behind the locals that a body begins with, where they have types of numbers and stand in their normal spelling.
+/// None says nothing.
+pub fn skip_locals(bytes: &[u8]) -> Option<&[u8]>
+    ensures { IfSome result (λ rest. SkipsLocals bytes.now rest.now) }
+{
+    let Some((count, true, behind)) = front_number(bytes) else {
+        return None;
+    };
+    let mut rest = behind;
+    let mut left = count;
+    'locals: while left > 0 {
+        let Some(behind) = skip_local(rest) else {
+            return None;
+        };
+        rest = behind;
+        left -= 1;
+    }
+    Some(rest)
 }

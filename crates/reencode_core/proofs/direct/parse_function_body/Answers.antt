@@ -1,11 +1,10 @@
-use Rattle.std.proofs.Common.{refl}
-use Rattle.wasm_read.specs.Operations.{rest_of}
-use Rattle.wasm_write.specs.Instructions.{instruction_tree}
-use Rattle.reencode_core.specs.declared.direct.passing.Next.TheVariants as next
+use Rattle.std.proofs.Common.{◌≡◌, ◌∙◌, drop, IsTrue, sym, ap, subst}
+use Rattle.wasm_write.specs.Bodies.{Body}
+use Rattle.reencode_core.specs.Direct.{MapsFront}
+use Rattle.reencode_core.proofs.EachBody.{body_found, body_unbegun}
+use Rattle.reencode_core.proofs.MapsOn.{front_begun, front_passed, passed_body, passed_held, run_deals}
+use Rattle.reencode_core.proofs.MapsWhole.{operators_at, passed_counted, skip_found, skip_refused, skip_wants, whole_added, whole_held, whole_refused, within_most}
 use Rattle.reencode_core.proofs.OneRow.{asks}
-use Rattle.reencode_core.proofs.EachBody.{body_added, body_found, body_refused, body_unbegun, operator_not_added, operator_refused, operators_begun, operators_more}
-use Rattle.reencode_core.proofs.Runs.{run_is, run_made, run_not_added, run_passed, run_refused}
-use Rattle.reencode_core.proofs.WholeBody.{none_left, some_left}
 use Rattle.reencode_core.proofs.direct.parse_function_body.Goals as goal
 
 pub returns-in_err-function : goal.returns-in_err-function
@@ -14,86 +13,75 @@ returns-in_err-function g c = body_unbegun g.R.ReencodeIndices c.args.code.now _
 pub returns-in_err-reader : goal.returns-in_err-reader
 returns-in_err-reader g c = body_found g.R.ReencodeIndices c.args.code.now c.in_ok-function.ensures _ c.in_err-reader.ensures.err _
 
-pub operators-init : goal.operators-init
-operators-init g c = operators_begun g.R.ReencodeIndices c.args.code.now c.in_ok-function.ensures _
-
--- ---- a run
+pub returns-in_default : goal.returns-in_default
+returns-in_default g c =
+    let i = g.R.ReencodeIndices in
+    let given = c.map_rest.ensures in
+    let bytes = c.args.func.bytes.now in
+    let found = c.in_ok-reader.ensures in
+    let front = λ (k : IsTrue i.keeps_defaults). front_begun i c.in_ok-function.ensures k found.ok.1 found.bytes in
+    record {
+      kept = given.kept;
+      default = λ k. given.default k bytes c.args.reencoder.now (front k);
+      after_error = λ k. given.after_error k bytes c.args.reencoder.now (front k);
+    }
 
 pub returns-in_err-kept : goal.returns-in_err-kept
-returns-in_err-kept g c =
-    let stop = rw c.rest-bytes.ensures at c.in_err-kept.ensures.err in
-    run_refused g.R.ReencodeIndices c.args.code.now c.in_ok-function.ensures c.in_ok-reader.ensures.ok.1 c.operators.invariant _ stop c.in_err-kept.ensures.sure _ c.from_residual-in_err-kept.ensures.1
+returns-in_err-kept g c = skip_refused g.R.ReencodeIndices c.args.code.now c.in-Some.ensures _ c.in_err-kept.ensures.err c.in_err-kept.ensures.sure _ c.from_residual-in_err-kept.ensures.1
+
+-- ---- the whole body stays
+
+pub spelled-requires : goal.spelled-requires
+spelled-requires g c = whole_held g.R.ReencodeIndices c.args.code.now c.in-Some.ensures c.in_ok-kept.ensures.ok c.if-kept-operators.true
 
 pub returns-in_err-spelled : goal.returns-in_err-spelled
 returns-in_err-spelled g c =
-    let run = run_is (asks g.R.ReencodeIndices) _ _ refl c.rest-bytes.ensures c.in_ok-kept.ensures.ok in
-    run_not_added g.R.ReencodeIndices c.args.code.now c.in_ok-function.ensures c.in_ok-reader.ensures.ok.1 c.operators.invariant _ run _ c.in_err-spelled.ensures.wants _ c.from_residual-in_err-spelled.ensures.1
+    let gone = c.in_err-spelled.ensures in
+    whole_refused g.R.ReencodeIndices c.args.code.now c.in-Some.ensures c.in_ok-kept.ensures.ok c.if-kept-operators.true _ c.in_ok-kept.ensures.within gone.err gone.large _ c.from_residual-in_err-spelled.ensures.1
 
--- ---- the next operator is made
+pub returns-then-kept-operators : goal.returns-then-kept-operators
+returns-then-kept-operators g c =
+    let given = c.in_ok-spelled.ensures in
+    whole_added g.R.ReencodeIndices c.args.code.now c.in-Some.ensures c.in_ok-kept.ensures.ok c.if-kept-operators.true c.in_ok-kept.ensures.within given.ok given.fits.0
 
-pub returns-in_err-add-in-Made : goal.returns-in_err-add-in-Made
-returns-in_err-add-in-Made g c =
-    let run = run_is (asks g.R.ReencodeIndices) _ _ refl c.rest-bytes.ensures c.in_ok-kept.ensures.ok in
-    run_not_added g.R.ReencodeIndices c.args.code.now c.in_ok-function.ensures c.in_ok-reader.ensures.ok.1 c.operators.invariant _ run _ c.in_err-add-in-Made.ensures.wants _ c.from_residual-in_err-add-in-Made.ensures.1
+-- ---- an operator does not
 
-pub operators-preserved-in-Made : goal.operators-preserved-in-Made
-operators-preserved-in-Made g c =
-    let run = run_is (asks g.R.ReencodeIndices) _ (next.Made c.in-Made.opcode c.in-Made.fresh c.in-Made.count) c.in-Made.is c.rest-bytes.ensures c.in_ok-kept.ensures.ok in
-    let gains = rw c.rest-bytes.ensures at c.in_ok-spelled.ensures.ok in
-    run_made g.R.ReencodeIndices c.operators.invariant _ _ _ _ run gains c.in_ok-add-in-Made.ensures.ok c.pass.ensures.bytes c.pass.ensures.rest
-
--- ---- nothing was asked of it
-
-pub returns-in_err-instruction-in-Other : goal.returns-in_err-instruction-in-Other
-returns-in_err-instruction-in-Other g c =
-    let i = g.R.ReencodeIndices in
-    let found = c.in_ok-reader.ensures.ok in
-    let run = run_is (asks i) _ next.Other c.in-Other.is c.rest-bytes.ensures c.in_ok-kept.ensures.ok in
-    let gains = rw c.rest-bytes.ensures at c.in_ok-spelled.ensures.ok in
-    let inv = run_passed i c.operators.invariant _ run gains c.pass-in-Other.ensures.bytes c.pass-in-Other.ensures.rest in
-    let some = some_left c.eof-in-Other.result (rest_of c.pass-in-Other.new.self) c.eof-in-Other.ensures c.if-not-eof.true in
-    let gone = c.in_err-instruction-in-Other.ensures in
-    operator_refused i c.args.code.now c.in_ok-function.ensures found.1 c.in_ok-reader.ensures.bytes inv instruction_tree _ _ some gone.default gone.after_error _ c.from_residual-in_err-instruction-in-Other.ensures.1
-
-pub returns-in_err-instruction-in-Other-2 : goal.returns-in_err-instruction-in-Other-2
-returns-in_err-instruction-in-Other-2 g c =
-    let i = g.R.ReencodeIndices in
-    let found = c.in_ok-reader.ensures.ok in
-    let run = run_is (asks i) _ next.Other c.in-Other.is c.rest-bytes.ensures c.in_ok-kept.ensures.ok in
-    let gains = rw c.rest-bytes.ensures at c.in_ok-spelled.ensures.ok in
-    let inv = run_passed i c.operators.invariant _ run gains c.pass-in-Other.ensures.bytes c.pass-in-Other.ensures.rest in
-    operator_not_added i c.args.code.now c.in_ok-function.ensures found.1 c.in_ok-reader.ensures.bytes inv instruction_tree c.in_ok-instruction-in-Other.instruction c.in_ok-instruction-in-Other.ensures.default _
-    c.in_err-instruction-in-Other-2.ensures.wants _ c.from_residual-in_err-instruction-in-Other-2.ensures.1
-
-pub operators-preserved-then-not-eof : goal.operators-preserved-then-not-eof
-operators-preserved-then-not-eof g c =
-    let i = g.R.ReencodeIndices in
-    let found = c.in_ok-reader.ensures.ok in
-    let run = run_is (asks i) _ next.Other c.in-Other.is c.rest-bytes.ensures c.in_ok-kept.ensures.ok in
-    let gains = rw c.rest-bytes.ensures at c.in_ok-spelled.ensures.ok in
-    let inv = run_passed i c.operators.invariant _ run gains c.pass-in-Other.ensures.bytes c.pass-in-Other.ensures.rest in
-    let given = c.in_ok-instruction-in-Other.ensures in
-    operators_more i c.args.code.now c.in_ok-function.ensures found.1 c.in_ok-reader.ensures.bytes inv instruction_tree c.in_ok-instruction-in-Other.instruction given.default given.taken c.in_ok-instruction-in-Other-2.ensures.ok
-
-pub operators-preserved : goal.operators-preserved
-operators-preserved g c =
-    let i = g.R.ReencodeIndices in
-    let run = run_is (asks i) _ next.Other c.in-Other.is c.rest-bytes.ensures c.in_ok-kept.ensures.ok in
-    let gains = rw c.rest-bytes.ensures at c.in_ok-spelled.ensures.ok in
-    run_passed i c.operators.invariant _ run gains c.pass-in-Other.ensures.bytes c.pass-in-Other.ensures.rest
-
--- ---- the end
+pub of_spelled-requires : goal.of_spelled-requires
+of_spelled-requires g c =
+    let q = c.in-Some.ensures in
+    let p = c.in_ok-kept.ensures.ok in
+    (passed_body g.R.ReencodeIndices q p, ∣ passed_held g.R.ReencodeIndices q p _ (passed_counted q c.in_ok-kept.kept) ∣₁)
 
 pub returns-in_err-function-2 : goal.returns-in_err-function-2
 returns-in_err-function-2 g c =
-    let found = c.in_ok-reader.ensures.ok in
-    let none = none_left c.eof.result (rest_of c.operators.reader) c.eof.ensures c.operators-test.false in
-    let gone = c.in_err-function-2.ensures in
-    body_refused g.R.ReencodeIndices c.args.code.now c.in_ok-function.ensures found.1 c.in_ok-reader.ensures.bytes c.operators.invariant none _ gone.err gone.large _ c.from_residual-in_err-function-2.ensures.1
+    skip_wants g.R.ReencodeIndices c.args.code.now c.in-Some.ensures _ c.in_ok-kept.ensures.ok _ c.in_err-function-2.ensures.wants _ c.from_residual-in_err-function-2.ensures.1
+
+pub returns-in_err-reader-2 : goal.returns-in_err-reader-2
+returns-in_err-reader-2 g c = skip_found g.R.ReencodeIndices c.args.code.now c.in-Some.ensures _ c.in_err-reader-2.ensures.err _
+
+pub pass-requires : goal.pass-requires
+pass-requires g c =
+    let here = operators_at c.in-Some.ensures c.in_ok-reader-2.ensures.ok.1 in
+    rw here (within_most _ _ _ c.in_ok-kept.ensures.within)
+
+pub map_rest-requires-2 : goal.map_rest-requires-2
+map_rest-requires-2 g c =
+    let here = operators_at c.in-Some.ensures c.in_ok-reader-2.ensures.ok.1 in
+    run_deals c.in_ok-kept.ensures.ok (c.pass.ensures.rest ∙ ap (drop c.in_ok-kept.kept) here)
 
 pub returns : goal.returns
 returns g c =
-    let found = c.in_ok-reader.ensures.ok in
-    let none = none_left c.eof.result (rest_of c.operators.reader) c.eof.ensures c.operators-test.false in
-    let given = c.in_ok-function-2.ensures in
-    body_added g.R.ReencodeIndices c.args.code.now c.in_ok-function.ensures found.1 c.in_ok-reader.ensures.bytes c.operators.invariant none given.ok given.fits.0
+    let i = g.R.ReencodeIndices in
+    let given = c.map_rest-2.ensures in
+    let bytes = c.args.func.bytes.now in
+    let q = c.in-Some.ensures in
+    let p = c.in_ok-kept.ensures.ok in
+    let here = operators_at q c.in_ok-reader-2.ensures.ok.1 in
+    let made : c.in_ok-function-2.function ≡ passed_body i q p = c.in_ok-function-2.ensures.ok (passed_body i q p) (passed_held i q p _ (passed_counted q c.in_ok-kept.kept)) in
+    let P : Body → Type 0 = λ z. MapsFront (asks i) bytes c.args.reencoder.now c.pass.new.self z c.pass_run.new.reencoder c.pass_run.new.next in
+    let front = subst P (sym made) (front_passed i q p c.pass.new.self (c.pass.ensures.bytes ∙ c.in_ok-reader-2.ensures.bytes) (c.pass.ensures.rest ∙ ap (drop c.in_ok-kept.kept) here)) in
+    record {
+      kept = given.kept;
+      default = λ k. given.default k bytes c.args.reencoder.now front;
+      after_error = λ k. given.after_error k bytes c.args.reencoder.now front;
+    }
