@@ -641,9 +641,9 @@ module _ {S E : Type 0} (asked : Asks S E) (adds : Puts S SectionRow) where
         go _ g = absurd g.unreadable
 
     -- where memory is wanting in a section, all that the hook added before it stands, and nothing of the section
-    pub section_held : {Stops : ℕ → Error E → S → Type 0} {f : Tree} {left : List ℕ} {now : Option SectionId} {n s' : S} {mid new' : Sections} → Reached asked Stops f rest left last now s n →
-        Put asked adds f last s n new mid → new' ≡ mid → FrameLeaves asked rest f n NoMemory s' → HoldsSections asked adds old.ceiling bytes (s0, old) (s', new')
-    section_held {f = f} {left = left} {n = n} {new' = new'} reached put unchanged inside = record {
+    pub section_held : {f : Tree} {left : List ℕ} {n s' : S} {mid new' : Sections} (framed : Begins frame rest f left) → Put asked adds f last s n new mid → new' ≡ mid →
+        FrameLeaves asked framed.text f n NoMemory s' → HoldsSections asked adds old.ceiling bytes (s0, old) (s', new')
+    section_held {f = f} {left = left} {n = n} {new' = new'} framed put unchanged inside = record {
       front = front;
       parts = λ t r. go t (read_ahead t r);
       rows = d.rows;
@@ -651,7 +651,7 @@ module _ {S E : Type 0} (asked : Asks S E) (adds : Puts S SectionRow) where
       next = f;
       left = left;
       state = n;
-      framed = reached.framed;
+      framed = framed;
       hooked = put.before;
       spelled = d.spelled ∙ sym (normal-alsos d.woven);
       gains = let P : Sections → Type 0 = λ z. Gains new z put.own in gains_both old new new' d.rows put.own d.gains (subst P (sym unchanged) put.gains);
@@ -797,10 +797,10 @@ module _ {S E : Type 0} (asked : Asks S E) (adds : Puts S SectionRow) where
         (λ t left b. (tells, front_first (visits t) (front_same (sym (kind_before k last (frame_there there b))) (front_all (Section last (Some k) ∷ [])))))
 
     -- a section was asked in part
-    pub core_leaves_inside : {Stops : ℕ → Error E → S → Type 0} {f : Tree} {left : List ℕ} {now : Option SectionId} {m n : S} → Reached asked Stops f rest left last now s n → (e : Error E) (at : ℕ) →
-        ((t : Tree) → InFrame t f → ¬ TellsFault e) → FrameLeaves asked rest f n e m → Leaves asked (module_in bytes) s0 (placed_at e at) m
-    core_leaves_inside reached e at tells l =
-        core_leaves (placed_at e at) (reached.hook ++ l.made) (ended_placed e at (ended_behind asked e reached.hook l.made reached.ran l.ended)) (drawn_joined rest reached.hook l.made (reached.drawn rest) l.drawn)
+    pub core_leaves_inside : {Stops : ℕ → Error E → S → Type 0} {f : Tree} {left : List ℕ} {now : Option SectionId} {m n : S} → Reached asked Stops f rest left last now s n → (framed : Begins frame rest f left) (e : Error E) (at : ℕ) →
+        ((t : Tree) → InFrame t f → ¬ TellsFault e) → FrameLeaves asked framed.text f n e m → Leaves asked (module_in bytes) s0 (placed_at e at) m
+    core_leaves_inside {left = left} reached framed e at tells l =
+        core_leaves (placed_at e at) (reached.hook ++ l.made) (ended_placed e at (ended_behind asked e reached.hook l.made reached.ran l.ended)) (drawn_joined rest reached.hook l.made (reached.drawn rest) (drawn_front framed.text left framed.reads l.drawn))
         (λ empty. absurd (some_begun reached.framed empty))
         (λ t left b.
         let i = frame_there reached.framed b in

@@ -1,5 +1,5 @@
 -- The loop over the sections of a module, and what the call gives at each of its ends.
-use Rattle.std.proofs.Common.{◌≡◌, ◌≢◌, ◌-◌, ◌≤◌, ℕ, List, [], ◌++◌, length, Bool, Option, Some, None, Result, Ok, Err, IfErr, IsErrAnd, IsTrue, refl, sym, ap, ◌∙◌, subst}
+use Rattle.std.proofs.Common.{◌≡◌, ◌≢◌, ◌-◌, ◌≤◌, ℕ, List, [], ◌++◌, append-nil, length, Bool, Option, Some, None, Result, Ok, Err, IfErr, IsErrAnd, IsTrue, refl, sym, ap, ◌∙◌, subst}
 use Rattle.wasm_leb.specs.declared.fault.Fault.{Fault}
 use Rattle.wasm_leb.specs.declared.fault.Fault.TheVariants as fault
 use Rattle.wasm_leb.specs.declared.fault.Kind.TheVariants as kinds
@@ -9,6 +9,7 @@ use Rattle.wasm_shapes.specs.declared.Visit.TheVariants.{Section}
 use Rattle.wasm_shapes.proofs.Drawn.{drawn_none}
 use Rattle.wasm_shapes.specs.Tree.{Tree, visits}
 use Rattle.wasm_shapes.specs.Place.{Begins}
+use Rattle.wasm_shapes.specs.Shape.{Shape}
 use Rattle.wasm_shapes.specs.Module.{frame, numbered_frame, custom_frame, unknown_tree_of}
 use Rattle.wasm_shapes.specs.SectionTable.{number}
 use Rattle.wasm_shapes.proofs.SectionTable.{kind_in_frame, custom_in_frame, unknown_in_frame}
@@ -94,20 +95,24 @@ UnknownClauses i id contents s old m new result =
 
 -- ---- what an error of a section leaves
 
+-- what begins there fills its own text
+in_text : {shape : Shape} {bytes left : List ℕ} {t : Tree} (there : Begins shape bytes t left) → Begins shape there.text t []
+in_text there = record { text = there.text; spells = there.spells; reads = sym (append-nil there.text) }
+
 module _ {S E : Type 0} (asked : Asks S E) {bytes left : List ℕ} (n m : S) (sure : Bool) where
-  kind_leaves : (k : SectionId) {body : List ℕ} → Begins frame bytes (numbered_frame (number k) body) left → (r : Result (Unit {0}) (Error E)) →
-      LeavesMade sure asked (section_in k body) n m r → IfErr r (λ e. (e ≡ NoMemory → IsTrue sure) → FrameLeaves asked bytes (numbered_frame (number k) body) n e m)
+  kind_leaves : (k : SectionId) {body : List ℕ} (framed : Begins frame bytes (numbered_frame (number k) body) left) (r : Result (Unit {0}) (Error E)) →
+      LeavesMade sure asked (section_in k body) n m r → IfErr r (λ e. (e ≡ NoMemory → IsTrue sure) → FrameLeaves asked framed.text (numbered_frame (number k) body) n e m)
   kind_leaves k framed (Ok u) given = tt
   kind_leaves k {body = body} framed (Err e) given = λ told.
       let l = given told in
-      record { made = l.made; ended = l.ended; drawn = numbered_drawn framed l.drawn; reading = λ t there. l.reading t (kind_in_frame k body t there) }
+      record { made = l.made; ended = l.ended; drawn = numbered_drawn (in_text framed) l.drawn; reading = λ t there. l.reading t (kind_in_frame k body t there) }
 
-  custom_leaves : {name contents : List ℕ} → Begins frame bytes (custom_frame name contents) left → (r : Result (Unit {0}) (Error E)) →
-      LeavesMade sure asked (custom_in name contents) n m r → IfErr r (λ e. (e ≡ NoMemory → IsTrue sure) → FrameLeaves asked bytes (custom_frame name contents) n e m)
+  custom_leaves : {name contents : List ℕ} (framed : Begins frame bytes (custom_frame name contents) left) (r : Result (Unit {0}) (Error E)) →
+      LeavesMade sure asked (custom_in name contents) n m r → IfErr r (λ e. (e ≡ NoMemory → IsTrue sure) → FrameLeaves asked framed.text (custom_frame name contents) n e m)
   custom_leaves framed (Ok u) given = tt
   custom_leaves {name = name} {contents = contents} framed (Err e) given = λ told.
       let l = given told in
-      record { made = l.made; ended = l.ended; drawn = custom_drawn framed l.drawn; reading = λ t there. l.reading t (custom_in_frame name contents t there) }
+      record { made = l.made; ended = l.ended; drawn = custom_drawn (in_text framed) l.drawn; reading = λ t there. l.reading t (custom_in_frame name contents t there) }
 
 unknown_leaves : {S E : Type 0} (reply : S → Visit → Result ℕ E) (next : S → Visit → S) {id : ℕ} (bytes contents : List ℕ) (s m : S) (old new : Sections) (sure : Bool) → 14 ≤ id → (r : Result (Unit {0}) (Error E)) →
     GivesAdded (ask reply next) id (s, old) (unknown_tree_of id contents) (m, new) r → (IsTrue sure → LeavesVisited (ask reply next) s [] m r) →
@@ -191,11 +196,12 @@ module _ {S E : Type 0} (i : Ghosts S E) where
     abbrev pub Called : (ℕ → Error E → S → Type 0) → ℕ → Tree → List ℕ → Option SectionId → S → Sections → S → Sections → Result (Unit {0}) (Error E) → Type 0
     Called Stops id f left now n mid m new' r =
         record {
+          framed : Begins frame reader.rest f left;
           kept : KeepsModule old new';
           reached : IsTrue i.keeps_defaults → Reached (asks i) Stops f reader.rest left last now s n;
           put : Put (asks i) i.adds f last s n new mid;
           gives : IsTrue i.keeps_defaults → GivesFramed (asks i) id f Stops (n, mid) (m, new') r;
-          leaves : IsTrue i.keeps_defaults → IfErr r (λ e. (e ≡ NoMemory → IsTrue i.sure) → FrameLeaves (asks i) reader.rest f n e m);
+          leaves : IsTrue i.keeps_defaults → IfErr r (λ e. (e ≡ NoMemory → IsTrue i.sure) → FrameLeaves (asks i) framed.text f n e m);
         }
 
     -- one of a known kind, behind the section hook
@@ -203,6 +209,7 @@ module _ {S E : Type 0} (i : Ghosts S E) where
         Begins frame reader.rest (numbered_frame (number k) body) left → HookClauses i s n new mid last (Some k) (Ok u) → SectionClauses i k body n mid m new' r →
         Called (λ c e m. StopsSection (asks i) c k body n e m) (number k) (numbered_frame (number k) body) left (Some k) n mid m new' r
     kind_called k {body = body} {n = n} {mid = mid} {u = u} {new' = new'} {r = r} framed hook given = record {
+      framed = framed;
       kept = keeps_more old mid new' (keeps_more old new mid inv.kept (hook_keeps i.reply i.next i.adds s n new mid last (Some k) (Ok u) hook.answer)) given.kept;
       reached = λ d. kind_reached (asks i) k framed hook.answer.0;
       put = record { own = i.adds s last (Some k); gains = hook.answer.1; before = AddedBefore.known k body n hook.answer.0 };
@@ -215,6 +222,7 @@ module _ {S E : Type 0} (i : Ghosts S E) where
         CustomClauses i name contents s new m new' r →
         Called (λ c e m. StopsCustom (asks i) c name contents s e m) 0 (custom_frame name contents) left last s new m new' r
     custom_called {name = name} {contents = contents} {new' = new'} {r = r} framed given = record {
+      framed = framed;
       kept = keeps_more old new new' inv.kept given.kept;
       reached = λ d. custom_reached (asks i) framed;
       put = nothing_put (AddedBefore.custom name contents);
@@ -227,6 +235,7 @@ module _ {S E : Type 0} (i : Ghosts S E) where
         Begins frame reader.rest (numbered_frame id contents) left → UnknownClauses i id contents s new m new' r →
         Called (λ c e m. ⊥) id (numbered_frame id contents) left last s new m new' r
     unknown_called {id = id} {contents = contents} {m = m} {new' = new'} {r = r} low framed given = record {
+      framed = framed;
       kept = keeps_more old new new' inv.kept given.kept;
       reached = λ d. unknown_reached (asks i) low framed;
       put = nothing_put (AddedBefore.unknown id contents low);
@@ -252,7 +261,7 @@ module _ {S E : Type 0} (i : Ghosts S E) where
           let P : Error E → Type 0 = λ z. CoreClauses i bytes s0 old m new' (Err z) in
           subst P (sym q)
           (core_clauses keeps (Err (placed_at e at)) call.kept (λ d. section_err (asks i) i.adds header.stands (inv.done d) e at (call.reached d) call.put (call.gives d) (counted place))
-          (λ d told size. core_leaves_inside (asks i) i.adds header.stands (inv.done d) (call.reached d) e at (λ t i. tells_if e (λ at h. h t i) (call.gives d).unreadable) (call.leaves d (λ h. told (wants_placed e at h)))) headed)
+          (λ d told size. core_leaves_inside (asks i) i.adds header.stands (inv.done d) (call.reached d) call.framed e at (λ t i. tells_if e (λ at h. h t i) (call.gives d).unreadable) (call.leaves d (λ h. told (wants_placed e at h)))) headed)
 
     -- the hook at the end
     pub core_ended : {n : S} {mid : Sections} → reader.rest ≡ [] → (r : Result (Unit {0}) (Error E)) → HookClauses i s n new mid last None r → CoreClauses i bytes s0 old n mid r
@@ -306,9 +315,9 @@ module _ {S E : Type 0} (i : Ghosts S E) (keeps : KeepsAdds i.adds i.adds_nothin
     module_section_refused {f = f} {n = n} {m = m} e at call place r q =
         both (core_section_refused i keeps header inv e at call place r q)
         (λ k sure h.
-        let P : Error E → Type 0 = λ z. FrameLeaves (asks i) reader.rest f n z m in
+        let P : Error E → Type 0 = λ z. FrameLeaves (asks i) call.framed.text f n z m in
         let wants : e ≡ NoMemory = placed_wants e at (sym q ∙ h) in
-        section_held (asks i) i.adds header.stands (inv.done k) (call.reached k) call.put (call.gives k).unchanged (subst P wants (call.leaves k (λ h. sure))))
+        section_held (asks i) i.adds header.stands (inv.done k) call.framed call.put (call.gives k).unchanged (subst P wants (call.leaves k (λ h. sure))))
 
     pub module_ended : {n : S} {mid : Sections} → reader.rest ≡ [] → (r : Result (Unit {0}) (Error E)) → HookClauses i s n new mid last None r → ModuleClauses i bytes s0 old n mid r
     module_ended {n = n} {mid = mid} empty r hook = both (core_ended i keeps header inv empty r hook) (λ k sure. never r hook.sure sure)

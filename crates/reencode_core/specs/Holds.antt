@@ -77,7 +77,7 @@ pub record HoldsSections {S E : Type 0} (asked : Asks S E) (adds : Puts S Sectio
   pub hooked : AddedBefore asked adds front.last front.at next state own
   pub spelled : sections_bytes rows ≡ normal (alsos front.made Tree.finish)
   pub gains : Gains before.1 after.1 (rows ++ own)
-  pub inside : FrameLeaves asked front.rest next state NoMemory after.0
+  pub inside : FrameLeaves asked framed.text next state NoMemory after.0
 
 -- the same after a call in which memory was wanting
 abbrev pub HoldsCore : {S E : Type 0} → Asks S E → Puts S SectionRow → List ℕ → S × Sections → S × Sections → Result (Unit {0}) (Error E) → Type 0
