@@ -46,3 +46,14 @@ pub mod SkippedLocals
 pub mod MapsOn
 pub mod MapsRest
 pub mod MapsWhole
+pub mod Cutting
+pub mod CodeHeld
+pub mod Standing
+pub mod ModuleHeld
+pub mod Left
+pub mod Moved
+pub mod Walking
+pub mod Frames
+pub mod Ranges
+pub mod KeptLaws
+pub mod Answered

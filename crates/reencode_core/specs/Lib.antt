@@ -16,3 +16,6 @@ pub mod Holds
 pub mod Refusals
 pub mod Rules
 pub mod Interspersed
+pub mod Pieces
+pub mod Sinks
+pub mod Kept

@@ -11,6 +11,7 @@ mod laws;
 mod lists;
 mod mapped;
 mod names;
+mod pieces;
 mod plain;
 mod reencode;
 mod rule;
@@ -25,6 +26,10 @@ pub use laws::{
     refusal_tells, weave_ends, weave_is_run, weave_of_nothing,
 };
 pub use names::{indirect_name_map, map_indirect_names, map_names, name_map};
+pub use pieces::{
+    Piece, Pieces, fill_is_own, kept_is_answered, reencode_joined, reencode_pieces,
+    spelling_is_kept,
+};
 pub use plain::DefaultReencode;
 pub use reencode::{Reencode, reencode_core};
 pub use rule::reencode_by_rule;

@@ -1,6 +1,0 @@
-use Rattle.std.proofs.Common.{sym}
-use Rattle.wasm_write.proofs.Holding.{held_length}
-use Rattle.pieces.proofs.code.CodePieces.len.Goals as goal
-
-pub returns : goal.returns
-returns c = rw (← c.self.view_is) (sym (held_length c.self.inside.held))

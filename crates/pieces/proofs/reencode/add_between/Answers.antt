@@ -1,6 +1,0 @@
-use Rattle.pieces.proofs.Walking.{hook_left}
-use Rattle.pieces.proofs.reencode.add_between.Goals as goal
-
-pub returns-in-Err-clause-leaves : goal.returns-in-Err-clause-leaves
-returns-in-Err-clause-leaves g c =
-    hook_left g.R.ReencodeIndices g.met.R.ReencodeIndices.adds_ok c.in-Err.e (record { answer = c.in-Err.ensures.answer; sure = c.in-Err.ensures.sure })

@@ -1,0 +1,90 @@
+-- The loop over the sections of a module in pieces, where the section hook is called with a module of its own.
+use Rattle.std.proofs.Common.{◌≡◌, inl, inr, ℕ, List, [], ◌∷◌, ◌++◌, Option, Some, None, Result, Ok, Err, IsErrAnd, IsTrue, refl, sym, subst}
+use Rattle.wasm_shapes.specs.declared.SectionId.{SectionId}
+use Rattle.wasm_shapes.specs.declared.Visit.TheVariants.{Section}
+use Rattle.wasm_shapes.specs.Tree.{before, visits}
+use Rattle.wasm_shapes.specs.Place.{Begins}
+use Rattle.wasm_shapes.specs.Module.{frame, numbered_frame}
+use Rattle.wasm_shapes.specs.SectionTable.{number}
+use Rattle.wasm_read.specs.Frames.{HeaderRead}
+use Rattle.wasm_read.specs.Frames as read
+use Rattle.wasm_write.specs.Sections.{Sections}
+use Rattle.reencode_hooks.specs.declared.error.Error.{Error}
+use Rattle.reencode_hooks.specs.declared.error.Error.TheVariants.{NoMemory}
+use Rattle.reencode_hooks.specs.declared.indices.ReencodeIndices.{Ghosts}
+use Rattle.reencode_hooks.specs.Hooks.{RepliesSection, KeepsAdds}
+use Rattle.wasm_shapes.proofs.Drawn.{drawn_none}
+use Rattle.reencode_core.specs.Leaves.{Leaves, LeavesCore, module_in}
+use Rattle.reencode_core.proofs.AddsNothing.{core_given}
+use Rattle.reencode_core.proofs.CoreLoop.{core_leaves, core_leaves_end, core_leaves_hook, end_given, hook_refused, hook_stops, hook_told, hook_usual}
+use Rattle.reencode_core.proofs.EachSection.{CoreClauses, HookClauses, SectionsKept}
+use Rattle.reencode_core.proofs.Known.{keeps_more, hook_keeps}
+use Rattle.reencode_core.proofs.Made.{ended_all, front_none, not_wanting, one_ended, tells_none, wants_tells_none}
+use Rattle.reencode_core.proofs.OneRow.{answers, asks}
+use Rattle.reencode_core.specs.Sinks.{HookLeaves, LeavesHook}
+
+module _ {S E : Type 0} (i : Ghosts S E) where
+  -- a hook that answered did not want memory
+  pub hook_answered : (s m : S) (old new : Sections) (a b : Option SectionId) → RepliesSection i.reply i.next i.adds s m old new a b (Ok tt) → HookClauses i s m old new a b (Ok tt)
+  hook_answered s m old new a b answer = record { answer = answer; sure = λ sure wants. absurd cc }
+
+  -- it refused
+  pub hook_left : KeepsAdds i.adds i.adds_nothing → {s m : S} {old new : Sections} {a b : Option SectionId} (e : Error E) → HookClauses i s m old new a b (Err e) →
+      LeavesHook {A = Unit {0}} i.sure i.adds_nothing (asks i) s m (Section a b) (Err e)
+  hook_left keeps {s = s} {m = m} {old = old} {new = new} {a = a} {b = b} e hook told size =
+      let stops = hook_told i.reply i.next i.adds s m old new a b e hook.answer (λ h. keeps (size h) s a b) in
+      inr (one_ended i.reply i.next e (Section a b) (stops (not_wanting e hook.sure told)), tells_none e (hook_usual i.reply i.next i.adds s m old new a b e stops))
+
+  module _ (keeps : KeepsAdds i.adds i.adds_nothing) {bytes : List ℕ} {start : read.Sections} (header : HeaderRead bytes start) {s0 : S} {old : Sections}
+      {reader : read.Sections} {last : Option SectionId} {s : S} {new : Sections} (inv : SectionsKept i start s0 old reader last s new) where
+    -- memory was wanting before the hook was asked
+    unasked : IsTrue i.keeps_defaults → Leaves (asks i) (module_in bytes) s0 NoMemory s
+    unasked d =
+        core_leaves (asks i) i.adds header.stands (inv.done d) NoMemory [] (ended_all {a = []} NoMemory tt refl) drawn_none (λ empty. front_none (Section last None ∷ []))
+        (λ t left b. (wants_tells_none E, front_none (before last t ++ visits t)))
+
+    unasked_as : {n : S} {e : Error E} → IsTrue i.keeps_defaults → e ≡ NoMemory → n ≡ s → Leaves (asks i) (module_in bytes) s0 e n
+    unasked_as {n = n} d wants same =
+        let P : S → Type 0 = λ z. Leaves (asks i) (module_in bytes) s0 NoMemory z in
+        let Q : Error E → Type 0 = λ z. Leaves (asks i) (module_in bytes) s0 z n in
+        subst Q (sym wants) (subst P (sym same) (unasked d))
+
+    -- the hook before a section is refused
+    pub between_refused : (k : SectionId) {body left : List ℕ} {n : S} {mid : Sections} (e : Error E) → Begins frame reader.rest (numbered_frame (number k) body) left →
+        RepliesSection i.reply i.next i.adds s n new mid last (Some k) (Err e) → LeavesHook {A = Unit {0}} i.sure i.adds_nothing (asks i) s n (Section last (Some k)) (Err e) →
+        (r : Result (Unit {0}) (Error E)) → IsErrAnd r (λ y. y ≡ e) → CoreClauses i bytes s0 old n mid r
+    between_refused k {n = n} {mid = mid} e framed answer leaves r q =
+        let P : Result (Unit {0}) (Error E) → Type 0 = λ z. CoreClauses i bytes s0 old n mid z in
+        let woven = λ (d : IsTrue i.keeps_defaults). hook_refused (asks i) i.adds header.stands (inv.done d) k e framed (hook_stops i.reply i.next i.adds s n new mid last (Some k) e answer) in
+        subst P (answers r q) (record {
+          kept = keeps_more old new mid inv.kept (hook_keeps i.reply i.next i.adds s n new mid last (Some k) (Err e) answer);
+          default = λ d none. core_given (asks i) i.adds (keeps none) bytes (s0, old) (n, mid) (Err e) (woven d);
+          woven = woven;
+          after_error = λ d told size. go d (leaves told size);
+          headless = λ d none. absurd (none start.rest header.stands);
+        })
+      where
+        go : IsTrue i.keeps_defaults → HookLeaves (asks i) s n (Section last (Some k)) e → Leaves (asks i) (module_in bytes) s0 e n
+        go d (inl none) = unasked_as d none.0 none.1
+        go d (inr h) = core_leaves_hook (asks i) i.adds header.stands (inv.done d) k e framed h.0 h.1
+
+    -- the hook at the end
+    pub between_ended : {n : S} {mid : Sections} → reader.rest ≡ [] → (r : Result (Unit {0}) (Error E)) → RepliesSection i.reply i.next i.adds s n new mid last None r →
+        LeavesHook i.sure i.adds_nothing (asks i) s n (Section last None) r → CoreClauses i bytes s0 old n mid r
+    between_ended {n = n} {mid = mid} empty r answer leaves =
+        let woven = λ (d : IsTrue i.keeps_defaults). end_given i.reply i.next i.adds header.stands (inv.done d) empty n mid r answer in record {
+          kept = keeps_more old new mid inv.kept (hook_keeps i.reply i.next i.adds s n new mid last None r answer);
+          default = λ d none. core_given (asks i) i.adds (keeps none) bytes (s0, old) (n, mid) r (woven d);
+          woven = woven;
+          after_error = λ d. left d r leaves;
+          headless = λ d none. absurd (none start.rest header.stands);
+        }
+      where
+        go : {e : Error E} → IsTrue i.keeps_defaults → HookLeaves (asks i) s n (Section last None) e → Leaves (asks i) (module_in bytes) s0 e n
+        go d (inl none) = unasked_as d none.0 none.1
+        go {e = e} d (inr h) = core_leaves_end (asks i) i.adds header.stands (inv.done d) e empty h.0
+
+        left : IsTrue i.keeps_defaults → (r : Result (Unit {0}) (Error E)) → LeavesHook i.sure i.adds_nothing (asks i) s n (Section last None) r →
+            LeavesCore i.sure i.adds_nothing (asks i) (module_in bytes) s0 n r
+        left d (Ok u) h = tt
+        left d (Err e) h = λ told size. go d (h told size)

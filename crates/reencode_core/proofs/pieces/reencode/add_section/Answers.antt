@@ -1,0 +1,28 @@
+use Rattle.std.proofs.Common.{ap, ◌∙◌, ℕ}
+use Rattle.reencode_core.proofs.OneRow.{asks}
+use Rattle.reencode_core.specs.Sinks.{ModuleGrown}
+use Rattle.reencode_core.proofs.Left.{left_section, left_none}
+use Rattle.reencode_core.proofs.Moved.{added_moved, fresh_module}
+use Rattle.reencode_core.proofs.pieces.reencode.add_section.Goals as goal
+
+pub returns-in-Ok-add-clause-default : goal.returns-in-Ok-add-clause-default
+returns-in-Ok-add-clause-default g c =
+    let fresh = c.in-Ok.ensures ∙ ap (λ (n : ℕ). fresh_module n) c.ceiling.ensures in
+    let given = rw fresh at c.in-Ok-parse_section.ensures.default in
+    let e = ap ModuleGrown.sections c.in-Ok-add.ensures.ok in
+    λ k. let d = given k in record {
+      reading = λ t p. added_moved (asks g.R.ReencodeIndices) _ c.args.reencoder.now c.args.sink.now.sections t (d.reading t p) e;
+      readable = d.readable;
+      unreadable = tt;
+      refusal = tt;
+      unchanged = tt;
+    }
+
+pub returns-clause-after_error : goal.returns-clause-after_error
+returns-clause-after_error g c =
+    let fresh = c.in-Ok.ensures ∙ ap (λ (n : ℕ). fresh_module n) c.ceiling.ensures in
+    let given = rw fresh at c.in-Ok-parse_section.ensures.default in
+    λ k told. let r = (given k).readable in left_section (asks g.R.ReencodeIndices) _ c.args.sink.now.sections.ceiling r.0 r.1 ((given k).reading r.0 r.1).2
+
+pub returns-in_default-clause-after_error : goal.returns-in_default-clause-after_error
+returns-in_default-clause-after_error g c = λ k told. left_none (asks g.R.ReencodeIndices) _

@@ -1,0 +1,199 @@
+//! Pieces under construction.
+ghost use Rattle.std.specs.Prelude.{◌≡◌, ◌++◌, ◌-◌, ◌<◌, ◌≤◌, ◌^◌, [], length, OnOk, OnErr, IfOk};
+ghost use Rattle.reencode_core.specs.Pieces.{AreGrown, with_bytes, with_grown, with_kept};
+
+use crate::pieces::cuts::{Cut, cut_out, joined_cuts, last_behind, raise, take_over};
+use crate::pieces::piece::Pieces;
+use std::alloc::Global;
+use std::marker::Model;
+use wasm_leb::NoMemory;
+
+/// Pieces under construction over an input.
+///
+/// Contracts see the input, the bytes that the pieces have so far, and the ranges that are kept.
+#[derive(Drop)]
+pub(crate) struct Growing<'a> {
+    input: &'a [u8],
+    // all made bytes, behind so many that are room for what others have in front of them
+    made: Vec<u8>,
+    front: usize,
+    // the ranges that are kept between them, and where the made bytes behind the last of these begin
+    cuts: Vec<Cut>,
+    last: usize,
+    size: u64,
+}
+
+impl<'a> Model for Growing<'a> {
+    ghost use Rattle.std.specs.Prelude.{drop};
+    ghost use Rattle.reencode_core.specs.Pieces.{AreCut, Grown, cut_bytes, cut_ranges};
+
+    ghost Value = { Grown };
+
+    ghost view = { λ g. record {
+      input = g.input.now;
+      bytes = cut_bytes g.input.now (drop g.front g.made.items) g.cuts.items;
+      kept = cut_ranges g.cuts.items;
+    } };
+
+    ghost invariant = { λ g. AreCut g.input.now g.made.items g.front g.last g.size g.cuts.items };
+}
+
+impl<'a> Growing<'a> {
+    /// No pieces. It takes no memory.
+    pub fn new(alloc: Global, input: &'a [u8]) -> Growing<'a>
+        ensures { result ≡ record { input = input.now; bytes = []; kept = [] } }
+    {
+        Growing {
+            input,
+            made: Vec::new(alloc),
+            front: 0,
+            cuts: Vec::new(alloc),
+            last: 0,
+            size: 0,
+        }
+    }
+
+    /// No pieces, with room for so many bytes in front of them, where there is memory for it.
+    pub fn with_room(alloc: Global, input: &'a [u8], front: usize) -> Growing<'a>
+        ensures { result ≡ record { input = input.now; bytes = []; kept = [] } }
+    {
+        let mut made = Vec::new(alloc);
+        match made.resize(front, 0) {
+            Ok(()) => Growing {
+                input,
+                made,
+                front,
+                cuts: Vec::new(alloc),
+                last: front,
+                size: 0,
+            },
+            Err(_) => Growing::new(alloc, input),
+        }
+    }
+
+    /// How many bytes they have.
+    pub fn len(&self) -> u64
+        ensures { result ≡ length self.now.bytes }
+    {
+        self.size
+    }
+
+    /// The input.
+    pub fn input(&self) -> &'a [u8]
+        ensures { result.now ≡ self.now.input }
+    {
+        self.input
+    }
+
+    /// How many made bytes there are, those of room among them.
+    pub fn made_len(&self) -> usize {
+        self.made.len()
+    }
+
+    /// Adds bytes.
+    pub fn add(&mut self, bytes: &[u8]) -> Result<(), NoMemory>
+        ensures ok { OnOk result (self.new ≡ with_bytes self.old bytes.now) }
+        ensures err { OnErr result (self.new ≡ self.old) }
+    {
+        let Some(size) = self.size.checked_add(bytes.len() as u64) else {
+            return Err(NoMemory);
+        };
+        match self.made.extend_from_slice(bytes) {
+            Ok(()) => {
+                self.size = size;
+                Ok(())
+            }
+            Err(_) => Err(NoMemory),
+        }
+    }
+
+    /// Keeps a range of the input, behind some bytes.
+    pub fn keep(&mut self, head: &[u8], start: usize, end: usize) -> Result<(), NoMemory>
+        requires ordered { start ≤ end }
+        requires within { end ≤ length self.old.input }
+        requires some { 0 < length head.now }
+        ensures ok { OnOk result (self.new ≡ with_kept self.old head.now start end) }
+        ensures err { OnErr result (self.new ≡ self.old) }
+    {
+        let Some(size) = self.size.checked_add(head.len() as u64) else {
+            return Err(NoMemory);
+        };
+        let Some(size) = size.checked_add((end - start) as u64) else {
+            return Err(NoMemory);
+        };
+        match self.cuts.reserve(1) {
+            Ok(()) => {}
+            Err(_) => return Err(NoMemory),
+        }
+        match self.made.extend_from_slice(head) {
+            Ok(()) => {}
+            Err(_) => return Err(NoMemory),
+        }
+        let made = self.made.len() - self.last;
+        self.cuts.push_reserved(Cut { made, start, end });
+        self.last += made;
+        self.size = size;
+        Ok(())
+    }
+
+    /// Adds bytes, and the pieces of another over the same input behind them.
+    ///
+    /// Where these have room for just the made bytes in front of them, none of theirs is copied.
+    pub fn append(&mut self, head: &[u8], other: Growing<'_>) -> Result<(), NoMemory>
+        requires { other.input ≡ self.old.input }
+        ensures ok { OnOk result (self.new ≡ with_grown (with_bytes self.old head.now) other.entry) }
+        ensures err { OnErr result (self.new ≡ self.old) }
+    {
+        let Some(size) = self.size.checked_add(head.len() as u64) else {
+            return Err(NoMemory);
+        };
+        let Some(size) = size.checked_add(other.size) else {
+            return Err(NoMemory);
+        };
+        let mut cuts = other.cuts;
+        match self.cuts.reserve(cuts.len()) {
+            Ok(()) => {}
+            Err(_) => return Err(NoMemory),
+        }
+        let begun = self.made.len();
+        match take_over(&mut self.made, head, other.made, other.front) {
+            Ok(()) => {}
+            Err(NoMemory) => return Err(NoMemory),
+        }
+        let begun = begun + head.len();
+        let last = last_behind(&cuts, self.last, begun, other.last - other.front);
+        raise(&mut cuts, begun - self.last);
+        self.last = last;
+        match self.cuts.append(&mut cuts) {
+            Ok(()) => {}
+            Err(_) => return Err(NoMemory),
+        }
+        self.size = size;
+        Ok(())
+    }
+
+    /// The pieces.
+    pub fn finish(self, alloc: Global) -> Result<Pieces, NoMemory>
+        ensures { IfOk result (AreGrown self.entry) }
+    {
+        let size = self.size;
+        match cut_out(alloc, self.made, self.front, &self.cuts) {
+            Ok(pieces) => Ok(Pieces::of(pieces, size)),
+            Err(NoMemory) => Err(NoMemory),
+        }
+    }
+
+    /// The bytes. Where no range is kept they are those that were made, in their own memory.
+    pub fn join(self, alloc: Global) -> Result<Vec<u8>, NoMemory>
+        ensures { IfOk result (λ out. out.items ≡ self.entry.bytes) }
+    {
+        if self.front == 0 && self.cuts.len() == 0 {
+            return Ok(self.made);
+        }
+        let Ok(size) = usize::try_from(self.size) else {
+            return Err(NoMemory);
+        };
+        let made = &self.made[self.front..];
+        joined_cuts(alloc, self.input, made, &self.cuts, size)
+    }
+}

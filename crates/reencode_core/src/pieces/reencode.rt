@@ -1,0 +1,412 @@
+//! The re-encoding of a core module into pieces.
+ghost use Rattle.std.specs.Prelude.{◌≡◌, ◌++◌, ◌+◌, ◌-◌, ◌<◌, ◌≤◌, ◌^◌, ◌∷◌, [], List, ℕ, length, IfOk, IfErr, IsTrue, OnOk};
+ghost use Rattle.wasm_shapes.specs.declared.SectionId.TheVariants as kinds;
+ghost use Rattle.wasm_shapes.specs.declared.Visit.TheVariants.{Section};
+ghost use Rattle.wasm_shapes.specs.Tree.{normal, visits, Tree};
+ghost use Rattle.wasm_shapes.specs.Types.{vector_tree};
+ghost use Rattle.wasm_shapes.specs.Module.{code_row, core_module, unknown_tree_of};
+ghost use Rattle.wasm_shapes.specs.Spells.{Spells};
+ghost use Rattle.wasm_read.specs.Reading.{place_of};
+ghost use Rattle.wasm_write.specs.Sections.{section_row};
+ghost use Rattle.reencode_hooks.specs.Hooks.{RepliesSection};
+ghost use Rattle.reencode_hooks.specs.Run.{LeavesVisited, accepted, ask, run};
+ghost use Rattle.reencode_core.specs.Bodies.{GivesBody, KeepsCode};
+ghost use Rattle.reencode_core.specs.Core.{GivesBytes, GivesCore};
+ghost use Rattle.reencode_core.specs.Errors.{IfParse};
+ghost use Rattle.reencode_core.specs.Leaves.{LeavesCore, LeavesMade, NoCoreHeading, body_in, core_in, custom_in, module_in, rows_in, section_in};
+ghost use Rattle.reencode_core.specs.Names.{GivesCustom};
+ghost use Rattle.reencode_core.specs.Rows.{GivesRows};
+ghost use Rattle.reencode_core.specs.Sections.{AddsMapped, GivesAdded, GivesSection, KeepsModule};
+ghost use Rattle.reencode_core.specs.Woven.{GivesWoven, GivesWovenBytes};
+ghost use Rattle.reencode_core.specs.Pieces.{Alternate, AreWithin, joined, kept_ranges, total};
+ghost use Rattle.reencode_core.specs.Kept.{Kept};
+ghost use Rattle.reencode_core.specs.Sinks.{GainsFrames, KeepsCodeSection, KeepsKind, KeepsRanges, KeepsRow, LeavesHook, RowsStand, StandsAt};
+
+use crate::errors::placed;
+use crate::pieces::code::CodePieces;
+use crate::pieces::module::ModulePieces;
+use crate::pieces::piece::Pieces;
+use crate::reencode::Reencode;
+use reencode_hooks::Error;
+use std::alloc::Global;
+use wasm_leb::NoMemory;
+use wasm_read as r;
+use wasm_shapes::SectionId;
+use wasm_write as w;
+
+/// Maps a function body into a section of its own, and adds its rows. The memory of that section is used again.
+fn add_body<R: Reencode>(
+    reencoder: &mut R,
+    alloc: Global,
+    own: &mut w::CodeSection,
+    code: &mut CodePieces<'_>,
+    func: r::FunctionBody<'_>,
+    end: usize,
+) -> Result<(), Error<R::Error>>
+    requires stands { StandsAt code.old.input func.bytes.now end }
+    requires same_ceiling { own.old.ceiling ≡ code.old.code.ceiling }
+    requires small { code.old.code.ceiling < 2 ^ 32 }
+    ensures own { own.new.ceiling ≡ own.old.ceiling }
+    ensures kept { KeepsCode code.old.code code.new.code }
+    ensures default { IsTrue R.keeps_defaults
+        → GivesBody (ask R.reply R.next) func.entry.bytes.now (reencoder.old, code.old.code)
+        (reencoder.new, code.new.code) result }
+    ensures after_error { IsTrue R.keeps_defaults → LeavesMade R.sure (ask R.reply R.next) (body_in func.entry.bytes.now)
+        reencoder.old reencoder.new result }
+    ensures input { code.new.input ≡ code.old.input }
+    ensures ranges { IsTrue R.keeps_defaults
+        → OnOk result (KeepsRow func.entry.bytes.now end code.old code.new) }
+{
+    let body = func.bytes;
+    own.clear();
+    match reencoder.parse_function_body(alloc, own, func) {
+        Ok(()) => {}
+        Err(e) => return Err(e),
+    }
+    match code.add(own, body, end) {
+        Ok(()) => Ok(()),
+        Err(fault) => Err(Error::from(fault)),
+    }
+}
+
+/// A place in an input, from one before it.
+fn place_in(input: &[u8], start: usize, place: usize) -> usize
+    requires { start + place ≤ length input.now }
+    ensures { result ≡ start + place }
+{
+    start + place
+}
+
+/// Maps the bodies that the reader still has, and adds each once it is mapped. The body of the section begins at a place.
+fn add_bodies<R: Reencode>(
+    reencoder: &mut R,
+    alloc: Global,
+    code: &mut CodePieces<'_>,
+    section: r::CodeSectionReader<'_>,
+    input: &[u8],
+    start: usize,
+) -> Result<(), Error<R::Error>>
+    requires stands { RowsStand input.now start section }
+    requires same { code.old.input ≡ input.now }
+    ensures kept { KeepsCode code.old.code code.new.code }
+    ensures default { IsTrue R.keeps_defaults → GivesRows (ask R.reply R.next) code.old.code.ceiling
+        code_row section.entry (reencoder.old, code.old.code.rows)
+        (reencoder.new, code.new.code.rows) result }
+    ensures after_error { IsTrue R.keeps_defaults → LeavesMade R.sure (ask R.reply R.next) (rows_in code_row section.entry)
+        reencoder.old reencoder.new result }
+    ensures input { code.new.input ≡ code.old.input }
+    ensures ranges { IsTrue R.keeps_defaults → OnOk result
+        (GainsFrames (start + place_of section.entry) section.entry.rest code.old code.new) }
+{
+    let mut rows = section;
+    let mut own = w::CodeSection::new(alloc, code.ceiling());
+    'rows: loop {
+        let at = rows.place();
+        match rows.next_row(alloc)? {
+            Some(func) => {
+                let end = place_in(input, start, rows.place());
+                match add_body(reencoder, alloc, &mut own, code, func, end) {
+                    Ok(()) => {}
+                    Err(e) => return Err(placed(e, at)),
+                }
+            }
+            None => return Ok(()),
+        }
+    }
+}
+
+/// Adds a code section whose bodies were mapped. Where they were refused, that is the answer.
+fn add_mapped<E>(
+    alloc: Global,
+    sink: &mut ModulePieces<'_>,
+    mapped: Result<(), Error<E>>,
+    code: CodePieces<'_>,
+) -> Result<(), Error<E>>
+    requires { code.input ≡ sink.old.input }
+    ensures adds { AddsMapped (section_row 10 (normal (vector_tree code.entry.code.rows)))
+        sink.old.sections mapped sink.new.sections result }
+    ensures kept { OnOk result (sink.new.kept ≡ sink.old.kept ++ code.entry.kept) }
+    ensures input { sink.new.input ≡ sink.old.input }
+{
+    mapped?;
+    sink.add_code(alloc, code)?;
+    Ok(())
+}
+
+/// Maps a code section, body by body, and adds it. Its body begins at a place.
+fn add_code_section<R: Reencode>(
+    reencoder: &mut R,
+    alloc: Global,
+    sink: &mut ModulePieces<'_>,
+    body: &[u8],
+    start: usize,
+) -> Result<(), Error<R::Error>>
+    requires { StandsAt sink.old.input body.now (start + length body.now) }
+    ensures kept { KeepsModule sink.old.sections sink.new.sections }
+    ensures default { IsTrue R.keeps_defaults → GivesSection (ask R.reply R.next) kinds.Code body.now
+        (reencoder.old, sink.old.sections) (reencoder.new, sink.new.sections) result }
+    ensures after_error { IsTrue R.keeps_defaults → LeavesMade R.sure (ask R.reply R.next) (section_in kinds.Code body.now)
+        reencoder.old reencoder.new result }
+    ensures input { sink.new.input ≡ sink.old.input }
+    ensures ranges { IsTrue R.keeps_defaults
+        → OnOk result (KeepsCodeSection (ask R.reply R.next) sink.old.sections.ceiling start body.now
+        reencoder.old reencoder.new sink.old.kept sink.new.kept) }
+{
+    let section = r::CodeSectionReader::new(body)?;
+    let input = sink.input();
+    let mut code = sink.new_code(alloc, section.place(), body.len());
+    let mapped = add_bodies(reencoder, alloc, &mut code, section, input, start);
+    add_mapped(alloc, sink, mapped, code)
+}
+
+/// Maps a section of another kind into a module of its own, and adds it.
+fn add_section<R: Reencode>(
+    reencoder: &mut R,
+    alloc: Global,
+    sink: &mut ModulePieces<'_>,
+    id: SectionId,
+    body: &[u8],
+) -> Result<(), Error<R::Error>>
+    ensures kept { KeepsModule sink.old.sections sink.new.sections }
+    ensures default { IsTrue R.keeps_defaults → GivesSection (ask R.reply R.next) id body.now
+        (reencoder.old, sink.old.sections) (reencoder.new, sink.new.sections) result }
+    ensures after_error { IsTrue R.keeps_defaults → LeavesMade R.sure (ask R.reply R.next) (section_in id body.now)
+        reencoder.old reencoder.new result }
+    ensures input { sink.new.input ≡ sink.old.input }
+    ensures ranges { OnOk result (sink.new.kept ≡ sink.old.kept) }
+{
+    let Ok(mut own) = w::Module::new(alloc, sink.ceiling()) else {
+        return Err(Error::NoMemory);
+    };
+    match reencoder.parse_section(alloc, &mut own, id, body) {
+        Ok(()) => {}
+        Err(e) => return Err(e),
+    }
+    match sink.add(&own) {
+        Ok(()) => Ok(()),
+        Err(NoMemory) => Err(Error::NoMemory),
+    }
+}
+
+/// Maps a custom section into a module of its own, and adds it.
+fn add_custom<R: Reencode>(
+    reencoder: &mut R,
+    alloc: Global,
+    sink: &mut ModulePieces<'_>,
+    section: r::CustomSection<'_>,
+) -> Result<(), Error<R::Error>>
+    ensures kept { KeepsModule sink.old.sections sink.new.sections }
+    ensures default { IsTrue R.keeps_defaults → GivesCustom (ask R.reply R.next)
+        section.entry.name.now section.entry.contents.now
+        (reencoder.old, sink.old.sections) (reencoder.new, sink.new.sections) result }
+    ensures after_error { IsTrue R.keeps_defaults → LeavesMade R.sure (ask R.reply R.next)
+        (custom_in section.entry.name.now section.entry.contents.now)
+        reencoder.old reencoder.new result }
+    ensures input { sink.new.input ≡ sink.old.input }
+    ensures ranges { OnOk result (sink.new.kept ≡ sink.old.kept) }
+{
+    let Ok(mut own) = w::Module::new(alloc, sink.ceiling()) else {
+        return Err(Error::NoMemory);
+    };
+    match reencoder.parse_custom_section(alloc, &mut own, section) {
+        Ok(()) => {}
+        Err(e) => return Err(e),
+    }
+    match sink.add(&own) {
+        Ok(()) => Ok(()),
+        Err(NoMemory) => Err(Error::NoMemory),
+    }
+}
+
+/// Maps a section of an id that no kind has into a module of its own, and adds it.
+fn add_unknown<R: Reencode>(
+    reencoder: &mut R,
+    alloc: Global,
+    sink: &mut ModulePieces<'_>,
+    id: u8,
+    contents: &[u8],
+) -> Result<(), Error<R::Error>>
+    requires { id ≤ 127 }
+    ensures kept { KeepsModule sink.old.sections sink.new.sections }
+    ensures default { IsTrue R.keeps_defaults → GivesAdded (ask R.reply R.next) id
+        (reencoder.old, sink.old.sections) (unknown_tree_of id contents.now)
+        (reencoder.new, sink.new.sections) result }
+    ensures after_error { IsTrue R.keeps_defaults → IsTrue R.sure
+        → LeavesVisited (ask R.reply R.next) reencoder.old [] reencoder.new result }
+    ensures usual { IsTrue R.keeps_defaults → IfErr result (λ e. IfParse e (λ _. ⊥)) }
+    ensures input { sink.new.input ≡ sink.old.input }
+    ensures ranges { OnOk result (sink.new.kept ≡ sink.old.kept) }
+{
+    let Ok(mut own) = w::Module::new(alloc, sink.ceiling()) else {
+        return Err(Error::NoMemory);
+    };
+    match reencoder.parse_unknown_section(&mut own, id, contents) {
+        Ok(()) => {}
+        Err(e) => return Err(e),
+    }
+    match sink.add(&own) {
+        Ok(()) => Ok(()),
+        Err(NoMemory) => Err(Error::NoMemory),
+    }
+}
+
+/// Calls the section hook with a module of its own, and adds the sections that stand there then.
+fn add_between<R: Reencode>(
+    reencoder: &mut R,
+    alloc: Global,
+    sink: &mut ModulePieces<'_>,
+    after: Option<SectionId>,
+    before: Option<SectionId>,
+) -> Result<(), Error<R::Error>>
+    ensures answer { RepliesSection R.reply R.next R.adds reencoder.old reencoder.new
+        sink.old.sections sink.new.sections after before result }
+    ensures leaves { LeavesHook R.sure R.adds_nothing (ask R.reply R.next) reencoder.old reencoder.new
+        (Section after before) result }
+    ensures input { sink.new.input ≡ sink.old.input }
+    ensures ranges { OnOk result (sink.new.kept ≡ sink.old.kept) }
+{
+    let Ok(mut own) = w::Module::new(alloc, sink.ceiling()) else {
+        return Err(Error::NoMemory);
+    };
+    match reencoder.intersperse_section_hook(&mut own, after, before) {
+        Ok(()) => {}
+        Err(e) => return Err(e),
+    }
+    if own.len() == 0 {
+        return Ok(());
+    }
+    match sink.add(&own) {
+        Ok(()) => Ok(()),
+        Err(NoMemory) => Err(Error::NoMemory),
+    }
+}
+
+/// Maps a section of a kind and adds it. Its body begins at a place.
+fn add_kind<R: Reencode>(
+    reencoder: &mut R,
+    alloc: Global,
+    sink: &mut ModulePieces<'_>,
+    id: SectionId,
+    body: &[u8],
+    start: usize,
+) -> Result<(), Error<R::Error>>
+    requires { StandsAt sink.old.input body.now (start + length body.now) }
+    ensures kept { KeepsModule sink.old.sections sink.new.sections }
+    ensures default { IsTrue R.keeps_defaults → GivesSection (ask R.reply R.next) id body.now
+        (reencoder.old, sink.old.sections) (reencoder.new, sink.new.sections) result }
+    ensures after_error { IsTrue R.keeps_defaults → LeavesMade R.sure (ask R.reply R.next) (section_in id body.now)
+        reencoder.old reencoder.new result }
+    ensures input { sink.new.input ≡ sink.old.input }
+    ensures ranges { IsTrue R.keeps_defaults
+        → OnOk result (KeepsKind (ask R.reply R.next) sink.old.sections.ceiling id start body.now
+        reencoder.old reencoder.new sink.old.kept sink.new.kept) }
+{
+    match id {
+        SectionId::Code => add_code_section(reencoder, alloc, sink, body, start),
+        _ => add_section(reencoder, alloc, sink, id, body),
+    }
+}
+
+/// Reads a module and adds what its sections become. The section hook is called before each section and at the end.
+fn walk<R: Reencode>(
+    reencoder: &mut R,
+    alloc: Global,
+    sink: &mut ModulePieces<'_>,
+    bytes: &[u8],
+) -> Result<(), Error<R::Error>>
+    requires { sink.old.input ≡ bytes.now }
+    ensures kept { KeepsModule sink.old.sections sink.new.sections }
+    ensures default { IsTrue R.keeps_defaults → IsTrue R.adds_nothing
+        → GivesCore (ask R.reply R.next) bytes.now (reencoder.old, sink.old.sections)
+        (reencoder.new, sink.new.sections) result }
+    ensures woven { IsTrue R.keeps_defaults
+        → GivesWoven (ask R.reply R.next) R.adds bytes.now (reencoder.old, sink.old.sections)
+        (reencoder.new, sink.new.sections) result }
+    ensures after_error { IsTrue R.keeps_defaults → LeavesCore R.sure R.adds_nothing (ask R.reply R.next)
+        (module_in bytes.now) reencoder.old reencoder.new result }
+    ensures headless { IsTrue R.keeps_defaults → NoCoreHeading bytes.now → reencoder.new ≡ reencoder.old }
+    ensures input { sink.new.input ≡ sink.old.input }
+    ensures ranges { IsTrue R.keeps_defaults → OnOk result (KeepsRanges (ask R.reply R.next)
+        sink.old.sections.ceiling bytes.now reencoder.old reencoder.new sink.old.kept sink.new.kept) }
+{
+    let mut payloads = r::Payloads::new(bytes)?;
+    let mut last = None;
+    'sections: loop {
+        match payloads.next()? {
+            Some(r::Payload::Section { id, at, body }) => {
+                add_between(reencoder, alloc, sink, last, Some(id))?;
+                let start = payloads.place().saturating_sub(body.len());
+                match add_kind(reencoder, alloc, sink, id, body, start) {
+                    Ok(()) => last = Some(id),
+                    Err(e) => return Err(placed(e, at)),
+                }
+            }
+            Some(r::Payload::Custom { at, section }) => {
+                match add_custom(reencoder, alloc, sink, section) {
+                    Ok(()) => {}
+                    Err(e) => return Err(placed(e, at)),
+                }
+            }
+            Some(r::Payload::Unknown { at, id, contents }) => {
+                match add_unknown(reencoder, alloc, sink, id, contents) {
+                    Ok(()) => {}
+                    Err(e) => return Err(placed(e, at)),
+                }
+            }
+            None => return add_between(reencoder, alloc, sink, last, None),
+        }
+    }
+}
+
+/// Re-encodes a core module, and answers its output in pieces: the function bodies that stay as they stand are kept ranges of the
+/// input.
+pub fn reencode_pieces<R: Reencode>(
+    alloc: Global,
+    r: &mut R,
+    bytes: &[u8],
+    ceiling: u32,
+) -> Result<Pieces, Error<R::Error>>
+    ensures default { IsTrue R.keeps_defaults → IsTrue R.adds_nothing
+        → GivesBytes (ask R.reply R.next) ceiling bytes.now r.old r.new result (joined bytes.now) }
+    ensures woven { IsTrue R.keeps_defaults
+        → GivesWovenBytes (ask R.reply R.next) R.adds ceiling bytes.now r.old r.new result
+        (joined bytes.now) }
+    ensures after_error { IsTrue R.keeps_defaults
+        → LeavesCore R.sure R.adds_nothing (ask R.reply R.next) (core_in bytes.now)
+        r.old r.new result }
+    ensures headless { IsTrue R.keeps_defaults → NoCoreHeading bytes.now → r.new ≡ r.old }
+    ensures within { IfOk result (AreWithin (length bytes.now)) }
+    ensures alternate { IfOk result Alternate }
+    ensures size { IfOk result (λ pieces. total pieces ≡ length (joined bytes.now pieces)) }
+    ensures kept { IsTrue R.keeps_defaults → IfOk result (λ pieces. (t : Tree)
+        → Spells core_module bytes.now t → (given : List ℕ)
+        × (run (ask R.reply R.next) r.old (visits t) ≡ accepted given r.new)
+        × Kept bytes.now t given (kept_ranges pieces)) }
+{
+    let mut sink = ModulePieces::new(alloc, bytes, ceiling)?;
+    walk(r, alloc, &mut sink, bytes)?;
+    Ok(sink.finish(alloc)?)
+}
+
+/// Re-encodes a core module as `reencode_core` does, by way of pieces: a function body that stays as it stands is copied once, from
+/// the input to where it stands in the end.
+pub fn reencode_joined<R: Reencode>(
+    alloc: Global,
+    r: &mut R,
+    bytes: &[u8],
+    ceiling: u32,
+) -> Result<Vec<u8>, Error<R::Error>>
+    ensures default { IsTrue R.keeps_defaults → IsTrue R.adds_nothing
+        → GivesBytes (ask R.reply R.next) ceiling bytes.now r.old r.new result (λ v. v.items) }
+    ensures woven { IsTrue R.keeps_defaults
+        → GivesWovenBytes (ask R.reply R.next) R.adds ceiling bytes.now r.old r.new result
+        (λ v. v.items) }
+    ensures after_error { IsTrue R.keeps_defaults
+        → LeavesCore R.sure R.adds_nothing (ask R.reply R.next) (core_in bytes.now)
+        r.old r.new result }
+    ensures headless { IsTrue R.keeps_defaults → NoCoreHeading bytes.now → r.new ≡ r.old }
+{
+    let mut sink = ModulePieces::new(alloc, bytes, ceiling)?;
+    walk(r, alloc, &mut sink, bytes)?;
+    Ok(sink.join(alloc)?)
+}
