@@ -1,5 +1,5 @@
 use Rattle.std.proofs.Common.{ℕ, List, ap, arith}
-use Rattle.pieces.specs.Pieces.{Grown, cut_ranges}
+use Rattle.pieces.specs.Pieces.{cut_ranges}
 use Rattle.pieces.proofs.Cutting.{added_bytes, added_is}
 use Rattle.pieces.proofs.growing.Growing.add.Goals as goal
 

@@ -1,5 +1,5 @@
-use Rattle.std.proofs.Common.{◌≡◌, ◌+◌, ◌-◌, ◌≤◌, ℕ, List, ◌++◌, length, drop, refl, ap, ap₂, sym, subst, ◌∙◌, arith, length-append, length-drop}
-use Rattle.pieces.specs.Pieces.{AreCuts, Grown, Range, cut_bytes, cut_made, cut_ranges, last_of, raised}
+use Rattle.std.proofs.Common.{◌≡◌, ◌+◌, ◌-◌, ℕ, List, ◌++◌, length, drop, refl, ap, ap₂, sym, subst, ◌∙◌, arith, length-drop}
+use Rattle.pieces.specs.Pieces.{AreCuts, Grown, Range, cut_bytes, cut_ranges, last_of, raised}
 use Rattle.pieces.specs.declared.cuts.Cut.{Cut}
 use Rattle.pieces.proofs.Cutting.{grown_bytes, grown_is, grown_ranges}
 use Rattle.pieces.proofs.growing.Growing.append.Goals as goal

@@ -1,5 +1,5 @@
-use Rattle.std.proofs.Common.{◌≡◌, ◌≤◌, List, length, drop, ap, sym, ◌∙◌, arith, length-drop}
-use Rattle.pieces.specs.Pieces.{cut_made, cut_pieces, total}
+use Rattle.std.proofs.Common.{List, length, drop, ap, sym, ◌∙◌, arith, length-drop}
+use Rattle.pieces.specs.Pieces.{cut_pieces, total}
 use Rattle.pieces.specs.declared.cuts.Cut.{Cut}
 use Rattle.pieces.proofs.Cutting.{alternate_pieces, joined_pieces, ranges_pieces, total_joined, within_pieces}
 use Rattle.pieces.proofs.growing.Growing.finish.Goals as goal

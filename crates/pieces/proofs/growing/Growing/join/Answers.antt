@@ -1,4 +1,4 @@
-use Rattle.std.proofs.Common.{◌≡◌, ◌<◌, ◌+◌, ◌++◌, ℕ, List, [], ◌∷◌, length, drop, refl, ap, sym, ◌∙◌, arith}
+use Rattle.std.proofs.Common.{◌≡◌, ℕ, List, [], ◌∷◌, length, drop, refl, ap, ◌∙◌, arith}
 use Rattle.pieces.specs.Pieces.{Grown, cut_bytes}
 use Rattle.pieces.specs.declared.cuts.Cut.{Cut}
 use Rattle.pieces.proofs.growing.Growing.join.Goals as goal
