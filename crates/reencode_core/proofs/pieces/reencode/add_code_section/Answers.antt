@@ -1,4 +1,4 @@
-use Rattle.std.proofs.Common.{ap, ◌∙◌, refl}
+use Rattle.std.proofs.Common.{ap, refl}
 use Rattle.wasm_shapes.specs.declared.SectionId.TheVariants as id
 use Rattle.reencode_core.proofs.MappedSection.{code_done, section_unread}
 use Rattle.reencode_core.proofs.OneRow.{asks}

@@ -1,5 +1,5 @@
 use Rattle.std.proofs.Common.{ℕ, List, ap, arith}
-use Rattle.reencode_core.specs.Pieces.{Grown, cut_ranges}
+use Rattle.reencode_core.specs.Pieces.{cut_ranges}
 use Rattle.reencode_core.proofs.Cutting.{added_bytes, added_is}
 use Rattle.reencode_core.proofs.pieces.growing.Growing.add.Goals as goal
 

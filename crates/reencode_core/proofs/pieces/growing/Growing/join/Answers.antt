@@ -1,4 +1,4 @@
-use Rattle.std.proofs.Common.{◌≡◌, ◌<◌, ◌+◌, ◌++◌, ℕ, List, [], ◌∷◌, length, drop, refl, ap, sym, ◌∙◌, arith}
+use Rattle.std.proofs.Common.{◌≡◌, ℕ, List, [], ◌∷◌, length, drop, refl, ap, ◌∙◌, arith}
 use Rattle.reencode_core.specs.Pieces.{Grown, cut_bytes}
 use Rattle.reencode_core.specs.declared.pieces.cuts.Cut.{Cut}
 use Rattle.reencode_core.proofs.pieces.growing.Growing.join.Goals as goal
