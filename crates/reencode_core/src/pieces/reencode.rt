@@ -27,6 +27,7 @@ use crate::pieces::code::CodePieces;
 use crate::pieces::module::ModulePieces;
 use crate::pieces::piece::Pieces;
 use crate::reencode::Reencode;
+use crate::utils;
 use reencode_hooks::Error;
 use std::alloc::Global;
 use wasm_leb::NoMemory;
@@ -159,7 +160,7 @@ fn add_code_section<R: Reencode>(
     add_mapped(alloc, sink, mapped, code)
 }
 
-/// Maps a section of another kind into a module of its own, and adds it.
+/// Maps a section of another kind, by the methods of that kind, into a module of its own, and adds it.
 fn add_section<R: Reencode>(
     reencoder: &mut R,
     alloc: Global,
@@ -178,7 +179,7 @@ fn add_section<R: Reencode>(
     let Ok(mut own) = w::Module::new(alloc, sink.ceiling()) else {
         return Err(Error::NoMemory);
     };
-    match reencoder.parse_section(alloc, &mut own, id, body) {
+    match utils::parse_section(reencoder, alloc, &mut own, id, body) {
         Ok(()) => {}
         Err(e) => return Err(e),
     }
