@@ -13,6 +13,8 @@
 //! | `roundtrip` | by `RoundtripReencoder` |
 //! | `renamer` | by `Renamer`, without entries |
 //! | `renamed` | by `Renamer`, with an entry for the function that is called |
+//! | `joined`, `joined_renamed` | the same two, by `reencode_joined` |
+//! | `pieces`, `pieces_renamed` | the same two, by `reencode_pieces`: it prints how many pieces came |
 #![tactic(auto)]
 
 mod making;
@@ -21,7 +23,7 @@ mod reading;
 use crate::making::{Kind, module};
 use crate::reading::operators_len;
 use default_renamer::DefaultRenamer;
-use reencode_core::{Reencode, reencode_core};
+use reencode_core::{Reencode, reencode_core, reencode_joined, reencode_pieces};
 use reencode_hooks::{Renamer, RoundtripReencoder};
 use std::alloc::{AllocError, Global};
 use std::process::ExitCode;
@@ -87,6 +89,22 @@ where
     }
 }
 
+/// The same by way of pieces.
+fn joined_len(alloc: Global, renamer: &mut Renamer, module: &[u8]) -> usize {
+    match reencode_joined(alloc, renamer, module, u32::MAX) {
+        Ok(made) => made.len(),
+        Err(_) => 0,
+    }
+}
+
+/// How many pieces a module re-encodes to, and 0 where it is refused.
+fn pieces_len(alloc: Global, renamer: &mut Renamer, module: &[u8]) -> usize {
+    match reencode_pieces(alloc, renamer, module, u32::MAX) {
+        Ok(pieces) => pieces.len(),
+        Err(_) => 0,
+    }
+}
+
 /// A renamer with an entry for the function that is called.
 fn renaming(alloc: Global) -> Result<Renamer, NoMemory> {
     let mut renamer = Renamer::new(alloc);
@@ -106,6 +124,10 @@ fn once(alloc: Global, way: &str, module: &[u8]) -> Result<Option<usize>, NoMemo
         "roundtrip" => Ok(Some(len_of(alloc, &mut RoundtripReencoder, module))),
         "renamer" => Ok(Some(len_of(alloc, &mut Renamer::new(alloc), module))),
         "renamed" => Ok(Some(len_of(alloc, &mut renaming(alloc)?, module))),
+        "joined" => Ok(Some(joined_len(alloc, &mut Renamer::new(alloc), module))),
+        "joined_renamed" => Ok(Some(joined_len(alloc, &mut renaming(alloc)?, module))),
+        "pieces" => Ok(Some(pieces_len(alloc, &mut Renamer::new(alloc), module))),
+        "pieces_renamed" => Ok(Some(pieces_len(alloc, &mut renaming(alloc)?, module))),
         _ => Ok(None),
     }
 }
