@@ -1,22 +1,33 @@
 -- What a status says of how the program ended.
 use Rattle.std.proofs.Common.{◌≡◌, ◌≢◌, ℕ, inl, inr, true, Bool, Option, Some, None, List, [], ◌∷◌, ◌++◌, codes, refl, sym, ap, ◌∙◌, subst, arith, lit<}
-use Rattle.std.specs.Prelude.{Contains}
-use Rattle.reencode_hooks.specs.declared.asked.Unmapped.{Unmapped}
-use Rattle.reencode_hooks.specs.Renamings.{Renaming}
+use Rattle.std.specs.Prelude.{Contains, MatchOption}
+use Rattle.reencode_hooks.specs.Renamings.{Renaming, no_renaming}
 use Rattle.reencode_tool.specs.declared.answer.Answer.{Answer}
 use Rattle.reencode_tool.specs.declared.answer.Answer.TheVariants.{Printed, NoMemory, Usage, ReadFault, WriteFault, ParseError, Refused, CodeSectionSize, NonCoreModule, NonComponent, TooLarge, BadRenaming, ShelfFault, TooLong, NotHexadecimal}
-use Rattle.reencode_tool.specs.Answer.{Ends, ForJob, HasNoDigits, IsBadFile, IsTooLong, MadeFor, Outside, StopsWith, report_of, PlainFor, RefusesBytes, RefusesRenaming, StopsAtReencoding, StopsFor, Texts, Uses, message, most_bytes, status_of, text_of}
-use Rattle.reencode_tool.specs.Outside.{Rose, GaveAll, TookFront, WhereTold, followed}
+use Rattle.reencode_tool.specs.declared.renamers.Refusal.{Refusal}
+use Rattle.reencode_tool.specs.declared.renamers.Renamers.{Renamers}
+use Rattle.reencode_tool.specs.declared.renamers.Renamers.TheVariants.{Alone}
+use Rattle.reencode_tool.specs.Answer.{AtFile, Ends, FilesSay, ForJob, HasNoDigits, IsBadFile, IsTooLong, IsUnfetched, IsUnread, MadeFor, Outside, StopsWith, report_of, PlainFor, RefusesFile, RefusesFrom, StopsAtReencoding, StopsFor, Texts, Uses, message, most_bytes, status_of, text_of}
+use Rattle.reencode_tool.specs.Outside.{Rose, GaveAll, TookFront, TookMore, WhereTold, followed}
 use Rattle.reencode_tool.specs.Hexadecimal.{binary}
 use Rattle.reencode_tool.specs.Reencoded.{IsReencoded}
-use Rattle.reencode_tool.specs.Words.{Command, plain, rename, generate, Job}
+use Rattle.reencode_tool.specs.Renamers.{renamers_of}
+use Rattle.reencode_tool.specs.Words.{Command, Job, files, functions}
 use Rattle.reencode_tool.proofs.Outcomes.{plain_of}
 
--- where nothing is renamed, the output is the normal spelling itself
-pub plain_for : {c : ℕ} {r : Renaming} {bytes output counts : List ℕ} (command : Command) (texts : Texts) → Uses command texts r → IsReencoded c r bytes output counts → PlainFor command bytes output counts
-plain_for {c} {r} {bytes} {output} {counts} plain texts same h = plain_of (subst (λ (z : Renaming). IsReencoded c z bytes output counts) same h)
-plain_for (rename name) texts uses h = tt
-plain_for {c} {r} {bytes} {output} {counts} (generate n) texts same h = plain_of (subst (λ (z : Renaming). IsReencoded c z bytes output counts) same h)
+-- where no file is named, nothing is renamed, and the output is the normal spelling itself
+none_said : (texts : Texts) (names : List (List ℕ)) (said : List Renaming) (rs : Renamers) → FilesSay texts names said → rs ≡ renamers_of said → names ≡ [] → rs ≡ Alone no_renaming
+none_said texts [] [] rs f e n = e
+none_said texts [] (r ∷ said) rs f e n = absurd f
+none_said texts (name ∷ names) said rs f e n = absurd cc
+
+pub none_used : (command : Command) (texts : Texts) (rs : Renamers) → Uses command texts rs → files command ≡ [] → rs ≡ Alone no_renaming
+none_used command texts rs u n = none_said texts (files command) u.0 rs u.1 u.2 n
+
+pub plain_for : {c : ℕ} {rs : Renamers} {bytes output : List ℕ} {counts : List (List ℕ)} (names : List (List ℕ)) → (names ≡ [] → rs ≡ Alone no_renaming) → IsReencoded c rs bytes output counts
+    → PlainFor names bytes output counts
+plain_for {c} {rs} {bytes} {output} {counts} [] none h = plain_of (subst (λ (z : Renamers). IsReencoded c z bytes output counts) (none refl) h)
+plain_for (name ∷ names) none h = tt
 
 -- ---- one status, one end
 
@@ -105,7 +116,7 @@ is_parse_error ShelfFault status s e = absurd (omega arith)
 is_parse_error TooLong status s e = absurd (omega arith)
 is_parse_error NotHexadecimal status s e = absurd (omega arith)
 
-pub is_refused : (answer : Answer) (status : ℕ) → status ≡ status_of answer → status ≡ 6 → (u : Unmapped) × (answer ≡ Refused u)
+pub is_refused : (answer : Answer) (status : ℕ) → status ≡ status_of answer → status ≡ 6 → (u : Refusal) × (answer ≡ Refused u)
 is_refused Printed status s e = absurd (omega arith)
 is_refused NoMemory status s e = absurd (omega arith)
 is_refused Usage status s e = absurd (omega arith)
@@ -252,15 +263,19 @@ IsLate NonCoreModule = Unit {0}
 IsLate (TooLarge size ceiling) = Unit {0}
 IsLate _ = ⊥
 
-no_file : (answer : Answer) (command : Command) (texts : Texts) (a b : ℕ) → IsLate answer → RefusesRenaming command texts a b answer → ⊥
-no_file answer plain texts a b late h = h
-no_file (ParseError at) (rename name) texts a b late h = h
-no_file (Refused u) (rename name) texts a b late h = h
-no_file CodeSectionSize (rename name) texts a b late h = h
-no_file NonCoreModule (rename name) texts a b late h = h
-no_file (TooLarge size ceiling) (rename name) texts a b late h = h
-no_file _ (rename name) texts a b late h = late
-no_file answer (generate n) texts a b late h = h
+-- what never holds of a file holds of none of these
+never_at : (texts : Texts) (names : List (List ℕ)) {P : List ℕ → Type 0} → ((name : List ℕ) → P name → ⊥) → AtFile texts names P → ⊥
+never_at texts [] never h = h
+never_at texts (name ∷ names) never (inl h) = never name h
+never_at texts (name ∷ names) never (inr h) = never_at texts names never h.1
+
+late_file : (answer : Answer) (name : List ℕ) (texts : Texts) (a b : ℕ) → IsLate answer → RefusesFile name texts a b answer → ⊥
+late_file (ParseError at) name texts a b late h = h
+late_file (Refused u) name texts a b late h = h
+late_file CodeSectionSize name texts a b late h = h
+late_file NonCoreModule name texts a b late h = h
+late_file (TooLarge size ceiling) name texts a b late h = h
+late_file _ name texts a b late h = late
 
 late_memory : (answer : Answer) → IsLate answer → answer ≡ NoMemory → ⊥
 late_memory (ParseError at) late h = cc
@@ -270,42 +285,30 @@ late_memory NonCoreModule late h = cc
 late_memory (TooLarge size ceiling) late h = cc
 late_memory _ late h = late
 
-no_bytes : (answer : Answer) (command : Command) (is_text : Bool) (a b : ℕ) (old new : Option (List ℕ)) → IsLate answer → RefusesBytes command is_text a b old new answer → ⊥
-no_bytes (ParseError at) plain is_text a b old new late h = h
-no_bytes (Refused u) plain is_text a b old new late h = h
-no_bytes CodeSectionSize plain is_text a b old new late h = h
-no_bytes NonCoreModule plain is_text a b old new late h = h
-no_bytes (TooLarge size ceiling) plain is_text a b old new late h = h
-no_bytes _ plain is_text a b old new late h = late
-no_bytes (ParseError at) (rename name) is_text a b old new late h = h
-no_bytes (Refused u) (rename name) is_text a b old new late h = h
-no_bytes CodeSectionSize (rename name) is_text a b old new late h = h
-no_bytes NonCoreModule (rename name) is_text a b old new late h = h
-no_bytes (TooLarge size ceiling) (rename name) is_text a b old new late h = h
-no_bytes _ (rename name) is_text a b old new late h = late
-no_bytes answer (generate n) is_text a b old new late h = late_memory answer late h
+no_bytes : (answer : Answer) (source : Option ℕ) (is_text : Bool) (a b : ℕ) (old new : Option (List ℕ)) → IsLate answer → RefusesFrom source is_text a b old new answer → ⊥
+no_bytes answer (Some n) is_text a b old new late h = late_memory answer late h
+no_bytes (ParseError at) None is_text a b old new late h = h
+no_bytes (Refused u) None is_text a b old new late h = h
+no_bytes CodeSectionSize None is_text a b old new late h = h
+no_bytes NonCoreModule None is_text a b old new late h = h
+no_bytes (TooLarge size ceiling) None is_text a b old new late h = h
+no_bytes _ None is_text a b old new late h = late
 
 pub late_stops : (job : Job) (o : Outside) (answer : Answer) → IsLate answer → StopsFor job o answer → StopsAtReencoding job o.texts o.left_old o.left_new answer
-late_stops job o answer late (inl h) = absurd (no_file answer job.command _ _ _ late h)
-late_stops job o answer late (inr (inl h)) = absurd (no_bytes answer job.command _ _ _ _ _ late h.stops)
+late_stops job o answer late (inl h) = absurd (never_at o.texts (files job.command) (λ name p. late_file answer name o.texts o.shelf_faults_old o.shelf_faults_new late p) h)
+late_stops job o answer late (inr (inl h)) = absurd (no_bytes answer (functions job.command) _ _ _ _ _ late h.stops)
 late_stops job o answer late (inr (inr (inl h))) = h
 late_stops job o answer late (inr (inr (inr h))) = absurd (late_memory answer late h)
 
 -- the answer of another status than these
-never_component : (command : Command) (texts : Texts) (a b : ℕ) → RefusesRenaming command texts a b NonComponent → ⊥
-never_component plain texts a b h = h
-never_component (rename name) texts a b h = h
-never_component (generate n) texts a b h = h
-
-never_bytes : (command : Command) (is_text : Bool) (a b : ℕ) (old new : Option (List ℕ)) → RefusesBytes command is_text a b old new NonComponent → ⊥
-never_bytes plain is_text a b old new h = h
-never_bytes (rename name) is_text a b old new h = h
-never_bytes (generate n) is_text a b old new h = cc
+never_bytes : (source : Option ℕ) (is_text : Bool) (a b : ℕ) (old new : Option (List ℕ)) → RefusesFrom source is_text a b old new NonComponent → ⊥
+never_bytes None is_text a b old new h = h
+never_bytes (Some n) is_text a b old new h = cc
 
 no_component : (j : Option Job) (o : Outside) → Ends j o NonComponent → ⊥
 no_component None o h = cc
-no_component (Some job) o (inl h) = never_component job.command _ _ _ h
-no_component (Some job) o (inr (inl h)) = never_bytes job.command _ _ _ _ _ h.stops
+no_component (Some job) o (inl h) = never_at o.texts (files job.command) (λ name p. p) h
+no_component (Some job) o (inr (inl h)) = never_bytes (functions job.command) _ _ _ _ _ h.stops
 no_component (Some job) o (inr (inr (inl h))) = h.stops
 no_component (Some job) o (inr (inr (inr h))) = cc
 
@@ -356,20 +359,14 @@ pub of_write_fault : (j : Option Job) (o : Outside) → Ends j o WriteFault
 of_write_fault None o h = let never : WriteFault ≡ Usage = h in absurd cc
 of_write_fault (Some job) o h = h
 
-usage_file : (command : Command) (texts : Texts) (a b : ℕ) → RefusesRenaming command texts a b Usage → ⊥
-usage_file plain texts a b h = h
-usage_file (rename name) texts a b h = h
-usage_file (generate n) texts a b h = h
-
-usage_bytes : (command : Command) (is_text : Bool) (a b : ℕ) (old new : Option (List ℕ)) → RefusesBytes command is_text a b old new Usage → ⊥
-usage_bytes plain is_text a b old new h = h
-usage_bytes (rename name) is_text a b old new h = h
-usage_bytes (generate n) is_text a b old new h = absurd cc
+usage_bytes : (source : Option ℕ) (is_text : Bool) (a b : ℕ) (old new : Option (List ℕ)) → RefusesFrom source is_text a b old new Usage → ⊥
+usage_bytes None is_text a b old new h = h
+usage_bytes (Some n) is_text a b old new h = absurd cc
 
 pub of_usage : (j : Option Job) (o : Outside) → Ends j o Usage → j ≡ None
 of_usage None o h = refl
-of_usage (Some job) o (inl h) = absurd (usage_file job.command _ _ _ h)
-of_usage (Some job) o (inr (inl h)) = absurd (usage_bytes job.command _ _ _ _ _ h.stops)
+of_usage (Some job) o (inl h) = absurd (never_at o.texts (files job.command) (λ name p. p) h)
+of_usage (Some job) o (inr (inl h)) = absurd (usage_bytes (functions job.command) _ _ _ _ _ h.stops)
 of_usage (Some job) o (inr (inr (inl h))) = absurd h.stops
 of_usage (Some job) o (inr (inr (inr h))) = absurd cc
 
@@ -378,94 +375,83 @@ pub usage_of : (j : Option Job) (answer : Answer) (o : Outside) (status : ℕ) �
 usage_of None answer o status s h e = s ∙ ap status_of h
 usage_of (Some job) answer o status s h e = absurd cc
 
-read_file : (command : Command) (texts : Texts) (a b : ℕ) → RefusesRenaming command texts a b ReadFault → ⊥
-read_file plain texts a b h = h
-read_file (rename name) texts a b h = h
-read_file (generate n) texts a b h = h
+-- the commands that read the source
+abbrev Reads : Option ℕ → Type 0
+Reads source = MatchOption source ⊥ (λ n. Unit {0}) → ⊥
 
-read_bytes : (command : Command) (is_text : Bool) (a b : ℕ) (old new : Option (List ℕ)) → RefusesBytes command is_text a b old new ReadFault → Rose a b
-read_bytes plain is_text a b old new h = h
-read_bytes (rename name) is_text a b old new h = h
-read_bytes (generate n) is_text a b old new h = absurd cc
+read_bytes : (source : Option ℕ) (is_text : Bool) (a b : ℕ) (old new : Option (List ℕ)) → RefusesFrom source is_text a b old new ReadFault → Reads source × Rose a b
+read_bytes None is_text a b old new h = (λ never. never, h)
+read_bytes (Some n) is_text a b old new h = absurd cc
 
-pub of_read_fault : (j : Option Job) (o : Outside) → Ends j o ReadFault → Rose o.read_faults_old o.read_faults_new
+pub of_read_fault : (j : Option Job) (o : Outside) → Ends j o ReadFault → ForJob j (λ job. IsUnread job.command o.texts o.read_faults_old o.read_faults_new)
 of_read_fault None o h = let never : ReadFault ≡ Usage = h in absurd cc
-of_read_fault (Some job) o (inl h) = absurd (read_file job.command _ _ _ h)
-of_read_fault (Some job) o (inr (inl h)) = read_bytes job.command _ _ _ _ _ h.stops
+of_read_fault (Some job) o (inl h) = absurd (never_at o.texts (files job.command) (λ name p. p) h)
+of_read_fault (Some job) o (inr (inl h)) =
+    let p = read_bytes (functions job.command) _ _ _ _ _ h.stops in (p.0, (h.renamers, h.uses), p.1)
 of_read_fault (Some job) o (inr (inr (inl h))) = absurd h.stops
 of_read_fault (Some job) o (inr (inr (inr h))) = absurd cc
 
-shelf_file : (command : Command) (texts : Texts) (a b : ℕ) → RefusesRenaming command texts a b ShelfFault → Rose a b
-shelf_file plain texts a b h = absurd h
-shelf_file (rename name) texts a b h = h
-shelf_file (generate n) texts a b h = absurd h
+pub unread_rose : (j : Option Job) (o : Outside) → Ends j o ReadFault → Rose o.read_faults_old o.read_faults_new
+unread_rose None o h = let never : ReadFault ≡ Usage = h in absurd cc
+unread_rose (Some job) o h = (of_read_fault (Some job) o h).2
 
-shelf_bytes : (command : Command) (is_text : Bool) (a b : ℕ) (old new : Option (List ℕ)) → RefusesBytes command is_text a b old new ShelfFault → ⊥
-shelf_bytes plain is_text a b old new h = h
-shelf_bytes (rename name) is_text a b old new h = h
-shelf_bytes (generate n) is_text a b old new h = absurd cc
+shelf_bytes : (source : Option ℕ) (is_text : Bool) (a b : ℕ) (old new : Option (List ℕ)) → RefusesFrom source is_text a b old new ShelfFault → ⊥
+shelf_bytes None is_text a b old new h = h
+shelf_bytes (Some n) is_text a b old new h = absurd cc
 
-pub of_shelf_fault : (j : Option Job) (o : Outside) → Ends j o ShelfFault → Rose o.shelf_faults_old o.shelf_faults_new
+pub of_shelf_fault : (j : Option Job) (o : Outside) → Ends j o ShelfFault → ForJob j (λ job. IsUnfetched job.command o.texts o.shelf_faults_old o.shelf_faults_new)
 of_shelf_fault None o h = let never : ShelfFault ≡ Usage = h in absurd cc
-of_shelf_fault (Some job) o (inl h) = shelf_file job.command _ _ _ h
-of_shelf_fault (Some job) o (inr (inl h)) = absurd (shelf_bytes job.command _ _ _ _ _ h.stops)
+of_shelf_fault (Some job) o (inl h) = h
+of_shelf_fault (Some job) o (inr (inl h)) = absurd (shelf_bytes (functions job.command) _ _ _ _ _ h.stops)
 of_shelf_fault (Some job) o (inr (inr (inl h))) = absurd h.stops
 of_shelf_fault (Some job) o (inr (inr (inr h))) = absurd cc
 
-bad_file : (command : Command) (texts : Texts) (a b : ℕ) → RefusesRenaming command texts a b BadRenaming → IsBadFile command texts
-bad_file plain texts a b h = h
-bad_file (rename name) texts a b h = h
-bad_file (generate n) texts a b h = h
+-- what is said of a file without its name holds where it holds of one
+at_some : (texts : Texts) (names : List (List ℕ)) {P : Type 0} → AtFile texts names (λ name. P) → P
+at_some texts [] h = absurd h
+at_some texts (name ∷ names) (inl h) = h
+at_some texts (name ∷ names) (inr h) = at_some texts names h.1
 
-bad_bytes : (command : Command) (is_text : Bool) (a b : ℕ) (old new : Option (List ℕ)) → RefusesBytes command is_text a b old new BadRenaming → ⊥
-bad_bytes plain is_text a b old new h = h
-bad_bytes (rename name) is_text a b old new h = h
-bad_bytes (generate n) is_text a b old new h = absurd cc
+pub unfetched_rose : (j : Option Job) (o : Outside) → Ends j o ShelfFault → Rose o.shelf_faults_old o.shelf_faults_new
+unfetched_rose None o h = let never : ShelfFault ≡ Usage = h in absurd cc
+unfetched_rose (Some job) o h = at_some o.texts (files job.command) (of_shelf_fault (Some job) o h)
+
+bad_bytes : (source : Option ℕ) (is_text : Bool) (a b : ℕ) (old new : Option (List ℕ)) → RefusesFrom source is_text a b old new BadRenaming → ⊥
+bad_bytes None is_text a b old new h = h
+bad_bytes (Some n) is_text a b old new h = absurd cc
 
 pub of_bad_renaming : (j : Option Job) (o : Outside) → Ends j o BadRenaming → ForJob j (λ job. IsBadFile job.command o.texts)
 of_bad_renaming None o h = let never : BadRenaming ≡ Usage = h in absurd cc
-of_bad_renaming (Some job) o (inl h) = bad_file job.command _ _ _ h
-of_bad_renaming (Some job) o (inr (inl h)) = absurd (bad_bytes job.command _ _ _ _ _ h.stops)
+of_bad_renaming (Some job) o (inl h) = h
+of_bad_renaming (Some job) o (inr (inl h)) = absurd (bad_bytes (functions job.command) _ _ _ _ _ h.stops)
 of_bad_renaming (Some job) o (inr (inr (inl h))) = absurd h.stops
 of_bad_renaming (Some job) o (inr (inr (inr h))) = absurd cc
 
-long_file : (command : Command) (texts : Texts) (a b : ℕ) (old new : Option (List ℕ)) → RefusesRenaming command texts a b TooLong → IsTooLong command texts old new
-long_file plain texts a b old new h = absurd h
-long_file (rename name) texts a b old new h = inl h
-long_file (generate n) texts a b old new h = h
-
-long_bytes : (command : Command) (texts : Texts) (r : Renaming) (is_text : Bool) (a b : ℕ) (old new : Option (List ℕ)) → Uses command texts r
-    → RefusesBytes command is_text a b old new TooLong → IsTooLong command texts old new
-long_bytes plain texts r is_text a b old new u h = h
-long_bytes (rename name) texts r is_text a b old new u h = inr ((r, u), h)
-long_bytes (generate n) texts r is_text a b old new u h = absurd cc
+long_bytes : (source : Option ℕ) (is_text : Bool) (a b : ℕ) (old new : Option (List ℕ)) → RefusesFrom source is_text a b old new TooLong → Reads source × TookMore most_bytes old new
+long_bytes None is_text a b old new h = (λ never. never, h)
+long_bytes (Some n) is_text a b old new h = absurd cc
 
 pub of_too_long : (j : Option Job) (o : Outside) → Ends j o TooLong → ForJob j (λ job. IsTooLong job.command o.texts o.left_old o.left_new)
 of_too_long None o h = let never : TooLong ≡ Usage = h in absurd cc
-of_too_long (Some job) o (inl h) = long_file job.command _ _ _ _ _ h
-of_too_long (Some job) o (inr (inl h)) = long_bytes job.command _ h.renaming _ _ _ _ _ h.uses h.stops
+of_too_long (Some job) o (inl h) = inl h
+of_too_long (Some job) o (inr (inl h)) =
+    let p = long_bytes (functions job.command) _ _ _ _ _ h.stops in inr (p.0, (h.renamers, h.uses), p.1)
 of_too_long (Some job) o (inr (inr (inl h))) = absurd h.stops
 of_too_long (Some job) o (inr (inr (inr h))) = absurd cc
-
-digits_file : (command : Command) (texts : Texts) (a b : ℕ) → RefusesRenaming command texts a b NotHexadecimal → ⊥
-digits_file plain texts a b h = h
-digits_file (rename name) texts a b h = h
-digits_file (generate n) texts a b h = h
 
 abbrev NoDigits : Bool → (old new : Option (List ℕ)) → Type 0
 NoDigits is_text old new = (is_text ≡ true) × ((text : List ℕ) × GaveAll most_bytes old new text × (binary text ≡ None))
 
-digits_bytes : (command : Command) (is_text : Bool) (a b : ℕ) (old new : Option (List ℕ)) → RefusesBytes command is_text a b old new NotHexadecimal → NoDigits is_text old new
-digits_bytes plain is_text a b old new h = h
-digits_bytes (rename name) is_text a b old new h = h
-digits_bytes (generate n) is_text a b old new h = absurd cc
+digits_bytes : (source : Option ℕ) (is_text : Bool) (a b : ℕ) (old new : Option (List ℕ)) → RefusesFrom source is_text a b old new NotHexadecimal → NoDigits is_text old new
+digits_bytes None is_text a b old new h = h
+digits_bytes (Some n) is_text a b old new h = absurd cc
 
 pub of_not_hexadecimal : (j : Option Job) (o : Outside) → Ends j o NotHexadecimal → ForJob j (λ job. HasNoDigits job o.texts o.left_old o.left_new)
 of_not_hexadecimal None o h = let never : NotHexadecimal ≡ Usage = h in absurd cc
-of_not_hexadecimal (Some job) o (inl h) = absurd (digits_file job.command _ _ _ h)
+of_not_hexadecimal (Some job) o (inl h) = absurd (never_at o.texts (files job.command) (λ name p. p) h)
 of_not_hexadecimal (Some job) o (inr (inl h)) =
-    let d = digits_bytes job.command _ _ _ _ _ h.stops in
-    record { renaming = h.renaming; uses = h.uses; is_text = d.0; text = d.1.0; gave = d.1.1; none = d.1.2 }
+    let d = digits_bytes (functions job.command) _ _ _ _ _ h.stops in
+    record { renamers = h.renamers; uses = h.uses; is_text = d.0; text = d.1.0; gave = d.1.1; none = d.1.2 }
 of_not_hexadecimal (Some job) o (inr (inr (inl h))) = absurd h.stops
 of_not_hexadecimal (Some job) o (inr (inr (inr h))) = absurd cc
 
@@ -473,7 +459,7 @@ pub of_parse_error : (at : ℕ) (j : Option Job) (o : Outside) → Ends j o (Par
 of_parse_error at None o h = let never : ParseError at ≡ Usage = h in absurd cc
 of_parse_error at (Some job) o h = late_stops job o (ParseError at) tt h
 
-pub of_refused : (u : Unmapped) (j : Option Job) (o : Outside) → Ends j o (Refused u) → StopsWith j o.texts o.left_old o.left_new (Refused u)
+pub of_refused : (u : Refusal) (j : Option Job) (o : Outside) → Ends j o (Refused u) → StopsWith j o.texts o.left_old o.left_new (Refused u)
 of_refused u None o h = let never : Refused u ≡ Usage = h in absurd cc
 of_refused u (Some job) o h = late_stops job o (Refused u) tt h
 

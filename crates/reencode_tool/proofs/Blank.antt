@@ -14,17 +14,20 @@ use Rattle.reencode_hooks.specs.declared.asked.Unmapped.{Unmapped}
 use Rattle.reencode_hooks.specs.declared.error.Error.{Error}
 use Rattle.reencode_hooks.specs.declared.error.Error.TheVariants.{TooLarge}
 use Rattle.wasm_shapes.specs.Types.{is_core}
-use Rattle.reencode_hooks.specs.Renamings.{Renaming, Entries, no_renaming, entries_in, entry_of, if_index, or_itself, renamed, space_number, renamer_next}
-use Rattle.reencode_hooks.specs.Run.{Step, accepted, refused, answered, run, answers}
+use Rattle.reencode_hooks.specs.Renamings.{Renaming, Entries, no_renaming, entries_in, entry_of, if_index, or_itself, renamed, space_number, renamer_next, renamer_reply}
+use Rattle.reencode_hooks.specs.Run.{Step, accepted, refused, answered, ask, run, answers}
 use Rattle.reencode_hooks.specs.Walk.{walk}
 use Rattle.reencode_hooks.specs.Moments as moment
 use Rattle.reencode_hooks.proofs.Walks.{walk_is_run, walk_stops}
 use Rattle.reencode_hooks.proofs.Moments as moments
-use Rattle.reencode_tool.specs.Counts.{counted, raised, visit_place}
-use Rattle.reencode_tool.specs.Reencoded.{asks}
+use Rattle.reencode_tool.specs.Counts.{raised, visit_place}
 use Rattle.reencode_tool.proofs.Shortest.{frames_fit}
 
 -- ---- one visit
+
+-- what a renamer answers to a visit, and the renamer behind it
+abbrev pub asks : Renaming → Visit → Step Renaming (Error Unmapped) ℕ
+asks s v = ask renamer_reply renamer_next s v
 
 -- no entries, and not strict
 pub record Blank (r : Renaming) : Type 0 where
@@ -69,16 +72,12 @@ pub blank_after : (vs : List Visit) {s : Renaming} → Blank s → Blank (after_
 blank_after [] b = b
 blank_after (v ∷ vs) b = blank_after vs (blank_next b v)
 
-counts_next : (s : Renaming) (v : Visit) → (renamer_next s v).counts ≡ raised s.counts (visit_place v)
+pub counts_next : (s : Renaming) (v : Visit) → (renamer_next s v).counts ≡ raised s.counts (visit_place v)
 counts_next s (Index p i) = refl
 counts_next s (Outer p k i) = refl
 counts_next s (Section x y) = refl
 counts_next s Push = refl
 counts_next s Pop = refl
-
-pub counts_after : (s : Renaming) (vs : List Visit) → (after_all s vs).counts ≡ counted s.counts vs
-counts_after s [] = refl
-counts_after s (v ∷ vs) = counts_after (renamer_next s v) vs ∙ ap (λ (c : List ℕ). counted c vs) (counts_next s v)
 
 pub blank_run : (vs : List Visit) {s : Renaming} → Blank s → run asks s vs ≡ accepted (map asked_index vs) (after_all s vs)
 blank_run [] b = refl
@@ -121,7 +120,7 @@ pub record Large (c : ℕ) (x : List ℕ) (e : Error Unmapped) : Type 0 where
   pub is : e ≡ TooLarge size
   pub long : c < length x
 
-never_lost : (front rest : List moment.Moment) → moment.NoneLost (front ++ moment.lost ∷ rest) → ⊥
+pub never_lost : (front rest : List moment.Moment) → moment.NoneLost (front ++ moment.lost ∷ rest) → ⊥
 never_lost [] rest h = h
 never_lost (moment.asks v ∷ front) rest h = never_lost front rest h
 never_lost (moment.closes n ∷ front) rest h = never_lost front rest h

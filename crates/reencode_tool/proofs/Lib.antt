@@ -1,11 +1,14 @@
 mod AnswerLemmas
 mod Blank
+mod ByRule
 mod Decided
 mod Digits
+mod Keeping
+mod KeptLines
 mod Numerals
 mod Outcomes
 mod OutsideLemmas
 mod Refusals
-mod Renamers
+mod Reports
 mod Shelves
 mod Shortest

@@ -74,6 +74,15 @@ pub WhereTold-steps_ok : {T E : Type 0} (r : Result T E) (a b c : Option (List �
 WhereTold-steps_ok (Ok v) a b c x y h k = WhereTold-steps a b c x y h k
 WhereTold-steps_ok (Err e) a b c x y h k = k
 
+-- a text and then two more
+pub WhereTold-two : {T E : Type 0} (r : Result T E) (a b c : Option (List ℕ)) (x w n : List ℕ) → WhereTold b (followed a x)
+    → OnOk r (WhereTold c (followed b (w ++ n))) → OnOk r (WhereTold c (followed a (x ++ w ++ n)))
+WhereTold-two r a b c x w n h k = rw (append_assoc x w n) (WhereTold-steps_ok r a b c x (w ++ n) h k)
+
+pub TookFront-two : {T E : Type 0} (r : Result T E) (a b c : Option (List ℕ)) (x w n : List ℕ) → WhereTold b (followed a x)
+    → OnErr r (TookFront b c (w ++ n)) → OnErr r (TookFront a c (x ++ w ++ n))
+TookFront-two r a b c x w n h k = rw (append_assoc x w n) (TookFront-behind_err r a b c x (w ++ n) h k)
+
 -- a text and then the three parts of a line's end
 pub WhereTold-line : {T E : Type 0} (r : Result T E) (a b c : Option (List ℕ)) (x w n z : List ℕ) → WhereTold b (followed a x)
     → OnOk r (WhereTold c (followed b (w ++ n ++ z))) → OnOk r (WhereTold c (followed a (x ++ w ++ n ++ z)))

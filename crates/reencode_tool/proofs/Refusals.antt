@@ -1,4 +1,4 @@
--- What a refusal of a renamer comes of: whatever is said by each walk of it that is refused, and kept by each that is accepted.
+-- What a refusal of a reencoder comes of: whatever is said by each walk of it that is refused, and kept by each that is accepted.
 use Rattle.std.proofs.Common.{◌≡◌, ℕ, zero, suc, ◌+◌, ◌-◌, ◌^◌, ◌<◌, ◌≤◌, ◌⊎◌, inl, inr, List, [], ◌∷◌, ◌++◌, length, length-append, append_assoc, append-nil, true, Option, Some, refl, sym, ap, ◌∙◌, subst, arith}
 use mathlib.Core.Bool.{false≢true}
 use Rattle.wasm_shapes.specs.declared.SectionId.{SectionId}
@@ -15,17 +15,14 @@ use Rattle.wasm_read.specs.Operations.{frame_row}
 use Rattle.wasm_read.specs.Frames.{numbered_frame, custom_frame}
 use Rattle.wasm_read.specs.Subsections.{subsection_frame, subsection_frame_tree}
 use Rattle.wasm_read.specs.Reading.{Standing}
-use Rattle.reencode_hooks.specs.declared.asked.Unmapped.{Unmapped}
 use Rattle.reencode_hooks.specs.declared.error.Error.{Error}
 use Rattle.reencode_hooks.specs.declared.error.Error.TheVariants.{TooLarge}
-use Rattle.reencode_hooks.specs.Renamings.{Renaming, renamer_next}
 use Rattle.reencode_hooks.specs.Run.{accepted, refused}
 use Rattle.reencode_hooks.specs.Walk.{walk}
-use Rattle.reencode_core.specs.Rows.{AcceptsRows, AcceptedHooks, TooMany, StopsEach, StopsBody, RefusesWhole, RefusesInside, StopsAtRow}
+use Rattle.reencode_core.specs.Rows.{Asks, AcceptsRows, AcceptedHooks, TooMany, StopsEach, StopsBody, RefusesWhole, RefusesInside, StopsAtRow}
 use Rattle.reencode_core.specs.Sections.{StopsSection}
 use Rattle.reencode_core.specs.Names.{StopsNames, StopsInNames, RefusesSubsection, RefusesEntry, contents_standing}
 use Rattle.reencode_core.specs.Core.{AcceptsSections, RefusedIn, StopsInside, StopsThere, BeforeFault}
-use Rattle.reencode_tool.specs.Reencoded.{asks}
 
 -- ---- lengths
 
@@ -135,119 +132,113 @@ not_neither bytes start stands =
 
 -- ---- what is kept, and what is said
 
--- This is kept by each accepted walk, and by the section hook, and that is said by each refused walk over a text.
-pub record Tells (P : Renaming → Type 0) (Q : ℕ → List ℕ → Error Unmapped → Type 0) : Type 0 where
-  pub larger : {c : ℕ} {x y : List ℕ} {e : Error Unmapped} → length x ≤ length y → Q c x e → Q c y e
-  pub kept : {s k : Renaming} {u : Tree} (c : ℕ) (t : Tree) → P s → walk asks c s t ≡ accepted u k → P k
-  pub hooked : {s : Renaming} → P s → (last before : Option SectionId) → P (renamer_next s (Section last before))
-  pub only : {s m : Renaming} {e : Error Unmapped} (c : ℕ) (t : Tree) (x : List ℕ) → P s → Spelled t x → walk asks c s t ≡ refused e m → Q c x e
+-- This is kept by each accepted walk, and by the section hook, which is never refused; and that is said by each refused walk over a text.
+pub record Tells {S E : Type 0} (asked : Asks S E) (P : S → Type 0) (Q : ℕ → List ℕ → Error E → Type 0) : Type 0 where
+  pub larger : {c : ℕ} {x y : List ℕ} {e : Error E} → length x ≤ length y → Q c x e → Q c y e
+  pub kept : {s k : S} {u : Tree} (c : ℕ) (t : Tree) → P s → walk asked c s t ≡ accepted u k → P k
+  pub hooked : (s k : S) (a : ℕ) (last before : Option SectionId) → P s → asked s (Section last before) ≡ accepted a k → P k
+  pub unrefused : (s m : S) (e : Error E) (last before : Option SectionId) → P s → asked s (Section last before) ≡ refused e m → ⊥
+  pub only : {s m : S} {e : Error E} (c : ℕ) (t : Tree) (x : List ℕ) → P s → Spelled t x → walk asked c s t ≡ refused e m → Q c x e
 
-module _ {P : Renaming → Type 0} {Q : ℕ → List ℕ → Error Unmapped → Type 0} (tells : Tells P Q) where
+module _ {S E : Type 0} {asked : Asks S E} {P : S → Type 0} {Q : ℕ → List ℕ → Error E → Type 0} (tells : Tells asked P Q) where
   -- ---- states that are reached
 
-  rows_state : (c : ℕ) {s : Renaming} (n : Renaming) (read made : List Tree) → P s → AcceptsRows asks c s read made n → P n
+  rows_state : (c : ℕ) {s : S} (n : S) (read made : List Tree) → P s → AcceptsRows asked c s read made n → P n
   rows_state c n read made b h = tells.kept c (rows_then read Tree.empty) b (h Tree.empty)
 
-  sections_state : (c : ℕ) {s : Renaming} (n : Renaming) (read made : List Tree) (last : Option SectionId) → P s → AcceptsSections asks c s read made last n → P n
+  sections_state : (c : ℕ) {s : S} (n : S) (read made : List Tree) (last : Option SectionId) → P s → AcceptsSections asked c s read made last n → P n
   sections_state c n read made last b h = tells.kept c (alsos read Tree.empty) b (h Tree.empty)
-
-  asked_state : {s n : Renaming} {a : ℕ} (last before : Option SectionId) → P s → asks s (Section last before) ≡ accepted a n → P n
-  asked_state {s} {n} {a} last before b h =
-      let same : renamer_next s (Section last before) ≡ n = cc in subst P same (tells.hooked b last before)
-
-  never_asked : (s m : Renaming) (e : Error Unmapped) (last before : Option SectionId) → asks s (Section last before) ≡ refused e m → ⊥
-  never_asked s m e last before h = cc
 
   -- ---- one section
 
-  each_told : {c : ℕ} {item : Shape} {start : List ℕ} {s m : Renaming} {e : Error Unmapped} → P s → StopsEach asks c item start s e m → Q c start e
+  each_told : {c : ℕ} {item : Shape} {start : List ℕ} {s m : S} {e : Error E} → P s → StopsEach asked c item start s e m → Q c start e
   each_told {c} b h =
       let there = tells.only c h.next h.begins.text (rows_state c h.state h.read h.made b h.accepts) h.begins.spells.spelled h.refuses in
       tells.larger (second_shorter h.before.text h.rest h.before.stands) (tells.larger (begun h.begins) there)
 
-  body_told : (c : ℕ) (bytes : List ℕ) (s m : Renaming) (e : Error Unmapped) → P s → StopsBody asks c bytes s e m → Q c bytes e
+  body_told : (c : ℕ) (bytes : List ℕ) (s m : S) (e : Error E) → P s → StopsBody asked c bytes s e m → Q c bytes e
   body_told c bytes s m e b (inl p) = tells.larger (begun p.2) (tells.only c p.0 p.2.text b p.2.spells.spelled p.3)
   body_told c bytes s m e b (inr p) = tells.larger (second_shorter p.4.text p.1 p.4.reads) (each_told (tells.kept c p.0 b p.5) p.6)
 
-  no_room : (e : Error Unmapped) (n : ℕ) → TooMany e n → n + 1 < 2 ^ 32 → ⊥
+  no_room : (e : Error E) (n : ℕ) → TooMany e n → n + 1 < 2 ^ 32 → ⊥
   no_room (TooLarge size) n h l = let is : size ≡ n + 1 = h.0 in let above : 2 ^ 32 - 1 < size = h.1 in omega arith
   no_room _ n h l = h
 
-  whole_told : {c : ℕ} {row : Shape} {bytes : List ℕ} {s m : Renaming} {n : ℕ} {e : Error Unmapped} → P s → n + 1 < 2 ^ 32 → RefusesWhole asks c row bytes s n e m →
+  whole_told : {c : ℕ} {row : Shape} {bytes : List ℕ} {s m : S} {n : ℕ} {e : Error E} → P s → n + 1 < 2 ^ 32 → RefusesWhole asked c row bytes s n e m →
       Q c bytes e
   whole_told {c} {row} {bytes} {s} {m} {n} {e} b few h = go h.refusal
     where
-      go : (walk asks c s h.tree ≡ refused e m) ⊎ (AcceptedHooks asks s h.tree m × TooMany e n) → Q c bytes e
+      go : (walk asked c s h.tree ≡ refused e m) ⊎ (AcceptedHooks asked s h.tree m × TooMany e n) → Q c bytes e
       go (inl w) = tells.larger (begun h.begins) (tells.only c h.tree h.begins.text b h.begins.spells.spelled w)
       go (inr w) = absurd (no_room e n w.1 few)
 
-  inside_told : {c : ℕ} {row : Shape} {bytes : List ℕ} {s m : Renaming} {e : Error Unmapped} → P s → RefusesInside asks c row bytes s e m → Q c bytes e
+  inside_told : {c : ℕ} {row : Shape} {bytes : List ℕ} {s m : S} {e : Error E} → P s → RefusesInside asked c row bytes s e m → Q c bytes e
   inside_told {c} {s = s} {m = m} {e = e} b h = tells.larger (framed h.begins) (body_told c h.body s m e b h.stops)
 
-  row_told : {c : ℕ} {row : Shape} {reader : Standing} {s m : Renaming} {e : Error Unmapped} {new : List Tree} → P s → reader.left < 2 ^ 32 → StopsAtRow asks c row reader (s, []) e (m, new) →
+  row_told : {c : ℕ} {row : Shape} {reader : Standing} {s m : S} {e : Error E} {new : List Tree} → P s → reader.left < 2 ^ 32 → StopsAtRow asked c row reader (s, []) e (m, new) →
       Q c reader.rest e
   row_told {c} {row} {reader} {s} {m} {e} {new} b few h =
       tells.larger (second_shorter h.front.text h.rest h.front.stands) (go (rows_state c h.state h.read h.made b h.accepts) h.refuses)
     where
-      go : P h.state → RefusesWhole asks c row h.rest h.state (length new) e m ⊎ RefusesInside asks c row h.rest h.state e m → Q c h.rest e
+      go : P h.state → RefusesWhole asked c row h.rest h.state (length new) e m ⊎ RefusesInside asked c row h.rest h.state e m → Q c h.rest e
       go state (inl w) =
           let due : length h.read < reader.left = h.due in
           let gained : length new ≡ length h.made = ap length h.gains in
           let counted : length h.made ≡ length h.read = h.counted in whole_told state (omega arith) w
       go state (inr w) = inside_told state w
 
-  section_told : (c : ℕ) (k : SectionId) (body : List ℕ) (s m : Renaming) (e : Error Unmapped) → P s → StopsSection asks c k body s e m → Q c body e
+  section_told : (c : ℕ) (k : SectionId) (body : List ℕ) (s m : S) (e : Error E) → P s → StopsSection asked c k body s e m → Q c body e
   section_told c k body s m e b h =
       let counted = h.counted.counted in
       tells.larger (second_shorter counted.0 h.reader.rest counted.2) (row_told b counted.1.fits h.stops)
 
   -- ---- a name section
 
-  entry_told : {c : ℕ} {bytes : List ℕ} {s m : Renaming} {e : Error Unmapped} → P s → RefusesEntry asks bytes c s e m → Q c bytes e
+  entry_told : {c : ℕ} {bytes : List ℕ} {s m : S} {e : Error E} → P s → RefusesEntry asked bytes c s e m → Q c bytes e
   entry_told b h = tells.larger (subsection_framed h.begins) (tells.larger (second_shorter h.counted.0 h.start h.counted.2) (each_told b h.stops))
 
-  names_told : {c : ℕ} {contents : List ℕ} {s m : Renaming} {e : Error Unmapped} → P s → StopsNames asks c (contents_standing contents) s e m → Q c contents e
+  names_told : {c : ℕ} {contents : List ℕ} {s m : S} {e : Error E} → P s → StopsNames asked c (contents_standing contents) s e m → Q c contents e
   names_told {c} {contents} {s} {m} {e} b h =
       tells.larger (second_shorter h.front.text h.rest h.front.stands) (go (rows_state c h.state h.read h.made b h.accepts) h.refuses)
     where
-      go : P h.state → RefusesSubsection asks c h.rest h.state e m ⊎ RefusesEntry asks h.rest c h.state e m → Q c h.rest e
+      go : P h.state → RefusesSubsection asked c h.rest h.state e m ⊎ RefusesEntry asked h.rest c h.state e m → Q c h.rest e
       go state (inl w) = tells.larger (begun w.begins) (tells.only c w.tree w.begins.text state w.begins.spells.spelled w.refusal)
       go state (inr w) = entry_told state w
 
-  in_names_told : {c : ℕ} {bytes : List ℕ} {s m : Renaming} {e : Error Unmapped} → P s → StopsInNames asks c bytes s e m → Q c bytes e
+  in_names_told : {c : ℕ} {bytes : List ℕ} {s m : S} {e : Error E} → P s → StopsInNames asked c bytes s e m → Q c bytes e
   in_names_told b h = tells.larger (custom h.framed) (names_told b h.stops)
 
   -- ---- the section in fault
 
-  stops_told : {c : ℕ} {bytes : List ℕ} {last : Option SectionId} {s m : Renaming} {e : Error Unmapped} → P s → StopsInside asks c bytes last s e m → Q c bytes e
+  stops_told : {c : ℕ} {bytes : List ℕ} {last : Option SectionId} {s m : S} {e : Error E} → P s → StopsInside asked c bytes last s e m → Q c bytes e
   stops_told {c} {bytes} {last} {s} {m} {e} b h = tells.larger (numbered h.framed) (go h.stops)
     where
-      go : (asks s (Section last (Some h.id)) ≡ refused e m) ⊎ ((n : Renaming) × (asks s (Section last (Some h.id)) ≡ accepted 0 n) × StopsSection asks c h.id h.body n e m) → Q c h.body e
-      go (inl w) = absurd (never_asked s m e last (Some h.id) w)
-      go (inr w) = section_told c h.id h.body w.0 m e (asked_state last (Some h.id) b w.1) w.2
+      go : (asked s (Section last (Some h.id)) ≡ refused e m) ⊎ ((n : S) × (asked s (Section last (Some h.id)) ≡ accepted 0 n) × StopsSection asked c h.id h.body n e m) → Q c h.body e
+      go (inl w) = absurd (tells.unrefused s m e last (Some h.id) b w)
+      go (inr w) = section_told c h.id h.body w.0 m e (tells.hooked s w.0 0 last (Some h.id) b w.1) w.2
 
-  there_told : {c : ℕ} {bytes : List ℕ} {last : Option SectionId} {s m : Renaming} {e : Error Unmapped} → P s → StopsThere asks c bytes last s e m → Q c bytes e
+  there_told : {c : ℕ} {bytes : List ℕ} {last : Option SectionId} {s m : S} {e : Error E} → P s → StopsThere asked c bytes last s e m → Q c bytes e
   there_told b (inl h) = stops_told b h
   there_told b (inr h) = in_names_told b h
 
   -- ---- the bytes
 
-  fault_told : {c : ℕ} {bytes : List ℕ} {s m : Renaming} {e : Error Unmapped} → P s → BeforeFault asks c bytes s m e → (before : List Tree) (rest : List ℕ) → FaultAt bytes before rest →
+  fault_told : {c : ℕ} {bytes : List ℕ} {s m : S} {e : Error E} → P s → BeforeFault asked c bytes s m e → (before : List Tree) (rest : List ℕ) → FaultAt bytes before rest →
       Q c bytes e
   fault_told {c} {bytes} {s} {m} {e} b h before rest f = go (h.1 before rest f)
     where
       behind : length (f.front.text ++ rest) ≤ length bytes
       behind = second_shorter core_header (f.front.text ++ rest) f.front.stands
 
-      go : RefusedIn asks c s before e m
-          ⊎ ((made : List Tree) × (last : Option SectionId) × (n : Renaming) × AcceptsSections asks c s before made last n × StopsThere asks c rest last n e m) → Q c bytes e
+      go : RefusedIn asked c s before e m
+          ⊎ ((made : List Tree) × (last : Option SectionId) × (n : S) × AcceptsSections asked c s before made last n × StopsThere asked c rest last n e m) → Q c bytes e
       go (inl r) =
           tells.larger behind (tells.larger (first_shorter f.front.text rest refl)
           (tells.only c (alsos before Tree.finish) f.front.text b f.front.spells.spelled (r Tree.finish)))
       go (inr r) = tells.larger behind (tells.larger (second_shorter f.front.text rest refl) (there_told (sections_state c r.2 before r.0 r.1 b r.3) r.4))
 
   -- a refusal is not another than of a size above the ceiling, in bytes that are longer than it
-  pub refusal_is_told : {c : ℕ} {bytes : List ℕ} {s m : Renaming} {e : Error Unmapped} → P s → BeforeFault asks c bytes s m e →
+  pub refusal_is_told : {c : ℕ} {bytes : List ℕ} {s m : S} {e : Error E} → P s → BeforeFault asked c bytes s m e →
       ((t : Tree) → CoreReading bytes t → Q c bytes e) → (Q c bytes e → ⊥) → ⊥
   refusal_is_told {bytes = bytes} b h reading other =
       not_neither bytes h.0.0 h.0.1 (λ t r. other (reading t r)) (λ before rest f. other (fault_told b h before rest f))

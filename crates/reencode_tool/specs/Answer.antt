@@ -1,19 +1,26 @@
 -- How the program ends.
-use Rattle.std.specs.Prelude.{◌≡◌, ℕ, ◌<◌, ◌≤◌, ◌==◌, ◌⊎◌, if◌then◌else◌, Bool, true, Option, Some, None, List, [], ◌++◌, codes, decimal, length}
+use Rattle.std.specs.Prelude.{◌≡◌, ℕ, ◌<◌, ◌≤◌, ◌==◌, ◌⊎◌, if◌then◌else◌, Bool, true, Option, Some, None, MatchOption, List, [], ◌∷◌, ◌++◌, codes, decimal, length}
+use Rattle.wasm_shapes.specs.Tree.{Tree}
+use Rattle.wasm_shapes.specs.Module.{core_tree}
+use Rattle.reencode_core.specs.Pieces.{Range}
+use Rattle.reencode_core.specs.Kept.{Kept}
 use Rattle.reencode_tool.specs.declared.answer.Answer.{Answer}
 use Rattle.reencode_tool.specs.declared.answer.Answer.TheVariants.{Printed, NoMemory, Usage, ReadFault, WriteFault, ParseError, Refused, CodeSectionSize, NonCoreModule, NonComponent, TooLarge, BadRenaming, ShelfFault, TooLong, NotHexadecimal}
-use Rattle.reencode_hooks.specs.declared.asked.Unmapped.{Unmapped}
+use Rattle.reencode_tool.specs.declared.renamers.Refusal.{Refusal}
+use Rattle.reencode_tool.specs.declared.renamers.Renamers.{Renamers}
 use Rattle.reencode_hooks.specs.declared.error.Error.{Error}
 use Rattle.reencode_hooks.specs.declared.error.Error.TheVariants as error
-use Rattle.reencode_hooks.specs.Renamings.{Renaming, no_renaming, unmapped_text}
+use Rattle.reencode_hooks.specs.Renamings.{Renaming}
 use Rattle.reencode_tool.specs.Outside.{Rose, WhereTold, followed, HasText, IsLonger, GaveAll, TookMore, TookFront}
 use Rattle.reencode_tool.specs.Hexadecimal.{binary, bytes_of}
 use Rattle.reencode_tool.specs.Renamings.{IsRenaming, NoRenaming}
+use Rattle.reencode_tool.specs.Renamers.{refusal_text, renamers_of}
 use Rattle.reencode_tool.specs.Generated.{generated}
-use Rattle.reencode_tool.specs.Report.{made_line, report, tail}
+use Rattle.reencode_tool.specs.Kept.{kept_report}
+use Rattle.reencode_tool.specs.Report.{lengths_report, report}
 use Rattle.reencode_tool.specs.Plain.{IsPlain}
 use Rattle.reencode_tool.specs.Reencoded.{IsReencoded, IsRefused, IsMade}
-use Rattle.reencode_tool.specs.Words.{Command, plain, rename, generate, Job}
+use Rattle.reencode_tool.specs.Words.{Command, generate, keep_report, Job, files, functions}
 
 -- what shelves tell
 abbrev pub Texts : Type 0
@@ -42,11 +49,28 @@ pub record Outside : Type 0 where
 
 -- ---- what is re-encoded
 
--- the renaming of a command: that which the text of its file says, and else none
-abbrev pub Uses : Command → Texts → Renaming → Type 0
-Uses plain texts r = r ≡ no_renaming
-Uses (rename name) texts r = (text : List ℕ) × HasText texts name text × (length text ≤ most_renaming) × IsRenaming text r
-Uses (generate n) texts r = r ≡ no_renaming
+-- the file of this name says this renaming
+abbrev pub FileSays : Texts → List ℕ → Renaming → Type 0
+FileSays texts name r = (text : List ℕ) × HasText texts name text × (length text ≤ most_renaming) × IsRenaming text r
+
+-- the files of these names say these renamings, in order
+abbrev pub FilesSay : Texts → List (List ℕ) → List Renaming → Type 0
+FilesSay texts [] [] = Unit {0}
+FilesSay texts (name ∷ names) (r ∷ rs) = FileSays texts name r × FilesSay texts names rs
+FilesSay texts _ _ = ⊥
+
+-- this holds of one of these files, and all before it say renamings
+abbrev pub AtFile : Texts → List (List ℕ) → (List ℕ → Type 0) → Type 0
+AtFile texts [] P = ⊥
+AtFile texts (name ∷ names) P = P name ⊎ (((r : Renaming) × FileSays texts name r) × AtFile texts names P)
+
+-- the renamings of a command: those that its files say
+abbrev pub Uses : Command → Texts → Renamers → Type 0
+Uses command texts rs = (said : List Renaming) × FilesSay texts (files command) said × (rs ≡ renamers_of said)
+
+-- each file of a command says a renaming
+abbrev pub HasRenamings : Command → Texts → Type 0
+HasRenamings command texts = (rs : Renamers) × Uses command texts rs
 
 -- the source was read to its end, and these are the bytes that its text is, or is the hexadecimal text of
 pub record HasBytes (is_text : Bool) (left_old left_new : Option (List ℕ)) (bytes : List ℕ) : Type 0 where
@@ -54,58 +78,81 @@ pub record HasBytes (is_text : Bool) (left_old left_new : Option (List ℕ)) (by
   pub gave : GaveAll most_bytes left_old left_new text
   pub are : bytes_of is_text text ≡ Some bytes
 
--- the bytes of a command: those of a made module, or of the source
-abbrev pub Takes : Command → Bool → (left_old left_new : Option (List ℕ)) → List ℕ → Type 0
-Takes plain is_text left_old left_new bytes = HasBytes is_text left_old left_new bytes
-Takes (rename name) is_text left_old left_new bytes = HasBytes is_text left_old left_new bytes
-Takes (generate n) is_text left_old left_new bytes = bytes ≡ generated n
+-- the bytes: those of a made module of so many functions, or of the source
+abbrev pub TakesFrom : Option ℕ → Bool → (left_old left_new : Option (List ℕ)) → List ℕ → Type 0
+TakesFrom None is_text left_old left_new bytes = HasBytes is_text left_old left_new bytes
+TakesFrom (Some n) is_text left_old left_new bytes = bytes ≡ generated n
 
--- the renaming of a job and its bytes
+-- the bytes of a command
+abbrev pub Takes : Command → Bool → (left_old left_new : Option (List ℕ)) → List ℕ → Type 0
+Takes command is_text left_old left_new bytes = TakesFrom (functions command) is_text left_old left_new bytes
+
+-- the renamings of a job and its bytes
 pub record Work (job : Job) (texts : Texts) (left_old left_new : Option (List ℕ)) : Type 0 where
-  pub renaming : Renaming
+  pub renamers : Renamers
   pub bytes : List ℕ
-  pub uses : Uses job.command texts renaming
+  pub uses : Uses job.command texts renamers
   pub takes : Takes job.command job.is_text left_old left_new bytes
 
--- what is printed of a re-encoding: the lengths of a made module, or the digits of the output; and the counts
-abbrev pub report_by : Command → ℕ → (output counts : List ℕ) → List ℕ
-report_by plain input output counts = report output counts
-report_by (rename name) input output counts = report output counts
-report_by (generate n) input output counts = made_line n input (length output) ++ tail counts
+-- the text tells the output and the counts that the bytes have under these renamings and the ceiling
+abbrev pub Reports : ℕ → Renamers → (bytes : List ℕ) → (List ℕ → List (List ℕ) → List ℕ) → (text : List ℕ) → Type 0
+Reports ceiling rs bytes shown text =
+    (output : List ℕ) × (counts : List (List ℕ)) × IsReencoded ceiling rs bytes output counts × (text ≡ shown output counts)
+
+-- what is printed of a re-encoding: the lengths of a made module, what is kept, or the digits of the output; and the counts
+abbrev pub report_by : Command → (input : ℕ) → (output : List ℕ) → List Range → List (List ℕ) → List ℕ
+report_by (generate n) input output ranges counts = lengths_report n input output counts
+report_by keep_report input output ranges counts = kept_report ranges (length output) counts
+report_by _ input output ranges counts = report output counts
+
+-- where it is told what is kept, these ranges are those of the function bodies that are spelled normally and stay as they are
+abbrev pub KeptFor : Command → (bytes : List ℕ) → Tree → (answers : List ℕ) → List Range → Type 0
+KeptFor keep_report bytes tree answers ranges = Kept bytes (core_tree tree) answers ranges
+KeptFor _ bytes tree answers ranges = ranges ≡ []
 
 -- where nothing is renamed, the output is the normal spelling itself
-abbrev pub PlainFor : Command → (bytes output counts : List ℕ) → Type 0
-PlainFor plain bytes output counts = IsPlain bytes output counts
-PlainFor (rename name) bytes output counts = Unit {0}
-PlainFor (generate n) bytes output counts = IsPlain bytes output counts
+abbrev pub PlainFor : (names : List (List ℕ)) → (bytes output : List ℕ) → List (List ℕ) → Type 0
+PlainFor [] bytes output counts = IsPlain bytes output counts
+PlainFor (name ∷ names) bytes output counts = Unit {0}
 
--- The bytes of a job have this output and these counts under its renaming and its ceiling.
+-- The bytes have this output and these counts under these renamings and this ceiling.
+pub record Output (command : Command) (ceiling : ℕ) (rs : Renamers) (bytes : List ℕ) : Type 0 where
+  pub output : List ℕ
+  pub counts : List (List ℕ)
+  pub reencoded : IsReencoded ceiling rs bytes output counts
+  pub ranges : List Range
+  pub kept : KeptFor command bytes reencoded.tree reencoded.answers ranges
+
+-- The bytes of a job have this output under its renamings and its ceiling.
 pub record Made (job : Job) (texts : Texts) (left_old left_new : Option (List ℕ)) : Type 0 where
   pub work : Work job texts left_old left_new
-  pub output : List ℕ
-  pub counts : List ℕ
-  pub reencoded : IsReencoded job.ceiling work.renaming work.bytes output counts
-  pub plain : PlainFor job.command work.bytes output counts
+  pub made : Output job.command job.ceiling work.renamers work.bytes
+  pub plain : PlainFor (files job.command) work.bytes made.output made.counts
+
+abbrev pub output_text : {command : Command} {ceiling : ℕ} {rs : Renamers} {bytes : List ℕ} → Output command ceiling rs bytes → List ℕ
+output_text {command} {bytes = bytes} made = report_by command (length bytes) made.output made.ranges made.counts
 
 abbrev pub report_of : {job : Job} {texts : Texts} {left_old left_new : Option (List ℕ)} → Made job texts left_old left_new → List ℕ
-report_of {job} made = report_by job.command (length made.work.bytes) made.output made.counts
+report_of made = output_text made.made
 
 -- ---- why nothing is printed
+
+-- the file of this name was read whole, and says no renaming
+abbrev pub SaysNone : List ℕ → Texts → Type 0
+SaysNone name texts = (text : List ℕ) × HasText texts name text × (length text ≤ most_renaming) × NoRenaming text
 
 -- why the file of this name gives no renaming
 abbrev pub RefusesFile : List ℕ → Texts → (faults_old faults_new : ℕ) → Answer → Type 0
 RefusesFile name texts faults_old faults_new NoMemory = Unit {0}
 RefusesFile name texts faults_old faults_new ShelfFault = Rose faults_old faults_new
-RefusesFile name texts faults_old faults_new BadRenaming =
-    (text : List ℕ) × HasText texts name text × (length text ≤ most_renaming) × NoRenaming text
+RefusesFile name texts faults_old faults_new BadRenaming = SaysNone name texts
 RefusesFile name texts faults_old faults_new TooLong = IsLonger texts name most_renaming
 RefusesFile name texts faults_old faults_new _ = ⊥
 
--- why a command has no renaming
+-- why a command has no renamings: one of its files gives none, and all before it give one
 abbrev pub RefusesRenaming : Command → Texts → (faults_old faults_new : ℕ) → Answer → Type 0
-RefusesRenaming plain texts faults_old faults_new answer = ⊥
-RefusesRenaming (rename name) texts faults_old faults_new answer = RefusesFile name texts faults_old faults_new answer
-RefusesRenaming (generate n) texts faults_old faults_new answer = ⊥
+RefusesRenaming command texts faults_old faults_new answer =
+    AtFile texts (files command) (λ name. RefusesFile name texts faults_old faults_new answer)
 
 -- why the source gives no bytes
 abbrev pub RefusesInput : Bool → (faults_old faults_new : ℕ) (left_old left_new : Option (List ℕ)) → Answer → Type 0
@@ -116,32 +163,34 @@ RefusesInput is_text faults_old faults_new left_old left_new NotHexadecimal =
     (is_text ≡ true) × ((text : List ℕ) × GaveAll most_bytes left_old left_new text × (binary text ≡ None))
 RefusesInput is_text faults_old faults_new left_old left_new _ = ⊥
 
+-- why there are no bytes, of a made module or of the source
+abbrev pub RefusesFrom : Option ℕ → Bool → (faults_old faults_new : ℕ) (left_old left_new : Option (List ℕ)) → Answer → Type 0
+RefusesFrom None is_text faults_old faults_new left_old left_new answer = RefusesInput is_text faults_old faults_new left_old left_new answer
+RefusesFrom (Some n) is_text faults_old faults_new left_old left_new answer = answer ≡ NoMemory
+
 -- why a command has no bytes
 abbrev pub RefusesBytes : Command → Bool → (faults_old faults_new : ℕ) (left_old left_new : Option (List ℕ)) → Answer → Type 0
-RefusesBytes plain is_text faults_old faults_new left_old left_new answer = RefusesInput is_text faults_old faults_new left_old left_new answer
-RefusesBytes (rename name) is_text faults_old faults_new left_old left_new answer = RefusesInput is_text faults_old faults_new left_old left_new answer
-RefusesBytes (generate n) is_text faults_old faults_new left_old left_new answer = answer ≡ NoMemory
+RefusesBytes command is_text faults_old faults_new left_old left_new answer =
+    RefusesFrom (functions command) is_text faults_old faults_new left_old left_new answer
 
 -- a made module takes nothing of the source
 abbrev pub IsMaking : Command → Type 0
-IsMaking plain = ⊥
-IsMaking (rename name) = ⊥
-IsMaking (generate n) = Unit {0}
+IsMaking command = MatchOption (functions command) ⊥ (λ n. Unit {0})
 
--- the renaming was accepted, and there are no bytes
+-- the renamings were accepted, and there are no bytes
 pub record StopsAtBytes (job : Job) (texts : Texts) (faults_old faults_new : ℕ) (left_old left_new : Option (List ℕ)) (answer : Answer) : Type 0 where
-  pub renaming : Renaming
-  pub uses : Uses job.command texts renaming
+  pub renamers : Renamers
+  pub uses : Uses job.command texts renamers
   pub stops : RefusesBytes job.command job.is_text faults_old faults_new left_old left_new answer
 
--- The renaming and the bytes were accepted, and the re-encoding is refused. Where all visits are accepted and all frames fit, that is
+-- The renamings and the bytes were accepted, and the re-encoding is refused. Where all visits are accepted and all frames fit, that is
 -- for want of memory alone.
 pub record StopsAtReencoding (job : Job) (texts : Texts) (left_old left_new : Option (List ℕ)) (answer : Answer) : Type 0 where
   pub work : Work job texts left_old left_new
-  pub stops : IsRefused job.ceiling work.renaming work.bytes answer
-  pub made : IsMade job.ceiling work.renaming work.bytes answer
+  pub stops : IsRefused job.ceiling work.renamers work.bytes answer
+  pub made : IsMade job.ceiling work.renamers work.bytes answer
 
--- why nothing is printed: a fault of the file, of the input, or of the bytes, in this order; or memory is wanting
+-- why nothing is printed: a fault of a file, of the input, or of the bytes, in this order; or memory is wanting
 abbrev pub Stops : Job → Texts → (shelf_old shelf_new faults_old faults_new : ℕ) (left_old left_new : Option (List ℕ)) → Answer → Type 0
 Stops job texts shelf_old shelf_new faults_old faults_new left_old left_new answer =
     RefusesRenaming job.command texts shelf_old shelf_new answer
@@ -171,7 +220,7 @@ abbrev pub ForJob : Option Job → (Job → Type 0) → Type 0
 ForJob None P = ⊥
 ForJob (Some job) P = P job
 
--- the renaming and the bytes were accepted, and the re-encoding ends so
+-- the renamings and the bytes were accepted, and the re-encoding ends so
 abbrev pub StopsWith : Option Job → Texts → (left_old left_new : Option (List ℕ)) → Answer → Type 0
 StopsWith j texts left_old left_new answer = ForJob j (λ job. StopsAtReencoding job texts left_old left_new answer)
 
@@ -179,23 +228,28 @@ StopsWith j texts left_old left_new answer = ForJob j (λ job. StopsAtReencoding
 abbrev pub MakesModule : Option Job → Type 0
 MakesModule j = ForJob j (λ job. IsMaking job.command)
 
--- the file of the command was read whole, and says no renaming
+-- a file of the command was read whole, and says no renaming; all before it say one
 abbrev pub IsBadFile : Command → Texts → Type 0
-IsBadFile plain texts = ⊥
-IsBadFile (rename name) texts = (text : List ℕ) × HasText texts name text × (length text ≤ most_renaming) × NoRenaming text
-IsBadFile (generate n) texts = ⊥
+IsBadFile command texts = AtFile texts (files command) (λ name. SaysNone name texts)
 
--- the file of the command is too long, or else the input
+-- a file of the command could not be fetched; all before it say renamings
+abbrev pub IsUnfetched : Command → Texts → (faults_old faults_new : ℕ) → Type 0
+IsUnfetched command texts faults_old faults_new = AtFile texts (files command) (λ name. Rose faults_old faults_new)
+
+-- the source could not be read; all files of the command say renamings
+abbrev pub IsUnread : Command → Texts → (faults_old faults_new : ℕ) → Type 0
+IsUnread command texts faults_old faults_new = ¬ IsMaking command × HasRenamings command texts × Rose faults_old faults_new
+
+-- a file of the command is too long, and all before it say renamings; or all say one, and the input is too long
 abbrev pub IsTooLong : Command → Texts → (left_old left_new : Option (List ℕ)) → Type 0
-IsTooLong plain texts left_old left_new = TookMore most_bytes left_old left_new
-IsTooLong (rename name) texts left_old left_new =
-    IsLonger texts name most_renaming ⊎ (((r : Renaming) × Uses (rename name) texts r) × TookMore most_bytes left_old left_new)
-IsTooLong (generate n) texts left_old left_new = ⊥
+IsTooLong command texts left_old left_new =
+    AtFile texts (files command) (λ name. IsLonger texts name most_renaming)
+    ⊎ (¬ IsMaking command × HasRenamings command texts × TookMore most_bytes left_old left_new)
 
--- The renaming was accepted, the source was read to its end, and its text is no hexadecimal text, as `-x` asks.
+-- The renamings were accepted, the source was read to its end, and its text is no hexadecimal text, as `-x` asks.
 pub record HasNoDigits (job : Job) (texts : Texts) (left_old left_new : Option (List ℕ)) : Type 0 where
-  pub renaming : Renaming
-  pub uses : Uses job.command texts renaming
+  pub renamers : Renamers
+  pub uses : Uses job.command texts renamers
   pub is_text : job.is_text ≡ true
   pub text : List ℕ
   pub gave : GaveAll most_bytes left_old left_new text
@@ -223,11 +277,11 @@ status_of NotHexadecimal = 14
 abbrev pub text_of : Answer → List ℕ
 text_of Printed = []
 text_of NoMemory = codes "no memory"
-text_of Usage = codes "usage: [-x] [-m CEILING] plain | rename FILE | generate N"
+text_of Usage = codes "usage: [-x] [-m CEILING] plain | rename FILE | twice FILE FILE | generate N | keep-report"
 text_of ReadFault = codes "read fault"
 text_of WriteFault = codes "write fault"
 text_of (ParseError at) = codes "parse error at " ++ decimal at
-text_of (Refused u) = unmapped_text u
+text_of (Refused u) = refusal_text u
 text_of CodeSectionSize = codes "invalid code section size"
 text_of NonCoreModule = codes "There was a section that does not belong in a core wasm module"
 text_of NonComponent = codes "There was a section that does not belong in a component"
@@ -238,22 +292,22 @@ text_of TooLong = codes "too long"
 text_of NotHexadecimal = codes "not hex"
 
 -- the errors that an input of a command may give: the others come to no end
-abbrev pub HasStatus : Error Unmapped → Type 0
+abbrev pub HasStatus : {E : Type 0} → Error E → Type 0
 HasStatus error.CanonicalizedHeapTypeReference = ⊥
 HasStatus error.InvalidConstExpr = ⊥
 HasStatus error.UnsupportedCoreTypeInComponent = ⊥
 HasStatus _ = Unit {0}
 
--- the end that an error under a ceiling comes to
-abbrev pub EndsAs : ℕ → Error Unmapped → Answer → Type 0
-EndsAs ceiling error.InvalidCodeSectionSize answer = answer ≡ CodeSectionSize
-EndsAs ceiling error.UnexpectedNonCoreModuleSection answer = answer ≡ NonCoreModule
-EndsAs ceiling error.UnexpectedNonComponentSection answer = answer ≡ NonComponent
-EndsAs ceiling (error.ParseError e) answer = answer ≡ ParseError e.at
-EndsAs ceiling (error.UserError u) answer = answer ≡ Refused u
-EndsAs ceiling (error.TooLarge size) answer = answer ≡ TooLarge size ceiling
-EndsAs ceiling error.NoMemory answer = answer ≡ NoMemory
-EndsAs ceiling _ answer = ⊥
+-- the end that an error under a ceiling comes to, where a refusal is told so
+abbrev pub EndsAs : {E : Type 0} → (E → Refusal) → ℕ → Error E → Answer → Type 0
+EndsAs told ceiling error.InvalidCodeSectionSize answer = answer ≡ CodeSectionSize
+EndsAs told ceiling error.UnexpectedNonCoreModuleSection answer = answer ≡ NonCoreModule
+EndsAs told ceiling error.UnexpectedNonComponentSection answer = answer ≡ NonComponent
+EndsAs told ceiling (error.ParseError e) answer = answer ≡ ParseError e.at
+EndsAs told ceiling (error.UserError u) answer = answer ≡ Refused (told u)
+EndsAs told ceiling (error.TooLarge size) answer = answer ≡ TooLarge size ceiling
+EndsAs told ceiling error.NoMemory answer = answer ≡ NoMemory
+EndsAs told ceiling _ answer = ⊥
 
 -- a sink took this text, or a front of it where it failed
 abbrev pub Says : (faults_old faults_new : ℕ) (held_old held_new : Option (List ℕ)) → List ℕ → Type 0
@@ -264,7 +318,7 @@ Says faults_old faults_new held_old held_new text =
 abbrev pub message : ℕ → List ℕ
 message status =
     if status == 1 then codes "no memory\n"
-    else if status == 2 then codes "usage: [-x] [-m CEILING] plain | rename FILE | generate N\n"
+    else if status == 2 then codes "usage: [-x] [-m CEILING] plain | rename FILE | twice FILE FILE | generate N | keep-report\n"
     else if status == 3 then codes "read fault\n"
     else if status == 4 then codes "write fault\n"
     else if status == 7 then codes "invalid code section size\n"
@@ -277,56 +331,60 @@ message status =
 
 -- ---- what decides where nothing fails
 
--- which status comes by the renaming and the bytes; where all visits are accepted and all frames fit it is 0, or memory is wanting
-abbrev pub IsDecidedByBytes : ℕ → Renaming → List ℕ → ℕ → Type 0
-IsDecidedByBytes ceiling r bytes status =
-    ((status ≡ 0) × ((output : List ℕ) × (counts : List ℕ) × IsReencoded ceiling r bytes output counts))
-    ⊎ ((answer : Answer) × (status ≡ status_of answer) × IsRefused ceiling r bytes answer × IsMade ceiling r bytes answer)
+-- which status comes by the renamings and the bytes; where all visits are accepted and all frames fit it is 0, or memory is wanting
+abbrev pub IsDecidedByBytes : ℕ → Renamers → List ℕ → ℕ → Type 0
+IsDecidedByBytes ceiling rs bytes status =
+    ((status ≡ 0) × ((output : List ℕ) × (counts : List (List ℕ)) × IsReencoded ceiling rs bytes output counts))
+    ⊎ ((answer : Answer) × (status ≡ status_of answer) × IsRefused ceiling rs bytes answer × IsMade ceiling rs bytes answer)
 
 -- which status comes by the form of the text and the bytes that it is
-abbrev pub IsDecidedByForm : ℕ → Renaming → Option (List ℕ) → ℕ → Type 0
-IsDecidedByForm ceiling r None status = (status ≡ 14) ⊎ (status ≡ 1)
-IsDecidedByForm ceiling r (Some bytes) status = IsDecidedByBytes ceiling r bytes status
+abbrev pub IsDecidedByForm : ℕ → Renamers → Option (List ℕ) → ℕ → Type 0
+IsDecidedByForm ceiling rs None status = (status ≡ 14) ⊎ (status ≡ 1)
+IsDecidedByForm ceiling rs (Some bytes) status = IsDecidedByBytes ceiling rs bytes status
 
 -- which status comes for an input
-pub record IsDecidedFor (job : Job) (r : Renaming) (text : List ℕ) (status : ℕ) : Type 0 where
+pub record IsDecidedFor (job : Job) (rs : Renamers) (text : List ℕ) (status : ℕ) : Type 0 where
   pub long : most_bytes < length text → (status ≡ 13) ⊎ (status ≡ 1)
-  pub short : length text ≤ most_bytes → IsDecidedByForm job.ceiling r (bytes_of job.is_text text) status
+  pub short : length text ≤ most_bytes → IsDecidedByForm job.ceiling rs (bytes_of job.is_text text) status
 
 -- which status comes for the input, where it is told
-abbrev pub IsDecidedByLeft : Job → Renaming → Option (List ℕ) → ℕ → Type 0
-IsDecidedByLeft job r None status = Unit {0}
-IsDecidedByLeft job r (Some text) status = IsDecidedFor job r text status
+abbrev pub IsDecidedByLeft : Job → Renamers → Option (List ℕ) → ℕ → Type 0
+IsDecidedByLeft job rs None status = Unit {0}
+IsDecidedByLeft job rs (Some text) status = IsDecidedFor job rs text status
 
--- which status comes under a renaming
-abbrev pub IsDecidedByInput : Command → Job → Renaming → Option (List ℕ) → ℕ → Type 0
-IsDecidedByInput plain job r left status = IsDecidedByLeft job r left status
-IsDecidedByInput (rename name) job r left status = IsDecidedByLeft job r left status
-IsDecidedByInput (generate n) job r left status = IsDecidedByBytes job.ceiling r (generated n) status
+-- which status comes under some renamings, for a made module of so many functions or the input
+abbrev pub IsDecidedByInput : Option ℕ → Job → Renamers → Option (List ℕ) → ℕ → Type 0
+IsDecidedByInput None job rs left status = IsDecidedByLeft job rs left status
+IsDecidedByInput (Some n) job rs left status = IsDecidedByBytes job.ceiling rs (generated n) status
 
--- which status comes for the text of a file
-pub record IsDecidedForFile (command : Command) (job : Job) (text : List ℕ) (left : Option (List ℕ)) (status : ℕ) : Type 0 where
+-- which status comes for the text of a file, where that of a renaming is told
+pub record IsDecidedForFile (text : List ℕ) (status : ℕ) (by : Renaming → Type 0) : Type 0 where
   pub long : most_renaming < length text → (status ≡ 13) ⊎ (status ≡ 1)
   pub none : length text ≤ most_renaming → NoRenaming text → (status ≡ 11) ⊎ (status ≡ 1)
-  pub some : length text ≤ most_renaming → (r : Renaming) → IsRenaming text r → IsDecidedByInput command job r left status
+  pub some : length text ≤ most_renaming → (r : Renaming) → IsRenaming text r → by r
 
 -- which status comes for a file, where its text is told
-abbrev pub IsDecidedByFile : Command → Job → Option (List ℕ) → Option (List ℕ) → ℕ → Type 0
-IsDecidedByFile command job None left status = Unit {0}
-IsDecidedByFile command job (Some text) left status = IsDecidedForFile command job text left status
+abbrev pub IsDecidedByFile : Option (List ℕ) → ℕ → (Renaming → Type 0) → Type 0
+IsDecidedByFile None status by = Unit {0}
+IsDecidedByFile (Some text) status by = IsDecidedForFile text status by
 
 -- the text of a name, where it is told
 abbrev pub told_text : Texts → List ℕ → Option (List ℕ)
 told_text None name = None
 told_text (Some texts) name = texts name
 
--- which status comes for a command
-abbrev pub IsDecidedByCommand : Command → Job → Texts → Option (List ℕ) → ℕ → Type 0
-IsDecidedByCommand plain job texts left status = IsDecidedByInput plain job no_renaming left status
-IsDecidedByCommand (rename name) job texts left status = IsDecidedByFile (rename name) job (told_text texts name) left status
-IsDecidedByCommand (generate n) job texts left status = IsDecidedByInput (generate n) job no_renaming left status
+-- which status comes for some files, where that of the renamings that they say is told
+abbrev pub IsDecidedByFiles : Texts → List (List ℕ) → ℕ → (List Renaming → Type 0) → Type 0
+IsDecidedByFiles texts [] status by = by []
+IsDecidedByFiles texts (name ∷ names) status by =
+    IsDecidedByFile (told_text texts name) status (λ r. IsDecidedByFiles texts names status (λ rs. by (r ∷ rs)))
+
+-- which status comes for a job
+abbrev pub IsDecidedByJob : Job → Texts → Option (List ℕ) → ℕ → Type 0
+IsDecidedByJob job texts left status =
+    IsDecidedByFiles texts (files job.command) status (λ said. IsDecidedByInput (functions job.command) job (renamers_of said) left status)
 
 -- which status comes for the words
 abbrev pub IsDecided : Option Job → Texts → Option (List ℕ) → ℕ → Type 0
 IsDecided None texts left status = status ≡ 2
-IsDecided (Some job) texts left status = IsDecidedByCommand job.command job texts left status
+IsDecided (Some job) texts left status = IsDecidedByJob job texts left status

@@ -7,6 +7,8 @@ pub mod Generated
 pub mod Report
 pub mod Counts
 pub mod Plain
+pub mod Renamers
 pub mod Reencoded
+pub mod Kept
 pub mod Answer
 pub mod Memory

@@ -1,5 +1,5 @@
 -- What the program prints.
-use Rattle.std.specs.Prelude.{ℕ, suc, zero, List, [], ◌∷◌, ◌++◌, codes, decimal}
+use Rattle.std.specs.Prelude.{ℕ, suc, zero, List, [], ◌∷◌, ◌++◌, codes, decimal, length}
 use Rattle.hex.specs.Hex.{encode_lower}
 
 -- the names of the counts, in order
@@ -23,14 +23,23 @@ parts _ _ = []
 abbrev pub asked : List ℕ → List ℕ
 asked counts = codes "asked" ++ parts keys counts
 
--- what is printed behind the digits: a line end, and the line of the counts with its end
-abbrev pub tail : List ℕ → List ℕ
-tail counts = codes "\n" ++ asked counts ++ codes "\n"
+-- a line of each renaming's counts, with its end
+abbrev pub asked_lines : List (List ℕ) → List ℕ
+asked_lines [] = []
+asked_lines (c ∷ cs) = asked c ++ codes "\n" ++ asked_lines cs
 
--- the output in lower-case hexadecimal and the line of the counts, each with a line end
-abbrev pub report : List ℕ → List ℕ → List ℕ
+-- what is printed behind the digits: a line end, and the lines of the counts
+abbrev pub tail : List (List ℕ) → List ℕ
+tail counts = codes "\n" ++ asked_lines counts
+
+-- the output in lower-case hexadecimal and the lines of the counts, each with a line end
+abbrev pub report : List ℕ → List (List ℕ) → List ℕ
 report output counts = encode_lower output ++ tail counts
 
 -- how many functions a made module has, its length and that of the output, without the line's end
 abbrev pub made_line : ℕ → ℕ → ℕ → List ℕ
 made_line n input output = codes "functions " ++ decimal n ++ codes " input " ++ decimal input ++ codes " output " ++ decimal output
+
+-- what is printed of a made module of so many functions, and of this length: that line, and the lines of the counts
+abbrev pub lengths_report : (n input : ℕ) → List ℕ → List (List ℕ) → List ℕ
+lengths_report n input output counts = made_line n input (length output) ++ tail counts

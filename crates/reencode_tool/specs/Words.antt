@@ -10,13 +10,26 @@ use Rattle.reencode_tool.specs.Numerals.{index_of}
 pub data Command : Type 0 where
   plain : Command
   rename : List ℕ → Command
+  twice : List ℕ → List ℕ → Command
   generate : ℕ → Command
+  keep_report : Command
 
 -- whether the input is hexadecimal text, the most bytes that a frame of the output may have, and what is to be done
 pub record Job : Type 0 where
   pub is_text : Bool
   pub ceiling : ℕ
   pub command : Command
+
+-- the files of renamings that a command names, in order
+abbrev pub files : Command → List (List ℕ)
+files (rename name) = name ∷ []
+files (twice first second) = first ∷ second ∷ []
+files _ = []
+
+-- how many functions a command makes a module of, where it makes one
+abbrev pub functions : Command → Option ℕ
+functions (generate n) = Some n
+functions _ = None
 
 abbrev pub is_word : List ℕ → List ℕ → Bool
 is_word word text = pointwise nat_eq word text
@@ -35,7 +48,10 @@ without_ceiling (w ∷ c ∷ ws) = if is_word w (codes "-m") then with_rest ws (
 without_ceiling ws = Some (2 ^ 32 - 1, ws)
 
 abbrev pub short_command : List ℕ → Option Command
-short_command w = if is_word w (codes "plain") then Some plain else None
+short_command w =
+    if is_word w (codes "plain") then Some plain
+    else if is_word w (codes "keep-report") then Some keep_report
+    else None
 
 -- a number of functions, from 1 to 1,000,000
 abbrev pub some_functions : ℕ → Option Command
@@ -47,9 +63,13 @@ long_command w a =
     else if is_word w (codes "generate") then option_and_then some_functions (index_of a)
     else None
 
+abbrev pub longer_command : List ℕ → List ℕ → List ℕ → Option Command
+longer_command w a b = if is_word w (codes "twice") then Some (twice a b) else None
+
 abbrev pub command : List (List ℕ) → Option Command
 command (w ∷ []) = short_command w
 command (w ∷ a ∷ []) = long_command w a
+command (w ∷ a ∷ b ∷ []) = longer_command w a b
 command _ = None
 
 abbrev pub job : List (List ℕ) → Option Job
@@ -61,7 +81,9 @@ job words =
 abbrev pub command_seen : of_command.Command → Command
 command_seen said.Plain = plain
 command_seen (said.Rename name) = rename name.now
+command_seen (said.Twice first second) = twice first.now second.now
 command_seen (said.Generate n) = generate n
+command_seen said.KeepReport = keep_report
 
 abbrev pub job_seen : of_job.Job → Job
 job_seen j = record { is_text = j.is_text; ceiling = j.ceiling; command = command_seen j.command }

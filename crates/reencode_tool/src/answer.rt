@@ -1,12 +1,15 @@
 //! How the program ends.
 ghost use Rattle.std.specs.Prelude.{◌≡◌, ◌≤◌, ◌≢◌, ◌++◌, codes, decimal, OnOk, OnErr};
 ghost use Rattle.reencode_tool.specs.Answer.{EndsAs, HasStatus, status_of, text_of};
+ghost use Rattle.reencode_tool.specs.Renamers.{refusal_text};
+ghost use Rattle.reencode_hooks.specs.Renamings.{unmapped_text};
 ghost use Rattle.reencode_tool.specs.Outside.{Rose, WhereTold, followed, TookFront};
 
 use crate::outside::{Failed, Sink};
+use crate::renamers::{Refusal, Refuses};
 use crate::write::write_all;
 use itoa::Buffer;
-use reencode_hooks::{Error, Unmapped};
+use reencode_hooks::{ChainError, Error, Unmapped};
 use wasm_leb::ReadError;
 
 /// How the program ends.
@@ -28,7 +31,7 @@ pub enum Answer {
         at: usize,
     },
     /// A strict renamer has no entry for an index.
-    Refused(Unmapped),
+    Refused(Refusal),
     /// A code section states a size that passes the end of the bytes.
     CodeSectionSize,
     /// The header or a section of a component stands where a core module is read.
@@ -88,12 +91,12 @@ impl Answer {
             Answer::NoMemory => write_all(err, b"no memory\n"),
             Answer::Usage => write_all(
                 err,
-                b"usage: [-x] [-m CEILING] plain | rename FILE | generate N\n",
+                b"usage: [-x] [-m CEILING] plain | rename FILE | twice FILE FILE | generate N | keep-report\n",
             ),
             Answer::ReadFault => write_all(err, b"read fault\n"),
             Answer::WriteFault => write_all(err, b"write fault\n"),
             Answer::ParseError { at } => say_parse_error(err, at),
-            Answer::Refused(unmapped) => say_refused(err, unmapped),
+            Answer::Refused(refusal) => say_refused(err, refusal),
             Answer::CodeSectionSize => write_all(err, b"invalid code section size\n"),
             Answer::NonCoreModule => write_all(
                 err,
@@ -171,19 +174,54 @@ fn say_parse_error<D: Sink>(err: &mut D, at: usize) -> Result<(), Failed>
 }
 
 /// Says which index was refused.
-fn say_refused<D: Sink>(err: &mut D, unmapped: Unmapped) -> Result<(), Failed>
+fn say_unmapped<D: Sink>(err: &mut D, unmapped: Unmapped) -> Result<(), Failed>
+    ensures rises { D.faults err.old ≤ D.faults err.new }
+    ensures ok { OnOk result
+        (WhereTold (D.held err.new) (followed (D.held err.old) (unmapped_text unmapped))) }
+    ensures failed { OnErr result (Rose (D.faults err.old) (D.faults err.new)) }
+    ensures front { OnErr result
+        (TookFront (D.held err.old) (D.held err.new) (unmapped_text unmapped)) }
+{
+    match write_both(err, b"refused ", unmapped.space.name().as_bytes()) {
+        Ok(()) => write_number(err, b" ", unmapped.index as u64),
+        Err(Failed) => Err(Failed),
+    }
+}
+
+/// Says which index was refused, and then a text.
+fn say_unmapped_line<D: Sink>(err: &mut D, unmapped: Unmapped, end: &[u8]) -> Result<(), Failed>
     ensures rises { D.faults err.old ≤ D.faults err.new }
     ensures ok { OnOk result
         (WhereTold (D.held err.new)
-        (followed (D.held err.old) (text_of (Answer.Refused unmapped) ++ codes "\n"))) }
+        (followed (D.held err.old) (unmapped_text unmapped ++ end.now))) }
     ensures failed { OnErr result (Rose (D.faults err.old) (D.faults err.new)) }
     ensures front { OnErr result
-        (TookFront (D.held err.old) (D.held err.new)
-        (text_of (Answer.Refused unmapped) ++ codes "\n")) }
+        (TookFront (D.held err.old) (D.held err.new) (unmapped_text unmapped ++ end.now)) }
 {
-    match write_both(err, b"refused ", unmapped.space.name().as_bytes()) {
-        Ok(()) => write_line(err, b" ", unmapped.index as u64),
+    match say_unmapped(err, unmapped) {
+        Ok(()) => write_all(err, end),
         Err(Failed) => Err(Failed),
+    }
+}
+
+/// Says which index was refused, and of two renamers by which.
+fn say_refused<D: Sink>(err: &mut D, refusal: Refusal) -> Result<(), Failed>
+    ensures rises { D.faults err.old ≤ D.faults err.new }
+    ensures ok { OnOk result
+        (WhereTold (D.held err.new)
+        (followed (D.held err.old) (refusal_text refusal ++ codes "\n"))) }
+    ensures failed { OnErr result (Rose (D.faults err.old) (D.faults err.new)) }
+    ensures front { OnErr result
+        (TookFront (D.held err.old) (D.held err.new) (refusal_text refusal ++ codes "\n")) }
+{
+    match refusal {
+        Refusal::Alone(unmapped) => say_unmapped_line(err, unmapped, b"\n"),
+        Refusal::Both(ChainError::First(unmapped)) => {
+            say_unmapped_line(err, unmapped, b" by 1\n")
+        }
+        Refusal::Both(ChainError::Second(unmapped)) => {
+            say_unmapped_line(err, unmapped, b" by 2\n")
+        }
     }
 }
 
@@ -205,16 +243,16 @@ fn say_too_large<D: Sink>(err: &mut D, size: u64, ceiling: u32) -> Result<(), Fa
 }
 
 /// How the program ends with an error under a ceiling. Three errors come to no end: no input of a command gives them.
-pub fn answer_of(e: Error<Unmapped>, ceiling: u32) -> Answer
+pub fn answer_of<X: Refuses>(e: Error<X>, ceiling: u32) -> Answer
     requires { HasStatus e }
-    ensures { EndsAs ceiling e result }
+    ensures { EndsAs X.refusal ceiling e result }
 {
     match e {
         Error::InvalidCodeSectionSize => Answer::CodeSectionSize,
         Error::UnexpectedNonCoreModuleSection => Answer::NonCoreModule,
         Error::UnexpectedNonComponentSection => Answer::NonComponent,
         Error::ParseError(ReadError { at }) => Answer::ParseError { at },
-        Error::UserError(unmapped) => Answer::Refused(unmapped),
+        Error::UserError(refused) => Answer::Refused(refused.refusal()),
         Error::TooLarge { size } => Answer::TooLarge { size, ceiling },
         Error::NoMemory => Answer::NoMemory,
         Error::CanonicalizedHeapTypeReference

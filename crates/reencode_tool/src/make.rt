@@ -1,23 +1,28 @@
 //! From a job to what is printed.
-ghost use Rattle.std.specs.Prelude.{◌≡◌, ◌≢◌, ◌≤◌, ◌++◌, length, replicate, Some, IfOk, IfErr, IsErrOf, vec_len};
+ghost use Rattle.std.specs.Prelude.{◌≡◌, ◌≢◌, ◌≤◌, ◌++◌, [], length, replicate, IfOk, IfErr, vec_len};
 ghost use Rattle.hex.specs.Hex.{encode_lower};
 ghost use Rattle.reencode_hooks.specs.Renamings.{no_renaming};
-ghost use Rattle.reencode_tool.specs.Answer.{HasBytes, IsMaking, Made, RefusesBytes, RefusesFile, RefusesInput, RefusesRenaming, Stops, Takes, Uses, report_by, report_of};
+ghost use Rattle.reencode_tool.specs.Answer.{FileSays, HasBytes, IsMaking, Made, Output, RefusesBytes, RefusesFile, RefusesInput, RefusesRenaming, Reports, Stops, Takes, Uses, output_text, report_of};
 ghost use Rattle.reencode_tool.specs.Generated.{generated};
-ghost use Rattle.reencode_tool.specs.Words.{command_seen, job_seen, rename};
+ghost use Rattle.reencode_tool.specs.Reencoded.{IsMade, IsRefused};
+ghost use Rattle.reencode_tool.specs.Renamers.{AreCounts};
+ghost use Rattle.reencode_tool.specs.Report.{lengths_report, report};
+ghost use Rattle.reencode_tool.specs.Words.{command_seen, files, job_seen};
 
 use crate::answer::Answer;
 use crate::buffer::zeros;
 use crate::generate::generated;
 use crate::hexadecimal::{TextFault, binary};
 use crate::input::{InputFault, read_all};
+use crate::kept::kept_report;
 use crate::outside::{Shelf, ShelfFault, Source};
 use crate::reencoded::reencoded;
+use crate::renamers::Renamers;
 use crate::renaming::{RenamingFault, renaming_of};
-use crate::report::{KEY_COUNT, made_lines, tail};
-use crate::words::{Command, Job};
-use reencode_hooks::Renamer;
-use std::alloc::{AllocError, Global};
+use crate::report::{made_lines, tail};
+use crate::words::{Command, Job, functions};
+use reencode_hooks::{Chain, Renamer};
+use std::alloc::Global;
 
 /// The most bytes that an input may have: 64 MiB.
 const MOST_INPUT: u32 = 67_108_864;
@@ -42,7 +47,8 @@ pub struct Ready {
 /// The renamer that a file says.
 fn renamer_of_file<F: Shelf>(alloc: Global, file: &str, shelf: &mut F) -> Result<Renamer, Answer>
     ensures rises { F.faults shelf.old ≤ F.faults shelf.new }
-    ensures uses { IfOk result (λ renamer. Uses (rename file.now) (F.texts shelf.old) renamer) }
+    ensures same { F.texts shelf.new ≡ F.texts shelf.old }
+    ensures says { IfOk result (λ renamer. FileSays (F.texts shelf.old) file.now renamer) }
     ensures counts { IfOk result (λ renamer. renamer.counts ≡ replicate 19 0) }
     ensures stops { IfErr result
         (λ answer. RefusesFile file.now (F.texts shelf.old) (F.faults shelf.old)
@@ -61,24 +67,30 @@ fn renamer_of_file<F: Shelf>(alloc: Global, file: &str, shelf: &mut F) -> Result
     }
 }
 
-/// The renamer of a command.
-fn renamer_of<F: Shelf>(
+/// The renamers of a command.
+fn renamers_of<F: Shelf>(
     alloc: Global,
     command: Command<'_>,
     shelf: &mut F,
-) -> Result<Renamer, Answer>
+) -> Result<Renamers, Answer>
     ensures rises { F.faults shelf.old ≤ F.faults shelf.new }
     ensures uses { IfOk result
-        (λ renamer. Uses (command_seen command.entry) (F.texts shelf.old) renamer) }
-    ensures counts { IfOk result (λ renamer. renamer.counts ≡ replicate 19 0) }
+        (λ renamers. Uses (command_seen command.entry) (F.texts shelf.old) renamers) }
+    ensures counts { IfOk result AreCounts }
     ensures stops { IfErr result
         (λ answer. RefusesRenaming (command_seen command.entry) (F.texts shelf.old)
         (F.faults shelf.old) (F.faults shelf.new) answer) }
 {
     match command {
-        Command::Plain => Ok(Renamer::new(alloc)),
-        Command::Rename(file) => renamer_of_file(alloc, file, shelf),
-        Command::Generate(_) => Ok(Renamer::new(alloc)),
+        Command::Rename(file) => Ok(Renamers::Alone(renamer_of_file(alloc, file, shelf)?)),
+        Command::Twice(first, second) => {
+            let a = renamer_of_file(alloc, first, shelf)?;
+            let b = renamer_of_file(alloc, second, shelf)?;
+            Ok(Renamers::Both(Chain::new(a, b)))
+        }
+        Command::Plain => Ok(Renamers::Alone(Renamer::new(alloc))),
+        Command::Generate(_) => Ok(Renamers::Alone(Renamer::new(alloc))),
+        Command::KeepReport => Ok(Renamers::Alone(Renamer::new(alloc))),
     }
 }
 
@@ -134,10 +146,50 @@ fn bytes_of<S: Source>(
         (S.faults input.new) (S.left input.old) (S.left input.new) answer) }
     ensures unread { IsMaking (command_seen command.entry) → input.new ≡ input.old }
 {
-    match command {
-        Command::Plain => read_bytes(alloc, is_text, input),
-        Command::Rename(_) => read_bytes(alloc, is_text, input),
-        Command::Generate(n) => made_bytes(alloc, n),
+    match functions(command) {
+        Some(n) => made_bytes(alloc, n),
+        None => read_bytes(alloc, is_text, input),
+    }
+}
+
+/// The digits of what the re-encoding makes, and the lines of the counts.
+fn digits(
+    alloc: Global,
+    renamers: Renamers,
+    bytes: &[u8],
+    ceiling: u32,
+) -> Result<(Vec<u8>, Vec<u8>), Answer>
+    requires { AreCounts renamers }
+    ensures ok { IfOk result (λ p. Reports ceiling renamers bytes.now report
+        (encode_lower p.0.items ++ p.1.items)) }
+    ensures refused { IfErr result (λ answer. IsRefused ceiling renamers bytes.now answer) }
+    ensures made { IfErr result (λ answer. IsMade ceiling renamers bytes.now answer) }
+{
+    let (output, renamers) = reencoded(alloc, renamers, bytes, ceiling)?;
+    match tail(alloc, &renamers) {
+        Ok(tail) => Ok((output, tail)),
+        Err(_) => Err(Answer::NoMemory),
+    }
+}
+
+/// How long the bytes and what the re-encoding makes of them are, and the lines of the counts.
+fn lengths(
+    alloc: Global,
+    functions: u32,
+    renamers: Renamers,
+    bytes: &[u8],
+    ceiling: u32,
+) -> Result<Vec<u8>, Answer>
+    requires { AreCounts renamers }
+    ensures ok { IfOk result (λ text. Reports ceiling renamers bytes.now
+        (lengths_report functions (length bytes.now)) text.items) }
+    ensures refused { IfErr result (λ answer. IsRefused ceiling renamers bytes.now answer) }
+    ensures made { IfErr result (λ answer. IsMade ceiling renamers bytes.now answer) }
+{
+    let (output, renamers) = reencoded(alloc, renamers, bytes, ceiling)?;
+    match made_lines(alloc, functions, bytes.len(), output.len(), &renamers) {
+        Ok(lines) => Ok(lines),
+        Err(_) => Err(Answer::NoMemory),
     }
 }
 
@@ -145,18 +197,29 @@ fn bytes_of<S: Source>(
 fn shown(
     alloc: Global,
     command: Command<'_>,
-    input: usize,
-    output: Vec<u8>,
-    counts: &[u64; KEY_COUNT],
-) -> Result<(Vec<u8>, Vec<u8>), AllocError>
-    ensures { IfOk result (λ p. encode_lower p.0.items ++ p.1.items
-        ≡ report_by (command_seen command.entry) input output.items counts.now) }
+    renamers: Renamers,
+    bytes: &[u8],
+    ceiling: u32,
+) -> Result<(Vec<u8>, Vec<u8>), Answer>
+    requires counts { AreCounts renamers }
+    requires none { files (command_seen command) ≡ []
+        → renamers ≡ Renamers.Alone no_renaming }
+    ensures ok { IfOk result
+        (λ p. (m : Output (command_seen command.entry) ceiling renamers bytes.now)
+        × (encode_lower p.0.items ++ p.1.items ≡ output_text m)) }
+    ensures refused { IfErr result (λ answer. IsRefused ceiling renamers bytes.now answer) }
+    ensures made { IfErr result (λ answer. IsMade ceiling renamers bytes.now answer) }
 {
     match command {
-        Command::Plain => Ok((output, tail(alloc, counts)?)),
-        Command::Rename(_) => Ok((output, tail(alloc, counts)?)),
+        Command::Plain => digits(alloc, renamers, bytes, ceiling),
+        Command::Rename(_) => digits(alloc, renamers, bytes, ceiling),
+        Command::Twice(_, _) => digits(alloc, renamers, bytes, ceiling),
         Command::Generate(n) => {
-            let lines = made_lines(alloc, n, input, output.len(), counts)?;
+            let lines = lengths(alloc, n, renamers, bytes, ceiling)?;
+            Ok((Vec::new(alloc), lines))
+        }
+        Command::KeepReport => {
+            let lines = kept_report(alloc, bytes, ceiling)?;
             Ok((Vec::new(alloc), lines))
         }
     }
@@ -181,15 +244,9 @@ pub fn make<F: Shelf, S: Source>(
         (S.left input.new) answer) }
     ensures unread { IsMaking (job_seen job.entry).command → input.new ≡ input.old }
 {
-    let renamer = renamer_of(alloc, job.command, shelf)?;
+    let renamers = renamers_of(alloc, job.command, shelf)?;
     let bytes = bytes_of(alloc, job.command, job.is_text, input)?;
-    let (output, counts) = match reencoded(alloc, renamer, bytes.as_slice(), job.ceiling) {
-        Ok(made) => made,
-        Err(answer) => return Err(answer),
-    };
-    let Ok((output, tail)) = shown(alloc, job.command, bytes.len(), output, &counts) else {
-        return Err(Answer::NoMemory);
-    };
+    let (output, tail) = shown(alloc, job.command, renamers, bytes.as_slice(), job.ceiling)?;
     let Ok(buffer) = zeros(alloc, PIECE) else {
         return Err(Answer::NoMemory);
     };

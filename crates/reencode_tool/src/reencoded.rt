@@ -1,30 +1,73 @@
-//! The re-encoding under a renaming.
-ghost use Rattle.std.specs.Prelude.{◌≡◌, length, IfOk, IfErr};
+//! The re-encoding under the renamings of a command.
+ghost use Rattle.std.specs.Prelude.{IfOk, IfErr};
 ghost use Rattle.reencode_tool.specs.Reencoded.{IsMade, IsReencoded, IsRefused};
+ghost use Rattle.reencode_tool.specs.Renamers.{AreCounts, counts_in};
 
 use crate::answer::{Answer, answer_of};
-use crate::report::{KEY_COUNT, counts_of};
+use crate::renamers::Renamers;
 use reencode_core::reencode_core;
-use reencode_hooks::Renamer;
+use reencode_hooks::{Chain, Renamer};
 use std::alloc::Global;
 
-/// The output that is made of some bytes under a renaming and a ceiling, and how often each hook was called
-/// for it.
-pub fn reencoded(
+/// The output that is made of some bytes under one renaming and a ceiling, and the renamer behind it.
+fn by_one(
     alloc: Global,
     renamer: Renamer,
     bytes: &[u8],
     ceiling: u32,
-) -> Result<(Vec<u8>, [u64; KEY_COUNT]), Answer>
-    requires { length renamer.counts ≡ 19 }
-    ensures ok { IfOk result
-        (λ made. IsReencoded ceiling renamer bytes.now made.0.items made.1) }
-    ensures refused { IfErr result (λ answer. IsRefused ceiling renamer bytes.now answer) }
-    ensures made { IfErr result (λ answer. IsMade ceiling renamer bytes.now answer) }
+) -> Result<(Vec<u8>, Renamers), Answer>
+    ensures ok { IfOk result (λ made. IsReencoded ceiling (Renamers.Alone renamer) bytes.now
+        made.0.items (counts_in made.1)) }
+    ensures counts { AreCounts (Renamers.Alone renamer) → IfOk result (λ made. AreCounts made.1) }
+    ensures refused { IfErr result
+        (λ answer. IsRefused ceiling (Renamers.Alone renamer) bytes.now answer) }
+    ensures made { IfErr result
+        (λ answer. IsMade ceiling (Renamers.Alone renamer) bytes.now answer) }
 {
     let mut renamer = renamer;
     match reencode_core(alloc, &mut renamer, bytes, ceiling) {
-        Ok(output) => Ok((output, counts_of(&renamer))),
+        Ok(output) => Ok((output, Renamers::Alone(renamer))),
         Err(e) => Err(answer_of(e, ceiling)),
+    }
+}
+
+/// The output that is made of some bytes under two renamings, one after the other, and a ceiling, and the renamers behind it.
+fn by_both(
+    alloc: Global,
+    both: Chain<Renamer, Renamer>,
+    bytes: &[u8],
+    ceiling: u32,
+) -> Result<(Vec<u8>, Renamers), Answer>
+    ensures ok { IfOk result (λ made. IsReencoded ceiling (Renamers.Both both) bytes.now
+        made.0.items (counts_in made.1)) }
+    ensures counts { AreCounts (Renamers.Both both) → IfOk result (λ made. AreCounts made.1) }
+    ensures refused { IfErr result
+        (λ answer. IsRefused ceiling (Renamers.Both both) bytes.now answer) }
+    ensures made { IfErr result (λ answer. IsMade ceiling (Renamers.Both both) bytes.now answer) }
+{
+    let mut both = both;
+    match reencode_core(alloc, &mut both, bytes, ceiling) {
+        Ok(output) => Ok((output, Renamers::Both(both))),
+        Err(e) => Err(answer_of(e, ceiling)),
+    }
+}
+
+/// The output that is made of some bytes under the renamings of a command and a ceiling, and the renamers with how often each
+/// hook of theirs was called for it.
+pub fn reencoded(
+    alloc: Global,
+    renamers: Renamers,
+    bytes: &[u8],
+    ceiling: u32,
+) -> Result<(Vec<u8>, Renamers), Answer>
+    ensures ok { IfOk result
+        (λ made. IsReencoded ceiling renamers bytes.now made.0.items (counts_in made.1)) }
+    ensures counts { AreCounts renamers → IfOk result (λ made. AreCounts made.1) }
+    ensures refused { IfErr result (λ answer. IsRefused ceiling renamers bytes.now answer) }
+    ensures made { IfErr result (λ answer. IsMade ceiling renamers bytes.now answer) }
+{
+    match renamers {
+        Renamers::Alone(renamer) => by_one(alloc, renamer, bytes, ceiling),
+        Renamers::Both(both) => by_both(alloc, both, bytes, ceiling),
     }
 }

@@ -1,14 +1,16 @@
 //! What the program prints.
-ghost use Rattle.std.specs.Prelude.{◌≡◌, ◌++◌, decimal, map, length, OnOk, IfOk};
-ghost use Rattle.reencode_tool.specs.Report.{made_line, part, parts, tail};
+ghost use Rattle.std.specs.Prelude.{◌≡◌, ◌++◌, codes, decimal, map, length, OnOk, IfOk};
+ghost use Rattle.reencode_tool.specs.Renamers.{AreCounts, counts_in};
+ghost use Rattle.reencode_tool.specs.Report.{asked, asked_lines, made_line, part, parts, tail};
 
+use crate::renamers::Renamers;
 use itoa::Buffer;
 use reencode_hooks::{Asked, Renamer};
 use std::alloc::{AllocError, Global};
 use wasm_shapes::Space;
 
 /// How many things are counted.
-pub const KEY_COUNT: usize = 19;
+const KEY_COUNT: usize = 19;
 
 /// The name of each count, in order.
 const KEYS: [&str; KEY_COUNT] = [
@@ -61,7 +63,7 @@ pub fn counts_of(renamer: &Renamer) -> [u64; KEY_COUNT]
 }
 
 /// Adds a number in decimal to a line.
-fn add_number(line: &mut Vec<u8>, n: u64) -> Result<(), AllocError>
+pub fn add_number(line: &mut Vec<u8>, n: u64) -> Result<(), AllocError>
     ensures { OnOk result (line.new.items ≡ line.old.items ++ decimal n) }
 {
     let mut digits = Buffer::new();
@@ -93,13 +95,47 @@ fn add_parts(line: &mut Vec<u8>, keys: &[&str], counts: &[u64]) -> Result<(), Al
     Ok(())
 }
 
-/// What is printed behind the digits: a line end, and the line of the counts.
-pub fn tail(alloc: Global, counts: &[u64; KEY_COUNT]) -> Result<Vec<u8>, AllocError>
-    ensures { IfOk result (λ text. text.items ≡ tail counts.now) }
+/// Adds the line of a renamer's counts.
+fn add_line(text: &mut Vec<u8>, renamer: &Renamer) -> Result<(), AllocError>
+    ensures { length renamer.now.counts ≡ 19 → OnOk result
+        (text.new.items ≡ text.old.items ++ asked renamer.now.counts ++ codes "\n") }
 {
-    let mut text = Vec::from_slice(alloc, b"\nasked")?;
-    add_parts(&mut text, &KEYS, counts)?;
+    let counts = counts_of(renamer);
+    text.extend_from_slice(b"asked")?;
+    add_parts(text, &KEYS, &counts)?;
+    text.extend_from_slice(b"\n")
+}
+
+/// Adds the line of each renamer's counts.
+fn add_lines(text: &mut Vec<u8>, renamers: &Renamers) -> Result<(), AllocError>
+    ensures { AreCounts renamers.now → OnOk result
+        (text.new.items ≡ text.old.items ++ asked_lines (counts_in renamers.now)) }
+{
+    match renamers {
+        Renamers::Alone(renamer) => add_line(text, renamer),
+        Renamers::Both(both) => {
+            add_line(text, both.first())?;
+            add_line(text, both.second())
+        }
+    }
+}
+
+/// Adds a line end, and the line of each renamer's counts.
+pub fn add_tail(text: &mut Vec<u8>, renamers: &Renamers) -> Result<(), AllocError>
+    ensures { AreCounts renamers.now → OnOk result
+        (text.new.items ≡ text.old.items ++ tail (counts_in renamers.now)) }
+{
     text.extend_from_slice(b"\n")?;
+    add_lines(text, renamers)
+}
+
+/// What is printed behind the digits: a line end, and the line of each renamer's counts.
+pub fn tail(alloc: Global, renamers: &Renamers) -> Result<Vec<u8>, AllocError>
+    ensures { AreCounts renamers.now → IfOk result
+        (λ text. text.items ≡ tail (counts_in renamers.now)) }
+{
+    let mut text = Vec::new(alloc);
+    add_tail(&mut text, renamers)?;
     Ok(text)
 }
 
@@ -110,10 +146,10 @@ pub fn made_lines(
     functions: u32,
     input: usize,
     output: usize,
-    counts: &[u64; KEY_COUNT],
+    renamers: &Renamers,
 ) -> Result<Vec<u8>, AllocError>
-    ensures { IfOk result
-        (λ text. text.items ≡ made_line functions input output ++ tail counts.now) }
+    ensures { AreCounts renamers.now → IfOk result
+        (λ text. text.items ≡ made_line functions input output ++ tail (counts_in renamers.now)) }
 {
     let mut text = Vec::from_slice(alloc, b"functions ")?;
     add_number(&mut text, u64::from(functions))?;
@@ -121,7 +157,6 @@ pub fn made_lines(
     add_number(&mut text, input as u64)?;
     text.extend_from_slice(b" output ")?;
     add_number(&mut text, output as u64)?;
-    let counts = tail(alloc, counts)?;
-    text.extend_from_slice(counts.as_slice())?;
+    add_tail(&mut text, renamers)?;
     Ok(text)
 }

@@ -3,11 +3,12 @@
 use crate::answer::{Answer, answer_of};
 use crate::memory::{MemShelf, MemSink, MemSource, SureShelf, SureSink, SureSource};
 use crate::outside::{Failed, Shelf, ShelfFault, Sink, Source};
+use crate::renamers::{Refusal, Renamers};
 use crate::renaming::{RenamingFault, renaming_of};
-use crate::report::{counts_of, tail};
+use crate::report::tail;
 use crate::standard::FileShelf;
 use crate::tool::run;
-use reencode_hooks::{Asked, Error, Renamer, Unmapped};
+use reencode_hooks::{Asked, Chain, ChainError, Error, Renamer, Unmapped};
 use std::alloc::Global;
 use std::process::Abort;
 use std::test::Fail;
@@ -26,7 +27,8 @@ const REPORT: &[u8] =
 const SPACED: &[u8] =
     b"00 61 73 6D 01 00 00 00\r\n01070160027F7F017F\t0302010007\n05010166000 00A09010700200020016a0b\r\n";
 
-const USAGE: &[u8] = b"usage: [-x] [-m CEILING] plain | rename FILE | generate N\n";
+const USAGE: &[u8] =
+    b"usage: [-x] [-m CEILING] plain | rename FILE | twice FILE FILE | generate N | keep-report\n";
 
 /// The header of a module, in binary.
 const BINARY: &[u8] = b"\0asm\x01\0\0\0";
@@ -34,6 +36,7 @@ const BINARY: &[u8] = b"\0asm\x01\0\0\0";
 /// What a case says by each field that it leaves out, and so all the fields.
 const USUAL: &str = "words=-x plain
 file={}
+second={}
 shelf_fails=
 text=MODULE
 most=16
@@ -46,7 +49,7 @@ err=";
 
 /// Runs of the program over memory, as text, since a case more then costs no proof. An empty line
 /// stands between two cases, and a line is a field or, behind a `#`, a remark. `file` is the text
-/// that the shelf has of the name `r`, and `text` the input. A read and a write take at most `most`
+/// that the shelf has of the name `r`, `second` that of the name `s`, and `text` the input. A read and a write take at most `most`
 /// bytes, and the calls of the numbers in a field of failures fail. The run ends with the status, and
 /// the sinks then hold `out` and `err`. A `/` stands for a line end, and a word in capitals for the
 /// constant of that name.
@@ -159,6 +162,120 @@ file={"strict":true}
 text=0061736d0100000009080105630001d2000b
 status=6
 err=refused function 0/
+
+# Two renamings, one after the other: a table that the first moves and the second moves back stays left out.
+words=-x twice r s
+file={"table":{"0":5}}
+second={"table":{"5":0}}
+text=0061736d010000000907010041000b0100
+out=0061736d010000000907010041000b0100/asked function 1 table 1 section_hook 2/asked function 1 table 1 section_hook 2/
+
+# The second is asked with the first one's answers.
+words=-x twice r s
+file={"function":{"0":1}}
+second={"strict":true,"type":{"0":0},"function":{"1":2}}
+out=0061736d0100000001070160027f7f017f03020100070501016600020a09010700200020016a0b/asked function 1 type 1 section_hook 5/asked function 1 type 1 section_hook 5/
+
+words=-x twice r s
+second={"strict":true}
+status=6
+err=refused type 0 by 2/
+
+words=-x twice s r
+second={"strict":true}
+status=6
+err=refused type 0 by 1/
+
+words=-x twice r s
+file={"strict":true,"type":{"0":0}}
+second={"strict":true,"type":{"0":0},"function":{"0":0}}
+status=6
+err=refused function 0 by 1/
+
+# Bytes without a reading: the second of two exports has none.
+words=-x twice r s
+file={"strict":true}
+text=0061736d01000000 07050201660000
+status=6
+err=refused function 0 by 1/
+
+words=-x twice r s
+second={"strict":true}
+text=0061736d01000000 07050201660000
+status=6
+err=refused function 0 by 2/
+
+words=-x twice r s
+text=0061736d01000000 03020101 0303010000
+status=5
+err=parse error at 12/
+
+words=-x -m 6 twice r s
+status=10
+err=too large: 7 over 6/
+
+words=-m 9 twice r s
+text=BINARY
+out=0061736d01000000/asked section_hook 1/asked section_hook 1/
+
+words=twice r
+status=2
+err=USAGE
+
+words=twice r s r
+status=2
+err=USAGE
+
+words=-x twice r s
+shelf_fails=2
+status=12
+err=shelf fault/
+
+words=-x twice r q
+status=12
+err=shelf fault/
+
+# The first says no renaming, and the second is not fetched.
+words=-x twice r q
+file=[]
+status=11
+err=bad renaming/
+
+words=-x twice r s
+second={"strict":1}
+status=11
+err=bad renaming/
+
+words=-x twice r s
+second=LONG
+status=13
+err=too long/
+
+# What of the input is kept.
+words=-x keep-report
+out=kept 32 39/bytes 7 of 39/asked function 1 type 1 section_hook 5/
+
+words=keep-report
+text=BINARY
+out=bytes 0 of 8/asked section_hook 1/
+
+# The first body has a number that is not spelled the shortest, the second has not.
+words=-x keep-report
+text=0061736d01000000 010401600000 0303020000 0a0c02 0600 4180001a0b 0300010b
+out=kept 30 33/bytes 3 of 32/asked type 2 section_hook 4/
+
+words=-x keep-report
+text=0061736d0d000100
+status=8
+err=There was a section that does not belong in a core wasm module/
+
+words=-x -m 6 keep-report
+status=10
+err=too large: 7 over 6/
+
+words=keep-report r
+status=2
+err=USAGE
 
 # What says no renaming.
 words=-x rename r
@@ -309,7 +426,19 @@ fn words_of(alloc: Global, value: &str) -> Option<Vec<String>> {
     Some(words)
 }
 
+/// A text of one byte more than a renaming may have.
+fn long_text(alloc: Global) -> Result<List<u8>, NoMemory> {
+    let mut bytes = List::new(alloc);
+    for _ in 0..1_048_577 {
+        bytes.push(b' ')?;
+    }
+    Ok(bytes)
+}
+
 fn bytes_of(alloc: Global, value: &str) -> Result<List<u8>, NoMemory> {
+    if value == "LONG" {
+        return long_text(alloc);
+    }
     let text = match value {
         "MODULE" => MODULE,
         "REPORT" => REPORT,
@@ -338,6 +467,8 @@ fn shelf_of(alloc: Global, case: &str) -> Option<MemShelf> {
     shelf.put("r", b"older").ok()?;
     let text = bytes_of(alloc, said(case, "file")).ok()?;
     shelf.put("r", text.as_slice()).ok()?;
+    let second = bytes_of(alloc, said(case, "second")).ok()?;
+    shelf.put("s", second.as_slice()).ok()?;
     Some(shelf)
 }
 
@@ -393,7 +524,7 @@ fn ends_of_runs(rt: HostRuntime) -> Result<(), Fail> {
         assert_eq!(rt; ends(rt.alloc(), case), Some((true, true, true)), "{case}");
         runs = runs.saturating_add(1);
     }
-    assert_eq!(rt; runs, 45);
+    assert_eq!(rt; runs, 68);
     Ok(())
 }
 
@@ -508,14 +639,15 @@ fn failing_outside(rt: HostRuntime) -> Result<(), Fail> {
 }
 
 /// The line of the counts.
-fn line_of(alloc: Global, renamer: &Renamer) -> Option<Vec<u8>> {
-    tail(alloc, &counts_of(renamer)).ok()
+fn line_of(alloc: Global, renamers: &Renamers) -> Option<Vec<u8>> {
+    tail(alloc, renamers).ok()
 }
 
 #[test]
 fn line_of_counts(rt: HostRuntime) -> Result<(), Fail> {
     let mut renamer = Renamer::new(rt.alloc());
-    let none = line_of(rt.alloc(), &renamer).ok_or("no memory")?;
+    let none = Renamers::Alone(Renamer::new(rt.alloc()));
+    let none = line_of(rt.alloc(), &none).ok_or("no memory")?;
     for what in [
         Asked::Pop,
         Asked::Of(Space::Type_),
@@ -528,12 +660,13 @@ fn line_of_counts(rt: HostRuntime) -> Result<(), Fail> {
     for _ in 0..10 {
         renamer.note(Asked::SectionHook);
     }
-    let some = line_of(rt.alloc(), &renamer).ok_or("no memory")?;
+    let both = Renamers::Both(Chain::new(renamer, Renamer::new(rt.alloc())));
+    let some = line_of(rt.alloc(), &both).ok_or("no memory")?;
     for (line, wanted) in [
         (&none, &b"\nasked\n"[..]),
         (
             &some,
-            b"\nasked function 1 type 2 data_count 1 section_hook 10 pop 1\n",
+            b"\nasked function 1 type 2 data_count 1 section_hook 10 pop 1\nasked\n",
         ),
     ] {
         assert_eq!(rt; line.as_slice(), wanted);
@@ -575,9 +708,19 @@ fn ends_of_errors(rt: HostRuntime) -> Result<(), Fail> {
     };
     for (answer, status, text) in [
         (
-            Answer::Refused(unmapped),
+            Answer::Refused(Refusal::Alone(unmapped)),
             6,
             &b"refused component_func 7\n"[..],
+        ),
+        (
+            Answer::Refused(Refusal::Both(ChainError::First(unmapped))),
+            6,
+            b"refused component_func 7 by 1\n",
+        ),
+        (
+            Answer::Refused(Refusal::Both(ChainError::Second(unmapped))),
+            6,
+            b"refused component_func 7 by 2\n",
         ),
         (Answer::CodeSectionSize, 7, b"invalid code section size\n"),
         (
@@ -612,28 +755,33 @@ fn answers_of_errors(rt: HostRuntime) {
     };
     assert_eq!(rt;
         answer_of(Error::UserError(unmapped), 9),
-        Answer::Refused(unmapped)
+        Answer::Refused(Refusal::Alone(unmapped))
+    );
+    let second: ChainError<Unmapped, Unmapped> = ChainError::Second(unmapped);
+    assert_eq!(rt;
+        answer_of(Error::UserError(second), 9),
+        Answer::Refused(Refusal::Both(second))
     );
     assert_eq!(rt;
-        answer_of(Error::InvalidCodeSectionSize, 9),
+        answer_of(Error::<Unmapped>::InvalidCodeSectionSize, 9),
         Answer::CodeSectionSize
     );
     assert_eq!(rt;
-        answer_of(Error::UnexpectedNonCoreModuleSection, 9),
+        answer_of(Error::<Unmapped>::UnexpectedNonCoreModuleSection, 9),
         Answer::NonCoreModule
     );
     assert_eq!(rt;
-        answer_of(Error::UnexpectedNonComponentSection, 9),
+        answer_of(Error::<Unmapped>::UnexpectedNonComponentSection, 9),
         Answer::NonComponent
     );
     assert_eq!(rt;
-        answer_of(Error::TooLarge { size: 10 }, 9),
+        answer_of(Error::<Unmapped>::TooLarge { size: 10 }, 9),
         Answer::TooLarge {
             size: 10,
             ceiling: 9
         }
     );
-    assert_eq!(rt; answer_of(Error::NoMemory, 9), Answer::NoMemory);
+    assert_eq!(rt; answer_of(Error::<Unmapped>::NoMemory, 9), Answer::NoMemory);
 }
 
 #[test]

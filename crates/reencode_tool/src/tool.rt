@@ -1,10 +1,10 @@
 //! The top call.
 ghost use Rattle.std.specs.Prelude.{None, Some, ℕ, List, [], ◌∷◌, ◌<◌, ◌==◌, Contains, decimal, ◌≡◌, ◌≢◌, ◌≤◌, ◌++◌, ◌↔◌, codes, map, length, string_bytes, vec_len, IsTrue, OnOk, OnErr};
 ghost use Rattle.hex.specs.Hex.{encode_lower};
-ghost use Rattle.reencode_tool.specs.Answer.{Ends, ForJob, HasNoDigits, IsBadFile, IsDecided, IsMaking, IsTooLong, Made, MakesModule, Says, StopsWith, message, report_of, text_of};
+ghost use Rattle.reencode_tool.specs.Answer.{Ends, ForJob, HasNoDigits, IsBadFile, IsDecided, IsMaking, IsTooLong, IsUnfetched, IsUnread, Made, MakesModule, Says, StopsWith, message, report_of, text_of};
 ghost use Rattle.reencode_tool.specs.Words.{job, job_seen};
-ghost use Rattle.reencode_hooks.specs.declared.asked.Unmapped.{Unmapped};
-ghost use Rattle.reencode_hooks.specs.Renamings.{unmapped_text};
+ghost use Rattle.reencode_tool.specs.declared.renamers.Refusal.{Refusal};
+ghost use Rattle.reencode_tool.specs.Renamers.{refusal_text};
 ghost use Rattle.reencode_tool.specs.Outside.{Rose, TookFront, WhereTold, followed};
 
 use crate::answer::Answer;
@@ -145,12 +145,16 @@ fn tell<D: Sink>(answer: Answer, err: &mut D)
 }
 
 /// Runs the program: `words` are the words behind its name. They are, in this order, `-x` or nothing,
-/// `-m CEILING` or nothing, and one of `plain`, `rename FILE` and `generate N`.
+/// `-m CEILING` or nothing, and one of `plain`, `rename FILE`, `twice FILE FILE`, `generate N` and
+/// `keep-report`.
 ///
 /// `plain` re-encodes the input's bytes with no index renamed, and `rename` with the indices renamed as the
-/// text says that the shelf has under FILE. With `-x` the input is the bytes' hexadecimal text. The output
-/// is printed as hexadecimal digits, and behind it how often each hook was called. `generate` makes a module
-/// of N functions, re-encodes it, and prints both lengths and the counts.
+/// text says that the shelf has under FILE. `twice` renames each index as the first text says, and what
+/// comes of it as the second says. With `-x` the input is the bytes' hexadecimal text. The output is printed
+/// as hexadecimal digits, and behind it a line for each renaming of how often each hook was called.
+/// `generate` makes a module of N functions, re-encodes it, and prints both lengths and the counts.
+/// `keep-report` re-encodes the input's bytes as `plain` does, and prints where the function bodies stand
+/// in the input that stay as they are, how many bytes they have and how many the output, and the counts.
 ///
 /// It answers the status that the program ends with, and says on `err` what went wrong. A failure of
 /// `err` ends that text and changes no status.
@@ -163,17 +167,17 @@ fn tell<D: Sink>(answer: Answer, err: &mut D)
 /// | 3 | the input could not be read |
 /// | 4 | the output could not be written |
 /// | 5 | the bytes have no reading, in any other case than 7 |
-/// | 6 | the renaming is strict and has no entry for an index |
+/// | 6 | a renaming is strict and has no entry for an index |
 /// | 7 | the bytes have no reading, for a code section whose size passes their end |
 /// | 8 | the bytes begin with the header of a component |
 /// | 10 | a frame of the output is above the ceiling |
-/// | 11 | FILE says no renaming |
-/// | 12 | FILE could not be fetched |
-/// | 13 | the input has more than 67,108,864 bytes, or FILE more than 1,048,576 |
+/// | 11 | a FILE says no renaming |
+/// | 12 | a FILE could not be fetched |
+/// | 13 | the input has more than 67,108,864 bytes, or a FILE more than 1,048,576 |
 /// | 14 | the input is not pairs of hexadecimal digits |
 ///
-/// The words are tried first, then FILE, the input, its digits, the re-encoding and the output. All memory is
-/// taken before the first write to `out`.
+/// The words are tried first, then each FILE, which is fetched and then read, the input, its digits, the
+/// re-encoding and the output. All memory is taken before the first write to `out`.
 pub fn run<F: Shelf, S: Source, K: Sink, D: Sink>(
     alloc: Global,
     words: &[String],
@@ -193,26 +197,31 @@ pub fn run<F: Shelf, S: Source, K: Sink, D: Sink>(
     ensures unfetched { result ≡ 2 → shelf.new ≡ shelf.old }
     ensures makes { MakesModule (job (map string_bytes words.now)) → input.new ≡ input.old }
 
-    // Status 3, 4 and 12 come only where the source, the sink or the shelf failed; with 4 a front of the
-    // report was taken.
+    // Status 3, 4 and 12 come only where the source, the sink or the shelf failed; with 3 all files were
+    // accepted, with 12 all before that file, and with 4 a front of the report was taken.
     ensures read_fault { result ≡ 3 → Rose (S.faults input.old) (S.faults input.new) }
     ensures write_fault { result ≡ 4 → Rose (K.faults out.old) (K.faults out.new) }
     ensures shelf_fault { result ≡ 12 → Rose (F.faults shelf.old) (F.faults shelf.new) }
+    ensures input_fault { result ≡ 3 → ForJob (job (map string_bytes words.now))
+        (λ j. IsUnread j.command (F.texts shelf.old) (S.faults input.old) (S.faults input.new)) }
+    ensures file_fault { result ≡ 12 → ForJob (job (map string_bytes words.now))
+        (λ j. IsUnfetched j.command (F.texts shelf.old)
+        (F.faults shelf.old) (F.faults shelf.new)) }
     ensures front { result ≡ 4 → ForJob (job (map string_bytes words.now))
         (λ j. (made : Made j (F.texts shelf.old) (S.left input.old) (S.left input.new))
         × TookFront (K.held out.old) (K.held out.new) (report_of made)) }
 
-    // Status 5 to 10 come only by the renaming and the bytes.
+    // Status 5 to 10 come only by the renamings and the bytes.
     ensures parse_error { result ≡ 5
         → (at : ℕ) × StopsWith (job (map string_bytes words.now)) (F.texts shelf.old)
         (S.left input.old) (S.left input.new) (Answer.ParseError at)
         × Says (D.faults err.old) (D.faults err.new) (D.held err.old) (D.held err.new)
         (codes "parse error at " ++ decimal at ++ codes "\n") }
     ensures refused { result ≡ 6
-        → (u : Unmapped) × StopsWith (job (map string_bytes words.now)) (F.texts shelf.old)
+        → (u : Refusal) × StopsWith (job (map string_bytes words.now)) (F.texts shelf.old)
         (S.left input.old) (S.left input.new) (Answer.Refused u)
         × Says (D.faults err.old) (D.faults err.new) (D.held err.old) (D.held err.new)
-        (unmapped_text u ++ codes "\n") }
+        (refusal_text u ++ codes "\n") }
     ensures code_size { result ≡ 7 → StopsWith (job (map string_bytes words.now))
         (F.texts shelf.old) (S.left input.old) (S.left input.new) Answer.CodeSectionSize }
     ensures component { result ≡ 8 → StopsWith (job (map string_bytes words.now))
@@ -231,7 +240,7 @@ pub fn run<F: Shelf, S: Source, K: Sink, D: Sink>(
     ensures not_hexadecimal { result ≡ 14 → ForJob (job (map string_bytes words.now))
         (λ j. HasNoDigits j (F.texts shelf.old) (S.left input.old) (S.left input.new)) }
 
-    // Where neither shelf, source nor sink failed, the words, the file and the input decide.
+    // Where neither shelf, source nor sink failed, the words, the files and the input decide.
     ensures decided { ¬ Rose (F.faults shelf.old) (F.faults shelf.new)
         → ¬ Rose (S.faults input.old) (S.faults input.new)
         → ¬ Rose (K.faults out.old) (K.faults out.new)

@@ -1,6 +1,6 @@
 //! The words of the command line.
 ghost use Rattle.std.specs.Prelude.{◌≡◌, map, option_map, string_bytes};
-ghost use Rattle.reencode_tool.specs.Words.{command, command_seen, job, job_seen, long_command, short_command, without_ceiling, without_flag};
+ghost use Rattle.reencode_tool.specs.Words.{command, command_seen, job, job_seen, functions, long_command, longer_command, short_command, without_ceiling, without_flag};
 
 use crate::index::index_of;
 
@@ -14,8 +14,25 @@ pub enum Command<'a> {
     Plain,
     /// The input is re-encoded with the indices renamed as the file of this name says.
     Rename(&'a str),
+    /// The input is re-encoded with the indices renamed as the first file says, and these as the second says.
+    Twice(&'a str, &'a str),
     /// A module of so many functions is made and re-encoded.
     Generate(u32),
+    /// The input is re-encoded, no index is renamed, and what of it is kept is told.
+    KeepReport,
+}
+
+/// How many functions a command makes a module of, where it makes one.
+pub fn functions(command: Command<'_>) -> Option<u32>
+    ensures { result ≡ functions (command_seen command.entry) }
+{
+    match command {
+        Command::Generate(n) => Some(n),
+        Command::Plain => None,
+        Command::Rename(_) => None,
+        Command::Twice(_, _) => None,
+        Command::KeepReport => None,
+    }
 }
 
 /// What the words ask for.
@@ -59,10 +76,12 @@ fn short_command(word: &str) -> Option<Command<'static>>
     ensures { option_map command_seen result ≡ short_command word.now }
 {
     if word == "plain" {
-        Some(Command::Plain)
-    } else {
-        None
+        return Some(Command::Plain);
     }
+    if word == "keep-report" {
+        return Some(Command::KeepReport);
+    }
+    None
 }
 
 /// The command that is a word and an argument.
@@ -81,6 +100,17 @@ fn long_command<'a>(word: &str, argument: &'a str) -> Option<Command<'a>>
     None
 }
 
+/// The command that is a word and two arguments.
+fn longer_command<'a>(word: &str, first: &'a str, second: &'a str) -> Option<Command<'a>>
+    ensures { option_map command_seen result ≡ longer_command word.now first.now second.now }
+{
+    if word == "twice" {
+        Some(Command::Twice(first, second))
+    } else {
+        None
+    }
+}
+
 /// The command that the words are.
 fn command_of(words: &[String]) -> Option<Command<'_>>
     ensures { option_map command_seen result ≡ command (map string_bytes words.now) }
@@ -88,12 +118,13 @@ fn command_of(words: &[String]) -> Option<Command<'_>>
     match words {
         [word] => short_command(word.as_str()),
         [word, argument] => long_command(word.as_str(), argument.as_str()),
+        [word, first, second] => longer_command(word.as_str(), first.as_str(), second.as_str()),
         _ => None,
     }
 }
 
-/// What the words ask for: `-x` or nothing, `-m CEILING` or nothing, and then `plain`, `rename FILE` or
-/// `generate N`. CEILING and N are decimal digits that do not begin with `0`, or `0`; CEILING is below
+/// What the words ask for: `-x` or nothing, `-m CEILING` or nothing, and then `plain`, `rename FILE`,
+/// `twice FILE FILE`, `generate N` or `keep-report`. CEILING and N are decimal digits that do not begin with `0`, or `0`; CEILING is below
 /// 2^32 and is 2^32 - 1 where it is left out, and N is from 1 to 1,000,000.
 pub fn job_of(words: &[String]) -> Option<Job<'_>>
     ensures { option_map job_seen result ≡ job (map string_bytes words.now) }

@@ -21,9 +21,13 @@ returns-clause-unread g c e = c.perform_words-answer.ensures.unread (answers.is_
 pub returns-clause-unfetched : goal.returns-clause-unfetched
 returns-clause-unfetched g c e = c.perform_words-answer.ensures.unfetched (answers.is_usage _ _ c.status.ensures e)
 
+pub returns-clause-input_fault : goal.returns-clause-input_fault
+returns-clause-input_fault g c e =
+    let ends = rw (answers.is_read_fault _ _ c.status.ensures e) at c.perform_words-answer.ensures.ends in answers.of_read_fault _ _ ends
+
 pub returns-clause-read_fault : goal.returns-clause-read_fault
 returns-clause-read_fault g c e =
-    let ends = rw (answers.is_read_fault _ _ c.status.ensures e) at c.perform_words-answer.ensures.ends in answers.of_read_fault _ _ ends
+    let ends = rw (answers.is_read_fault _ _ c.status.ensures e) at c.perform_words-answer.ensures.ends in answers.unread_rose _ _ ends
 
 pub returns-clause-write_fault : goal.returns-clause-write_fault
 returns-clause-write_fault g c e =
@@ -33,9 +37,13 @@ pub returns-clause-front : goal.returns-clause-front
 returns-clause-front g c e =
     let ends = rw (answers.is_write_fault _ _ c.status.ensures e) at c.perform_words-answer.ensures.ends in (answers.of_write_fault _ _ ends).0
 
+pub returns-clause-file_fault : goal.returns-clause-file_fault
+returns-clause-file_fault g c e =
+    let ends = rw (answers.is_shelf_fault _ _ c.status.ensures e) at c.perform_words-answer.ensures.ends in answers.of_shelf_fault _ _ ends
+
 pub returns-clause-shelf_fault : goal.returns-clause-shelf_fault
 returns-clause-shelf_fault g c e =
-    let ends = rw (answers.is_shelf_fault _ _ c.status.ensures e) at c.perform_words-answer.ensures.ends in answers.of_shelf_fault _ _ ends
+    let ends = rw (answers.is_shelf_fault _ _ c.status.ensures e) at c.perform_words-answer.ensures.ends in answers.unfetched_rose _ _ ends
 
 pub returns-clause-parse_error : goal.returns-clause-parse_error
 returns-clause-parse_error g c e =

@@ -1,23 +1,24 @@
 use Rattle.std.proofs.Common.{◌≡◌, ◌++◌, List, ℕ, codes, decimal, subst}
 use Rattle.wasm_shapes.specs.Names.{space_name}
 use Rattle.reencode_tool.specs.Outside.{WhereTold, followed, TookFront}
-use Rattle.reencode_tool.proofs.OutsideLemmas.{TookFront-line, TookFront-longest, WhereTold-line}
-use Rattle.reencode_tool.proofs.answer.say_refused.Goals as goal
+use Rattle.reencode_tool.proofs.OutsideLemmas.{TookFront-longer, TookFront-two, WhereTold-two}
+use Rattle.reencode_tool.proofs.answer.say_unmapped.Goals as goal
 
 pub returns-in-Ok-clause-ok : goal.returns-in-Ok-clause-ok
 returns-in-Ok-clause-ok g c =
     let name : c.as_bytes.result.now ≡ space_name c.args.unmapped.space = cc in
     let front = subst (λ (t : List ℕ). WhereTold (g.D.Sink.held c.write_both.new.err) (followed (g.D.Sink.held c.args.err.now) (codes "refused " ++ t))) name c.in-Ok.ensures.ok in
-    WhereTold-line _ _ _ _ (codes "refused " ++ space_name c.args.unmapped.space) (codes " ") (decimal c.args.unmapped.index) (codes "\n") front c.write_line.ensures.ok
+    WhereTold-two _ _ _ _ (codes "refused " ++ space_name c.args.unmapped.space) (codes " ") (decimal c.args.unmapped.index) front c.write_number.ensures.ok
 
 pub returns-in-Ok-clause-front : goal.returns-in-Ok-clause-front
 returns-in-Ok-clause-front g c =
     let name : c.as_bytes.result.now ≡ space_name c.args.unmapped.space = cc in
     let front = subst (λ (t : List ℕ). WhereTold (g.D.Sink.held c.write_both.new.err) (followed (g.D.Sink.held c.args.err.now) (codes "refused " ++ t))) name c.in-Ok.ensures.ok in
-    TookFront-line _ _ _ _ (codes "refused " ++ space_name c.args.unmapped.space) (codes " ") (decimal c.args.unmapped.index) (codes "\n") front c.write_line.ensures.front
+    TookFront-two _ _ _ _ (codes "refused " ++ space_name c.args.unmapped.space) (codes " ") (decimal c.args.unmapped.index) front c.write_number.ensures.front
 
 pub returns-in-Err-clause-front : goal.returns-in-Err-clause-front
 returns-in-Err-clause-front g c =
     let name : c.as_bytes.result.now ≡ space_name c.args.unmapped.space = cc in
     let front = subst (λ (t : List ℕ). TookFront (g.D.Sink.held c.args.err.now) (g.D.Sink.held c.write_both.new.err) (codes "refused " ++ t)) name c.in-Err.ensures.front in
-    TookFront-longest _ _ (codes "refused " ++ space_name c.args.unmapped.space) (codes " ") (decimal c.args.unmapped.index) (codes "\n") front
+    TookFront-longer _ _ ((codes "refused " ++ space_name c.args.unmapped.space) ++ codes " ") (decimal c.args.unmapped.index)
+    (TookFront-longer _ _ (codes "refused " ++ space_name c.args.unmapped.space) (codes " ") front)

@@ -1,0 +1,27 @@
+use Rattle.std.proofs.Common.{refl}
+use Rattle.reencode_tool.specs.declared.renamers.Renamers.TheVariants as renamers
+use Rattle.reencode_tool.proofs.Outcomes.{given, has_status, made_as, refused_as, still_counts, why_given}
+use Rattle.reencode_tool.proofs.reencoded.by_one.Goals as goal
+
+pub returns-in-Ok-clause-ok : goal.returns-in-Ok-clause-ok
+returns-in-Ok-clause-ok c =
+    given c.args.ceiling (renamers.Alone c.args.renamer) c.args.bytes.now c.reencode_core.new.r c.in-Ok.output (λ v. v.items) (c.in-Ok.ensures.default refl refl)
+
+pub returns-in-Ok-clause-counts : goal.returns-in-Ok-clause-counts
+returns-in-Ok-clause-counts c h =
+    still_counts c.reencode_core.new.r
+    (given c.args.ceiling (renamers.Alone c.args.renamer) c.args.bytes.now c.reencode_core.new.r c.in-Ok.output (λ v. v.items) (c.in-Ok.ensures.default refl refl)) h
+
+pub answer_of-requires : goal.answer_of-requires
+answer_of-requires c =
+    has_status c.args.ceiling (renamers.Alone c.args.renamer) c.args.bytes.now c.in-Err.e
+    (why_given c.args.ceiling (renamers.Alone c.args.renamer) c.args.bytes.now (λ v. v.items) c.in-Err.e (c.in-Err.ensures.default refl refl) (c.in-Err.ensures.after_error refl (λ h. refl) (λ h. refl)))
+
+pub returns-in-Err-clause-refused : goal.returns-in-Err-clause-refused
+returns-in-Err-clause-refused c =
+    let why = why_given c.args.ceiling (renamers.Alone c.args.renamer) c.args.bytes.now (λ v. v.items) c.in-Err.e (c.in-Err.ensures.default refl refl) (c.in-Err.ensures.after_error refl (λ h. refl) (λ h. refl)) in
+    refused_as c.args.ceiling (renamers.Alone c.args.renamer) c.args.bytes.now c.in-Err.e c.answer_of.result why c.answer_of.ensures
+
+pub returns-in-Err-clause-made : goal.returns-in-Err-clause-made
+returns-in-Err-clause-made c =
+    made_as c.args.ceiling (renamers.Alone c.args.renamer) c.args.bytes.now (λ v. v.items) c.in-Err.e (c.in-Err.ensures.default refl refl) c.answer_of.result c.answer_of.ensures
