@@ -35,7 +35,7 @@ pub keeps_given : {A : Type 0} (c : ℕ) (bytes : List ℕ) (r m : Renaming) (ou
 keeps_given c bytes r m out view text ranges same g k told =
     let P : Renaming → Type 0 = λ z. GivesBytes (asks_of (Alone no_renaming)) c bytes z m (Ok out) view in
     let Q : Renaming → Type 0 = λ z.
-        (t : Tree) → Spells core_module bytes t → (given : List ℕ) × (run (asks_of (Alone no_renaming)) z (visits t) ≡ accepted given m) × Kept bytes t given ranges in
+    (t : Tree) → Spells core_module bytes t → (given : List ℕ) × (run (asks_of (Alone no_renaming)) z (visits t) ≡ accepted given m) × Kept bytes t given ranges in
     let p = given c (Alone no_renaming) bytes m out view (subst P same g) in record {
       output = view out;
       counts = m.counts ∷ [];

@@ -1,5 +1,5 @@
 -- What is printed of the output of each command.
-use Rattle.std.proofs.Common.{◌≡◌, ◌<◌, ◌≤◌, ◌++◌, ℕ, inl, inr, List, [], ◌∷◌, length, refl, sym, ap, ◌∙◌, subst, arith}
+use Rattle.std.proofs.Common.{◌≡◌, ◌<◌, ◌≤◌, ◌++◌, ℕ, inl, inr, List, [], ◌∷◌, length, Result, Ok, Err, IfOk, refl, sym, ap, ◌∙◌, subst, arith}
 use Rattle.reencode_hooks.specs.Renamings.{Renaming, no_renaming}
 use Rattle.reencode_tool.specs.declared.answer.Answer.{Answer}
 use Rattle.reencode_tool.specs.declared.answer.Answer.TheVariants.{NoMemory, BadRenaming, ShelfFault, TooLong}
@@ -32,6 +32,11 @@ pub kept_printed : {c : ℕ} {bytes text : List ℕ} {rs : Renamers} → rs ≡ 
 kept_printed {c} {bytes} {text} same h =
     let P : Renamers → Type 0 = λ z. Printed keep_report c z bytes text in
     subst P (sym same) (record { output = h.output; counts = h.counts; reencoded = h.reencoded; ranges = h.ranges; kept = h.kept }, h.told)
+
+-- what an answer says, of another fact that follows
+pub each_ok : {A E : Type 0} (r : Result A E) (P Q : A → Type 0) → ((a : A) → P a → Q a) → IfOk r P → IfOk r Q
+each_ok (Ok a) P Q f h = f a h
+each_ok (Err e) P Q f h = tt
 
 -- ---- the second of two files
 

@@ -246,13 +246,15 @@ pub fn make<F: Shelf, S: Source>(
 {
     let renamers = renamers_of(alloc, job.command, shelf)?;
     let bytes = bytes_of(alloc, job.command, job.is_text, input)?;
-    let (output, tail) = shown(alloc, job.command, renamers, bytes.as_slice(), job.ceiling)?;
-    let Ok(buffer) = zeros(alloc, PIECE) else {
-        return Err(Answer::NoMemory);
-    };
-    Ok(Ready {
-        output,
-        tail,
-        buffer,
-    })
+    match shown(alloc, job.command, renamers, bytes.as_slice(), job.ceiling) {
+        Ok(made) => match zeros(alloc, PIECE) {
+            Ok(buffer) => Ok(Ready {
+                output: made.0,
+                tail: made.1,
+                buffer,
+            }),
+            Err(_) => Err(Answer::NoMemory),
+        },
+        Err(answer) => Err(answer),
+    }
 }

@@ -73,6 +73,42 @@ words=generate 1000001
 status=2
 err=USAGE
 
+# Counts and sizes that the bytes do not hold, long numbers, and what stands behind the last row.
+words=-x plain
+text=0061736d01000000018080808010
+status=5
+err=parse error at 8/
+
+words=-x plain
+text=0061736d0100000001ffffffff0f
+status=5
+err=parse error at 8/
+
+words=-x plain
+text=0061736d010000008000
+status=5
+err=parse error at 8/
+
+words=-x plain
+text=0061736d010000000303010000
+status=5
+err=parse error at 8/
+
+words=-x plain
+text=0061736d010000000305ffffffff0f
+status=5
+err=parse error at 8/
+
+words=-x plain
+text=0061736d0100000001010003060100
+status=5
+err=parse error at 11/
+
+# A run of 4,294,967,295 locals in a body without operators.
+words=-x plain
+text=0061736d010000000a09010701ffffffff0f7f
+out=0061736d010000000a09010701ffffffff0f7f/asked section_hook 2/
+
 # A ceiling of 6, 8 and 9: the type section has 7 bytes, the code section 9.
 words=-x -m 6 plain
 status=10
@@ -524,7 +560,7 @@ fn ends_of_runs(rt: HostRuntime) -> Result<(), Fail> {
         assert_eq!(rt; ends(rt.alloc(), case), Some((true, true, true)), "{case}");
         runs = runs.saturating_add(1);
     }
-    assert_eq!(rt; runs, 68);
+    assert_eq!(rt; runs, 75);
     Ok(())
 }
 
