@@ -15,7 +15,7 @@ use wasm_shapes::Space;
 use wasm_write as w;
 
 /// The index of a type. `CanonicalizedHeapTypeReference` comes for one inside a recursion group.
-pub(crate) fn type_index_unpacked<T: ReencodeIndices>(
+pub fn type_index_unpacked<T: ReencodeIndices>(
     reencoder: &mut T,
     ty: r::UnpackedIndex,
 ) -> Result<u32, Error<T::Error>>
@@ -30,7 +30,7 @@ pub(crate) fn type_index_unpacked<T: ReencodeIndices>(
 }
 
 /// The index of what is exported, by the hook of its kind.
-pub(crate) fn external_index<T: ReencodeIndices>(
+pub fn external_index<T: ReencodeIndices>(
     reencoder: &mut T,
     kind: r::ExternalKind,
     index: u32,
@@ -72,8 +72,8 @@ pub(crate) fn core_index<T: ReencodeIndices>(
     }
 }
 
-/// Where a memory access goes: its memory, by the hook of memories, also where it was left out.
-pub(crate) fn mem_arg<T: ReencodeIndices>(
+/// Where a memory access goes (section 5.4.6): its memory, also where it was left out. The alignment and the offset stay.
+pub fn mem_arg<T: ReencodeIndices>(
     reencoder: &mut T,
     arg: r::MemArg,
 ) -> Result<w::MemArg, Error<T::Error>>
@@ -89,8 +89,8 @@ pub(crate) fn mem_arg<T: ReencodeIndices>(
     })
 }
 
-/// What a block catches: its tag, where it has one. The label stays.
-pub(crate) fn catch<T: ReencodeIndices>(
+/// What a block catches (section 5.4.1): its tag, where it has one. The label stays.
+pub fn catch<T: ReencodeIndices>(
     reencoder: &mut T,
     arg: r::Catch,
 ) -> Result<w::Catch, Error<T::Error>>
@@ -113,7 +113,7 @@ pub(crate) fn catch<T: ReencodeIndices>(
 }
 
 /// How a resumed continuation's tag is handled: the tag. The label stays.
-pub(crate) fn handle<T: ReencodeIndices>(
+pub fn handle<T: ReencodeIndices>(
     reencoder: &mut T,
     on: r::Handle,
 ) -> Result<w::Handle, Error<T::Error>>

@@ -62,7 +62,7 @@ pub trait ReencodeItems: ReencodeIndices {
             write.abstract_tree self.new result }
         ensures sure { IsTrue Self.keeps_defaults → NeverWants Self.sure result }
     {
-        Ok(kinds::abstract_heap_type(value))
+        Ok(kinds::abstract_heap_type(self, value))
     }
 
     /// An array by the type of its elements (section 5.3.8).
@@ -97,7 +97,7 @@ pub trait ReencodeItems: ReencodeIndices {
             (λ kind. rows.item_tree kind index) self.new result }
         ensures sure { IsTrue Self.keeps_defaults → NeverWants Self.sure result }
     {
-        Ok(kinds::export_kind(external_kind))
+        Ok(kinds::export_kind(self, external_kind))
     }
 
     /// A field of a structure or of an array (section 5.3.8).
@@ -255,7 +255,7 @@ pub trait ReencodeItems: ReencodeIndices {
             write.memory_type_tree self.new result }
         ensures sure { IsTrue Self.keeps_defaults → NeverWants Self.sure result }
     {
-        Ok(kinds::memory_type(memory_ty))
+        Ok(kinds::memory_type(self, memory_ty))
     }
 
     /// A global: its type, by the method `val_type`, and whether it may change (section 5.3.13).
@@ -277,7 +277,7 @@ pub trait ReencodeItems: ReencodeIndices {
             self.new result }
         ensures sure { IsTrue Self.keeps_defaults → NeverWants Self.sure result }
     {
-        Ok(kinds::tag_kind(kind))
+        Ok(kinds::tag_kind(self, kind))
     }
 
     /// A tag, by the index of its function type (section 5.3.14).
@@ -348,7 +348,7 @@ pub trait ReencodeItems: ReencodeIndices {
             ordering_name self.new result }
         ensures sure { IsTrue Self.keeps_defaults → NeverWants Self.sure result }
     {
-        Ok(kinds::ordering(arg))
+        Ok(kinds::ordering(self, arg))
     }
 
     /// A floating-point number of 32 bits, by its bits.
@@ -357,7 +357,7 @@ pub trait ReencodeItems: ReencodeIndices {
             → Gives (accepted arg.0 self.old) (λ made. made.0) self.new result }
         ensures sure { IsTrue Self.keeps_defaults → NeverWants Self.sure result }
     {
-        Ok(kinds::ieee32_arg(arg))
+        Ok(kinds::ieee32_arg(self, arg))
     }
 
     /// A floating-point number of 64 bits, by its bits.
@@ -366,7 +366,7 @@ pub trait ReencodeItems: ReencodeIndices {
             → Gives (accepted arg.0 self.old) (λ made. made.0) self.new result }
         ensures sure { IsTrue Self.keeps_defaults → NeverWants Self.sure result }
     {
-        Ok(kinds::ieee64_arg(arg))
+        Ok(kinds::ieee64_arg(self, arg))
     }
 
     /// An immediate of an operator (section 5.4) that has a kind: its types, its memory access, what it catches or handles,

@@ -1,77 +1,30 @@
 //! The default bodies of `ReencodeItems`, as functions of any reencoder.
-ghost use Rattle.std.specs.Prelude.{◌≡◌, ℕ, IsTrue, IsSome, IfOk, length, map};
+//!
+//! Those whose bodies call no method of `ReencodeItems` are bounded by `ReencodeIndices` alone, so that an override can call
+//! them.
+ghost use Rattle.std.specs.Prelude.{◌≡◌, IsTrue, IsSome, IfOk, length, map};
 ghost use Rattle.reencode_hooks.specs.Run.{LeavesVisited, NeverWants, ask};
 ghost use Rattle.wasm_read.specs.Expressions.{expr_tree};
 ghost use Rattle.wasm_read.specs.Immediates as immediates;
 ghost use Rattle.wasm_read.specs.Types as read;
-ghost use Rattle.wasm_shapes.specs.Tree.{Tree, visits};
+ghost use Rattle.wasm_shapes.specs.Tree.{visits};
 ghost use Rattle.wasm_shapes.specs.Types.{expression_of, vector_tree};
 ghost use Rattle.wasm_write.specs.Instructions as instructions;
-ghost use Rattle.wasm_write.specs.Rows as rows;
 ghost use Rattle.wasm_write.specs.Types as write;
 ghost use Rattle.reencode_items.specs.Maps.{LeavesOperator, Maps, MovesOn, ParsesOperator};
-ghost use Rattle.reencode_items.specs.Orderings.{read_ordering_name, ordering_name};
 
+pub use crate::indices::{catch, external_index, handle, mem_arg, type_index_unpacked};
 use crate::items::ReencodeItems;
-use crate::{bodies, indices, kinds};
+pub use crate::kinds::{
+    abstract_heap_type, export_kind, ieee32_arg, ieee64_arg, memory_type, ordering, tag_kind,
+};
+use crate::{bodies, indices};
 use reencode_hooks::Error;
 use std::alloc::Global;
 use wasm_leb::List;
 use wasm_read as r;
 use wasm_shapes::END;
 use wasm_write as w;
-
-/// A heap type that names no type of the module (WebAssembly Core Specification 3.0, section 5.3.3).
-pub fn abstract_heap_type<T: ReencodeItems>(
-    reencoder: &mut T,
-    value: r::AbstractHeapType,
-) -> w::AbstractHeapType
-    ensures value { write.abstract_tree result ≡ read.abstract_tree value }
-    ensures state { reencoder.new ≡ reencoder.old }
-{
-    let _ = reencoder;
-    kinds::abstract_heap_type(value)
-}
-
-/// The kind of what is exported (section 5.5.10): with each index it is the same item. An exact function becomes a
-/// function.
-pub fn export_kind<T: ReencodeItems>(
-    reencoder: &mut T,
-    external_kind: r::ExternalKind,
-) -> w::ExportKind
-    ensures value { (index : ℕ) → rows.item_tree result index ≡ read.item_tree external_kind index }
-    ensures state { reencoder.new ≡ reencoder.old }
-{
-    let _ = reencoder;
-    kinds::export_kind(external_kind)
-}
-
-/// The index of a type. `CanonicalizedHeapTypeReference` comes for one inside a recursion group.
-pub fn type_index_unpacked<T: ReencodeItems>(
-    reencoder: &mut T,
-    ty: r::UnpackedIndex,
-) -> Result<u32, Error<T::Error>>
-    ensures default { IsTrue T.keeps_defaults
-        → Maps T.reply T.next reencoder.old (read.type_index ty)
-        write.type_index reencoder.new result }
-    ensures sure { IsTrue T.keeps_defaults → NeverWants T.sure result }
-{
-    indices::type_index_unpacked(reencoder, ty)
-}
-
-/// The index of what is exported, by the hook of its kind.
-pub fn external_index<T: ReencodeItems>(
-    reencoder: &mut T,
-    kind: r::ExternalKind,
-    index: u32,
-) -> Result<u32, Error<T::Error>>
-    ensures default { IsTrue T.keeps_defaults
-        → Maps T.reply T.next reencoder.old (read.item_tree kind index)
-        (read.item_tree kind) reencoder.new result }
-    ensures sure { IsTrue T.keeps_defaults → NeverWants T.sure result }
-{
-    indices::external_index(reencoder, kind, index)
-}
 
 /// An array by the type of its elements (section 5.3.8).
 pub fn array_type<T: ReencodeItems>(
@@ -263,15 +216,6 @@ pub fn table_type<T: ReencodeItems>(
     bodies::table_type!(reencoder, table_ty)
 }
 
-/// A memory by its limits (section 5.3.12).
-pub fn memory_type<T: ReencodeItems>(reencoder: &mut T, memory_ty: r::MemoryType) -> w::MemoryType
-    ensures value { write.memory_type_tree result ≡ read.memory_type_tree memory_ty }
-    ensures state { reencoder.new ≡ reencoder.old }
-{
-    let _ = reencoder;
-    kinds::memory_type(memory_ty)
-}
-
 /// A global: its type, by the method `val_type`, and whether it may change (section 5.3.13).
 pub fn global_type<T: ReencodeItems>(
     reencoder: &mut T,
@@ -283,17 +227,6 @@ pub fn global_type<T: ReencodeItems>(
     ensures sure { IsTrue T.keeps_defaults → NeverWants T.sure result }
 {
     bodies::global_type!(reencoder, global_ty)
-}
-
-/// What a tag is for (section 5.3.14): with each index it is the same tag.
-pub fn tag_kind<T: ReencodeItems>(reencoder: &mut T, kind: r::TagKind) -> w::TagKind
-    ensures value { (index : ℕ) →
-        write.tag_type_tree (record { kind = result; func_type_idx = index })
-        ≡ read.tag_type_tree (record { kind = kind; func_type_idx = index }) }
-    ensures state { reencoder.new ≡ reencoder.old }
-{
-    let _ = reencoder;
-    kinds::tag_kind(kind)
 }
 
 /// A tag, by the index of its function type (section 5.3.14).
@@ -333,72 +266,6 @@ pub fn block_type<T: ReencodeItems>(
     ensures sure { IsTrue T.keeps_defaults → NeverWants T.sure result }
 {
     bodies::block_type!(reencoder, arg)
-}
-
-/// Where a memory access goes (section 5.4.6): its memory, also where it was left out. The alignment and the offset stay.
-pub fn mem_arg<T: ReencodeItems>(
-    reencoder: &mut T,
-    arg: r::MemArg,
-) -> Result<w::MemArg, Error<T::Error>>
-    ensures default { IsTrue T.keeps_defaults
-        → Maps T.reply T.next reencoder.old (Tree.mem arg.align arg.memory arg.offset)
-        (λ made. Tree.mem made.align made.memory made.offset) reencoder.new result }
-    ensures sure { IsTrue T.keeps_defaults → NeverWants T.sure result }
-{
-    indices::mem_arg(reencoder, arg)
-}
-
-/// What a block catches (section 5.4.1): its tag, where it has one. The label stays.
-pub fn catch<T: ReencodeItems>(
-    reencoder: &mut T,
-    arg: r::Catch,
-) -> Result<w::Catch, Error<T::Error>>
-    ensures default { IsTrue T.keeps_defaults
-        → Maps T.reply T.next reencoder.old (immediates.catch_tree arg)
-        instructions.catch_tree reencoder.new result }
-    ensures sure { IsTrue T.keeps_defaults → NeverWants T.sure result }
-{
-    indices::catch(reencoder, arg)
-}
-
-/// How a resumed continuation's tag is handled: the tag. The label stays.
-pub fn handle<T: ReencodeItems>(
-    reencoder: &mut T,
-    on: r::Handle,
-) -> Result<w::Handle, Error<T::Error>>
-    ensures default { IsTrue T.keeps_defaults
-        → Maps T.reply T.next reencoder.old (immediates.handle_tree on)
-        instructions.handle_tree reencoder.new result }
-    ensures sure { IsTrue T.keeps_defaults → NeverWants T.sure result }
-{
-    indices::handle(reencoder, on)
-}
-
-/// The order of an atomic access: that of the same name. No operator of the table has one.
-pub fn ordering<T: ReencodeItems>(reencoder: &mut T, arg: r::Ordering) -> w::Ordering
-    ensures value { ordering_name result ≡ read_ordering_name arg }
-    ensures state { reencoder.new ≡ reencoder.old }
-{
-    let _ = reencoder;
-    kinds::ordering(arg)
-}
-
-/// A floating-point number of 32 bits, by its bits.
-pub fn ieee32_arg<T: ReencodeItems>(reencoder: &mut T, arg: r::Ieee32) -> w::Ieee32
-    ensures value { result.0 ≡ arg.0 }
-    ensures state { reencoder.new ≡ reencoder.old }
-{
-    let _ = reencoder;
-    kinds::ieee32_arg(arg)
-}
-
-/// A floating-point number of 64 bits, by its bits.
-pub fn ieee64_arg<T: ReencodeItems>(reencoder: &mut T, arg: r::Ieee64) -> w::Ieee64
-    ensures value { result.0 ≡ arg.0 }
-    ensures state { reencoder.new ≡ reencoder.old }
-{
-    let _ = reencoder;
-    kinds::ieee64_arg(arg)
 }
 
 /// An immediate of an operator (section 5.4) that has a kind: its types, its memory access, what it catches or handles, its
