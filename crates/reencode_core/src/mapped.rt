@@ -1,6 +1,9 @@
-//! Sections whose rows are mapped by hooks and by methods of items alone: one loop for all of them.
+//! Sections whose rows are mapped by hooks and by methods of items alone, one loop for all of them: `utils` has them, and the
+//! methods call them.
 ghost use Rattle.std.specs.Prelude.{IsTrue, ℕ};
+ghost use Rattle.wasm_shapes.specs.declared.SectionId.TheVariants as ids;
 ghost use Rattle.wasm_shapes.specs.Drawn.{IsItem};
+ghost use Rattle.wasm_shapes.specs.Module.{row_of};
 ghost use Rattle.reencode_hooks.specs.Run.{NeverWants, ask};
 ghost use Rattle.reencode_items.specs.Maps.{Maps};
 ghost use Rattle.reencode_core.specs.Rows.{KeepsFront, GivesRows};
@@ -77,4 +80,64 @@ where
         sink.add(&made)?;
     }
     Ok(())
+}
+
+/// Maps the rows that the reader still has, each index by `type_index`, and adds each row once its index was answered.
+pub fn parse_function_section<T: ReencodeItems>(
+    reencoder: &mut T,
+    alloc: Global,
+    functions: &mut w::FunctionSection,
+    section: r::FunctionSectionReader<'_>,
+) -> Result<(), Error<T::Error>>
+    ensures kept { KeepsFront functions.old functions.new }
+    ensures default { IsTrue T.keeps_defaults → (c : ℕ)
+        → GivesRows (ask T.reply T.next) c (row_of ids.Function) section.entry
+        (reencoder.old, functions.old) (reencoder.new, functions.new) result }
+    ensures after_error { IsTrue T.keeps_defaults → LeavesMade T.sure (ask T.reply T.next) (rows_in (row_of ids.Function) section.entry)
+        reencoder.old reencoder.new result }
+    ensures wants { IsTrue T.keeps_defaults → IsTrue T.sure → (c : ℕ)
+        → HoldsRows (ask T.reply T.next) c (row_of ids.Function) section.entry
+        (reencoder.old, functions.old) (reencoder.new, functions.new) result }
+{
+    map_section(reencoder, alloc, functions, section)
+}
+
+/// Maps the rows that the reader still has, each by `memory_type`, and adds each row once it is mapped.
+pub fn parse_memory_section<T: ReencodeItems>(
+    reencoder: &mut T,
+    alloc: Global,
+    memories: &mut w::MemorySection,
+    section: r::MemorySectionReader<'_>,
+) -> Result<(), Error<T::Error>>
+    ensures kept { KeepsFront memories.old memories.new }
+    ensures default { IsTrue T.keeps_defaults → (c : ℕ)
+        → GivesRows (ask T.reply T.next) c (row_of ids.Memory) section.entry
+        (reencoder.old, memories.old) (reencoder.new, memories.new) result }
+    ensures after_error { IsTrue T.keeps_defaults → LeavesMade T.sure (ask T.reply T.next) (rows_in (row_of ids.Memory) section.entry)
+        reencoder.old reencoder.new result }
+    ensures wants { IsTrue T.keeps_defaults → IsTrue T.sure → (c : ℕ)
+        → HoldsRows (ask T.reply T.next) c (row_of ids.Memory) section.entry
+        (reencoder.old, memories.old) (reencoder.new, memories.new) result }
+{
+    map_section(reencoder, alloc, memories, section)
+}
+
+/// Maps the rows that the reader still has, each by `tag_type`, and adds each row once it is mapped.
+pub fn parse_tag_section<T: ReencodeItems>(
+    reencoder: &mut T,
+    alloc: Global,
+    tags: &mut w::TagSection,
+    section: r::TagSectionReader<'_>,
+) -> Result<(), Error<T::Error>>
+    ensures kept { KeepsFront tags.old tags.new }
+    ensures default { IsTrue T.keeps_defaults → (c : ℕ)
+        → GivesRows (ask T.reply T.next) c (row_of ids.Tag) section.entry
+        (reencoder.old, tags.old) (reencoder.new, tags.new) result }
+    ensures after_error { IsTrue T.keeps_defaults → LeavesMade T.sure (ask T.reply T.next) (rows_in (row_of ids.Tag) section.entry) reencoder.old
+        reencoder.new result }
+    ensures wants { IsTrue T.keeps_defaults → IsTrue T.sure → (c : ℕ)
+        → HoldsRows (ask T.reply T.next) c (row_of ids.Tag) section.entry
+        (reencoder.old, tags.old) (reencoder.new, tags.new) result }
+{
+    map_section(reencoder, alloc, tags, section)
 }

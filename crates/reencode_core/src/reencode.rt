@@ -96,7 +96,7 @@ pub trait Reencode: ReencodeItems {
             → HoldsRows (ask Self.reply Self.next) c (row_of kinds.Function) section.entry
             (self.old, functions.old) (self.new, functions.new) result }
     {
-        mapped::map_section(self, alloc, functions, section)
+        mapped::parse_function_section(self, alloc, functions, section)
     }
 
     /// Maps the rows that the reader still has, each by `parse_imports`.
@@ -134,7 +134,7 @@ pub trait Reencode: ReencodeItems {
             → LeavesVisited (ask Self.reply Self.next) self.old
             (visits (read.import_tree imports.entry)) self.new result }
     {
-        shared::parse_imports(self, import_section, imports)
+        shared::parse_imports(self, alloc, import_section, imports)
     }
 
     /// Maps what is imported by `parse_imports`, as an entry of its own.
@@ -210,7 +210,7 @@ pub trait Reencode: ReencodeItems {
             → HoldsRows (ask Self.reply Self.next) c (row_of kinds.Memory) section.entry
             (self.old, memories.old) (self.new, memories.new) result }
     {
-        mapped::map_section(self, alloc, memories, section)
+        mapped::parse_memory_section(self, alloc, memories, section)
     }
 
     /// Maps the rows that the reader still has, each by `parse_global`.
@@ -268,7 +268,7 @@ pub trait Reencode: ReencodeItems {
             → HoldsRows (ask Self.reply Self.next) c (row_of kinds.Tag) section.entry
             (self.old, tags.old) (self.new, tags.new) result }
     {
-        mapped::map_section(self, alloc, tags, section)
+        mapped::parse_tag_section(self, alloc, tags, section)
     }
 
     /// Maps the rows that the reader still has, each by `parse_export`.
@@ -496,10 +496,7 @@ pub trait Reencode: ReencodeItems {
             write.custom_section_tree self.new result }
         ensures sure { IsTrue Self.keeps_defaults → NeverWants Self.sure result }
     {
-        Ok(w::CustomSection {
-            name: section.name,
-            contents: section.contents,
-        })
+        Ok(shared::custom_section(self, section))
     }
 
     /// Maps a custom section and adds it: one named `name` by `custom_name_section`, and any other by `custom_section`. It calls

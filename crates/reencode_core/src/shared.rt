@@ -1,26 +1,23 @@
-//! The bodies that call methods of the traits below alone: one for a method and its function.
+//! The bodies that call methods of the traits below alone, each once: `utils` has them, and the methods call them.
 ghost use Rattle.std.specs.Prelude.{◌≡◌, ◌≤◌, IfErr, IsTrue, [], ℕ};
-ghost use Rattle.wasm_shapes.specs.declared.SectionId.TheVariants as kinds;
-ghost use Rattle.wasm_shapes.specs.Module.{CoreReading, row_of, unknown_tree_of};
+ghost use Rattle.wasm_shapes.specs.Module.{unknown_tree_of};
 ghost use Rattle.wasm_shapes.specs.Tree.{visits};
-ghost use Rattle.wasm_read.specs.declared.types.Imports.TheVariants as imported;
 ghost use Rattle.wasm_read.specs.Types as read;
 ghost use Rattle.wasm_write.specs.Rows.{elements_tree};
 ghost use Rattle.wasm_write.specs.Types as write;
 ghost use Rattle.reencode_hooks.specs.Run.{LeavesVisited, ask};
 ghost use Rattle.reencode_items.specs.Maps.{Maps};
-ghost use Rattle.reencode_core.specs.Rows.{KeepsFront, GivesRow, GivesRows};
-ghost use Rattle.reencode_core.specs.Bodies.{KeepsCode, GivesLocals, GivesBody};
-ghost use Rattle.reencode_core.specs.Sections.{KeepsModule, ReadsAs, GivesAdded, GivesSection};
+ghost use Rattle.reencode_core.specs.Rows.{KeepsFront, GivesRow};
+ghost use Rattle.reencode_core.specs.Bodies.{GivesLocals};
+ghost use Rattle.reencode_core.specs.Sections.{KeepsModule, GivesAdded};
 ghost use Rattle.reencode_core.specs.Errors.{IfParse};
-ghost use Rattle.reencode_core.specs.Core.{GivesCore};
 ghost use Rattle.reencode_core.specs.Elements.{answered_table, asked_table};
 ghost use Rattle.reencode_core.specs.Leaves.{LeavesMade, locals_in};
 
 use crate::imports::single;
 use crate::lists::map_items;
 use crate::sections::add_section;
-use reencode_hooks::Error;
+use reencode_hooks::{Error, ReencodeIndices};
 use reencode_items::ReencodeItems;
 use std::alloc::Global;
 use wasm_leb::List;
@@ -28,7 +25,7 @@ use wasm_read as r;
 use wasm_write as w;
 
 /// Maps each type of a group by `sub_type`.
-pub(crate) fn parse_recursive_type_group<T: ReencodeItems>(
+pub fn parse_recursive_type_group<T: ReencodeItems>(
     reencoder: &mut T,
     alloc: Global,
     rec_group: r::RecGroup,
@@ -52,8 +49,9 @@ pub(crate) fn parse_recursive_type_group<T: ReencodeItems>(
 }
 
 /// Maps an entry of an import section, its type by `entity_type`, and adds it.
-pub(crate) fn parse_imports<T: ReencodeItems>(
+pub fn parse_imports<T: ReencodeItems>(
     reencoder: &mut T,
+    _alloc: Global,
     import_section: &mut w::ImportSection,
     imports: r::Imports<'_>,
 ) -> Result<(), Error<T::Error>>
@@ -77,7 +75,7 @@ pub(crate) fn parse_imports<T: ReencodeItems>(
 }
 
 /// Maps a table by `table_type`, and the expression of its first value by `const_expr` where it has one, and adds it.
-pub(crate) fn parse_table<T: ReencodeItems>(
+pub fn parse_table<T: ReencodeItems>(
     reencoder: &mut T,
     alloc: Global,
     tables: &mut w::TableSection,
@@ -106,7 +104,7 @@ pub(crate) fn parse_table<T: ReencodeItems>(
 }
 
 /// Maps a global by `global_type`, the expression of its first value by `const_expr`, and adds it.
-pub(crate) fn parse_global<T: ReencodeItems>(
+pub fn parse_global<T: ReencodeItems>(
     reencoder: &mut T,
     alloc: Global,
     globals: &mut w::GlobalSection,
@@ -127,7 +125,7 @@ pub(crate) fn parse_global<T: ReencodeItems>(
 }
 
 /// Maps an export by `export_kind` and `external_index`, and adds it.
-pub(crate) fn parse_export<T: ReencodeItems>(
+pub fn parse_export<T: ReencodeItems>(
     reencoder: &mut T,
     exports: &mut w::ExportSection,
     export: r::Export<'_>,
@@ -148,7 +146,7 @@ pub(crate) fn parse_export<T: ReencodeItems>(
 
 /// Maps a data segment and adds it. The memory of an active one is mapped by `memory_index`, and then its offset by
 /// `const_expr`.
-pub(crate) fn parse_data<T: ReencodeItems>(
+pub fn parse_data<T: ReencodeItems>(
     reencoder: &mut T,
     alloc: Global,
     segments: &mut w::DataSection,
@@ -180,9 +178,9 @@ pub(crate) fn parse_data<T: ReencodeItems>(
     }
 }
 
-/// Maps what an element segment lists: functions each by `function_index`, or expressions each by `const_expr` and then
-/// their type by `ref_type`.
-pub(crate) fn element_items<T: ReencodeItems>(
+/// Maps what an element segment lists: functions each by `function_index`, or expressions each by `const_expr` and
+/// then their type by `ref_type`.
+pub fn element_items<T: ReencodeItems>(
     reencoder: &mut T,
     alloc: Global,
     items: r::ElementItems<'_>,
@@ -230,7 +228,7 @@ pub(crate) fn answered_table(table_index: Option<u32>, answer: u32) -> Option<u3
 }
 
 /// A function with the locals that a body begins with, each type by `val_type`, and no operator.
-pub(crate) fn new_function_with_parsed_locals<T: ReencodeItems>(
+pub fn new_function_with_parsed_locals<T: ReencodeItems>(
     reencoder: &mut T,
     alloc: Global,
     func: &r::FunctionBody<'_>,
@@ -250,8 +248,22 @@ pub(crate) fn new_function_with_parsed_locals<T: ReencodeItems>(
     Ok(w::Function::new(alloc, &mapped)?)
 }
 
-/// Adds a section of an id that no kind has, by its bytes.
-pub(crate) fn parse_unknown_section<T: ReencodeItems>(
+/// A custom section as it is, whatever its name.
+pub fn custom_section<'a, T: ReencodeIndices>(
+    reencoder: &mut T,
+    section: r::CustomSection<'a>,
+) -> w::CustomSection<'a>
+    ensures is { write.custom_section_tree result ≡ read.custom_tree section.entry }
+    ensures state { reencoder.new ≡ reencoder.old }
+{
+    w::CustomSection {
+        name: section.name,
+        contents: section.contents,
+    }
+}
+
+/// Adds a section of an id that no kind has, by its bytes. It calls no section hook.
+pub fn parse_unknown_section<T: ReencodeIndices>(
     reencoder: &mut T,
     module: &mut w::Module,
     id: u8,

@@ -4,7 +4,7 @@ ghost use Rattle.wasm_shapes.specs.Namings.{names_tree};
 ghost use Rattle.wasm_shapes.specs.Tree.{normal};
 ghost use Rattle.wasm_shapes.specs.Types.{is_core, vector_tree};
 ghost use Rattle.wasm_read.specs.declared.types.Name.{Name};
-ghost use Rattle.wasm_read.specs.Subsections.{Content, IsRaw, ReadsName, content_of};
+ghost use Rattle.wasm_read.specs.Subsections.{Content, IsRaw, content_of};
 ghost use Rattle.wasm_write.specs.Bodies.{with_row};
 ghost use Rattle.wasm_write.specs.Faults.{IfTooLarge};
 ghost use Rattle.wasm_write.specs.Names.{PassesCeiling};
@@ -15,8 +15,7 @@ ghost use Rattle.reencode_core.specs.Names.{GivesSubsection, IsIndirect, names_i
 
 use crate::indices::ask_index;
 use crate::names::{map_indirect_names, map_names};
-use reencode_hooks::Error;
-use reencode_items::ReencodeItems;
+use reencode_hooks::{Error, ReencodeIndices};
 use std::alloc::Global;
 use wasm_read as r;
 use wasm_shapes::Space;
@@ -82,7 +81,7 @@ fn add_indirect_names(
 }
 
 /// Maps the names of the indices of a space and adds them.
-fn parse_names<T: ReencodeItems>(
+fn parse_names<T: ReencodeIndices>(
     reencoder: &mut T,
     alloc: Global,
     names: &mut w::NameSection,
@@ -111,7 +110,7 @@ fn parse_names<T: ReencodeItems>(
 }
 
 /// Maps the outer indices of maps of names, which are of a space, and adds the maps.
-fn parse_indirect_names<T: ReencodeItems>(
+fn parse_indirect_names<T: ReencodeIndices>(
     reencoder: &mut T,
     alloc: Global,
     names: &mut w::NameSection,
@@ -142,7 +141,7 @@ fn parse_indirect_names<T: ReencodeItems>(
 
 /// Maps a name subsection and adds it. The indices of a map are mapped by the method of their space; of an indirect map the
 /// outer indices alone are mapped. A `ParseError` holds the place in the map behind the entries that were accepted.
-pub(crate) fn parse_custom_name_subsection<T: ReencodeItems>(
+pub fn parse_custom_name_subsection<T: ReencodeIndices>(
     reencoder: &mut T,
     alloc: Global,
     names: &mut w::NameSection,
