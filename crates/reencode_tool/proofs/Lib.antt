@@ -2,7 +2,6 @@ mod AnswerLemmas
 mod Blank
 mod ByRule
 mod Decided
-mod Digits
 mod Keeping
 mod KeptLines
 mod Numerals
@@ -12,3 +11,4 @@ mod Refusals
 mod Reports
 mod Shelves
 mod Shortest
+mod WithoutBlanks

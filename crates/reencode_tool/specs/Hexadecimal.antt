@@ -1,5 +1,5 @@
 -- Which bytes a hexadecimal text stands for.
-use Rattle.std.specs.Prelude.{◌≡◌, ℕ, ◌==◌, ◌||◌, Bool, true, false, not, filter, MatchOption, Option, Some, List, if◌then◌else◌}
+use Rattle.std.specs.Prelude.{ℕ, ◌==◌, ◌||◌, Bool, not, filter, Option, Some, List, if◌then◌else◌}
 use Rattle.std.specs.Result.{result_ok}
 use Rattle.hex.specs.Hex.{decode_of}
 
@@ -18,7 +18,3 @@ binary text = result_ok (decode_of (without_blanks text))
 -- the bytes that an input is, or those that it is the hexadecimal text of
 abbrev pub bytes_of : Bool → List ℕ → Option (List ℕ)
 bytes_of is_text input = if is_text then binary input else Some input
-
--- what stands for an optional number: the number, and whether there is one
-abbrev pub IsValue : Option ℕ → ℕ → Bool → Type 0
-IsValue o value is = MatchOption o (is ≡ false) (λ x. (value ≡ x) × (is ≡ true))

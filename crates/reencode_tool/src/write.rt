@@ -3,7 +3,6 @@ ghost use Rattle.std.specs.Prelude.{◌≡◌, ℕ, ◌*◌, ◌≤◌, length, 
 ghost use Rattle.hex.specs.Hex.{encode_lower};
 ghost use Rattle.reencode_tool.specs.Outside.{Rose, WhereTold, followed, TookFront};
 
-use crate::hexadecimal::encode_into;
 use crate::outside::{Failed, Sink};
 
 /// Writes a text, in as many writes as the sink wants. After a failure a front of it was taken.
@@ -33,7 +32,7 @@ fn write_piece<K: Sink>(out: &mut K, bytes: &[u8], piece: &mut [u8]) -> Result<(
     ensures front { OnErr result
         (TookFront (K.held out.old) (K.held out.new) (encode_lower bytes.now)) }
 {
-    encode_into(bytes, &mut *piece);
+    hex::encode_to_slice(bytes, &mut *piece).unwrap();
     write_all(out, piece)
 }
 

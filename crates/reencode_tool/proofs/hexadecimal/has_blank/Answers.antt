@@ -1,6 +1,6 @@
 use Rattle.std.proofs.Common.{arith}
 use Rattle.std.proofs.lemmas.List.{take_all}
-use Rattle.reencode_tool.proofs.Digits.{none_more}
+use Rattle.reencode_tool.proofs.WithoutBlanks.{none_more}
 use Rattle.reencode_tool.proofs.hexadecimal.has_blank.Goals as goal
 
 pub bytes-preserved : goal.bytes-preserved
