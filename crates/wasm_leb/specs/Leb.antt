@@ -1,4 +1,4 @@
--- LEB128 numbers.
+-- LEB128 numbers (WebAssembly Core Specification 3.0, section 5.2.2).
 use Rattle.std.specs.Prelude.{◌≡◌, ℕ, zero, suc, ◌+◌, ◌-◌, ◌*◌, ◌/◌, ◌%◌, ◌^◌, ◌<◌, ◌≤◌, ℤ, pos, negsuc, List, [], ◌∷◌, length, nat_lt, if◌then◌else◌}
 
 -- Each byte but the last has its top bit set, and the low seven bits come lowest first. The last byte is below

@@ -14,5 +14,6 @@ BeginsNoNumber limit bits size bytes = (text left : List ℕ) (n : ℕ) → IsNu
 abbrev pub BeginsSigned : ℕ → List ℕ → ℤ → List ℕ → Type 0
 BeginsSigned bits bytes z left = (text : List ℕ) × IsSigned bits text z × (bytes ≡ text ++ left)
 
+-- they begin with no spelling of a number with sign
 abbrev pub BeginsNoSigned : ℕ → List ℕ → Type 0
 BeginsNoSigned bits bytes = (text left : List ℕ) (z : ℤ) → IsSigned bits text z → bytes ≡ text ++ left → ⊥

@@ -19,6 +19,7 @@ pub record Expression : Type 0 where
 abbrev pub expression_code : Coded Expression
 expression_code = code_by (List ℕ × List Tree) (coded× (coded_list coded_ℕ) trees_code) (λ e. (e.bytes, e.operators)) (λ p. record { bytes = p.0; operators = p.1 }) (λ e. refl)
 
+-- the tree that it stands for
 abbrev pub expr_tree : Expression → Tree
 expr_tree e = expression_of e.operators
 

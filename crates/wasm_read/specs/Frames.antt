@@ -15,6 +15,7 @@ use Rattle.wasm_read.specs.declared.types.Payload.TheVariants as payload
 abbrev pub section_number : SectionId → ℕ
 section_number k = number k
 
+-- what a payload stands for: its section in its frame
 abbrev pub frame_tree : Payload → Tree
 frame_tree (payload.Section id at body) = numbered_frame (section_number id) body.now
 frame_tree (payload.Custom at section) = custom_frame section.name.now section.contents.now

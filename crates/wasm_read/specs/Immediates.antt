@@ -106,6 +106,7 @@ imms_tree (m ∷ ms) = Tree.pair (imm_tree m) (imms_tree ms)
 abbrev pub local_tree : ℕ × ValType → Tree
 local_tree l = Tree.pair (Tree.u32 l.0) (val_type_tree l.1)
 
+-- the locals of a function behind their number
 abbrev pub locals_tree : List (ℕ × ValType) → Tree
 locals_tree ls = vector_tree (map local_tree ls)
 
@@ -116,6 +117,7 @@ pub record Operation : Type 0 where
   pub opcode : Opcode
   pub imms : List Imm
 
+-- an operator of these immediates
 abbrev pub operation : Opcode → List Imm → Operation
 operation op ms = record { opcode = op; imms = ms }
 

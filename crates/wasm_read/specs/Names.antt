@@ -1,4 +1,4 @@
--- What the readers of maps of names promise.
+-- What the readers of maps of names promise (WebAssembly Core Specification 3.0, section 7.4.1).
 use Rattle.std.specs.Prelude.{◌≡◌, ℕ, ◌+◌, ◌-◌, ◌^◌, ◌<◌, ◌⊎◌, List, [], length, Option, Some, None}
 use Rattle.wasm_leb.specs.Place.{BeginsNumber, BeginsNoNumber}
 use Rattle.wasm_shapes.specs.Tree.{Tree}

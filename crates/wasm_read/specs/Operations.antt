@@ -25,6 +25,7 @@ abbrev pub is_core_kind : ImmKind → Bool
 is_core_kind (kind.Index s) = is_core s
 is_core_kind _ = true
 
+-- each of these kinds is one of core modules
 abbrev pub AreCore : List ImmKind → Type 0
 AreCore [] = Unit {0}
 AreCore (k ∷ ks) = (is_core_kind k ≡ true) × AreCore ks

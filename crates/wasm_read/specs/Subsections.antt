@@ -1,4 +1,4 @@
--- What the reader of name sections promises.
+-- What the reader of name sections promises (WebAssembly Core Specification 3.0, section 7.4.1).
 use Rattle.std.specs.Prelude.{◌≡◌, ◌≢◌, ◌⊎◌, ℕ, ◌≤◌, List, []}
 use Rattle.wasm_shapes.specs.declared.Space.{Space}
 use Rattle.wasm_shapes.specs.declared.Space.TheVariants as space

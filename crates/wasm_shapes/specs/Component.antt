@@ -320,6 +320,7 @@ component_bodies =
     component_custom ∷ Shape.scope core_module ∷ Shape.vec instance_row ∷ Shape.vec core_type ∷ Shape.scope component ∷ Shape.vec component_instance_row ∷
     Shape.vec alias ∷ Shape.vec component_type ∷ Shape.vec canonical_function ∷ component_start ∷ Shape.vec extern_row ∷ Shape.vec component_export_row ∷ []
 
+-- the body of the sections of an id below 12
 abbrev pub component_body_of : ℕ → Shape
 component_body_of id = row_at component_bodies id
 

@@ -1,4 +1,4 @@
--- The operators: their numbers, and the kinds of their immediates.
+-- The operators: their numbers, and the kinds of their immediates (WebAssembly Core Specification 3.0, section 5.4).
 use Rattle.std.specs.Prelude.{ℕ, zero, suc, Bool, true, false, nat_le, nat_eq, not, ◌&&◌, List, [], ◌∷◌, Option, Some, None, if◌then◌else◌}
 use Rattle.wasm_shapes.specs.declared.Space.{Space}
 use Rattle.wasm_shapes.specs.declared.Space.TheVariants as space
@@ -19,6 +19,7 @@ code_from (suc p) sub = prefixed (suc p) sub
 abbrev pub code_of : Opcode → Code
 code_of op = code_from op.prefix op.sub
 
+-- a byte that stands in front of the number of an operator
 abbrev pub is_prefix : ℕ → Bool
 is_prefix b = nat_le 0xfb b && nat_le b 0xfe
 

@@ -1,4 +1,4 @@
--- Tables of kinds of sections, and the sections of a table.
+-- Tables of kinds of sections, and the sections of a table (WebAssembly Core Specification 3.0, section 5.5.2).
 use Rattle.std.specs.Prelude.{ℕ, suc, List, [], ◌∷◌, Bool, true, ◌&&◌, if◌then◌else◌, nat_eq, nat_le}
 use Rattle.wasm_shapes.specs.declared.SectionId.{SectionId}
 use Rattle.wasm_shapes.specs.declared.SectionId.TheVariants as id

@@ -1,4 +1,4 @@
--- The shapes of the tables.
+-- The shapes of the tables (WebAssembly Core Specification 3.0, sections 5.3 to 5.5).
 use Rattle.std.specs.Prelude.{ℕ, ◌+◌, List, [], ◌∷◌, Bool, true, false, ◌&&◌, ◌||◌, nat_eq, Option, Some, None}
 use Rattle.wasm_shapes.specs.declared.SectionId.{SectionId}
 use Rattle.wasm_shapes.specs.declared.Space.{Space}
@@ -19,6 +19,7 @@ abbrev pub flat : Named → Bool
 flat Named.nested = false
 flat _ = true
 
+-- What the tables of the formats are made of, as data.
 pub data Shape : Type 0 where
   -- ---- leaves
   empty : Shape
@@ -126,6 +127,7 @@ storage = choice (Shape.fixed 0x78 ∷ Shape.fixed 0x77 ∷ Shape.ref Named.valu
 abbrev pub field : Shape
 field = Shape.seq storage (one_of (0x00 ∷ 0x01 ∷ []))
 
+-- value types behind their number
 abbrev pub values : Shape
 values = Shape.vec (Shape.ref Named.value)
 

@@ -1,4 +1,4 @@
--- Which bytes spell which tree of which shape.
+-- Which bytes spell which tree of which shape (WebAssembly Core Specification 3.0, section 5).
 use Rattle.std.specs.Prelude.{◌≡◌, ◌≢◌, ℕ, ℤ, zero, suc, ◌+◌, ◌<◌, ◌≤◌, List, [], ◌∷◌, ◌++◌, length, IsUtf8, true, false, Bool, ◌⊎◌}
 use Rattle.wasm_leb.specs.Leb.{IsUnsigned, IsSignedIndex, IsSigned}
 use Rattle.wasm_shapes.specs.declared.SectionId.{SectionId}
@@ -127,6 +127,7 @@ Spelled (Tree.told k t) x = Spelled t x
 Spelled Tree.finish x = x ≡ []
 Spelled (Tree.also t u) x = (y z : List ℕ) × (x ≡ y ++ z) × Spelled t y × Spelled u z
 
+-- The tree has the shape, and the bytes spell it.
 pub record Spells (shape : Shape) (bytes : List ℕ) (tree : Tree) : Type 0 where
   pub shaped : Is shape tree
   pub spelled : Spelled tree bytes

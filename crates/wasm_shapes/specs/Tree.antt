@@ -1,4 +1,5 @@
--- What bytes mean: a tree whose leaves know how they are spelled.
+-- What bytes mean: a tree whose leaves know how they are spelled (WebAssembly Core Specification 3.0, section 5). What is
+-- asked of one follows the methods of the ported crate.
 use Rattle.std.specs.Prelude.{ℕ, ℤ, zero, suc, ◌+◌, List, [], ◌∷◌, ◌++◌, length, drop, get_or, Option, Some, None}
 use Rattle.wasm_leb.specs.Leb.{leb, signed_leb, shortest_signed}
 use Rattle.wasm_shapes.specs.declared.SectionId.{SectionId}
@@ -12,6 +13,8 @@ use Rattle.wasm_shapes.specs.Operators.{Code, plain, prefixed}
 pub data Listed : Type 0 where
   functions expressions : Listed
 
+-- What bytes mean: leaves that know how they are spelled, and nodes for parts side by side (`pair`, `swap`), items (`cons`,
+-- `vec`), options, sized bodies, rows of choices, scopes, operators, active segments, sections.
 pub data Tree : Type 0 where
   -- ---- leaves
   empty : Tree
@@ -122,7 +125,8 @@ abbrev pub placed_bytes : ℕ → List ℕ
 placed_bytes zero = leb 0
 placed_bytes (suc i) = leb 2 ++ leb (suc i)
 
--- the normal spelling
+-- the one normal spelling: shortest numbers and sizes; what may be left out is left out, but a written table of an element
+-- segment
 abbrev pub normal : Tree → List ℕ
 normal Tree.empty = []
 normal (Tree.fixed b) = b ∷ []
@@ -163,7 +167,7 @@ normal (Tree.told k t) = normal t
 normal Tree.finish = []
 normal (Tree.also t u) = normal t ++ normal u
 
--- the lengths of the sized bodies, each before the one round it
+-- the lengths of the sized bodies in closing order, each before the one round it
 abbrev pub frames : Tree → List ℕ
 frames (Tree.pair t u) = frames t ++ frames u
 frames (Tree.swap t u) = frames t ++ frames u
@@ -224,6 +228,8 @@ visits_from last Tree.finish = Section last None ∷ []
 visits_from last (Tree.also t u) = before last t ++ (visits_from None t ++ visits_from (kind last t) u)
 visits_from last _ = []
 
+-- what is asked, in order: an index for each index leaf; memory 0 for a left-out memory and table 0 for a left-out element
+-- table; the section hook before each section of a known kind and once at the end; a push and a pop round a scope
 abbrev pub visits : Tree → List Visit
 visits t = visits_from None t
 
@@ -236,7 +242,7 @@ abbrev pub aimed_at : Listed → ℕ → Tree → Tree → Tree
 aimed_at w zero o t = Tree.left w o t
 aimed_at w (suc i) o t = Tree.aimed w (suc i) o (typed w t)
 
--- the k-th answer in place of the k-th visit's index
+-- the k-th answer in place of the k-th visit's index; a left-out table that is answered other than 0 becomes a written one
 abbrev pub fill : Tree → List ℕ → Tree
 fill (Tree.ix s i) answers = Tree.ix s (get_or answers 0 0)
 fill (Tree.sx s i) answers = Tree.sx s (get_or answers 0 0)

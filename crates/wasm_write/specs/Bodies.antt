@@ -1,4 +1,5 @@
--- Functions, code sections and constant expressions, as contracts see them.
+-- Functions, code sections and constant expressions, as contracts see them (WebAssembly Core Specification 3.0, sections 5.4
+-- and 5.5.13).
 use Rattle.std.specs.Prelude.{◌≡◌, ℕ, List, [], ◌∷◌, ◌++◌, true, false}
 use Rattle.std.specs.Coded.{Coded, Coded-set, code_by, coded×, coded_ℕ}
 use Rattle.std.proofs.Common.{refl, sym, ap, ap₂, ◌∙◌}
@@ -69,6 +70,7 @@ pub record IsBody (bytes : List ℕ) (f : Body) : Type 0 where
   pub spelled : Spelled (function_body f) bytes
   pub normally : normal (function_body f) ≡ bytes
 
+-- there is a function whose normal spelling these bytes are
 abbrev pub HeldBody : List ℕ → Type 0
 HeldBody bytes = (f : Body) × ∥ IsBody bytes f ∥₁
 

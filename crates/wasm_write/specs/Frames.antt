@@ -1,4 +1,4 @@
--- Bodies behind their lengths, and what stands in front of these.
+-- Bodies behind their lengths, and what stands in front of these (WebAssembly Core Specification 3.0, section 5.5).
 use Rattle.std.specs.Prelude.{◌≡◌, ℕ, ◌<◌, ◌^◌, List, [], ◌∷◌, ◌++◌, length, slice_get, Some}
 use Rattle.wasm_leb.specs.Leb.{leb}
 use Rattle.wasm_shapes.specs.Tree.{Tree, normal}

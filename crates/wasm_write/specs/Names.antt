@@ -1,4 +1,4 @@
--- Name sections, as contracts see them.
+-- Name sections, as contracts see them (WebAssembly Core Specification 3.0, section 7.4.1).
 use Rattle.std.specs.Prelude.{◌≡◌, ℕ, ◌<◌, ◌^◌, List, ◌∷◌, ◌++◌, length, Option, Some, None}
 use Rattle.wasm_shapes.specs.Tree.{Tree, normal}
 use Rattle.wasm_leb.specs.Leb.{leb}

@@ -17,6 +17,7 @@ pub record SectionRow : Type 0 where
   pub id : ℕ
   pub body : List ℕ
 
+-- the section of this id and body
 abbrev pub section_row : ℕ → List ℕ → SectionRow
 section_row id body = record { id = id; body = body }
 
@@ -33,6 +34,7 @@ with_section m s = record m { sections = m.sections ++ s ∷ [] }
 abbrev pub section_bytes : SectionRow → List ℕ
 section_bytes s = s.id ∷ (leb (length s.body) ++ s.body)
 
+-- sections one behind another, each by its id, its length and its body
 abbrev pub sections_bytes : List SectionRow → List ℕ
 sections_bytes [] = []
 sections_bytes (s ∷ rows) = section_bytes s ++ sections_bytes rows
@@ -47,6 +49,7 @@ module_bytes rows = core_header ++ sections_bytes rows
 abbrev pub framed : Shape
 framed = Shape.seq Shape.byte (Shape.sized Shape.rest)
 
+-- the tree of a section of which nothing is said but its id and its body
 abbrev pub framed_tree : SectionRow → Tree
 framed_tree s = Tree.pair (Tree.byte s.id) (Tree.sized (Tree.raw s.body))
 
