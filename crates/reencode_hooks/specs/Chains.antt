@@ -28,6 +28,7 @@ abbrev pub first_then : {X Y : Type 0} → Result ℕ X → (ℕ → Result ℕ 
 first_then (Ok n) second = second_of (second n)
 first_then (Err e) second = Err (First e)
 
+-- the first one's refusal, or the second one's answer to what the first answered
 abbrev pub chain_reply : {A B X Y : Type 0} → (A → Visit → Result ℕ X) → (B → Visit → Result ℕ Y) → Chain A B → Visit → Result ℕ (ChainError X Y)
 chain_reply f g c v = first_then (f c.a v) (λ n. g c.b (reindexed v n))
 
@@ -36,9 +37,11 @@ abbrev pub unless_err : {B X : Type 0} → Result ℕ X → B → (ℕ → B) �
 unless_err (Ok n) b next = next n
 unless_err (Err e) b next = b
 
+-- both next states; the second one's is as it was where the first refused
 abbrev pub chain_next : {A B X : Type 0} → (A → Visit → Result ℕ X) → (A → Visit → A) → (B → Visit → B) → Chain A B → Visit → Chain A B
 chain_next f a_next b_next c v = record { a = a_next c.a v; b = unless_err (f c.a v) c.b (λ n. b_next c.b (reindexed v n)) }
 
+-- what the first adds, and then what the second does
 abbrev pub chain_adds : {A B : Type 0} → (A → Option SectionId → Option SectionId → List SectionRow) → (B → Option SectionId → Option SectionId → List SectionRow)
     → Chain A B → Option SectionId → Option SectionId → List SectionRow
 chain_adds f g c after before = f c.a after before ++ g c.b after before

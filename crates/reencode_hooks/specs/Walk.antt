@@ -58,5 +58,6 @@ walk_from asked c last s (Tree.also t u) =
     (λ t' n. and_then (walk_from asked c (kind last t) n u) (λ u' k. accepted (Tree.also t' u') k)))
 walk_from asked c last s t = accepted t s
 
+-- what a walk over a tree gives: the filled tree, or the first refusal, or the first frame above the ceiling
 abbrev pub walk : {S E : Type 0} → (S → Visit → Step S (Error E) ℕ) → ℕ → S → Tree → Step S (Error E) Tree
 walk asked c s t = walk_from asked c None s t
