@@ -53,8 +53,8 @@ weave asked put c s t = weave_from asked put c None s t
 -- this holds at each section visit among these, of the state that the run over those before it leaves
 abbrev pub AtSections : {S E : Type 0} → Asks S E → S → List Visit → (S → Option SectionId → Option SectionId → Type 0) → Type 0
 AtSections asked s visits P =
-    (front : List Visit) (after before : Option SectionId) (rest : List Visit) → visits ≡ front ++ Section after before ∷ rest
-    → P (state_after (run asked s front)) after before
+    (front : List Visit) (last next : Option SectionId) (rest : List Visit) → visits ≡ front ++ Section last next ∷ rest
+    → P (state_after (run asked s front)) last next
 
 -- the filled tree, with what is put at the state of each section visit of the run
 abbrev pub woven_from : {S E : Type 0} → Asks S E → Puts S Tree → Option SectionId → S → Tree → List ℕ → Tree
