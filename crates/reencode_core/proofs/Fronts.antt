@@ -21,23 +21,29 @@ shorter : (rest y left : List ℕ) (t : Tree) → Spells section y t → rest �
 shorter rest [] left t q e = absurd (section_fills q refl)
 shorter rest (a ∷ y) left t q e = let whole : length rest ≡ length ((a ∷ y) ++ left) = ap length e in omega (arith, length-append (a ∷ y) left)
 
+front_here : {bytes start text rest : List ℕ} {before : List Tree} → bytes ≡ core_header ++ start → start ≡ text ++ rest → Spells sections text (alsos before Tree.finish) →
+    ((y left : List ℕ) (t : Tree) → Spells section y t → rest ≡ y ++ left → ⊥) → Front bytes before rest
+front_here {text = text} stands e p further = record {
+  text = text;
+  spells = p;
+  stands = stands ∙ ap (λ (z : List ℕ). core_header ++ z) e;
+  ends = record { none = λ y left t q f. further y left t q f };
+}
+
+one_more : (before : List Tree) (x y : List ℕ) (t : Tree) → Spells sections x (alsos before Tree.finish) → Spells section y t →
+    Spells sections (x ++ y) (alsos (before ++ t ∷ []) Tree.finish)
+one_more before x y t p q = rw (alsos-append before (t ∷ []) Tree.finish) (joined before x y p (one_section q))
+
 search : (deep : ℕ) (bytes start text rest : List ℕ) (before : List Tree) → length rest ≤ deep → bytes ≡ core_header ++ start → start ≡ text ++ rest →
-    Spells sections text (alsos before Tree.finish) → ¬ ((ts : List Tree) (left : List ℕ) → ¬ Front bytes ts left)
-search deep bytes start text rest before short stands e p none =
-    none before rest (record {
-      text = text;
-      spells = p;
-      stands = stands ∙ ap (λ (z : List ℕ). core_header ++ z) e;
-      ends = record { none = λ y left t q f. further deep short y left t q f };
-    })
-  where
-    further : (deep : ℕ) → length rest ≤ deep → (y left : List ℕ) (t : Tree) → Spells section y t → rest ≡ y ++ left → ⊥
-    further zero few y left t q f = let less : length left < length rest = shorter rest y left t q f in omega arith
-    further (suc n) few y left t q f =
-        let less : length left < length rest = shorter rest y left t q f in
-        let P : Tree → Type 0 = λ z. Spells sections (text ++ y) z in
-        search n bytes start (text ++ y) left (before ++ t ∷ []) (omega arith) stands (e ∙ ap (λ (z : List ℕ). text ++ z) f ∙ sym (append_assoc text y left))
-        (subst P (sym (alsos-append before (t ∷ []) Tree.finish)) (joined before text y p (one_section q))) none
+    Spells sections text (alsos before Tree.finish) → ((ts : List Tree) (left : List ℕ) → Front bytes ts left → ⊥) → ⊥
+search zero bytes start text rest before short stands e p none =
+    none before rest (front_here stands e p (λ y left t q f. let less : length left < length rest = shorter rest y left t q f in absurd (omega arith)))
+search (suc deep) bytes start text rest before short stands e p none =
+    none before rest
+    (front_here stands e p
+    (λ y left t q f.
+    let less : length left < length rest = shorter rest y left t q f in
+    search deep bytes start (text ++ y) left (before ++ t ∷ []) (omega arith) stands (e ∙ ap (λ (z : List ℕ). text ++ z) f ∙ sym (append_assoc text y left)) (one_more before text y t p q) none))
 
 pub has_front : HasFront
 has_front bytes start stands = search (length start) bytes start [] start [] (omega arith) stands refl (record { shaped = Is.finish; spelled = refl })

@@ -64,19 +64,19 @@ also_ran asked s m last t u told ran =
     run_parts asked s m (before last t ++ visits_from None t) V told (ap (run asked s) (append_assoc (before last t) (visits_from None t) V) ∙ ran)
 
 module _ {S E : Type 0} (asked : Asks S E) (P : S → Option SectionId → Option SectionId → Type 0) where
-  pub at_front : {s : S} {xs : List Visit} (ys : List Visit) → AtSections asked s (xs ++ ys) P → AtSections asked s xs P
-  at_front ys h front a b rest parts = h front a b (rest ++ ys) (ap (λ (z : List Visit). z ++ ys) parts ∙ append_assoc front (Section a b ∷ rest) ys)
+  pub at_front : (s : S) (xs ys : List Visit) → AtSections asked s (xs ++ ys) P → AtSections asked s xs P
+  at_front s xs ys h front a b rest parts = h front a b (rest ++ ys) (ap (λ (z : List Visit). z ++ ys) parts ∙ append_assoc front (Section a b ∷ rest) ys)
 
-  pub at_behind : {s n : S} {told : List ℕ} (xs : List Visit) {ys : List Visit} → run asked s xs ≡ accepted told n → AtSections asked s (xs ++ ys) P → AtSections asked n ys P
-  at_behind {s = s} {n = n} {told = told} xs ran h front a b rest parts =
+  pub at_behind : (s n : S) (told : List ℕ) (xs ys : List Visit) → run asked s xs ≡ accepted told n → AtSections asked s (xs ++ ys) P → AtSections asked n ys P
+  at_behind s n told xs ys ran h front a b rest parts =
       let Q : S → Type 0 = λ k. P k a b in
       subst Q (run-append asked s n xs front told ran) (h (xs ++ front) a b rest (ap (λ (z : List Visit). xs ++ z) parts ∙ sym (append_assoc xs front (Section a b ∷ rest))))
 
-  pub also_behind : (s : S) {n : S} (last : Option SectionId) (t u : Tree) {told : List ℕ} → run asked s (before last t ++ visits_from None t) ≡ accepted told n →
+  pub also_behind : (s n : S) (told : List ℕ) (last : Option SectionId) (t u : Tree) → run asked s (before last t ++ visits_from None t) ≡ accepted told n →
       AtSections asked s (visits_from last (Tree.also t u)) P → AtSections asked n (visits_from (kind last t) u) P
-  also_behind s last t u ran h =
+  also_behind s n told last t u ran h =
       let Q : List Visit → Type 0 = λ z. AtSections asked s z P in
-      at_behind (before last t ++ visits_from None t) ran (subst Q (sym (append_assoc (before last t) (visits_from None t) (visits_from (kind last t) u))) h)
+      at_behind s n told (before last t ++ visits_from None t) (visits_from (kind last t) u) ran (subst Q (sym (append_assoc (before last t) (visits_from None t) (visits_from (kind last t) u))) h)
 
 -- ---- a walk that is accepted, as a run
 
@@ -260,14 +260,14 @@ module _ {S E : Type 0} (asked : Asks S E) (put : Puts S Tree) where
     woven_alike last s m (Tree.pair t u) told xs ran alike =
         let r = run_parts asked s m (visits_from None t) (visits_from None u) told ran in
         let state : state_after (run asked s (visits_from None t)) ≡ r.1 = ap state_after r.3 in
-        rw (woven_alike None s r.1 t r.0 xs r.3 (at_front asked Same (visits_from None u) alike), state, woven_alike None r.1 m u r.2 (after t xs) r.4 (at_behind asked Same (visits_from None t) r.3 alike)) refl
+        rw (woven_alike None s r.1 t r.0 xs r.3 (at_front asked Same s (visits_from None t) (visits_from None u) alike), state, woven_alike None r.1 m u r.2 (after t xs) r.4 (at_behind asked Same s r.1 r.0 (visits_from None t) (visits_from None u) r.3 alike)) refl
     woven_alike last s m Tree.finish told xs ran alike = alsos_alike (put s last None) (other s last None) Tree.finish Tree.finish (alike [] last None [] refl) refl
     woven_alike last s m (Tree.also t u) told xs ran alike =
         let own : List ℕ = drop (length (before None t)) xs in
         let r = also_ran asked s m last t u told ran in
         let p : Tree = woven_from asked put (kind last t) r.1 u (after t own) in
         let q : Tree = woven_from asked other (kind last t) r.1 u (after t own) in
-        let same : normal p ≡ normal q = woven_alike (kind last t) r.1 m u r.2 (after t own) r.4 (also_behind asked Same s last t u r.3 alike) in
+        let same : normal p ≡ normal q = woven_alike (kind last t) r.1 m u r.2 (after t own) r.4 (also_behind asked Same s r.1 r.0 last t u r.3 alike) in
         let state : state_after (run asked s (before last t ++ visits_from None t)) ≡ r.1 = ap state_after r.3 in
         rw state
         (alsos_alike (put_before put s last t) (put_before other s last t) (Tree.also (fill t own) p) (Tree.also (fill t own) q)

@@ -63,7 +63,7 @@ module _ {S E : Type 0} (asked : Asks S E) (adds : Puts S SectionRow) (readings 
       let parts = all_parts (2 ^ 32 - 1) (frames (fill v own)) (frames (fill u (after v own))) fits in
       let one : Spells section (normal (fill v own)) (fill v own) = filled_read_back section p.0 v own own_small (record { shaped = d; spelled = p.3 }) parts.0 in
       let r = also_ran asked s m last v u told ran in
-      let rest = reads_from (kind last v) r.1 m u p.1 (after v own) r.2 d' p.4 rest_small parts.1 r.4 (also_behind asked Reads s last v u r.3 are) in
+      let rest = reads_from (kind last v) r.1 m u p.1 (after v own) r.2 d' p.4 rest_small parts.1 r.4 (also_behind asked Reads s r.1 r.0 last v u r.3 are) in
       let made : Tree = woven_from asked (added adds) (kind last v) r.1 u (after v own) in
       let read : Tree = woven_from asked readings (kind last v) r.1 u (after v own) in
       let state : state_after (run asked s (before last v ++ visits_from None v)) ≡ r.1 = ap state_after r.3 in
