@@ -21,9 +21,9 @@ shorter : (rest y left : List ℕ) (t : Tree) → Spells section y t → rest �
 shorter rest [] left t q e = absurd (section_fills q refl)
 shorter rest (a ∷ y) left t q e = let whole : length rest ≡ length ((a ∷ y) ++ left) = ap length e in omega (arith, length-append (a ∷ y) left)
 
-front_here : {bytes start text rest : List ℕ} {before : List Tree} → bytes ≡ core_header ++ start → start ≡ text ++ rest → Spells sections text (alsos before Tree.finish) →
+front_here : (bytes start text rest : List ℕ) (before : List Tree) → bytes ≡ core_header ++ start → start ≡ text ++ rest → Spells sections text (alsos before Tree.finish) →
     ((y left : List ℕ) (t : Tree) → Spells section y t → rest ≡ y ++ left → ⊥) → Front bytes before rest
-front_here {text = text} stands e p further = record {
+front_here bytes start text rest before stands e p further = record {
   text = text;
   spells = p;
   stands = stands ∙ ap (λ (z : List ℕ). core_header ++ z) e;
@@ -37,10 +37,10 @@ one_more before x y t p q = rw (alsos-append before (t ∷ []) Tree.finish) (joi
 search : (deep : ℕ) (bytes start text rest : List ℕ) (before : List Tree) → length rest ≤ deep → bytes ≡ core_header ++ start → start ≡ text ++ rest →
     Spells sections text (alsos before Tree.finish) → ((ts : List Tree) (left : List ℕ) → Front bytes ts left → ⊥) → ⊥
 search zero bytes start text rest before short stands e p none =
-    none before rest (front_here stands e p (λ y left t q f. let less : length left < length rest = shorter rest y left t q f in absurd (omega arith)))
+    none before rest (front_here bytes start text rest before stands e p (λ y left t q f. let less : length left < length rest = shorter rest y left t q f in absurd (omega arith)))
 search (suc deep) bytes start text rest before short stands e p none =
     none before rest
-    (front_here stands e p
+    (front_here bytes start text rest before stands e p
     (λ y left t q f.
     let less : length left < length rest = shorter rest y left t q f in
     search deep bytes start (text ++ y) left (before ++ t ∷ []) (omega arith) stands (e ∙ ap (λ (z : List ℕ). text ++ z) f ∙ sym (append_assoc text y left)) (one_more before text y t p q) none))
