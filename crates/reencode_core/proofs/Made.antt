@@ -127,6 +127,18 @@ module _ {S E : Type 0} (asked : Asks S E) where
       let g = given j.3 in
       rw (i.2, run_refused i.1 n m xs ys j.0 e (j.2 ∙ ap (λ (z : S). accepted j.0 z) g.1) k) refl
 
+  kept_state : (r : Step S (Error E) (List ℕ)) (n : ℕ) → state_after (and_then r (λ ns j. accepted (n ∷ ns) j)) ≡ state_after r
+  kept_state (accepted ns j) n = refl
+  kept_state (refused e j) n = refl
+
+  pub run_state : (s n : S) (xs ys : List Visit) (a : List ℕ) → run asked s xs ≡ accepted a n → state_after (run asked s (xs ++ ys)) ≡ state_after (run asked n ys)
+  run_state s n [] ys a h = let g = given h in rw g.1 refl
+  run_state s n (v ∷ xs) ys a h =
+      let i = inv (asked s v) (λ x l. and_then (run asked l xs) (λ ns j. accepted (x ∷ ns) j)) h in
+      let j = inv (run asked i.1 xs) (λ ns l. accepted (i.0 ∷ ns) l) i.3 in
+      let g = given j.3 in
+      rw i.2 (kept_state (run asked i.1 (xs ++ ys)) i.0 ∙ run_state i.1 n xs ys j.0 (j.2 ∙ ap (λ (z : S). accepted j.0 z) g.1))
+
   -- visits behind others that were accepted
   pub ended_behind : {s n m : S} {a : List ℕ} (e : Error E) (xs ys : List Visit) → run asked s xs ≡ accepted a n → EndsBy asked n ys e m → EndsBy asked s (xs ++ ys) e m
   ended_behind {s = s} {n = n} {m = m} {a = a} e xs ys h k = record { by = go e k.by }
@@ -136,7 +148,7 @@ module _ {S E : Type 0} (asked : Asks S E) where
 
       go : (e : Error E) → Ended e (run asked n ys) m → Ended e (run asked s (xs ++ ys)) m
       go (UserError x) k = run_refused s n m xs ys a (UserError x) h k
-      go NoMemory k = run-append asked s n xs ys a h ∙ k
+      go NoMemory k = run_state s n xs ys a h ∙ k
       go (ParseError x) k = both k
       go (TooLarge x) k = both k
       go CanonicalizedHeapTypeReference k = both k

@@ -13,12 +13,13 @@ use Rattle.reencode_hooks.specs.Run.{Step, accepted, refused, and_then, run, ans
 use Rattle.reencode_hooks.specs.Walk.{walk, walk_from, announced}
 use Rattle.reencode_hooks.specs.Moments.{moments_from, passed}
 use Rattle.reencode_hooks.proofs.Agrees.{agrees, inv, given, passed-run, run_length}
-use Rattle.reencode_hooks.proofs.Walks.{run-append, walk_is_run}
+use Rattle.reencode_hooks.proofs.Walks.{walk_is_run}
 use Rattle.reencode_core.specs.Rows.{Asks}
 use Rattle.reencode_core.specs.Core.{onto}
 use Rattle.reencode_core.specs.Weave.{AtSections, Puts, put_before, woven_one, weave, weave_from, woven_from, woven}
 use Rattle.reencode_core.specs.WovenLaws.{WeaveOfNothing, ends, WeaveEnds, AcceptsWoven, WeaveIsRun}
 use Rattle.reencode_core.proofs.Counts.{run_parts, run_then}
+use Rattle.reencode_core.proofs.Made.{run_state}
 
 -- ---- steps
 
@@ -70,7 +71,7 @@ module _ {S E : Type 0} (asked : Asks S E) (P : S → Option SectionId → Optio
   pub at_behind : (s n : S) (told : List ℕ) (xs ys : List Visit) → run asked s xs ≡ accepted told n → AtSections asked s (xs ++ ys) P → AtSections asked n ys P
   at_behind s n told xs ys ran h front a b rest parts =
       let Q : S → Type 0 = λ k. P k a b in
-      subst Q (run-append asked s n xs front told ran) (h (xs ++ front) a b rest (ap (λ (z : List Visit). xs ++ z) parts ∙ sym (append_assoc xs front (Section a b ∷ rest))))
+      subst Q (run_state asked s n xs front told ran) (h (xs ++ front) a b rest (ap (λ (z : List Visit). xs ++ z) parts ∙ sym (append_assoc xs front (Section a b ∷ rest))))
 
   pub also_behind : (s n : S) (told : List ℕ) (last : Option SectionId) (t u : Tree) → run asked s (before last t ++ visits_from None t) ≡ accepted told n →
       AtSections asked s (visits_from last (Tree.also t u)) P → AtSections asked n (visits_from (kind last t) u) P

@@ -61,7 +61,7 @@ module _ {S E : Type 0} (asked : S → Visit → Step S (Error E) ℕ) where
         λ p. walk_is_passed c s t ∙ ap (λ r. and_then r (λ a k. accepted (fill t a) k)) (moment.stops_refused asked c s ms e m p),
       )
 
-  pub run-append : (s k : S) (xs ys : List Visit) (a : List ℕ) → run asked s xs ≡ accepted a k → state_after (run asked s (xs ++ ys)) ≡ state_after (run asked k ys)
+  run-append : (s k : S) (xs ys : List Visit) (a : List ℕ) → run asked s xs ≡ accepted a k → state_after (run asked s (xs ++ ys)) ≡ state_after (run asked k ys)
   run-append s k [] ys a h = let g = given h in rw g.1 refl
   run-append s k (v ∷ xs) ys a h =
       let i = inv (asked s v) (λ n m. and_then (run asked m xs) (λ ns j. accepted (n ∷ ns) j)) h in
