@@ -62,7 +62,7 @@ kind_after-append last [] t = refl
 kind_after-append last (u ∷ ts) t = kind_after-append (kind last u) ts t
 
 -- sections, and others behind them
-joined : (ts : List Tree) {u : Tree} (x y : List ℕ) → Spells sections x (alsos ts Tree.finish) → Spells sections y u → Spells sections (x ++ y) (alsos ts u)
+pub joined : (ts : List Tree) {u : Tree} (x y : List ℕ) → Spells sections x (alsos ts Tree.finish) → Spells sections y u → Spells sections (x ++ y) (alsos ts u)
 joined [] {u = u} x y p q =
     let none : x ≡ [] = p.spelled in
     let P : List ℕ → Type 0 = λ z. Spells sections (z ++ y) u in
@@ -77,7 +77,7 @@ joined (t ∷ ts) {u = u} x y p q = go p.shaped p.spelled (λ z r. joined ts {u 
           spelled = (s.0, s.1 ++ y, ap (λ (z : List ℕ). z ++ y) s.2 ∙ append_assoc s.0 s.1 y, s.3, rest.spelled);
         }
 
-one_section : {t : Tree} {x : List ℕ} → Spells section x t → Spells sections x (Tree.also t Tree.finish)
+pub one_section : {t : Tree} {x : List ℕ} → Spells section x t → Spells sections x (Tree.also t Tree.finish)
 one_section {x = x} p = record { shaped = Is.also p.shaped Is.finish; spelled = (x, [], sym (append-nil x), p.spelled, refl) }
 
 -- what other sections from the same start are: the same, and then those that stand behind

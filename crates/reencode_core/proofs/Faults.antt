@@ -22,19 +22,13 @@ use Rattle.reencode_core.specs.Woven.{AddedThere, GainsFront, IsOwn}
 use Rattle.reencode_core.specs.Faults.{FaultGives, FaultTells}
 use Rattle.reencode_core.specs.Leaves.{TellsFault}
 use Rattle.reencode_core.proofs.CoreLoop.{Ahead, same, more, ahead, none_behind, same_sections}
+use Rattle.reencode_core.proofs.Fronts.{one_front}
 use Rattle.reencode_core.proofs.Usual.{Usual, stops_usual, usual_ask, usual_walk}
 
 module _ {bytes : List ℕ} {before : List Tree} {rest : List ℕ} (f : FaultAt bytes before rest) where
   -- what is left at a fault
   same_fault : {ts : List Tree} {left : List ℕ} → FaultAt bytes ts left → left ≡ rest
-  same_fault {ts = ts} {left = left} g =
-      let behind : f.front.text ++ rest ≡ g.front.text ++ left =
-      append_cancel_left core_header (f.front.text ++ rest) (g.front.text ++ left) (sym f.front.stands ∙ g.front.stands) in
-      go (ahead before (f.front.text ++ rest) f.front.text rest g.front.text left (alsos ts Tree.finish) f.front.spells refl g.front.spells behind g.front.ends)
-    where
-      go : Ahead before rest (alsos ts Tree.finish) left → left ≡ rest
-      go (same e r) = sym r
-      go (more t u behind e b) = absurd (f.front.ends.none b.text behind t b.spells b.reads)
+  same_fault {ts = ts} {left = left} g = sym (one_front bytes before ts rest left f.front g.front).1
 
   no_reading : (t : Tree) → CoreReading bytes t → ⊥
   no_reading t r =

@@ -10,6 +10,7 @@ pub mod OneSection
 pub mod AnySection
 pub mod AddsNothing
 pub mod CoreLoop
+pub mod Fronts
 pub mod Faults
 pub mod WholeBytes
 pub mod Completeness

@@ -131,7 +131,7 @@ module _ {S E : Type 0} (asked : Asks S E) where
   kept_state (accepted ns j) n = refl
   kept_state (refused e j) n = refl
 
-  run_state : (s n : S) (xs ys : List Visit) (a : List ℕ) → run asked s xs ≡ accepted a n → state_after (run asked s (xs ++ ys)) ≡ state_after (run asked n ys)
+  pub run_state : (s n : S) (xs ys : List Visit) (a : List ℕ) → run asked s xs ≡ accepted a n → state_after (run asked s (xs ++ ys)) ≡ state_after (run asked n ys)
   run_state s n [] ys a h = let g = given h in rw g.1 refl
   run_state s n (v ∷ xs) ys a h =
       let i = inv (asked s v) (λ x l. and_then (run asked l xs) (λ ns j. accepted (x ∷ ns) j)) h in

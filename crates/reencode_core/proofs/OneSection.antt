@@ -28,7 +28,7 @@ use Rattle.reencode_hooks.specs.Errors.{error_of_fault, error_of_write}
 use Rattle.reencode_hooks.specs.Run.{Step, accepted, refused}
 use Rattle.reencode_hooks.specs.Walk.{walk}
 use Rattle.reencode_core.specs.Errors.{IfParse}
-use Rattle.reencode_core.specs.Rows.{Asks, onto_rows, AcceptedHooks, TooMany, RefusesFirst, StopsRows, GivesRows}
+use Rattle.reencode_core.specs.Rows.{Asks, onto_rows, AcceptedHooks, TooMany, RefusesFirst, RefusesInside, RefusesRow, RefusesWhole, StopsAtRow, StopsDue, StopsRows, GivesRows}
 use Rattle.reencode_core.specs.Sections.{HasItem, HasRows, LeftBehind, NoItem, ReadsAs, RowsFaultIn, BodyFault, GivesSection}
 use Rattle.reencode_core.proofs.Usual.{IfParse-map, IfRefused-map, unless_wanting, fault_unrefused, write_usual}
 use Rattle.reencode_core.proofs.Known.{vec_is, section_spelled, section_refuses, section_fits, section_large}
@@ -72,6 +72,11 @@ module _ {S E : Type 0} (asked : Asks S E) (k : SectionId) (s m : S) (body : Lis
       stops write.NoMemory q u h other = absurd (other refl)
 
 -- ---- rows
+
+-- a section that was empty never holds too many
+never_many : {E : Type 0} (e : Error E) (n : ℕ) → n < 2 ^ 32 - 1 → TooMany e n → ⊥
+never_many (TooLarge size) n few q = let one : size ≡ n + 1 = q.0 in let more : 2 ^ 32 - 1 < size = q.1 in omega arith
+never_many _ n few q = q
 
 -- so many rows stand in front of others
 rows_count : (ts : List Tree) (u : Tree) → count (rows_then ts u) ≡ length ts + count u
@@ -118,7 +123,7 @@ module _ {S E : Type 0} (asked : Asks S E) (k : SectionId) (known : HasRows k) w
 
   -- ---- the rows were refused
 
-  -- the walk stops where its rows do: a section that was empty never holds too many
+  -- the walk stops where its rows do
   rows_stopped : (c n : ℕ) (s m : S) (rows : Tree) (new : List Tree) (e : Error E) → count rows ≡ n → n < 2 ^ 32 → StopsRows asked c (s, []) rows (m, new) e → e ≢ NoMemory →
       walk asked c s rows ≡ refused e m
   rows_stopped c n s m rows new e counted small g other = go (g.refuses other).refusal
@@ -138,11 +143,38 @@ module _ {S E : Type 0} (asked : Asks S E) (k : SectionId) (known : HasRows k) w
 
       go : (walk asked c g.at first.row ≡ refused e m) ⊎ (AcceptedHooks asked g.at first.row m × TooMany e (length new)) → walk asked c s rows ≡ refused e m
       go (inl h) = rw g.parts (g.accepts g.others ∙ ap (λ (r : Step S (Error E) Tree). onto_rows g.made r) (stops h))
-      go (inr h) = absurd (not_many e h.1)
-        where
-          not_many : (e : Error E) → TooMany e (length new) → ⊥
-          not_many (TooLarge size) q = let one : size ≡ length new + 1 = q.0 in let more : 2 ^ 32 - 1 < size = q.1 in let small : length new < 2 ^ 32 - 1 = few in omega arith
-          not_many _ q = q
+      go (inr h) = absurd (never_many e (length new) few h.1)
+
+  -- so does a part of a body without a reading
+  row_stopped : {c : ℕ} {s m : S} {reader : Standing} {new : List Tree} (e : Error E) → reader.left < 2 ^ 32 → StopsAtRow asked c (row_of k) reader (s, []) e (m, new) →
+      StopsDue asked c (row_of k) reader s e m
+  row_stopped {c = c} {m = m} {reader = reader} {new = new} e small g = record {
+    read = g.read;
+    rest = g.rest;
+    made = g.made;
+    state = g.state;
+    front = g.front;
+    due = g.due;
+    accepts = g.accepts;
+    refuses = go g.refuses;
+  }
+    where
+      few : length new < 2 ^ 32 - 1
+      few =
+          let made : length new ≡ length g.made = ap length g.gains in
+          let same : length g.made ≡ length g.read = g.counted in
+          let due : length g.read < reader.left = g.due in
+          omega arith
+
+      whole : (w : RefusesWhole asked c (row_of k) g.rest g.state (length new) e m) → (walk asked c g.state w.tree ≡ refused e m) ⊎ (AcceptedHooks asked g.state w.tree m × TooMany e (length new)) →
+          RefusesRow asked c (row_of k) g.rest g.state e m
+      whole w (inl h) = record { tree = w.tree; left = w.left; begins = w.begins; refusal = h }
+      whole w (inr h) = absurd (never_many e (length new) few h.1)
+
+      go : RefusesWhole asked c (row_of k) g.rest g.state (length new) e m ⊎ RefusesInside asked c (row_of k) g.rest g.state e m →
+          RefusesRow asked c (row_of k) g.rest g.state e m ⊎ RefusesInside asked c (row_of k) g.rest g.state e m
+      go (inl w) = inl (whole w w.refusal)
+      go (inr w) = inr w
 
   pub rows_stop : (s m : S) (body : List ℕ) (reader : Standing) (start rows : List Tree) (old : Sections) (e : Error E) → start ≡ [] → CountRead body reader →
       GivesRows asked old.ceiling (row_of k) reader (s, start) (m, rows) (Err e) → GivesSection asked k body (s, old) (m, old) (Err e)
@@ -154,7 +186,7 @@ module _ {S E : Type 0} (asked : Asks S E) (k : SectionId) (known : HasRows k) w
             (refl, λ other. rw v.1 (section_refuses k asked old.ceiling s m (Tree.vec v.0) e (vec_refused v.0 (rows_stopped old.ceiling reader.left s m v.0 rows e v.2.counted there.counted.1.fits (g.reading v.0 v.2) other))));
         readable = tt;
         unreadable = IfParse-map e (λ at f. ((λ t r. let v = rows_read there t r in f.none.none v.0 v.2), inr (inl (record { has_rows = known; reader = reader; made = rows; counted = there; fault = f })))) g.unreadable;
-        refusal = IfRefused-map e (λ f. inr (record { reader = reader; made = rows; counted = there; stops = f })) g.refusal;
+        refusal = IfRefused-map e (λ f. inr (record { reader = reader; counted = there; stops = row_stopped e there.counted.1.fits f })) g.refusal;
         unchanged = refl;
       }
     where

@@ -16,9 +16,10 @@ use Rattle.reencode_hooks.proofs.Agrees.{agrees, inv, given, passed-run, run_len
 use Rattle.reencode_hooks.proofs.Walks.{walk_is_run}
 use Rattle.reencode_core.specs.Rows.{Asks}
 use Rattle.reencode_core.specs.Core.{onto}
-use Rattle.reencode_core.specs.Weave.{Puts, put_before, woven_one, weave, weave_from, woven_from, woven}
+use Rattle.reencode_core.specs.Weave.{AtSections, Puts, put_before, woven_one, weave, weave_from, woven_from, woven}
 use Rattle.reencode_core.specs.WovenLaws.{WeaveOfNothing, ends, WeaveEnds, AcceptsWoven, WeaveIsRun}
-use Rattle.reencode_core.proofs.Counts.{run_then}
+use Rattle.reencode_core.proofs.Counts.{run_parts, run_then}
+use Rattle.reencode_core.proofs.Made.{run_state}
 
 -- ---- steps
 
@@ -53,6 +54,30 @@ alsos_alike (v ∷ us) (w ∷ ws) t u e f =
     let first : normal v ≡ normal w = cc in
     let rest : map normal us ≡ map normal ws = cc in
     ap₂ (λ (x y : List ℕ). x ++ y) first (alsos_alike us ws t u rest f)
+
+-- ---- the section visits of a run
+
+-- a section and those behind it
+pub also_ran : {S E : Type 0} (asked : Asks S E) (s m : S) (last : Option SectionId) (t u : Tree) (told : List ℕ) → run asked s (visits_from last (Tree.also t u)) ≡ accepted told m →
+    (a : List ℕ) × (n : S) × (b : List ℕ) × (run asked s (before last t ++ visits_from None t) ≡ accepted a n) × (run asked n (visits_from (kind last t) u) ≡ accepted b m)
+also_ran asked s m last t u told ran =
+    let V : List Visit = visits_from (kind last t) u in
+    run_parts asked s m (before last t ++ visits_from None t) V told (ap (run asked s) (append_assoc (before last t) (visits_from None t) V) ∙ ran)
+
+module _ {S E : Type 0} (asked : Asks S E) (P : S → Option SectionId → Option SectionId → Type 0) where
+  pub at_front : (s : S) (xs ys : List Visit) → AtSections asked s (xs ++ ys) P → AtSections asked s xs P
+  at_front s xs ys h front a b rest parts = h front a b (rest ++ ys) (ap (λ (z : List Visit). z ++ ys) parts ∙ append_assoc front (Section a b ∷ rest) ys)
+
+  pub at_behind : (s n : S) (told : List ℕ) (xs ys : List Visit) → run asked s xs ≡ accepted told n → AtSections asked s (xs ++ ys) P → AtSections asked n ys P
+  at_behind s n told xs ys ran h front a b rest parts =
+      let Q : S → Type 0 = λ k. P k a b in
+      subst Q (run_state asked s n xs front told ran) (h (xs ++ front) a b rest (ap (λ (z : List Visit). xs ++ z) parts ∙ sym (append_assoc xs front (Section a b ∷ rest))))
+
+  pub also_behind : (s n : S) (told : List ℕ) (last : Option SectionId) (t u : Tree) → run asked s (before last t ++ visits_from None t) ≡ accepted told n →
+      AtSections asked s (visits_from last (Tree.also t u)) P → AtSections asked n (visits_from (kind last t) u) P
+  also_behind s n told last t u ran h =
+      let Q : List Visit → Type 0 = λ z. AtSections asked s z P in
+      at_behind s n told (before last t ++ visits_from None t) (visits_from (kind last t) u) ran (subst Q (sym (append_assoc (before last t) (visits_from None t) (visits_from (kind last t) u))) h)
 
 -- ---- a walk that is accepted, as a run
 
@@ -221,25 +246,34 @@ module _ {S E : Type 0} (asked : Asks S E) (put : Puts S Tree) where
 
   -- ---- spelled alike
 
-  module _ (other : Puts S Tree) (alike : (s : S) (a b : Option SectionId) → map normal (put s a b) ≡ map normal (other s a b)) where
-    before_alike : (s : S) (last : Option SectionId) (t : Tree) → map normal (put_before put s last t) ≡ map normal (put_before other s last t)
-    before_alike s last (Tree.row k t) = before_alike s last t
-    before_alike s last (Tree.told k t) = alike s last (Some k)
-    before_alike s last _ = refl
+  module _ (other : Puts S Tree) where
+    abbrev Same : S → Option SectionId → Option SectionId → Type 0
+    Same s a b = map normal (put s a b) ≡ map normal (other s a b)
 
-    pub woven_alike : (last : Option SectionId) (s : S) (t : Tree) (given : List ℕ) → normal (woven_from asked put last s t given) ≡ normal (woven_from asked other last s t given)
-    woven_alike last s (Tree.pair t u) xs =
-        rw (woven_alike None s t xs, woven_alike None (state_after (run asked s (visits_from None t))) u (after t xs)) refl
-    woven_alike last s Tree.finish xs = alsos_alike (put s last None) (other s last None) Tree.finish Tree.finish (alike s last None) refl
-    woven_alike last s (Tree.also t u) xs =
+    before_alike : (s : S) (last : Option SectionId) (t : Tree) (more : List Visit) → AtSections asked s (before last t ++ more) Same →
+        map normal (put_before put s last t) ≡ map normal (put_before other s last t)
+    before_alike s last (Tree.row k t) more alike = before_alike s last t more alike
+    before_alike s last (Tree.told k t) more alike = alike [] last (Some k) more refl
+    before_alike s last _ more alike = refl
+
+    pub woven_alike : (last : Option SectionId) (s m : S) (t : Tree) (told xs : List ℕ) → run asked s (visits_from last t) ≡ accepted told m → AtSections asked s (visits_from last t) Same →
+        normal (woven_from asked put last s t xs) ≡ normal (woven_from asked other last s t xs)
+    woven_alike last s m (Tree.pair t u) told xs ran alike =
+        let r = run_parts asked s m (visits_from None t) (visits_from None u) told ran in
+        let state : state_after (run asked s (visits_from None t)) ≡ r.1 = ap state_after r.3 in
+        rw (woven_alike None s r.1 t r.0 xs r.3 (at_front asked Same s (visits_from None t) (visits_from None u) alike), state, woven_alike None r.1 m u r.2 (after t xs) r.4 (at_behind asked Same s r.1 r.0 (visits_from None t) (visits_from None u) r.3 alike)) refl
+    woven_alike last s m Tree.finish told xs ran alike = alsos_alike (put s last None) (other s last None) Tree.finish Tree.finish (alike [] last None [] refl) refl
+    woven_alike last s m (Tree.also t u) told xs ran alike =
         let own : List ℕ = drop (length (before None t)) xs in
-        let state : S = state_after (run asked s (before last t ++ visits_from None t)) in
-        let p : Tree = woven_from asked put (kind last t) state u (after t own) in
-        let q : Tree = woven_from asked other (kind last t) state u (after t own) in
-        let same : normal p ≡ normal q = woven_alike (kind last t) state u (after t own) in
-        alsos_alike (put_before put s last t) (put_before other s last t) (Tree.also (fill t own) p) (Tree.also (fill t own) q) (before_alike s last t)
-        (ap (λ (z : List ℕ). normal (fill t own) ++ z) same)
-    woven_alike last s t xs = refl
+        let r = also_ran asked s m last t u told ran in
+        let p : Tree = woven_from asked put (kind last t) r.1 u (after t own) in
+        let q : Tree = woven_from asked other (kind last t) r.1 u (after t own) in
+        let same : normal p ≡ normal q = woven_alike (kind last t) r.1 m u r.2 (after t own) r.4 (also_behind asked Same s r.1 r.0 last t u r.3 alike) in
+        let state : state_after (run asked s (before last t ++ visits_from None t)) ≡ r.1 = ap state_after r.3 in
+        rw state
+        (alsos_alike (put_before put s last t) (put_before other s last t) (Tree.also (fill t own) p) (Tree.also (fill t own) q)
+        (before_alike s last t (visits_from None t ++ visits_from (kind last t) u) alike) (ap (λ (z : List ℕ). normal (fill t own) ++ z) same))
+    woven_alike last s m t told xs ran alike = refl
 
 -- ---- the laws
 

@@ -14,9 +14,9 @@ use Rattle.reencode_hooks.specs.Run.{accepted, ask, run, state_after}
 use Rattle.reencode_hooks.specs.Hooks.{KeepsAnswers}
 use Rattle.reencode_hooks.proofs.InRange.{Small, all_small, answers_small, below, small_behind, visits_in_range}
 use Rattle.reencode_core.specs.Rows.{Asks}
-use Rattle.reencode_core.specs.Weave.{Puts, added, put_before, woven_from, woven}
+use Rattle.reencode_core.specs.Weave.{AtSections, Puts, added, put_before, woven_from, woven}
 use Rattle.reencode_core.specs.WovenLaws.{AreReadings, ReadsAdded, OutputIsRead}
-use Rattle.reencode_core.proofs.Weaves.{forth, woven_alike}
+use Rattle.reencode_core.proofs.Weaves.{also_behind, also_ran, forth, woven_alike}
 
 -- the answers to the visits of what bytes spell
 pub reading_small : {S E : Type 0} (reply : S → Visit → Result ℕ E) (next : S → Visit → S) → KeepsAnswers reply → (s m : S) (t : Tree) (bytes told : List ℕ) → Spelled t bytes →
@@ -41,29 +41,35 @@ reads_before _ _ p q (AreReadings.more {row = row} {rows = rows} {vs = vs} r res
     let others = reads_before rows vs p q rest h in
     record { shaped = Is.also r.shaped others.shaped; spelled = (section_bytes row, normal (alsos (map framed_tree rows) p), refl, r.spelled, others.spelled) }
 
-module _ {S E : Type 0} (asked : Asks S E) (adds : Puts S SectionRow) (readings : Puts S Tree) (are : ReadsAdded adds readings) where
-  reads_hook : (s : S) (last : Option SectionId) (t p q : Tree) → Spells sections (normal p) q →
-      Spells sections (normal (alsos (put_before (added adds) s last t) p)) (alsos (put_before readings s last t) q)
-  reads_hook s last (Tree.row k t) p q h = reads_hook s last t p q h
-  reads_hook s last (Tree.told k t) p q h = reads_before (adds s last (Some k)) (readings s last (Some k)) p q (are s last (Some k)) h
-  reads_hook s last _ p q h = h
+module _ {S E : Type 0} (asked : Asks S E) (adds : Puts S SectionRow) (readings : Puts S Tree) where
+  abbrev Reads : S → Option SectionId → Option SectionId → Type 0
+  Reads s a b = AreReadings (adds s a b) (readings s a b)
 
-  reads_from : (last : Option SectionId) (s : S) (t : Tree) (x xs : List ℕ) → Is sections t → Spelled t x → Small xs → Fits (fill t xs) (2 ^ 32 - 1) →
+  reads_hook : (s : S) (last : Option SectionId) (t p q : Tree) (more : List Visit) → AtSections asked s (before last t ++ more) Reads → Spells sections (normal p) q →
+      Spells sections (normal (alsos (put_before (added adds) s last t) p)) (alsos (put_before readings s last t) q)
+  reads_hook s last (Tree.row k t) p q more are h = reads_hook s last t p q more are h
+  reads_hook s last (Tree.told k t) p q more are h = reads_before (adds s last (Some k)) (readings s last (Some k)) p q (are [] last (Some k) more refl) h
+  reads_hook s last _ p q more are h = h
+
+  reads_from : (last : Option SectionId) (s m : S) (t : Tree) (x xs told : List ℕ) → Is sections t → Spelled t x → Small xs → Fits (fill t xs) (2 ^ 32 - 1) →
+      run asked s (visits_from last t) ≡ accepted told m → AtSections asked s (visits_from last t) Reads →
       Spells sections (normal (woven_from asked (added adds) last s t xs)) (woven_from asked readings last s t xs)
-  reads_from last s t x xs Is.finish p small fits =
-      reads_before (adds s last None) (readings s last None) Tree.finish Tree.finish (are s last None) (record { shaped = Is.finish; spelled = refl })
-  reads_from last s t x xs (Is.also {t = v} {u = u} d d') p small fits =
+  reads_from last s m t x xs told Is.finish p small fits ran are =
+      reads_before (adds s last None) (readings s last None) Tree.finish Tree.finish (are [] last None [] refl) (record { shaped = Is.finish; spelled = refl })
+  reads_from last s m t x xs told (Is.also {t = v} {u = u} d d') p small fits ran are =
       let own : List ℕ = drop (length (before None v)) xs in
-      let state : S = state_after (run asked s (before last v ++ visits_from None v)) in
       let own_small : Small own = small_behind (length (before None v)) xs small in
       let rest_small : Small (after v own) = small_behind (length (visits v)) own own_small in
       let parts = all_parts (2 ^ 32 - 1) (frames (fill v own)) (frames (fill u (after v own))) fits in
       let one : Spells section (normal (fill v own)) (fill v own) = filled_read_back section p.0 v own own_small (record { shaped = d; spelled = p.3 }) parts.0 in
-      let rest = reads_from (kind last v) state u p.1 (after v own) d' p.4 rest_small parts.1 in
-      let made : Tree = woven_from asked (added adds) (kind last v) state u (after v own) in
-      let read : Tree = woven_from asked readings (kind last v) state u (after v own) in
-      reads_hook s last v (Tree.also (fill v own) made) (Tree.also (fill v own) read)
-      (record { shaped = Is.also one.shaped rest.shaped; spelled = (normal (fill v own), normal made, refl, one.spelled, rest.spelled) })
+      let r = also_ran asked s m last v u told ran in
+      let rest = reads_from (kind last v) r.1 m u p.1 (after v own) r.2 d' p.4 rest_small parts.1 r.4 (also_behind asked Reads s r.1 r.0 last v u r.3 are) in
+      let made : Tree = woven_from asked (added adds) (kind last v) r.1 u (after v own) in
+      let read : Tree = woven_from asked readings (kind last v) r.1 u (after v own) in
+      let state : state_after (run asked s (before last v ++ visits_from None v)) ≡ r.1 = ap state_after r.3 in
+      rw state
+      (reads_hook s last v (Tree.also (fill v own) made) (Tree.also (fill v own) read) (visits_from None v ++ visits_from (kind last v) u) are
+      (record { shaped = Is.also one.shaped rest.shaped; spelled = (normal (fill v own), normal made, refl, one.spelled, rest.spelled) }))
 
 -- ---- the header
 
@@ -75,6 +81,10 @@ frames_headed : (hs : List ℕ) (t : Tree) (xs : List ℕ) → frames (fill (hea
 frames_headed [] t xs = refl
 frames_headed (h ∷ hs) t xs = frames_headed hs t xs
 
+visits_headed : (hs : List ℕ) (t : Tree) → visits (headed_tree hs t) ≡ visits t
+visits_headed [] t = refl
+visits_headed (h ∷ hs) t = visits_headed hs t
+
 module _ {S E : Type 0} (asked : Asks S E) where
   woven_headed : (put : Puts S Tree) (hs : List ℕ) (s : S) (t : Tree) (xs : List ℕ) → woven_from asked put None s (headed_tree hs t) xs ≡ headed_tree hs (woven_from asked put None s t xs)
   woven_headed put [] s t xs = refl
@@ -83,15 +93,17 @@ module _ {S E : Type 0} (asked : Asks S E) where
   woven_core : (put : Puts S Tree) (s : S) (t u : Tree) (xs : List ℕ) → t ≡ core_tree u → woven asked put s t xs ≡ core_tree (woven asked put s u xs)
   woven_core put s t u xs e = ap (λ (z : Tree). woven asked put s z xs) e ∙ woven_headed put core_header s u xs
 
-  reads_core : (adds : Puts S SectionRow) (readings : Puts S Tree) → ReadsAdded adds readings → (s : S) (t : Tree) (bytes xs : List ℕ) → Spells core_module bytes t → Small xs →
-      Fits (fill t xs) (2 ^ 32 - 1) → Spells core_module (normal (woven asked (added adds) s t xs)) (woven asked readings s t xs)
-  reads_core adds readings are s t bytes xs p small fits =
+  reads_core : (adds : Puts S SectionRow) (readings : Puts S Tree) (s m : S) (t : Tree) (bytes xs : List ℕ) → Spells core_module bytes t → Small xs → Fits (fill t xs) (2 ^ 32 - 1) →
+      run asked s (visits t) ≡ accepted xs m → ReadsAdded asked adds readings s (visits t) → Spells core_module (normal (woven asked (added adds) s t xs)) (woven asked readings s t xs)
+  reads_core adds readings s m t bytes xs p small fits ran are =
       let b = module_headed.back bytes t p in
       let u = b.0 in
       let F : Tree → Type 0 = λ z. Fits (fill z xs) (2 ^ 32 - 1) in
       let A : List ℕ → Type 0 = λ z. All (λ n. n ≤ 2 ^ 32 - 1) z in
       let inner : Fits (fill u xs) (2 ^ 32 - 1) = subst A (frames_headed core_header u xs) (subst F b.1 fits) in
-      let whole = head_forth core_header (reads_from asked adds readings are None s u b.2.rest xs b.2.spells.shaped b.2.spells.spelled small inner) in
+      let same : visits t ≡ visits u = ap visits b.1 ∙ visits_headed core_header u in
+      let R : List Visit → Type 0 = λ z. ReadsAdded asked adds readings s z in
+      let whole = head_forth core_header (reads_from asked adds readings None s m u b.2.rest xs xs b.2.spells.shaped b.2.spells.spelled small inner (ap (run asked s) (sym same) ∙ ran) (subst R same are)) in
       let bytes_are : normal (woven asked (added adds) s t xs) ≡ core_header ++ normal (woven asked (added adds) s u xs) =
       ap normal (woven_core (added adds) s t u xs b.1) ∙ normal_headed core_header (woven asked (added adds) s u xs) in
       let B : List ℕ → Type 0 = λ z. Spells core_module z (core_tree (woven asked readings s u xs)) in
@@ -105,12 +117,12 @@ framed_alike [] = refl
 framed_alike (row ∷ rows) = ap (λ (z : List (List ℕ)). section_bytes row ∷ z) (framed_alike rows)
 
 pub output_is_read : {S E : Type 0} (reply : S → Visit → Result ℕ E) (next : S → Visit → S) (adds : Puts S SectionRow) → KeepsAnswers reply → OutputIsRead (ask reply next) adds
-output_is_read reply next adds keeps readings are c bound s m bytes t u p h =
+output_is_read reply next adds keeps readings c bound s m bytes t u p h are =
     let asked = ask reply next in
     let a = forth asked (added adds) c s m t u h in
     let w = woven asked readings s t a.given in
     let small : Small a.given = all_small a.given (answers_small reply next keeps s m (visits t) a.given (visits_in_range None t (spelled_in_range t bytes p.spelled)) a.ran) in
-    let reads = reads_core asked adds readings are s t bytes a.given p small (below c (2 ^ 32 - 1) (frames (fill t a.given)) bound a.fits) in
+    let reads = reads_core asked adds readings s m t bytes a.given p small (below c (2 ^ 32 - 1) (frames (fill t a.given)) bound a.fits) a.ran are in
     let B : List ℕ → Type 0 = λ z. Spells core_module z w in
     let there : Spells core_module (normal u) w = subst B (ap normal a.wove) reads in record {
       given = a.given;
@@ -118,5 +130,7 @@ output_is_read reply next adds keeps readings are c bound s m bytes t u p h =
       reading = there;
       only = λ v q. one_tree core_module tables_sound.core_sound (normal u) v w q there;
       normally = λ are_normal.
-          sym (woven_alike asked (added adds) readings (λ k x y. framed_alike (adds k x y) ∙ sym (are_normal k x y)) None s t a.given) ∙ ap normal a.wove;
+          let alike : AtSections asked s (visits t) (λ k x y. map normal (added adds k x y) ≡ map normal (readings k x y)) =
+          λ front x y rest parts. framed_alike (adds (state_after (run asked s front)) x y) ∙ sym (are_normal front x y rest parts) in
+          sym (woven_alike asked (added adds) readings None s m t a.given a.given a.ran alike) ∙ ap normal a.wove;
     }

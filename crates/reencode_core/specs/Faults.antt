@@ -1,8 +1,9 @@
--- The laws of faults: what a module's bytes that have no reading come to, and what then stands in the module.
-use Rattle.std.specs.Prelude.{◌≡◌, ◌-◌, ℕ, List, length}
+-- The laws of fronts and faults: what stands in front in a module's bytes, what those that have no reading come to, and what then stands
+-- in the module.
+use Rattle.std.specs.Prelude.{◌≡◌, ◌-◌, ◌++◌, ℕ, List, length}
 use Rattle.wasm_shapes.specs.Tree.{Tree}
 use Rattle.wasm_shapes.specs.CodeSize.{InvalidCodeSize}
-use Rattle.wasm_shapes.specs.Module.{FaultAt, NoCoreReading}
+use Rattle.wasm_shapes.specs.Module.{core_header, FaultAt, Front, NoCoreReading}
 use Rattle.wasm_write.specs.Sections.{Sections, SectionRow}
 use Rattle.reencode_hooks.specs.declared.error.Error.{Error}
 use Rattle.reencode_hooks.specs.declared.error.Error.TheVariants.{InvalidCodeSectionSize, ParseError, UserError, TooLarge, NoMemory}
@@ -11,6 +12,20 @@ use Rattle.reencode_core.specs.Rows.{Asks}
 use Rattle.reencode_core.specs.Core.{RefusedIn, IsCause}
 use Rattle.reencode_core.specs.Weave.{Puts}
 use Rattle.reencode_core.specs.Woven.{GainsFront}
+
+-- Bytes with the header of a core module have a front: it is refuted that there is none.
+abbrev pub HasFront : Type 0
+HasFront = (bytes start : List ℕ) → bytes ≡ core_header ++ start → ¬ ((before : List Tree) (rest : List ℕ) → ¬ Front bytes before rest)
+
+-- They have a reading, or a fault: it is refuted that there is neither.
+abbrev pub ReadsOrFails : Type 0
+ReadsOrFails =
+    (bytes start : List ℕ) → bytes ≡ core_header ++ start → NoCoreReading bytes → ¬ ((before : List Tree) (rest : List ℕ) → ¬ FaultAt bytes before rest)
+
+-- Two fronts of the same bytes are one.
+abbrev pub OneFront : Type 0
+OneFront =
+    (bytes : List ℕ) (before others : List Tree) (rest left : List ℕ) → Front bytes before rest → Front bytes others left → (before ≡ others) × (rest ≡ left)
 
 -- The errors where these bytes are left at the first place where no section begins: the place, or where a code section states a
 -- size past the end, that; a refusal, or a size that is too large, which is then one of the sections before; or want of memory.

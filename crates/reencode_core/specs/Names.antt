@@ -24,7 +24,7 @@ use Rattle.reencode_hooks.specs.Errors.{error_of_write}
 use Rattle.reencode_hooks.specs.Run.{accepted, refused}
 use Rattle.reencode_hooks.specs.Walk.{walk}
 use Rattle.reencode_core.specs.Errors.{IfParse, IfRefused}
-use Rattle.reencode_core.specs.Rows.{Asks, AcceptsRows, AcceptedHooks, RowsBefore, StopsEach}
+use Rattle.reencode_core.specs.Rows.{Asks, AcceptsRows, AcceptedHooks, RefusesRow, RowsBefore, StopsEach}
 use Rattle.reencode_core.specs.Sections.{GivesAdded}
 
 -- ---- one subsection
@@ -133,11 +133,8 @@ pub record SubsectionsFault {S E : Type 0} (asked : Asks S E) (c : ℕ) (reader 
   pub accepts : AcceptsRows asked c s read made state
 
 -- A subsection stands whole there, and it is refused.
-pub record RefusesSubsection {S E : Type 0} (asked : Asks S E) (c : ℕ) (bytes : List ℕ) (s : S) (e : Error E) (m : S) : Type 0 where
-  pub tree : Tree
-  pub left : List ℕ
-  pub begins : Begins name_subsection bytes tree left
-  pub refusal : walk asked c s tree ≡ refused e m
+abbrev pub RefusesSubsection : {S E : Type 0} → Asks S E → ℕ → List ℕ → S → Error E → S → Type 0
+RefusesSubsection asked c bytes s e m = RefusesRow asked c name_subsection bytes s e m
 
 -- The frame of a subsection stands there, and an entry of its map is refused.
 pub record RefusesEntry {S E : Type 0} (asked : Asks S E) (bytes : List ℕ) (c : ℕ) (s : S) (e : Error E) (m : S) : Type 0 where

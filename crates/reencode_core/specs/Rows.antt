@@ -138,7 +138,14 @@ StopsBody {S} asked c bytes s e m =
     ((t : Tree) × (start : List ℕ) × Begins locals bytes t start × (walk asked c s t ≡ refused e m))
     ⊎ ((t : Tree) × (start : List ℕ) × (u : Tree) × (n : S) × Begins locals bytes t start × (walk asked c s t ≡ accepted u n) × StopsOperators asked c start n e m)
 
--- A row stands whole there, and it is refused; or its visits are accepted, and it is one too many behind so many rows.
+-- A row stands whole there, and it is refused.
+pub record RefusesRow {S E : Type 0} (asked : Asks S E) (c : ℕ) (row : Shape) (bytes : List ℕ) (s : S) (e : Error E) (m : S) : Type 0 where
+  pub tree : Tree
+  pub left : List ℕ
+  pub begins : Begins row bytes tree left
+  pub refusal : walk asked c s tree ≡ refused e m
+
+-- The same; or its visits are accepted, and it is one too many behind so many rows.
 pub record RefusesWhole {S E : Type 0} (asked : Asks S E) (c : ℕ) (row : Shape) (bytes : List ℕ) (s : S) (n : ℕ) (e : Error E) (m : S) : Type 0 where
   pub tree : Tree
   pub left : List ℕ
@@ -153,7 +160,7 @@ pub record RefusesInside {S E : Type 0} (asked : Asks S E) (c : ℕ) (row : Shap
   pub begins : Begins frame_row bytes (Tree.sized (Tree.raw body)) left
   pub stops : StopsBody asked c body s e m
 
--- Rows stand there and were accepted, and what they became was added; the next one, which is due, is refused.
+-- Rows stand there and were accepted, and what they became was added; the next one, which is due, is refused, or is one too many.
 pub record StopsAtRow {S E : Type 0} (asked : Asks S E) (c : ℕ) (row : Shape) (reader : Standing) (before : S × List Tree) (e : Error E)
     (after : S × List Tree) : Type 0 where
   pub read : List Tree
@@ -166,6 +173,17 @@ pub record StopsAtRow {S E : Type 0} (asked : Asks S E) (c : ℕ) (row : Shape) 
   pub counted : length made ≡ length read
   pub gains : after.1 ≡ before.1 ++ made
   pub refuses : RefusesWhole asked c row rest state (length after.1) e after.0 ⊎ RefusesInside asked c row rest state e after.0
+
+-- Rows stand there and were accepted, and the next one, which is due, is refused.
+pub record StopsDue {S E : Type 0} (asked : Asks S E) (c : ℕ) (row : Shape) (reader : Standing) (s : S) (e : Error E) (m : S) : Type 0 where
+  pub read : List Tree
+  pub rest : List ℕ
+  pub made : List Tree
+  pub state : S
+  pub front : RowsBefore row reader.rest read rest
+  pub due : length read < reader.left
+  pub accepts : AcceptsRows asked c s read made state
+  pub refuses : RefusesRow asked c row rest state e m ⊎ RefusesInside asked c row rest state e m
 
 -- ---- a section of rows
 

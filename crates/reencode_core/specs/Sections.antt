@@ -25,7 +25,7 @@ use Rattle.reencode_hooks.specs.Hooks.{Gains}
 use Rattle.reencode_core.specs.declared.sections.Body.{Body}
 use Rattle.reencode_core.specs.declared.sections.Body.TheVariants as body
 use Rattle.reencode_core.specs.Errors.{IfParse, IfRefused}
-use Rattle.reencode_core.specs.Rows.{Asks, RowsFault, StopsAtRow}
+use Rattle.reencode_core.specs.Rows.{Asks, RowsFault, StopsDue}
 
 -- the second has the first's ceiling and sections, and perhaps more sections after them
 abbrev pub KeepsModule : Sections → Sections → Type 0
@@ -115,12 +115,12 @@ BodyFault asked c kind body s m at =
     × (((at ≡ 0) × (BeginsNoNumber 128 32 32 body ⊎ (body_of kind ≡ Shape.none)) × (m ≡ s)) ⊎ RowsFaultIn asked c kind body s m at
     ⊎ ((space : Space) × HasItem kind space × LeftBehind body at × (m ≡ s)))
 
--- The count of the rows stands there, rows behind it were accepted, and the next one is refused.
+-- The count of the rows stands there, rows behind it were accepted, and the next one is refused. None is one too many: what they
+-- became is in a section of its own, and the count is below 2^32.
 pub record StopsSection {S E : Type 0} (asked : Asks S E) (c : ℕ) (kind : SectionId) (body : List ℕ) (s : S) (e : Error E) (m : S) : Type 0 where
   pub reader : Standing
-  pub made : List Tree
   pub counted : CountRead body reader
-  pub stops : StopsAtRow asked c (row_of kind) reader (s, []) e (m, made)
+  pub stops : StopsDue asked c (row_of kind) reader s e m
 
 pub record GivesSection {S E : Type 0} (asked : Asks S E) (kind : SectionId) (body : List ℕ) (before after : S × Sections)
     (result : Result (Unit {0}) (Error E)) : Type 0 where

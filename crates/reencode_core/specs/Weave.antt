@@ -1,6 +1,7 @@
 -- The walk of a reencoder whose section hook adds: the added sections stand in the tree, each where its visit stands.
-use Rattle.std.specs.Prelude.{ℕ, List, [], ◌∷◌, ◌++◌, length, map, drop, Option, Some, None}
+use Rattle.std.specs.Prelude.{◌≡◌, ℕ, List, [], ◌∷◌, ◌++◌, length, map, drop, Option, Some, None}
 use Rattle.wasm_shapes.specs.declared.SectionId.{SectionId}
+use Rattle.wasm_shapes.specs.declared.Visit.{Visit}
 use Rattle.wasm_shapes.specs.declared.Visit.TheVariants.{Section}
 use Rattle.wasm_shapes.specs.Tree.{Tree, kind, before, visits_from, after, fill}
 use Rattle.wasm_shapes.specs.Module.{alsos}
@@ -48,6 +49,12 @@ abbrev pub weave : {S E : Type 0} → Asks S E → Puts S Tree → ℕ → S →
 weave asked put c s t = weave_from asked put c None s t
 
 -- ---- the same in terms of the run
+
+-- this holds at each section visit among these, of the state that the run over those before it leaves
+abbrev pub AtSections : {S E : Type 0} → Asks S E → S → List Visit → (S → Option SectionId → Option SectionId → Type 0) → Type 0
+AtSections asked s visits P =
+    (front : List Visit) (last next : Option SectionId) (rest : List Visit) → visits ≡ front ++ Section last next ∷ rest
+    → P (state_after (run asked s front)) last next
 
 -- the filled tree, with what is put at the state of each section visit of the run
 abbrev pub woven_from : {S E : Type 0} → Asks S E → Puts S Tree → Option SectionId → S → Tree → List ℕ → Tree

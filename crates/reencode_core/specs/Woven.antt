@@ -12,12 +12,12 @@ use Rattle.wasm_read.specs.Frames.{numbered_frame}
 use Rattle.wasm_write.specs.Sections.{Sections, SectionRow, sections_bytes}
 use Rattle.reencode_hooks.specs.declared.error.Error.{Error}
 use Rattle.reencode_hooks.specs.declared.error.Error.TheVariants.{TooLarge, NoMemory}
-use Rattle.reencode_hooks.specs.Run.{Step, accepted, refused, run, state_after}
+use Rattle.reencode_hooks.specs.Run.{Step, accepted, refused}
 use Rattle.reencode_hooks.specs.Walk.{walk, announced}
 use Rattle.reencode_hooks.specs.Hooks.{Gains, HasTooLarge}
 use Rattle.reencode_core.specs.Rows.{Asks}
 use Rattle.reencode_core.specs.Core.{onto, IsCause}
-use Rattle.reencode_core.specs.Weave.{Puts, added, kind_after, put_before, weave, weave_from}
+use Rattle.reencode_core.specs.Weave.{AtSections, Puts, added, kind_after, put_before, weave, weave_from}
 
 -- ---- the section hook, and a section behind it
 
@@ -169,9 +169,7 @@ pub record GivesWovenBytes {S E A : Type 0} (asked : Asks S E) (adds : Puts S Se
 -- No section that is added at a section visit among these, at the state that the run over those before it leaves, has a body
 -- above the ceiling.
 abbrev pub AddsFit : {S E : Type 0} → Asks S E → Puts S SectionRow → ℕ → S → List Visit → Type 0
-AddsFit asked adds c s visits =
-    (front : List Visit) (after before : Option SectionId) (rest : List Visit) → visits ≡ front ++ Section after before ∷ rest
-    → (size : ℕ) → ¬ HasTooLarge c (adds (state_after (run asked s front)) after before) size
+AddsFit asked adds c s visits = AtSections asked s visits (λ m after before. (size : ℕ) → ¬ HasTooLarge c (adds m after before) size)
 
 -- these bytes are the answer, and this is the state that is left; or memory is wanting
 abbrev pub IsOrWants : {S E A : Type 0} → List ℕ → S → S → Result A (Error E) → (A → List ℕ) → Type 0

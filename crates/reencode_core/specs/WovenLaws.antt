@@ -1,6 +1,7 @@
 -- Laws of the walk of a reencoder whose section hook adds: beside the plain walk, the run, and what its output is read as.
 use Rattle.std.specs.Prelude.{◌≡◌, ◌≤◌, ◌-◌, ◌^◌, ℕ, List, [], ◌∷◌, map, Option}
 use Rattle.wasm_shapes.specs.declared.SectionId.{SectionId}
+use Rattle.wasm_shapes.specs.declared.Visit.{Visit}
 use Rattle.wasm_shapes.specs.Tree.{Tree, visits, fill, normal}
 use Rattle.wasm_shapes.specs.Spells.{Spelled, Spells}
 use Rattle.wasm_shapes.specs.Fits.{Fits}
@@ -9,7 +10,7 @@ use Rattle.wasm_write.specs.Sections.{SectionRow, section_bytes}
 use Rattle.reencode_hooks.specs.Run.{Step, accepted, and_then, run}
 use Rattle.reencode_hooks.specs.Walk.{walk}
 use Rattle.reencode_core.specs.Rows.{Asks}
-use Rattle.reencode_core.specs.Weave.{Puts, added, weave, woven}
+use Rattle.reencode_core.specs.Weave.{AtSections, Puts, added, weave, woven}
 
 -- Where nothing is put, it is the walk.
 abbrev pub WeaveOfNothing : {S E : Type 0} → Asks S E → Type 0
@@ -48,13 +49,14 @@ pub data AreReadings : List SectionRow → List Tree → Type 0 where
   more : {row : SectionRow} {v : Tree} {rows : List SectionRow} {vs : List Tree} → Spells section (section_bytes row) v → AreReadings rows vs →
       AreReadings (row ∷ rows) (v ∷ vs)
 
--- these are readings of all sections that are ever added
-abbrev pub ReadsAdded : {S : Type 0} → Puts S SectionRow → Puts S Tree → Type 0
-ReadsAdded {S} adds readings = (s : S) (after before : Option SectionId) → AreReadings (adds s after before) (readings s after before)
+-- these are readings of the sections that are added at these visits
+abbrev pub ReadsAdded : {S E : Type 0} → Asks S E → Puts S SectionRow → Puts S Tree → S → List Visit → Type 0
+ReadsAdded asked adds readings s visits = AtSections asked s visits (λ m after before. AreReadings (adds m after before) (readings m after before))
 
 -- and these sections are spelled normally
-abbrev pub AreNormal : {S : Type 0} → Puts S SectionRow → Puts S Tree → Type 0
-AreNormal {S} adds readings = (s : S) (after before : Option SectionId) → map normal (readings s after before) ≡ map section_bytes (adds s after before)
+abbrev pub AreNormal : {S E : Type 0} → Asks S E → Puts S SectionRow → Puts S Tree → S → List Visit → Type 0
+AreNormal asked adds readings s visits =
+    AtSections asked s visits (λ m after before. map normal (readings m after before) ≡ map section_bytes (adds m after before))
 
 -- The run is accepted, and these bytes are a core module, read as this tree alone: the filled tree, with these readings directly
 -- before each section asked for, and at the end. The bytes are its normal spelling where what was added is spelled normally.
@@ -63,10 +65,10 @@ pub record ReadsOutput {S E : Type 0} (asked : Asks S E) (adds : Puts S SectionR
   pub ran : run asked s (visits t) ≡ accepted given m
   pub reading : Spells core_module bytes (woven asked readings s t given)
   pub only : (v : Tree) → Spells core_module bytes v → v ≡ woven asked readings s t given
-  pub normally : AreNormal adds readings → normal (woven asked readings s t given) ≡ bytes
+  pub normally : AreNormal asked adds readings s (visits t) → normal (woven asked readings s t given) ≡ bytes
 
--- Where all sections that are ever added have readings, so has what comes out of a reading.
+-- Where the sections that are added at the visits of a reading have readings, so has what comes out of it.
 abbrev pub OutputIsRead : {S E : Type 0} → Asks S E → Puts S SectionRow → Type 0
 OutputIsRead {S} asked adds =
-    (readings : Puts S Tree) → ReadsAdded adds readings → (c : ℕ) → c ≤ 2 ^ 32 - 1 → (s m : S) (bytes : List ℕ) (t u : Tree) →
-    Spells core_module bytes t → weave asked (added adds) c s t ≡ accepted u m → ReadsOutput asked adds readings s t (normal u) m
+    (readings : Puts S Tree) (c : ℕ) → c ≤ 2 ^ 32 - 1 → (s m : S) (bytes : List ℕ) (t u : Tree) → Spells core_module bytes t →
+    weave asked (added adds) c s t ≡ accepted u m → ReadsAdded asked adds readings s (visits t) → ReadsOutput asked adds readings s t (normal u) m

@@ -1,13 +1,22 @@
 //! Laws, each the contract of a function that does nothing.
 ghost use Rattle.std.specs.Prelude.{List, ℕ};
 ghost use Rattle.reencode_hooks.specs.Run.{ask};
-ghost use Rattle.reencode_core.specs.Faults.{FaultGains, FaultTells};
+ghost use Rattle.reencode_core.specs.Faults.{FaultGains, FaultTells, HasFront, OneFront, ReadsOrFails};
 ghost use Rattle.reencode_core.specs.Leaves.{core_in, module_in};
 ghost use Rattle.reencode_core.specs.Refusals.{FaultIsAnswered, RefusalTells};
 ghost use Rattle.reencode_core.specs.Woven.{AcceptedIsAnswered};
 ghost use Rattle.reencode_core.specs.WovenLaws.{OutputIsRead, WeaveEnds, WeaveIsRun, WeaveOfNothing};
 
 use reencode_hooks::ReencodeIndices;
+
+/// Bytes that begin with the header of a core module have one front: the sections that stand behind the header side by side, up to
+/// where the bytes end or none begins. Where they end there it is their reading, and else that is their fault.
+#[tactic(auto, using(crate::proofs::Fronts::has_front, crate::proofs::Fronts::reads_or_fails, crate::proofs::Fronts::one_front))]
+pub fn front_is_one()
+    ensures some { HasFront }
+    ensures either { ReadsOrFails }
+    ensures one { OneFront }
+{}
 
 /// Bytes behind whose header no section begins at some place, where bytes are left, have no reading; and what is left there
 /// says which errors may come of them.
@@ -52,8 +61,8 @@ pub fn weave_is_run<T: ReencodeIndices>(_reencoder: &T)
     ensures { WeaveIsRun (ask T.reply T.next) }
 {}
 
-/// Where all sections that the hook ever adds have readings, the output of an accepted walk over a reading is read as one tree
-/// alone: the filled tree, with the readings of what was added in their places.
+/// Where the sections that the hook adds at the section visits of a reading have readings, the output of an accepted walk over it
+/// is read as one tree alone: the filled tree, with the readings of what was added in their places.
 pub fn output_is_read<T: ReencodeIndices>(_reencoder: &T)
     ensures { OutputIsRead (ask T.reply T.next) T.adds }
 {}

@@ -22,8 +22,8 @@ pub mod utils;
 
 pub use adding::{Adding, SectionRule};
 pub use laws::{
-    accepted_is_answered, fault_gains, fault_is_answered, fault_tells, output_is_read,
-    refusal_tells, weave_ends, weave_is_run, weave_of_nothing,
+    accepted_is_answered, fault_gains, fault_is_answered, fault_tells, front_is_one,
+    output_is_read, refusal_tells, weave_ends, weave_is_run, weave_of_nothing,
 };
 pub use names::{indirect_name_map, map_indirect_names, map_names, name_map};
 pub use pieces::{

@@ -1,28 +1,25 @@
 -- What a refusal of a reencoder comes of: whatever is said by each walk of it that is refused, and kept by each that is accepted.
-use Rattle.std.proofs.Common.{◌≡◌, ℕ, zero, suc, ◌+◌, ◌-◌, ◌^◌, ◌<◌, ◌≤◌, ◌⊎◌, inl, inr, List, [], ◌∷◌, ◌++◌, length, length-append, append_assoc, append-nil, true, Option, Some, refl, sym, ap, ◌∙◌, subst, arith}
-use mathlib.Core.Bool.{false≢true}
+use Rattle.std.proofs.Common.{◌≡◌, ℕ, ◌≤◌, ◌⊎◌, inl, inr, List, ◌++◌, length, length-append, Option, Some, refl, ap, arith}
 use Rattle.wasm_shapes.specs.declared.SectionId.{SectionId}
 use Rattle.wasm_shapes.specs.declared.Visit.TheVariants.{Section}
 use Rattle.wasm_shapes.specs.Tree.{Tree}
 use Rattle.wasm_shapes.specs.Shape.{Shape}
-use Rattle.wasm_shapes.specs.Sound.{nullable}
-use Rattle.wasm_shapes.specs.Spells.{Is, Spelled, Spells}
+use Rattle.wasm_shapes.specs.Spells.{Spelled}
 use Rattle.wasm_shapes.specs.Place.{Begins}
 use Rattle.wasm_shapes.specs.Rows.{rows_then}
-use Rattle.wasm_shapes.specs.Module.{core_header, section, sections, frame, alsos, CoreReading, NoCoreReading, FaultAt}
-use Rattle.wasm_shapes.proofs.Fronts.{nullable_sound}
+use Rattle.wasm_shapes.specs.Module.{core_header, frame, alsos, CoreReading, FaultAt}
 use Rattle.wasm_read.specs.Operations.{frame_row}
 use Rattle.wasm_read.specs.Frames.{numbered_frame, custom_frame}
 use Rattle.wasm_read.specs.Subsections.{subsection_frame, subsection_frame_tree}
 use Rattle.wasm_read.specs.Reading.{Standing}
 use Rattle.reencode_hooks.specs.declared.error.Error.{Error}
-use Rattle.reencode_hooks.specs.declared.error.Error.TheVariants.{TooLarge}
 use Rattle.reencode_hooks.specs.Run.{accepted, refused}
 use Rattle.reencode_hooks.specs.Walk.{walk}
-use Rattle.reencode_core.specs.Rows.{Asks, AcceptsRows, AcceptedHooks, TooMany, StopsEach, StopsBody, RefusesWhole, RefusesInside, StopsAtRow}
+use Rattle.reencode_core.specs.Rows.{Asks, AcceptsRows, RefusesInside, RefusesRow, StopsBody, StopsDue, StopsEach}
 use Rattle.reencode_core.specs.Sections.{StopsSection}
 use Rattle.reencode_core.specs.Names.{StopsNames, StopsInNames, RefusesSubsection, RefusesEntry, contents_standing}
 use Rattle.reencode_core.specs.Core.{AcceptsSections, RefusedIn, StopsInside, StopsThere, BeforeFault}
+use Rattle.reencode_core.proofs.Fronts.{reads_or_fails}
 
 -- ---- lengths
 
@@ -74,62 +71,6 @@ custom {x} {left} {name} {contents} p =
     let whole : length p.text ≤ length x = begun p in
     omega (arith, ap length u.4)
 
--- ---- the bytes have a reading, or a fault
-
-section_fills : {x : List ℕ} {t : Tree} → Spells section x t → x ≡ [] → ⊥
-section_fills {x} p e = let never : nullable section ≡ true = nullable_sound p.shaped x p.spelled e in false≢true never
-
--- the parts of sections
-parts_of : {t u : Tree} → Is sections (Tree.also t u) → Is section t × Is sections u
-parts_of (Is.also d d') = (d, d')
-
--- one more section behind others
-one_more : (before : List Tree) (x y : List ℕ) (t : Tree) → Spells sections x (alsos before Tree.finish) → Spells section y t →
-    Spells sections (x ++ y) (alsos (before ++ t ∷ []) Tree.finish)
-one_more [] x y t p q =
-    let none : x ≡ [] = p.spelled in record {
-      shaped = Is.also q.shaped Is.finish;
-      spelled = (y, [], ap (λ (z : List ℕ). z ++ y) none ∙ sym (append-nil y), q.spelled, refl);
-    }
-one_more (u ∷ us) x y t p q =
-    let r = p.spelled in
-    let parts = parts_of p.shaped in
-    let more = one_more us r.1 y t (record { shaped = parts.1; spelled = r.4 }) q in record {
-      shaped = Is.also parts.0 more.shaped;
-      spelled = (r.0, r.1 ++ y, ap (λ (z : List ℕ). z ++ y) r.2 ∙ append_assoc r.0 r.1 y, r.3, more.spelled);
-    }
-
--- a section that stands there takes a byte
-less : (deep b : ℕ) (rest y left : List ℕ) (t : Tree) → length (b ∷ rest) ≤ suc deep → Spells section y t → b ∷ rest ≡ y ++ left → length left ≤ deep
-less deep b rest [] left t h q f = absurd (section_fills q refl)
-less deep b rest (a ∷ y) left t h q f = let whole : suc (length rest) ≡ length ((a ∷ y) ++ left) = ap length f in omega (arith, length-append (a ∷ y) left)
-
--- bytes behind the header of a core module are not without a reading and without a fault
-search_from : (deep : ℕ) (bytes start text rest : List ℕ) (before : List Tree) → length rest ≤ deep → bytes ≡ core_header ++ start → start ≡ text ++ rest →
-    Spells sections text (alsos before Tree.finish) → NoCoreReading bytes → ((ts : List Tree) (left : List ℕ) → FaultAt bytes ts left → ⊥) → ⊥
-search_from deep bytes start text [] before short stands e p none fault =
-    let all : text ≡ start = sym (append-nil text) ∙ sym e in
-    let P : List ℕ → Type 0 = λ z. Spells sections z (alsos before Tree.finish) in
-    none (alsos before Tree.finish) (record { rest = start; stands = stands; spells = subst P all p })
-search_from zero bytes start text (b ∷ rest) before short stands e p none fault = absurd (omega arith)
-search_from (suc deep) bytes start text (b ∷ rest) before short stands e p none fault =
-    fault before (b ∷ rest) (record {
-      front = record {
-        text = text;
-        spells = p;
-        stands = stands ∙ ap (λ (z : List ℕ). core_header ++ z) e;
-        ends = record {
-          none = λ y left t q f. search_from deep bytes start (text ++ y) left (before ++ t ∷ []) (less deep b rest y left t short q f) stands
-              (e ∙ ap (λ (z : List ℕ). text ++ z) f ∙ sym (append_assoc text y left)) (one_more before text y t p q) none fault;
-        };
-      };
-      some = λ empty. cc;
-    })
-
-not_neither : (bytes start : List ℕ) → bytes ≡ core_header ++ start → NoCoreReading bytes → ((ts : List Tree) (left : List ℕ) → FaultAt bytes ts left → ⊥) → ⊥
-not_neither bytes start stands =
-    search_from (length start) bytes start [] start [] (omega arith) stands refl (record { shaped = Is.finish; spelled = refl })
-
 -- ---- what is kept, and what is said
 
 -- This is kept by each accepted walk, and by the section hook, which is never refused; and that is said by each refused walk over a text.
@@ -160,37 +101,23 @@ module _ {S E : Type 0} {asked : Asks S E} {P : S → Type 0} {Q : ℕ → List 
   body_told c bytes s m e b (inl p) = tells.larger (begun p.2) (tells.only c p.0 p.2.text b p.2.spells.spelled p.3)
   body_told c bytes s m e b (inr p) = tells.larger (second_shorter p.4.text p.1 p.4.reads) (each_told (tells.kept c p.0 b p.5) p.6)
 
-  no_room : (e : Error E) (n : ℕ) → TooMany e n → n + 1 < 2 ^ 32 → ⊥
-  no_room (TooLarge size) n h l = let is : size ≡ n + 1 = h.0 in let above : 2 ^ 32 - 1 < size = h.1 in omega arith
-  no_room _ n h l = h
-
-  whole_told : {c : ℕ} {row : Shape} {bytes : List ℕ} {s m : S} {n : ℕ} {e : Error E} → P s → n + 1 < 2 ^ 32 → RefusesWhole asked c row bytes s n e m →
-      Q c bytes e
-  whole_told {c} {row} {bytes} {s} {m} {n} {e} b few h = go h.refusal
-    where
-      go : (walk asked c s h.tree ≡ refused e m) ⊎ (AcceptedHooks asked s h.tree m × TooMany e n) → Q c bytes e
-      go (inl w) = tells.larger (begun h.begins) (tells.only c h.tree h.begins.text b h.begins.spells.spelled w)
-      go (inr w) = absurd (no_room e n w.1 few)
+  whole_told : {c : ℕ} {row : Shape} {bytes : List ℕ} {s m : S} {e : Error E} → P s → RefusesRow asked c row bytes s e m → Q c bytes e
+  whole_told {c} b h = tells.larger (begun h.begins) (tells.only c h.tree h.begins.text b h.begins.spells.spelled h.refusal)
 
   inside_told : {c : ℕ} {row : Shape} {bytes : List ℕ} {s m : S} {e : Error E} → P s → RefusesInside asked c row bytes s e m → Q c bytes e
   inside_told {c} {s = s} {m = m} {e = e} b h = tells.larger (framed h.begins) (body_told c h.body s m e b h.stops)
 
-  row_told : {c : ℕ} {row : Shape} {reader : Standing} {s m : S} {e : Error E} {new : List Tree} → P s → reader.left < 2 ^ 32 → StopsAtRow asked c row reader (s, []) e (m, new) →
-      Q c reader.rest e
-  row_told {c} {row} {reader} {s} {m} {e} {new} b few h =
+  row_told : {c : ℕ} {row : Shape} {reader : Standing} {s m : S} {e : Error E} → P s → StopsDue asked c row reader s e m → Q c reader.rest e
+  row_told {c} {row} {m = m} {e = e} b h =
       tells.larger (second_shorter h.front.text h.rest h.front.stands) (go (rows_state c h.state h.read h.made b h.accepts) h.refuses)
     where
-      go : P h.state → RefusesWhole asked c row h.rest h.state (length new) e m ⊎ RefusesInside asked c row h.rest h.state e m → Q c h.rest e
-      go state (inl w) =
-          let due : length h.read < reader.left = h.due in
-          let gained : length new ≡ length h.made = ap length h.gains in
-          let counted : length h.made ≡ length h.read = h.counted in whole_told state (omega arith) w
+      go : P h.state → RefusesRow asked c row h.rest h.state e m ⊎ RefusesInside asked c row h.rest h.state e m → Q c h.rest e
+      go state (inl w) = whole_told state w
       go state (inr w) = inside_told state w
 
   section_told : (c : ℕ) (k : SectionId) (body : List ℕ) (s m : S) (e : Error E) → P s → StopsSection asked c k body s e m → Q c body e
   section_told c k body s m e b h =
-      let counted = h.counted.counted in
-      tells.larger (second_shorter counted.0 h.reader.rest counted.2) (row_told b counted.1.fits h.stops)
+      let counted = h.counted.counted in tells.larger (second_shorter counted.0 h.reader.rest counted.2) (row_told b h.stops)
 
   -- ---- a name section
 
@@ -202,7 +129,7 @@ module _ {S E : Type 0} {asked : Asks S E} {P : S → Type 0} {Q : ℕ → List 
       tells.larger (second_shorter h.front.text h.rest h.front.stands) (go (rows_state c h.state h.read h.made b h.accepts) h.refuses)
     where
       go : P h.state → RefusesSubsection asked c h.rest h.state e m ⊎ RefusesEntry asked h.rest c h.state e m → Q c h.rest e
-      go state (inl w) = tells.larger (begun w.begins) (tells.only c w.tree w.begins.text state w.begins.spells.spelled w.refusal)
+      go state (inl w) = whole_told state w
       go state (inr w) = entry_told state w
 
   in_names_told : {c : ℕ} {bytes : List ℕ} {s m : S} {e : Error E} → P s → StopsInNames asked c bytes s e m → Q c bytes e
@@ -241,4 +168,4 @@ module _ {S E : Type 0} {asked : Asks S E} {P : S → Type 0} {Q : ℕ → List 
   pub refusal_is_told : {c : ℕ} {bytes : List ℕ} {s m : S} {e : Error E} → P s → BeforeFault asked c bytes s m e →
       ((t : Tree) → CoreReading bytes t → Q c bytes e) → (Q c bytes e → ⊥) → ⊥
   refusal_is_told {bytes = bytes} b h reading other =
-      not_neither bytes h.0.0 h.0.1 (λ t r. other (reading t r)) (λ before rest f. other (fault_told b h before rest f))
+      reads_or_fails bytes h.0.0 h.0.1 (λ t r. other (reading t r)) (λ before rest f. other (fault_told b h before rest f))
