@@ -496,10 +496,7 @@ pub trait Reencode: ReencodeItems {
             write.custom_section_tree self.new result }
         ensures sure { IsTrue Self.keeps_defaults → NeverWants Self.sure result }
     {
-        Ok(w::CustomSection {
-            name: section.name,
-            contents: section.contents,
-        })
+        Ok(section)
     }
 
     /// Maps a custom section and adds it: one named `name` by `custom_name_section`, and any other by `custom_section`. It calls

@@ -471,10 +471,7 @@ pub fn custom_section<'a, T: Reencode>(
     ensures is { write.custom_section_tree result ≡ read.custom_tree section.entry }
     ensures state { reencoder.new ≡ reencoder.old }
 {
-    w::CustomSection {
-        name: section.name,
-        contents: section.contents,
-    }
+    section
 }
 
 /// Maps a custom section and adds it: one named `name` by `custom_name_section`, and any other by `custom_section`. It calls

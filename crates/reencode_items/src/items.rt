@@ -10,7 +10,6 @@ ghost use Rattle.wasm_write.specs.Instructions as instructions;
 ghost use Rattle.wasm_write.specs.Rows as rows;
 ghost use Rattle.wasm_write.specs.Types as write;
 ghost use Rattle.reencode_items.specs.Maps.{LeavesOperator, Maps, MovesOn, ParsesOperator};
-ghost use Rattle.reencode_items.specs.Orderings.{read_ordering_name, ordering_name};
 
 use crate::{bodies, indices, kinds};
 use reencode_hooks::{Error, ReencodeIndices};
@@ -62,7 +61,7 @@ pub trait ReencodeItems: ReencodeIndices {
             write.abstract_tree self.new result }
         ensures sure { IsTrue Self.keeps_defaults → NeverWants Self.sure result }
     {
-        Ok(kinds::abstract_heap_type(value))
+        Ok(value)
     }
 
     /// An array by the type of its elements (section 5.3.8).
@@ -277,7 +276,7 @@ pub trait ReencodeItems: ReencodeIndices {
             self.new result }
         ensures sure { IsTrue Self.keeps_defaults → NeverWants Self.sure result }
     {
-        Ok(kinds::tag_kind(kind))
+        Ok(kind)
     }
 
     /// A tag, by the index of its function type (section 5.3.14).
@@ -344,11 +343,10 @@ pub trait ReencodeItems: ReencodeIndices {
     /// The order of an atomic access: that of the same name. No operator of the table has one.
     fn ordering(&mut self, arg: r::Ordering) -> Result<w::Ordering, Error<Self::Error>>
         ensures default { IsTrue Self.keeps_defaults
-            → Gives (accepted (read_ordering_name arg) self.old)
-            ordering_name self.new result }
+            → Gives (accepted arg self.old) (λ made. made) self.new result }
         ensures sure { IsTrue Self.keeps_defaults → NeverWants Self.sure result }
     {
-        Ok(kinds::ordering(arg))
+        Ok(arg)
     }
 
     /// A floating-point number of 32 bits, by its bits.
@@ -357,7 +355,7 @@ pub trait ReencodeItems: ReencodeIndices {
             → Gives (accepted arg.0 self.old) (λ made. made.0) self.new result }
         ensures sure { IsTrue Self.keeps_defaults → NeverWants Self.sure result }
     {
-        Ok(kinds::ieee32_arg(arg))
+        Ok(arg)
     }
 
     /// A floating-point number of 64 bits, by its bits.
@@ -366,7 +364,7 @@ pub trait ReencodeItems: ReencodeIndices {
             → Gives (accepted arg.0 self.old) (λ made. made.0) self.new result }
         ensures sure { IsTrue Self.keeps_defaults → NeverWants Self.sure result }
     {
-        Ok(kinds::ieee64_arg(arg))
+        Ok(arg)
     }
 
     /// An immediate of an operator (section 5.4) that has a kind: its types, its memory access, what it catches or handles,

@@ -10,7 +10,6 @@ ghost use Rattle.wasm_write.specs.Instructions as instructions;
 ghost use Rattle.wasm_write.specs.Rows as rows;
 ghost use Rattle.wasm_write.specs.Types as write;
 ghost use Rattle.reencode_items.specs.Maps.{LeavesOperator, Maps, MovesOn, ParsesOperator};
-ghost use Rattle.reencode_items.specs.Orderings.{read_ordering_name, ordering_name};
 
 use crate::items::ReencodeItems;
 use crate::{bodies, indices, kinds};
@@ -30,7 +29,7 @@ pub fn abstract_heap_type<T: ReencodeItems>(
     ensures state { reencoder.new ≡ reencoder.old }
 {
     let _ = reencoder;
-    kinds::abstract_heap_type(value)
+    value
 }
 
 /// The kind of what is exported (section 5.5.10): with each index it is the same item. An exact function becomes a
@@ -293,7 +292,7 @@ pub fn tag_kind<T: ReencodeItems>(reencoder: &mut T, kind: r::TagKind) -> w::Tag
     ensures state { reencoder.new ≡ reencoder.old }
 {
     let _ = reencoder;
-    kinds::tag_kind(kind)
+    kind
 }
 
 /// A tag, by the index of its function type (section 5.3.14).
@@ -376,11 +375,11 @@ pub fn handle<T: ReencodeItems>(
 
 /// The order of an atomic access: that of the same name. No operator of the table has one.
 pub fn ordering<T: ReencodeItems>(reencoder: &mut T, arg: r::Ordering) -> w::Ordering
-    ensures value { ordering_name result ≡ read_ordering_name arg }
+    ensures value { result ≡ arg }
     ensures state { reencoder.new ≡ reencoder.old }
 {
     let _ = reencoder;
-    kinds::ordering(arg)
+    arg
 }
 
 /// A floating-point number of 32 bits, by its bits.
@@ -389,7 +388,7 @@ pub fn ieee32_arg<T: ReencodeItems>(reencoder: &mut T, arg: r::Ieee32) -> w::Iee
     ensures state { reencoder.new ≡ reencoder.old }
 {
     let _ = reencoder;
-    kinds::ieee32_arg(arg)
+    arg
 }
 
 /// A floating-point number of 64 bits, by its bits.
@@ -398,7 +397,7 @@ pub fn ieee64_arg<T: ReencodeItems>(reencoder: &mut T, arg: r::Ieee64) -> w::Iee
     ensures state { reencoder.new ≡ reencoder.old }
 {
     let _ = reencoder;
-    kinds::ieee64_arg(arg)
+    arg
 }
 
 /// An immediate of an operator (section 5.4) that has a kind: its types, its memory access, what it catches or handles, its

@@ -11,7 +11,7 @@ use Rattle.wasm_shapes.specs.Fits.{InRange}
 use Rattle.wasm_shapes.specs.Module.{element_row, element_functions}
 use Rattle.wasm_shapes.specs.Types.{Items, active_of, rows_tree, vector_tree, expression_of, function_index_tree}
 use Rattle.wasm_shapes.proofs.Frameless.{frameless_spells}
-use Rattle.wasm_write.specs.declared.types.RefType.{RefType}
+use Rattle.wasm_write.specs.Types.{RefType}
 use Rattle.wasm_write.specs.declared.types.Elements.{Elements}
 use Rattle.wasm_write.specs.declared.types.Elements.TheVariants as elements
 use Rattle.wasm_write.specs.declared.fault.WriteFault.{WriteFault}

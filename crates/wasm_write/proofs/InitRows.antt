@@ -10,12 +10,12 @@ use Rattle.wasm_shapes.specs.Module.{table_row, global_row}
 use Rattle.wasm_shapes.specs.Types.{expression_of, led, bounds_tree}
 use Rattle.wasm_shapes.proofs.Frameless.{frameless_spells}
 use Rattle.wasm_shapes.proofs.ReadBack.{spelled_in_range, in_range_had}
-use Rattle.wasm_write.specs.declared.types.AbstractHeapType.{AbstractHeapType}
-use Rattle.wasm_write.specs.declared.types.AbstractHeapType.TheVariants as abstract
-use Rattle.wasm_write.specs.declared.types.HeapType.{HeapType}
-use Rattle.wasm_write.specs.declared.types.HeapType.TheVariants as heap
-use Rattle.wasm_write.specs.declared.types.ValType.{ValType}
-use Rattle.wasm_write.specs.declared.types.ValType.TheVariants as value
+use Rattle.wasm_types.specs.declared.types.AbstractHeapType.{AbstractHeapType}
+use Rattle.wasm_types.specs.declared.types.AbstractHeapType.TheVariants as abstract
+use Rattle.wasm_write.specs.Types.{HeapType}
+use Rattle.wasm_types.specs.declared.types.HeapType.TheVariants as heap
+use Rattle.wasm_write.specs.Types.{ValType}
+use Rattle.wasm_types.specs.declared.types.ValType.TheVariants as value
 use Rattle.wasm_write.specs.declared.types.TableType.{TableType}
 use Rattle.wasm_write.specs.declared.types.GlobalType.{GlobalType}
 use Rattle.wasm_write.specs.declared.fault.WriteFault.{WriteFault}
