@@ -9,9 +9,8 @@ use Rattle.wasm_types.specs.declared.types.Catch.{Catch}
 use Rattle.wasm_types.specs.declared.types.Handle.{Handle}
 use Rattle.wasm_read.specs.Immediates.{Imm}
 use Rattle.wasm_types.specs.declared.types.Imm.TheVariants as imm
-use Rattle.wasm_read.specs.Types.{ValType}
+use Rattle.wasm_read.specs.Types.{ValType, val_types_tree}
 use Rattle.wasm_read.specs.Immediates as read
-use Rattle.wasm_read.specs.Types.{val_types_tree}
 use Rattle.reencode_hooks.specs.declared.error.Error.{Error}
 use Rattle.reencode_hooks.specs.declared.error.Error.TheVariants.{NoMemory}
 use Rattle.reencode_hooks.specs.Run.{Step, accepted, refused, LeavesVisited, NeverWants, Visited}
