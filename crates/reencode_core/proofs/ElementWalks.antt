@@ -59,16 +59,16 @@ module _ {I : Type 0} (indices : of.Indices I) where
   told true (heap.Exact i) = refl
   told true (heap.Concrete i) = refl
 
-abstract_is : (shared : Bool) (ty : AbstractHeapType) → read.are_functions (heap.Abstract shared ty) ≡ true → read.nullable_tree (heap.Abstract shared ty) ≡ funcref
-abstract_is false abstract.Func h = refl
-abstract_is false _ h = absurd cc
-abstract_is true _ h = absurd cc
+  abstract_is : (shared : Bool) (ty : AbstractHeapType) → of.are_functions {I = I} (heap.Abstract shared ty) ≡ true → of.nullable_tree indices (heap.Abstract shared ty) ≡ funcref
+  abstract_is false abstract.Func h = refl
+  abstract_is false _ h = absurd cc
+  abstract_is true _ h = absurd cc
 
-funcref_is : (nullable : Bool) (ty : HeapType) → (nullable && read.are_functions ty) ≡ true → read.reference_parts nullable ty ≡ funcref
-funcref_is false ty h = absurd cc
-funcref_is true (heap.Abstract shared ty) h = abstract_is shared ty h
-funcref_is true (heap.Exact i) h = absurd cc
-funcref_is true (heap.Concrete i) h = absurd cc
+  funcref_is : (nullable : Bool) (ty : of_heap.HeapType I) → (nullable && of.are_functions ty) ≡ true → of.reference_parts indices nullable ty ≡ funcref
+  funcref_is false ty h = absurd cc
+  funcref_is true (heap.Abstract shared ty) h = abstract_is shared ty h
+  funcref_is true (heap.Exact i) h = absurd cc
+  funcref_is true (heap.Concrete i) h = absurd cc
 
 module _ {S E : Type 0} (asked : Asks S E) (c : ℕ) (s : S) where
   abstract_walks : (ty : AbstractHeapType) → walk asked c s (read.abstract_tree ty) ≡ accepted (read.abstract_tree ty) s
@@ -115,7 +115,7 @@ Alike (Items.expressions known ty es) (Items.expressions known' ty' es') = known
 
 honest : (row : ElementItems) → Honest (read.listed_items row)
 honest (items.Functions is) = tt
-honest (items.Expressions ty es) = λ h. funcref_is ty.nullable ty.heap_type h
+honest (items.Expressions ty es) = λ h. funcref_is read.indices ty.nullable ty.heap_type h
 
 module _ {S E : Type 0} (asked : Asks S E) (c : ℕ) (s : S) {n : S} where
   -- the expressions are mapped before their type

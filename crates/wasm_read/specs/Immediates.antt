@@ -1,15 +1,16 @@
 -- What immediates stand for, and their kinds (WebAssembly Core Specification 3.0, section 5.4).
-use Rattle.std.specs.Prelude.{ℕ, if◌then◌else◌, List, [], ◌∷◌, length, map, Option, Some, None}
+use Rattle.std.specs.Prelude.{ℕ, if◌then◌else◌, List, [], ◌∷◌, length, map, Option}
 use Rattle.std.specs.Int.{to_le_bytes, w32, w64}
 use Rattle.wasm_shapes.specs.declared.Space.TheVariants as space
+use Rattle.wasm_shapes.specs.declared.ImmKind.{ImmKind}
 use Rattle.wasm_shapes.specs.declared.Opcode.{Opcode}
 use Rattle.wasm_shapes.specs.Operators.{code_of}
 use Rattle.wasm_shapes.specs.Tree.{Tree}
 use Rattle.wasm_types.specs.declared.types.Imm as of_imm
 use Rattle.wasm_types.specs.declared.types.Imm.TheVariants as imm
-use Rattle.wasm_types.specs.Immediates.{cast_tree}
-pub use Rattle.wasm_types.specs.Immediates.{imm_kind, catch_tree, handle_tree}
-use Rattle.wasm_types.specs.Types as of
+use Rattle.wasm_types.specs.Immediates as of
+pub use Rattle.wasm_types.specs.Immediates.{catch_tree, handle_tree}
+use Rattle.wasm_types.specs.Types as of_types
 use Rattle.wasm_read.specs.declared.types.UnpackedIndex.{UnpackedIndex}
 use Rattle.wasm_read.specs.declared.types.BlockType.{BlockType}
 use Rattle.wasm_read.specs.declared.types.BlockType.TheVariants as block
@@ -20,6 +21,10 @@ use Rattle.wasm_read.specs.Types.{RefType, ValType, indices, heap_type_tree, val
 -- an immediate
 abbrev pub Imm : Type 0
 Imm = of_imm.Imm BlockType UnpackedIndex
+
+-- its kind, or none
+abbrev pub imm_kind : Imm → Option ImmKind
+imm_kind i = of.imm_kind i
 
 -- ---- trees
 
@@ -50,7 +55,7 @@ imm_tree (imm.Lanes b) = if are_sixteen b.now then Tree.raw b.now else no_readin
 imm_tree (imm.Lane b) = Tree.byte b
 imm_tree (imm.Heap ty) = heap_type_tree ty
 imm_tree (imm.Catches cs) = if is_counted (length cs) then vector_tree (map catch_tree cs) else no_reading
-imm_tree (imm.Cast label from to) = cast_tree indices label from to
+imm_tree (imm.Cast label from to) = of.cast_tree indices label from to
 imm_tree (imm.Handlers hs) = if is_counted (length hs) then vector_tree (map handle_tree hs) else no_reading
 imm_tree imm.Zero = Tree.fixed 0x00
 
@@ -63,7 +68,7 @@ imms_tree (m ∷ ms) = Tree.pair (imm_tree m) (imms_tree ms)
 
 -- so many locals of a type
 abbrev pub local_tree : ℕ × ValType → Tree
-local_tree l = of.local_tree indices l
+local_tree l = of_types.local_tree indices l
 
 abbrev pub locals_tree : List (ℕ × ValType) → Tree
 locals_tree ls = vector_tree (map local_tree ls)

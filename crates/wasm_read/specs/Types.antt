@@ -17,7 +17,7 @@ use Rattle.wasm_types.specs.declared.types.ValType as val_type
 use Rattle.wasm_types.specs.Types as of
 use Rattle.wasm_types.specs.Types.{Indices}
 use Rattle.wasm_types.specs.declared.types.HeapType.TheVariants as heap
-pub use Rattle.wasm_types.specs.Types.{abstract_tree, are_functions, is_funcref, tag_type_tree, custom_tree}
+pub use Rattle.wasm_types.specs.Types.{abstract_tree, is_funcref, tag_type_tree, custom_tree}
 use Rattle.wasm_read.specs.declared.types.UnpackedIndex.{UnpackedIndex}
 use Rattle.wasm_read.specs.declared.types.UnpackedIndex.TheVariants as unpacked
 use Rattle.wasm_types.specs.declared.types.AbstractHeapType.{AbstractHeapType}

@@ -1,6 +1,7 @@
 -- The trees that instructions stand for (WebAssembly Core Specification 3.0, section 5.4).
-use Rattle.std.specs.Prelude.{ℕ, List, [], ◌∷◌, length, map, Option, Some, None, if◌then◌else◌}
+use Rattle.std.specs.Prelude.{ℕ, List, [], ◌∷◌, map, Option}
 use Rattle.std.specs.Int.{to_le_bytes, w32, w64}
+use Rattle.wasm_shapes.specs.declared.ImmKind.{ImmKind}
 use Rattle.wasm_shapes.specs.declared.Opcode.{Opcode}
 use Rattle.wasm_shapes.specs.Operators.{code_of}
 use Rattle.wasm_shapes.specs.Tree.{Tree}
@@ -8,7 +9,7 @@ use Rattle.wasm_shapes.specs.Types.{vector_tree}
 use Rattle.wasm_types.specs.declared.types.Imm as of_imm
 use Rattle.wasm_types.specs.declared.types.Imm.TheVariants as imm
 use Rattle.wasm_types.specs.Immediates as of
-pub use Rattle.wasm_types.specs.Immediates.{imm_kind, catch_tree, handle_tree}
+pub use Rattle.wasm_types.specs.Immediates.{catch_tree, handle_tree}
 use Rattle.wasm_write.specs.declared.types.BlockType.{BlockType}
 use Rattle.wasm_write.specs.declared.types.BlockType.TheVariants as block
 use Rattle.wasm_write.specs.Types.{RefType, indices, signed_index, heap_type_tree, val_type_tree, val_types_tree}
@@ -16,6 +17,10 @@ use Rattle.wasm_write.specs.Types.{RefType, indices, signed_index, heap_type_tre
 -- an immediate
 abbrev pub Imm : Type 0
 Imm = of_imm.Imm BlockType ℕ
+
+-- its kind, or none
+abbrev pub imm_kind : Imm → Option ImmKind
+imm_kind i = of.imm_kind i
 
 -- an opcode and its immediates
 pub record Parts : Type 0 where

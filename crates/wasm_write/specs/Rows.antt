@@ -1,5 +1,5 @@
 -- The trees that rows of sections stand for.
-use Rattle.std.specs.Prelude.{ℕ, Bool, true, false, ◌&&◌, List, length, map, Option, All}
+use Rattle.std.specs.Prelude.{ℕ, List, length, map, Option, All}
 use Rattle.wasm_shapes.specs.declared.Space.{Space}
 use Rattle.wasm_shapes.specs.declared.Space.TheVariants as space
 use Rattle.wasm_shapes.specs.Tree.{Tree, normal}
@@ -14,7 +14,7 @@ use Rattle.wasm_write.specs.declared.types.Imports.{Imports}
 use Rattle.wasm_write.specs.declared.types.Imports.TheVariants as imported
 use Rattle.wasm_write.specs.declared.types.TableType.{TableType}
 use Rattle.wasm_write.specs.declared.types.GlobalType.{GlobalType}
-pub use Rattle.wasm_types.specs.Types.{are_functions, is_funcref}
+pub use Rattle.wasm_types.specs.Types.{is_funcref}
 use Rattle.wasm_write.specs.Types.{entity_tree, table_type_tree, global_type_tree, ref_type_tree}
 use Rattle.wasm_write.specs.declared.types.Elements.{Elements}
 use Rattle.wasm_write.specs.declared.types.Elements.TheVariants as elements

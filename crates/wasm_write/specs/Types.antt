@@ -1,9 +1,9 @@
 -- The trees that the types of a core module stand for, as they are written (WebAssembly Core Specification 3.0,
 -- section 5.3). Each is of the table with all its rows.
-use Rattle.std.specs.Prelude.{ℕ, Bool, true, false, List, map, Option, option_map}
+use Rattle.std.specs.Prelude.{ℕ, Bool, List, map, Option, option_map}
 use Rattle.wasm_shapes.specs.declared.Space.TheVariants as space
 use Rattle.wasm_shapes.specs.Tree.{Tree}
-use Rattle.wasm_shapes.specs.Types.{led, vector_tree, shared_tree, mutable_of, behind_descriptor, behind_described, shared_composite_tree, sub_type_of, group_of, table_of, memory_of, global_of, tag_of}
+use Rattle.wasm_shapes.specs.Types.{led, vector_tree, behind_descriptor, behind_described, shared_composite_tree, sub_type_of, group_of, table_of, memory_of, global_of}
 use Rattle.wasm_types.specs.declared.types.FieldType as field_type
 use Rattle.wasm_types.specs.declared.types.FuncType as func_type
 use Rattle.wasm_types.specs.declared.types.HeapType as heap_type
@@ -70,7 +70,7 @@ abbrev pub val_type_tree : ValType → Tree
 val_type_tree ty = of.val_type_tree indices ty
 
 abbrev pub val_types_tree : List ValType → Tree
-val_types_tree types = of.val_types_tree indices types
+val_types_tree types = vector_tree (map val_type_tree types)
 
 abbrev pub storage_type_tree : StorageType → Tree
 storage_type_tree ty = of.storage_type_tree indices ty
@@ -79,10 +79,10 @@ abbrev pub field_type_tree : FieldType → Tree
 field_type_tree ty = of.field_type_tree indices ty
 
 abbrev pub fields_tree : List FieldType → Tree
-fields_tree fields = of.fields_tree indices fields
+fields_tree fields = vector_tree (map field_type_tree fields)
 
 abbrev pub func_type_tree : FuncType → Tree
-func_type_tree ty = of.func_type_tree indices ty
+func_type_tree ty = Tree.pair (val_types_tree ty.params) (val_types_tree ty.results)
 
 -- ---- composite types
 
