@@ -1,5 +1,5 @@
 -- The trees that rows of sections stand for.
-use Rattle.std.specs.Prelude.{ℕ, Bool, List, length, map, Option, All}
+use Rattle.std.specs.Prelude.{ℕ, Bool, true, false, List, length, map, Option, All}
 use Rattle.wasm_shapes.specs.declared.Space.{Space}
 use Rattle.wasm_shapes.specs.declared.Space.TheVariants as space
 use Rattle.wasm_shapes.specs.Tree.{Tree, normal}
