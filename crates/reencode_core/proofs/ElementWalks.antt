@@ -6,20 +6,18 @@ use Rattle.wasm_shapes.specs.declared.Visit.{Visit}
 use Rattle.wasm_shapes.specs.declared.Visit.TheVariants.{Index}
 use Rattle.wasm_shapes.specs.Tree.{Tree, Listed, count, visits, aimed_at, funcref}
 use Rattle.wasm_shapes.specs.Types.{Items, items_of, passive_of, declared_of, active_of, expression_of, function_index_tree, led, rows_tree, vector_tree, typed_expressions}
-use Rattle.wasm_read.specs.declared.types.AbstractHeapType.{AbstractHeapType}
-use Rattle.wasm_read.specs.declared.types.AbstractHeapType.TheVariants as abstract
-use Rattle.wasm_read.specs.declared.types.HeapType.{HeapType}
-use Rattle.wasm_read.specs.declared.types.HeapType.TheVariants as heap
+use Rattle.wasm_types.specs.declared.types.AbstractHeapType.{AbstractHeapType}
+use Rattle.wasm_types.specs.declared.types.AbstractHeapType.TheVariants as abstract
+use Rattle.wasm_types.specs.declared.types.HeapType as of_heap
+use Rattle.wasm_types.specs.Types as of
+use Rattle.wasm_read.specs.Types.{HeapType}
+use Rattle.wasm_types.specs.declared.types.HeapType.TheVariants as heap
 use Rattle.wasm_read.specs.declared.types.ElementItems.{ElementItems}
 use Rattle.wasm_read.specs.declared.types.ElementItems.TheVariants as items
 use Rattle.wasm_read.specs.declared.types.ElementKind.{ElementKind}
 use Rattle.wasm_read.specs.declared.types.ElementKind.TheVariants as element
 use Rattle.wasm_read.specs.Expressions.{Expression, expr_tree}
 use Rattle.wasm_read.specs.Types as read
-use Rattle.wasm_write.specs.declared.types.AbstractHeapType as w_abstract
-use Rattle.wasm_write.specs.declared.types.AbstractHeapType.TheVariants as made_abstract
-use Rattle.wasm_write.specs.declared.types.HeapType as w_heap
-use Rattle.wasm_write.specs.declared.types.HeapType.TheVariants as made_heap
 use Rattle.wasm_write.specs.declared.types.Elements.{Elements}
 use Rattle.wasm_write.specs.declared.types.Elements.TheVariants as elements
 use Rattle.wasm_write.specs.declared.fault.WriteFault.{WriteFault}
@@ -48,39 +46,29 @@ abbrev is_funcref : Tree → Bool
 is_funcref (Tree.row j (Tree.spare b (Tree.row k (Tree.row l t)))) = nat_eq j 1 && (nat_eq k 0 && nat_eq l 3)
 is_funcref _ = false
 
-abstract_told : (shared : Bool) (ty : AbstractHeapType) → read.are_functions (heap.Abstract shared ty) ≡ is_funcref (read.nullable_tree (heap.Abstract shared ty))
-abstract_told false abstract.Func = refl
-abstract_told false _ = refl
-abstract_told true _ = refl
+module _ {I : Type 0} (indices : of.Indices I) where
+  abstract_told : (shared : Bool) (ty : AbstractHeapType) →
+      of.are_functions {I = I} (heap.Abstract shared ty) ≡ is_funcref (of.nullable_tree indices (heap.Abstract shared ty))
+  abstract_told false abstract.Func = refl
+  abstract_told false _ = refl
+  abstract_told true _ = refl
 
-told : (nullable : Bool) (ty : HeapType) → (nullable && read.are_functions ty) ≡ is_funcref (read.reference_parts nullable ty)
-told false ty = refl
-told true (heap.Abstract shared ty) = abstract_told shared ty
-told true (heap.Exact i) = refl
-told true (heap.Concrete i) = refl
+  told : (nullable : Bool) (ty : of_heap.HeapType I) → (nullable && of.are_functions ty) ≡ is_funcref (of.reference_parts indices nullable ty)
+  told false ty = refl
+  told true (heap.Abstract shared ty) = abstract_told shared ty
+  told true (heap.Exact i) = refl
+  told true (heap.Concrete i) = refl
 
-made_abstract_told : (shared : Bool) (ty : w_abstract.AbstractHeapType) →
-    write.are_functions (made_heap.Abstract shared ty) ≡ is_funcref (write_types.nullable_tree (made_heap.Abstract shared ty))
-made_abstract_told false made_abstract.Func = refl
-made_abstract_told false _ = refl
-made_abstract_told true _ = refl
+  abstract_is : (shared : Bool) (ty : AbstractHeapType) → of.are_functions {I = I} (heap.Abstract shared ty) ≡ true → of.nullable_tree indices (heap.Abstract shared ty) ≡ funcref
+  abstract_is false abstract.Func h = refl
+  abstract_is false _ h = absurd cc
+  abstract_is true _ h = absurd cc
 
-made_told : (nullable : Bool) (ty : w_heap.HeapType) → (nullable && write.are_functions ty) ≡ is_funcref (write_types.reference_parts nullable ty)
-made_told false ty = refl
-made_told true (made_heap.Abstract shared ty) = made_abstract_told shared ty
-made_told true (made_heap.Exact i) = refl
-made_told true (made_heap.Concrete i) = refl
-
-abstract_is : (shared : Bool) (ty : AbstractHeapType) → read.are_functions (heap.Abstract shared ty) ≡ true → read.nullable_tree (heap.Abstract shared ty) ≡ funcref
-abstract_is false abstract.Func h = refl
-abstract_is false _ h = absurd cc
-abstract_is true _ h = absurd cc
-
-funcref_is : (nullable : Bool) (ty : HeapType) → (nullable && read.are_functions ty) ≡ true → read.reference_parts nullable ty ≡ funcref
-funcref_is false ty h = absurd cc
-funcref_is true (heap.Abstract shared ty) h = abstract_is shared ty h
-funcref_is true (heap.Exact i) h = absurd cc
-funcref_is true (heap.Concrete i) h = absurd cc
+  funcref_is : (nullable : Bool) (ty : of_heap.HeapType I) → (nullable && of.are_functions ty) ≡ true → of.reference_parts indices nullable ty ≡ funcref
+  funcref_is false ty h = absurd cc
+  funcref_is true (heap.Abstract shared ty) h = abstract_is shared ty h
+  funcref_is true (heap.Exact i) h = absurd cc
+  funcref_is true (heap.Concrete i) h = absurd cc
 
 module _ {S E : Type 0} (asked : Asks S E) (c : ℕ) (s : S) where
   abstract_walks : (ty : AbstractHeapType) → walk asked c s (read.abstract_tree ty) ≡ accepted (read.abstract_tree ty) s
@@ -127,7 +115,7 @@ Alike (Items.expressions known ty es) (Items.expressions known' ty' es') = known
 
 honest : (row : ElementItems) → Honest (read.listed_items row)
 honest (items.Functions is) = tt
-honest (items.Expressions ty es) = λ h. funcref_is ty.nullable ty.heap_type h
+honest (items.Expressions ty es) = λ h. funcref_is read.indices ty.nullable ty.heap_type h
 
 module _ {S E : Type 0} (asked : Asks S E) (c : ℕ) (s : S) {n : S} where
   -- the expressions are mapped before their type
@@ -150,7 +138,7 @@ module _ {S E : Type 0} (asked : Asks S E) (c : ℕ) (s : S) {n : S} where
       let v = swap_walked (read.ref_type_tree ty) (vector_tree (map expr_tree es)) h in
       let swapped : Tree.swap (write_types.ref_type_tree ty') (vector_tree (map expression_of es')) ≡ Tree.swap v.0 v.1 = v.3 in
       let same : v.0 ≡ write_types.ref_type_tree ty' = cc in
-      made_told ty'.nullable ty'.heap_type ∙ ap is_funcref (sym same) ∙ still_told asked c v.2 ty.nullable ty.heap_type v.5 ∙ sym (told ty.nullable ty.heap_type)
+      told write_types.indices ty'.nullable ty'.heap_type ∙ ap is_funcref (sym same) ∙ still_told asked c v.2 ty.nullable ty.heap_type v.5 ∙ sym (told read.indices ty.nullable ty.heap_type)
 
   -- nothing is asked of that type
   funcref_walked : {ty : Tree} (v : Tree) {ty' v' : Tree} → ty ≡ funcref → walk asked c s (Tree.swap ty v) ≡ accepted (Tree.swap ty' v') n → (ty' ≡ funcref) × (walk asked c s v ≡ accepted v' n)

@@ -4,8 +4,6 @@ use Rattle.wasm_shapes.specs.declared.Visit.{Visit}
 use Rattle.wasm_shapes.specs.Tree.{Tree, count}
 use Rattle.wasm_shapes.specs.Place.{Begins}
 use Rattle.wasm_shapes.specs.Rows.{rows_then}
-use Rattle.wasm_read.specs.declared.types.ValType as r
-use Rattle.wasm_write.specs.declared.types.ValType as w
 use Rattle.wasm_read.specs.Types as read_types
 use Rattle.wasm_write.specs.Types as write_types
 use Rattle.wasm_read.specs.Immediates as read
@@ -27,17 +25,17 @@ use Rattle.reencode_core.proofs.BodyLoop.{same_locals}
 use Rattle.std.proofs.lemmas.List.{map-append}
 
 abbrev ReadLocal : Type 0
-ReadLocal = ℕ × r.ValType
+ReadLocal = ℕ × read_types.ValType
 
 abbrev WrittenLocal : Type 0
-WrittenLocal = ℕ × w.ValType
+WrittenLocal = ℕ × write_types.ValType
 
 module _ {S E : Type 0} (asked : Asks S E) where
-  pub local_accepted : (s m : S) (n : ℕ) (x : r.ValType) (y : w.ValType) → ((c : ℕ) → walk asked c s (read_types.val_type_tree x) ≡ accepted (write_types.val_type_tree y) m) →
+  pub local_accepted : (s m : S) (n : ℕ) (x : read_types.ValType) (y : write_types.ValType) → ((c : ℕ) → walk asked c s (read_types.val_type_tree x) ≡ accepted (write_types.val_type_tree y) m) →
       (c : ℕ) → walk asked c s (read.local_tree (n, x)) ≡ accepted (write.local_tree (n, y)) m
   local_accepted s m n x y h c = rw (h c) refl
 
-  local_refused : (c : ℕ) (s m : S) (n : ℕ) (x : r.ValType) (e : Error E) → walk asked c s (read_types.val_type_tree x) ≡ refused e m → walk asked c s (read.local_tree (n, x)) ≡ refused e m
+  local_refused : (c : ℕ) (s m : S) (n : ℕ) (x : read_types.ValType) (e : Error E) → walk asked c s (read_types.val_type_tree x) ≡ refused e m → walk asked c s (read.local_tree (n, x)) ≡ refused e m
   local_refused c s m n x e h = rw h refl
 
   vec_accepted : (c : ℕ) (s m : S) (t u : Tree) → walk asked c s t ≡ accepted u m → walk asked c s (Tree.vec t) ≡ accepted (Tree.vec u) m

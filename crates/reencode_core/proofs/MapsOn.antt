@@ -11,8 +11,7 @@ use Rattle.wasm_write.specs.Bodies.{Body, CodeRows, IsBody, with_operator, with_
 use Rattle.wasm_write.specs.declared.fault.WriteFault.{WriteFault}
 use Rattle.wasm_write.specs.declared.fault.WriteFault.TheVariants as faults
 use Rattle.wasm_read.proofs.Codes.{fewer_left}
-use Rattle.wasm_write.specs.declared.types.Imm.{Imm}
-use Rattle.wasm_write.specs.Instructions.{operator_tree}
+use Rattle.wasm_write.specs.Instructions.{Imm, operator_tree}
 use Rattle.reencode_hooks.specs.declared.error.Error.{Error}
 use Rattle.reencode_hooks.specs.declared.indices.ReencodeIndices.{Ghosts}
 use Rattle.reencode_hooks.specs.Errors.{error_of_write}

@@ -24,10 +24,9 @@ use Rattle.wasm_shapes.specs.Spells.{Is, Spelled}
 use Rattle.wasm_shapes.specs.Place.{Begins}
 use Rattle.wasm_shapes.proofs.Begins.{begins_empty, begins_s32, begins_s64, begins_seq, begins_u32}
 use Rattle.wasm_shapes.specs.Types.{is_core}
-use Rattle.wasm_write.specs.declared.types.Imm.{Imm}
+use Rattle.wasm_write.specs.Instructions.{Imm, imm_kind, imm_tree}
 use Rattle.wasm_shapes.specs.Immediates.{AreOfRow}
-use Rattle.wasm_write.specs.declared.types.Imm.TheVariants as imms
-use Rattle.wasm_write.specs.Instructions.{imm_kind, imm_tree}
+use Rattle.wasm_types.specs.declared.types.Imm.TheVariants as imms
 use Rattle.reencode_hooks.specs.declared.error.Error.{Error}
 use Rattle.reencode_hooks.specs.declared.error.Error.TheVariants.{NoMemory}
 use Rattle.reencode_hooks.specs.Hooks.{Replies}

@@ -9,12 +9,11 @@ use Rattle.wasm_shapes.specs.Tree.{Tree, code_bytes, normal}
 use Rattle.wasm_shapes.specs.Spells.{Is, Spelled, SpelledCode}
 use Rattle.wasm_shapes.specs.Place.{Begins}
 use Rattle.wasm_shapes.specs.Types.{is_core, vector_tree}
-use Rattle.wasm_write.specs.declared.types.Imm.{Imm}
-use Rattle.wasm_write.specs.declared.types.Imm.TheVariants as imm
+use Rattle.wasm_write.specs.Instructions.{Imm, imm_kind, imm_tree, operator_tree}
+use Rattle.wasm_types.specs.declared.types.Imm.TheVariants as imm
 use Rattle.wasm_read.specs.Operations.{Reading, rest_of}
 use Rattle.wasm_write.specs.Bodies.{AreOperators, Body}
 use Rattle.wasm_shapes.specs.Immediates.{HasKinds}
-use Rattle.wasm_write.specs.Instructions.{imm_kind, imm_tree, operator_tree}
 use Rattle.reencode_hooks.specs.declared.error.Error.{Error}
 use Rattle.reencode_hooks.specs.declared.error.Error.TheVariants.{NoMemory}
 use Rattle.reencode_hooks.specs.Run.{accepted, refused}

@@ -256,10 +256,8 @@ pub fn custom_section<'a, T: ReencodeIndices>(
     ensures is { write.custom_section_tree result ≡ read.custom_tree section.entry }
     ensures state { reencoder.new ≡ reencoder.old }
 {
-    w::CustomSection {
-        name: section.name,
-        contents: section.contents,
-    }
+    let _ = reencoder;
+    section
 }
 
 /// Adds a section of an id that no kind has, by its bytes. It calls no section hook.

@@ -5,13 +5,12 @@ use Rattle.wasm_shapes.specs.declared.Space.{Space}
 use Rattle.wasm_shapes.specs.declared.Visit.{Visit}
 use Rattle.wasm_shapes.specs.Tree.{Tree, visits}
 use Rattle.wasm_shapes.specs.Types.{is_core, is_counted, rows_tree, vector_tree}
-use Rattle.wasm_read.specs.declared.types.Catch.{Catch}
-use Rattle.wasm_read.specs.declared.types.Handle.{Handle}
-use Rattle.wasm_read.specs.declared.types.Imm.{Imm}
-use Rattle.wasm_read.specs.declared.types.Imm.TheVariants as imm
-use Rattle.wasm_read.specs.declared.types.ValType.{ValType}
+use Rattle.wasm_types.specs.declared.types.Catch.{Catch}
+use Rattle.wasm_types.specs.declared.types.Handle.{Handle}
+use Rattle.wasm_read.specs.Immediates.{Imm}
+use Rattle.wasm_types.specs.declared.types.Imm.TheVariants as imm
+use Rattle.wasm_read.specs.Types.{ValType, val_types_tree}
 use Rattle.wasm_read.specs.Immediates as read
-use Rattle.wasm_read.specs.Types.{val_types_tree}
 use Rattle.reencode_hooks.specs.declared.error.Error.{Error}
 use Rattle.reencode_hooks.specs.declared.error.Error.TheVariants.{NoMemory}
 use Rattle.reencode_hooks.specs.Run.{Step, accepted, refused, LeavesVisited, NeverWants, Visited}

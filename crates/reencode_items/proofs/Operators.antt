@@ -13,9 +13,9 @@ use Rattle.wasm_shapes.specs.Shape.{Shape}
 use Rattle.wasm_shapes.specs.Place.{Begins}
 use Rattle.wasm_read.specs.Operations.{Reading, rest_of}
 use Rattle.reencode_items.specs.Maps.{Maps, MapsOperator, ParsesOperator}
-use Rattle.wasm_read.specs.declared.types.Imm.{Imm as ReadImm}
+use Rattle.wasm_read.specs.Immediates.{Imm as ReadImm}
 use Rattle.wasm_read.specs.Immediates as read
-use Rattle.wasm_write.specs.declared.types.Imm.{Imm as WrittenImm}
+use Rattle.wasm_write.specs.Instructions.{Imm as WrittenImm}
 use Rattle.wasm_write.specs.Instructions as write
 use Rattle.reencode_hooks.specs.declared.error.Error.{Error}
 use Rattle.reencode_hooks.specs.declared.error.Error.TheVariants.{CanonicalizedHeapTypeReference, InvalidConstExpr, InvalidCodeSectionSize, UnexpectedNonCoreModuleSection, UnexpectedNonComponentSection, UnsupportedCoreTypeInComponent, ParseError, UserError, TooLarge, NoMemory}

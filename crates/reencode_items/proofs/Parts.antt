@@ -6,11 +6,11 @@ use Rattle.wasm_shapes.specs.declared.Visit.TheVariants.{Index}
 use Rattle.wasm_shapes.specs.Tree.{Tree}
 use Rattle.wasm_read.specs.declared.types.UnpackedIndex.{UnpackedIndex}
 use Rattle.wasm_read.specs.declared.types.UnpackedIndex.TheVariants as unpacked
-use Rattle.wasm_read.specs.declared.types.HeapType.{HeapType as ReadHeapType}
-use Rattle.wasm_read.specs.declared.types.HeapType.TheVariants as heap
+use Rattle.wasm_read.specs.Types.{HeapType as ReadHeapType}
+use Rattle.wasm_types.specs.declared.types.HeapType.TheVariants as heap
 use Rattle.wasm_read.specs.Types as read
-use Rattle.wasm_write.specs.declared.types.HeapType.{HeapType as WrittenHeapType}
-use Rattle.wasm_write.specs.declared.types.HeapType.TheVariants as written
+use Rattle.wasm_write.specs.Types.{HeapType as WrittenHeapType}
+use Rattle.wasm_types.specs.declared.types.HeapType.TheVariants as written
 use Rattle.wasm_write.specs.Types as write
 use Rattle.reencode_hooks.specs.declared.error.Error.{Error}
 use Rattle.reencode_hooks.specs.Run.{Step, accepted, refused, and_then}

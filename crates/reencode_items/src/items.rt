@@ -10,7 +10,6 @@ ghost use Rattle.wasm_write.specs.Instructions as instructions;
 ghost use Rattle.wasm_write.specs.Rows as rows;
 ghost use Rattle.wasm_write.specs.Types as write;
 ghost use Rattle.reencode_items.specs.Maps.{LeavesOperator, Maps, MovesOn, ParsesOperator};
-ghost use Rattle.reencode_items.specs.Orderings.{read_ordering_name, ordering_name};
 
 use crate::{bodies, indices, kinds};
 use reencode_hooks::{Error, ReencodeIndices};
@@ -344,8 +343,7 @@ pub trait ReencodeItems: ReencodeIndices {
     /// The order of an atomic access: that of the same name. No operator of the table has one.
     fn ordering(&mut self, arg: r::Ordering) -> Result<w::Ordering, Error<Self::Error>>
         ensures default { IsTrue Self.keeps_defaults
-            → Gives (accepted (read_ordering_name arg) self.old)
-            ordering_name self.new result }
+            → Gives (accepted arg self.old) (λ made. made) self.new result }
         ensures sure { IsTrue Self.keeps_defaults → NeverWants Self.sure result }
     {
         Ok(kinds::ordering(self, arg))

@@ -3,7 +3,6 @@ ghost use Rattle.std.specs.Prelude.{◌≡◌, ℕ};
 ghost use Rattle.wasm_read.specs.Types as read;
 ghost use Rattle.wasm_write.specs.Rows as rows;
 ghost use Rattle.wasm_write.specs.Types as write;
-ghost use Rattle.reencode_items.specs.Orderings.{read_ordering_name, ordering_name};
 
 use reencode_hooks::ReencodeIndices;
 use wasm_read as r;
@@ -18,22 +17,7 @@ pub fn abstract_heap_type<T: ReencodeIndices>(
     ensures state { reencoder.new ≡ reencoder.old }
 {
     let _ = reencoder;
-    match value {
-        r::AbstractHeapType::Func => w::AbstractHeapType::Func,
-        r::AbstractHeapType::Extern => w::AbstractHeapType::Extern,
-        r::AbstractHeapType::Any => w::AbstractHeapType::Any,
-        r::AbstractHeapType::None => w::AbstractHeapType::None,
-        r::AbstractHeapType::NoExtern => w::AbstractHeapType::NoExtern,
-        r::AbstractHeapType::NoFunc => w::AbstractHeapType::NoFunc,
-        r::AbstractHeapType::Eq => w::AbstractHeapType::Eq,
-        r::AbstractHeapType::Struct => w::AbstractHeapType::Struct,
-        r::AbstractHeapType::Array => w::AbstractHeapType::Array,
-        r::AbstractHeapType::I31 => w::AbstractHeapType::I31,
-        r::AbstractHeapType::Exn => w::AbstractHeapType::Exn,
-        r::AbstractHeapType::NoExn => w::AbstractHeapType::NoExn,
-        r::AbstractHeapType::Cont => w::AbstractHeapType::Cont,
-        r::AbstractHeapType::NoCont => w::AbstractHeapType::NoCont,
-    }
+    value
 }
 
 /// The kind of what is exported (section 5.5.10): with each index it is the same item. An exact function becomes a
@@ -63,9 +47,7 @@ pub fn tag_kind<T: ReencodeIndices>(reencoder: &mut T, kind: r::TagKind) -> w::T
     ensures state { reencoder.new ≡ reencoder.old }
 {
     let _ = reencoder;
-    match kind {
-        r::TagKind::Exception => w::TagKind::Exception,
-    }
+    kind
 }
 
 /// A memory by its limits (section 5.3.12).
@@ -85,14 +67,11 @@ pub fn memory_type<T: ReencodeIndices>(reencoder: &mut T, memory_ty: r::MemoryTy
 
 /// The order of an atomic access: that of the same name. No operator of the table has one.
 pub fn ordering<T: ReencodeIndices>(reencoder: &mut T, arg: r::Ordering) -> w::Ordering
-    ensures value { ordering_name result ≡ read_ordering_name arg }
+    ensures value { result ≡ arg }
     ensures state { reencoder.new ≡ reencoder.old }
 {
     let _ = reencoder;
-    match arg {
-        r::Ordering::SeqCst => w::Ordering::SeqCst,
-        r::Ordering::AcqRel => w::Ordering::AcqRel,
-    }
+    arg
 }
 
 /// A floating-point number of 32 bits, by its bits.
@@ -101,7 +80,7 @@ pub fn ieee32_arg<T: ReencodeIndices>(reencoder: &mut T, arg: r::Ieee32) -> w::I
     ensures state { reencoder.new ≡ reencoder.old }
 {
     let _ = reencoder;
-    w::Ieee32(arg.0)
+    arg
 }
 
 /// A floating-point number of 64 bits, by its bits.
@@ -110,5 +89,5 @@ pub fn ieee64_arg<T: ReencodeIndices>(reencoder: &mut T, arg: r::Ieee64) -> w::I
     ensures state { reencoder.new ≡ reencoder.old }
 {
     let _ = reencoder;
-    w::Ieee64(arg.0)
+    arg
 }

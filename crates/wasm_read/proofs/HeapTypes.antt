@@ -9,11 +9,10 @@ use Rattle.wasm_shapes.specs.Place.{Begins, BeginsNone}
 use Rattle.wasm_shapes.proofs.Fronts.{outside}
 use Rattle.wasm_shapes.proofs.Begins.{begins_byte, begins_row, none_by_front, none_byte, none_seq_first, none_or, none_row, none_here}
 use Rattle.wasm_shapes.proofs.Parts.{begins_among, none_among, none_first_rows, none_spare, none_spare_left}
-use Rattle.wasm_read.specs.declared.types.AbstractHeapType.{AbstractHeapType}
-use Rattle.wasm_read.specs.declared.types.AbstractHeapType.TheVariants as abstract
-use Rattle.wasm_read.specs.declared.types.HeapType.{HeapType}
-use Rattle.wasm_read.specs.declared.types.HeapType.TheVariants as variant
-use Rattle.wasm_read.specs.Types.{abstract_byte, abstract_tree, concrete_tree, heap_type_tree, nullable_tree}
+use Rattle.wasm_types.specs.declared.types.AbstractHeapType.{AbstractHeapType}
+use Rattle.wasm_types.specs.declared.types.AbstractHeapType.TheVariants as abstract
+use Rattle.wasm_read.specs.Types.{HeapType, abstract_byte, abstract_tree, concrete_tree, heap_type_tree, nullable_tree}
+use Rattle.wasm_types.specs.declared.types.HeapType.TheVariants as variant
 
 -- ---- abstract ones
 

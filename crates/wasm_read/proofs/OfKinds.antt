@@ -13,8 +13,7 @@ use Rattle.wasm_shapes.specs.Place.{Begins, BeginsNone}
 use Rattle.wasm_shapes.proofs.Begins.{begins_empty, begins_byte, at_byte, begins_seq, none_seq_first, none_seq_second}
 use Rattle.wasm_shapes.proofs.Lists.{both}
 use Rattle.wasm_shapes.proofs.TableRows.{kinds_pass}
-use Rattle.wasm_read.specs.declared.types.Imm.{Imm}
-use Rattle.wasm_read.specs.Immediates.{imm_tree, imms_tree, imm_kind, is_counted}
+use Rattle.wasm_read.specs.Immediates.{Imm, imm_tree, imms_tree, imm_kind, is_counted}
 use Rattle.wasm_read.specs.Operations.{is_core_kind, AreCore}
 
 -- no spelling of an immediate begins another of its kind

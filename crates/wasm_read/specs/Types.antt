@@ -8,20 +8,20 @@ use Rattle.wasm_shapes.specs.Shape.{Shape}
 use Rattle.wasm_shapes.specs.Place.{Begins}
 use Rattle.wasm_shapes.specs.Types.{behind_descriptor, behind_described, sub_type_of, group_of, table_of, memory_of, global_of, null_table_of, table_with_init_of, global_with_init_of, tag_of, import_of, item_of, Items, items_of, passive_of, declared_of, active_of, active_data_of, passive_data_tree}
 pub use Rattle.wasm_shapes.specs.Types.{no_reading, led, vector_tree, shared_tree, mutable_of, shared_composite_tree, flag, limits_flags, bounds_tree, paged_tree, limits_tree, global_flags, function_tree}
-use Rattle.wasm_read.specs.declared.types.CustomSection.{CustomSection}
+use Rattle.wasm_types.specs.declared.types.FieldType as field_type
+use Rattle.wasm_types.specs.declared.types.FuncType as func_type
+use Rattle.wasm_types.specs.declared.types.HeapType as heap_type
+use Rattle.wasm_types.specs.declared.types.RefType as ref_type
+use Rattle.wasm_types.specs.declared.types.StorageType as storage_type
+use Rattle.wasm_types.specs.declared.types.ValType as val_type
+use Rattle.wasm_types.specs.Types as of
+use Rattle.wasm_types.specs.Types.{Indices}
+use Rattle.wasm_types.specs.declared.types.HeapType.TheVariants as heap
+pub use Rattle.wasm_types.specs.Types.{abstract_tree, is_funcref, tag_type_tree, custom_tree}
 use Rattle.wasm_read.specs.declared.types.UnpackedIndex.{UnpackedIndex}
 use Rattle.wasm_read.specs.declared.types.UnpackedIndex.TheVariants as unpacked
-use Rattle.wasm_read.specs.declared.types.AbstractHeapType.{AbstractHeapType}
-use Rattle.wasm_read.specs.declared.types.AbstractHeapType.TheVariants as abstract
-use Rattle.wasm_read.specs.declared.types.HeapType.{HeapType}
-use Rattle.wasm_read.specs.declared.types.HeapType.TheVariants as heap
-use Rattle.wasm_read.specs.declared.types.RefType.{RefType}
-use Rattle.wasm_read.specs.declared.types.ValType.{ValType}
-use Rattle.wasm_read.specs.declared.types.ValType.TheVariants as value
-use Rattle.wasm_read.specs.declared.types.StorageType.{StorageType}
-use Rattle.wasm_read.specs.declared.types.StorageType.TheVariants as stored
-use Rattle.wasm_read.specs.declared.types.FieldType.{FieldType}
-use Rattle.wasm_read.specs.declared.types.FuncType.{FuncType}
+use Rattle.wasm_types.specs.declared.types.AbstractHeapType.{AbstractHeapType}
+use Rattle.wasm_types.specs.declared.types.AbstractHeapType.TheVariants as abstract
 use Rattle.wasm_read.specs.declared.types.CompositeInnerType.{CompositeInnerType}
 use Rattle.wasm_read.specs.declared.types.CompositeInnerType.TheVariants as inner
 use Rattle.wasm_read.specs.declared.types.CompositeType.{CompositeType}
@@ -33,7 +33,6 @@ use Rattle.wasm_read.specs.declared.types.Export.{Export}
 use Rattle.wasm_read.specs.declared.types.TableType.{TableType}
 use Rattle.wasm_read.specs.declared.types.MemoryType.{MemoryType}
 use Rattle.wasm_read.specs.declared.types.GlobalType.{GlobalType}
-use Rattle.wasm_read.specs.declared.types.TagType.{TagType}
 use Rattle.wasm_read.specs.declared.types.TypeRef.{TypeRef}
 use Rattle.wasm_read.specs.declared.types.TypeRef.TheVariants as entity
 use Rattle.wasm_read.specs.declared.types.Imports.{Imports}
@@ -66,6 +65,59 @@ abbrev pub signed_index : UnpackedIndex → Tree
 signed_index (unpacked.Module i) = Tree.sx space.Type_ i
 signed_index (unpacked.RecGroup i) = Tree.canonical i
 
+-- ---- types by this kind of index
+
+abbrev pub HeapType : Type 0
+HeapType = heap_type.HeapType UnpackedIndex
+
+abbrev pub RefType : Type 0
+RefType = ref_type.RefType UnpackedIndex
+
+abbrev pub ValType : Type 0
+ValType = val_type.ValType UnpackedIndex
+
+abbrev pub StorageType : Type 0
+StorageType = storage_type.StorageType UnpackedIndex
+
+abbrev pub FieldType : Type 0
+FieldType = field_type.FieldType UnpackedIndex
+
+abbrev pub FuncType : Type 0
+FuncType = func_type.FuncType UnpackedIndex
+
+abbrev pub indices : Indices UnpackedIndex
+indices = record { unsigned = type_index; signed = signed_index }
+
+abbrev pub heap_type_tree : HeapType → Tree
+heap_type_tree ty = of.heap_type_tree indices ty
+
+abbrev pub nullable_tree : HeapType → Tree
+nullable_tree ty = of.nullable_tree indices ty
+
+abbrev pub reference_parts : Bool → HeapType → Tree
+reference_parts nullable ty = of.reference_parts indices nullable ty
+
+abbrev pub ref_type_tree : RefType → Tree
+ref_type_tree ty = of.ref_type_tree indices ty
+
+abbrev pub val_type_tree : ValType → Tree
+val_type_tree ty = of.val_type_tree indices ty
+
+abbrev pub val_types_tree : List ValType → Tree
+val_types_tree types = of.val_types_tree indices types
+
+abbrev pub storage_type_tree : StorageType → Tree
+storage_type_tree ty = of.storage_type_tree indices ty
+
+abbrev pub field_type_tree : FieldType → Tree
+field_type_tree ty = of.field_type_tree indices ty
+
+abbrev pub fields_tree : List FieldType → Tree
+fields_tree fields = of.fields_tree indices fields
+
+abbrev pub func_type_tree : FuncType → Tree
+func_type_tree ty = of.func_type_tree indices ty
+
 -- ---- heap types
 
 -- the byte that spells an abstract heap type
@@ -85,83 +137,13 @@ abstract_byte abstract.NoExn = 0x74
 abstract_byte abstract.Cont = 0x68
 abstract_byte abstract.NoCont = 0x75
 
-abbrev pub abstract_tree : AbstractHeapType → Tree
-abstract_tree abstract.NoFunc = Tree.row 0 (Tree.fixed 0x73)
-abstract_tree abstract.NoExtern = Tree.row 1 (Tree.fixed 0x72)
-abstract_tree abstract.None = Tree.row 2 (Tree.fixed 0x71)
-abstract_tree abstract.Func = Tree.row 3 (Tree.fixed 0x70)
-abstract_tree abstract.Extern = Tree.row 4 (Tree.fixed 0x6f)
-abstract_tree abstract.Any = Tree.row 5 (Tree.fixed 0x6e)
-abstract_tree abstract.Eq = Tree.row 6 (Tree.fixed 0x6d)
-abstract_tree abstract.I31 = Tree.row 7 (Tree.fixed 0x6c)
-abstract_tree abstract.Struct = Tree.row 8 (Tree.fixed 0x6b)
-abstract_tree abstract.Array = Tree.row 9 (Tree.fixed 0x6a)
-abstract_tree abstract.Exn = Tree.row 10 (Tree.fixed 0x69)
-abstract_tree abstract.NoExn = Tree.row 11 (Tree.fixed 0x74)
-abstract_tree abstract.Cont = Tree.row 12 (Tree.fixed 0x68)
-abstract_tree abstract.NoCont = Tree.row 13 (Tree.fixed 0x75)
-
 -- one that names a type of the module
 abbrev pub concrete_tree : HeapType → Tree
 concrete_tree (heap.Abstract shared ty) = no_reading
 concrete_tree (heap.Exact i) = Tree.row 0 (led 0x62 (type_index i))
 concrete_tree (heap.Concrete i) = Tree.row 1 (signed_index i)
 
-abbrev pub heap_type_tree : HeapType → Tree
-heap_type_tree (heap.Abstract shared ty) = shared_tree shared (abstract_tree ty)
-heap_type_tree (heap.Exact i) = Tree.row 2 (led 0x62 (type_index i))
-heap_type_tree (heap.Concrete i) = Tree.row 3 (signed_index i)
-
--- any function
-abbrev pub are_functions : HeapType → Bool
-are_functions (heap.Abstract false abstract.Func) = true
-are_functions _ = false
-
--- ---- reference and value types
-
--- one that may be null: as its heap type alone where that is abstract
-abbrev pub nullable_tree : HeapType → Tree
-nullable_tree (heap.Abstract shared ty) = Tree.row 1 (Tree.spare 0x63 (shared_tree shared (abstract_tree ty)))
-nullable_tree (heap.Exact i) = Tree.row 1 (Tree.kept 0x63 (Tree.row 0 (led 0x62 (type_index i))))
-nullable_tree (heap.Concrete i) = Tree.row 1 (Tree.kept 0x63 (Tree.row 1 (signed_index i)))
-
-abbrev pub reference_parts : Bool → HeapType → Tree
-reference_parts false ty = Tree.row 0 (led 0x64 (heap_type_tree ty))
-reference_parts true ty = nullable_tree ty
-
-abbrev pub ref_type_tree : RefType → Tree
-ref_type_tree ty = reference_parts ty.nullable ty.heap_type
-
-abbrev pub val_type_tree : ValType → Tree
-val_type_tree value.I32 = Tree.row 0 (Tree.fixed 0x7f)
-val_type_tree value.I64 = Tree.row 1 (Tree.fixed 0x7e)
-val_type_tree value.F32 = Tree.row 2 (Tree.fixed 0x7d)
-val_type_tree value.F64 = Tree.row 3 (Tree.fixed 0x7c)
-val_type_tree value.V128 = Tree.row 4 (Tree.fixed 0x7b)
-val_type_tree (value.Ref ty) = Tree.row 5 (ref_type_tree ty)
-
--- value types behind their number
-abbrev pub val_types_tree : List ValType → Tree
-val_types_tree types = vector_tree (map val_type_tree types)
-
--- ---- fields
-
-abbrev pub storage_type_tree : StorageType → Tree
-storage_type_tree stored.I8 = Tree.row 0 (Tree.fixed 0x78)
-storage_type_tree stored.I16 = Tree.row 1 (Tree.fixed 0x77)
-storage_type_tree (stored.Val ty) = Tree.row 2 (val_type_tree ty)
-
-abbrev pub field_type_tree : FieldType → Tree
-field_type_tree ty = Tree.pair (storage_type_tree ty.element_type) (mutable_of ty.mutable)
-
--- fields behind their number
-abbrev pub fields_tree : List FieldType → Tree
-fields_tree fields = vector_tree (map field_type_tree fields)
-
 -- ---- composite types
-
-abbrev pub func_type_tree : FuncType → Tree
-func_type_tree ty = Tree.pair (val_types_tree ty.params) (val_types_tree ty.results)
 
 abbrev pub inner_tree : CompositeInnerType → Tree
 inner_tree (inner.Func ty) = Tree.row 0 (led 0x60 (func_type_tree ty))
@@ -211,9 +193,6 @@ memory_type_tree ty = memory_of ty.shared ty.memory64 ty.initial ty.maximum ty.p
 
 abbrev pub global_type_tree : GlobalType → Tree
 global_type_tree ty = global_of (val_type_tree ty.content_type) ty.mutable ty.shared
-
-abbrev pub tag_type_tree : TagType → Tree
-tag_type_tree ty = tag_of ty.func_type_idx
 
 abbrev pub entity_tree : TypeRef → Tree
 entity_tree (entity.Func i) = Tree.row 0 (led 0x00 (Tree.ix space.Type_ i))
@@ -274,10 +253,6 @@ pub record ExportKind (bytes : List ℕ) (row : Export) : Type 0 where
 
 -- ---- element segments
 
--- whether a type is that of references to functions that may be null
-abbrev pub is_funcref : RefType → Bool
-is_funcref ty = ty.nullable && are_functions ty.heap_type
-
 -- what a segment lists
 abbrev pub listed_items : ElementItems → Items
 listed_items (items.Functions is) = Items.functions is
@@ -303,9 +278,3 @@ data_parts segment.Passive bytes = passive_data_tree bytes
 
 abbrev pub data_tree : Data → Tree
 data_tree row = data_parts row.kind row.contents.now
-
--- ---- custom sections
-
--- a custom section as it is, whatever its name: its name and its contents
-abbrev pub custom_tree : CustomSection → Tree
-custom_tree section = Tree.pair (Tree.name section.name.now) (Tree.raw section.contents.now)

@@ -1,10 +1,14 @@
 //! The types, rows and immediates of a core module, as they are read.
-ghost use Rattle.std.specs.Prelude.{◌≡◌, ◌<◌, length, false};
+ghost use Rattle.std.specs.Prelude.{◌≡◌, length, false};
 
 use crate::expressions::ConstExpr;
 use crate::names::{IndirectNameMap, NameMap};
 use wasm_leb::List;
-use wasm_shapes::{SectionId, Space};
+use wasm_shapes::SectionId;
+pub use wasm_types::{
+    AbstractHeapType, Catch, CustomSection, Handle, Ieee32, Ieee64, MemArg, Ordering, TagKind,
+    TagType,
+};
 
 /// A type index: one of the module, or one inside the recursion group where it stands.
 #[derive(Clone, Copy, PartialEq, Debug)]
@@ -28,82 +32,30 @@ impl UnpackedIndex {
     }
 }
 
-/// A heap type that names no type of the module (WebAssembly Core Specification 3.0, section 5.3.3).
-#[derive(Clone, Copy, PartialEq, Debug)]
-pub enum AbstractHeapType {
-    Func,
-    Extern,
-    Any,
-    None,
-    NoExtern,
-    NoFunc,
-    Eq,
-    Struct,
-    Array,
-    I31,
-    Exn,
-    NoExn,
-    Cont,
-    NoCont,
-}
-
 /// What a reference points to (section 5.3.3).
-#[derive(Clone, Copy, PartialEq, Debug)]
-pub enum HeapType {
-    Abstract { shared: bool, ty: AbstractHeapType },
-    Concrete(UnpackedIndex),
-    Exact(UnpackedIndex),
-}
+pub type HeapType = wasm_types::HeapType<UnpackedIndex>;
 
 /// A reference type (section 5.3.4).
-#[derive(Clone, Copy, PartialEq, Debug)]
-pub struct RefType {
-    pub nullable: bool,
-    pub heap_type: HeapType,
-}
+pub type RefType = wasm_types::RefType<UnpackedIndex>;
 
 /// A value type (section 5.3.5).
-#[derive(Clone, Copy, PartialEq, Debug)]
-pub enum ValType {
-    I32,
-    I64,
-    F32,
-    F64,
-    V128,
-    Ref(RefType),
-}
+pub type ValType = wasm_types::ValType<UnpackedIndex>;
 
 /// The type of a field as it is stored (section 5.3.8).
-#[derive(Clone, Copy, PartialEq, Debug)]
-pub enum StorageType {
-    I8,
-    I16,
-    Val(ValType),
-}
+pub type StorageType = wasm_types::StorageType<UnpackedIndex>;
 
 /// A field of a structure or of an array (section 5.3.8).
-#[derive(Clone, Copy, PartialEq, Debug)]
-pub struct FieldType {
-    pub element_type: StorageType,
-    pub mutable: bool,
-}
+pub type FieldType = wasm_types::FieldType<UnpackedIndex>;
 
 /// The parameters and results of a function (section 5.3.8).
-#[derive(Drop)]
-pub struct FuncType {
-    pub params: List<ValType>,
-    pub results: List<ValType>,
-}
+pub type FuncType = wasm_types::FuncType<UnpackedIndex>;
 
 /// An array by the type of its elements (section 5.3.8).
 #[derive(Clone, Copy, PartialEq, Debug)]
 pub struct ArrayType(pub FieldType);
 
 /// A structure by its fields (section 5.3.8).
-#[derive(Drop)]
-pub struct StructType {
-    pub fields: List<FieldType>,
-}
+pub type StructType = wasm_types::StructType<UnpackedIndex>;
 
 /// A continuation by the type of its function.
 #[derive(Clone, Copy, PartialEq, Debug)]
@@ -170,19 +122,6 @@ pub struct GlobalType {
     pub content_type: ValType,
     pub mutable: bool,
     pub shared: bool,
-}
-
-/// What a tag is for (section 5.3.14).
-#[derive(Clone, Copy, PartialEq, Debug)]
-pub enum TagKind {
-    Exception,
-}
-
-/// A tag: the index of its function type (section 5.3.14).
-#[derive(Clone, Copy, PartialEq, Debug)]
-pub struct TagType {
-    pub kind: TagKind,
-    pub func_type_idx: u32,
 }
 
 /// What is imported, by its type (section 5.3.15).
@@ -298,21 +237,6 @@ pub struct FunctionBody<'a> {
     pub bytes: &'a [u8],
 }
 
-/// The bits of a floating-point number of 32 bits; in the binary the lowest byte comes first.
-#[derive(Clone, Copy, PartialEq, Debug)]
-pub struct Ieee32(pub u32);
-
-/// The bits of a floating-point number of 64 bits; in the binary the lowest byte comes first.
-#[derive(Clone, Copy, PartialEq, Debug)]
-pub struct Ieee64(pub u64);
-
-/// The order of an atomic access.
-#[derive(Clone, Copy, PartialEq, Debug)]
-pub enum Ordering {
-    SeqCst,
-    AcqRel,
-}
-
 /// The type of a block (section 5.4.1).
 #[derive(Clone, Copy, PartialEq, Debug)]
 pub enum BlockType {
@@ -321,71 +245,8 @@ pub enum BlockType {
     FuncType(u32),
 }
 
-/// Where a memory access goes: the exponent of the alignment, which is below 64, the memory and the offset
-/// (section 5.4.6).
-#[derive(Clone, Copy, PartialEq, Debug)]
-pub struct MemArg {
-    pub align: u8,
-    pub memory: u32,
-    pub offset: u64,
-    pub ghost aligned: { align < 64 },
-}
-
-/// What a block catches, and the label that it branches to (section 5.4.1).
-#[derive(Clone, Copy, PartialEq, Debug)]
-pub enum Catch {
-    One { tag: u32, label: u32 },
-    OneRef { tag: u32, label: u32 },
-    All { label: u32 },
-    AllRef { label: u32 },
-}
-
-/// How a resumed continuation's tag is handled.
-#[derive(Clone, Copy, PartialEq, Debug)]
-pub enum Handle {
-    OnLabel { tag: u32, label: u32 },
-    OnSwitch { tag: u32 },
-}
-
 /// An immediate of an operator (section 5.4).
-#[derive(Drop)]
-pub enum Imm<'a> {
-    Block(BlockType),
-    Label(u32),
-    Labels {
-        targets: List<u32>,
-        default: u32,
-    },
-    Index(Space, u32),
-    Local(u32),
-    Field(u32),
-    Size(u32),
-    Types(List<ValType>),
-    Mem(MemArg),
-    S32(i32),
-    S64(i64),
-    Four(Ieee32),
-    Eight(Ieee64),
-    Sixteen(&'a [u8]),
-    Lanes(&'a [u8]),
-    Lane(u8),
-    Heap(HeapType),
-    Catches(List<Catch>),
-    Cast {
-        label: u32,
-        from: RefType,
-        to: RefType,
-    },
-    Handlers(List<Handle>),
-    Zero,
-}
-
-/// A custom section: its name and the bytes behind it (section 5.5.3).
-#[derive(Clone, Copy, PartialEq, Debug)]
-pub struct CustomSection<'a> {
-    pub name: &'a str,
-    pub contents: &'a [u8],
-}
+pub type Imm<'a> = wasm_types::Imm<'a, BlockType, UnpackedIndex>;
 
 /// A name of an index (section 7.4.1 of the appendix).
 #[derive(Clone, Copy, PartialEq, Debug)]

@@ -11,14 +11,13 @@ use Rattle.wasm_shapes.specs.Fits.{InRange}
 use Rattle.wasm_shapes.specs.Module.{element_row, element_functions}
 use Rattle.wasm_shapes.specs.Types.{Items, active_of, rows_tree, vector_tree, expression_of, function_index_tree}
 use Rattle.wasm_shapes.proofs.Frameless.{frameless_spells}
-use Rattle.wasm_write.specs.declared.types.RefType.{RefType}
+use Rattle.wasm_write.specs.Types.{RefType, ref_type_tree}
 use Rattle.wasm_write.specs.declared.types.Elements.{Elements}
 use Rattle.wasm_write.specs.declared.types.Elements.TheVariants as elements
 use Rattle.wasm_write.specs.declared.fault.WriteFault.{WriteFault}
 use Rattle.wasm_write.specs.declared.fault.WriteFault.TheVariants.{TooLarge, NoMemory}
 use Rattle.wasm_write.specs.Counts.{counts, IsTooLarge}
 use Rattle.wasm_write.specs.Faults.{IfTooLarge}
-use Rattle.wasm_write.specs.Types.{ref_type_tree}
 use Rattle.wasm_write.specs.Rows.{is_funcref, elements_tree, elements_len, active_tree, unplaced_tree, HasSpelling, HaveSpellings}
 use Rattle.wasm_write.proofs.TypeShapes.{reference_is}
 use Rattle.wasm_write.proofs.Items.{count_map, large_right}

@@ -8,7 +8,7 @@ use Rattle.wasm_shapes.specs.Spells.{Is}
 use Rattle.wasm_write.specs.declared.types.TableType.{TableType}
 use Rattle.wasm_write.specs.declared.types.MemoryType.{MemoryType}
 use Rattle.wasm_write.specs.declared.types.GlobalType.{GlobalType}
-use Rattle.wasm_write.specs.declared.types.TagType.{TagType}
+use Rattle.wasm_types.specs.declared.types.TagType.{TagType}
 use Rattle.wasm_write.specs.declared.types.EntityType.{EntityType}
 use Rattle.wasm_write.specs.declared.types.EntityType.TheVariants as variant
 use Rattle.wasm_write.specs.declared.types.Imports.{Imports}

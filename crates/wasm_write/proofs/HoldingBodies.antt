@@ -14,7 +14,7 @@ use Rattle.wasm_shapes.specs.Fits.{InRange}
 use Rattle.wasm_shapes.proofs.Expressions.{inner_is}
 use Rattle.wasm_shapes.proofs.Frameless.{frameless_spells}
 use Rattle.wasm_shapes.proofs.ReadBack.{spelled_in_range, in_range_had}
-use Rattle.wasm_write.specs.declared.types.ValType.{ValType}
+use Rattle.wasm_write.specs.Types.{ValType}
 use Rattle.wasm_shapes.specs.Types.{rows_tree, vector_tree, expression_of}
 use Rattle.wasm_write.specs.declared.fault.WriteFault.{WriteFault}
 use Rattle.wasm_write.specs.declared.fault.WriteFault.TheVariants.{TooLarge, NoMemory}

@@ -3,8 +3,7 @@ use Rattle.std.proofs.Common.{◌≡◌, ◌≤◌, ℕ, List, ◌++◌, length,
 use Rattle.std.proofs.Math.ListN.{drop_of_length-le}
 use Rattle.wasm_shapes.specs.Tree.{normal}
 use Rattle.wasm_shapes.specs.Fits.{InRange}
-use Rattle.wasm_write.specs.declared.types.Imm.{Imm}
-use Rattle.wasm_write.specs.Instructions.{imms_tree}
+use Rattle.wasm_write.specs.Instructions.{Imm, imms_tree}
 
 -- some immediates are left; these and what is written are all, and if these are in range, all are
 pub record ImmsSoFar (left all : List Imm) (start out : List ℕ) : Type 0 where

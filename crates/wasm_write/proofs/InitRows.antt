@@ -10,19 +10,17 @@ use Rattle.wasm_shapes.specs.Module.{table_row, global_row}
 use Rattle.wasm_shapes.specs.Types.{expression_of, led, bounds_tree}
 use Rattle.wasm_shapes.proofs.Frameless.{frameless_spells}
 use Rattle.wasm_shapes.proofs.ReadBack.{spelled_in_range, in_range_had}
-use Rattle.wasm_write.specs.declared.types.AbstractHeapType.{AbstractHeapType}
-use Rattle.wasm_write.specs.declared.types.AbstractHeapType.TheVariants as abstract
-use Rattle.wasm_write.specs.declared.types.HeapType.{HeapType}
-use Rattle.wasm_write.specs.declared.types.HeapType.TheVariants as heap
-use Rattle.wasm_write.specs.declared.types.ValType.{ValType}
-use Rattle.wasm_write.specs.declared.types.ValType.TheVariants as value
+use Rattle.wasm_types.specs.declared.types.AbstractHeapType.{AbstractHeapType}
+use Rattle.wasm_types.specs.declared.types.AbstractHeapType.TheVariants as abstract
+use Rattle.wasm_write.specs.Types.{HeapType, ValType, abstract_tree, heap_type_tree, reference_parts, val_type_tree, table_type_tree, global_type_tree}
+use Rattle.wasm_types.specs.declared.types.HeapType.TheVariants as heap
+use Rattle.wasm_types.specs.declared.types.ValType.TheVariants as value
 use Rattle.wasm_write.specs.declared.types.TableType.{TableType}
 use Rattle.wasm_write.specs.declared.types.GlobalType.{GlobalType}
 use Rattle.wasm_write.specs.declared.fault.WriteFault.{WriteFault}
 use Rattle.wasm_write.specs.declared.fault.WriteFault.TheVariants.{TooLarge, NoMemory}
 use Rattle.wasm_write.specs.Counts.{counts, IsTooLarge}
 use Rattle.wasm_write.specs.Faults.{IfTooLarge}
-use Rattle.wasm_write.specs.Types.{abstract_tree, heap_type_tree, reference_parts, val_type_tree, table_type_tree, global_type_tree}
 use Rattle.wasm_write.specs.Rows.{table_with_init_tree, global_tree}
 use Rattle.wasm_write.proofs.SmallCounts.{IsSmall, counts_small, last_is_large}
 use Rattle.wasm_write.proofs.ExternalShapes.{table_type_is, global_type_is}

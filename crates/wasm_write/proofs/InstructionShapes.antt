@@ -19,16 +19,15 @@ use Rattle.wasm_shapes.specs.Fits.{InRange, CodeInRange}
 use Rattle.wasm_shapes.specs.Types.{are_sixteen, is_core, is_counted, cast_flags}
 use Rattle.wasm_shapes.proofs.TableRows.{one_byte_small, code_is}
 use Rattle.wasm_shapes.proofs.Frameless.{frameless_spells}
-use Rattle.wasm_write.specs.declared.types.RefType.{RefType}
+use Rattle.wasm_write.specs.Types.{RefType}
 use Rattle.wasm_write.specs.declared.types.BlockType.{BlockType}
 use Rattle.wasm_write.specs.declared.types.BlockType.TheVariants as block
-use Rattle.wasm_write.specs.declared.types.Catch.{Catch}
-use Rattle.wasm_write.specs.declared.types.Catch.TheVariants as catch
-use Rattle.wasm_write.specs.declared.types.Handle.{Handle}
-use Rattle.wasm_write.specs.declared.types.Handle.TheVariants as handle
-use Rattle.wasm_write.specs.declared.types.Imm.{Imm}
-use Rattle.wasm_write.specs.declared.types.Imm.TheVariants as imm
-use Rattle.wasm_write.specs.Instructions.{imm_kind, Parts, label_tree, block_type_tree, cast_tree, catch_tree, handle_tree, imm_tree, imms_tree, instruction_tree}
+use Rattle.wasm_types.specs.declared.types.Catch.{Catch}
+use Rattle.wasm_types.specs.declared.types.Catch.TheVariants as catch
+use Rattle.wasm_types.specs.declared.types.Handle.{Handle}
+use Rattle.wasm_types.specs.declared.types.Handle.TheVariants as handle
+use Rattle.wasm_write.specs.Instructions.{Imm, imm_kind, Parts, label_tree, block_type_tree, cast_tree, catch_tree, handle_tree, imm_tree, imms_tree, instruction_tree}
+use Rattle.wasm_types.specs.declared.types.Imm.TheVariants as imm
 use Rattle.wasm_write.proofs.TypeShapes.{heap_is, value_is, items_are, values_are}
 
 -- ---- the rows of opcodes

@@ -10,7 +10,7 @@ use Rattle.wasm_shapes.proofs.Frameless.{frameless_spells}
 use Rattle.wasm_write.specs.declared.types.RecGroup.{RecGroup}
 use Rattle.wasm_write.specs.declared.types.TableType.{TableType}
 use Rattle.wasm_write.specs.declared.types.MemoryType.{MemoryType}
-use Rattle.wasm_write.specs.declared.types.TagType.{TagType}
+use Rattle.wasm_types.specs.declared.types.TagType.{TagType}
 use Rattle.wasm_write.specs.declared.types.Imports.{Imports}
 use Rattle.wasm_write.specs.declared.types.ExportKind.{ExportKind}
 use Rattle.wasm_write.specs.declared.types.ExportKind.TheVariants as export

@@ -5,21 +5,17 @@ use Rattle.wasm_shapes.specs.Tree.{Tree}
 use Rattle.wasm_shapes.specs.Shape.{Shape, Named, choice, abstract_heap, heap, reference, storage, field, values, inner_rows, rows_and, described_rows, describing_rows, composite_rows, sub_rows, group_rows}
 use Rattle.wasm_shapes.specs.Spells.{Is}
 use Rattle.wasm_shapes.specs.Types.{rows_tree, mutable_of, shared_composite_tree, sub_type_of, group_of}
-use Rattle.wasm_write.specs.declared.types.AbstractHeapType.{AbstractHeapType}
-use Rattle.wasm_write.specs.declared.types.AbstractHeapType.TheVariants as abstract
-use Rattle.wasm_write.specs.declared.types.HeapType.{HeapType}
-use Rattle.wasm_write.specs.declared.types.HeapType.TheVariants as variant
-use Rattle.wasm_write.specs.declared.types.ValType.{ValType}
-use Rattle.wasm_write.specs.declared.types.ValType.TheVariants as value
-use Rattle.wasm_write.specs.declared.types.StorageType.{StorageType}
-use Rattle.wasm_write.specs.declared.types.StorageType.TheVariants as stored
-use Rattle.wasm_write.specs.declared.types.FieldType.{FieldType}
+use Rattle.wasm_types.specs.declared.types.AbstractHeapType.{AbstractHeapType}
+use Rattle.wasm_types.specs.declared.types.AbstractHeapType.TheVariants as abstract
+use Rattle.wasm_write.specs.Types.{HeapType, ValType, StorageType, FieldType, type_index, abstract_tree, heap_type_tree, nullable_tree, reference_parts, val_type_tree, val_types_tree, storage_type_tree, field_type_tree, inner_tree, described_tree, describing_tree, composite_tree, supertypes_tree, sub_type_tree, group_tree}
+use Rattle.wasm_types.specs.declared.types.HeapType.TheVariants as variant
+use Rattle.wasm_types.specs.declared.types.ValType.TheVariants as value
+use Rattle.wasm_types.specs.declared.types.StorageType.TheVariants as stored
 use Rattle.wasm_write.specs.declared.types.CompositeInnerType.{CompositeInnerType}
 use Rattle.wasm_write.specs.declared.types.CompositeInnerType.TheVariants as inner
 use Rattle.wasm_write.specs.declared.types.CompositeType.{CompositeType}
 use Rattle.wasm_write.specs.declared.types.SubType.{SubType}
 use Rattle.wasm_write.specs.declared.types.RecGroup.{RecGroup}
-use Rattle.wasm_write.specs.Types.{type_index, abstract_tree, heap_type_tree, nullable_tree, reference_parts, val_type_tree, val_types_tree, storage_type_tree, field_type_tree, inner_tree, described_tree, describing_tree, composite_tree, supertypes_tree, sub_type_tree, group_tree}
 
 -- ---- items
 

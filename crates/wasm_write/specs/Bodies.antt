@@ -13,9 +13,9 @@ use Rattle.wasm_shapes.specs.Sound.{sound}
 use Rattle.wasm_shapes.specs.Types.{rows_tree, vector_tree, listed, listed_rows}
 use Rattle.wasm_shapes.specs.Spells.{Is, Spelled}
 use Rattle.wasm_shapes.proofs.Laws.{one_tree}
-use Rattle.wasm_write.specs.declared.types.ValType.{ValType}
+use Rattle.wasm_types.specs.Types as of
 use Rattle.wasm_write.specs.Held.{HeldMany, HeldMany-one, HeldMany-prop}
-use Rattle.wasm_write.specs.Types.{val_type_tree}
+use Rattle.wasm_write.specs.Types.{ValType, indices}
 
 -- ---- a function
 
@@ -29,7 +29,7 @@ body_code = code_by (List Tree × List Tree) (coded× trees_code trees_code) (λ
 
 -- so many locals of a type
 abbrev pub local_tree : ℕ × ValType → Tree
-local_tree l = Tree.pair (Tree.u32 l.0) (val_type_tree l.1)
+local_tree l = of.local_tree indices l
 
 -- the function with one operator more
 abbrev pub with_operator : Body → Tree → Body

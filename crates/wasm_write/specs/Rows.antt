@@ -1,5 +1,5 @@
 -- The trees that rows of sections stand for.
-use Rattle.std.specs.Prelude.{ℕ, Bool, true, false, ◌&&◌, List, length, map, Option, All}
+use Rattle.std.specs.Prelude.{ℕ, Bool, true, false, List, length, map, Option, All}
 use Rattle.wasm_shapes.specs.declared.Space.{Space}
 use Rattle.wasm_shapes.specs.declared.Space.TheVariants as space
 use Rattle.wasm_shapes.specs.Tree.{Tree, normal}
@@ -14,11 +14,8 @@ use Rattle.wasm_write.specs.declared.types.Imports.{Imports}
 use Rattle.wasm_write.specs.declared.types.Imports.TheVariants as imported
 use Rattle.wasm_write.specs.declared.types.TableType.{TableType}
 use Rattle.wasm_write.specs.declared.types.GlobalType.{GlobalType}
+pub use Rattle.wasm_types.specs.Types.{is_funcref}
 use Rattle.wasm_write.specs.Types.{entity_tree, table_type_tree, global_type_tree, ref_type_tree}
-use Rattle.wasm_write.specs.declared.types.AbstractHeapType.TheVariants as abstract
-use Rattle.wasm_write.specs.declared.types.HeapType.{HeapType}
-use Rattle.wasm_write.specs.declared.types.HeapType.TheVariants as heap
-use Rattle.wasm_write.specs.declared.types.RefType.{RefType}
 use Rattle.wasm_write.specs.declared.types.Elements.{Elements}
 use Rattle.wasm_write.specs.declared.types.Elements.TheVariants as elements
 
@@ -64,15 +61,6 @@ abbrev pub export_tree : List ℕ → ExportKind → ℕ → Tree
 export_tree name kind i = Tree.pair (Tree.name name) (item_tree kind i)
 
 -- ---- element segments
-
--- any function
-abbrev pub are_functions : HeapType → Bool
-are_functions (heap.Abstract false abstract.Func) = true
-are_functions _ = false
-
--- whether a type is that of references to functions that may be null
-abbrev pub is_funcref : RefType → Bool
-is_funcref ty = ty.nullable && are_functions ty.heap_type
 
 -- what a segment lists; the expressions are seen as lists of their operators
 abbrev pub listed_items : Elements → Items

@@ -5,7 +5,7 @@ ghost use Rattle.wasm_shapes.specs.Spells.{Spells};
 ghost use Rattle.wasm_shapes.specs.Fits.{InRange};
 ghost use Rattle.wasm_write.specs.Faults.{IfTooLarge};
 ghost use Rattle.wasm_shapes.specs.Immediates.{HasKinds};
-ghost use Rattle.wasm_write.specs.declared.types.Imm.TheVariants as imm;
+ghost use Rattle.wasm_types.specs.declared.types.Imm.TheVariants as imm;
 ghost use Rattle.wasm_write.specs.Instructions.{imm_kind, instruction_tree, operator_tree};
 ghost use Rattle.wasm_shapes.specs.Module.{body as body_shape};
 ghost use Rattle.wasm_write.specs.Bodies.{Body, HasOperators, HeldBody, HeldBody-prop, IsBody, function_body, local_tree, with_operator, GainsOperators};

@@ -8,7 +8,7 @@ ghost use Rattle.wasm_shapes.specs.Shape.{Shape};
 ghost use Rattle.wasm_shapes.specs.Spells.{Spells};
 ghost use Rattle.wasm_shapes.specs.Fits.{CodeInRange, InRange};
 ghost use Rattle.wasm_shapes.specs.Types.{are_sixteen, is_core, is_counted};
-ghost use Rattle.wasm_write.specs.declared.types.Imm.TheVariants as imm;
+ghost use Rattle.wasm_types.specs.declared.types.Imm.TheVariants as imm;
 ghost use Rattle.wasm_write.specs.Instructions.{imm_kind, imms_tree, instruction_tree, operator_tree};
 
 use crate::immediates::write_imm;

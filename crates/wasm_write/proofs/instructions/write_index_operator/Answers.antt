@@ -1,7 +1,7 @@
 use Rattle.std.proofs.Common.{◌<◌, ◌^◌, ◌∷◌, [], ℕ, arith, subst, sym}
 use Rattle.wasm_shapes.specs.Operators.{code_from}
 use Rattle.wasm_shapes.specs.Fits.{CodeInRange}
-use Rattle.wasm_write.specs.declared.types.Imm.TheVariants as imm
+use Rattle.wasm_types.specs.declared.types.Imm.TheVariants as imm
 use Rattle.wasm_write.specs.Instructions.{Parts}
 use Rattle.wasm_write.proofs.Holding.{OnOk-of}
 use Rattle.wasm_write.proofs.InstructionShapes.{instruction_spelled, opcode_byte_of}

@@ -1,6 +1,6 @@
 use Rattle.std.proofs.Common.{◌∷◌, [], ap, ◌∙◌}
 use Rattle.wasm_write.specs.Bodies.{with_operator}
-use Rattle.wasm_write.specs.declared.types.Imm.TheVariants as imm
+use Rattle.wasm_types.specs.declared.types.Imm.TheVariants as imm
 use Rattle.wasm_write.specs.Instructions.{operator_tree}
 use Rattle.wasm_write.proofs.HoldingBodies.{body_grown, body_grown_is, body_same_is}
 use Rattle.wasm_write.proofs.bodies.Function.index_operator.Goals as goal
