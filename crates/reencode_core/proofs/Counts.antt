@@ -136,6 +136,10 @@ run_then asked s n m (v ∷ xs) ys a b h k =
     let g = given j.3 in
     rw (i.2, run_then asked i.1 n m xs ys j.0 b (j.2 ∙ ap (λ (z : _). accepted j.0 z) g.1) k) (ap (λ (z : List ℕ). accepted (z ++ b) m) g.0)
 
+run_cons : {S E : Type 0} (asked : Asks S E) (s l n : S) (v : Visit) (vs : List Visit) (x : ℕ) (a : List ℕ) → asked s v ≡ accepted x l → run asked l vs ≡ accepted a n →
+    run asked s (v ∷ vs) ≡ accepted (x ∷ a) n
+run_cons asked s l n v vs x a e h = rw (e, h) refl
+
 -- and these in two
 pub run_parts : {S E : Type 0} (asked : Asks S E) (s m : S) (xs ys : List Visit) (told : List ℕ) → run asked s (xs ++ ys) ≡ accepted told m →
     (a : List ℕ) × (n : S) × (b : List ℕ) × (run asked s xs ≡ accepted a n) × (run asked n ys ≡ accepted b m)
@@ -144,7 +148,7 @@ run_parts asked s m (v ∷ xs) ys told h =
     let i = inv (asked s v) (λ x l. and_then (run asked l (xs ++ ys)) (λ ns j. accepted (x ∷ ns) j)) h in
     let j = inv (run asked i.1 (xs ++ ys)) (λ ns l. accepted (i.0 ∷ ns) l) i.3 in
     let r = run_parts asked i.1 m xs ys j.0 (j.2 ∙ ap (λ (z : _). accepted j.0 z) (given j.3).1) in
-    (i.0 ∷ r.0, r.1, r.2, rw (i.2, r.3) refl, r.4)
+    (i.0 ∷ r.0, r.1, r.2, run_cons asked s i.1 r.1 v xs i.0 r.0 i.2 r.3, r.4)
 
 walk_counts_small : {S E : Type 0} (asked : Asks S E) (c : ℕ) (s m : S) (t u : Tree) (x : List ℕ) → Spelled t x → walk asked c s t ≡ accepted u m → All IsSmall (counts u)
 walk_counts_small asked c s m t u x p h =

@@ -5,7 +5,7 @@ use mathlib.Core.Bool.{false≢true}
 use Rattle.wasm_shapes.specs.Tree.{Tree}
 use Rattle.wasm_shapes.specs.Sound.{nullable}
 use Rattle.wasm_shapes.specs.Spells.{Is, Spells}
-use Rattle.wasm_shapes.specs.Module.{core_header, section, sections, alsos, CoreReading, NoCoreReading, FaultAt, Front}
+use Rattle.wasm_shapes.specs.Module.{core_header, section, sections, alsos, CoreReading, Front}
 use Rattle.wasm_shapes.proofs.Fronts.{nullable_sound}
 use Rattle.reencode_core.specs.Faults.{HasFront, OneFront, ReadsOrFails}
 use Rattle.reencode_core.proofs.CoreLoop.{Ahead, same, more, ahead, joined, one_section, same_sections}

@@ -11,7 +11,6 @@ use reencode_hooks::ReencodeIndices;
 
 /// Bytes that begin with the header of a core module have one front: the sections that stand behind the header side by side, up to
 /// where the bytes end or none begins. Where they end there it is their reading, and else that is their fault.
-#[tactic(auto, using(crate::proofs::Fronts::has_front, crate::proofs::Fronts::reads_or_fails, crate::proofs::Fronts::one_front))]
 pub fn front_is_one()
     ensures some { HasFront }
     ensures either { ReadsOrFails }
