@@ -1,5 +1,5 @@
 -- Rules for indices, and what the reencoder of a rule answers.
-use Rattle.std.specs.Prelude.{◌≡◌, ◌<◌, ◌^◌, ℕ, Result, Ok, Err, refl}
+use Rattle.std.specs.Prelude.{◌<◌, ◌^◌, ℕ, Result, Ok, Err, refl}
 use Rattle.wasm_shapes.specs.declared.Space.{Space}
 use Rattle.wasm_shapes.specs.declared.Visit.{Visit}
 use Rattle.wasm_shapes.specs.declared.Visit.TheVariants.{Index, Outer}

@@ -6,7 +6,7 @@ use Rattle.wasm_shapes.specs.declared.ImmKind.{ImmKind}
 use Rattle.wasm_shapes.specs.Operators.{Code, plain, prefixed, kinds_among, look_up, plain_operators}
 use Rattle.wasm_shapes.specs.Tree.{Tree}
 use Rattle.wasm_shapes.specs.Shape.{Shape, Named, immediates, shape_of_row}
-use Rattle.wasm_shapes.specs.Spells.{Is, Spelled, SpelledCode, Spells}
+use Rattle.wasm_shapes.specs.Spells.{Is, Spelled, SpelledCode}
 use Rattle.wasm_shapes.specs.Place.{Begins, BeginsNone}
 use Rattle.wasm_shapes.specs.Rows.{rows_then}
 use Rattle.wasm_shapes.proofs.Lists.{both}

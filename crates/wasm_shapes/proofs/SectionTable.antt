@@ -1,5 +1,5 @@
 -- The sections of a table, for any kind.
-use Rattle.std.proofs.Common.{◌≡◌, ◌≢◌, ◌⊎◌, inl, inr, ℕ, zero, suc, ◌+◌, ◌≤◌, lit≤, List, [], ◌∷◌, ◌++◌, Bool, true, false, if◌then◌else◌, nat_eq, get_or, refl, sym, ap, ap₂, ◌∙◌, subst, length, arith}
+use Rattle.std.proofs.Common.{◌≡◌, ◌≢◌, ◌⊎◌, inl, inr, ℕ, zero, suc, ◌≤◌, lit≤, List, [], ◌∷◌, Bool, true, false, if◌then◌else◌, nat_eq, get_or, refl, sym, ap, ap₂, ◌∙◌, subst, arith}
 use Rattle.std.proofs.lemmas.Bool.{false≢true, leb-true}
 use Rattle.std.proofs.lemmas.Bool.Decides.{Decides-eqb}
 use Rattle.wasm_shapes.specs.declared.SectionId.{SectionId}

@@ -4,7 +4,7 @@ use Rattle.std.proofs.Common.{◌≡◌, ℕ, ◌-◌, ◌<◌, ◌^◌, List, [
 use Rattle.std.proofs.lemmas.List.Elements.{All-nil, All-head, All-tail, All-append, Contains-append_cases}
 use mathlib.Core.Logic.{∥∥₁_map, ∥∥₁_map₂}
 use Rattle.wasm_shapes.specs.declared.Space.TheVariants as space
-use Rattle.wasm_shapes.specs.Tree.{Tree, Listed, count, normal, funcref}
+use Rattle.wasm_shapes.specs.Tree.{Tree, Listed, normal, funcref}
 use Rattle.wasm_shapes.specs.Shape.{Shape, Named, reference}
 use Rattle.wasm_shapes.specs.Spells.{Is, Spells}
 use Rattle.wasm_shapes.specs.Fits.{InRange}

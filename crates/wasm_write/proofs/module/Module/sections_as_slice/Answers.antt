@@ -1,4 +1,4 @@
-use Rattle.std.proofs.Common.{◌≡◌, List, ℕ, drop, ap, sym, ◌∙◌, arith}
+use Rattle.std.proofs.Common.{drop, ap, ◌∙◌, arith}
 use Rattle.wasm_write.proofs.HoldingSections.{sections_are, sections_few, sections_held}
 use Rattle.wasm_write.proofs.module.Module.sections_as_slice.Goals as goal
 

@@ -1,4 +1,4 @@
-use Rattle.std.proofs.Common.{drop, ap, arith}
+use Rattle.std.proofs.Common.{arith}
 use Rattle.wasm_write.proofs.Holding.{held_none, held_none_is}
 use Rattle.wasm_write.proofs.row_section.RowSection.clear.Goals as goal
 

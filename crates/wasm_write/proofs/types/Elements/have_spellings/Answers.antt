@@ -1,8 +1,8 @@
-use Rattle.std.proofs.Common.{◌≡◌, List, All, take, subst, sym, ◌∙◌}
+use Rattle.std.proofs.Common.{List, All, subst, ◌∙◌}
 use Rattle.std.proofs.lemmas.List.{take_all}
 use Rattle.std.proofs.lemmas.List.Elements.{All-nil, All-more}
 use Rattle.wasm_shapes.specs.Tree.{Tree}
-use Rattle.wasm_write.specs.Rows.{HasSpelling, HaveSpellings}
+use Rattle.wasm_write.specs.Rows.{HasSpelling}
 use Rattle.wasm_write.proofs.types.Elements.have_spellings.Goals as goal
 
 pub loop-expression-init : goal.loop-expression-init
