@@ -11,12 +11,11 @@ ghost use Rattle.reencode_core.specs.Sections.{KeepsModule};
 ghost use Rattle.examples.specs.Stripper.{IsLeftOut, IsUnwritten};
 
 use reencode_core::Reencode;
-use reencode_hooks::{Error, ReencodeIndices};
+use reencode_hooks::{Error, KeepIndices};
 use reencode_items::DefaultItems;
 use std::alloc::Global;
 use std::convert::Infallible;
 use wasm_read as r;
-use wasm_shapes::SectionId;
 use wasm_write as w;
 
 /// Answers every index as it is, and leaves out the name sections, or all custom sections.
@@ -26,72 +25,12 @@ pub struct Stripper {
     pub all: bool,
 }
 
-impl ReencodeIndices for Stripper {
-    ghost use Rattle.std.specs.Prelude.{true, false, Ok, refl, []};
-    ghost use Rattle.reencode_hooks.specs.Hooks.{index_of, index_of-given};
+impl KeepIndices for Stripper {
+    ghost use Rattle.std.specs.Prelude.{false};
 
     type Error = Infallible;
 
-    ghost reply = { λ _ visit. Ok (index_of visit) };
-
-    ghost next = { λ s _. s };
-
-    ghost adds = { λ _ _ _. [] };
-
     ghost keeps_defaults = { false };
-
-    ghost adds_nothing = { true };
-
-    ghost sure = { true };
-
-    ghost answers_ok = { λ _ visit h. index_of-given visit h };
-
-    ghost adds_ok = { λ _ _ _ _. refl };
-
-    fn data_index(&mut self, index: u32) -> Result<u32, Error<Infallible>> {
-        Ok(index)
-    }
-
-    fn element_index(&mut self, index: u32) -> Result<u32, Error<Infallible>> {
-        Ok(index)
-    }
-
-    fn function_index(&mut self, index: u32) -> Result<u32, Error<Infallible>> {
-        Ok(index)
-    }
-
-    fn global_index(&mut self, index: u32) -> Result<u32, Error<Infallible>> {
-        Ok(index)
-    }
-
-    fn memory_index(&mut self, index: u32) -> Result<u32, Error<Infallible>> {
-        Ok(index)
-    }
-
-    fn table_index(&mut self, index: u32) -> Result<u32, Error<Infallible>> {
-        Ok(index)
-    }
-
-    fn tag_index(&mut self, index: u32) -> Result<u32, Error<Infallible>> {
-        Ok(index)
-    }
-
-    fn type_index(&mut self, index: u32) -> Result<u32, Error<Infallible>> {
-        Ok(index)
-    }
-
-    fn data_count(&mut self, count: u32) -> Result<u32, Error<Infallible>> {
-        Ok(count)
-    }
-
-    fn intersperse_section_hook(
-        &mut self,
-        _module: &mut w::Module,
-        _after: Option<SectionId>,
-        _before: Option<SectionId>,
-    ) -> Result<(), Error<Infallible>> {
-        Ok(())
-    }
 }
 
 impl DefaultItems for Stripper {}

@@ -3,84 +3,23 @@
 //! Its author gives up `keeps_defaults`, and with it each clause `default` and `after_error`: of what comes out only the
 //! clauses that hold for every implementation are known, as that a sink gains whole rows. Nothing says that the types of
 //! locals and parameters still fit the operators that use them.
-use reencode_core::Reencode;
-use reencode_hooks::{Error, ReencodeIndices};
+use reencode_core::DefaultSections;
+use reencode_hooks::{Error, KeepIndices};
 use reencode_items::ReencodeItems;
 use std::convert::Infallible;
 use wasm_read as r;
-use wasm_shapes::SectionId;
 use wasm_write as w;
 
 /// Answers every index as it is, and writes every `i32` as an `i64`.
 #[derive(Clone, Copy, Debug)]
 pub struct Widened;
 
-impl ReencodeIndices for Widened {
-    ghost use Rattle.std.specs.Prelude.{true, false, Ok, refl, []};
-    ghost use Rattle.reencode_hooks.specs.Hooks.{index_of, index_of-given};
+impl KeepIndices for Widened {
+    ghost use Rattle.std.specs.Prelude.{false};
 
     type Error = Infallible;
 
-    ghost reply = { λ _ visit. Ok (index_of visit) };
-
-    ghost next = { λ s _. s };
-
-    ghost adds = { λ _ _ _. [] };
-
     ghost keeps_defaults = { false };
-
-    ghost adds_nothing = { true };
-
-    ghost sure = { true };
-
-    ghost answers_ok = { λ _ visit h. index_of-given visit h };
-
-    ghost adds_ok = { λ _ _ _ _. refl };
-
-    fn data_index(&mut self, index: u32) -> Result<u32, Error<Infallible>> {
-        Ok(index)
-    }
-
-    fn element_index(&mut self, index: u32) -> Result<u32, Error<Infallible>> {
-        Ok(index)
-    }
-
-    fn function_index(&mut self, index: u32) -> Result<u32, Error<Infallible>> {
-        Ok(index)
-    }
-
-    fn global_index(&mut self, index: u32) -> Result<u32, Error<Infallible>> {
-        Ok(index)
-    }
-
-    fn memory_index(&mut self, index: u32) -> Result<u32, Error<Infallible>> {
-        Ok(index)
-    }
-
-    fn table_index(&mut self, index: u32) -> Result<u32, Error<Infallible>> {
-        Ok(index)
-    }
-
-    fn tag_index(&mut self, index: u32) -> Result<u32, Error<Infallible>> {
-        Ok(index)
-    }
-
-    fn type_index(&mut self, index: u32) -> Result<u32, Error<Infallible>> {
-        Ok(index)
-    }
-
-    fn data_count(&mut self, count: u32) -> Result<u32, Error<Infallible>> {
-        Ok(count)
-    }
-
-    fn intersperse_section_hook(
-        &mut self,
-        _module: &mut w::Module,
-        _after: Option<SectionId>,
-        _before: Option<SectionId>,
-    ) -> Result<(), Error<Infallible>> {
-        Ok(())
-    }
 }
 
 impl ReencodeItems for Widened {
@@ -95,4 +34,6 @@ impl ReencodeItems for Widened {
     }
 }
 
-impl Reencode for Widened {}
+impl DefaultSections for Widened {
+    const DIRECT_BODIES: bool = false;
+}

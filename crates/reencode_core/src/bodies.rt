@@ -61,8 +61,8 @@ macro_rules! parse_code_section {
 pub(crate) use parse_code_section;
 
 macro_rules! parse_function_body {
-    ($reencoder:ident, $alloc:ident, $code:ident, $func:ident) => {{
-        let mut function = $reencoder.new_function_with_parsed_locals($alloc, &$func)?;
+    ($reencoder:ident, $alloc:ident, $code:ident, $func:ident, $function:expr) => {{
+        let mut function = $function?;
         let mut reader = $func.operators()?;
         'operators: while !reader.eof() {
             let instruction = $reencoder.parse_instruction($alloc, &mut reader)?;

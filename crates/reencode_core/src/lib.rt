@@ -30,6 +30,6 @@ pub use pieces::{
     Piece, Pieces, fill_is_own, kept_is_answered, reencode_joined, reencode_pieces,
     spelling_is_kept,
 };
-pub use plain::DefaultReencode;
+pub use plain::{DefaultReencode, DefaultSections};
 pub use reencode::{Reencode, reencode_core};
 pub use rule::reencode_by_rule;

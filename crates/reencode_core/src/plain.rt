@@ -1,30 +1,48 @@
 //! The reencoders that keep every default.
-use crate::direct;
 use crate::reencode::Reencode;
+use crate::{direct, shared};
 use reencode_hooks::{
     ByRule, Chain, Error, IndexRule, ReencodeIndices, Renamer, RoundtripReencoder,
 };
-use reencode_items::DefaultItems;
+use reencode_items::{DefaultItems, ReencodeItems};
 use std::alloc::Global;
 use wasm_read as r;
 use wasm_write as w;
 
-/// A reencoder that keeps every default method of `ReencodeItems` and `Reencode`. Its function bodies are mapped by
-/// `direct::parse_function_body`.
+/// A reencoder that keeps every default method of `Reencode`, and may override methods of `ReencodeItems`.
 ///
-/// To implement it beside `DefaultItems` is all that is needed, and costs no proof; `impl Reencode for X {}` proves each default
-/// once more for `X`. A reencoder that overrides a method of either trait implements `Reencode` itself.
-pub trait DefaultReencode: DefaultItems {}
+/// To implement it beside `ReencodeItems` is all that is needed, and costs no proof; `impl Reencode for X {}` proves each default
+/// once more for `X`. A reencoder that overrides a method of `Reencode` implements `Reencode` itself.
+pub trait DefaultSections: ReencodeItems {
+    /// Whether function bodies are mapped by `direct::parse_function_body`, which may pass by a method of `ReencodeItems` that is
+    /// overridden. Else they are mapped by these methods: a reencoder that overrides one says `false`.
+    const DIRECT_BODIES: bool;
+}
 
-impl<T: DefaultReencode> Reencode for T {
+impl<T: DefaultSections> Reencode for T {
     fn parse_function_body(
         &mut self,
         alloc: Global,
         code: &mut w::CodeSection,
         func: r::FunctionBody<'_>,
     ) -> Result<(), Error<Self::Error>> {
-        direct::parse_function_body(self, alloc, code, func)
+        if T::DIRECT_BODIES {
+            direct::parse_function_body(self, alloc, code, func)
+        } else {
+            shared::parse_function_body(self, alloc, code, func)
+        }
     }
+}
+
+/// A reencoder that keeps every default method of `ReencodeItems` and `Reencode`. Its function bodies are mapped by
+/// `direct::parse_function_body`.
+///
+/// To implement it beside `DefaultItems` is all that is needed. A reencoder that overrides a method of `ReencodeItems` has
+/// `DefaultSections` in its place, and one that overrides a method of `Reencode` implements `Reencode` itself.
+pub trait DefaultReencode: DefaultItems {}
+
+impl<T: DefaultReencode> DefaultSections for T {
+    const DIRECT_BODIES: bool = true;
 }
 
 impl DefaultReencode for RoundtripReencoder {}

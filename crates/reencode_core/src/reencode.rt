@@ -411,7 +411,13 @@ pub trait Reencode: ReencodeItems {
         ensures after_error { IsTrue Self.keeps_defaults → LeavesMade Self.sure (ask Self.reply Self.next) (body_in func.entry.bytes.now) self.old
             self.new result }
     {
-        bodies::parse_function_body!(self, alloc, code, func)
+        bodies::parse_function_body!(
+            self,
+            alloc,
+            code,
+            func,
+            self.new_function_with_parsed_locals(alloc, &func)
+        )
     }
 
     /// A function with the locals that a body begins with, each type by `val_type`, and no operator.

@@ -8,12 +8,13 @@ ghost use Rattle.wasm_write.specs.Types as write;
 ghost use Rattle.reencode_hooks.specs.Run.{LeavesVisited, ask};
 ghost use Rattle.reencode_items.specs.Maps.{Maps};
 ghost use Rattle.reencode_core.specs.Rows.{KeepsFront, GivesRow};
-ghost use Rattle.reencode_core.specs.Bodies.{GivesLocals};
+ghost use Rattle.reencode_core.specs.Bodies.{GivesBody, GivesLocals, KeepsCode};
 ghost use Rattle.reencode_core.specs.Sections.{KeepsModule, GivesAdded};
 ghost use Rattle.reencode_core.specs.Errors.{IfParse};
 ghost use Rattle.reencode_core.specs.Elements.{answered_table, asked_table};
-ghost use Rattle.reencode_core.specs.Leaves.{LeavesMade, locals_in};
+ghost use Rattle.reencode_core.specs.Leaves.{LeavesMade, body_in, locals_in};
 
+use crate::bodies;
 use crate::imports::single;
 use crate::lists::map_items;
 use crate::sections::add_section;
@@ -246,6 +247,29 @@ pub fn new_function_with_parsed_locals<T: ReencodeItems>(
         mapped.push((local.0, ty))?;
     }
     Ok(w::Function::new(alloc, &mapped)?)
+}
+
+/// Maps the locals of a body and its operators by methods of `ReencodeItems`, and adds the function.
+pub(crate) fn parse_function_body<T: ReencodeItems>(
+    reencoder: &mut T,
+    alloc: Global,
+    code: &mut w::CodeSection,
+    func: r::FunctionBody<'_>,
+) -> Result<(), Error<T::Error>>
+    ensures kept { KeepsCode code.old code.new }
+    ensures default { IsTrue T.keeps_defaults
+        → GivesBody (ask T.reply T.next) func.entry.bytes.now (reencoder.old, code.old)
+        (reencoder.new, code.new) result }
+    ensures after_error { IsTrue T.keeps_defaults → LeavesMade T.sure (ask T.reply T.next) (body_in func.entry.bytes.now) reencoder.old
+        reencoder.new result }
+{
+    bodies::parse_function_body!(
+        reencoder,
+        alloc,
+        code,
+        func,
+        new_function_with_parsed_locals(reencoder, alloc, &func)
+    )
 }
 
 /// A custom section as it is, whatever its name.

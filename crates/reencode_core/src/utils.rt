@@ -228,7 +228,13 @@ pub fn parse_function_body<T: Reencode>(
     ensures after_error { IsTrue T.keeps_defaults → LeavesMade T.sure (ask T.reply T.next) (body_in func.entry.bytes.now) reencoder.old
         reencoder.new result }
 {
-    bodies::parse_function_body!(reencoder, alloc, code, func)
+    bodies::parse_function_body!(
+        reencoder,
+        alloc,
+        code,
+        func,
+        reencoder.new_function_with_parsed_locals(alloc, &func)
+    )
 }
 
 /// Maps the rows that the reader still has, each by `parse_data`.

@@ -3,15 +3,13 @@ ghost use Rattle.std.specs.Prelude.{◌≡◌, ◌<◌, OnOk, OnErr};
 ghost use Rattle.reencode_hooks.specs.declared.asked.Asked.TheVariants.{Of};
 ghost use Rattle.reencode_hooks.specs.Renamings.{no_renaming, with_entry, count_of, noted, renamed, space_number, count_place};
 
+use crate::answer::AnswerVisits;
 use crate::asked::{Asked, Unmapped};
-use crate::error::Error;
-use crate::indices::ReencodeIndices;
 use crate::table::Table;
 use std::alloc::Global;
 use std::marker::Model;
 use wasm_leb::NoMemory;
-use wasm_shapes::{SectionId, Space};
-use wasm_write::Module;
+use wasm_shapes::{Space, Visit};
 
 /// Answers an index by its entry, and otherwise as it is; a strict one refuses an index of a core space that has no entry.
 /// It counts what it is asked.
@@ -166,18 +164,8 @@ impl Renamer {
     }
 }
 
-// Asks the entries.
-macro_rules! ask {
-    ($renamer:ident, $space:expr, $index:ident) => {
-        match $renamer.ask($space, $index) {
-            Ok(answer) => Ok(answer),
-            Err(e) => Err(Error::UserError(e)),
-        }
-    };
-}
-
-impl ReencodeIndices for Renamer {
-    ghost use Rattle.std.specs.Prelude.{true, [], refl};
+impl AnswerVisits for Renamer {
+    ghost use Rattle.std.specs.Prelude.{true};
     ghost use Rattle.reencode_hooks.specs.Renamings.{renamer_reply, renamer_next};
     ghost use Rattle.reencode_hooks.specs.Renamed.{renamer_answers};
 
@@ -187,61 +175,26 @@ impl ReencodeIndices for Renamer {
 
     ghost next = { renamer_next };
 
-    ghost adds = { λ _ _ _. [] };
-
     ghost keeps_defaults = { true };
-
-    ghost adds_nothing = { true };
-
-    ghost sure = { true };
 
     ghost answers_ok = { renamer_answers };
 
-    ghost adds_ok = { λ _ _ _ _. refl };
-
-    fn data_index(&mut self, index: u32) -> Result<u32, Error<Unmapped>> {
-        ask!(self, Space::Data, index)
-    }
-
-    fn element_index(&mut self, index: u32) -> Result<u32, Error<Unmapped>> {
-        ask!(self, Space::Element, index)
-    }
-
-    fn function_index(&mut self, index: u32) -> Result<u32, Error<Unmapped>> {
-        ask!(self, Space::Function, index)
-    }
-
-    fn global_index(&mut self, index: u32) -> Result<u32, Error<Unmapped>> {
-        ask!(self, Space::Global, index)
-    }
-
-    fn memory_index(&mut self, index: u32) -> Result<u32, Error<Unmapped>> {
-        ask!(self, Space::Memory, index)
-    }
-
-    fn table_index(&mut self, index: u32) -> Result<u32, Error<Unmapped>> {
-        ask!(self, Space::Table, index)
-    }
-
-    fn tag_index(&mut self, index: u32) -> Result<u32, Error<Unmapped>> {
-        ask!(self, Space::Tag, index)
-    }
-
-    fn type_index(&mut self, index: u32) -> Result<u32, Error<Unmapped>> {
-        ask!(self, Space::Type_, index)
-    }
-
-    fn data_count(&mut self, count: u32) -> Result<u32, Error<Unmapped>> {
-        ask!(self, Space::DataCount, count)
-    }
-
-    fn intersperse_section_hook(
-        &mut self,
-        _module: &mut Module,
-        _after: Option<SectionId>,
-        _before: Option<SectionId>,
-    ) -> Result<(), Error<Unmapped>> {
-        self.note(Asked::SectionHook);
-        Ok(())
+    #[inline(always)]
+    fn answer(&mut self, visit: Visit) -> Result<u32, Unmapped> {
+        match visit {
+            Visit::Index(space, index) | Visit::Outer(space, _, index) => self.ask(space, index),
+            Visit::Section(..) => {
+                self.note(Asked::SectionHook);
+                Ok(0)
+            }
+            Visit::Push => {
+                self.note(Asked::Push);
+                Ok(0)
+            }
+            Visit::Pop => {
+                self.note(Asked::Pop);
+                Ok(0)
+            }
+        }
     }
 }

@@ -1,78 +1,49 @@
-//! The reencoder that changes nothing.
-ghost use Rattle.std.specs.Prelude.{true, Ok, refl, []};
-ghost use Rattle.reencode_hooks.specs.Hooks.{index_of, index_of-given};
+//! The reencoders that answer every index as it is.
+ghost use Rattle.std.specs.Prelude.{true, Bool};
 
-use crate::error::Error;
-use crate::indices::ReencodeIndices;
+use crate::answer::AnswerVisits;
+use crate::utils;
 use std::convert::Infallible;
-use wasm_shapes::SectionId;
-use wasm_write::Module;
+use wasm_shapes::Visit;
 
-/// Answers every index as it is, and adds no section. It refuses nothing, and never wants memory.
-#[derive(Clone, Copy, Debug)]
-pub struct RoundtripReencoder;
+/// A reencoder that answers every index as it is, and keeps its state. It refuses nothing, adds no section, and never wants
+/// memory.
+///
+/// It has `ReencodeIndices` by this. What it does to more than indices it says by methods of the traits above.
+pub trait KeepIndices {
+    /// Why a method of the traits above that it overrides refuses: `Infallible` where none does.
+    type Error;
 
-impl ReencodeIndices for RoundtripReencoder {
-    type Error = Infallible;
+    // Whether each structural method of the traits above meets the clause of its default body.
+    ghost keeps_defaults: { Bool };
+}
+
+impl<T: KeepIndices> AnswerVisits for T {
+    ghost use Rattle.std.specs.Prelude.{Ok};
+    ghost use Rattle.reencode_hooks.specs.Hooks.{index_of, index_of-given};
+
+    type Error = <T as KeepIndices>::Error;
 
     ghost reply = { λ _ visit. Ok (index_of visit) };
 
     ghost next = { λ s _. s };
 
-    ghost adds = { λ _ _ _. [] };
-
-    ghost keeps_defaults = { true };
-
-    ghost adds_nothing = { true };
-
-    ghost sure = { true };
+    ghost keeps_defaults = { T.KeepIndices.keeps_defaults };
 
     ghost answers_ok = { λ _ visit h. index_of-given visit h };
 
-    ghost adds_ok = { λ _ _ _ _. refl };
-
-    fn data_index(&mut self, index: u32) -> Result<u32, Error<Infallible>> {
-        Ok(index)
+    #[inline(always)]
+    fn answer(&mut self, visit: Visit) -> Result<u32, <T as KeepIndices>::Error> {
+        Ok(utils::index_of(visit))
     }
+}
 
-    fn element_index(&mut self, index: u32) -> Result<u32, Error<Infallible>> {
-        Ok(index)
-    }
+/// Answers every index as it is, and adds no section. It refuses nothing, and never wants memory.
+#[derive(Clone, Copy, Debug)]
+pub struct RoundtripReencoder;
 
-    fn function_index(&mut self, index: u32) -> Result<u32, Error<Infallible>> {
-        Ok(index)
-    }
+impl KeepIndices for RoundtripReencoder {
+    type Error = Infallible;
 
-    fn global_index(&mut self, index: u32) -> Result<u32, Error<Infallible>> {
-        Ok(index)
-    }
-
-    fn memory_index(&mut self, index: u32) -> Result<u32, Error<Infallible>> {
-        Ok(index)
-    }
-
-    fn table_index(&mut self, index: u32) -> Result<u32, Error<Infallible>> {
-        Ok(index)
-    }
-
-    fn tag_index(&mut self, index: u32) -> Result<u32, Error<Infallible>> {
-        Ok(index)
-    }
-
-    fn type_index(&mut self, index: u32) -> Result<u32, Error<Infallible>> {
-        Ok(index)
-    }
-
-    fn data_count(&mut self, count: u32) -> Result<u32, Error<Infallible>> {
-        Ok(count)
-    }
-
-    fn intersperse_section_hook(
-        &mut self,
-        _module: &mut Module,
-        _after: Option<SectionId>,
-        _before: Option<SectionId>,
-    ) -> Result<(), Error<Infallible>> {
-        Ok(())
-    }
+    ghost keeps_defaults = { true };
 }

@@ -1,13 +1,10 @@
 //! Reencoders that ask one rule for each index.
-ghost use Rattle.std.specs.Prelude.{◌≡◌, ℕ, Result, true};
+ghost use Rattle.std.specs.Prelude.{◌≡◌, ℕ, Result};
 ghost use Rattle.wasm_shapes.specs.declared.Space.{Space};
 ghost use Rattle.reencode_hooks.specs.Rules.{IsRule};
-ghost use Rattle.reencode_hooks.specs.Run.{Gives, NeverWants, answered};
 
-use crate::error::Error;
-use crate::indices::ReencodeIndices;
-use wasm_shapes::{SectionId, Space};
-use wasm_write::Module;
+use crate::answer::AnswerVisits;
+use wasm_shapes::{Space, Visit};
 
 /// A rule for indices: it answers each index of each space by the space and the index alone.
 ///
@@ -33,23 +30,8 @@ pub struct ByRule<R> {
     pub rule: R,
 }
 
-impl<R: IndexRule> ByRule<R> {
-    /// The answer of the rule as that of a hook.
-    #[inline(always)]
-    fn ask(&mut self, space: Space, index: u32) -> Result<u32, Error<R::Error>>
-        ensures answer { Gives (answered (R.renamed self.old.rule space index) self.old)
-            (λ n. n) self.new result }
-        ensures sure { NeverWants true result }
-    {
-        match self.rule.index(space, index) {
-            Ok(index) => Ok(index),
-            Err(refusal) => Err(Error::UserError(refusal)),
-        }
-    }
-}
-
-impl<R: IndexRule> ReencodeIndices for ByRule<R> {
-    ghost use Rattle.std.specs.Prelude.{true, [], refl};
+impl<R: IndexRule> AnswerVisits for ByRule<R> {
+    ghost use Rattle.std.specs.Prelude.{true};
     ghost use Rattle.reencode_hooks.specs.Rules.{by_rule, rule_answers};
 
     type Error = R::Error;
@@ -58,60 +40,17 @@ impl<R: IndexRule> ReencodeIndices for ByRule<R> {
 
     ghost next = { λ s _. s };
 
-    ghost adds = { λ _ _ _. [] };
-
     ghost keeps_defaults = { true };
-
-    ghost adds_nothing = { true };
-
-    ghost sure = { true };
 
     ghost answers_ok = { λ s visit h. rule_answers R.renamed R.is_rule s.rule visit h };
 
-    ghost adds_ok = { λ _ _ _ _. refl };
-
-    fn data_index(&mut self, index: u32) -> Result<u32, Error<R::Error>> {
-        self.ask(Space::Data, index)
-    }
-
-    fn element_index(&mut self, index: u32) -> Result<u32, Error<R::Error>> {
-        self.ask(Space::Element, index)
-    }
-
-    fn function_index(&mut self, index: u32) -> Result<u32, Error<R::Error>> {
-        self.ask(Space::Function, index)
-    }
-
-    fn global_index(&mut self, index: u32) -> Result<u32, Error<R::Error>> {
-        self.ask(Space::Global, index)
-    }
-
-    fn memory_index(&mut self, index: u32) -> Result<u32, Error<R::Error>> {
-        self.ask(Space::Memory, index)
-    }
-
-    fn table_index(&mut self, index: u32) -> Result<u32, Error<R::Error>> {
-        self.ask(Space::Table, index)
-    }
-
-    fn tag_index(&mut self, index: u32) -> Result<u32, Error<R::Error>> {
-        self.ask(Space::Tag, index)
-    }
-
-    fn type_index(&mut self, index: u32) -> Result<u32, Error<R::Error>> {
-        self.ask(Space::Type_, index)
-    }
-
-    fn data_count(&mut self, count: u32) -> Result<u32, Error<R::Error>> {
-        self.ask(Space::DataCount, count)
-    }
-
-    fn intersperse_section_hook(
-        &mut self,
-        _module: &mut Module,
-        _after: Option<SectionId>,
-        _before: Option<SectionId>,
-    ) -> Result<(), Error<R::Error>> {
-        Ok(())
+    #[inline(always)]
+    fn answer(&mut self, visit: Visit) -> Result<u32, R::Error> {
+        match visit {
+            Visit::Index(space, index) | Visit::Outer(space, _, index) => {
+                self.rule.index(space, index)
+            }
+            Visit::Section(..) | Visit::Push | Visit::Pop => Ok(0),
+        }
     }
 }

@@ -1,10 +1,22 @@
 //! Hooks that change nothing: the bodies that a reencoder takes for those that it has no use for.
 ghost use Rattle.std.specs.Prelude.{◌≡◌, IsOk};
+ghost use Rattle.reencode_hooks.specs.Hooks.{index_of};
 
 use crate::error::Error;
 use crate::indices::ReencodeIndices;
-use wasm_shapes::SectionId;
+use wasm_shapes::{SectionId, Visit};
 use wasm_write::Module;
+
+/// The index that a visit asks as it is, and 0 where it asks none.
+#[inline(always)]
+pub fn index_of(visit: Visit) -> u32
+    ensures { result ≡ index_of visit }
+{
+    match visit {
+        Visit::Index(_, index) | Visit::Outer(_, _, index) => index,
+        Visit::Section(..) | Visit::Push | Visit::Pop => 0,
+    }
+}
 
 /// The index of a data segment as it is. The reencoder stays as it was.
 pub fn data_index<T: ReencodeIndices>(reencoder: &mut T, index: u32) -> u32
