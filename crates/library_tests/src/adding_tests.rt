@@ -4,7 +4,7 @@ ghost use Rattle.library_tests.specs.Hooks.{put_at, refuses_code, refuses_code-g
 
 use crate::examples_tests::ADDS;
 use examples::{Marks, add_marks};
-use reencode_core::{Adding, Reencode, SectionRule, reencode_core};
+use reencode_core::{Adding, Reencode, SectionRule};
 use reencode_hooks::{Asked, Error, ReencodeIndices, Renamer, RoundtripReencoder, Unmapped};
 use std::alloc::Global;
 use std::convert::Infallible;
@@ -53,21 +53,43 @@ const AT_END: [u8; 43] = [
     0x00, 0x20, 0x00, 0x20, 0x01, 0x6a, 0x0b, 0x00, 0x02, 0x01, 0x78,
 ];
 
-/// The module of two numbers with the custom section `x` before a section of a kind, or at its end.
-fn with_section(alloc: Global, at: Option<SectionId>) -> Result<Vec<u8>, Error<Infallible>> {
+/// The section of this body that `Put` adds before the code.
+const BEFORE: Put<'_> = Put {
+    at: Some(SectionId::Code),
+    contents: &[],
+};
+
+/// Adds the module of two numbers to a module, with what the rule adds to that of a reencoder, which is given back. It is handed
+/// over to a function of any reencoder here alone, which is dear.
+fn add<R: ReencodeIndices>(
+    alloc: Global,
+    module: &mut w::Module,
+    reencoder: R,
+    sections: Put<'_>,
+) -> (R, Result<(), Error<R::Error>>) {
     let mut adding = Adding {
-        reencoder: RoundtripReencoder,
-        sections: Put { at, contents: &[] },
+        reencoder,
+        sections,
     };
-    reencode_core(alloc, &mut adding, &ADDS, u32::MAX)
+    let result = adding.parse_core_module(alloc, module, &ADDS);
+    (adding.reencoder, result)
+}
+
+/// The module of two numbers with the custom section `x` before a section of a kind, or at its end.
+fn with_section(alloc: Global, at: Option<SectionId>) -> Result<w::Module, Error<Infallible>> {
+    let mut module = w::Module::new(alloc, u32::MAX)?;
+    let sections = Put { at, contents: &[] };
+    let (_, result) = add(alloc, &mut module, RoundtripReencoder, sections);
+    result?;
+    Ok(module)
 }
 
 #[test]
 fn sections_are_added(rt: HostRuntime) -> Result<(), Error<Infallible>> {
-    let bytes = with_section(rt.alloc(), Some(SectionId::Code))?;
-    assert!(rt; bytes.as_slice() == BEFORE_CODE.as_slice());
-    let bytes = with_section(rt.alloc(), None)?;
-    assert!(rt; bytes.as_slice() == AT_END.as_slice());
+    let module = with_section(rt.alloc(), Some(SectionId::Code))?;
+    assert!(rt; module.as_slice() == BEFORE_CODE.as_slice());
+    let module = with_section(rt.alloc(), None)?;
+    assert!(rt; module.as_slice() == AT_END.as_slice());
     Ok(())
 }
 
@@ -75,18 +97,13 @@ fn sections_are_added(rt: HostRuntime) -> Result<(), Error<Infallible>> {
 fn sections_are_added_to_the_renamed(rt: HostRuntime) -> Result<(), Error<Unmapped>> {
     let mut renamer = Renamer::new(rt.alloc());
     renamer.set(Space::Function, 0, 1)?;
-    let mut adding = Adding {
-        reencoder: renamer,
-        sections: Put {
-            at: Some(SectionId::Code),
-            contents: &[],
-        },
-    };
     let mut renamed = BEFORE_CODE;
     renamed[27] = 0x01;
-    let bytes = reencode_core(rt.alloc(), &mut adding, &ADDS, u32::MAX)?;
-    assert!(rt; bytes.as_slice() == renamed.as_slice());
-    assert_eq!(rt; adding.reencoder.count(Asked::SectionHook), 5);
+    let mut module = w::Module::new(rt.alloc(), u32::MAX)?;
+    let (renamer, result) = add(rt.alloc(), &mut module, renamer, BEFORE);
+    result?;
+    assert!(rt; module.as_slice() == renamed.as_slice());
+    assert_eq!(rt; renamer.count(Asked::SectionHook), 5);
     Ok(())
 }
 
@@ -180,26 +197,16 @@ const HELD: [u8; 35] = [
 ];
 
 /// A module with a start section, under a ceiling of 9.
-fn started(alloc: Global) -> Result<w::Module, w::WriteFault> {
-    let mut module = match w::Module::new(alloc, 9) {
-        Ok(module) => module,
-        Err(_) => return Err(w::WriteFault::NoMemory),
-    };
+fn started(alloc: Global) -> Result<w::Module, Error<Infallible>> {
+    let mut module = w::Module::new(alloc, 9)?;
     module.section(&w::StartSection { function_index: 0 })?;
     Ok(module)
 }
 
 #[test]
-fn a_refused_hook_leaves_its_sections(rt: HostRuntime) -> Result<(), w::WriteFault> {
+fn a_refused_hook_leaves_its_sections(rt: HostRuntime) -> Result<(), Error<Infallible>> {
     let mut module = started(rt.alloc())?;
-    let mut adding = Adding {
-        reencoder: Refusing,
-        sections: Put {
-            at: Some(SectionId::Code),
-            contents: &[],
-        },
-    };
-    let result = adding.parse_core_module(rt.alloc(), &mut module, &ADDS);
+    let (_, result) = add(rt.alloc(), &mut module, Refusing, BEFORE);
     let refused = matches!(result, Err(Error::UserError(SectionId::Code)));
     assert!(rt; refused);
     assert!(rt; module.as_slice() == HELD.as_slice());
@@ -207,16 +214,13 @@ fn a_refused_hook_leaves_its_sections(rt: HostRuntime) -> Result<(), w::WriteFau
 }
 
 #[test]
-fn a_section_is_too_large(rt: HostRuntime) -> Result<(), w::WriteFault> {
+fn a_section_is_too_large(rt: HostRuntime) -> Result<(), Error<Infallible>> {
     let mut module = started(rt.alloc())?;
-    let mut adding = Adding {
-        reencoder: RoundtripReencoder,
-        sections: Put {
-            at: Some(SectionId::Code),
-            contents: &[0xaa, 0xbb, 0xcc, 0xdd, 0xee, 0xff, 0x00, 0x11],
-        },
+    let sections = Put {
+        at: Some(SectionId::Code),
+        contents: &[0xaa, 0xbb, 0xcc, 0xdd, 0xee, 0xff, 0x00, 0x11],
     };
-    let result = adding.parse_core_module(rt.alloc(), &mut module, &ADDS);
+    let (_, result) = add(rt.alloc(), &mut module, RoundtripReencoder, sections);
     let refused = matches!(result, Err(Error::TooLarge { size: 10 }));
     assert!(rt; refused);
     assert!(rt; module.as_slice() == &HELD[..31]);

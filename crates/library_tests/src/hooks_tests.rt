@@ -1,8 +1,5 @@
 //! The texts of the errors, and the hooks through their bound.
-use reencode_hooks::{
-    Asked, Error, ReencodeIndices, Renamer, RoundtripReencoder, Unmapped, frames_are_in_order,
-    moments_are, utils, walk_is_passed, walk_is_run, walk_refuses, walk_stops, walk_visits,
-};
+use reencode_hooks::{Asked, Error, ReencodeIndices, Renamer, RoundtripReencoder, Unmapped};
 use std::alloc::{AllocError, Global};
 use wasm_leb::{Fault, Kind, NoMemory, ReadError};
 use wasm_shapes::{SectionId, Space};
@@ -122,38 +119,5 @@ fn hooks_answer(rt: HostRuntime) -> Result<(), NoMemory> {
     ] {
         assert_eq!(rt; renamer.count(what), count);
     }
-    Ok(())
-}
-
-#[test]
-fn utils_keep(rt: HostRuntime) -> Result<(), NoMemory> {
-    let mut module = Module::new(rt.alloc(), 100)?;
-    let mut same = RoundtripReencoder;
-    let answers = [
-        utils::data_index(&mut same, 1),
-        utils::element_index(&mut same, 2),
-        utils::function_index(&mut same, 4),
-        utils::global_index(&mut same, 8),
-        utils::memory_index(&mut same, 16),
-        utils::table_index(&mut same, 32),
-        utils::tag_index(&mut same, 64),
-        utils::type_index(&mut same, 128),
-    ];
-    assert_eq!(rt; answers, [1, 2, 4, 8, 16, 32, 64, 128]);
-    let result = utils::intersperse_section_hook(
-        &mut same,
-        &mut module,
-        Some(SectionId::Code),
-        None,
-    );
-    assert_eq!(rt; result.is_ok(), true);
-    assert_eq!(rt; module.len(), 0);
-    walk_is_passed(&same);
-    walk_is_run(&same);
-    walk_stops(&same);
-    walk_refuses(&same);
-    walk_visits(&same);
-    moments_are();
-    frames_are_in_order();
     Ok(())
 }

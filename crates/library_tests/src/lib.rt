@@ -5,15 +5,13 @@
 #[cfg(test)]
 mod adding_tests;
 #[cfg(test)]
-mod chain_tests;
+mod calls_tests;
 #[cfg(test)]
-mod core_tests;
+mod chain_tests;
 #[cfg(test)]
 mod examples_tests;
 #[cfg(test)]
 mod hooks_tests;
-#[cfg(test)]
-mod items_tests;
 #[cfg(test)]
 mod leb_tests;
 #[cfg(test)]
