@@ -1,5 +1,6 @@
 //! The kind in which modules, sections, immediates and the types of tables, globals, functions, structures and arrays ask.
-use crate::noter::{Made, Noter, Notes, UNASKED, noted};
+use crate::answers;
+use crate::noter::{Made, Noter, Notes, UNASKED, answered, noted};
 use reencode_core::Reencode;
 use reencode_hooks::RoundtripReencoder;
 use reencode_items::ReencodeItems;
@@ -14,72 +15,72 @@ use wasm_write as w;
 pub struct First;
 
 impl ReencodeItems for Noter<First> {
-    fn memory_type(&mut self, ty: r::MemoryType) -> Made<w::MemoryType> {
-        noted!(self, memory_type(ty))
+    fn memory_type(&mut self, _ty: r::MemoryType) -> Made<w::MemoryType> {
+        answered!(self, memory_type, answers::MEMORY)
     }
 
-    fn tag_type(&mut self, ty: r::TagType) -> Made<w::TagType> {
-        noted!(self, tag_type(ty))
+    fn tag_type(&mut self, _ty: r::TagType) -> Made<w::TagType> {
+        answered!(self, tag_type, answers::TAG)
     }
 
-    fn val_type(&mut self, ty: r::ValType) -> Made<w::ValType> {
-        noted!(self, val_type(ty))
+    fn val_type(&mut self, _ty: r::ValType) -> Made<w::ValType> {
+        answered!(self, val_type, w::ValType::I32)
     }
 
-    fn ref_type(&mut self, ty: r::RefType) -> Made<w::RefType> {
-        noted!(self, ref_type(ty))
+    fn ref_type(&mut self, _ty: r::RefType) -> Made<w::RefType> {
+        answered!(self, ref_type, answers::REFERENCE)
     }
 
-    fn heap_type(&mut self, ty: r::HeapType) -> Made<w::HeapType> {
-        noted!(self, heap_type(ty))
+    fn heap_type(&mut self, _ty: r::HeapType) -> Made<w::HeapType> {
+        answered!(self, heap_type, answers::HEAP)
     }
 
-    fn field_type(&mut self, ty: r::FieldType) -> Made<w::FieldType> {
-        noted!(self, field_type(ty))
+    fn field_type(&mut self, _ty: r::FieldType) -> Made<w::FieldType> {
+        answered!(self, field_type, answers::FIELD)
     }
 
-    fn composite_type(&mut self, alloc: Global, ty: r::CompositeType) -> Made<w::CompositeType> {
-        noted!(self, composite_type(alloc, ty))
+    fn composite_type(&mut self, _alloc: Global, _ty: r::CompositeType) -> Made<w::CompositeType> {
+        answered!(self, composite_type, answers::composite())
     }
 
-    fn type_index_unpacked(&mut self, ty: r::UnpackedIndex) -> Made<u32> {
-        noted!(self, type_index_unpacked(ty))
+    fn type_index_unpacked(&mut self, _ty: r::UnpackedIndex) -> Made<u32> {
+        answered!(self, type_index_unpacked, 0)
     }
 
-    fn block_type(&mut self, ty: r::BlockType) -> Made<w::BlockType> {
-        noted!(self, block_type(ty))
+    fn block_type(&mut self, _ty: r::BlockType) -> Made<w::BlockType> {
+        answered!(self, block_type, w::BlockType::Empty)
     }
 
     fn val_types(&mut self, alloc: Global, tys: List<r::ValType>) -> Made<List<w::ValType>> {
         noted!(self, val_types(alloc, tys))
     }
 
-    fn mem_arg(&mut self, arg: r::MemArg) -> Made<w::MemArg> {
-        noted!(self, mem_arg(arg))
+    fn mem_arg(&mut self, _arg: r::MemArg) -> Made<w::MemArg> {
+        answered!(self, mem_arg, answers::ACCESS)
     }
 
-    fn catch(&mut self, arg: r::Catch) -> Made<w::Catch> {
-        noted!(self, catch(arg))
+    fn catch(&mut self, _arg: r::Catch) -> Made<w::Catch> {
+        answered!(self, catch, w::Catch::All { label: 0 })
     }
 
-    fn handle(&mut self, on: r::Handle) -> Made<w::Handle> {
-        noted!(self, handle(on))
+    fn handle(&mut self, _on: r::Handle) -> Made<w::Handle> {
+        answered!(self, handle, w::Handle::OnSwitch { tag: 0 })
     }
 
-    fn ieee32_arg(&mut self, arg: r::Ieee32) -> Made<w::Ieee32> {
-        noted!(self, ieee32_arg(arg))
+    fn ieee32_arg(&mut self, _arg: r::Ieee32) -> Made<w::Ieee32> {
+        answered!(self, ieee32_arg, w::Ieee32(0))
     }
 
-    fn ieee64_arg(&mut self, arg: r::Ieee64) -> Made<w::Ieee64> {
-        noted!(self, ieee64_arg(arg))
+    fn ieee64_arg(&mut self, _arg: r::Ieee64) -> Made<w::Ieee64> {
+        answered!(self, ieee64_arg, w::Ieee64(0))
     }
 
     fn instruction<'a>(&mut self, alloc: Global, arg: r::Operator<'a>) -> Made<w::Instruction<'a>> {
         noted!(self, instruction(alloc, arg))
     }
 
-    fn const_expr(&mut self, alloc: Global, expr: r::ConstExpr<'_>) -> Made<w::ConstExpr> {
-        noted!(self, const_expr(alloc, expr))
+    fn const_expr(&mut self, alloc: Global, _expr: r::ConstExpr<'_>) -> Made<w::ConstExpr> {
+        answered!(self, const_expr, w::ConstExpr::new(alloc))
     }
 
     fn external_index(&mut self, _kind: r::ExternalKind, _index: u32) -> Made<u32> {
@@ -154,7 +155,7 @@ impl Reencode for Noter<First> {
         alloc: Global,
         group: r::RecGroup,
     ) -> Made<w::RecGroup> {
-        noted!(self, parse_recursive_type_group(alloc, group))
+        answered!(self, parse_recursive_type_group, answers::group(alloc))
     }
 
     fn parse_imports(

@@ -1,7 +1,4 @@
 //! What the methods of items ask.
-ghost use Rattle.std.specs.Prelude.{IsSome};
-ghost use Rattle.wasm_read.specs.Immediates.{imm_kind};
-
 use crate::noter::{Notes, both};
 use crate::third::{Way, Ways};
 use crate::values as v;
@@ -62,28 +59,66 @@ pub fn global<N: ReencodeItems + Notes>(of: &mut N) -> Result<(), Error<N::Error
     both!(of, global_type(v::GLOBAL))
 }
 
-/// The line of an immediate, which is given twice.
-fn immediate<N: ReencodeItems + Notes>(
+/// The type of a block, as an immediate.
+fn block_immediate<N: ReencodeItems + Notes>(
     of: &mut N,
     alloc: Global,
-    imm: Imm<'_>,
-    again: Imm<'_>,
-) -> Result<(), Error<N::Error>>
-    requires first { IsSome (imm_kind imm) }
-    requires second { IsSome (imm_kind again) }
-{
-    of.begin("immediate");
-    of.immediate(alloc, imm)?;
-    of.note("|");
-    utils::immediate(of, alloc, again)?;
-    Ok(())
+) -> Result<(), Error<N::Error>> {
+    both!(of, immediate(alloc, Imm::Block(r::BlockType::Empty)))
 }
 
-/// The line of an immediate.
-macro_rules! line {
-    ($noter:ident, $alloc:ident, $imm:expr) => {
-        immediate($noter, $alloc, $imm, $imm)?
-    };
+/// A list of types.
+fn types_immediate<N: ReencodeItems + Notes>(
+    of: &mut N,
+    alloc: Global,
+) -> Result<(), Error<N::Error>> {
+    both!(of, immediate(alloc, Imm::Types(v::one(alloc, v::VALUE)?)))
+}
+
+/// An access.
+fn access<N: ReencodeItems + Notes>(of: &mut N, alloc: Global) -> Result<(), Error<N::Error>> {
+    both!(of, immediate(alloc, Imm::Mem(v::ACCESS)))
+}
+
+/// A number of 32 bits.
+fn four<N: ReencodeItems + Notes>(of: &mut N, alloc: Global) -> Result<(), Error<N::Error>> {
+    both!(of, immediate(alloc, Imm::Four(r::Ieee32(0))))
+}
+
+/// A number of 64 bits.
+fn eight<N: ReencodeItems + Notes>(of: &mut N, alloc: Global) -> Result<(), Error<N::Error>> {
+    both!(of, immediate(alloc, Imm::Eight(r::Ieee64(0))))
+}
+
+/// A heap type, as an immediate.
+fn heap_immediate<N: ReencodeItems + Notes>(
+    of: &mut N,
+    alloc: Global,
+) -> Result<(), Error<N::Error>> {
+    both!(of, immediate(alloc, Imm::Heap(v::HEAP)))
+}
+
+/// A clause that catches.
+fn catches<N: ReencodeItems + Notes>(of: &mut N, alloc: Global) -> Result<(), Error<N::Error>> {
+    both!(of, immediate(alloc, Imm::Catches(v::one(alloc, v::CATCH)?)))
+}
+
+/// A cast.
+fn cast<N: ReencodeItems + Notes>(of: &mut N, alloc: Global) -> Result<(), Error<N::Error>> {
+    both!(of, immediate(alloc, v::CAST))
+}
+
+/// A handler.
+fn handlers<N: ReencodeItems + Notes>(of: &mut N, alloc: Global) -> Result<(), Error<N::Error>> {
+    both!(
+        of,
+        immediate(alloc, Imm::Handlers(v::one(alloc, v::HANDLE)?))
+    )
+}
+
+/// An index.
+fn index<N: ReencodeItems + Notes>(of: &mut N, alloc: Global) -> Result<(), Error<N::Error>> {
+    both!(of, immediate(alloc, Imm::Index(Space::Function, 0)))
 }
 
 /// Immediates.
@@ -91,25 +126,16 @@ pub fn immediates<N: ReencodeItems + Notes>(
     of: &mut N,
     alloc: Global,
 ) -> Result<(), Error<N::Error>> {
-    line!(of, alloc, Imm::Block(r::BlockType::Empty));
-    line!(of, alloc, Imm::Types(v::one(alloc, v::VALUE)?));
-    line!(of, alloc, Imm::Mem(v::ACCESS));
-    line!(of, alloc, Imm::Four(r::Ieee32(0)));
-    line!(of, alloc, Imm::Eight(r::Ieee64(0)));
-    Ok(())
-}
-
-/// More immediates.
-pub fn more_immediates<N: ReencodeItems + Notes>(
-    of: &mut N,
-    alloc: Global,
-) -> Result<(), Error<N::Error>> {
-    line!(of, alloc, Imm::Heap(v::HEAP));
-    line!(of, alloc, Imm::Catches(v::one(alloc, v::CATCH)?));
-    line!(of, alloc, v::CAST);
-    line!(of, alloc, Imm::Handlers(v::one(alloc, v::HANDLE)?));
-    line!(of, alloc, Imm::Index(Space::Function, 0));
-    Ok(())
+    block_immediate(of, alloc)?;
+    types_immediate(of, alloc)?;
+    access(of, alloc)?;
+    four(of, alloc)?;
+    eight(of, alloc)?;
+    heap_immediate(of, alloc)?;
+    catches(of, alloc)?;
+    cast(of, alloc)?;
+    handlers(of, alloc)?;
+    index(of, alloc)
 }
 
 /// The operator at the front of a body.

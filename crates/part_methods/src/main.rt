@@ -2,6 +2,7 @@
 //! module, in order.
 #![tactic(auto)]
 
+mod answers;
 mod first;
 mod items;
 mod names;
@@ -50,7 +51,6 @@ fn by_parts<N: Reencode + Notes>(of: &mut N, alloc: Global) -> Result<(), Error<
     rows::items(of, alloc)?;
     types_by_parts(of, alloc)?;
     items::immediates(of, alloc)?;
-    items::more_immediates(of, alloc)?;
     items::operators(of, alloc)
 }
 
@@ -85,7 +85,6 @@ fn names_by_wholes<N: Reencode + Notes>(of: &mut N, alloc: Global) -> Result<(),
     names::unknown(of, alloc)?;
     names::maps(of, alloc)?;
     names::more_maps(of, alloc)?;
-    names::last_maps(of, alloc)?;
     names::indirect_maps(of, alloc)
 }
 

@@ -1,6 +1,4 @@
 //! What the methods of custom sections, name sections and sections of other ids ask.
-ghost use Rattle.wasm_read.specs.Subsections.{IsRaw};
-
 use crate::noter::{Notes, both};
 use reencode_core::{Reencode, utils};
 use reencode_hooks::Error;
@@ -45,73 +43,103 @@ pub fn unknown<N: Reencode + Notes>(of: &mut N, alloc: Global) -> Result<(), Err
     both!(of, parse_unknown_section(&mut module, 99, &CONTENTS))
 }
 
-/// A subsection of a name section, which is given twice.
-fn subsection<N: Reencode + Notes>(
-    of: &mut N,
-    alloc: Global,
-    row: r::Name<'_>,
-    again: r::Name<'_>,
-) -> Result<(), Error<N::Error>>
-    requires first { IsRaw row }
-    requires second { IsRaw again }
-{
-    of.begin("parse_custom_name_subsection");
-    of.parse_custom_name_subsection(alloc, &mut w::NameSection::new(alloc, u32::MAX), row)?;
-    of.note("|");
-    utils::parse_custom_name_subsection(
-        of,
-        alloc,
-        &mut w::NameSection::new(alloc, u32::MAX),
-        again,
-    )?;
-    Ok(())
-}
-
-/// The line of a subsection with a map.
+/// The line of a subsection with a map of this kind.
 macro_rules! map {
     ($noter:ident, $alloc:ident, $kind:ident) => {
-        subsection(
+        both!(
             $noter,
-            $alloc,
-            r::Name::$kind(r::NameMap::new(&NAMES)),
-            r::Name::$kind(r::NameMap::new(&NAMES)),
-        )?
+            parse_custom_name_subsection(
+                $alloc,
+                &mut w::NameSection::new($alloc, u32::MAX),
+                r::Name::$kind(r::NameMap::new(&NAMES))
+            )
+        )
     };
 }
 
 /// The same with an indirect map.
 macro_rules! indirect {
     ($noter:ident, $alloc:ident, $kind:ident) => {
-        subsection(
+        both!(
             $noter,
-            $alloc,
-            r::Name::$kind(r::IndirectNameMap::new(&INDIRECT)),
-            r::Name::$kind(r::IndirectNameMap::new(&INDIRECT)),
-        )?
+            parse_custom_name_subsection(
+                $alloc,
+                &mut w::NameSection::new($alloc, u32::MAX),
+                r::Name::$kind(r::IndirectNameMap::new(&INDIRECT))
+            )
+        )
     };
+}
+
+/// Names of functions.
+fn functions<N: Reencode + Notes>(of: &mut N, alloc: Global) -> Result<(), Error<N::Error>> {
+    map!(of, alloc, Function)
+}
+
+/// Names of types.
+fn types<N: Reencode + Notes>(of: &mut N, alloc: Global) -> Result<(), Error<N::Error>> {
+    map!(of, alloc, Type_)
+}
+
+/// Names of tables.
+fn tables<N: Reencode + Notes>(of: &mut N, alloc: Global) -> Result<(), Error<N::Error>> {
+    map!(of, alloc, Table)
+}
+
+/// Names of memories.
+fn memories<N: Reencode + Notes>(of: &mut N, alloc: Global) -> Result<(), Error<N::Error>> {
+    map!(of, alloc, Memory)
+}
+
+/// Names of globals.
+fn globals<N: Reencode + Notes>(of: &mut N, alloc: Global) -> Result<(), Error<N::Error>> {
+    map!(of, alloc, Global)
+}
+
+/// Names of element segments.
+fn elements<N: Reencode + Notes>(of: &mut N, alloc: Global) -> Result<(), Error<N::Error>> {
+    map!(of, alloc, Element)
+}
+
+/// Names of data segments.
+fn segments<N: Reencode + Notes>(of: &mut N, alloc: Global) -> Result<(), Error<N::Error>> {
+    map!(of, alloc, Data)
+}
+
+/// Names of tags.
+fn tags<N: Reencode + Notes>(of: &mut N, alloc: Global) -> Result<(), Error<N::Error>> {
+    map!(of, alloc, Tag)
+}
+
+/// Names of locals.
+fn locals<N: Reencode + Notes>(of: &mut N, alloc: Global) -> Result<(), Error<N::Error>> {
+    indirect!(of, alloc, Local)
+}
+
+/// Names of labels.
+fn labels<N: Reencode + Notes>(of: &mut N, alloc: Global) -> Result<(), Error<N::Error>> {
+    indirect!(of, alloc, Label)
+}
+
+/// Names of fields.
+fn fields<N: Reencode + Notes>(of: &mut N, alloc: Global) -> Result<(), Error<N::Error>> {
+    indirect!(of, alloc, Field)
 }
 
 /// Names by their spaces.
 pub fn maps<N: Reencode + Notes>(of: &mut N, alloc: Global) -> Result<(), Error<N::Error>> {
-    map!(of, alloc, Function);
-    map!(of, alloc, Type_);
-    map!(of, alloc, Table);
-    Ok(())
+    functions(of, alloc)?;
+    types(of, alloc)?;
+    tables(of, alloc)?;
+    memories(of, alloc)
 }
 
 /// More names by their spaces.
 pub fn more_maps<N: Reencode + Notes>(of: &mut N, alloc: Global) -> Result<(), Error<N::Error>> {
-    map!(of, alloc, Memory);
-    map!(of, alloc, Global);
-    map!(of, alloc, Element);
-    Ok(())
-}
-
-/// The last names by their spaces.
-pub fn last_maps<N: Reencode + Notes>(of: &mut N, alloc: Global) -> Result<(), Error<N::Error>> {
-    map!(of, alloc, Data);
-    map!(of, alloc, Tag);
-    Ok(())
+    globals(of, alloc)?;
+    elements(of, alloc)?;
+    segments(of, alloc)?;
+    tags(of, alloc)
 }
 
 /// Names inside others.
@@ -119,8 +147,7 @@ pub fn indirect_maps<N: Reencode + Notes>(
     of: &mut N,
     alloc: Global,
 ) -> Result<(), Error<N::Error>> {
-    indirect!(of, alloc, Local);
-    indirect!(of, alloc, Label);
-    indirect!(of, alloc, Field);
-    Ok(())
+    locals(of, alloc)?;
+    labels(of, alloc)?;
+    fields(of, alloc)
 }

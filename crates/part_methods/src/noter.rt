@@ -17,7 +17,8 @@ pub type Made<T> = Result<T, Error<Infallible>>;
 /// What a method answers in a kind where nothing asks it.
 pub const UNASKED: Error<Infallible> = Error::UnsupportedCoreTypeInComponent;
 
-/// Notes each hook that is asked, and each method that its kind overrides, and answers as the reencoder that changes nothing.
+/// Notes each hook that is asked, and each method that its kind overrides. Hooks answer as the reencoder that changes nothing,
+/// and methods with something of their type.
 #[derive(Drop)]
 pub struct Noter<K> {
     notes: String,
@@ -83,6 +84,16 @@ macro_rules! noted {
 }
 
 pub(crate) use noted;
+
+/// Notes a method, and answers with this. It costs a third of what `noted` costs, where the answer goes nowhere.
+macro_rules! answered {
+    ($noter:ident, $method:ident, $answer:expr) => {{
+        $noter.note(stringify!($method));
+        Ok($answer)
+    }};
+}
+
+pub(crate) use answered;
 
 /// The line of a call: what the method asks, and what its function asks. Two lines in one function cost its check more than
 /// each in one of its own.

@@ -1,5 +1,6 @@
 //! The kind in which bodies of sections, rows, operators, composite types and values ask.
-use crate::noter::{Made, Noter, Notes, UNASKED, noted};
+use crate::answers;
+use crate::noter::{Made, Noter, Notes, UNASKED, answered, noted};
 use reencode_core::Reencode;
 use reencode_hooks::RoundtripReencoder;
 use reencode_items::ReencodeItems;
@@ -13,68 +14,68 @@ use wasm_write as w;
 pub struct Second;
 
 impl ReencodeItems for Noter<Second> {
-    fn entity_type(&mut self, ty: r::TypeRef) -> Made<w::EntityType> {
-        noted!(self, entity_type(ty))
+    fn entity_type(&mut self, _ty: r::TypeRef) -> Made<w::EntityType> {
+        answered!(self, entity_type, w::EntityType::Function(0))
     }
 
-    fn table_type(&mut self, ty: r::TableType) -> Made<w::TableType> {
-        noted!(self, table_type(ty))
+    fn table_type(&mut self, _ty: r::TableType) -> Made<w::TableType> {
+        answered!(self, table_type, answers::TABLE)
     }
 
-    fn global_type(&mut self, ty: r::GlobalType) -> Made<w::GlobalType> {
-        noted!(self, global_type(ty))
+    fn global_type(&mut self, _ty: r::GlobalType) -> Made<w::GlobalType> {
+        answered!(self, global_type, answers::GLOBAL)
     }
 
-    fn const_expr(&mut self, alloc: Global, expr: r::ConstExpr<'_>) -> Made<w::ConstExpr> {
-        noted!(self, const_expr(alloc, expr))
+    fn const_expr(&mut self, alloc: Global, _expr: r::ConstExpr<'_>) -> Made<w::ConstExpr> {
+        answered!(self, const_expr, w::ConstExpr::new(alloc))
     }
 
-    fn sub_type(&mut self, alloc: Global, ty: r::SubType) -> Made<w::SubType> {
-        noted!(self, sub_type(alloc, ty))
+    fn sub_type(&mut self, alloc: Global, _ty: r::SubType) -> Made<w::SubType> {
+        answered!(self, sub_type, answers::sub_type(alloc))
     }
 
-    fn func_type(&mut self, alloc: Global, ty: r::FuncType) -> Made<w::FuncType> {
-        noted!(self, func_type(alloc, ty))
+    fn func_type(&mut self, alloc: Global, _ty: r::FuncType) -> Made<w::FuncType> {
+        answered!(self, func_type, answers::function(alloc))
     }
 
-    fn array_type(&mut self, ty: r::ArrayType) -> Made<w::ArrayType> {
-        noted!(self, array_type(ty))
+    fn array_type(&mut self, _ty: r::ArrayType) -> Made<w::ArrayType> {
+        answered!(self, array_type, w::ArrayType(answers::FIELD))
     }
 
-    fn struct_type(&mut self, alloc: Global, ty: r::StructType) -> Made<w::StructType> {
-        noted!(self, struct_type(alloc, ty))
+    fn struct_type(&mut self, alloc: Global, _ty: r::StructType) -> Made<w::StructType> {
+        answered!(self, struct_type, answers::structure(alloc))
     }
 
-    fn cont_type(&mut self, ty: r::ContType) -> Made<w::ContType> {
-        noted!(self, cont_type(ty))
+    fn cont_type(&mut self, _ty: r::ContType) -> Made<w::ContType> {
+        answered!(self, cont_type, w::ContType(0))
     }
 
-    fn type_index_unpacked(&mut self, ty: r::UnpackedIndex) -> Made<u32> {
-        noted!(self, type_index_unpacked(ty))
+    fn type_index_unpacked(&mut self, _ty: r::UnpackedIndex) -> Made<u32> {
+        answered!(self, type_index_unpacked, 0)
     }
 
-    fn storage_type(&mut self, ty: r::StorageType) -> Made<w::StorageType> {
-        noted!(self, storage_type(ty))
+    fn storage_type(&mut self, _ty: r::StorageType) -> Made<w::StorageType> {
+        answered!(self, storage_type, w::StorageType::I8)
     }
 
-    fn ref_type(&mut self, ty: r::RefType) -> Made<w::RefType> {
-        noted!(self, ref_type(ty))
+    fn ref_type(&mut self, _ty: r::RefType) -> Made<w::RefType> {
+        answered!(self, ref_type, answers::REFERENCE)
     }
 
-    fn abstract_heap_type(&mut self, value: r::AbstractHeapType) -> Made<w::AbstractHeapType> {
-        noted!(self, abstract_heap_type(value))
+    fn abstract_heap_type(&mut self, _value: r::AbstractHeapType) -> Made<w::AbstractHeapType> {
+        answered!(self, abstract_heap_type, w::AbstractHeapType::Func)
     }
 
-    fn tag_kind(&mut self, kind: r::TagKind) -> Made<w::TagKind> {
-        noted!(self, tag_kind(kind))
+    fn tag_kind(&mut self, _kind: r::TagKind) -> Made<w::TagKind> {
+        answered!(self, tag_kind, w::TagKind::Exception)
     }
 
-    fn export_kind(&mut self, kind: r::ExternalKind) -> Made<w::ExportKind> {
-        noted!(self, export_kind(kind))
+    fn export_kind(&mut self, _kind: r::ExternalKind) -> Made<w::ExportKind> {
+        answered!(self, export_kind, w::ExportKind::Func)
     }
 
-    fn external_index(&mut self, kind: r::ExternalKind, index: u32) -> Made<u32> {
-        noted!(self, external_index(kind, index))
+    fn external_index(&mut self, _kind: r::ExternalKind, _index: u32) -> Made<u32> {
+        answered!(self, external_index, 0)
     }
 
     fn immediate<'a>(&mut self, alloc: Global, imm: r::Imm<'a>) -> Made<w::Imm<'a>> {
@@ -207,12 +208,16 @@ impl Reencode for Noter<Second> {
         Ok(())
     }
 
-    fn start_section(&mut self, start: u32) -> Made<u32> {
-        noted!(self, start_section(start))
+    fn start_section(&mut self, _start: u32) -> Made<u32> {
+        answered!(self, start_section, 0)
     }
 
-    fn element_items(&mut self, alloc: Global, items: r::ElementItems<'_>) -> Made<w::Elements> {
-        noted!(self, element_items(alloc, items))
+    fn element_items(&mut self, alloc: Global, _items: r::ElementItems<'_>) -> Made<w::Elements> {
+        answered!(
+            self,
+            element_items,
+            w::Elements::Functions(List::new(alloc))
+        )
     }
 
     fn parse_tag_section(
@@ -270,10 +275,14 @@ impl Reencode for Noter<Second> {
     fn custom_name_section(
         &mut self,
         alloc: Global,
-        section: r::NameSectionReader<'_>,
+        _section: r::NameSectionReader<'_>,
         ceiling: u32,
     ) -> Made<w::NameSection> {
-        noted!(self, custom_name_section(alloc, section, ceiling))
+        answered!(
+            self,
+            custom_name_section,
+            w::NameSection::new(alloc, ceiling)
+        )
     }
 
     fn parse_core_module(

@@ -1,5 +1,6 @@
 //! The kind in which imports, references, block types, lists of types and constant expressions ask.
-use crate::noter::{Made, Noter, Notes, UNASKED, noted};
+use crate::answers;
+use crate::noter::{Made, Noter, Notes, UNASKED, answered, noted};
 use reencode_hooks::{Error, RoundtripReencoder};
 use reencode_items::ReencodeItems;
 use std::alloc::Global;
@@ -37,28 +38,28 @@ impl Ways for Noter<Third> {
 }
 
 impl ReencodeItems for Noter<Third> {
-    fn table_type(&mut self, ty: r::TableType) -> Made<w::TableType> {
-        noted!(self, table_type(ty))
+    fn table_type(&mut self, _ty: r::TableType) -> Made<w::TableType> {
+        answered!(self, table_type, answers::TABLE)
     }
 
-    fn memory_type(&mut self, ty: r::MemoryType) -> Made<w::MemoryType> {
-        noted!(self, memory_type(ty))
+    fn memory_type(&mut self, _ty: r::MemoryType) -> Made<w::MemoryType> {
+        answered!(self, memory_type, answers::MEMORY)
     }
 
-    fn global_type(&mut self, ty: r::GlobalType) -> Made<w::GlobalType> {
-        noted!(self, global_type(ty))
+    fn global_type(&mut self, _ty: r::GlobalType) -> Made<w::GlobalType> {
+        answered!(self, global_type, answers::GLOBAL)
     }
 
-    fn tag_type(&mut self, ty: r::TagType) -> Made<w::TagType> {
-        noted!(self, tag_type(ty))
+    fn tag_type(&mut self, _ty: r::TagType) -> Made<w::TagType> {
+        answered!(self, tag_type, answers::TAG)
     }
 
-    fn val_type(&mut self, ty: r::ValType) -> Made<w::ValType> {
-        noted!(self, val_type(ty))
+    fn val_type(&mut self, _ty: r::ValType) -> Made<w::ValType> {
+        answered!(self, val_type, w::ValType::I32)
     }
 
-    fn heap_type(&mut self, ty: r::HeapType) -> Made<w::HeapType> {
-        noted!(self, heap_type(ty))
+    fn heap_type(&mut self, _ty: r::HeapType) -> Made<w::HeapType> {
+        answered!(self, heap_type, answers::HEAP)
     }
 
     fn parse_instruction<'a>(
