@@ -37,6 +37,7 @@ NoOperator bytes at =
     ⊎ ((t : Tree) × (operators : List Tree) × (start : List ℕ) × (rest : List ℕ) × Begins locals bytes t start × RowsBefore (Shape.op true) start operators rest
     × (at ≡ length bytes - length rest) × BeginsNone (Shape.op true) rest × (rest ≢ []))
 
+-- The body became what the walk over it gives, which was added; or it was refused, or has no reading, and nothing was added.
 pub record GivesBody {S E : Type 0} (asked : Asks S E) (bytes : List ℕ) (before after : S × CodeRows) (result : Result (Unit {0}) (Error E)) : Type 0 where
   pub reading : (t : Tree) → Spells body bytes t
       → GivesRow asked before.1.ceiling (before.0, before.1.rows) (Tree.sized t) (after.0, after.1.rows) result

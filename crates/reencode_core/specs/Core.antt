@@ -125,6 +125,7 @@ IsCause asked c bytes s m _ = ⊥
 
 -- ---- the module, and its bytes
 
+-- What a call that maps the bytes of a module gives: the walk over what is read, whose sections were added, or why not.
 pub record GivesCore {S E : Type 0} (asked : Asks S E) (bytes : List ℕ) (before after : S × Sections) (result : Result (Unit {0}) (Error E)) : Type 0 where
   pub reading : (t : Tree) → CoreReading bytes t → GivesModule asked before t after result
   pub readable : IfOk result (λ _. (t : Tree) × CoreReading bytes t)
@@ -135,6 +136,7 @@ abbrev pub GivesNormal : {S E A : Type 0} → Step S (Error E) Tree → S → Re
 GivesNormal step m (Ok out) view = (u : Tree) × (step ≡ accepted u m) × (view out ≡ normal u)
 GivesNormal step m (Err e) view = e ≢ NoMemory → step ≡ refused e m
 
+-- The same of a call that answers the bytes of the new module.
 pub record GivesBytes {S E A : Type 0} (asked : Asks S E) (ceiling : ℕ) (bytes : List ℕ) (s m : S) (result : Result A (Error E)) (view : A → List ℕ) : Type 0 where
   pub reading : (t : Tree) → Spells core_module bytes t → GivesNormal (walk asked ceiling s t) m result view
   pub readable : IfOk result (λ _. (t : Tree) × Spells core_module bytes t)

@@ -37,6 +37,7 @@ Ended (UserError x) step m = step ≡ refused (UserError x) m
 Ended NoMemory step m = state_after step ≡ m
 Ended {A = A} e step m = (a : A) × (step ≡ accepted a m)
 
+-- How the visits that were made ended, by the error: a refusal was the last of them, and else each was accepted.
 pub record EndsBy {S E : Type 0} (asked : Asks S E) (s : S) (made : List Visit) (e : Error E) (m : S) : Type 0 where
   pub by : Ended e (run asked s made) m
 
@@ -92,6 +93,7 @@ pub record RowsUpTo (row : Shape) (reader : Standing) (t : Tree) (rest : List �
   pub front : RowsBefore row reader.rest rows rest
   pub missing : ((length rows < reader.left) × BeginsNone row rest) ⊎ ((length rows ≡ reader.left) × (rest ≢ []))
 
+-- rows that a reader still has
 abbrev pub rows_in : Shape → Standing → Text
 rows_in row reader = record { bytes = reader.rest; reads = RowsOf row reader; faulty = RowsUpTo row reader }
 
@@ -111,9 +113,11 @@ pub data BodyUpTo (bytes : List ℕ) : Tree → List ℕ → Type 0 where
   behind : (l : Tree) (start : List ℕ) (operators : List Tree) (rest : List ℕ) → Begins locals bytes l start → RowsBefore (Shape.op true) start operators rest →
       BeginsNone (Shape.op true) rest → rest ≢ [] → BodyUpTo bytes (Tree.pair l (rows_tree operators)) rest
 
+-- the locals that a body begins with
 abbrev pub locals_in : List ℕ → Text
 locals_in bytes = record { bytes = bytes; reads = LocalsOf bytes; faulty = λ t rest. BeginsNone locals bytes × (t ≡ Tree.nil) × (rest ≡ bytes) }
 
+-- a whole body
 abbrev pub body_in : List ℕ → Text
 body_in bytes = record { bytes = bytes; reads = BodyOf bytes; faulty = BodyUpTo bytes }
 
@@ -126,6 +130,7 @@ pub data SectionUpTo (kind : SectionId) (bytes : List ℕ) : Tree → List ℕ �
   rows : (reader : Standing) (t : Tree) (rest : List ℕ) → HasRows kind → CountRead bytes reader → RowsUpTo (row_of kind) reader t rest → SectionUpTo kind bytes t rest
   behind : (s : Space) (at : ℕ) (b : LeftBehind bytes at) → HasItem kind s → SectionUpTo kind bytes Tree.nil b.rest
 
+-- the body of a section of a kind
 abbrev pub section_in : SectionId → List ℕ → Text
 section_in kind bytes = record { bytes = bytes; reads = ReadsAs kind bytes; faulty = SectionUpTo kind bytes }
 
@@ -137,6 +142,7 @@ entries_bytes (Content.direct id s m) = m.rest
 entries_bytes (Content.indirect id s m) = m.rest
 entries_bytes _ = []
 
+-- one subsection of a name section
 abbrev pub subsection_in : Name → Text
 subsection_in n = record { bytes = entries_bytes (content_of n); reads = ReadsName n; faulty = λ t rest. ⊥ }
 
@@ -148,9 +154,11 @@ pub record NamesUpTo (bytes : List ℕ) (t : Tree) (rest : List ℕ) : Type 0 wh
   pub missing : BeginsNone name_subsection rest
   pub some : rest ≢ []
 
+-- the subsections that a reader still has
 abbrev pub names_in : NamesStanding → Text
 names_in reader = record { bytes = reader.rest; reads = SubsectionsLeft reader; faulty = NamesUpTo reader.rest }
 
+-- a custom section, by its name
 abbrev pub custom_in : List ℕ → List ℕ → Text
 custom_in name contents = record { bytes = contents; reads = ReadsCustom name contents; faulty = λ t rest. (name ≡ names_name) × NamesUpTo contents t rest }
 
@@ -160,6 +168,7 @@ custom_in name contents = record { bytes = contents; reads = ReadsCustom name co
 pub data CoreUpTo (bytes : List ℕ) : Tree → List ℕ → Type 0 where
   sections : (before : List Tree) (rest : List ℕ) → FaultAt bytes before rest → CoreUpTo bytes (alsos before Tree.empty) rest
 
+-- the bytes of a core module, read as its sections behind the header
 abbrev pub module_in : List ℕ → Text
 module_in bytes = record { bytes = bytes; reads = CoreReading bytes; faulty = CoreUpTo bytes }
 
@@ -167,5 +176,6 @@ module_in bytes = record { bytes = bytes; reads = CoreReading bytes; faulty = Co
 abbrev pub NoCoreHeading : List ℕ → Type 0
 NoCoreHeading bytes = (rest : List ℕ) → bytes ≢ core_header ++ rest
 
+-- the same, read as the whole module
 abbrev pub core_in : List ℕ → Text
 core_in bytes = record { bytes = bytes; reads = Spells core_module bytes; faulty = CoreUpTo bytes }

@@ -85,6 +85,7 @@ pub record MapFault {S E : Type 0} (asked : Asks S E) (c : ℕ) (row : Shape) (m
   pub place : at ≡ map_place rest
   pub accepts : AcceptsRows asked c s read made k
 
+-- the map of a subsection has no entry where one is due, or bytes are left behind the last
 abbrev pub ContentFault : {S E : Type 0} → Asks S E → ℕ → Content → S → S → ℕ → Type 0
 ContentFault asked c n s k at = OfMap n (λ row m. MapFault asked c row m s k at)
 

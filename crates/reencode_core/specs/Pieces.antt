@@ -33,6 +33,7 @@ abbrev pub IsWithin : ℕ → Piece → Type 0
 IsWithin len (Kept start end) = (start ≤ end) × (end ≤ len)
 IsWithin len (Made bytes) = Unit {0}
 
+-- each kept range lies within an input of so many bytes
 abbrev pub AreWithin : ℕ → List Piece → Type 0
 AreWithin len [] = Unit {0}
 AreWithin len (p ∷ ps) = IsWithin len p × AreWithin len ps
@@ -42,6 +43,7 @@ abbrev pub piece_len : Piece → ℕ
 piece_len (Kept start end) = end - start
 piece_len (Made bytes) = length bytes
 
+-- how many bytes some pieces have
 abbrev pub total : List Piece → ℕ
 total [] = 0
 total (p ∷ ps) = piece_len p + total ps

@@ -187,6 +187,8 @@ pub record StopsDue {S E : Type 0} (asked : Asks S E) (c : ℕ) (row : Shape) (r
 
 -- ---- a section of rows
 
+-- Each row became another and was added, or the first that is refused ends it, or bytes without a row are told by their
+-- place.
 pub record GivesRows {S E : Type 0} (asked : Asks S E) (c : ℕ) (row : Shape) (reader : Standing) (before after : S × List Tree)
     (result : Result (Unit {0}) (Error E)) : Type 0 where
   pub reading : (rows : Tree) → RowsLeft row reader.left reader.rest rows → GivesAll asked c before rows after result

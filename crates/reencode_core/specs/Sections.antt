@@ -122,6 +122,7 @@ pub record StopsSection {S E : Type 0} (asked : Asks S E) (c : ℕ) (kind : Sect
   pub counted : CountRead body reader
   pub stops : StopsDue asked c (row_of kind) reader s e m
 
+-- The section became another, which was added; or it was refused, or has no reading, and nothing was added.
 pub record GivesSection {S E : Type 0} (asked : Asks S E) (kind : SectionId) (body : List ℕ) (before after : S × Sections)
     (result : Result (Unit {0}) (Error E)) : Type 0 where
   pub reading : (t : Tree) → ReadsAs kind body t → GivesOne asked kind before t after result

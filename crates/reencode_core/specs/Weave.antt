@@ -45,6 +45,7 @@ weave_from asked put c last s (Tree.also t u) =
     and_then (woven_one asked put c last s t) (λ us n. onto us (weave_from asked put c (kind last t) n u))
 weave_from asked put c last s t = walk_from asked c last s t
 
+-- the walk with what is put between two sections before each section that the hook is asked of, and at the end
 abbrev pub weave : {S E : Type 0} → Asks S E → Puts S Tree → ℕ → S → Tree → Step S (Error E) Tree
 weave asked put c s t = weave_from asked put c None s t
 

@@ -147,6 +147,8 @@ GainsBefore asked adds bytes before after e =
 
 -- ---- the module, and its bytes
 
+-- What a call that maps the bytes of a module gives where sections may be added: what the weave gives, or why not, and what
+-- the module gained then.
 pub record GivesWoven {S E : Type 0} (asked : Asks S E) (adds : Puts S SectionRow) (bytes : List ℕ) (before after : S × Sections) (result : Result (Unit {0}) (Error E)) : Type 0 where
   pub reading : (t : Tree) → CoreReading bytes t → GivesWovenModule asked adds before t after result
   pub readable : IfOk result (λ _. (t : Tree) × CoreReading bytes t)
@@ -158,6 +160,7 @@ abbrev pub GivesWovenNormal : {S E A : Type 0} → Step S (Error E) Tree → (Er
 GivesWovenNormal step own m (Ok out) view = (u : Tree) × (step ≡ accepted u m) × (view out ≡ normal u)
 GivesWovenNormal step own m (Err e) view = e ≢ NoMemory → own e ⊎ (step ≡ refused e m)
 
+-- The same of a call that answers the bytes of the new module.
 pub record GivesWovenBytes {S E A : Type 0} (asked : Asks S E) (adds : Puts S SectionRow) (ceiling : ℕ) (bytes : List ℕ) (s m : S) (result : Result A (Error E)) (view : A → List ℕ) : Type 0 where
   pub reading : (t : Tree) → Spells core_module bytes t →
       GivesWovenNormal (weave asked (added adds) ceiling s t) (OwnTooLarge asked adds ceiling bytes s) m result view

@@ -39,8 +39,8 @@ use wasm_write as w;
 /// visits; of bytes without one, a front part of the visits of what stands before the fault, or all of these and then some
 /// that are drawn from the bytes from there on. After want of memory it wants a reencoder that is sure, and of
 /// `parse_core_module`, after a size that is too large, one that adds nothing; of a method that is handed a row it speaks
-/// of sure reencoders alone. `start_section` takes no memory, and has `sure` in its place: memory is never wanting where no
-/// hook wants any.
+/// of sure reencoders alone. `start_section` and `custom_section` take no memory, and have `sure` in its place: memory is
+/// never wanting where no hook wants any.
 /// `wants` says what a sink holds where the reencoder is sure and memory was wanting: what the rows or sections before the one
 /// at which it was wanting became, and no more.
 pub trait Reencode: ReencodeItems {

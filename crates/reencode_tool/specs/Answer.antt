@@ -132,6 +132,7 @@ pub record Made (job : Job) (texts : Texts) (left_old left_new : Option (List �
 abbrev pub output_text : {command : Command} {ceiling : ℕ} {rs : Renamers} {bytes : List ℕ} → Output command ceiling rs bytes → List ℕ
 output_text {command} {bytes = bytes} made = report_by command (length bytes) made.output made.ranges made.counts
 
+-- what is printed of what was made
 abbrev pub report_of : {job : Job} {texts : Texts} {left_old left_new : Option (List ℕ)} → Made job texts left_old left_new → List ℕ
 report_of made = output_text made.made
 

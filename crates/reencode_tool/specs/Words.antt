@@ -72,6 +72,7 @@ command (w ∷ a ∷ []) = long_command w a
 command (w ∷ a ∷ b ∷ []) = longer_command w a b
 command _ = None
 
+-- what all words ask for, or nothing
 abbrev pub job : List (List ℕ) → Option Job
 job words =
     option_and_then (λ p. option_map (λ c. record { is_text = (without_flag words).0; ceiling = p.0; command = c }) (command p.1))
