@@ -1,12 +1,13 @@
 //! What no clause says: that the calls succeed over memory, what is printed and said, and how the
 //! program ends where the outside is slow or fails.
-use crate::answer::{Answer, answer_of};
-use crate::memory::{MemShelf, MemSink, MemSource, SureShelf, SureSink, SureSource};
+use crate::answer::{Answer, ReencodingFault, reencoding_fault};
+use crate::memory::{MemShelf, MemSink, MemSource};
 use crate::outside::{Failed, Shelf, ShelfFault, Sink, Source};
 use crate::renamers::{Refusal, Renamers};
 use crate::renaming::{RenamingFault, renaming_of};
 use crate::report::tail;
 use crate::standard::FileShelf;
+use crate::sure::{SureShelf, SureSink, SureSource};
 use crate::tool::run;
 use reencode_hooks::{Asked, Chain, ChainError, Error, Renamer, Unmapped};
 use std::alloc::Global;
@@ -857,7 +858,13 @@ fn place_of_a_fault(rt: HostRuntime) -> Result<(), Fail> {
         (8, b"parse error at 8\n"),
         (u64::MAX as usize, b"parse error at 18446744073709551615\n"),
     ] {
-        try_answer(&rt, rt.alloc(), Answer::ParseError { at }, 5, text)?;
+        try_answer(
+            &rt,
+            rt.alloc(),
+            Answer::Reencoding(ReencodingFault::ParseError { at }),
+            5,
+            text,
+        )?;
     }
     Ok(())
 }
@@ -868,35 +875,39 @@ fn ends_of_errors(rt: HostRuntime) -> Result<(), Fail> {
         space: Space::ComponentFunc,
         index: 7,
     };
-    for (answer, status, text) in [
+    for (fault, status, text) in [
         (
-            Answer::Refused(Refusal::Alone(unmapped)),
+            ReencodingFault::Refused(Refusal::Alone(unmapped)),
             6,
             &b"refused component_func 7\n"[..],
         ),
         (
-            Answer::Refused(Refusal::Both(ChainError::First(unmapped))),
+            ReencodingFault::Refused(Refusal::Both(ChainError::First(unmapped))),
             6,
             b"refused component_func 7 by 1\n",
         ),
         (
-            Answer::Refused(Refusal::Both(ChainError::Second(unmapped))),
+            ReencodingFault::Refused(Refusal::Both(ChainError::Second(unmapped))),
             6,
             b"refused component_func 7 by 2\n",
         ),
-        (Answer::CodeSectionSize, 7, b"invalid code section size\n"),
         (
-            Answer::NonCoreModule,
+            ReencodingFault::CodeSectionSize,
+            7,
+            b"invalid code section size\n",
+        ),
+        (
+            ReencodingFault::NonCoreModule,
             8,
             b"There was a section that does not belong in a core wasm module\n",
         ),
         (
-            Answer::NonComponent,
+            ReencodingFault::NonComponent,
             9,
             b"There was a section that does not belong in a component\n",
         ),
         (
-            Answer::TooLarge {
+            ReencodingFault::TooLarge {
                 size: 41,
                 ceiling: 40,
             },
@@ -904,46 +915,49 @@ fn ends_of_errors(rt: HostRuntime) -> Result<(), Fail> {
             b"too large: 41 over 40\n",
         ),
     ] {
-        try_answer(&rt, rt.alloc(), answer, status, text)?;
+        try_answer(&rt, rt.alloc(), Answer::Reencoding(fault), status, text)?;
     }
     Ok(())
 }
 
 #[test]
-fn answers_of_errors(rt: HostRuntime) {
+fn faults_of_errors(rt: HostRuntime) {
     let unmapped = Unmapped {
         space: Space::Type_,
         index: 0,
     };
     assert_eq!(rt;
-        answer_of(Error::UserError(unmapped), 9),
-        Answer::Refused(Refusal::Alone(unmapped))
+        reencoding_fault(Error::UserError(unmapped), 9),
+        ReencodingFault::Refused(Refusal::Alone(unmapped))
     );
     let second: ChainError<Unmapped, Unmapped> = ChainError::Second(unmapped);
     assert_eq!(rt;
-        answer_of(Error::UserError(second), 9),
-        Answer::Refused(Refusal::Both(second))
+        reencoding_fault(Error::UserError(second), 9),
+        ReencodingFault::Refused(Refusal::Both(second))
     );
     assert_eq!(rt;
-        answer_of(Error::<Unmapped>::InvalidCodeSectionSize, 9),
-        Answer::CodeSectionSize
+        reencoding_fault(Error::<Unmapped>::InvalidCodeSectionSize, 9),
+        ReencodingFault::CodeSectionSize
     );
     assert_eq!(rt;
-        answer_of(Error::<Unmapped>::UnexpectedNonCoreModuleSection, 9),
-        Answer::NonCoreModule
+        reencoding_fault(Error::<Unmapped>::UnexpectedNonCoreModuleSection, 9),
+        ReencodingFault::NonCoreModule
     );
     assert_eq!(rt;
-        answer_of(Error::<Unmapped>::UnexpectedNonComponentSection, 9),
-        Answer::NonComponent
+        reencoding_fault(Error::<Unmapped>::UnexpectedNonComponentSection, 9),
+        ReencodingFault::NonComponent
     );
     assert_eq!(rt;
-        answer_of(Error::<Unmapped>::TooLarge { size: 10 }, 9),
-        Answer::TooLarge {
+        reencoding_fault(Error::<Unmapped>::TooLarge { size: 10 }, 9),
+        ReencodingFault::TooLarge {
             size: 10,
             ceiling: 9
         }
     );
-    assert_eq!(rt; answer_of(Error::<Unmapped>::NoMemory, 9), Answer::NoMemory);
+    assert_eq!(rt;
+        reencoding_fault(Error::<Unmapped>::NoMemory, 9),
+        ReencodingFault::NoMemory
+    );
 }
 
 #[test]
