@@ -1,17 +1,25 @@
--- What a status says of how the program ended.
-use Rattle.std.proofs.Common.{◌≡◌, ◌≢◌, ℕ, inl, inr, true, Bool, Option, Some, None, List, [], ◌∷◌, ◌++◌, codes, refl, sym, ap, ◌∙◌, subst, arith, lit<}
+-- How each stage ends the program, and what a status says of how it ended.
+use Rattle.std.proofs.Common.{◌≡◌, ◌≢◌, ℕ, inl, inr, true, Bool, Option, Some, None, Result, Err, List, [], ◌∷◌, ◌++◌, codes, decimal, refl, sym, ap, ◌∙◌, subst, arith, lit<}
 use Rattle.std.specs.Prelude.{Contains, MatchOption}
 use Rattle.reencode_hooks.specs.Renamings.{Renaming, no_renaming}
 use Rattle.reencode_tool.specs.declared.answer.Answer.{Answer}
-use Rattle.reencode_tool.specs.declared.answer.Answer.TheVariants.{Printed, NoMemory, Usage, ReadFault, WriteFault, ParseError, Refused, CodeSectionSize, NonCoreModule, NonComponent, TooLarge, BadRenaming, ShelfFault, TooLong, NotHexadecimal}
+use Rattle.reencode_tool.specs.declared.answer.Answer.TheVariants.{File, Input, Digits, Reencoding}
+use Rattle.reencode_tool.specs.declared.answer.FileFault.{FileFault}
+use Rattle.reencode_tool.specs.declared.answer.FileFault.TheVariants as file_fault
+use Rattle.reencode_tool.specs.declared.input.InputFault.{InputFault}
+use Rattle.reencode_tool.specs.declared.input.InputFault.TheVariants as input_fault
+use Rattle.reencode_tool.specs.declared.hexadecimal.TextFault.{TextFault}
+use Rattle.reencode_tool.specs.declared.hexadecimal.TextFault.TheVariants as digits_fault
+use Rattle.reencode_tool.specs.declared.answer.ReencodingFault.{ReencodingFault}
+use Rattle.reencode_tool.specs.declared.answer.ReencodingFault.TheVariants as reencoding_fault
 use Rattle.reencode_tool.specs.declared.renamers.Refusal.{Refusal}
 use Rattle.reencode_tool.specs.declared.renamers.Renamers.{Renamers}
 use Rattle.reencode_tool.specs.declared.renamers.Renamers.TheVariants.{Alone}
-use Rattle.reencode_tool.specs.Answer.{AtFile, Ends, FilesSay, ForJob, HasNoDigits, IsBadFile, IsTooLong, IsUnfetched, IsUnread, MadeFor, Outside, StopsWith, report_of, PlainFor, RefusesFile, RefusesFrom, StopsAtReencoding, StopsFor, Texts, Uses, message, most_bytes, status_of, text_of}
+use Rattle.reencode_tool.specs.Answer.{AtFile, Ends, EndsFor, FilesSay, ForJob, HasNoDigits, IsBadFile, IsTooLong, IsUnfetched, IsUnread, MadeFor, Outside, PlainFor, RefusesDigits, RefusesFrom, RefusesInput, RefusesRenaming, Says, StopsFor, StopsWith, Texts, Uses, message, most_bytes, report_of, status_of, text_of}
 use Rattle.reencode_tool.specs.Outside.{Rose, GaveAll, TookFront, TookMore, WhereTold, followed}
 use Rattle.reencode_tool.specs.Hexadecimal.{binary}
 use Rattle.reencode_tool.specs.Reencoded.{IsReencoded}
-use Rattle.reencode_tool.specs.Renamers.{renamers_of}
+use Rattle.reencode_tool.specs.Renamers.{refusal_text, renamers_of}
 use Rattle.reencode_tool.specs.Words.{Command, Job, files, functions}
 use Rattle.reencode_tool.proofs.Outcomes.{plain_of}
 
@@ -29,382 +37,157 @@ pub plain_for : {c : ℕ} {rs : Renamers} {bytes output : List ℕ} {counts : Li
 plain_for {c} {rs} {bytes} {output} {counts} [] none h = plain_of (subst (λ (z : Renamers). IsReencoded c z bytes output counts) (none refl) h)
 plain_for (name ∷ names) none h = tt
 
--- ---- one status, one end
+-- ---- the stages
 
-pub is_printed : (answer : Answer) (status : ℕ) → status ≡ status_of answer → status ≡ 0 → answer ≡ Printed
-is_printed Printed status s e = refl
-is_printed NoMemory status s e = absurd (omega arith)
-is_printed Usage status s e = absurd (omega arith)
-is_printed ReadFault status s e = absurd (omega arith)
-is_printed WriteFault status s e = absurd (omega arith)
-is_printed (ParseError at) status s e = absurd (omega arith)
-is_printed (Refused u) status s e = absurd (omega arith)
-is_printed CodeSectionSize status s e = absurd (omega arith)
-is_printed NonCoreModule status s e = absurd (omega arith)
-is_printed NonComponent status s e = absurd (omega arith)
-is_printed (TooLarge size ceiling) status s e = absurd (omega arith)
-is_printed BadRenaming status s e = absurd (omega arith)
-is_printed ShelfFault status s e = absurd (omega arith)
-is_printed TooLong status s e = absurd (omega arith)
-is_printed NotHexadecimal status s e = absurd (omega arith)
+-- where the shelf and the source stood and stand, and the sink however it does
+abbrev pub before_output : Texts → (a b : ℕ) (left_old left_new : Option (List ℕ)) (r s : ℕ) (held_old held_new : Option (List ℕ)) (w x : ℕ) → Outside
+before_output texts a b left_old left_new r s held_old held_new w x = record {
+  texts = texts;
+  shelf_faults_old = a;
+  shelf_faults_new = b;
+  left_old = left_old;
+  left_new = left_new;
+  read_faults_old = r;
+  read_faults_new = s;
+  held_old = held_old;
+  held_new = held_new;
+  write_faults_old = w;
+  write_faults_new = x;
+}
 
-pub is_usage : (answer : Answer) (status : ℕ) → status ≡ status_of answer → status ≡ 2 → answer ≡ Usage
-is_usage Printed status s e = absurd (omega arith)
-is_usage NoMemory status s e = absurd (omega arith)
-is_usage Usage status s e = refl
-is_usage ReadFault status s e = absurd (omega arith)
-is_usage WriteFault status s e = absurd (omega arith)
-is_usage (ParseError at) status s e = absurd (omega arith)
-is_usage (Refused u) status s e = absurd (omega arith)
-is_usage CodeSectionSize status s e = absurd (omega arith)
-is_usage NonCoreModule status s e = absurd (omega arith)
-is_usage NonComponent status s e = absurd (omega arith)
-is_usage (TooLarge size ceiling) status s e = absurd (omega arith)
-is_usage BadRenaming status s e = absurd (omega arith)
-is_usage ShelfFault status s e = absurd (omega arith)
-is_usage TooLong status s e = absurd (omega arith)
-is_usage NotHexadecimal status s e = absurd (omega arith)
+pub input_refused : {T : Type 0} (fault : InputFault) (a b : ℕ) (old new : Option (List ℕ)) → (◌≡◌ {A = Result T InputFault} (Err fault) (Err input_fault.Failed) → Rose a b)
+    → (◌≡◌ {A = Result T InputFault} (Err fault) (Err input_fault.TooLong) → TookMore most_bytes old new) → RefusesInput a b old new fault
+input_refused input_fault.Failed a b old new failed long = failed refl
+input_refused input_fault.TooLong a b old new failed long = long refl
+input_refused input_fault.NoMemory a b old new failed long = tt
 
-pub is_read_fault : (answer : Answer) (status : ℕ) → status ≡ status_of answer → status ≡ 3 → answer ≡ ReadFault
-is_read_fault Printed status s e = absurd (omega arith)
-is_read_fault NoMemory status s e = absurd (omega arith)
-is_read_fault Usage status s e = absurd (omega arith)
-is_read_fault ReadFault status s e = refl
-is_read_fault WriteFault status s e = absurd (omega arith)
-is_read_fault (ParseError at) status s e = absurd (omega arith)
-is_read_fault (Refused u) status s e = absurd (omega arith)
-is_read_fault CodeSectionSize status s e = absurd (omega arith)
-is_read_fault NonCoreModule status s e = absurd (omega arith)
-is_read_fault NonComponent status s e = absurd (omega arith)
-is_read_fault (TooLarge size ceiling) status s e = absurd (omega arith)
-is_read_fault BadRenaming status s e = absurd (omega arith)
-is_read_fault ShelfFault status s e = absurd (omega arith)
-is_read_fault TooLong status s e = absurd (omega arith)
-is_read_fault NotHexadecimal status s e = absurd (omega arith)
+pub digits_refused : {T : Type 0} (fault : TextFault) (is_text : Bool) (text : List ℕ) (old new : Option (List ℕ)) → is_text ≡ true → GaveAll most_bytes old new text
+    → (◌≡◌ {A = Result T TextFault} (Err fault) (Err digits_fault.NotHexadecimal) → binary text ≡ None) → RefusesDigits is_text old new fault
+digits_refused digits_fault.NotHexadecimal is_text text old new is gave refused = (is, (text, gave, refused refl))
+digits_refused digits_fault.NoMemory is_text text old new is gave refused = tt
 
-pub is_write_fault : (answer : Answer) (status : ℕ) → status ≡ status_of answer → status ≡ 4 → answer ≡ WriteFault
-is_write_fault Printed status s e = absurd (omega arith)
-is_write_fault NoMemory status s e = absurd (omega arith)
-is_write_fault Usage status s e = absurd (omega arith)
-is_write_fault ReadFault status s e = absurd (omega arith)
-is_write_fault WriteFault status s e = refl
-is_write_fault (ParseError at) status s e = absurd (omega arith)
-is_write_fault (Refused u) status s e = absurd (omega arith)
-is_write_fault CodeSectionSize status s e = absurd (omega arith)
-is_write_fault NonCoreModule status s e = absurd (omega arith)
-is_write_fault NonComponent status s e = absurd (omega arith)
-is_write_fault (TooLarge size ceiling) status s e = absurd (omega arith)
-is_write_fault BadRenaming status s e = absurd (omega arith)
-is_write_fault ShelfFault status s e = absurd (omega arith)
-is_write_fault TooLong status s e = absurd (omega arith)
-is_write_fault NotHexadecimal status s e = absurd (omega arith)
+module _ (job : Job) (o : Outside) (U : Type 0) where
+  -- how an answer ends the program
+  abbrev pub Stopped : Answer → Type 0
+  Stopped answer = Ends job o U (status_of answer) (text_of answer)
 
-pub is_parse_error : (answer : Answer) (status : ℕ) → status ≡ status_of answer → status ≡ 5 → (at : ℕ) × (answer ≡ ParseError at)
-is_parse_error Printed status s e = absurd (omega arith)
-is_parse_error NoMemory status s e = absurd (omega arith)
-is_parse_error Usage status s e = absurd (omega arith)
-is_parse_error ReadFault status s e = absurd (omega arith)
-is_parse_error WriteFault status s e = absurd (omega arith)
-is_parse_error (ParseError at) status s e = (at, refl)
-is_parse_error (Refused u) status s e = absurd (omega arith)
-is_parse_error CodeSectionSize status s e = absurd (omega arith)
-is_parse_error NonCoreModule status s e = absurd (omega arith)
-is_parse_error NonComponent status s e = absurd (omega arith)
-is_parse_error (TooLarge size ceiling) status s e = absurd (omega arith)
-is_parse_error BadRenaming status s e = absurd (omega arith)
-is_parse_error ShelfFault status s e = absurd (omega arith)
-is_parse_error TooLong status s e = absurd (omega arith)
-is_parse_error NotHexadecimal status s e = absurd (omega arith)
+  pub by_file : (fault : FileFault) → RefusesRenaming job.command o.texts o.shelf_faults_old o.shelf_faults_new fault → U → Stopped (File fault)
+  by_file file_fault.Failed h u = Ends.unfetched h u
+  by_file file_fault.TooLong h u = Ends.too_long (inl (h, u))
+  by_file file_fault.Bad h u = Ends.bad_file h u
+  by_file file_fault.NoMemory h u = Ends.no_memory
 
-pub is_refused : (answer : Answer) (status : ℕ) → status ≡ status_of answer → status ≡ 6 → (u : Refusal) × (answer ≡ Refused u)
-is_refused Printed status s e = absurd (omega arith)
-is_refused NoMemory status s e = absurd (omega arith)
-is_refused Usage status s e = absurd (omega arith)
-is_refused ReadFault status s e = absurd (omega arith)
-is_refused WriteFault status s e = absurd (omega arith)
-is_refused (ParseError at) status s e = absurd (omega arith)
-is_refused (Refused u) status s e = (u, refl)
-is_refused CodeSectionSize status s e = absurd (omega arith)
-is_refused NonCoreModule status s e = absurd (omega arith)
-is_refused NonComponent status s e = absurd (omega arith)
-is_refused (TooLarge size ceiling) status s e = absurd (omega arith)
-is_refused BadRenaming status s e = absurd (omega arith)
-is_refused ShelfFault status s e = absurd (omega arith)
-is_refused TooLong status s e = absurd (omega arith)
-is_refused NotHexadecimal status s e = absurd (omega arith)
+  reads : (source : Option ℕ) → source ≡ None → MatchOption source ⊥ (λ n. Unit {0}) → ⊥
+  reads None e h = h
+  reads (Some n) e h = cc
 
-pub is_code_size : (answer : Answer) (status : ℕ) → status ≡ status_of answer → status ≡ 7 → answer ≡ CodeSectionSize
-is_code_size Printed status s e = absurd (omega arith)
-is_code_size NoMemory status s e = absurd (omega arith)
-is_code_size Usage status s e = absurd (omega arith)
-is_code_size ReadFault status s e = absurd (omega arith)
-is_code_size WriteFault status s e = absurd (omega arith)
-is_code_size (ParseError at) status s e = absurd (omega arith)
-is_code_size (Refused u) status s e = absurd (omega arith)
-is_code_size CodeSectionSize status s e = refl
-is_code_size NonCoreModule status s e = absurd (omega arith)
-is_code_size NonComponent status s e = absurd (omega arith)
-is_code_size (TooLarge size ceiling) status s e = absurd (omega arith)
-is_code_size BadRenaming status s e = absurd (omega arith)
-is_code_size ShelfFault status s e = absurd (omega arith)
-is_code_size TooLong status s e = absurd (omega arith)
-is_code_size NotHexadecimal status s e = absurd (omega arith)
+  by_input : (rs : Renamers) → Uses job.command o.texts rs → functions job.command ≡ None → (fault : InputFault)
+      → RefusesInput o.read_faults_old o.read_faults_new o.left_old o.left_new fault → Stopped (Input fault)
+  by_input rs uses e input_fault.Failed h = Ends.read_fault (reads (functions job.command) e, (rs, uses), h)
+  by_input rs uses e input_fault.TooLong h = Ends.too_long (inr (reads (functions job.command) e, (rs, uses), h))
+  by_input rs uses e input_fault.NoMemory h = Ends.no_memory
 
-pub is_component : (answer : Answer) (status : ℕ) → status ≡ status_of answer → status ≡ 8 → answer ≡ NonCoreModule
-is_component Printed status s e = absurd (omega arith)
-is_component NoMemory status s e = absurd (omega arith)
-is_component Usage status s e = absurd (omega arith)
-is_component ReadFault status s e = absurd (omega arith)
-is_component WriteFault status s e = absurd (omega arith)
-is_component (ParseError at) status s e = absurd (omega arith)
-is_component (Refused u) status s e = absurd (omega arith)
-is_component CodeSectionSize status s e = absurd (omega arith)
-is_component NonCoreModule status s e = refl
-is_component NonComponent status s e = absurd (omega arith)
-is_component (TooLarge size ceiling) status s e = absurd (omega arith)
-is_component BadRenaming status s e = absurd (omega arith)
-is_component ShelfFault status s e = absurd (omega arith)
-is_component TooLong status s e = absurd (omega arith)
-is_component NotHexadecimal status s e = absurd (omega arith)
+  by_digits : (rs : Renamers) → Uses job.command o.texts rs → functions job.command ≡ None → (fault : TextFault)
+      → RefusesDigits job.is_text o.left_old o.left_new fault → Stopped (Digits fault)
+  by_digits rs uses e digits_fault.NotHexadecimal h = Ends.no_digits (record { reads = reads (functions job.command) e; renamings = (rs, uses); digits = h })
+  by_digits rs uses e digits_fault.NoMemory h = Ends.no_memory
 
-pub is_too_large : (answer : Answer) (status : ℕ) → status ≡ status_of answer → status ≡ 10 → (size : ℕ) × (ceiling : ℕ) × (answer ≡ TooLarge size ceiling)
-is_too_large Printed status s e = absurd (omega arith)
-is_too_large NoMemory status s e = absurd (omega arith)
-is_too_large Usage status s e = absurd (omega arith)
-is_too_large ReadFault status s e = absurd (omega arith)
-is_too_large WriteFault status s e = absurd (omega arith)
-is_too_large (ParseError at) status s e = absurd (omega arith)
-is_too_large (Refused u) status s e = absurd (omega arith)
-is_too_large CodeSectionSize status s e = absurd (omega arith)
-is_too_large NonCoreModule status s e = absurd (omega arith)
-is_too_large NonComponent status s e = absurd (omega arith)
-is_too_large (TooLarge size ceiling) status s e = (size, ceiling, refl)
-is_too_large BadRenaming status s e = absurd (omega arith)
-is_too_large ShelfFault status s e = absurd (omega arith)
-is_too_large TooLong status s e = absurd (omega arith)
-is_too_large NotHexadecimal status s e = absurd (omega arith)
+  pub by_source : (rs : Renamers) → Uses job.command o.texts rs → (source : Option ℕ) → functions job.command ≡ source → (answer : Answer)
+      → RefusesFrom source job.is_text o.read_faults_old o.read_faults_new o.left_old o.left_new answer → Stopped answer
+  by_source rs uses None e (Input fault) h = by_input rs uses e fault h
+  by_source rs uses None e (Digits fault) h = by_digits rs uses e fault h
+  by_source rs uses None e _ h = absurd h
+  by_source rs uses (Some n) e answer h = subst Stopped (sym h) Ends.no_memory
 
-pub is_bad_renaming : (answer : Answer) (status : ℕ) → status ≡ status_of answer → status ≡ 11 → answer ≡ BadRenaming
-is_bad_renaming Printed status s e = absurd (omega arith)
-is_bad_renaming NoMemory status s e = absurd (omega arith)
-is_bad_renaming Usage status s e = absurd (omega arith)
-is_bad_renaming ReadFault status s e = absurd (omega arith)
-is_bad_renaming WriteFault status s e = absurd (omega arith)
-is_bad_renaming (ParseError at) status s e = absurd (omega arith)
-is_bad_renaming (Refused u) status s e = absurd (omega arith)
-is_bad_renaming CodeSectionSize status s e = absurd (omega arith)
-is_bad_renaming NonCoreModule status s e = absurd (omega arith)
-is_bad_renaming NonComponent status s e = absurd (omega arith)
-is_bad_renaming (TooLarge size ceiling) status s e = absurd (omega arith)
-is_bad_renaming BadRenaming status s e = refl
-is_bad_renaming ShelfFault status s e = absurd (omega arith)
-is_bad_renaming TooLong status s e = absurd (omega arith)
-is_bad_renaming NotHexadecimal status s e = absurd (omega arith)
-
-pub is_shelf_fault : (answer : Answer) (status : ℕ) → status ≡ status_of answer → status ≡ 12 → answer ≡ ShelfFault
-is_shelf_fault Printed status s e = absurd (omega arith)
-is_shelf_fault NoMemory status s e = absurd (omega arith)
-is_shelf_fault Usage status s e = absurd (omega arith)
-is_shelf_fault ReadFault status s e = absurd (omega arith)
-is_shelf_fault WriteFault status s e = absurd (omega arith)
-is_shelf_fault (ParseError at) status s e = absurd (omega arith)
-is_shelf_fault (Refused u) status s e = absurd (omega arith)
-is_shelf_fault CodeSectionSize status s e = absurd (omega arith)
-is_shelf_fault NonCoreModule status s e = absurd (omega arith)
-is_shelf_fault NonComponent status s e = absurd (omega arith)
-is_shelf_fault (TooLarge size ceiling) status s e = absurd (omega arith)
-is_shelf_fault BadRenaming status s e = absurd (omega arith)
-is_shelf_fault ShelfFault status s e = refl
-is_shelf_fault TooLong status s e = absurd (omega arith)
-is_shelf_fault NotHexadecimal status s e = absurd (omega arith)
-
-pub is_too_long : (answer : Answer) (status : ℕ) → status ≡ status_of answer → status ≡ 13 → answer ≡ TooLong
-is_too_long Printed status s e = absurd (omega arith)
-is_too_long NoMemory status s e = absurd (omega arith)
-is_too_long Usage status s e = absurd (omega arith)
-is_too_long ReadFault status s e = absurd (omega arith)
-is_too_long WriteFault status s e = absurd (omega arith)
-is_too_long (ParseError at) status s e = absurd (omega arith)
-is_too_long (Refused u) status s e = absurd (omega arith)
-is_too_long CodeSectionSize status s e = absurd (omega arith)
-is_too_long NonCoreModule status s e = absurd (omega arith)
-is_too_long NonComponent status s e = absurd (omega arith)
-is_too_long (TooLarge size ceiling) status s e = absurd (omega arith)
-is_too_long BadRenaming status s e = absurd (omega arith)
-is_too_long ShelfFault status s e = absurd (omega arith)
-is_too_long TooLong status s e = refl
-is_too_long NotHexadecimal status s e = absurd (omega arith)
-
-pub is_not_hexadecimal : (answer : Answer) (status : ℕ) → status ≡ status_of answer → status ≡ 14 → answer ≡ NotHexadecimal
-is_not_hexadecimal Printed status s e = absurd (omega arith)
-is_not_hexadecimal NoMemory status s e = absurd (omega arith)
-is_not_hexadecimal Usage status s e = absurd (omega arith)
-is_not_hexadecimal ReadFault status s e = absurd (omega arith)
-is_not_hexadecimal WriteFault status s e = absurd (omega arith)
-is_not_hexadecimal (ParseError at) status s e = absurd (omega arith)
-is_not_hexadecimal (Refused u) status s e = absurd (omega arith)
-is_not_hexadecimal CodeSectionSize status s e = absurd (omega arith)
-is_not_hexadecimal NonCoreModule status s e = absurd (omega arith)
-is_not_hexadecimal NonComponent status s e = absurd (omega arith)
-is_not_hexadecimal (TooLarge size ceiling) status s e = absurd (omega arith)
-is_not_hexadecimal BadRenaming status s e = absurd (omega arith)
-is_not_hexadecimal ShelfFault status s e = absurd (omega arith)
-is_not_hexadecimal TooLong status s e = absurd (omega arith)
-is_not_hexadecimal NotHexadecimal status s e = refl
-
--- ---- why nothing is printed
-
--- an answer that comes of the re-encoding alone
-abbrev IsLate : Answer → Type 0
-IsLate (ParseError at) = Unit {0}
-IsLate (Refused u) = Unit {0}
-IsLate CodeSectionSize = Unit {0}
-IsLate NonCoreModule = Unit {0}
-IsLate (TooLarge size ceiling) = Unit {0}
-IsLate _ = ⊥
-
--- what never holds of a file holds of none of these
-never_at : (texts : Texts) (names : List (List ℕ)) {P : List ℕ → Type 0} → ((name : List ℕ) → P name → ⊥) → AtFile texts names P → ⊥
-never_at texts [] never h = h
-never_at texts (name ∷ names) never (inl h) = never name h
-never_at texts (name ∷ names) never (inr h) = never_at texts names never h.1
-
-late_file : (answer : Answer) (name : List ℕ) (texts : Texts) (a b : ℕ) → IsLate answer → RefusesFile name texts a b answer → ⊥
-late_file (ParseError at) name texts a b late h = h
-late_file (Refused u) name texts a b late h = h
-late_file CodeSectionSize name texts a b late h = h
-late_file NonCoreModule name texts a b late h = h
-late_file (TooLarge size ceiling) name texts a b late h = h
-late_file _ name texts a b late h = late
-
-late_memory : (answer : Answer) → IsLate answer → answer ≡ NoMemory → ⊥
-late_memory (ParseError at) late h = cc
-late_memory (Refused u) late h = cc
-late_memory CodeSectionSize late h = cc
-late_memory NonCoreModule late h = cc
-late_memory (TooLarge size ceiling) late h = cc
-late_memory _ late h = late
-
-no_bytes : (answer : Answer) (source : Option ℕ) (is_text : Bool) (a b : ℕ) (old new : Option (List ℕ)) → IsLate answer → RefusesFrom source is_text a b old new answer → ⊥
-no_bytes answer (Some n) is_text a b old new late h = late_memory answer late h
-no_bytes (ParseError at) None is_text a b old new late h = h
-no_bytes (Refused u) None is_text a b old new late h = h
-no_bytes CodeSectionSize None is_text a b old new late h = h
-no_bytes NonCoreModule None is_text a b old new late h = h
-no_bytes (TooLarge size ceiling) None is_text a b old new late h = h
-no_bytes _ None is_text a b old new late h = late
-
-pub late_stops : (job : Job) (o : Outside) (answer : Answer) → IsLate answer → StopsFor job o answer → StopsAtReencoding job o.texts o.left_old o.left_new answer
-late_stops job o answer late (inl h) = absurd (never_at o.texts (files job.command) (λ name p. late_file answer name o.texts o.shelf_faults_old o.shelf_faults_new late p) h)
-late_stops job o answer late (inr (inl h)) = absurd (no_bytes answer (functions job.command) _ _ _ _ _ late h.stops)
-late_stops job o answer late (inr (inr (inl h))) = h
-late_stops job o answer late (inr (inr (inr h))) = absurd (late_memory answer late h)
-
--- the answer of another status than these
-never_bytes : (source : Option ℕ) (is_text : Bool) (a b : ℕ) (old new : Option (List ℕ)) → RefusesFrom source is_text a b old new NonComponent → ⊥
-never_bytes None is_text a b old new h = h
-never_bytes (Some n) is_text a b old new h = cc
-
-no_component : (j : Option Job) (o : Outside) → Ends j o NonComponent → ⊥
-no_component None o h = cc
-no_component (Some job) o (inl h) = never_at o.texts (files job.command) (λ name p. p) h
-no_component (Some job) o (inr (inl h)) = never_bytes (functions job.command) _ _ _ _ _ h.stops
-no_component (Some job) o (inr (inr (inl h))) = h.stops
-no_component (Some job) o (inr (inr (inr h))) = cc
-
-pub message_of : (answer : Answer) (j : Option Job) (o : Outside) (status : ℕ) → status ≡ status_of answer → Ends j o answer → status ≢ 0 → status ≢ 5 → status ≢ 6 → status ≢ 10
-    → text_of answer ++ codes "\n" ≡ message status
-message_of Printed j o status s h n m k l = absurd (n s)
-message_of NoMemory j o status s h n m k l = ap message (sym s)
-message_of Usage j o status s h n m k l = ap message (sym s)
-message_of ReadFault j o status s h n m k l = ap message (sym s)
-message_of WriteFault j o status s h n m k l = ap message (sym s)
-message_of (ParseError at) j o status s h n m k l = absurd (m s)
-message_of (Refused u) j o status s h n m k l = absurd (k s)
-message_of CodeSectionSize j o status s h n m k l = ap message (sym s)
-message_of NonCoreModule j o status s h n m k l = ap message (sym s)
-message_of NonComponent j o status s h n m k l = ap message (sym s)
-message_of (TooLarge size ceiling) j o status s h n m k l = absurd (l s)
-message_of BadRenaming j o status s h n m k l = ap message (sym s)
-message_of ShelfFault j o status s h n m k l = ap message (sym s)
-message_of TooLong j o status s h n m k l = ap message (sym s)
-message_of NotHexadecimal j o status s h n m k l = ap message (sym s)
-
-pub status_among : (answer : Answer) (j : Option Job) (o : Outside) (status : ℕ) → status ≡ status_of answer → Ends j o answer
-    → Contains (0 ∷ 1 ∷ 2 ∷ 3 ∷ 4 ∷ 5 ∷ 6 ∷ 7 ∷ 8 ∷ 10 ∷ 11 ∷ 12 ∷ 13 ∷ 14 ∷ []) status
-status_among Printed j o status s h = (0, lit< tt, sym s)
-status_among NoMemory j o status s h = (1, lit< tt, sym s)
-status_among Usage j o status s h = (2, lit< tt, sym s)
-status_among ReadFault j o status s h = (3, lit< tt, sym s)
-status_among WriteFault j o status s h = (4, lit< tt, sym s)
-status_among (ParseError at) j o status s h = (5, lit< tt, sym s)
-status_among (Refused u) j o status s h = (6, lit< tt, sym s)
-status_among CodeSectionSize j o status s h = (7, lit< tt, sym s)
-status_among NonCoreModule j o status s h = (8, lit< tt, sym s)
-status_among NonComponent j o status s h = absurd (no_component j o h)
-status_among (TooLarge size ceiling) j o status s h = (9, lit< tt, sym s)
-status_among BadRenaming j o status s h = (10, lit< tt, sym s)
-status_among ShelfFault j o status s h = (11, lit< tt, sym s)
-status_among TooLong j o status s h = (12, lit< tt, sym s)
-status_among NotHexadecimal j o status s h = (13, lit< tt, sym s)
+  pub by_reencoding : (fault : ReencodingFault) → StopsFor job o fault → Stopped (Reencoding fault)
+  by_reencoding (reencoding_fault.ParseError at) h = Ends.parse_error at h
+  by_reencoding (reencoding_fault.Refused u) h = Ends.refused u h
+  by_reencoding reencoding_fault.CodeSectionSize h = Ends.code_size h
+  by_reencoding reencoding_fault.NonCoreModule h = Ends.component h
+  by_reencoding reencoding_fault.NonComponent h = absurd h.stops
+  by_reencoding (reencoding_fault.TooLarge size ceiling) h = Ends.too_large size ceiling h
+  by_reencoding reencoding_fault.NoMemory h = Ends.no_memory
 
 -- ---- what each status says
 
-pub of_printed : (j : Option Job) (o : Outside) → Ends j o Printed → ForJob j (λ job. (made : MadeFor job o) × WhereTold o.held_new (followed o.held_old (report_of made)))
-of_printed None o h = let never : Printed ≡ Usage = h in absurd cc
-of_printed (Some job) o h = h
+-- the end with a status that is that of the answer
+pub at_status : (answer : Answer) (j : Option Job) (o : Outside) (U F : Type 0) (status n : ℕ) → status ≡ status_of answer → status ≡ n
+    → EndsFor j o U F (status_of answer) (text_of answer) → EndsFor j o U F n (text_of answer)
+at_status answer j o U F status n s e h = subst (λ (k : ℕ). EndsFor j o U F k (text_of answer)) (sym s ∙ e) h
 
-pub of_write_fault : (j : Option Job) (o : Outside) → Ends j o WriteFault
-    → ForJob j (λ job. (made : MadeFor job o) × TookFront o.held_old o.held_new (report_of made)) × Rose o.write_faults_old o.write_faults_new
-of_write_fault None o h = let never : WriteFault ≡ Usage = h in absurd cc
-of_write_fault (Some job) o h = h
+pub not_zero : (a status n : ℕ) → status ≡ a → status ≡ n → (n ≡ 0 → ⊥) → a ≡ 0 → ⊥
+not_zero a status n s e other zero = other (sym e ∙ s ∙ zero)
 
-usage_bytes : (source : Option ℕ) (is_text : Bool) (a b : ℕ) (old new : Option (List ℕ)) → RefusesFrom source is_text a b old new Usage → ⊥
-usage_bytes None is_text a b old new h = h
-usage_bytes (Some n) is_text a b old new h = absurd cc
+-- what a status other than 2 says
+pub for_any : (n : ℕ) (t : List ℕ) (j : Option Job) (o : Outside) (U F P : Type 0) → (n ≡ 2 → ⊥) → EndsFor j o U F n t → ((job : Job) → Ends job o U n t → P) → P
+for_any n t None o U F P other h f = absurd (other h.0)
+for_any n t (Some job) o U F P other h f = f job h
 
-pub of_usage : (j : Option Job) (o : Outside) → Ends j o Usage → j ≡ None
-of_usage None o h = refl
-of_usage (Some job) o (inl h) = absurd (never_at o.texts (files job.command) (λ name p. p) h)
-of_usage (Some job) o (inr (inl h)) = absurd (usage_bytes (functions job.command) _ _ _ _ _ h.stops)
-of_usage (Some job) o (inr (inr (inl h))) = absurd h.stops
-of_usage (Some job) o (inr (inr (inr h))) = absurd cc
+pub for_job : (n : ℕ) (t : List ℕ) (j : Option Job) (o : Outside) (U F : Type 0) (P : Job → Type 0) → (n ≡ 2 → ⊥) → EndsFor j o U F n t
+    → ((job : Job) → Ends job o U n t → P job) → ForJob j P
+for_job n t None o U F P other h f = absurd (other h.0)
+for_job n t (Some job) o U F P other h f = f job h
+
+pub of_usage : (t : List ℕ) (j : Option Job) (o : Outside) (U F : Type 0) → EndsFor j o U F 2 t → (j ≡ None) × U × F
+of_usage t None o U F h = (refl, h.2, h.3)
+of_usage t (Some job) o U F h = elim h [ ]
 
 -- without a job the status is 2
-pub usage_of : (j : Option Job) (answer : Answer) (o : Outside) (status : ℕ) → status ≡ status_of answer → Ends j o answer → j ≡ None → status ≡ 2
-usage_of None answer o status s h e = s ∙ ap status_of h
-usage_of (Some job) answer o status s h e = absurd cc
+pub usage_of : (n : ℕ) (t : List ℕ) (j : Option Job) (o : Outside) (U F : Type 0) → EndsFor j o U F n t → j ≡ None → n ≡ 2
+usage_of n t None o U F h e = h.0
+usage_of n t (Some job) o U F h e = absurd cc
 
--- the commands that read the source
-abbrev Reads : Option ℕ → Type 0
-Reads source = MatchOption source ⊥ (λ n. Unit {0}) → ⊥
+-- the text of an end is said as another that it is
+pub said : (faults_old faults_new : ℕ) (held_old held_new : Option (List ℕ)) (t u : List ℕ) → t ≡ u → Says faults_old faults_new held_old held_new (t ++ codes "\n")
+    → Says faults_old faults_new held_old held_new (u ++ codes "\n")
+said faults_old faults_new held_old held_new t u e h = subst (λ (z : List ℕ). Says faults_old faults_new held_old held_new (z ++ codes "\n")) e h
 
-read_bytes : (source : Option ℕ) (is_text : Bool) (a b : ℕ) (old new : Option (List ℕ)) → RefusesFrom source is_text a b old new ReadFault → Reads source × Rose a b
-read_bytes None is_text a b old new h = (λ never. never, h)
-read_bytes (Some n) is_text a b old new h = absurd cc
+pub of_printed : {job : Job} {o : Outside} {U : Type 0} {t : List ℕ} → Ends job o U 0 t → (made : MadeFor job o) × WhereTold o.held_new (followed o.held_old (report_of made))
+of_printed (Ends.printed made told) = (made, told)
 
-pub of_read_fault : (j : Option Job) (o : Outside) → Ends j o ReadFault → ForJob j (λ job. IsUnread job.command o.texts o.read_faults_old o.read_faults_new)
-of_read_fault None o h = let never : ReadFault ≡ Usage = h in absurd cc
-of_read_fault (Some job) o (inl h) = absurd (never_at o.texts (files job.command) (λ name p. p) h)
-of_read_fault (Some job) o (inr (inl h)) =
-    let p = read_bytes (functions job.command) _ _ _ _ _ h.stops in (p.0, (h.renamers, h.uses), p.1)
-of_read_fault (Some job) o (inr (inr (inl h))) = absurd h.stops
-of_read_fault (Some job) o (inr (inr (inr h))) = absurd cc
+pub of_read_fault : {job : Job} {o : Outside} {U : Type 0} {t : List ℕ} → Ends job o U 3 t → IsUnread job.command o.texts o.read_faults_old o.read_faults_new
+of_read_fault (Ends.read_fault h) = h
 
-pub unread_rose : (j : Option Job) (o : Outside) → Ends j o ReadFault → Rose o.read_faults_old o.read_faults_new
-unread_rose None o h = let never : ReadFault ≡ Usage = h in absurd cc
-unread_rose (Some job) o h = (of_read_fault (Some job) o h).2
+pub of_write_fault : {job : Job} {o : Outside} {U : Type 0} {t : List ℕ} → Ends job o U 4 t → (made : MadeFor job o) × TookFront o.held_old o.held_new (report_of made)
+of_write_fault (Ends.write_fault made took rose) = (made, took)
 
-shelf_bytes : (source : Option ℕ) (is_text : Bool) (a b : ℕ) (old new : Option (List ℕ)) → RefusesFrom source is_text a b old new ShelfFault → ⊥
-shelf_bytes None is_text a b old new h = h
-shelf_bytes (Some n) is_text a b old new h = absurd cc
+pub unwritten : {job : Job} {o : Outside} {U : Type 0} {t : List ℕ} → Ends job o U 4 t → Rose o.write_faults_old o.write_faults_new
+unwritten (Ends.write_fault made took rose) = rose
 
-pub of_shelf_fault : (j : Option Job) (o : Outside) → Ends j o ShelfFault → ForJob j (λ job. IsUnfetched job.command o.texts o.shelf_faults_old o.shelf_faults_new)
-of_shelf_fault None o h = let never : ShelfFault ≡ Usage = h in absurd cc
-of_shelf_fault (Some job) o (inl h) = h
-of_shelf_fault (Some job) o (inr (inl h)) = absurd (shelf_bytes (functions job.command) _ _ _ _ _ h.stops)
-of_shelf_fault (Some job) o (inr (inr (inl h))) = absurd h.stops
-of_shelf_fault (Some job) o (inr (inr (inr h))) = absurd cc
+pub of_code_size : {job : Job} {o : Outside} {U : Type 0} {t : List ℕ} → Ends job o U 7 t → StopsFor job o reencoding_fault.CodeSectionSize
+of_code_size (Ends.code_size h) = h
+
+pub of_component : {job : Job} {o : Outside} {U : Type 0} {t : List ℕ} → Ends job o U 8 t → StopsFor job o reencoding_fault.NonCoreModule
+of_component (Ends.component h) = h
+
+pub of_bad_file : {job : Job} {o : Outside} {U : Type 0} {t : List ℕ} → Ends job o U 11 t → IsBadFile job.command o.texts × U
+of_bad_file (Ends.bad_file h u) = (h, u)
+
+pub of_unfetched : {job : Job} {o : Outside} {U : Type 0} {t : List ℕ} → Ends job o U 12 t → IsUnfetched job.command o.texts o.shelf_faults_old o.shelf_faults_new × U
+of_unfetched (Ends.unfetched h u) = (h, u)
+
+pub of_too_long : {job : Job} {o : Outside} {U : Type 0} {t : List ℕ} → Ends job o U 13 t → IsTooLong job.command o.texts o.left_old o.left_new U
+of_too_long (Ends.too_long h) = h
+
+pub of_no_digits : {job : Job} {o : Outside} {U : Type 0} {t : List ℕ} → Ends job o U 14 t → HasNoDigits job o.texts o.left_old o.left_new
+of_no_digits (Ends.no_digits h) = h
+
+-- of a place, a refusal and a size also the text
+pub of_parse_error : (t : List ℕ) (j : Option Job) (o : Outside) (U F : Type 0) → EndsFor j o U F 5 t
+    → (at : ℕ) × StopsWith j o.texts o.left_old o.left_new (reencoding_fault.ParseError at) × (t ≡ codes "parse error at " ++ decimal at)
+of_parse_error t None o U F h = absurd (omega (arith, h.0))
+of_parse_error t (Some job) o U F (Ends.parse_error at h) = (at, h, refl)
+
+pub of_refused : (t : List ℕ) (j : Option Job) (o : Outside) (U F : Type 0) → EndsFor j o U F 6 t
+    → (u : Refusal) × StopsWith j o.texts o.left_old o.left_new (reencoding_fault.Refused u) × (t ≡ refusal_text u)
+of_refused t None o U F h = absurd (omega (arith, h.0))
+of_refused t (Some job) o U F (Ends.refused u h) = (u, h, refl)
+
+pub of_too_large : (t : List ℕ) (j : Option Job) (o : Outside) (U F : Type 0) → EndsFor j o U F 10 t
+    → (size : ℕ) × (ceiling : ℕ) × StopsWith j o.texts o.left_old o.left_new (reencoding_fault.TooLarge size ceiling)
+    × (t ≡ codes "too large: " ++ decimal size ++ codes " over " ++ decimal ceiling)
+of_too_large t None o U F h = absurd (omega (arith, h.0))
+of_too_large t (Some job) o U F (Ends.too_large size ceiling h) = (size, ceiling, h, refl)
 
 -- what is said of a file without its name holds where it holds of one
 at_some : (texts : Texts) (names : List (List ℕ)) {P : Type 0} → AtFile texts names (λ name. P) → P
@@ -412,65 +195,48 @@ at_some texts [] h = absurd h
 at_some texts (name ∷ names) (inl h) = h
 at_some texts (name ∷ names) (inr h) = at_some texts names h.1
 
-pub unfetched_rose : (j : Option Job) (o : Outside) → Ends j o ShelfFault → Rose o.shelf_faults_old o.shelf_faults_new
-unfetched_rose None o h = let never : ShelfFault ≡ Usage = h in absurd cc
-unfetched_rose (Some job) o h = at_some o.texts (files job.command) (of_shelf_fault (Some job) o h)
+pub unfetched_rose : {job : Job} {o : Outside} {U : Type 0} {t : List ℕ} → Ends job o U 12 t → Rose o.shelf_faults_old o.shelf_faults_new
+unfetched_rose {job} {o} (Ends.unfetched h u) = at_some o.texts (files job.command) h
 
-bad_bytes : (source : Option ℕ) (is_text : Bool) (a b : ℕ) (old new : Option (List ℕ)) → RefusesFrom source is_text a b old new BadRenaming → ⊥
-bad_bytes None is_text a b old new h = h
-bad_bytes (Some n) is_text a b old new h = absurd cc
+-- ---- the statuses and their texts
 
-pub of_bad_renaming : (j : Option Job) (o : Outside) → Ends j o BadRenaming → ForJob j (λ job. IsBadFile job.command o.texts)
-of_bad_renaming None o h = let never : BadRenaming ≡ Usage = h in absurd cc
-of_bad_renaming (Some job) o (inl h) = h
-of_bad_renaming (Some job) o (inr (inl h)) = absurd (bad_bytes (functions job.command) _ _ _ _ _ h.stops)
-of_bad_renaming (Some job) o (inr (inr (inl h))) = absurd h.stops
-of_bad_renaming (Some job) o (inr (inr (inr h))) = absurd cc
+job_message : {job : Job} {o : Outside} {U : Type 0} {n : ℕ} {t : List ℕ} → Ends job o U n t → n ≢ 0 → n ≢ 5 → n ≢ 6 → n ≢ 10 → t ≡ message n
+job_message (Ends.printed made told) z p r l = absurd (z refl)
+job_message Ends.no_memory z p r l = refl
+job_message (Ends.read_fault h) z p r l = refl
+job_message (Ends.write_fault made took rose) z p r l = refl
+job_message (Ends.parse_error at h) z p r l = absurd (p refl)
+job_message (Ends.refused u h) z p r l = absurd (r refl)
+job_message (Ends.code_size h) z p r l = refl
+job_message (Ends.component h) z p r l = refl
+job_message (Ends.too_large size ceiling h) z p r l = absurd (l refl)
+job_message (Ends.bad_file h u) z p r l = refl
+job_message (Ends.unfetched h u) z p r l = refl
+job_message (Ends.too_long h) z p r l = refl
+job_message (Ends.no_digits h) z p r l = refl
 
-long_bytes : (source : Option ℕ) (is_text : Bool) (a b : ℕ) (old new : Option (List ℕ)) → RefusesFrom source is_text a b old new TooLong → Reads source × TookMore most_bytes old new
-long_bytes None is_text a b old new h = (λ never. never, h)
-long_bytes (Some n) is_text a b old new h = absurd cc
+pub message_of : (n : ℕ) (t : List ℕ) (j : Option Job) (o : Outside) (U F : Type 0) → EndsFor j o U F n t → n ≢ 0 → n ≢ 5 → n ≢ 6 → n ≢ 10 → t ≡ message n
+message_of n t None o U F h z p r l = h.1 ∙ ap message (sym h.0)
+message_of n t (Some job) o U F h z p r l = job_message h z p r l
 
-pub of_too_long : (j : Option Job) (o : Outside) → Ends j o TooLong → ForJob j (λ job. IsTooLong job.command o.texts o.left_old o.left_new)
-of_too_long None o h = let never : TooLong ≡ Usage = h in absurd cc
-of_too_long (Some job) o (inl h) = inl h
-of_too_long (Some job) o (inr (inl h)) =
-    let p = long_bytes (functions job.command) _ _ _ _ _ h.stops in inr (p.0, (h.renamers, h.uses), p.1)
-of_too_long (Some job) o (inr (inr (inl h))) = absurd h.stops
-of_too_long (Some job) o (inr (inr (inr h))) = absurd cc
+abbrev pub IsStatus : ℕ → Type 0
+IsStatus n = Contains (0 ∷ 1 ∷ 2 ∷ 3 ∷ 4 ∷ 5 ∷ 6 ∷ 7 ∷ 8 ∷ 10 ∷ 11 ∷ 12 ∷ 13 ∷ 14 ∷ []) n
 
-abbrev NoDigits : Bool → (old new : Option (List ℕ)) → Type 0
-NoDigits is_text old new = (is_text ≡ true) × ((text : List ℕ) × GaveAll most_bytes old new text × (binary text ≡ None))
+job_status : {job : Job} {o : Outside} {U : Type 0} {n : ℕ} {t : List ℕ} → Ends job o U n t → IsStatus n
+job_status (Ends.printed made told) = (0, lit< tt, refl)
+job_status Ends.no_memory = (1, lit< tt, refl)
+job_status (Ends.read_fault h) = (3, lit< tt, refl)
+job_status (Ends.write_fault made took rose) = (4, lit< tt, refl)
+job_status (Ends.parse_error at h) = (5, lit< tt, refl)
+job_status (Ends.refused u h) = (6, lit< tt, refl)
+job_status (Ends.code_size h) = (7, lit< tt, refl)
+job_status (Ends.component h) = (8, lit< tt, refl)
+job_status (Ends.too_large size ceiling h) = (9, lit< tt, refl)
+job_status (Ends.bad_file h u) = (10, lit< tt, refl)
+job_status (Ends.unfetched h u) = (11, lit< tt, refl)
+job_status (Ends.too_long h) = (12, lit< tt, refl)
+job_status (Ends.no_digits h) = (13, lit< tt, refl)
 
-digits_bytes : (source : Option ℕ) (is_text : Bool) (a b : ℕ) (old new : Option (List ℕ)) → RefusesFrom source is_text a b old new NotHexadecimal → NoDigits is_text old new
-digits_bytes None is_text a b old new h = h
-digits_bytes (Some n) is_text a b old new h = absurd cc
-
-pub of_not_hexadecimal : (j : Option Job) (o : Outside) → Ends j o NotHexadecimal → ForJob j (λ job. HasNoDigits job o.texts o.left_old o.left_new)
-of_not_hexadecimal None o h = let never : NotHexadecimal ≡ Usage = h in absurd cc
-of_not_hexadecimal (Some job) o (inl h) = absurd (never_at o.texts (files job.command) (λ name p. p) h)
-of_not_hexadecimal (Some job) o (inr (inl h)) =
-    let d = digits_bytes (functions job.command) _ _ _ _ _ h.stops in
-    record { renamers = h.renamers; uses = h.uses; is_text = d.0; text = d.1.0; gave = d.1.1; none = d.1.2 }
-of_not_hexadecimal (Some job) o (inr (inr (inl h))) = absurd h.stops
-of_not_hexadecimal (Some job) o (inr (inr (inr h))) = absurd cc
-
-pub of_parse_error : (at : ℕ) (j : Option Job) (o : Outside) → Ends j o (ParseError at) → StopsWith j o.texts o.left_old o.left_new (ParseError at)
-of_parse_error at None o h = let never : ParseError at ≡ Usage = h in absurd cc
-of_parse_error at (Some job) o h = late_stops job o (ParseError at) tt h
-
-pub of_refused : (u : Refusal) (j : Option Job) (o : Outside) → Ends j o (Refused u) → StopsWith j o.texts o.left_old o.left_new (Refused u)
-of_refused u None o h = let never : Refused u ≡ Usage = h in absurd cc
-of_refused u (Some job) o h = late_stops job o (Refused u) tt h
-
-pub of_code_size : (j : Option Job) (o : Outside) → Ends j o CodeSectionSize → StopsWith j o.texts o.left_old o.left_new CodeSectionSize
-of_code_size None o h = let never : CodeSectionSize ≡ Usage = h in absurd cc
-of_code_size (Some job) o h = late_stops job o CodeSectionSize tt h
-
-pub of_component : (j : Option Job) (o : Outside) → Ends j o NonCoreModule → StopsWith j o.texts o.left_old o.left_new NonCoreModule
-of_component None o h = let never : NonCoreModule ≡ Usage = h in absurd cc
-of_component (Some job) o h = late_stops job o NonCoreModule tt h
-
-pub of_too_large : (size ceiling : ℕ) (j : Option Job) (o : Outside) → Ends j o (TooLarge size ceiling) → StopsWith j o.texts o.left_old o.left_new (TooLarge size ceiling)
-of_too_large size ceiling None o h = let never : TooLarge size ceiling ≡ Usage = h in absurd cc
-of_too_large size ceiling (Some job) o h = late_stops job o (TooLarge size ceiling) tt h
+pub status_among : (n : ℕ) (t : List ℕ) (j : Option Job) (o : Outside) (U F : Type 0) → EndsFor j o U F n t → IsStatus n
+status_among n t None o U F h = subst IsStatus (sym h.0) (2, lit< tt, refl)
+status_among n t (Some job) o U F h = job_status h

@@ -22,7 +22,7 @@ use Rattle.reencode_hooks.specs.Walk.{walk}
 use Rattle.reencode_hooks.proofs.Walks.{walk_is_run, walk_refuses}
 use Rattle.reencode_core.specs.Core.{GivesBytes, FaultThere, CodeSizeThere, BeforeFault}
 use Rattle.reencode_tool.specs.Counts.{counted, raised, visit_place}
-use Rattle.reencode_tool.specs.declared.answer.Answer.{Answer}
+use Rattle.reencode_tool.specs.declared.answer.ReencodingFault.{ReencodingFault}
 use Rattle.reencode_tool.specs.declared.renamers.Renamers.{Renamers}
 use Rattle.reencode_tool.specs.declared.renamers.Renamers.TheVariants.{Alone, Both}
 use Rattle.reencode_tool.specs.Plain.{IsPlain}
@@ -153,14 +153,14 @@ module _ (c : ℕ) (rs : Renamers) (bytes : List ℕ) where
   has_status error.UnsupportedCoreTypeInComponent h = absurd h
   has_status _ h = tt
 
-  pub refused_as : (e : Error (Lack rs)) (answer : Answer) → Why c rs bytes e → EndsAs (told_lack rs) c e answer → IsRefused c rs bytes answer
-  refused_as error.InvalidCodeSectionSize answer h f = rw f h
-  refused_as error.UnexpectedNonCoreModuleSection answer h f = rw f h
-  refused_as (error.ParseError e) answer h f = rw f h
-  refused_as (error.UserError u) answer h f = rw f h
-  refused_as (error.TooLarge size) answer h f = rw f (refl, h)
-  refused_as error.NoMemory answer h f = rw f tt
-  refused_as _ answer h f = absurd h
+  pub refused_as : (e : Error (Lack rs)) (fault : ReencodingFault) → Why c rs bytes e → EndsAs (told_lack rs) c e fault → IsRefused c rs bytes fault
+  refused_as error.InvalidCodeSectionSize fault h f = rw f h
+  refused_as error.UnexpectedNonCoreModuleSection fault h f = rw f h
+  refused_as (error.ParseError e) fault h f = rw f h
+  refused_as (error.UserError u) fault h f = rw f h
+  refused_as (error.TooLarge size) fault h f = rw f (refl, h)
+  refused_as error.NoMemory fault h f = rw f tt
+  refused_as _ fault h f = absurd h
 
 module _ (rs : Renamers) where
   -- it is told or it isn't
@@ -262,9 +262,9 @@ module _ {A : Type 0} (c : ℕ) (rs : Renamers) (bytes : List ℕ) {m : State rs
       (record { given = answers; ran = there.1; filled = refl; fits = fits }) in
       absurd cc
 
-  pub made_as : (e : Error (Lack rs)) → GivesBytes (asks_of rs) c bytes (begun rs) m (Err e) view → (answer : Answer) → EndsAs (told_lack rs) c e answer → IsMade c rs bytes answer
-  made_as error.NoMemory h answer f = λ t answers reading all fits. f
-  made_as e h answer f = λ t answers reading all fits. absurd (not_made e h (λ same. cc) t answers reading all fits)
+  pub made_as : (e : Error (Lack rs)) → GivesBytes (asks_of rs) c bytes (begun rs) m (Err e) view → (fault : ReencodingFault) → EndsAs (told_lack rs) c e fault → IsMade c rs bytes fault
+  made_as error.NoMemory h fault f = λ t answers reading all fits. f
+  made_as e h fault f = λ t answers reading all fits. absurd (not_made e h (λ same. cc) t answers reading all fits)
 
 -- ---- where nothing is renamed
 

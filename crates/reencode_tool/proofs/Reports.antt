@@ -1,13 +1,10 @@
 -- What is printed of the output of each command.
-use Rattle.std.proofs.Common.{◌≡◌, ◌<◌, ◌≤◌, ◌++◌, ℕ, inl, inr, List, [], ◌∷◌, length, Result, Ok, Err, IfOk, refl, sym, ap, ◌∙◌, subst, arith}
-use Rattle.reencode_hooks.specs.Renamings.{Renaming, no_renaming}
-use Rattle.reencode_tool.specs.declared.answer.Answer.{Answer}
-use Rattle.reencode_tool.specs.declared.answer.Answer.TheVariants.{NoMemory, BadRenaming, ShelfFault, TooLong}
+use Rattle.std.proofs.Common.{◌≡◌, ℕ, List, [], length, Result, Ok, Err, IfOk, refl, sym, subst}
+use Rattle.reencode_hooks.specs.Renamings.{no_renaming}
 use Rattle.reencode_tool.specs.declared.renamers.Renamers.{Renamers}
 use Rattle.reencode_tool.specs.declared.renamers.Renamers.TheVariants.{Alone}
-use Rattle.reencode_tool.specs.Answer.{AtFile, FileSays, Output, RefusesFile, Reports, Texts, output_text}
+use Rattle.reencode_tool.specs.Answer.{Output, Reports, output_text}
 use Rattle.reencode_tool.specs.Kept.{Keeps}
-use Rattle.reencode_tool.specs.Outside.{Rose}
 use Rattle.reencode_tool.specs.Report.{lengths_report, report}
 use Rattle.reencode_tool.specs.Words.{Command, plain, rename, twice, generate, keep_report}
 
@@ -37,23 +34,3 @@ kept_printed {c} {bytes} {text} same h =
 pub each_ok : {A E : Type 0} (r : Result A E) (P Q : A → Type 0) → ((a : A) → P a → Q a) → IfOk r P → IfOk r Q
 each_ok (Ok a) P Q f h = f a h
 each_ok (Err e) P Q f h = tt
-
--- ---- the second of two files
-
-rose_later : (a b c : ℕ) → a ≤ b → Rose b c → Rose a c
-rose_later a b c less (inl more) = inl (omega (arith, less, more))
-rose_later a b c less (inr full) = inr full
-
-later : (name : List ℕ) (texts : Texts) (a b c : ℕ) (answer : Answer) → a ≤ b → RefusesFile name texts b c answer → RefusesFile name texts a c answer
-later name texts a b c NoMemory less h = h
-later name texts a b c ShelfFault less h = rose_later a b c less h
-later name texts a b c BadRenaming less h = h
-later name texts a b c TooLong less h = h
-later name texts a b c _ less h = h
-
--- the first file says a renaming, and the second is refused
-pub second_refused : (first second : List ℕ) (old new : Texts) (a b c : ℕ) (r : Renaming) (answer : Answer) → FileSays old first r → new ≡ old → a ≤ b → RefusesFile second new b c answer
-    → AtFile old (first ∷ second ∷ []) (λ name. RefusesFile name old a c answer)
-second_refused first second old new a b c r answer says same less h =
-    let P : Texts → Type 0 = λ z. RefusesFile second z b c answer in
-    inr ((r, says), inl (later second old a b c answer less (subst P same h)))

@@ -5,7 +5,17 @@ use Rattle.wasm_shapes.specs.Module.{core_tree}
 use Rattle.reencode_core.specs.Pieces.{Range}
 use Rattle.reencode_core.specs.Kept.{Kept}
 use Rattle.reencode_tool.specs.declared.answer.Answer.{Answer}
-use Rattle.reencode_tool.specs.declared.answer.Answer.TheVariants.{Printed, NoMemory, Usage, ReadFault, WriteFault, ParseError, Refused, CodeSectionSize, NonCoreModule, NonComponent, TooLarge, BadRenaming, ShelfFault, TooLong, NotHexadecimal}
+use Rattle.reencode_tool.specs.declared.answer.Answer.TheVariants.{Printed, Words, File, Input, Digits, Reencoding, Writing}
+use Rattle.reencode_tool.specs.declared.answer.WordsFault.TheVariants as words_fault
+use Rattle.reencode_tool.specs.declared.answer.FileFault.{FileFault}
+use Rattle.reencode_tool.specs.declared.answer.FileFault.TheVariants as file_fault
+use Rattle.reencode_tool.specs.declared.input.InputFault.{InputFault}
+use Rattle.reencode_tool.specs.declared.input.InputFault.TheVariants as input_fault
+use Rattle.reencode_tool.specs.declared.hexadecimal.TextFault.{TextFault}
+use Rattle.reencode_tool.specs.declared.hexadecimal.TextFault.TheVariants as digits_fault
+use Rattle.reencode_tool.specs.declared.answer.ReencodingFault.{ReencodingFault}
+use Rattle.reencode_tool.specs.declared.answer.ReencodingFault.TheVariants as reencoding_fault
+use Rattle.reencode_tool.specs.declared.answer.WritingFault.TheVariants as writing_fault
 use Rattle.reencode_tool.specs.declared.renamers.Refusal.{Refusal}
 use Rattle.reencode_tool.specs.declared.renamers.Renamers.{Renamers}
 use Rattle.reencode_hooks.specs.declared.error.Error.{Error}
@@ -136,6 +146,9 @@ output_text {command} {bytes = bytes} made = report_by command (length bytes) ma
 abbrev pub report_of : {job : Job} {texts : Texts} {left_old left_new : Option (List ℕ)} → Made job texts left_old left_new → List ℕ
 report_of made = output_text made.made
 
+abbrev pub MadeFor : Job → Outside → Type 0
+MadeFor job o = Made job o.texts o.left_old o.left_new
+
 -- ---- why nothing is printed
 
 -- the file of this name was read whole, and says no renaming
@@ -143,76 +156,62 @@ abbrev pub SaysNone : List ℕ → Texts → Type 0
 SaysNone name texts = (text : List ℕ) × HasText texts name text × (length text ≤ most_renaming) × NoRenaming text
 
 -- why the file of this name gives no renaming
-abbrev pub RefusesFile : List ℕ → Texts → (faults_old faults_new : ℕ) → Answer → Type 0
-RefusesFile name texts faults_old faults_new NoMemory = Unit {0}
-RefusesFile name texts faults_old faults_new ShelfFault = Rose faults_old faults_new
-RefusesFile name texts faults_old faults_new BadRenaming = SaysNone name texts
-RefusesFile name texts faults_old faults_new TooLong = IsLonger texts name most_renaming
-RefusesFile name texts faults_old faults_new _ = ⊥
+abbrev pub RefusesFile : List ℕ → Texts → (faults_old faults_new : ℕ) → FileFault → Type 0
+RefusesFile name texts faults_old faults_new file_fault.Failed = Rose faults_old faults_new
+RefusesFile name texts faults_old faults_new file_fault.TooLong = IsLonger texts name most_renaming
+RefusesFile name texts faults_old faults_new file_fault.Bad = SaysNone name texts
+RefusesFile name texts faults_old faults_new file_fault.NoMemory = Unit {0}
 
 -- why a command has no renamings: one of its files gives none, and all before it give one
-abbrev pub RefusesRenaming : Command → Texts → (faults_old faults_new : ℕ) → Answer → Type 0
-RefusesRenaming command texts faults_old faults_new answer =
-    AtFile texts (files command) (λ name. RefusesFile name texts faults_old faults_new answer)
+abbrev pub RefusesRenaming : Command → Texts → (faults_old faults_new : ℕ) → FileFault → Type 0
+RefusesRenaming command texts faults_old faults_new fault =
+    AtFile texts (files command) (λ name. RefusesFile name texts faults_old faults_new fault)
+
+-- why the source gives no text
+abbrev pub RefusesInput : (faults_old faults_new : ℕ) (left_old left_new : Option (List ℕ)) → InputFault → Type 0
+RefusesInput faults_old faults_new left_old left_new input_fault.Failed = Rose faults_old faults_new
+RefusesInput faults_old faults_new left_old left_new input_fault.TooLong = TookMore most_bytes left_old left_new
+RefusesInput faults_old faults_new left_old left_new input_fault.NoMemory = Unit {0}
+
+-- the source was read to its end, and its text is no hexadecimal text, as `-x` asks
+abbrev pub NoDigits : Bool → (left_old left_new : Option (List ℕ)) → Type 0
+NoDigits is_text left_old left_new =
+    (is_text ≡ true) × ((text : List ℕ) × GaveAll most_bytes left_old left_new text × (binary text ≡ None))
+
+-- why the text gives no bytes
+abbrev pub RefusesDigits : Bool → (left_old left_new : Option (List ℕ)) → TextFault → Type 0
+RefusesDigits is_text left_old left_new digits_fault.NotHexadecimal = NoDigits is_text left_old left_new
+RefusesDigits is_text left_old left_new digits_fault.NoMemory = Unit {0}
+
+-- a made module takes nothing of the source
+abbrev pub IsMaking : Command → Type 0
+IsMaking command = MatchOption (functions command) ⊥ (λ n. Unit {0})
 
 -- why the source gives no bytes
-abbrev pub RefusesInput : Bool → (faults_old faults_new : ℕ) (left_old left_new : Option (List ℕ)) → Answer → Type 0
-RefusesInput is_text faults_old faults_new left_old left_new NoMemory = Unit {0}
-RefusesInput is_text faults_old faults_new left_old left_new ReadFault = Rose faults_old faults_new
-RefusesInput is_text faults_old faults_new left_old left_new TooLong = TookMore most_bytes left_old left_new
-RefusesInput is_text faults_old faults_new left_old left_new NotHexadecimal =
-    (is_text ≡ true) × ((text : List ℕ) × GaveAll most_bytes left_old left_new text × (binary text ≡ None))
-RefusesInput is_text faults_old faults_new left_old left_new _ = ⊥
+abbrev pub RefusesSource : Bool → (faults_old faults_new : ℕ) (left_old left_new : Option (List ℕ)) → Answer → Type 0
+RefusesSource is_text faults_old faults_new left_old left_new (Input fault) = RefusesInput faults_old faults_new left_old left_new fault
+RefusesSource is_text faults_old faults_new left_old left_new (Digits fault) = RefusesDigits is_text left_old left_new fault
+RefusesSource is_text faults_old faults_new left_old left_new _ = ⊥
 
 -- why there are no bytes, of a made module or of the source
 abbrev pub RefusesFrom : Option ℕ → Bool → (faults_old faults_new : ℕ) (left_old left_new : Option (List ℕ)) → Answer → Type 0
-RefusesFrom None is_text faults_old faults_new left_old left_new answer = RefusesInput is_text faults_old faults_new left_old left_new answer
-RefusesFrom (Some n) is_text faults_old faults_new left_old left_new answer = answer ≡ NoMemory
+RefusesFrom None is_text faults_old faults_new left_old left_new answer = RefusesSource is_text faults_old faults_new left_old left_new answer
+RefusesFrom (Some n) is_text faults_old faults_new left_old left_new answer = answer ≡ Input input_fault.NoMemory
 
 -- why a command has no bytes
 abbrev pub RefusesBytes : Command → Bool → (faults_old faults_new : ℕ) (left_old left_new : Option (List ℕ)) → Answer → Type 0
 RefusesBytes command is_text faults_old faults_new left_old left_new answer =
     RefusesFrom (functions command) is_text faults_old faults_new left_old left_new answer
 
--- a made module takes nothing of the source
-abbrev pub IsMaking : Command → Type 0
-IsMaking command = MatchOption (functions command) ⊥ (λ n. Unit {0})
-
--- the renamings were accepted, and there are no bytes
-pub record StopsAtBytes (job : Job) (texts : Texts) (faults_old faults_new : ℕ) (left_old left_new : Option (List ℕ)) (answer : Answer) : Type 0 where
-  pub renamers : Renamers
-  pub uses : Uses job.command texts renamers
-  pub stops : RefusesBytes job.command job.is_text faults_old faults_new left_old left_new answer
-
 -- The renamings and the bytes were accepted, and the re-encoding is refused. Where all visits are accepted and all frames fit, that is
 -- for want of memory alone.
-pub record StopsAtReencoding (job : Job) (texts : Texts) (left_old left_new : Option (List ℕ)) (answer : Answer) : Type 0 where
+pub record StopsAtReencoding (job : Job) (texts : Texts) (left_old left_new : Option (List ℕ)) (fault : ReencodingFault) : Type 0 where
   pub work : Work job texts left_old left_new
-  pub stops : IsRefused job.ceiling work.renamers work.bytes answer
-  pub made : IsMade job.ceiling work.renamers work.bytes answer
+  pub stops : IsRefused job.ceiling work.renamers work.bytes fault
+  pub made : IsMade job.ceiling work.renamers work.bytes fault
 
--- why nothing is printed: a fault of a file, of the input, or of the bytes, in this order; or memory is wanting
-abbrev pub Stops : Job → Texts → (shelf_old shelf_new faults_old faults_new : ℕ) (left_old left_new : Option (List ℕ)) → Answer → Type 0
-Stops job texts shelf_old shelf_new faults_old faults_new left_old left_new answer =
-    RefusesRenaming job.command texts shelf_old shelf_new answer
-    ⊎ StopsAtBytes job texts faults_old faults_new left_old left_new answer
-    ⊎ StopsAtReencoding job texts left_old left_new answer
-    ⊎ (answer ≡ NoMemory)
-
-abbrev pub StopsFor : Job → Outside → Answer → Type 0
-StopsFor job o answer =
-    Stops job o.texts o.shelf_faults_old o.shelf_faults_new o.read_faults_old o.read_faults_new o.left_old o.left_new answer
-
-abbrev pub MadeFor : Job → Outside → Type 0
-MadeFor job o = Made job o.texts o.left_old o.left_new
-
--- how the program ends: without a job by the words alone
-abbrev pub Ends : Option Job → Outside → Answer → Type 0
-Ends None o answer = answer ≡ Usage
-Ends (Some job) o Printed = (made : MadeFor job o) × WhereTold o.held_new (followed o.held_old (report_of made))
-Ends (Some job) o WriteFault =
-    ((made : MadeFor job o) × TookFront o.held_old o.held_new (report_of made)) × Rose o.write_faults_old o.write_faults_new
-Ends (Some job) o answer = StopsFor job o answer
+abbrev pub StopsFor : Job → Outside → ReencodingFault → Type 0
+StopsFor job o fault = StopsAtReencoding job o.texts o.left_old o.left_new fault
 
 -- ---- what is said where the words are accepted
 
@@ -222,12 +221,16 @@ ForJob None P = ⊥
 ForJob (Some job) P = P job
 
 -- the renamings and the bytes were accepted, and the re-encoding ends so
-abbrev pub StopsWith : Option Job → Texts → (left_old left_new : Option (List ℕ)) → Answer → Type 0
-StopsWith j texts left_old left_new answer = ForJob j (λ job. StopsAtReencoding job texts left_old left_new answer)
+abbrev pub StopsWith : Option Job → Texts → (left_old left_new : Option (List ℕ)) → ReencodingFault → Type 0
+StopsWith j texts left_old left_new fault = ForJob j (λ job. StopsAtReencoding job texts left_old left_new fault)
 
 -- the words ask for a made module
 abbrev pub MakesModule : Option Job → Type 0
 MakesModule j = ForJob j (λ job. IsMaking job.command)
+
+-- the words name no file
+abbrev pub NamesNone : Option Job → Type 0
+NamesNone j = ForJob j (λ job. files job.command ≡ [])
 
 -- a file of the command was read whole, and says no renaming; all before it say one
 abbrev pub IsBadFile : Command → Texts → Type 0
@@ -241,56 +244,95 @@ IsUnfetched command texts faults_old faults_new = AtFile texts (files command) (
 abbrev pub IsUnread : Command → Texts → (faults_old faults_new : ℕ) → Type 0
 IsUnread command texts faults_old faults_new = ¬ IsMaking command × HasRenamings command texts × Rose faults_old faults_new
 
--- a file of the command is too long, and all before it say renamings; or all say one, and the input is too long
-abbrev pub IsTooLong : Command → Texts → (left_old left_new : Option (List ℕ)) → Type 0
-IsTooLong command texts left_old left_new =
-    AtFile texts (files command) (λ name. IsLonger texts name most_renaming)
+-- A file of the command is too long, and all before it say renamings, and this holds, which is that the source is as it was; or all say
+-- one, and the input is too long.
+abbrev pub IsTooLong : Command → Texts → (left_old left_new : Option (List ℕ)) → (Unread : Type 0) → Type 0
+IsTooLong command texts left_old left_new Unread =
+    (AtFile texts (files command) (λ name. IsLonger texts name most_renaming) × Unread)
     ⊎ (¬ IsMaking command × HasRenamings command texts × TookMore most_bytes left_old left_new)
 
 -- The renamings were accepted, the source was read to its end, and its text is no hexadecimal text, as `-x` asks.
 pub record HasNoDigits (job : Job) (texts : Texts) (left_old left_new : Option (List ℕ)) : Type 0 where
-  pub renamers : Renamers
-  pub uses : Uses job.command texts renamers
-  pub is_text : job.is_text ≡ true
-  pub text : List ℕ
-  pub gave : GaveAll most_bytes left_old left_new text
-  pub none : binary text ≡ None
+  pub reads : ¬ IsMaking job.command
+  pub renamings : HasRenamings job.command texts
+  pub digits : NoDigits job.is_text left_old left_new
+
+-- ---- statuses and what is said with them
 
 -- the status of an end
 abbrev pub status_of : Answer → ℕ
 status_of Printed = 0
-status_of NoMemory = 1
-status_of Usage = 2
-status_of ReadFault = 3
-status_of WriteFault = 4
-status_of (ParseError at) = 5
-status_of (Refused u) = 6
-status_of CodeSectionSize = 7
-status_of NonCoreModule = 8
-status_of NonComponent = 9
-status_of (TooLarge size ceiling) = 10
-status_of BadRenaming = 11
-status_of ShelfFault = 12
-status_of TooLong = 13
-status_of NotHexadecimal = 14
+status_of (Words words_fault.NoMemory) = 1
+status_of (File file_fault.NoMemory) = 1
+status_of (Input input_fault.NoMemory) = 1
+status_of (Digits digits_fault.NoMemory) = 1
+status_of (Reencoding reencoding_fault.NoMemory) = 1
+status_of (Writing writing_fault.NoMemory) = 1
+status_of (Words words_fault.NotAccepted) = 2
+status_of (Input input_fault.Failed) = 3
+status_of (Writing writing_fault.Failed) = 4
+status_of (Reencoding (reencoding_fault.ParseError at)) = 5
+status_of (Reencoding (reencoding_fault.Refused u)) = 6
+status_of (Reencoding reencoding_fault.CodeSectionSize) = 7
+status_of (Reencoding reencoding_fault.NonCoreModule) = 8
+status_of (Reencoding reencoding_fault.NonComponent) = 9
+status_of (Reencoding (reencoding_fault.TooLarge size ceiling)) = 10
+status_of (File file_fault.Bad) = 11
+status_of (File file_fault.Failed) = 12
+status_of (File file_fault.TooLong) = 13
+status_of (Input input_fault.TooLong) = 13
+status_of (Digits digits_fault.NotHexadecimal) = 14
+
+-- what is said with a status, but for 0, 5, 6 and 10, without the line end
+abbrev pub message : ℕ → List ℕ
+message status =
+    if status == 1 then codes "no memory"
+    else if status == 2 then codes "usage: [-x] [-m CEILING] plain | rename FILE | twice FILE FILE | generate N | keep-report"
+    else if status == 3 then codes "read fault"
+    else if status == 4 then codes "write fault"
+    else if status == 7 then codes "invalid code section size"
+    else if status == 8 then codes "There was a section that does not belong in a core wasm module"
+    else if status == 9 then codes "There was a section that does not belong in a component"
+    else if status == 11 then codes "bad renaming"
+    else if status == 12 then codes "shelf fault"
+    else if status == 13 then codes "too long"
+    else codes "not hex"
 
 -- what is said of an end, without the line end
 abbrev pub text_of : Answer → List ℕ
 text_of Printed = []
-text_of NoMemory = codes "no memory"
-text_of Usage = codes "usage: [-x] [-m CEILING] plain | rename FILE | twice FILE FILE | generate N | keep-report"
-text_of ReadFault = codes "read fault"
-text_of WriteFault = codes "write fault"
-text_of (ParseError at) = codes "parse error at " ++ decimal at
-text_of (Refused u) = refusal_text u
-text_of CodeSectionSize = codes "invalid code section size"
-text_of NonCoreModule = codes "There was a section that does not belong in a core wasm module"
-text_of NonComponent = codes "There was a section that does not belong in a component"
-text_of (TooLarge size ceiling) = codes "too large: " ++ decimal size ++ codes " over " ++ decimal ceiling
-text_of BadRenaming = codes "bad renaming"
-text_of ShelfFault = codes "shelf fault"
-text_of TooLong = codes "too long"
-text_of NotHexadecimal = codes "not hex"
+text_of (Reencoding (reencoding_fault.ParseError at)) = codes "parse error at " ++ decimal at
+text_of (Reencoding (reencoding_fault.Refused u)) = refusal_text u
+text_of (Reencoding (reencoding_fault.TooLarge size ceiling)) = codes "too large: " ++ decimal size ++ codes " over " ++ decimal ceiling
+text_of answer = message (status_of answer)
+
+-- a sink took this text, or a front of it where it failed
+abbrev pub Says : (faults_old faults_new : ℕ) (held_old held_new : Option (List ℕ)) → List ℕ → Type 0
+Says faults_old faults_new held_old held_new text =
+    WhereTold held_new (followed held_old text) ⊎ (TookFront held_old held_new text × Rose faults_old faults_new)
+
+-- How the program ends for a job: the status, what is said, and what then holds. Unread is that the source is as it was.
+pub data Ends (job : Job) (o : Outside) (Unread : Type 0) : ℕ → List ℕ → Type 0 where
+  printed : (made : MadeFor job o) → WhereTold o.held_new (followed o.held_old (report_of made)) → Ends job o Unread 0 []
+  no_memory : Ends job o Unread 1 (message 1)
+  read_fault : IsUnread job.command o.texts o.read_faults_old o.read_faults_new → Ends job o Unread 3 (message 3)
+  write_fault : (made : MadeFor job o) → TookFront o.held_old o.held_new (report_of made) → Rose o.write_faults_old o.write_faults_new
+      → Ends job o Unread 4 (message 4)
+  parse_error : (at : ℕ) → StopsFor job o (reencoding_fault.ParseError at) → Ends job o Unread 5 (codes "parse error at " ++ decimal at)
+  refused : (u : Refusal) → StopsFor job o (reencoding_fault.Refused u) → Ends job o Unread 6 (refusal_text u)
+  code_size : StopsFor job o reencoding_fault.CodeSectionSize → Ends job o Unread 7 (message 7)
+  component : StopsFor job o reencoding_fault.NonCoreModule → Ends job o Unread 8 (message 8)
+  too_large : (size ceiling : ℕ) → StopsFor job o (reencoding_fault.TooLarge size ceiling)
+      → Ends job o Unread 10 (codes "too large: " ++ decimal size ++ codes " over " ++ decimal ceiling)
+  bad_file : IsBadFile job.command o.texts → Unread → Ends job o Unread 11 (message 11)
+  unfetched : IsUnfetched job.command o.texts o.shelf_faults_old o.shelf_faults_new → Unread → Ends job o Unread 12 (message 12)
+  too_long : IsTooLong job.command o.texts o.left_old o.left_new Unread → Ends job o Unread 13 (message 13)
+  no_digits : HasNoDigits job o.texts o.left_old o.left_new → Ends job o Unread 14 (message 14)
+
+-- How the program ends for the words: without a job by these alone, with the source and the shelf as they were.
+abbrev pub EndsFor : Option Job → Outside → (Unread Unfetched : Type 0) → ℕ → List ℕ → Type 0
+EndsFor None o Unread Unfetched status text = (status ≡ 2) × (text ≡ message 2) × Unread × Unfetched
+EndsFor (Some job) o Unread Unfetched status text = Ends job o Unread status text
 
 -- the errors that an input of a command may give: the others come to no end
 abbrev pub HasStatus : {E : Type 0} → Error E → Type 0
@@ -299,75 +341,56 @@ HasStatus error.InvalidConstExpr = ⊥
 HasStatus error.UnsupportedCoreTypeInComponent = ⊥
 HasStatus _ = Unit {0}
 
--- the end that an error under a ceiling comes to, where a refusal is told so
-abbrev pub EndsAs : {E : Type 0} → (E → Refusal) → ℕ → Error E → Answer → Type 0
-EndsAs told ceiling error.InvalidCodeSectionSize answer = answer ≡ CodeSectionSize
-EndsAs told ceiling error.UnexpectedNonCoreModuleSection answer = answer ≡ NonCoreModule
-EndsAs told ceiling error.UnexpectedNonComponentSection answer = answer ≡ NonComponent
-EndsAs told ceiling (error.ParseError e) answer = answer ≡ ParseError e.at
-EndsAs told ceiling (error.UserError u) answer = answer ≡ Refused (told u)
-EndsAs told ceiling (error.TooLarge size) answer = answer ≡ TooLarge size ceiling
-EndsAs told ceiling error.NoMemory answer = answer ≡ NoMemory
-EndsAs told ceiling _ answer = ⊥
+-- the fault that an error under a ceiling is, where a refusal is told so
+abbrev pub EndsAs : {E : Type 0} → (E → Refusal) → ℕ → Error E → ReencodingFault → Type 0
+EndsAs told ceiling error.InvalidCodeSectionSize fault = fault ≡ reencoding_fault.CodeSectionSize
+EndsAs told ceiling error.UnexpectedNonCoreModuleSection fault = fault ≡ reencoding_fault.NonCoreModule
+EndsAs told ceiling error.UnexpectedNonComponentSection fault = fault ≡ reencoding_fault.NonComponent
+EndsAs told ceiling (error.ParseError e) fault = fault ≡ reencoding_fault.ParseError e.at
+EndsAs told ceiling (error.UserError u) fault = fault ≡ reencoding_fault.Refused (told u)
+EndsAs told ceiling (error.TooLarge size) fault = fault ≡ reencoding_fault.TooLarge size ceiling
+EndsAs told ceiling error.NoMemory fault = fault ≡ reencoding_fault.NoMemory
+EndsAs told ceiling _ fault = ⊥
 
--- a sink took this text, or a front of it where it failed
-abbrev pub Says : (faults_old faults_new : ℕ) (held_old held_new : Option (List ℕ)) → List ℕ → Type 0
-Says faults_old faults_new held_old held_new text =
-    WhereTold held_new (followed held_old text) ⊎ (TookFront held_old held_new text × Rose faults_old faults_new)
+-- ---- what decides: the words, each file, the input, its digits, the re-encoding and the output, in this order
 
--- what is said with a status, but for 0, 5, 6 and 10
-abbrev pub message : ℕ → List ℕ
-message status =
-    if status == 1 then codes "no memory\n"
-    else if status == 2 then codes "usage: [-x] [-m CEILING] plain | rename FILE | twice FILE FILE | generate N | keep-report\n"
-    else if status == 3 then codes "read fault\n"
-    else if status == 4 then codes "write fault\n"
-    else if status == 7 then codes "invalid code section size\n"
-    else if status == 8 then codes "There was a section that does not belong in a core wasm module\n"
-    else if status == 9 then codes "There was a section that does not belong in a component\n"
-    else if status == 11 then codes "bad renaming\n"
-    else if status == 12 then codes "shelf fault\n"
-    else if status == 13 then codes "too long\n"
-    else codes "not hex\n"
-
--- ---- what decides where nothing fails
-
--- which status comes by the renamings and the bytes; where all visits are accepted and all frames fit it is 0, or memory is wanting
-abbrev pub IsDecidedByBytes : ℕ → Renamers → List ℕ → ℕ → Type 0
-IsDecidedByBytes ceiling rs bytes status =
-    ((status ≡ 0) × ((output : List ℕ) × (counts : List (List ℕ)) × IsReencoded ceiling rs bytes output counts))
-    ⊎ ((answer : Answer) × (status ≡ status_of answer) × IsRefused ceiling rs bytes answer × IsMade ceiling rs bytes answer)
+-- Which status comes by the renamings and the bytes. Where all visits are accepted and all frames fit, it is 0, or 4 where the sink
+-- failed, or memory is wanting.
+abbrev pub IsDecidedByBytes : (Unwritten : Type 0) → ℕ → Renamers → List ℕ → ℕ → Type 0
+IsDecidedByBytes Unwritten ceiling rs bytes status =
+    (((status ≡ 0) ⊎ ((status ≡ 4) × Unwritten)) × ((output : List ℕ) × (counts : List (List ℕ)) × IsReencoded ceiling rs bytes output counts))
+    ⊎ ((fault : ReencodingFault) × (status ≡ status_of (Reencoding fault)) × IsRefused ceiling rs bytes fault × IsMade ceiling rs bytes fault)
 
 -- which status comes by the form of the text and the bytes that it is
-abbrev pub IsDecidedByForm : ℕ → Renamers → Option (List ℕ) → ℕ → Type 0
-IsDecidedByForm ceiling rs None status = (status ≡ 14) ⊎ (status ≡ 1)
-IsDecidedByForm ceiling rs (Some bytes) status = IsDecidedByBytes ceiling rs bytes status
+abbrev pub IsDecidedByForm : (Unwritten : Type 0) → ℕ → Renamers → Option (List ℕ) → ℕ → Type 0
+IsDecidedByForm Unwritten ceiling rs None status = (status ≡ 14) ⊎ (status ≡ 1)
+IsDecidedByForm Unwritten ceiling rs (Some bytes) status = IsDecidedByBytes Unwritten ceiling rs bytes status
 
--- which status comes for an input
-pub record IsDecidedFor (job : Job) (rs : Renamers) (text : List ℕ) (status : ℕ) : Type 0 where
+-- which status comes for an input that was read
+pub record IsDecidedFor (Unwritten : Type 0) (job : Job) (rs : Renamers) (text : List ℕ) (status : ℕ) : Type 0 where
   pub long : most_bytes < length text → (status ≡ 13) ⊎ (status ≡ 1)
-  pub short : length text ≤ most_bytes → IsDecidedByForm job.ceiling rs (bytes_of job.is_text text) status
+  pub short : length text ≤ most_bytes → IsDecidedByForm Unwritten job.ceiling rs (bytes_of job.is_text text) status
 
--- which status comes for the input, where it is told
-abbrev pub IsDecidedByLeft : Job → Renamers → Option (List ℕ) → ℕ → Type 0
-IsDecidedByLeft job rs None status = Unit {0}
-IsDecidedByLeft job rs (Some text) status = IsDecidedFor job rs text status
+-- which status comes for the input, where it is told: 3 where the source failed, and else by what was read
+abbrev pub IsDecidedByLeft : (Unread Unwritten : Type 0) → Job → Renamers → Option (List ℕ) → ℕ → Type 0
+IsDecidedByLeft Unread Unwritten job rs None status = Unit {0}
+IsDecidedByLeft Unread Unwritten job rs (Some text) status = ((status ≡ 3) × Unread) ⊎ IsDecidedFor Unwritten job rs text status
 
 -- which status comes under some renamings, for a made module of so many functions or the input
-abbrev pub IsDecidedByInput : Option ℕ → Job → Renamers → Option (List ℕ) → ℕ → Type 0
-IsDecidedByInput None job rs left status = IsDecidedByLeft job rs left status
-IsDecidedByInput (Some n) job rs left status = IsDecidedByBytes job.ceiling rs (generated n) status
+abbrev pub IsDecidedByInput : (Unread Unwritten : Type 0) → Option ℕ → Job → Renamers → Option (List ℕ) → ℕ → Type 0
+IsDecidedByInput Unread Unwritten None job rs left status = IsDecidedByLeft Unread Unwritten job rs left status
+IsDecidedByInput Unread Unwritten (Some n) job rs left status = IsDecidedByBytes Unwritten job.ceiling rs (generated n) status
 
--- which status comes for the text of a file, where that of a renaming is told
+-- which status comes for the text of a file that was fetched, where that of a renaming is told
 pub record IsDecidedForFile (text : List ℕ) (status : ℕ) (by : Renaming → Type 0) : Type 0 where
   pub long : most_renaming < length text → (status ≡ 13) ⊎ (status ≡ 1)
   pub none : length text ≤ most_renaming → NoRenaming text → (status ≡ 11) ⊎ (status ≡ 1)
   pub some : length text ≤ most_renaming → (r : Renaming) → IsRenaming text r → by r
 
--- which status comes for a file, where its text is told
-abbrev pub IsDecidedByFile : Option (List ℕ) → ℕ → (Renaming → Type 0) → Type 0
-IsDecidedByFile None status by = Unit {0}
-IsDecidedByFile (Some text) status by = IsDecidedForFile text status by
+-- which status comes for a file, where its text is told: 12 where the shelf failed, and else by what was fetched
+abbrev pub IsDecidedByFile : (Unfetched : Type 0) → Option (List ℕ) → ℕ → (Renaming → Type 0) → Type 0
+IsDecidedByFile Unfetched None status by = Unit {0}
+IsDecidedByFile Unfetched (Some text) status by = ((status ≡ 12) × Unfetched) ⊎ IsDecidedForFile text status by
 
 -- the text of a name, where it is told
 abbrev pub told_text : Texts → List ℕ → Option (List ℕ)
@@ -375,17 +398,19 @@ told_text None name = None
 told_text (Some texts) name = texts name
 
 -- which status comes for some files, where that of the renamings that they say is told
-abbrev pub IsDecidedByFiles : Texts → List (List ℕ) → ℕ → (List Renaming → Type 0) → Type 0
-IsDecidedByFiles texts [] status by = by []
-IsDecidedByFiles texts (name ∷ names) status by =
-    IsDecidedByFile (told_text texts name) status (λ r. IsDecidedByFiles texts names status (λ rs. by (r ∷ rs)))
+abbrev pub IsDecidedByFiles : (Unfetched : Type 0) → Texts → List (List ℕ) → ℕ → (List Renaming → Type 0) → Type 0
+IsDecidedByFiles Unfetched texts [] status by = by []
+IsDecidedByFiles Unfetched texts (name ∷ names) status by =
+    IsDecidedByFile Unfetched (told_text texts name) status (λ r. IsDecidedByFiles Unfetched texts names status (λ rs. by (r ∷ rs)))
 
--- which status comes for a job
-abbrev pub IsDecidedByJob : Job → Texts → Option (List ℕ) → ℕ → Type 0
-IsDecidedByJob job texts left status =
-    IsDecidedByFiles texts (files job.command) status (λ said. IsDecidedByInput (functions job.command) job (renamers_of said) left status)
+-- Which status comes for a job. What stands first decides, whatever failed behind it: where a file, its shelf not having failed, says no
+-- renaming, it is 11, and where the input, its source not having failed either, is no hexadecimal text, it is 14; or memory is wanting.
+abbrev pub IsDecidedByJob : (Unfetched Unread Unwritten : Type 0) → Job → Texts → Option (List ℕ) → ℕ → Type 0
+IsDecidedByJob Unfetched Unread Unwritten job texts left status =
+    IsDecidedByFiles Unfetched texts (files job.command) status
+    (λ said. IsDecidedByInput Unread Unwritten (functions job.command) job (renamers_of said) left status)
 
--- which status comes for the words
-abbrev pub IsDecided : Option Job → Texts → Option (List ℕ) → ℕ → Type 0
-IsDecided None texts left status = status ≡ 2
-IsDecided (Some job) texts left status = IsDecidedByJob job texts left status
+-- Which status comes for the words, where this is that the shelf failed, that the source did, and that the sink did.
+abbrev pub IsDecided : (Unfetched Unread Unwritten : Type 0) → Option Job → Texts → Option (List ℕ) → ℕ → Type 0
+IsDecided Unfetched Unread Unwritten None texts left status = status ≡ 2
+IsDecided Unfetched Unread Unwritten (Some job) texts left status = IsDecidedByJob Unfetched Unread Unwritten job texts left status

@@ -14,8 +14,8 @@ use Rattle.reencode_hooks.specs.Run.{refused}
 use Rattle.reencode_hooks.specs.Walk.{walk}
 use Rattle.reencode_core.specs.Core.{AcceptsSections, BeforeFault}
 use Rattle.reencode_core.specs.Rules.{Refuses}
-use Rattle.reencode_tool.specs.declared.answer.Answer.{Answer}
-use Rattle.reencode_tool.specs.declared.answer.Answer.TheVariants.{NoMemory, ParseError, Refused, CodeSectionSize, NonCoreModule, TooLarge}
+use Rattle.reencode_tool.specs.declared.answer.ReencodingFault.{ReencodingFault}
+use Rattle.reencode_tool.specs.declared.answer.ReencodingFault.TheVariants.{NoMemory, ParseError, Refused, CodeSectionSize, NonCoreModule, TooLarge}
 use Rattle.reencode_tool.specs.declared.renamers.Refusal.{Refusal}
 use Rattle.reencode_tool.specs.declared.renamers.Renamers.{Renamers}
 use Rattle.reencode_tool.specs.declared.renamers.Renamers.TheVariants.{Alone}
@@ -35,10 +35,10 @@ pub record IsReencoded (ceiling : ℕ) (rs : Renamers) (bytes output : List ℕ)
 
 -- Where the bytes have a reading whose visits all have answers, and no frame of what it becomes is above the ceiling, memory is the one
 -- thing that may be wanting.
-abbrev pub IsMade : ℕ → Renamers → List ℕ → Answer → Type 0
-IsMade ceiling rs bytes answer =
+abbrev pub IsMade : ℕ → Renamers → List ℕ → ReencodingFault → Type 0
+IsMade ceiling rs bytes fault =
     (tree : Tree) (answers : List ℕ) → CoreReading bytes tree → map (rule_of rs) (visits tree) ≡ map Ok answers
-    → Fits (fill (core_tree tree) answers) ceiling → answer ≡ NoMemory
+    → Fits (fill (core_tree tree) answers) ceiling → fault ≡ NoMemory
 
 -- the bytes begin with the header of a core module, or with that of a component
 abbrev pub HasCoreHeader : List ℕ → Type 0
@@ -109,7 +109,7 @@ pub record IsTooLarge (ceiling : ℕ) (rs : Renamers) (bytes : List ℕ) (size :
 
 -- Why nothing is made of the bytes: they have no reading, for a place or the size of a code section, or are a component; an index
 -- is refused, or a frame is above the ceiling; or memory is wanting.
-abbrev pub IsRefused : ℕ → Renamers → List ℕ → Answer → Type 0
+abbrev pub IsRefused : ℕ → Renamers → List ℕ → ReencodingFault → Type 0
 IsRefused ceiling rs bytes (ParseError at) = IsRefusedAt ceiling rs bytes at
 IsRefused ceiling rs bytes CodeSectionSize = IsCodeSize ceiling rs bytes
 IsRefused ceiling rs bytes NonCoreModule = IsComponent bytes

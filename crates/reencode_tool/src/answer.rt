@@ -1,10 +1,12 @@
-//! How the program ends.
-ghost use Rattle.std.specs.Prelude.{◌≡◌, ◌≤◌, ◌≢◌, ◌++◌, codes, decimal, OnOk, OnErr};
+//! How the program ends: by a fault of one of its stages, or with all output written.
+ghost use Rattle.std.specs.Prelude.{◌≡◌, ◌≤◌, ◌++◌, codes, decimal, OnOk, OnErr};
 ghost use Rattle.reencode_tool.specs.Answer.{EndsAs, HasStatus, status_of, text_of};
 ghost use Rattle.reencode_tool.specs.Renamers.{refusal_text};
 ghost use Rattle.reencode_hooks.specs.Renamings.{unmapped_text};
 ghost use Rattle.reencode_tool.specs.Outside.{Rose, WhereTold, followed, TookFront};
 
+use crate::hexadecimal::TextFault;
+use crate::input::InputFault;
 use crate::outside::{Failed, Sink};
 use crate::renamers::{Refusal, Refuses};
 use crate::write::write_all;
@@ -12,20 +14,32 @@ use itoa::Buffer;
 use reencode_hooks::{ChainError, Error, Unmapped};
 use wasm_leb::ReadError;
 
-/// How the program ends.
-#[derive(Clone, Copy, Debug, PartialEq)]
-pub enum Answer {
-    /// All output was written.
-    Printed,
+/// Why the words ask for nothing.
+#[derive(Clone, Copy, Debug, PartialEq, Eq)]
+pub enum WordsFault {
+    /// They are not accepted.
+    NotAccepted,
     /// Memory was wanting.
     NoMemory,
-    /// The words are not accepted.
-    Usage,
-    /// The input could not be read.
-    ReadFault,
-    /// The output could not be written.
-    WriteFault,
-    /// The input's bytes have no reading.
+}
+
+/// Why a file gives no renaming.
+#[derive(Clone, Copy, Debug, PartialEq, Eq)]
+pub enum FileFault {
+    /// It could not be fetched.
+    Failed,
+    /// It is too long.
+    TooLong,
+    /// It says none.
+    Bad,
+    /// Memory was wanting.
+    NoMemory,
+}
+
+/// Why the re-encoding makes nothing of some bytes.
+#[derive(Clone, Copy, Debug, PartialEq)]
+pub enum ReencodingFault {
+    /// They have no reading.
     ParseError {
         /// The place of the fault.
         at: usize,
@@ -43,14 +57,36 @@ pub enum Answer {
         size: u64,
         ceiling: u32,
     },
-    /// The file of the renaming says none.
-    BadRenaming,
-    /// The file of the renaming could not be read.
-    ShelfFault,
-    /// The input or the file of the renaming is too long.
-    TooLong,
+    /// Memory was wanting.
+    NoMemory,
+}
+
+/// Why the output is not written.
+#[derive(Clone, Copy, Debug, PartialEq, Eq)]
+pub enum WritingFault {
+    /// A write failed.
+    Failed,
+    /// Memory was wanting.
+    NoMemory,
+}
+
+/// How the program ends: with all output written, or with a fault of the first stage that has one.
+#[derive(Clone, Copy, Debug, PartialEq)]
+pub enum Answer {
+    /// All output was written.
+    Printed,
+    /// The words ask for nothing.
+    Words(WordsFault),
+    /// A file gives no renaming.
+    File(FileFault),
+    /// The input was not read to its end.
+    Input(InputFault),
     /// The input is no hexadecimal text.
-    NotHexadecimal,
+    Digits(TextFault),
+    /// The re-encoding makes nothing of the bytes.
+    Reencoding(ReencodingFault),
+    /// The output is not written.
+    Writing(WritingFault),
 }
 
 impl Answer {
@@ -60,20 +96,25 @@ impl Answer {
     {
         match self {
             Answer::Printed => 0,
-            Answer::NoMemory => 1,
-            Answer::Usage => 2,
-            Answer::ReadFault => 3,
-            Answer::WriteFault => 4,
-            Answer::ParseError { at: _ } => 5,
-            Answer::Refused(_) => 6,
-            Answer::CodeSectionSize => 7,
-            Answer::NonCoreModule => 8,
-            Answer::NonComponent => 9,
-            Answer::TooLarge { .. } => 10,
-            Answer::BadRenaming => 11,
-            Answer::ShelfFault => 12,
-            Answer::TooLong => 13,
-            Answer::NotHexadecimal => 14,
+            Answer::Words(WordsFault::NoMemory)
+            | Answer::File(FileFault::NoMemory)
+            | Answer::Input(InputFault::NoMemory)
+            | Answer::Digits(TextFault::NoMemory)
+            | Answer::Reencoding(ReencodingFault::NoMemory)
+            | Answer::Writing(WritingFault::NoMemory) => 1,
+            Answer::Words(WordsFault::NotAccepted) => 2,
+            Answer::Input(InputFault::Failed) => 3,
+            Answer::Writing(WritingFault::Failed) => 4,
+            Answer::Reencoding(ReencodingFault::ParseError { at: _ }) => 5,
+            Answer::Reencoding(ReencodingFault::Refused(_)) => 6,
+            Answer::Reencoding(ReencodingFault::CodeSectionSize) => 7,
+            Answer::Reencoding(ReencodingFault::NonCoreModule) => 8,
+            Answer::Reencoding(ReencodingFault::NonComponent) => 9,
+            Answer::Reencoding(ReencodingFault::TooLarge { .. }) => 10,
+            Answer::File(FileFault::Bad) => 11,
+            Answer::File(FileFault::Failed) => 12,
+            Answer::File(FileFault::TooLong) | Answer::Input(InputFault::TooLong) => 13,
+            Answer::Digits(TextFault::NotHexadecimal) => 14,
         }
     }
 
@@ -88,29 +129,42 @@ impl Answer {
     {
         match self {
             Answer::Printed => write_all(err, b"\n"),
-            Answer::NoMemory => write_all(err, b"no memory\n"),
-            Answer::Usage => write_all(
+            Answer::Words(WordsFault::NoMemory)
+            | Answer::File(FileFault::NoMemory)
+            | Answer::Input(InputFault::NoMemory)
+            | Answer::Digits(TextFault::NoMemory)
+            | Answer::Reencoding(ReencodingFault::NoMemory)
+            | Answer::Writing(WritingFault::NoMemory) => write_all(err, b"no memory\n"),
+            Answer::Words(WordsFault::NotAccepted) => write_all(
                 err,
                 b"usage: [-x] [-m CEILING] plain | rename FILE | twice FILE FILE | generate N | keep-report\n",
             ),
-            Answer::ReadFault => write_all(err, b"read fault\n"),
-            Answer::WriteFault => write_all(err, b"write fault\n"),
-            Answer::ParseError { at } => say_parse_error(err, at),
-            Answer::Refused(refusal) => say_refused(err, refusal),
-            Answer::CodeSectionSize => write_all(err, b"invalid code section size\n"),
-            Answer::NonCoreModule => write_all(
+            Answer::Input(InputFault::Failed) => write_all(err, b"read fault\n"),
+            Answer::Writing(WritingFault::Failed) => write_all(err, b"write fault\n"),
+            Answer::Reencoding(ReencodingFault::ParseError { at }) => {
+                write_line(err, b"parse error at ", at as u64)
+            }
+            Answer::Reencoding(ReencodingFault::Refused(refusal)) => say_refused(err, refusal),
+            Answer::Reencoding(ReencodingFault::CodeSectionSize) => {
+                write_all(err, b"invalid code section size\n")
+            }
+            Answer::Reencoding(ReencodingFault::NonCoreModule) => write_all(
                 err,
                 b"There was a section that does not belong in a core wasm module\n",
             ),
-            Answer::NonComponent => write_all(
+            Answer::Reencoding(ReencodingFault::NonComponent) => write_all(
                 err,
                 b"There was a section that does not belong in a component\n",
             ),
-            Answer::TooLarge { size, ceiling } => say_too_large(err, size, ceiling),
-            Answer::BadRenaming => write_all(err, b"bad renaming\n"),
-            Answer::ShelfFault => write_all(err, b"shelf fault\n"),
-            Answer::TooLong => write_all(err, b"too long\n"),
-            Answer::NotHexadecimal => write_all(err, b"not hex\n"),
+            Answer::Reencoding(ReencodingFault::TooLarge { size, ceiling }) => {
+                say_too_large(err, size, ceiling)
+            }
+            Answer::File(FileFault::Bad) => write_all(err, b"bad renaming\n"),
+            Answer::File(FileFault::Failed) => write_all(err, b"shelf fault\n"),
+            Answer::File(FileFault::TooLong) | Answer::Input(InputFault::TooLong) => {
+                write_all(err, b"too long\n")
+            }
+            Answer::Digits(TextFault::NotHexadecimal) => write_all(err, b"not hex\n"),
         }
     }
 }
@@ -157,20 +211,6 @@ fn write_line<D: Sink>(err: &mut D, text: &[u8], n: u64) -> Result<(), Failed>
         Ok(()) => write_all(err, b"\n"),
         Err(Failed) => Err(Failed),
     }
-}
-
-/// Says at which place the bytes have no reading.
-fn say_parse_error<D: Sink>(err: &mut D, at: usize) -> Result<(), Failed>
-    ensures rises { D.faults err.old ≤ D.faults err.new }
-    ensures ok { OnOk result
-        (WhereTold (D.held err.new)
-        (followed (D.held err.old) (text_of (Answer.ParseError at) ++ codes "\n"))) }
-    ensures failed { OnErr result (Rose (D.faults err.old) (D.faults err.new)) }
-    ensures front { OnErr result
-        (TookFront (D.held err.old) (D.held err.new)
-        (text_of (Answer.ParseError at) ++ codes "\n")) }
-{
-    write_line(err, b"parse error at ", at as u64)
 }
 
 /// Says which index was refused.
@@ -230,11 +270,12 @@ fn say_too_large<D: Sink>(err: &mut D, size: u64, ceiling: u32) -> Result<(), Fa
     ensures rises { D.faults err.old ≤ D.faults err.new }
     ensures ok { OnOk result
         (WhereTold (D.held err.new)
-        (followed (D.held err.old) (text_of (Answer.TooLarge size ceiling) ++ codes "\n"))) }
+        (followed (D.held err.old)
+        (codes "too large: " ++ decimal size ++ codes " over " ++ decimal ceiling ++ codes "\n"))) }
     ensures failed { OnErr result (Rose (D.faults err.old) (D.faults err.new)) }
     ensures front { OnErr result
         (TookFront (D.held err.old) (D.held err.new)
-        (text_of (Answer.TooLarge size ceiling) ++ codes "\n")) }
+        (codes "too large: " ++ decimal size ++ codes " over " ++ decimal ceiling ++ codes "\n")) }
 {
     match write_number(err, b"too large: ", size) {
         Ok(()) => write_line(err, b" over ", ceiling as u64),
@@ -242,19 +283,19 @@ fn say_too_large<D: Sink>(err: &mut D, size: u64, ceiling: u32) -> Result<(), Fa
     }
 }
 
-/// How the program ends with an error under a ceiling. Three errors come to no end: no input of a command gives them.
-pub fn answer_of<X: Refuses>(e: Error<X>, ceiling: u32) -> Answer
+/// The fault that an error under a ceiling is. Three errors are none: no input of a command gives them.
+pub fn reencoding_fault<X: Refuses>(e: Error<X>, ceiling: u32) -> ReencodingFault
     requires { HasStatus e }
     ensures { EndsAs X.refusal ceiling e result }
 {
     match e {
-        Error::InvalidCodeSectionSize => Answer::CodeSectionSize,
-        Error::UnexpectedNonCoreModuleSection => Answer::NonCoreModule,
-        Error::UnexpectedNonComponentSection => Answer::NonComponent,
-        Error::ParseError(ReadError { at }) => Answer::ParseError { at },
-        Error::UserError(refused) => Answer::Refused(refused.refusal()),
-        Error::TooLarge { size } => Answer::TooLarge { size, ceiling },
-        Error::NoMemory => Answer::NoMemory,
+        Error::InvalidCodeSectionSize => ReencodingFault::CodeSectionSize,
+        Error::UnexpectedNonCoreModuleSection => ReencodingFault::NonCoreModule,
+        Error::UnexpectedNonComponentSection => ReencodingFault::NonComponent,
+        Error::ParseError(ReadError { at }) => ReencodingFault::ParseError { at },
+        Error::UserError(refused) => ReencodingFault::Refused(refused.refusal()),
+        Error::TooLarge { size } => ReencodingFault::TooLarge { size, ceiling },
+        Error::NoMemory => ReencodingFault::NoMemory,
         Error::CanonicalizedHeapTypeReference
         | Error::InvalidConstExpr
         | Error::UnsupportedCoreTypeInComponent => unreachable!(),

@@ -6,7 +6,7 @@ ghost use Rattle.reencode_tool.specs.Kept.{Keeps, kept_len, kept_line, kept_line
 ghost use Rattle.reencode_tool.specs.Reencoded.{IsMade, IsRefused};
 ghost use Rattle.reencode_tool.specs.Renamers.{AreCounts, counts_in};
 
-use crate::answer::{Answer, answer_of};
+use crate::answer::{ReencodingFault, reencoding_fault};
 use crate::renamers::Renamers;
 use crate::report::{add_number, add_tail};
 use reencode_core::{Piece, Pieces, reencode_pieces};
@@ -70,20 +70,20 @@ fn lines_of(alloc: Global, pieces: &Pieces, renamers: &Renamers) -> Result<Vec<u
 
 /// What is printed of the re-encoding of some bytes with no index renamed, of which the function bodies that stay as they stand
 /// are kept.
-pub fn kept_report(alloc: Global, bytes: &[u8], ceiling: u32) -> Result<Vec<u8>, Answer>
+pub fn kept_report(alloc: Global, bytes: &[u8], ceiling: u32) -> Result<Vec<u8>, ReencodingFault>
     ensures ok { IfOk result (λ text. Keeps ceiling bytes.now text.items) }
     ensures refused { IfErr result
-        (λ answer. IsRefused ceiling (Renamers.Alone no_renaming) bytes.now answer) }
+        (λ fault. IsRefused ceiling (Renamers.Alone no_renaming) bytes.now fault) }
     ensures made { IfErr result
-        (λ answer. IsMade ceiling (Renamers.Alone no_renaming) bytes.now answer) }
+        (λ fault. IsMade ceiling (Renamers.Alone no_renaming) bytes.now fault) }
 {
     let mut renamer = Renamer::new(alloc);
     let pieces = match reencode_pieces(alloc, &mut renamer, bytes, ceiling) {
         Ok(pieces) => pieces,
-        Err(e) => return Err(answer_of(e, ceiling)),
+        Err(e) => return Err(reencoding_fault(e, ceiling)),
     };
     match lines_of(alloc, &pieces, &Renamers::Alone(renamer)) {
         Ok(text) => Ok(text),
-        Err(_) => Err(Answer::NoMemory),
+        Err(_) => Err(ReencodingFault::NoMemory),
     }
 }

@@ -1,18 +1,18 @@
 //! From a job to what is printed.
-ghost use Rattle.std.specs.Prelude.{◌≡◌, ◌≢◌, ◌≤◌, ◌++◌, [], length, replicate, IfOk, IfErr, vec_len};
+ghost use Rattle.std.specs.Prelude.{◌≡◌, ◌≤◌, ◌++◌, ℕ, List, Option, [], length, replicate, IfOk, IfErr, vec_len};
 ghost use Rattle.hex.specs.Hex.{encode_lower};
 ghost use Rattle.reencode_hooks.specs.Renamings.{no_renaming};
-ghost use Rattle.reencode_tool.specs.Answer.{FileSays, HasBytes, IsMaking, Made, Output, RefusesBytes, RefusesFile, RefusesInput, RefusesRenaming, Reports, Stops, Takes, Uses, output_text, report_of};
+ghost use Rattle.reencode_tool.specs.Answer.{Ends, FileSays, HasBytes, IsMaking, Made, Output, RefusesBytes, RefusesFile, RefusesRenaming, RefusesSource, Reports, Takes, Uses, output_text, report_of, status_of, text_of};
 ghost use Rattle.reencode_tool.specs.Generated.{generated};
 ghost use Rattle.reencode_tool.specs.Reencoded.{IsMade, IsRefused};
 ghost use Rattle.reencode_tool.specs.Renamers.{AreCounts};
 ghost use Rattle.reencode_tool.specs.Report.{lengths_report, report};
 ghost use Rattle.reencode_tool.specs.Words.{command_seen, files, job_seen};
 
-use crate::answer::Answer;
+use crate::answer::{Answer, FileFault, ReencodingFault, WritingFault};
 use crate::buffer::zeros;
 use crate::generate::generated;
-use crate::hexadecimal::{TextFault, binary};
+use crate::hexadecimal::binary;
 use crate::input::{InputFault, read_all};
 use crate::kept::kept_report;
 use crate::outside::{Shelf, ShelfFault, Source};
@@ -45,25 +45,25 @@ pub struct Ready {
 }
 
 /// The renamer that a file says.
-fn renamer_of_file<F: Shelf>(alloc: Global, file: &str, shelf: &mut F) -> Result<Renamer, Answer>
+fn renamer_of_file<F: Shelf>(alloc: Global, file: &str, shelf: &mut F) -> Result<Renamer, FileFault>
     ensures rises { F.faults shelf.old ≤ F.faults shelf.new }
     ensures same { F.texts shelf.new ≡ F.texts shelf.old }
     ensures says { IfOk result (λ renamer. FileSays (F.texts shelf.old) file.now renamer) }
     ensures counts { IfOk result (λ renamer. renamer.counts ≡ replicate 19 0) }
     ensures stops { IfErr result
-        (λ answer. RefusesFile file.now (F.texts shelf.old) (F.faults shelf.old)
-        (F.faults shelf.new) answer) }
+        (λ fault. RefusesFile file.now (F.texts shelf.old) (F.faults shelf.old)
+        (F.faults shelf.new) fault) }
 {
     let text = match shelf.fetch(alloc, file, MOST_RENAMING) {
         Ok(text) => text,
-        Err(ShelfFault::Failed) => return Err(Answer::ShelfFault),
-        Err(ShelfFault::TooLong) => return Err(Answer::TooLong),
-        Err(ShelfFault::NoMemory) => return Err(Answer::NoMemory),
+        Err(ShelfFault::Failed) => return Err(FileFault::Failed),
+        Err(ShelfFault::TooLong) => return Err(FileFault::TooLong),
+        Err(ShelfFault::NoMemory) => return Err(FileFault::NoMemory),
     };
     match renaming_of(alloc, text.as_slice()) {
         Ok(renamer) => Ok(renamer),
-        Err(RenamingFault::Bad) => Err(Answer::BadRenaming),
-        Err(RenamingFault::NoMemory) => Err(Answer::NoMemory),
+        Err(RenamingFault::Bad) => Err(FileFault::Bad),
+        Err(RenamingFault::NoMemory) => Err(FileFault::NoMemory),
     }
 }
 
@@ -72,14 +72,15 @@ fn renamers_of<F: Shelf>(
     alloc: Global,
     command: Command<'_>,
     shelf: &mut F,
-) -> Result<Renamers, Answer>
+) -> Result<Renamers, FileFault>
     ensures rises { F.faults shelf.old ≤ F.faults shelf.new }
     ensures uses { IfOk result
         (λ renamers. Uses (command_seen command.entry) (F.texts shelf.old) renamers) }
     ensures counts { IfOk result AreCounts }
     ensures stops { IfErr result
-        (λ answer. RefusesRenaming (command_seen command.entry) (F.texts shelf.old)
-        (F.faults shelf.old) (F.faults shelf.new) answer) }
+        (λ fault. RefusesRenaming (command_seen command.entry) (F.texts shelf.old)
+        (F.faults shelf.old) (F.faults shelf.new) fault) }
+    ensures unfetched { files (command_seen command.entry) ≡ [] → shelf.new ≡ shelf.old }
 {
     match command {
         Command::Rename(file) => Ok(Renamers::Alone(renamer_of_file(alloc, file, shelf)?)),
@@ -100,33 +101,30 @@ fn read_bytes<S: Source>(alloc: Global, is_text: bool, input: &mut S) -> Result<
     ensures ok { IfOk result
         (λ bytes. HasBytes is_text (S.left input.old) (S.left input.new) bytes.items) }
     ensures stops { IfErr result
-        (λ answer. RefusesInput is_text (S.faults input.old) (S.faults input.new)
+        (λ answer. RefusesSource is_text (S.faults input.old) (S.faults input.new)
         (S.left input.old) (S.left input.new) answer) }
 {
     let text = match read_all(alloc, input, MOST_INPUT) {
         Ok(text) => text,
-        Err(InputFault::Failed) => return Err(Answer::ReadFault),
-        Err(InputFault::TooLong) => return Err(Answer::TooLong),
-        Err(InputFault::NoMemory) => return Err(Answer::NoMemory),
+        Err(fault) => return Err(Answer::Input(fault)),
     };
     if !is_text {
         return Ok(text);
     }
     match binary(alloc, text) {
         Ok(bytes) => Ok(bytes),
-        Err(TextFault::NotHexadecimal) => Err(Answer::NotHexadecimal),
-        Err(TextFault::NoMemory) => Err(Answer::NoMemory),
+        Err(fault) => Err(Answer::Digits(fault)),
     }
 }
 
 /// The bytes of a made module.
 fn made_bytes(alloc: Global, n: u32) -> Result<Vec<u8>, Answer>
     ensures ok { IfOk result (λ bytes. bytes.items ≡ generated n) }
-    ensures stops { IfErr result (λ answer. answer ≡ Answer.NoMemory) }
+    ensures stops { IfErr result (λ answer. answer ≡ Answer.Input InputFault.NoMemory) }
 {
     match generated(alloc, n) {
         Ok(bytes) => Ok(bytes),
-        Err(_) => Err(Answer::NoMemory),
+        Err(_) => Err(Answer::Input(InputFault::NoMemory)),
     }
 }
 
@@ -158,17 +156,17 @@ fn digits(
     renamers: Renamers,
     bytes: &[u8],
     ceiling: u32,
-) -> Result<(Vec<u8>, Vec<u8>), Answer>
+) -> Result<(Vec<u8>, Vec<u8>), ReencodingFault>
     requires { AreCounts renamers }
     ensures ok { IfOk result (λ p. Reports ceiling renamers bytes.now report
         (encode_lower p.0.items ++ p.1.items)) }
-    ensures refused { IfErr result (λ answer. IsRefused ceiling renamers bytes.now answer) }
-    ensures made { IfErr result (λ answer. IsMade ceiling renamers bytes.now answer) }
+    ensures refused { IfErr result (λ fault. IsRefused ceiling renamers bytes.now fault) }
+    ensures made { IfErr result (λ fault. IsMade ceiling renamers bytes.now fault) }
 {
     let (output, renamers) = reencoded(alloc, renamers, bytes, ceiling)?;
     match tail(alloc, &renamers) {
         Ok(tail) => Ok((output, tail)),
-        Err(_) => Err(Answer::NoMemory),
+        Err(_) => Err(ReencodingFault::NoMemory),
     }
 }
 
@@ -179,17 +177,17 @@ fn lengths(
     renamers: Renamers,
     bytes: &[u8],
     ceiling: u32,
-) -> Result<Vec<u8>, Answer>
+) -> Result<Vec<u8>, ReencodingFault>
     requires { AreCounts renamers }
     ensures ok { IfOk result (λ text. Reports ceiling renamers bytes.now
         (lengths_report functions (length bytes.now)) text.items) }
-    ensures refused { IfErr result (λ answer. IsRefused ceiling renamers bytes.now answer) }
-    ensures made { IfErr result (λ answer. IsMade ceiling renamers bytes.now answer) }
+    ensures refused { IfErr result (λ fault. IsRefused ceiling renamers bytes.now fault) }
+    ensures made { IfErr result (λ fault. IsMade ceiling renamers bytes.now fault) }
 {
     let (output, renamers) = reencoded(alloc, renamers, bytes, ceiling)?;
     match made_lines(alloc, functions, bytes.len(), output.len(), &renamers) {
         Ok(lines) => Ok(lines),
-        Err(_) => Err(Answer::NoMemory),
+        Err(_) => Err(ReencodingFault::NoMemory),
     }
 }
 
@@ -200,15 +198,15 @@ fn shown(
     renamers: Renamers,
     bytes: &[u8],
     ceiling: u32,
-) -> Result<(Vec<u8>, Vec<u8>), Answer>
+) -> Result<(Vec<u8>, Vec<u8>), ReencodingFault>
     requires counts { AreCounts renamers }
     requires none { files (command_seen command) ≡ []
         → renamers ≡ Renamers.Alone no_renaming }
     ensures ok { IfOk result
         (λ p. (m : Output (command_seen command.entry) ceiling renamers bytes.now)
         × (encode_lower p.0.items ++ p.1.items ≡ output_text m)) }
-    ensures refused { IfErr result (λ answer. IsRefused ceiling renamers bytes.now answer) }
-    ensures made { IfErr result (λ answer. IsMade ceiling renamers bytes.now answer) }
+    ensures refused { IfErr result (λ fault. IsRefused ceiling renamers bytes.now fault) }
+    ensures made { IfErr result (λ fault. IsMade ceiling renamers bytes.now fault) }
 {
     match command {
         Command::Plain => digits(alloc, renamers, bytes, ceiling),
@@ -238,14 +236,33 @@ pub fn make<F: Shelf, S: Source>(
         (S.left input.old) (S.left input.new))
         × (encode_lower ready.output.items ++ ready.tail.items ≡ report_of made)) }
     ensures room { IfOk result (λ ready. 2 ≤ vec_len ready.buffer) }
-    ensures stops { IfErr result
-        (λ answer. Stops (job_seen job.entry) (F.texts shelf.old) (F.faults shelf.old)
-        (F.faults shelf.new) (S.faults input.old) (S.faults input.new) (S.left input.old)
-        (S.left input.new) answer) }
+    // However the sink stands.
+    ensures stops { IfErr result (λ answer. (held_old : Option (List ℕ))
+        (held_new : Option (List ℕ)) (write_faults_old : ℕ) (write_faults_new : ℕ)
+        → Ends (job_seen job.entry) (record {
+          texts = F.texts shelf.old;
+          shelf_faults_old = F.faults shelf.old;
+          shelf_faults_new = F.faults shelf.new;
+          left_old = S.left input.old;
+          left_new = S.left input.new;
+          read_faults_old = S.faults input.old;
+          read_faults_new = S.faults input.new;
+          held_old = held_old;
+          held_new = held_new;
+          write_faults_old = write_faults_old;
+          write_faults_new = write_faults_new;
+        }) (input.new ≡ input.old) (status_of answer) (text_of answer)) }
     ensures unread { IsMaking (job_seen job.entry).command → input.new ≡ input.old }
+    ensures unfetched { files (job_seen job.entry).command ≡ [] → shelf.new ≡ shelf.old }
 {
-    let renamers = renamers_of(alloc, job.command, shelf)?;
-    let bytes = bytes_of(alloc, job.command, job.is_text, input)?;
+    let renamers = match renamers_of(alloc, job.command, shelf) {
+        Ok(renamers) => renamers,
+        Err(fault) => return Err(Answer::File(fault)),
+    };
+    let bytes = match bytes_of(alloc, job.command, job.is_text, input) {
+        Ok(bytes) => bytes,
+        Err(answer) => return Err(answer),
+    };
     match shown(alloc, job.command, renamers, bytes.as_slice(), job.ceiling) {
         Ok(made) => match zeros(alloc, PIECE) {
             Ok(buffer) => Ok(Ready {
@@ -253,8 +270,8 @@ pub fn make<F: Shelf, S: Source>(
                 tail: made.1,
                 buffer,
             }),
-            Err(_) => Err(Answer::NoMemory),
+            Err(_) => Err(Answer::Writing(WritingFault::NoMemory)),
         },
-        Err(answer) => Err(answer),
+        Err(fault) => Err(Answer::Reencoding(fault)),
     }
 }

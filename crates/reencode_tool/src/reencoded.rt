@@ -3,7 +3,7 @@ ghost use Rattle.std.specs.Prelude.{IfOk, IfErr};
 ghost use Rattle.reencode_tool.specs.Reencoded.{IsMade, IsReencoded, IsRefused};
 ghost use Rattle.reencode_tool.specs.Renamers.{AreCounts, counts_in};
 
-use crate::answer::{Answer, answer_of};
+use crate::answer::{ReencodingFault, reencoding_fault};
 use crate::renamers::Renamers;
 use reencode_core::reencode_core;
 use reencode_hooks::{Chain, Renamer};
@@ -15,19 +15,19 @@ fn by_one(
     renamer: Renamer,
     bytes: &[u8],
     ceiling: u32,
-) -> Result<(Vec<u8>, Renamers), Answer>
+) -> Result<(Vec<u8>, Renamers), ReencodingFault>
     ensures ok { IfOk result (λ made. IsReencoded ceiling (Renamers.Alone renamer) bytes.now
         made.0.items (counts_in made.1)) }
     ensures counts { AreCounts (Renamers.Alone renamer) → IfOk result (λ made. AreCounts made.1) }
     ensures refused { IfErr result
-        (λ answer. IsRefused ceiling (Renamers.Alone renamer) bytes.now answer) }
+        (λ fault. IsRefused ceiling (Renamers.Alone renamer) bytes.now fault) }
     ensures made { IfErr result
-        (λ answer. IsMade ceiling (Renamers.Alone renamer) bytes.now answer) }
+        (λ fault. IsMade ceiling (Renamers.Alone renamer) bytes.now fault) }
 {
     let mut renamer = renamer;
     match reencode_core(alloc, &mut renamer, bytes, ceiling) {
         Ok(output) => Ok((output, Renamers::Alone(renamer))),
-        Err(e) => Err(answer_of(e, ceiling)),
+        Err(e) => Err(reencoding_fault(e, ceiling)),
     }
 }
 
@@ -37,18 +37,18 @@ fn by_both(
     both: Chain<Renamer, Renamer>,
     bytes: &[u8],
     ceiling: u32,
-) -> Result<(Vec<u8>, Renamers), Answer>
+) -> Result<(Vec<u8>, Renamers), ReencodingFault>
     ensures ok { IfOk result (λ made. IsReencoded ceiling (Renamers.Both both) bytes.now
         made.0.items (counts_in made.1)) }
     ensures counts { AreCounts (Renamers.Both both) → IfOk result (λ made. AreCounts made.1) }
     ensures refused { IfErr result
-        (λ answer. IsRefused ceiling (Renamers.Both both) bytes.now answer) }
-    ensures made { IfErr result (λ answer. IsMade ceiling (Renamers.Both both) bytes.now answer) }
+        (λ fault. IsRefused ceiling (Renamers.Both both) bytes.now fault) }
+    ensures made { IfErr result (λ fault. IsMade ceiling (Renamers.Both both) bytes.now fault) }
 {
     let mut both = both;
     match reencode_core(alloc, &mut both, bytes, ceiling) {
         Ok(output) => Ok((output, Renamers::Both(both))),
-        Err(e) => Err(answer_of(e, ceiling)),
+        Err(e) => Err(reencoding_fault(e, ceiling)),
     }
 }
 
@@ -59,12 +59,12 @@ pub fn reencoded(
     renamers: Renamers,
     bytes: &[u8],
     ceiling: u32,
-) -> Result<(Vec<u8>, Renamers), Answer>
+) -> Result<(Vec<u8>, Renamers), ReencodingFault>
     ensures ok { IfOk result
         (λ made. IsReencoded ceiling renamers bytes.now made.0.items (counts_in made.1)) }
     ensures counts { AreCounts renamers → IfOk result (λ made. AreCounts made.1) }
-    ensures refused { IfErr result (λ answer. IsRefused ceiling renamers bytes.now answer) }
-    ensures made { IfErr result (λ answer. IsMade ceiling renamers bytes.now answer) }
+    ensures refused { IfErr result (λ fault. IsRefused ceiling renamers bytes.now fault) }
+    ensures made { IfErr result (λ fault. IsMade ceiling renamers bytes.now fault) }
 {
     match renamers {
         Renamers::Alone(renamer) => by_one(alloc, renamer, bytes, ceiling),

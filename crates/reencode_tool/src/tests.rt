@@ -1,12 +1,13 @@
 //! What no clause says: that the calls succeed over memory, what is printed and said, and how the
 //! program ends where the outside is slow or fails.
-use crate::answer::{Answer, answer_of};
-use crate::memory::{MemShelf, MemSink, MemSource, SureShelf, SureSink, SureSource};
+use crate::answer::{Answer, ReencodingFault, reencoding_fault};
+use crate::memory::{MemShelf, MemSink, MemSource};
 use crate::outside::{Failed, Shelf, ShelfFault, Sink, Source};
 use crate::renamers::{Refusal, Renamers};
 use crate::renaming::{RenamingFault, renaming_of};
 use crate::report::tail;
 use crate::standard::FileShelf;
+use crate::sure::{SureShelf, SureSink, SureSource};
 use crate::tool::run;
 use reencode_hooks::{Asked, Chain, ChainError, Error, Renamer, Unmapped};
 use std::alloc::Global;
@@ -121,6 +122,55 @@ err=too large: 9 over 8/
 words=-x -m 9 plain
 out=REPORT
 
+# A strict renaming and a ceiling: what closes or is asked first is told.
+words=-x -m 6 rename r
+file={"strict":true,"type":{"0":0}}
+status=10
+err=too large: 7 over 6/
+
+words=-x -m 7 rename r
+file={"strict":true,"type":{"0":0}}
+status=6
+err=refused function 0/
+
+words=-x -m 6 rename r
+file={"strict":true}
+status=10
+err=too large: 7 over 6/
+
+words=-x -m 8 rename r
+file={"strict":true,"type":{"0":0},"function":{"0":0}}
+status=10
+err=too large: 9 over 8/
+
+words=-x -m 6 twice r s
+second={"strict":true}
+status=10
+err=too large: 7 over 6/
+
+words=-x -m 7 twice s r
+second={"strict":true,"type":{"0":0}}
+status=6
+err=refused function 0 by 1/
+
+# And bytes without a reading: the second of two exports has none.
+words=-x -m 3 rename r
+file={"strict":true}
+text=0061736d01000000 010401600000 07050201660000
+status=10
+err=too large: 4 over 3/
+
+words=-x -m 4 rename r
+file={"strict":true}
+text=0061736d01000000 010401600000 07050201660000
+status=6
+err=refused function 0/
+
+words=-x -m 3 rename r
+text=0061736d01000000 010401600000 03020101 0303010000
+status=10
+err=too large: 4 over 3/
+
 # Binary input.
 words=plain
 text=BINARY
@@ -128,6 +178,25 @@ out=0061736d01000000/asked section_hook 1/
 
 words=generate 3
 out=functions 3 input 59 output 47/asked function 3 type 3 section_hook 4/
+
+words=generate 100000
+out=functions 100000 input 1491772 output 1275260/asked function 100000 type 100000 section_hook 4/
+
+# An unknown section between two type sections that are empty.
+words=-x plain
+text=0061736d01000000 010100 6302aabb 010100
+out=0061736d010000000101006302aabb010100/asked section_hook 3/
+
+# The names of locals by their function, and those of functions.
+words=-x rename r
+file={"function":{"0":3}}
+text=0061736d01000000 000d046e616d65 0206010001000178
+out=0061736d01000000000d046e616d650206010301000178/asked function 1 section_hook 1/
+
+words=-x rename r
+file={"function":{"0":3}}
+text=0061736d01000000 000b046e616d65 010401000166
+out=0061736d01000000000b046e616d65010401030166/asked function 1 section_hook 1/
 
 # The export names function 1.
 words=-x rename r
@@ -343,6 +412,64 @@ words=-x rename r
 file={"strict":1}
 status=11
 err=bad renaming/
+
+words=-x rename r
+file=LONG
+status=13
+err=too long/
+
+# What stands first is told where a later object fails too: words, each file, input, digits, re-encoding.
+words=rename
+shelf_fails=1
+read_fails=1
+status=2
+err=USAGE
+
+words=-x rename r
+file=[]
+read_fails=1
+write_fails=1
+status=11
+err=bad renaming/
+
+words=-x rename q
+read_fails=1
+status=12
+err=shelf fault/
+
+words=-x rename r
+file=LONG
+read_fails=1
+status=13
+err=too long/
+
+words=-x twice r s
+file=[]
+shelf_fails=2
+status=11
+err=bad renaming/
+
+words=-x plain
+shelf_fails=1
+read_fails=1
+status=3
+err=read fault/
+
+words=-x plain
+text=00617
+write_fails=1
+status=14
+err=not hex/
+
+words=-x -m 6 plain
+write_fails=1
+status=10
+err=too large: 7 over 6/
+
+words=generate 3
+shelf_fails=1
+read_fails=1
+out=functions 3 input 59 output 47/asked function 3 type 3 section_hook 4/
 
 # The shelf fails, and has no such name.
 words=-x rename r
@@ -560,7 +687,7 @@ fn ends_of_runs(rt: HostRuntime) -> Result<(), Fail> {
         assert_eq!(rt; ends(rt.alloc(), case), Some((true, true, true)), "{case}");
         runs = runs.saturating_add(1);
     }
-    assert_eq!(rt; runs, 75);
+    assert_eq!(rt; runs, 98);
     Ok(())
 }
 
@@ -731,7 +858,13 @@ fn place_of_a_fault(rt: HostRuntime) -> Result<(), Fail> {
         (8, b"parse error at 8\n"),
         (u64::MAX as usize, b"parse error at 18446744073709551615\n"),
     ] {
-        try_answer(&rt, rt.alloc(), Answer::ParseError { at }, 5, text)?;
+        try_answer(
+            &rt,
+            rt.alloc(),
+            Answer::Reencoding(ReencodingFault::ParseError { at }),
+            5,
+            text,
+        )?;
     }
     Ok(())
 }
@@ -742,35 +875,39 @@ fn ends_of_errors(rt: HostRuntime) -> Result<(), Fail> {
         space: Space::ComponentFunc,
         index: 7,
     };
-    for (answer, status, text) in [
+    for (fault, status, text) in [
         (
-            Answer::Refused(Refusal::Alone(unmapped)),
+            ReencodingFault::Refused(Refusal::Alone(unmapped)),
             6,
             &b"refused component_func 7\n"[..],
         ),
         (
-            Answer::Refused(Refusal::Both(ChainError::First(unmapped))),
+            ReencodingFault::Refused(Refusal::Both(ChainError::First(unmapped))),
             6,
             b"refused component_func 7 by 1\n",
         ),
         (
-            Answer::Refused(Refusal::Both(ChainError::Second(unmapped))),
+            ReencodingFault::Refused(Refusal::Both(ChainError::Second(unmapped))),
             6,
             b"refused component_func 7 by 2\n",
         ),
-        (Answer::CodeSectionSize, 7, b"invalid code section size\n"),
         (
-            Answer::NonCoreModule,
+            ReencodingFault::CodeSectionSize,
+            7,
+            b"invalid code section size\n",
+        ),
+        (
+            ReencodingFault::NonCoreModule,
             8,
             b"There was a section that does not belong in a core wasm module\n",
         ),
         (
-            Answer::NonComponent,
+            ReencodingFault::NonComponent,
             9,
             b"There was a section that does not belong in a component\n",
         ),
         (
-            Answer::TooLarge {
+            ReencodingFault::TooLarge {
                 size: 41,
                 ceiling: 40,
             },
@@ -778,46 +915,49 @@ fn ends_of_errors(rt: HostRuntime) -> Result<(), Fail> {
             b"too large: 41 over 40\n",
         ),
     ] {
-        try_answer(&rt, rt.alloc(), answer, status, text)?;
+        try_answer(&rt, rt.alloc(), Answer::Reencoding(fault), status, text)?;
     }
     Ok(())
 }
 
 #[test]
-fn answers_of_errors(rt: HostRuntime) {
+fn faults_of_errors(rt: HostRuntime) {
     let unmapped = Unmapped {
         space: Space::Type_,
         index: 0,
     };
     assert_eq!(rt;
-        answer_of(Error::UserError(unmapped), 9),
-        Answer::Refused(Refusal::Alone(unmapped))
+        reencoding_fault(Error::UserError(unmapped), 9),
+        ReencodingFault::Refused(Refusal::Alone(unmapped))
     );
     let second: ChainError<Unmapped, Unmapped> = ChainError::Second(unmapped);
     assert_eq!(rt;
-        answer_of(Error::UserError(second), 9),
-        Answer::Refused(Refusal::Both(second))
+        reencoding_fault(Error::UserError(second), 9),
+        ReencodingFault::Refused(Refusal::Both(second))
     );
     assert_eq!(rt;
-        answer_of(Error::<Unmapped>::InvalidCodeSectionSize, 9),
-        Answer::CodeSectionSize
+        reencoding_fault(Error::<Unmapped>::InvalidCodeSectionSize, 9),
+        ReencodingFault::CodeSectionSize
     );
     assert_eq!(rt;
-        answer_of(Error::<Unmapped>::UnexpectedNonCoreModuleSection, 9),
-        Answer::NonCoreModule
+        reencoding_fault(Error::<Unmapped>::UnexpectedNonCoreModuleSection, 9),
+        ReencodingFault::NonCoreModule
     );
     assert_eq!(rt;
-        answer_of(Error::<Unmapped>::UnexpectedNonComponentSection, 9),
-        Answer::NonComponent
+        reencoding_fault(Error::<Unmapped>::UnexpectedNonComponentSection, 9),
+        ReencodingFault::NonComponent
     );
     assert_eq!(rt;
-        answer_of(Error::<Unmapped>::TooLarge { size: 10 }, 9),
-        Answer::TooLarge {
+        reencoding_fault(Error::<Unmapped>::TooLarge { size: 10 }, 9),
+        ReencodingFault::TooLarge {
             size: 10,
             ceiling: 9
         }
     );
-    assert_eq!(rt; answer_of(Error::<Unmapped>::NoMemory, 9), Answer::NoMemory);
+    assert_eq!(rt;
+        reencoding_fault(Error::<Unmapped>::NoMemory, 9),
+        ReencodingFault::NoMemory
+    );
 }
 
 #[test]

@@ -1,13 +1,13 @@
 //! The top call.
-ghost use Rattle.std.specs.Prelude.{None, Some, ℕ, List, [], ◌∷◌, ◌<◌, ◌==◌, Contains, decimal, ◌≡◌, ◌≢◌, ◌≤◌, ◌++◌, ◌↔◌, codes, map, length, string_bytes, vec_len, IsTrue, OnOk, OnErr};
+ghost use Rattle.std.specs.Prelude.{None, Some, ℕ, List, [], ◌∷◌, ◌<◌, ◌==◌, Contains, decimal, ◌≡◌, ◌≢◌, ◌≤◌, ◌++◌, ◌↔◌, ◌⊎◌, codes, map, length, string_bytes, vec_len, IsTrue, OnOk, OnErr};
 ghost use Rattle.hex.specs.Hex.{encode_lower};
-ghost use Rattle.reencode_tool.specs.Answer.{Ends, ForJob, HasNoDigits, IsBadFile, IsDecided, IsMaking, IsTooLong, IsUnfetched, IsUnread, Made, MakesModule, Says, StopsWith, message, report_of, text_of};
-ghost use Rattle.reencode_tool.specs.Words.{job, job_seen};
+ghost use Rattle.reencode_tool.specs.Answer.{Ends, EndsFor, ForJob, HasNoDigits, IsBadFile, IsDecided, IsMaking, IsTooLong, IsUnfetched, IsUnread, Made, MakesModule, NamesNone, Says, StopsWith, message, report_of, status_of, text_of};
+ghost use Rattle.reencode_tool.specs.Words.{files, job, job_seen};
 ghost use Rattle.reencode_tool.specs.declared.renamers.Refusal.{Refusal};
 ghost use Rattle.reencode_tool.specs.Renamers.{refusal_text};
 ghost use Rattle.reencode_tool.specs.Outside.{Rose, TookFront, WhereTold, followed};
 
-use crate::answer::Answer;
+use crate::answer::{Answer, ReencodingFault, WordsFault, WritingFault};
 use crate::make::{Ready, make};
 use crate::outside::{Failed, Shelf, Sink, Source};
 use crate::words::{Job, job_of};
@@ -65,7 +65,7 @@ fn perform<F: Shelf, S: Source, K: Sink>(
     input: &mut S,
     out: &mut K,
 ) -> Answer
-    ensures ends { Ends (Some (job_seen job.entry)) (record {
+    ensures ends { Ends (job_seen job.entry) (record {
       texts = F.texts shelf.old;
       shelf_faults_old = F.faults shelf.old;
       shelf_faults_new = F.faults shelf.new;
@@ -77,17 +77,18 @@ fn perform<F: Shelf, S: Source, K: Sink>(
       held_new = K.held out.new;
       write_faults_old = K.faults out.old;
       write_faults_new = K.faults out.new;
-    }) result }
+    }) (input.new ≡ input.old) (status_of result) (text_of result) }
     ensures shelf_rises { F.faults shelf.old ≤ F.faults shelf.new }
     ensures input_rises { S.faults input.old ≤ S.faults input.new }
     ensures out_rises { K.faults out.old ≤ K.faults out.new }
     ensures unread { IsMaking (job_seen job.entry).command → input.new ≡ input.old }
-    ensures untouched { result ≢ Answer.Printed → result ≢ Answer.WriteFault → out.new ≡ out.old }
+    ensures unfetched { files (job_seen job.entry).command ≡ [] → shelf.new ≡ shelf.old }
+    ensures untouched { status_of result ≢ 0 → status_of result ≢ 4 → out.new ≡ out.old }
 {
     match make(alloc, job, shelf, input) {
         Ok(ready) => match print_ready(out, ready) {
             Ok(()) => Answer::Printed,
-            Err(Failed) => Answer::WriteFault,
+            Err(Failed) => Answer::Writing(WritingFault::Failed),
         },
         Err(answer) => answer,
     }
@@ -101,7 +102,7 @@ fn perform_words<F: Shelf, S: Source, K: Sink>(
     input: &mut S,
     out: &mut K,
 ) -> Answer
-    ensures ends { Ends (job (map string_bytes words.now)) (record {
+    ensures ends { EndsFor (job (map string_bytes words.now)) (record {
       texts = F.texts shelf.old;
       shelf_faults_old = F.faults shelf.old;
       shelf_faults_new = F.faults shelf.new;
@@ -113,34 +114,30 @@ fn perform_words<F: Shelf, S: Source, K: Sink>(
       held_new = K.held out.new;
       write_faults_old = K.faults out.old;
       write_faults_new = K.faults out.new;
-    }) result }
+    }) (input.new ≡ input.old) (shelf.new ≡ shelf.old) (status_of result) (text_of result) }
     ensures shelf_rises { F.faults shelf.old ≤ F.faults shelf.new }
     ensures input_rises { S.faults input.old ≤ S.faults input.new }
     ensures out_rises { K.faults out.old ≤ K.faults out.new }
-    ensures unread { result ≡ Answer.Usage → input.new ≡ input.old }
-    ensures unfetched { result ≡ Answer.Usage → shelf.new ≡ shelf.old }
     ensures made { MakesModule (job (map string_bytes words.now)) → input.new ≡ input.old }
-    ensures untouched { result ≢ Answer.Printed → result ≢ Answer.WriteFault → out.new ≡ out.old }
+    ensures unnamed { NamesNone (job (map string_bytes words.now)) → shelf.new ≡ shelf.old }
+    ensures untouched { status_of result ≢ 0 → status_of result ≢ 4 → out.new ≡ out.old }
 {
     match job_of(words) {
         Some(job) => perform(alloc, job, shelf, input, out),
-        None => Answer::Usage,
+        None => Answer::Words(WordsFault::NotAccepted),
     }
 }
 
 /// Says how the program ends, unless all was printed.
 fn tell<D: Sink>(answer: Answer, err: &mut D)
     ensures rises { D.faults err.old ≤ D.faults err.new }
-    ensures quiet { answer ≡ Answer.Printed → err.new ≡ err.old }
-    ensures says { answer ≢ Answer.Printed
+    ensures quiet { status_of answer ≡ 0 → err.new ≡ err.old }
+    ensures says { status_of answer ≢ 0
         → Says (D.faults err.old) (D.faults err.new) (D.held err.old) (D.held err.new)
         (text_of answer ++ codes "\n") }
 {
-    match answer {
-        Answer::Printed => {}
-        _ => {
-            let _ = answer.say(err);
-        }
+    if answer.status() != 0 {
+        let _ = answer.say(err);
     }
 }
 
@@ -195,7 +192,12 @@ pub fn run<F: Shelf, S: Source, K: Sink, D: Sink>(
     ensures usage { (result ≡ 2) ↔ (job (map string_bytes words.now) ≡ None) }
     ensures unread { result ≡ 2 → input.new ≡ input.old }
     ensures unfetched { result ≡ 2 → shelf.new ≡ shelf.old }
+
+    // A made module takes nothing of the source, a command without a file nothing of the shelf, and
+    // a file that gives no renaming comes before anything is read.
     ensures makes { MakesModule (job (map string_bytes words.now)) → input.new ≡ input.old }
+    ensures unnamed { NamesNone (job (map string_bytes words.now)) → shelf.new ≡ shelf.old }
+    ensures files_first { (result ≡ 11) ⊎ (result ≡ 12) → input.new ≡ input.old }
 
     // Status 3, 4 and 12 come only where the source, the sink or the shelf failed; with 3 all files were
     // accepted, with 12 all before that file, and with 4 a front of the report was taken.
@@ -214,21 +216,21 @@ pub fn run<F: Shelf, S: Source, K: Sink, D: Sink>(
     // Status 5 to 10 come only by the renamings and the bytes.
     ensures parse_error { result ≡ 5
         → (at : ℕ) × StopsWith (job (map string_bytes words.now)) (F.texts shelf.old)
-        (S.left input.old) (S.left input.new) (Answer.ParseError at)
+        (S.left input.old) (S.left input.new) (ReencodingFault.ParseError at)
         × Says (D.faults err.old) (D.faults err.new) (D.held err.old) (D.held err.new)
         (codes "parse error at " ++ decimal at ++ codes "\n") }
     ensures refused { result ≡ 6
         → (u : Refusal) × StopsWith (job (map string_bytes words.now)) (F.texts shelf.old)
-        (S.left input.old) (S.left input.new) (Answer.Refused u)
+        (S.left input.old) (S.left input.new) (ReencodingFault.Refused u)
         × Says (D.faults err.old) (D.faults err.new) (D.held err.old) (D.held err.new)
         (refusal_text u ++ codes "\n") }
     ensures code_size { result ≡ 7 → StopsWith (job (map string_bytes words.now))
-        (F.texts shelf.old) (S.left input.old) (S.left input.new) Answer.CodeSectionSize }
+        (F.texts shelf.old) (S.left input.old) (S.left input.new) ReencodingFault.CodeSectionSize }
     ensures component { result ≡ 8 → StopsWith (job (map string_bytes words.now))
-        (F.texts shelf.old) (S.left input.old) (S.left input.new) Answer.NonCoreModule }
+        (F.texts shelf.old) (S.left input.old) (S.left input.new) ReencodingFault.NonCoreModule }
     ensures too_large { result ≡ 10
         → (size : ℕ) × (ceiling : ℕ) × StopsWith (job (map string_bytes words.now))
-        (F.texts shelf.old) (S.left input.old) (S.left input.new) (Answer.TooLarge size ceiling)
+        (F.texts shelf.old) (S.left input.old) (S.left input.new) (ReencodingFault.TooLarge size ceiling)
         × Says (D.faults err.old) (D.faults err.new) (D.held err.old) (D.held err.new)
         (codes "too large: " ++ decimal size ++ codes " over " ++ decimal ceiling ++ codes "\n") }
 
@@ -236,16 +238,17 @@ pub fn run<F: Shelf, S: Source, K: Sink, D: Sink>(
     ensures bad_renaming { result ≡ 11 → ForJob (job (map string_bytes words.now))
         (λ j. IsBadFile j.command (F.texts shelf.old)) }
     ensures too_long { result ≡ 13 → ForJob (job (map string_bytes words.now))
-        (λ j. IsTooLong j.command (F.texts shelf.old) (S.left input.old) (S.left input.new)) }
+        (λ j. IsTooLong j.command (F.texts shelf.old) (S.left input.old) (S.left input.new)
+        (input.new ≡ input.old)) }
     ensures not_hexadecimal { result ≡ 14 → ForJob (job (map string_bytes words.now))
         (λ j. HasNoDigits j (F.texts shelf.old) (S.left input.old) (S.left input.new)) }
 
-    // Where neither shelf, source nor sink failed, the words, the files and the input decide.
-    ensures decided { ¬ Rose (F.faults shelf.old) (F.faults shelf.new)
-        → ¬ Rose (S.faults input.old) (S.faults input.new)
-        → ¬ Rose (K.faults out.old) (K.faults out.new)
-        → IsDecided (job (map string_bytes words.now)) (F.texts shelf.old) (S.left input.old)
-        result }
+    // The words, each file, the input, its digits, the re-encoding and the sink decide, in this order:
+    // what stands first is told, whatever failed behind it.
+    ensures decided { IsDecided (Rose (F.faults shelf.old) (F.faults shelf.new))
+        (Rose (S.faults input.old) (S.faults input.new))
+        (Rose (K.faults out.old) (K.faults out.new))
+        (job (map string_bytes words.now)) (F.texts shelf.old) (S.left input.old) result }
 
     // No other status comes, and with each but 0 and 4 the sink is as it was.
     ensures statuses { Contains
@@ -256,7 +259,7 @@ pub fn run<F: Shelf, S: Source, K: Sink, D: Sink>(
     ensures quiet { result ≡ 0 → err.new ≡ err.old }
     ensures says { result ≢ 0 → result ≢ 5 → result ≢ 6 → result ≢ 10
         → Says (D.faults err.old) (D.faults err.new) (D.held err.old) (D.held err.new)
-        (message result) }
+        (message result ++ codes "\n") }
 
     // No count of failures falls.
     ensures shelf_rises { F.faults shelf.old ≤ F.faults shelf.new }

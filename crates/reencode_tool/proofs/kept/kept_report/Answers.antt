@@ -13,14 +13,14 @@ returns-in-Err-clause-refused c =
     let r = c.new-renamer.result in
     let why = why_given c.args.ceiling (renamers.Alone r) c.args.bytes.now (joined c.args.bytes.now) c.in-Err.e (c.in-Err.ensures.default refl refl)
     (c.in-Err.ensures.after_error refl (λ h. refl) (λ h. refl)) in
-    subst (λ (z : Renaming). IsRefused c.args.ceiling (renamers.Alone z) c.args.bytes.now c.answer_of.result) c.new-renamer.ensures
-    (refused_as c.args.ceiling (renamers.Alone r) c.args.bytes.now c.in-Err.e c.answer_of.result why c.answer_of.ensures)
+    subst (λ (z : Renaming). IsRefused c.args.ceiling (renamers.Alone z) c.args.bytes.now c.reencoding_fault.result) c.new-renamer.ensures
+    (refused_as c.args.ceiling (renamers.Alone r) c.args.bytes.now c.in-Err.e c.reencoding_fault.result why c.reencoding_fault.ensures)
 
 pub returns-in-Err-clause-made : goal.returns-in-Err-clause-made
 returns-in-Err-clause-made c =
     let r = c.new-renamer.result in
-    subst (λ (z : Renaming). IsMade c.args.ceiling (renamers.Alone z) c.args.bytes.now c.answer_of.result) c.new-renamer.ensures
-    (made_as c.args.ceiling (renamers.Alone r) c.args.bytes.now (joined c.args.bytes.now) c.in-Err.e (c.in-Err.ensures.default refl refl) c.answer_of.result c.answer_of.ensures)
+    subst (λ (z : Renaming). IsMade c.args.ceiling (renamers.Alone z) c.args.bytes.now c.reencoding_fault.result) c.new-renamer.ensures
+    (made_as c.args.ceiling (renamers.Alone r) c.args.bytes.now (joined c.args.bytes.now) c.in-Err.e (c.in-Err.ensures.default refl refl) c.reencoding_fault.result c.reencoding_fault.ensures)
 
 pub returns-in-Ok-lines_of-clause-ok : goal.returns-in-Ok-lines_of-clause-ok
 returns-in-Ok-lines_of-clause-ok c =

@@ -12,16 +12,16 @@ returns-in-Ok-clause-counts c h =
     still_counts c.reencode_core.new.r
     (given c.args.ceiling (renamers.Alone c.args.renamer) c.args.bytes.now c.reencode_core.new.r c.in-Ok.output (λ v. v.items) (c.in-Ok.ensures.default refl refl)) h
 
-pub answer_of-requires : goal.answer_of-requires
-answer_of-requires c =
+pub reencoding_fault-requires : goal.reencoding_fault-requires
+reencoding_fault-requires c =
     has_status c.args.ceiling (renamers.Alone c.args.renamer) c.args.bytes.now c.in-Err.e
     (why_given c.args.ceiling (renamers.Alone c.args.renamer) c.args.bytes.now (λ v. v.items) c.in-Err.e (c.in-Err.ensures.default refl refl) (c.in-Err.ensures.after_error refl (λ h. refl) (λ h. refl)))
 
 pub returns-in-Err-clause-refused : goal.returns-in-Err-clause-refused
 returns-in-Err-clause-refused c =
     let why = why_given c.args.ceiling (renamers.Alone c.args.renamer) c.args.bytes.now (λ v. v.items) c.in-Err.e (c.in-Err.ensures.default refl refl) (c.in-Err.ensures.after_error refl (λ h. refl) (λ h. refl)) in
-    refused_as c.args.ceiling (renamers.Alone c.args.renamer) c.args.bytes.now c.in-Err.e c.answer_of.result why c.answer_of.ensures
+    refused_as c.args.ceiling (renamers.Alone c.args.renamer) c.args.bytes.now c.in-Err.e c.reencoding_fault.result why c.reencoding_fault.ensures
 
 pub returns-in-Err-clause-made : goal.returns-in-Err-clause-made
 returns-in-Err-clause-made c =
-    made_as c.args.ceiling (renamers.Alone c.args.renamer) c.args.bytes.now (λ v. v.items) c.in-Err.e (c.in-Err.ensures.default refl refl) c.answer_of.result c.answer_of.ensures
+    made_as c.args.ceiling (renamers.Alone c.args.renamer) c.args.bytes.now (λ v. v.items) c.in-Err.e (c.in-Err.ensures.default refl refl) c.reencoding_fault.result c.reencoding_fault.ensures

@@ -1,7 +1,7 @@
 use Rattle.std.proofs.Common.{ap, sym, ◌∙◌}
 use Rattle.reencode_tool.specs.Memory.{Reading}
 use Rattle.reencode_tool.proofs.OutsideLemmas.{drop-front}
-use Rattle.reencode_tool.proofs.memory.SureSourceSource.read.Goals as goal
+use Rattle.reencode_tool.proofs.sure.SureSourceSource.read.Goals as goal
 
 pub returns-clause-gives : goal.returns-clause-gives
 returns-clause-gives c =
