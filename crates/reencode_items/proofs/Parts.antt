@@ -10,7 +10,6 @@ use Rattle.wasm_read.specs.Types.{HeapType as ReadHeapType}
 use Rattle.wasm_types.specs.declared.types.HeapType.TheVariants as heap
 use Rattle.wasm_read.specs.Types as read
 use Rattle.wasm_write.specs.Types.{HeapType as WrittenHeapType}
-use Rattle.wasm_types.specs.declared.types.HeapType.TheVariants as written
 use Rattle.wasm_write.specs.Types as write
 use Rattle.reencode_hooks.specs.declared.error.Error.{Error}
 use Rattle.reencode_hooks.specs.Run.{Step, accepted, refused, and_then}
@@ -35,10 +34,10 @@ as_reference true t = as_nullable t
 
 pub reference_written : (b : Bool) (h : WrittenHeapType) → write.reference_parts b h ≡ as_reference b (write.heap_type_tree h)
 reference_written false h = refl
-reference_written true (written.Abstract false ty) = refl
-reference_written true (written.Abstract true ty) = refl
-reference_written true (written.Exact i) = refl
-reference_written true (written.Concrete i) = refl
+reference_written true (heap.Abstract false ty) = refl
+reference_written true (heap.Abstract true ty) = refl
+reference_written true (heap.Exact i) = refl
+reference_written true (heap.Concrete i) = refl
 
 module _ {S E : Type 0} (asked : S → Visit → Step S (Error E) ℕ) (c : ℕ) (s : S) where
   -- a step whose tree is changed
