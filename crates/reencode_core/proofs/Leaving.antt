@@ -9,7 +9,7 @@ use Rattle.wasm_read.specs.declared.types.Export.{Export}
 use Rattle.wasm_read.specs.declared.types.TableType.{TableType}
 use Rattle.wasm_read.specs.declared.types.TableInit.{TableInit}
 use Rattle.wasm_read.specs.declared.types.TableInit.TheVariants as init
-use Rattle.wasm_read.specs.Expressions.{expr_tree}
+use Rattle.wasm_read.specs.Expressions.{Expression, expr_tree}
 use Rattle.wasm_read.specs.Types as read
 use Rattle.wasm_write.specs.declared.types.ExportKind.{ExportKind}
 use Rattle.wasm_write.specs.Rows as write
@@ -71,3 +71,16 @@ module _ {S E : Type 0} {asked : Asks S E} where
       Visited asked s (visits (rows_then (map read.sub_type_tree types) Tree.nil)) m → Visited asked s (visits (read.group_parts explicit types)) m
   group_leaves {s = s} {m = m} explicit types bare v =
       let P : List Visit → Type 0 = λ z. Visited asked s z m in subst P (sym (group_visits explicit types bare)) v
+
+-- ---- a table that is refused
+
+module _ {S E : Type 0} (asked : Asks S E) (c : ℕ) (s : S) where
+  -- where its type is refused, or the expression of its first value, so is the table
+  pub table_refused : {m : S} {e : Error E} (ty : TableType) (starts : TableInit) → walk asked c s (read.table_type_tree ty) ≡ refused e m →
+      walk asked c s (read.table_parts starts ty) ≡ refused e m
+  table_refused ty init.RefNull h = rw h refl
+  table_refused ty (init.Expr e) h = rw h refl
+
+  pub init_refused : {m : S} {e : Error E} (n : S) (u : Tree) (ty : TableType) (expr : Expression) → walk asked c s (read.table_type_tree ty) ≡ accepted u n →
+      walk asked c n (expr_tree expr) ≡ refused e m → walk asked c s (read.table_parts (init.Expr expr) ty) ≡ refused e m
+  init_refused n u ty expr h k = rw h (rw k refl)
