@@ -8,6 +8,7 @@ pub mod Expressions
 pub mod Frameless
 pub mod Framing
 pub mod Fronts
+pub mod SectionLaws
 pub mod SectionTable
 pub mod Laws
 pub mod Lists

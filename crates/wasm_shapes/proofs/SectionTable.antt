@@ -249,20 +249,20 @@ in_frame t x d p = go (either t d) p
           record { shaped = Is.later {k = 0} (Is.first (Is.seq (Is.within (omega (arith, low)) high) (Is.sized Is.rest))); spelled = subst Q e p },
         )
 
-row_shaped : (xs : List Kind) (k : SectionId) {t : Tree} → Is (body_in xs k) t → Is (choice (rows_and (shapes_of xs) two_others)) (Tree.row (place_in xs k) (framed_tree k t))
+pub row_shaped : (xs : List Kind) (k : SectionId) {t : Tree} → Is (body_in xs k) t → Is (choice (rows_and (shapes_of xs) two_others)) (Tree.row (place_in xs k) (framed_tree k t))
 row_shaped xs k {t = t} d = among (shapes_of xs) two_others (in_table xs k t d)
 
-custom_is : {name contents x : List ℕ} {u : Tree} → ReadsContents name contents u → Spelled (Tree.pair (Tree.name name) (Tree.raw contents)) x →
-    Spells custom x (Tree.pair (Tree.name name) u)
-custom_is {name = name} {contents = contents} {x = x} {u = u} (inl r) p =
-    let N : List ℕ → Type 0 = λ z. Is custom (Tree.pair (Tree.name z) u) in
-    let P : List ℕ → Type 0 = λ z. Spelled u z in record {
-      shaped = subst N (sym r.0) (Is.named r.1.shaped);
-      spelled = (p.0, p.1, p.2, p.3, subst P (sym p.4) r.1.spelled);
-    }
-custom_is {name = name} {contents = contents} {x = x} (inr r) p =
-    let P : Tree → Type 0 = λ z. Spells custom x (Tree.pair (Tree.name name) z) in
-    subst P (sym r.1) (record { shaped = Is.other r.0; spelled = p })
+pub custom_is : {name contents : List ℕ} {u : Tree} → ReadsContents name contents u → Is custom (Tree.pair (Tree.name name) u)
+custom_is {u = u} (inl r) = let N : List ℕ → Type 0 = λ z. Is custom (Tree.pair (Tree.name z) u) in subst N (sym r.0) (Is.named r.1.shaped)
+custom_is {name = name} (inr r) = let P : Tree → Type 0 = λ z. Is custom (Tree.pair (Tree.name name) z) in subst P (sym r.1) (Is.other r.0)
+
+custom_spelled : {name contents x : List ℕ} {u : Tree} → ReadsContents name contents u → Spelled (Tree.pair (Tree.name name) (Tree.raw contents)) x →
+    Spelled (Tree.pair (Tree.name name) u) x
+custom_spelled {u = u} (inl r) p = let P : List ℕ → Type 0 = λ z. Spelled u z in (p.0, p.1, p.2, p.3, subst P (sym p.4) r.1.spelled)
+custom_spelled {name = name} {x = x} (inr r) p = let P : Tree → Type 0 = λ z. Spelled (Tree.pair (Tree.name name) z) x in subst P (sym r.1) p
+
+pub custom_row : {t : Tree} → Is custom t → Is section (custom_tree_of t)
+custom_row d = last_rows in_force (Is.first (Is.seq Is.fixed (Is.sized d)))
 
 -- and where its frame stands, so does the section
 pub of_frame : {t f : Tree} {x : List ℕ} → InFrame t f → Spells frame x f → Spells section x t
@@ -273,10 +273,9 @@ of_frame {x = x} (InFrame.of_kind k u body low r) p =
       spelled = (q.0, q.1, q.2, q.3.0, (q.4.0, q.4.1, q.4.2, q.4.3, subst P (sym q.4.4) r.spelled));
     }
 of_frame (InFrame.of_custom name contents u r) p =
-    let q = p.spelled in
-    let c = custom_is r q.4.4 in record {
-      shaped = last_rows in_force (Is.first (Is.seq Is.fixed (Is.sized c.shaped)));
-      spelled = (q.0, q.1, q.2, q.3, (q.4.0, q.4.1, q.4.2, q.4.3, c.spelled));
+    let q = p.spelled in record {
+      shaped = custom_row (custom_is r);
+      spelled = (q.0, q.1, q.2, q.3, (q.4.0, q.4.1, q.4.2, q.4.3, custom_spelled r q.4.4));
     }
 of_frame (InFrame.of_unknown id contents low high) p = record {
   shaped = last_rows in_force (Is.later (Is.first (Is.seq (Is.within low high) (Is.sized Is.rest))));

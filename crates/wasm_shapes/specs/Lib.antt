@@ -19,6 +19,7 @@ pub mod Own
 pub mod Place
 pub mod Rows
 pub mod Scopes
+pub mod SectionLaws
 pub mod Sections
 pub mod Shape
 pub mod Sound

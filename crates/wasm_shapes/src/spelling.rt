@@ -1,6 +1,7 @@
 //! The laws of spelling, as functions that do nothing: each one's contract is the law.
 ghost use Rattle.wasm_shapes.specs.Drawn.{IsDrawnFromWhole, IsDrawnJoined};
 ghost use Rattle.wasm_shapes.specs.Own.{IsOwn};
+ghost use Rattle.wasm_shapes.specs.SectionLaws.{AreInFrames, AreSized};
 ghost use Rattle.wasm_shapes.specs.Laws.{IsUnique, HasOneTree, IsReadBack, IsReadBackAsIs, AreSound, IsHeaded};
 
 /// No spelling of a closed shape that passes the test begins another, and one text has one tree.
@@ -32,6 +33,19 @@ pub fn tables_are_sound()
 #[tactic(auto, using(crate::proofs::Laws::module_headed))]
 pub fn header_spells()
     ensures { IsHeaded }
+{}
+
+/// Behind a frame, sections are the one in that frame and a reading of what is left; what stands in a frame is told by its id.
+#[tactic(auto, using(crate::proofs::SectionLaws::in_frames))]
+pub fn sections_stand_in_frames()
+    ensures { AreInFrames }
+{}
+
+/// A section is spelled as its id, the size of its body and its body: normally as the shortest size and the body as it is spelled
+/// normally.
+#[tactic(auto, using(crate::proofs::SectionLaws::sized))]
+pub fn section_is_sized()
+    ensures { AreSized }
 {}
 
 /// A tree filled with the indices that its own visits ask is the same tree.
