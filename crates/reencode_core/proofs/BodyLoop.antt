@@ -85,7 +85,7 @@ code_missing {reader = reader} m = rows_missing (go m.here)
     go (inr h) = inr h
 
 pub code_read : {reader reader' : Standing} {body' : List ℕ} {t : Tree} → RowRead frame_row reader (Tree.sized (Tree.raw body')) reader' → Spells body body' t → RowRead code_row reader (Tree.sized t) reader'
-code_read r p = record { begins = code_begins r.begins p; counted = r.counted; len = r.len }
+code_read r p = record { begins = code_begins r.begins p; counted = r.counted; len = r.len; count = r.count }
 
 pub code_unread : {reader reader' : Standing} {body' : List ℕ} → RowRead frame_row reader (Tree.sized (Tree.raw body')) reader' → ((t : Tree) → Spells body body' t → ⊥) → RowMissing code_row reader
 code_unread {reader = reader} r none = let less = r.counted in rows_missing (inl (omega arith, code_none r.begins none))

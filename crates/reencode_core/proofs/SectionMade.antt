@@ -172,10 +172,12 @@ same_count {bytes = bytes} {a = a} {b = b} P p q x =
     let shifted : q.counted.0 ++ a.rest ≡ q.counted.0 ++ b.rest = ap (λ (z : List ℕ). z ++ a.rest) (sym one.0) ∙ both_ways in
     let behind : a.rest ≡ b.rest = append_cancel_left q.counted.0 a.rest b.rest shifted in
     let len : a.len ≡ b.len = p.len ∙ sym q.len in
-    let U : List ℕ → Type 0 = λ z. P (record { rest = z; left = b.left; len = b.len }) in
-    let V : ℕ → Type 0 = λ z. P (record { rest = a.rest; left = z; len = b.len }) in
-    let W : ℕ → Type 0 = λ z. P (record { rest = a.rest; left = a.left; len = z }) in
-    subst W (sym len) (subst V (sym one.1) (subst U (sym behind) x))
+    let count : a.count ≡ b.count = p.count ∙ one.1 ∙ sym q.count in
+    let U : List ℕ → Type 0 = λ z. P (record { rest = z; left = b.left; len = b.len; count = b.count }) in
+    let V : ℕ → Type 0 = λ z. P (record { rest = a.rest; left = z; len = b.len; count = b.count }) in
+    let W : ℕ → Type 0 = λ z. P (record { rest = a.rest; left = a.left; len = z; count = b.count }) in
+    let X : ℕ → Type 0 = λ z. P (record { rest = a.rest; left = a.left; len = a.len; count = z }) in
+    subst X (sym count) (subst W (sym len) (subst V (sym one.1) (subst U (sym behind) x)))
 
 module _ {S E : Type 0} (asked : Asks S E) (k : SectionId) {bytes : List ℕ} {s m : S} where
   -- its rows were asked in part

@@ -75,7 +75,7 @@ pub record IndirectRead (old : MapStanding) (index : ℕ) (names : MapStanding) 
 
 -- where a reader of rows stands that has so many entries of a map to read from these bytes
 abbrev pub standing_due : MapStanding → ℕ → List ℕ → Standing
-standing_due m n bytes = record { rest = bytes; left = n; len = m.len }
+standing_due m n bytes = record { rest = bytes; left = n; len = m.len; count = n }
 
 -- The fault stands here: the count is due and no number begins, or no entry begins where one is due, or bytes are left where none
 -- is due.

@@ -8,11 +8,13 @@ use Rattle.wasm_shapes.specs.Shape.{Shape}
 use Rattle.wasm_shapes.specs.Place.{Begins, BeginsNone}
 use Rattle.wasm_shapes.specs.Rows.{NoRows}
 
--- Where a reader of rows stands: the bytes and the number of rows that are left, and how long its whole body is.
+-- Where a reader of rows stands: the bytes and the number of rows that are left, how long its whole body is, and how many
+-- rows it says it has.
 pub record Standing : Type 0 where
   pub rest : List ℕ
   pub left : ℕ
   pub len : ℕ
+  pub count : ℕ
 
 -- its place in its body
 abbrev pub place_of : Standing → ℕ
@@ -42,12 +44,14 @@ ReadsNoneIf false e at why = ReadsNone e at why
 pub record CountRead (body : List ℕ) (new : Standing) : Type 0 where
   pub counted : BeginsNumber 128 32 32 body new.left new.rest
   pub len : new.len ≡ length body
+  pub count : new.count ≡ new.left
 
 -- A row was read, and the reader stands behind it.
 pub record RowRead (shape : Shape) (old : Standing) (row : Tree) (new : Standing) : Type 0 where
   pub begins : Begins shape old.rest row new.rest
   pub counted : old.left ≡ new.left + 1
   pub len : new.len ≡ old.len
+  pub count : new.count ≡ old.count
 
 -- No row begins where one is due, or bytes are left behind the last; and so the bytes are no such rows.
 pub record RowMissing (shape : Shape) (old : Standing) : Type 0 where

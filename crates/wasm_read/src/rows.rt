@@ -13,6 +13,7 @@ pub struct Rows<'a> {
     rest: &'a [u8],
     left: u32,
     len: usize,
+    count: u32,
 }
 
 impl<'a> Model for Rows<'a> {
@@ -20,7 +21,7 @@ impl<'a> Model for Rows<'a> {
 
     ghost Value = { Standing };
 
-    ghost view = { λ rows. record { rest = rows.rest.now; left = rows.left; len = rows.len } };
+    ghost view = { λ rows. record { rest = rows.rest.now; left = rows.left; len = rows.len; count = rows.count } };
 }
 
 impl<'a> Rows<'a> {
@@ -30,13 +31,21 @@ impl<'a> Rows<'a> {
         ensures err { IfErr result (λ e. ReadsNone e 0 (BeginsNoNumber 128 32 32 body.now)) }
     {
         match front_u32(body) {
-            Some((left, rest)) => Ok(Rows {
+            Some((count, rest)) => Ok(Rows {
                 rest,
-                left,
+                left: count,
                 len: body.len(),
+                count,
             }),
             None => Err(Fault::Read(ReadError { at: 0 })),
         }
+    }
+
+    /// How many rows the body says it has.
+    pub fn count(&self) -> u32
+        ensures { result ≡ self.now.count }
+    {
+        self.count
     }
 
     /// The place in the body where the next row is due.
@@ -77,6 +86,7 @@ impl<'a> Rows<'a> {
           rest = rest.now;
           left = self.old.left - 1;
           len = self.old.len;
+          count = self.old.count;
         } }
     {
         self.rest = rest;

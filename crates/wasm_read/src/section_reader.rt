@@ -65,6 +65,14 @@ impl<'a, K> SectionReader<'a, K> {
         }
     }
 
+    /// How many rows the body says it has, however many of them were read.
+    #[inline]
+    pub fn count(&self) -> u32
+        ensures { result ≡ self.now.count }
+    {
+        self.rows.count()
+    }
+
     /// The place in the body where it stands.
     #[inline]
     pub fn place(&self) -> usize

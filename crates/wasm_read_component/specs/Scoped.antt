@@ -22,6 +22,7 @@ pub record ScopedRead (shape : Shape) (stands : Tree → Type 0) (old new : Scop
   pub reads : ReadsAt shape old.depth stands old.rows.rest new.rows.rest
   pub counted : old.rows.left ≡ new.rows.left + 1
   pub len : new.rows.len ≡ old.rows.len
+  pub count : new.rows.count ≡ old.rows.count
   pub depth : new.depth ≡ old.depth
 
 -- no such rows fill some bytes

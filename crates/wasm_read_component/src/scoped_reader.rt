@@ -72,6 +72,13 @@ impl<'a, K> ScopedReader<'a, K> {
         }
     }
 
+    /// How many rows the body says it has, however many of them were read.
+    pub fn count(&self) -> u32
+        ensures { result ≡ self.now.rows.count }
+    {
+        self.rows.count()
+    }
+
     /// The place in the body where it stands.
     pub fn place(&self) -> usize
         ensures { result ≡ place_of self.now.rows }

@@ -1,5 +1,5 @@
 //! Code sections.
-ghost use Rattle.std.specs.Prelude.{◌≡◌, ◌++◌, ◌+◌, ◌-◌, ◌^◌, ◌<◌, ◌≤◌, ◌⊎◌, [], length, take, vec_len, OnOk, OnErr, IfErr, IfSome, IfNone};
+ghost use Rattle.std.specs.Prelude.{◌≡◌, ◌==◌, ◌++◌, ◌+◌, ◌-◌, ◌^◌, ◌<◌, ◌≤◌, ◌⊎◌, [], length, take, vec_len, OnOk, OnErr, IfErr, IfSome, IfNone};
 ghost use Rattle.std.proofs.Common.{lit≤};
 ghost use Rattle.wasm_shapes.specs.Tree.{normal};
 ghost use Rattle.wasm_shapes.specs.Types.{rows_tree, vector_tree};
@@ -103,6 +103,14 @@ impl CodeSection {
         ensures { result ≡ length self.now.rows }
     {
         self.rows.len()
+    }
+
+    /// Whether it has no row.
+    #[inline(always)]
+    pub fn is_empty(&self) -> bool
+        ensures { result ≡ (length self.now.rows == 0) }
+    {
+        self.rows.is_empty()
     }
 
     /// Its rows one behind another, without their number: see `RowSection::as_slice`.

@@ -1,5 +1,5 @@
 //! Sections of rows.
-ghost use Rattle.std.specs.Prelude.{◌≡◌, ◌++◌, ◌∷◌, ◌+◌, ◌^◌, ◌<◌, ◌≤◌, [], length, take, drop, vec_len, IfOk, OnOk, OnErr, IfErr};
+ghost use Rattle.std.specs.Prelude.{◌≡◌, ◌==◌, ◌++◌, ◌∷◌, ◌+◌, ◌^◌, ◌<◌, ◌≤◌, [], length, take, drop, vec_len, IfOk, OnOk, OnErr, IfErr};
 ghost use Rattle.wasm_shapes.specs.Tree.{Tree, normal};
 ghost use Rattle.wasm_shapes.specs.Types.{rows_tree, vector_tree};
 ghost use Rattle.wasm_shapes.specs.Shape.{Shape};
@@ -167,6 +167,14 @@ impl<K: RowKind> RowSection<K> {
         ensures { result ≡ length self.now }
     {
         self.count
+    }
+
+    /// Whether it has no row.
+    #[inline(always)]
+    pub fn is_empty(&self) -> bool
+        ensures { result ≡ (length self.now == 0) }
+    {
+        self.len() == 0
     }
 
     /// The rows one behind another, without their number: they read back as they were added.
