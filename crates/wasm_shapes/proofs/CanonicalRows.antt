@@ -1,8 +1,9 @@
 -- The rows of canonical functions, found by their bytes.
-use Rattle.std.proofs.Common.{◌≡◌, ◌≢◌, ℕ, suc, List, [], ◌∷◌, map, Bool, true, false, ◌&&◌, nat_eq, if◌then◌else◌, Option, Some, None, refl, sym, ap, ◌∙◌}
+use Rattle.std.proofs.Common.{◌≡◌, ◌≢◌, ◌⊎◌, inl, inr, ℕ, suc, List, [], ◌∷◌, map, Bool, true, false, ◌&&◌, nat_eq, if◌then◌else◌, Option, Some, None, refl, sym, ap, ◌∙◌}
 use Rattle.std.specs.Option.{is_none}
 use Rattle.std.proofs.lemmas.Bool.{eqb-true, eqb-false}
 use Rattle.wasm_shapes.specs.declared.canonical.CanonicalForm.{CanonicalForm}
+use Rattle.wasm_shapes.specs.declared.canonical.CanonicalForm.TheVariants as form
 use Rattle.wasm_shapes.specs.Component.{canonical_at, canonical_in, canonical_function, canonical_row, canonical_rows, form_of, number_of, operands, row_behind}
 use Rattle.wasm_shapes.specs.Place.{BeginsNone}
 use Rattle.wasm_shapes.specs.Shape.{Shape, choice, lead}
@@ -107,3 +108,50 @@ unnumbered (Some r) e = absurd cc
 
 pub none_of_byte : (b : ℕ) {xs : List ℕ} → form_of (canonical_at b) ≡ None → BeginsNone canonical_function (b ∷ xs)
 none_of_byte b {xs = xs} e = none_absent canonical_rows b xs (unnumbered (canonical_at b) e)
+
+-- ---- the bytes of a form
+
+abbrev form_number : CanonicalForm → ℕ
+form_number form.Nothing = 0
+form_number form.Lift = 1
+form_number form.Lower = 2
+form_number form.Type_ = 3
+form_number form.TypeAndOptions = 4
+form_number form.TypeAndAsync = 5
+form_number form.Async = 6
+form_number form.ResultAndOptions = 7
+form_number form.Slot = 8
+form_number form.Options = 9
+form_number form.CoreType = 10
+form_number form.CoreTypeAndTable = 11
+
+abbrev pub bytes_of : List Row → CanonicalForm → List ℕ
+bytes_of [] f = []
+bytes_of (r ∷ rows) f = if nat_eq (form_number r.1) (form_number f) then r.0 ∷ bytes_of rows f else bytes_of rows f
+
+-- the byte is one of these
+abbrev pub IsAmong : List ℕ → ℕ → Type 0
+IsAmong [] b = ⊥
+IsAmong (c ∷ cs) b = (b ≡ c) ⊎ IsAmong cs b
+
+form_behind : (found : Option Row) → form_of (row_behind found) ≡ form_of found
+form_behind None = refl
+form_behind (Some r) = refl
+
+among : (rows : List Row) (b : ℕ) (f : CanonicalForm) → form_of (canonical_in rows b) ≡ Some f → IsAmong (bytes_of rows f) b
+among [] b f e = absurd cc
+among (r ∷ rows) b f e = go (nat_eq r.0 b) refl (nat_eq (form_number r.1) (form_number f)) refl e (λ p. among rows b f p)
+  where
+    go : (same : Bool) → nat_eq r.0 b ≡ same → (listed : Bool) → nat_eq (form_number r.1) (form_number f) ≡ listed →
+        form_of (if same then Some (0, r.1) else row_behind (canonical_in rows b)) ≡ Some f → (form_of (canonical_in rows b) ≡ Some f → IsAmong (bytes_of rows f) b) →
+        IsAmong (if listed then r.0 ∷ bytes_of rows f else bytes_of rows f) b
+    go true h true k p others = inl (sym (eqb-true r.0 b h))
+    go true h false k p others =
+        let form : r.1 ≡ f = cc in
+        absurd (eqb-false (form_number r.1) (form_number f) k (ap form_number form))
+    go false h true k p others = inr (others (sym (form_behind (canonical_in rows b)) ∙ p))
+    go false h false k p others = others (sym (form_behind (canonical_in rows b)) ∙ p)
+
+-- a byte with this form is one of the table's
+pub form_among : (b : ℕ) (f : CanonicalForm) → form_of (canonical_at b) ≡ Some f → IsAmong (bytes_of canonical_rows f) b
+form_among b f e = among canonical_rows b f e
