@@ -268,3 +268,262 @@ pub enum CanonicalFunction<I> {
     },
     ThreadAvailableParallelism,
 }
+
+/// What stands behind the byte of a canonical function, by its form; `I` is the kind of the type indices of core modules.
+#[derive(Drop)]
+pub enum Operands<I> {
+    Nothing,
+    Lift {
+        func: u32,
+        options: List<CanonicalOption>,
+        ty: u32,
+    },
+    Lower {
+        func: u32,
+        options: List<CanonicalOption>,
+    },
+    Type_ {
+        ty: u32,
+    },
+    TypeAndOptions {
+        ty: u32,
+        options: List<CanonicalOption>,
+    },
+    TypeAndAsync {
+        ty: u32,
+        async_: bool,
+    },
+    Async {
+        async_: bool,
+    },
+    ResultAndOptions {
+        result: Option<ComponentValType>,
+        options: List<CanonicalOption>,
+    },
+    Slot {
+        ty: ValType<I>,
+        slot: u32,
+    },
+    Options {
+        options: List<CanonicalOption>,
+    },
+    CoreType {
+        ty: u32,
+    },
+    CoreTypeAndTable {
+        ty: u32,
+        table: u32,
+    },
+}
+
+impl<I> CanonicalFunction<I> {
+    ghost use Rattle.std.specs.Prelude.{◌≡◌};
+    ghost use Rattle.wasm_types.specs.ComponentTrees.{canonical_parts};
+
+    /// The byte that it begins with, and what stands behind it.
+    pub fn parts(self) -> (u8, Operands<I>)
+        ensures { result ≡ canonical_parts self }
+    {
+        match self {
+            CanonicalFunction::Lift {
+                core_func_index,
+                type_index,
+                options,
+            } => (
+                0x00,
+                Operands::Lift {
+                    func: core_func_index,
+                    options,
+                    ty: type_index,
+                },
+            ),
+            CanonicalFunction::Lower {
+                func_index,
+                options,
+            } => (
+                0x01,
+                Operands::Lower {
+                    func: func_index,
+                    options,
+                },
+            ),
+            CanonicalFunction::ResourceNew { resource } => (0x02, Operands::Type_ { ty: resource }),
+            CanonicalFunction::ResourceDrop { resource } => (
+                0x03,
+                Operands::Type_ { ty: resource },
+            ),
+            CanonicalFunction::ResourceRep { resource } => (0x04, Operands::Type_ { ty: resource }),
+            CanonicalFunction::TaskCancel => (0x05, Operands::Nothing),
+            CanonicalFunction::SubtaskCancel { async_ } => (0x06, Operands::Async { async_ }),
+            CanonicalFunction::TaskReturn { result, options } => (
+                0x09,
+                Operands::ResultAndOptions { result, options },
+            ),
+            CanonicalFunction::SubtaskDrop => (0x0d, Operands::Nothing),
+            CanonicalFunction::BackpressureInc => (0x24, Operands::Nothing),
+            CanonicalFunction::BackpressureDec => (0x25, Operands::Nothing),
+            CanonicalFunction::ContextGet { ty, slot } => (0x0a, Operands::Slot { ty, slot }),
+            CanonicalFunction::ContextSet { ty, slot } => (0x0b, Operands::Slot { ty, slot }),
+            CanonicalFunction::StreamNew { ty } => (0x0e, Operands::Type_ { ty }),
+            CanonicalFunction::StreamRead { ty, options } => (
+                0x0f,
+                Operands::TypeAndOptions { ty, options },
+            ),
+            CanonicalFunction::StreamWrite { ty, options } => (
+                0x10,
+                Operands::TypeAndOptions { ty, options },
+            ),
+            CanonicalFunction::StreamCancelRead { ty, async_ } => (
+                0x11,
+                Operands::TypeAndAsync { ty, async_ },
+            ),
+            CanonicalFunction::StreamCancelWrite { ty, async_ } => (
+                0x12,
+                Operands::TypeAndAsync { ty, async_ },
+            ),
+            CanonicalFunction::StreamDropReadable { ty } => (0x13, Operands::Type_ { ty }),
+            CanonicalFunction::StreamDropWritable { ty } => (0x14, Operands::Type_ { ty }),
+            CanonicalFunction::FutureNew { ty } => (0x15, Operands::Type_ { ty }),
+            CanonicalFunction::FutureRead { ty, options } => (
+                0x16,
+                Operands::TypeAndOptions { ty, options },
+            ),
+            CanonicalFunction::FutureWrite { ty, options } => (
+                0x17,
+                Operands::TypeAndOptions { ty, options },
+            ),
+            CanonicalFunction::FutureCancelRead { ty, async_ } => (
+                0x18,
+                Operands::TypeAndAsync { ty, async_ },
+            ),
+            CanonicalFunction::FutureCancelWrite { ty, async_ } => (
+                0x19,
+                Operands::TypeAndAsync { ty, async_ },
+            ),
+            CanonicalFunction::FutureDropReadable { ty } => (0x1a, Operands::Type_ { ty }),
+            CanonicalFunction::FutureDropWritable { ty } => (0x1b, Operands::Type_ { ty }),
+            CanonicalFunction::ErrorContextNew { options } => (0x1c, Operands::Options { options }),
+            CanonicalFunction::ErrorContextDebugMessage { options } => (
+                0x1d,
+                Operands::Options { options },
+            ),
+            CanonicalFunction::ErrorContextDrop => (0x1e, Operands::Nothing),
+            CanonicalFunction::WaitableSetNew => (0x1f, Operands::Nothing),
+            CanonicalFunction::WaitableSetDrop => (0x22, Operands::Nothing),
+            CanonicalFunction::WaitableJoin => (0x23, Operands::Nothing),
+            CanonicalFunction::ThreadSpawnRef { func_ty_index } => (
+                0x40,
+                Operands::CoreType { ty: func_ty_index },
+            ),
+            CanonicalFunction::ThreadSpawnIndirect {
+                func_ty_index,
+                table_index,
+            } => (
+                0x41,
+                Operands::CoreTypeAndTable {
+                    ty: func_ty_index,
+                    table: table_index,
+                },
+            ),
+            CanonicalFunction::ThreadAvailableParallelism => (0x42, Operands::Nothing),
+        }
+    }
+}
+
+impl<I: Drop> CanonicalFunction<I> {
+    ghost use Rattle.std.specs.Prelude.{◌≡◌, ◌≢◌, Some, IfSome, IfNone};
+    ghost use Rattle.wasm_shapes.specs.Component.{canonical_at, form_of};
+    ghost use Rattle.wasm_types.specs.ComponentTrees.{canonical_parts, operands_form};
+
+    /// The canonical function that begins with a byte, with what stands behind it. None exactly where that doesn't stand
+    /// behind the byte.
+    pub fn of_parts(byte: u8, operands: Operands<I>) -> Option<Self>
+        ensures some { IfSome result (λ f. canonical_parts f ≡ (byte, operands)) }
+        ensures none { IfNone result (form_of (canonical_at byte) ≢ Some (operands_form operands)) }
+    {
+        match operands {
+            Operands::Nothing => match byte {
+                0x05 => Some(CanonicalFunction::TaskCancel),
+                0x0d => Some(CanonicalFunction::SubtaskDrop),
+                0x1e => Some(CanonicalFunction::ErrorContextDrop),
+                0x1f => Some(CanonicalFunction::WaitableSetNew),
+                0x22 => Some(CanonicalFunction::WaitableSetDrop),
+                0x23 => Some(CanonicalFunction::WaitableJoin),
+                0x24 => Some(CanonicalFunction::BackpressureInc),
+                0x25 => Some(CanonicalFunction::BackpressureDec),
+                0x42 => Some(CanonicalFunction::ThreadAvailableParallelism),
+                _ => None,
+            },
+            Operands::Lift { func, options, ty } => match byte {
+                0x00 => Some(CanonicalFunction::Lift {
+                    core_func_index: func,
+                    options,
+                    type_index: ty,
+                }),
+                _ => None,
+            },
+            Operands::Lower { func, options } => match byte {
+                0x01 => Some(CanonicalFunction::Lower {
+                    func_index: func,
+                    options,
+                }),
+                _ => None,
+            },
+            Operands::Type_ { ty } => match byte {
+                0x02 => Some(CanonicalFunction::ResourceNew { resource: ty }),
+                0x03 => Some(CanonicalFunction::ResourceDrop { resource: ty }),
+                0x04 => Some(CanonicalFunction::ResourceRep { resource: ty }),
+                0x0e => Some(CanonicalFunction::StreamNew { ty }),
+                0x13 => Some(CanonicalFunction::StreamDropReadable { ty }),
+                0x14 => Some(CanonicalFunction::StreamDropWritable { ty }),
+                0x15 => Some(CanonicalFunction::FutureNew { ty }),
+                0x1a => Some(CanonicalFunction::FutureDropReadable { ty }),
+                0x1b => Some(CanonicalFunction::FutureDropWritable { ty }),
+                _ => None,
+            },
+            Operands::TypeAndOptions { ty, options } => match byte {
+                0x0f => Some(CanonicalFunction::StreamRead { ty, options }),
+                0x10 => Some(CanonicalFunction::StreamWrite { ty, options }),
+                0x16 => Some(CanonicalFunction::FutureRead { ty, options }),
+                0x17 => Some(CanonicalFunction::FutureWrite { ty, options }),
+                _ => None,
+            },
+            Operands::TypeAndAsync { ty, async_ } => match byte {
+                0x11 => Some(CanonicalFunction::StreamCancelRead { ty, async_ }),
+                0x12 => Some(CanonicalFunction::StreamCancelWrite { ty, async_ }),
+                0x18 => Some(CanonicalFunction::FutureCancelRead { ty, async_ }),
+                0x19 => Some(CanonicalFunction::FutureCancelWrite { ty, async_ }),
+                _ => None,
+            },
+            Operands::Async { async_ } => match byte {
+                0x06 => Some(CanonicalFunction::SubtaskCancel { async_ }),
+                _ => None,
+            },
+            Operands::ResultAndOptions { result, options } => match byte {
+                0x09 => Some(CanonicalFunction::TaskReturn { result, options }),
+                _ => None,
+            },
+            Operands::Slot { ty, slot } => match byte {
+                0x0a => Some(CanonicalFunction::ContextGet { ty, slot }),
+                0x0b => Some(CanonicalFunction::ContextSet { ty, slot }),
+                _ => None,
+            },
+            Operands::Options { options } => match byte {
+                0x1c => Some(CanonicalFunction::ErrorContextNew { options }),
+                0x1d => Some(CanonicalFunction::ErrorContextDebugMessage { options }),
+                _ => None,
+            },
+            Operands::CoreType { ty } => match byte {
+                0x40 => Some(CanonicalFunction::ThreadSpawnRef { func_ty_index: ty }),
+                _ => None,
+            },
+            Operands::CoreTypeAndTable { ty, table } => match byte {
+                0x41 => Some(CanonicalFunction::ThreadSpawnIndirect {
+                    func_ty_index: ty,
+                    table_index: table,
+                }),
+                _ => None,
+            },
+        }
+    }
+}
