@@ -1,2 +1,3 @@
 pub mod AliasSorts
+pub mod ComponentValues
 pub mod ScopedRows

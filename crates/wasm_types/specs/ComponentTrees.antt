@@ -86,24 +86,49 @@ abbrev pub component_val_type_tree : ComponentValType → Tree
 component_val_type_tree (value.Primitive ty) = Tree.row 0 (primitive_tree ty)
 component_val_type_tree (value.Type_ i) = Tree.row 1 (Tree.sx space.ComponentType i)
 
--- one that may be left out
-abbrev pub maybe_tree : Option Tree → Tree
-maybe_tree None = Tree.absent
-maybe_tree (Some t) = Tree.present t
-
 -- ---- what is imported and exported
 
 abbrev pub type_bounds_tree : TypeBounds → Tree
 type_bounds_tree (bounds.Eq i) = Tree.row 0 (led 0x00 (type_tree i))
 type_bounds_tree bounds.SubResource = Tree.row 1 (Tree.fixed 0x01)
 
+-- the bytes of a sort
+abbrev pub sort_bytes : ComponentExternalKind → List ℕ
+sort_bytes kind.Module = 0x00 ∷ 0x11 ∷ []
+sort_bytes kind.Func = 0x01 ∷ []
+sort_bytes kind.Value = 0x02 ∷ []
+sort_bytes kind.Type_ = 0x03 ∷ []
+sort_bytes kind.Component = 0x04 ∷ []
+sort_bytes kind.Instance = 0x05 ∷ []
+
+-- what stands behind the bytes of a sort
+abbrev pub sort_tree : ComponentExternalKind → Tree → Tree
+sort_tree kind.Module t = Tree.row 0 (led 0x00 (led 0x11 t))
+sort_tree kind.Func t = Tree.row 1 (led 0x01 t)
+sort_tree kind.Value t = Tree.row 2 (led 0x02 t)
+sort_tree kind.Type_ t = Tree.row 3 (led 0x03 t)
+sort_tree kind.Component t = Tree.row 4 (led 0x04 t)
+sort_tree kind.Instance t = Tree.row 5 (led 0x05 t)
+
+abbrev pub sort_space : ComponentExternalKind → Space
+sort_space kind.Module = space.Module
+sort_space kind.Func = space.ComponentFunc
+sort_space kind.Value = space.ComponentValue
+sort_space kind.Type_ = space.ComponentType
+sort_space kind.Component = space.Component
+sort_space kind.Instance = space.ComponentInstance
+
+-- what a component holds, by its sort and its index
+abbrev pub sorted_tree : ComponentExternalKind → ℕ → Tree
+sorted_tree k i = sort_tree k (Tree.ix (sort_space k) i)
+
 abbrev pub type_ref_tree : ComponentTypeRef → Tree
-type_ref_tree (ref.Module i) = Tree.row 0 (led 0x00 (led 0x11 (Tree.ix space.Type_ i)))
-type_ref_tree (ref.Func i) = Tree.row 1 (led 0x01 (type_tree i))
-type_ref_tree (ref.Value ty) = Tree.row 2 (led 0x02 (component_val_type_tree ty))
-type_ref_tree (ref.Type_ b) = Tree.row 3 (led 0x03 (type_bounds_tree b))
-type_ref_tree (ref.Component i) = Tree.row 4 (led 0x04 (type_tree i))
-type_ref_tree (ref.Instance i) = Tree.row 5 (led 0x05 (type_tree i))
+type_ref_tree (ref.Module i) = sort_tree kind.Module (Tree.ix space.Type_ i)
+type_ref_tree (ref.Func i) = sort_tree kind.Func (type_tree i)
+type_ref_tree (ref.Value ty) = sort_tree kind.Value (component_val_type_tree ty)
+type_ref_tree (ref.Type_ b) = sort_tree kind.Type_ (type_bounds_tree b)
+type_ref_tree (ref.Component i) = sort_tree kind.Component (type_tree i)
+type_ref_tree (ref.Instance i) = sort_tree kind.Instance (type_tree i)
 
 abbrev pub maybe_type_ref : Option ComponentTypeRef → Tree
 maybe_type_ref None = Tree.absent
@@ -112,15 +137,6 @@ maybe_type_ref (Some ty) = Tree.present (type_ref_tree ty)
 -- a name of what is imported or exported
 abbrev pub extern_name_tree : List ℕ → Tree
 extern_name_tree name = Tree.pair (Tree.alike 0x00 0x01) (Tree.name name)
-
--- what a component holds, by its sort and its index
-abbrev pub sorted_tree : ComponentExternalKind → ℕ → Tree
-sorted_tree kind.Module i = Tree.row 0 (led 0x00 (led 0x11 (Tree.ix space.Module i)))
-sorted_tree kind.Func i = Tree.row 1 (led 0x01 (Tree.ix space.ComponentFunc i))
-sorted_tree kind.Value i = Tree.row 2 (led 0x02 (Tree.ix space.ComponentValue i))
-sorted_tree kind.Type_ i = Tree.row 3 (led 0x03 (type_tree i))
-sorted_tree kind.Component i = Tree.row 4 (led 0x04 (Tree.ix space.Component i))
-sorted_tree kind.Instance i = Tree.row 5 (led 0x05 (Tree.ix space.ComponentInstance i))
 
 abbrev pub component_import_tree : ComponentImport → Tree
 component_import_tree r = Tree.pair (extern_name_tree r.name.now) (type_ref_tree r.ty)
