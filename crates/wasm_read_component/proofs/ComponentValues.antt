@@ -63,6 +63,7 @@ module _ (s : ComponentExternalKind → Shape) where
     where
       apart : (k : ComponentExternalKind) (c : ℕ) → sort_bytes k ≡ c ∷ [] → b ≢ c
       apart k c e same = f k xs (rw e (ap (λ (z : ℕ). z ∷ xs) same))
+
       module_none : (ys : List ℕ) (zeroth : Bool) → nat_eq b 0 ≡ zeroth → ((rest : List ℕ) → b ∷ ys ≢ 0x00 ∷ 0x11 ∷ rest) →
           BeginsNone (lead 0x00 (lead 0x11 (s kind.Module))) (b ∷ ys)
       module_none ys false h g = none_seq_first (none_byte (eqb-false b 0 h))

@@ -1,3 +1,4 @@
 pub mod AliasSorts
+pub mod ComponentCanonical
 pub mod ComponentValues
 pub mod ScopedRows
