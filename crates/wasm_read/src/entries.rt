@@ -2,17 +2,21 @@
 ghost use Rattle.std.specs.Prelude.{◌≡◌, ◌^◌, ◌<◌, List, true, refl, map, length, IfOk, IfSome, IfNone};
 ghost use Rattle.wasm_shapes.specs.Module.{local_row};
 ghost use Rattle.wasm_shapes.specs.Place.{Begins, BeginsNone};
-ghost use Rattle.wasm_shapes.specs.Shape.{Shape, Named, closed, field};
+ghost use Rattle.wasm_shapes.specs.Shape.{Shape, Named, field};
 ghost use Rattle.wasm_shapes.specs.Sound.{sound};
 ghost use Rattle.wasm_shapes.specs.Tree.{Tree};
 ghost use Rattle.wasm_shapes.specs.Types.{vector_tree, tagged_label, tagged_label_tree, catch_row, handle_row};
 ghost use Rattle.wasm_read.specs.Types.{val_type_tree, field_type_tree};
+ghost use Rattle.wasm_read.specs.VectorRows.{items_closed, items_sound};
 ghost use Rattle.wasm_read.specs.Immediates.{local_tree, catch_tree, handle_tree};
 
+use crate::section_reader::ReadRow;
 use crate::types::{Catch, FieldType, Handle, UnpackedIndex, ValType};
 use crate::values::{front_field_type, front_val_type};
 use std::alloc::Global;
+use std::marker::PhantomData;
 use wasm_leb::{List, NoMemory, front_byte, front_u32};
+use wasm_shapes::kinds::RowKind;
 
 /// What stands in a vector.
 pub trait Entry {
@@ -20,12 +24,10 @@ pub trait Entry {
 
     ghost tree: { Self → Tree };
 
+    ghost rows_sound: { sound (Shape.many shape) ≡ true };
+
     /// How many entries can stand in so many bytes.
     fn most(bytes: usize) -> usize;
-
-    ghost is_sound: { sound shape ≡ true };
-
-    ghost is_closed: { closed shape ≡ true };
 }
 
 /// What stands in a vector and can be read.
@@ -85,9 +87,7 @@ impl Entry for u32 {
 
     ghost tree = { Tree.u32 };
 
-    ghost is_sound = { refl };
-
-    ghost is_closed = { refl };
+    ghost rows_sound = { refl };
 
     fn most(bytes: usize) -> usize {
         bytes
@@ -109,9 +109,7 @@ impl Entry for ValType {
 
     ghost tree = { val_type_tree };
 
-    ghost is_sound = { refl };
-
-    ghost is_closed = { refl };
+    ghost rows_sound = { refl };
 
     fn most(bytes: usize) -> usize {
         bytes
@@ -130,9 +128,7 @@ impl Entry for FieldType {
 
     ghost tree = { field_type_tree };
 
-    ghost is_sound = { refl };
-
-    ghost is_closed = { refl };
+    ghost rows_sound = { refl };
 
     fn most(bytes: usize) -> usize {
         bytes / 2
@@ -157,9 +153,7 @@ impl Entry for UnpackedIndex {
 
     ghost tree = { type_index };
 
-    ghost is_sound = { refl };
-
-    ghost is_closed = { refl };
+    ghost rows_sound = { refl };
 
     fn most(bytes: usize) -> usize {
         bytes
@@ -185,9 +179,7 @@ impl Entry for (u32, ValType) {
 
     ghost tree = { local_tree };
 
-    ghost is_sound = { refl };
-
-    ghost is_closed = { refl };
+    ghost rows_sound = { refl };
 
     fn most(bytes: usize) -> usize {
         bytes / 2
@@ -209,9 +201,7 @@ impl Entry for Catch {
 
     ghost tree = { catch_tree };
 
-    ghost is_sound = { refl };
-
-    ghost is_closed = { refl };
+    ghost rows_sound = { refl };
 
     fn most(bytes: usize) -> usize {
         bytes / 2
@@ -230,9 +220,7 @@ impl Entry for Handle {
 
     ghost tree = { handle_tree };
 
-    ghost is_sound = { refl };
-
-    ghost is_closed = { refl };
+    ghost rows_sound = { refl };
 
     fn most(bytes: usize) -> usize {
         bytes / 2
@@ -326,21 +314,63 @@ fn front_tag_and_label(bytes: &[u8]) -> Option<(u32, u32, &[u8])>
     }
 }
 
-/// The vector of entries at the front of some bytes, and the bytes behind it. Memory is taken for no more entries than
-/// the bytes can hold.
-pub fn front_vec<'a, T: ReadEntry<'a> + Drop>(
+/// Rows that stand in a vector.
+pub trait VectorRow: RowKind {
+    /// How many of them can stand in so many bytes.
+    fn most(bytes: usize) -> usize;
+}
+
+/// Entries, as a kind of rows.
+pub struct Entries<T> {
+    entry: PhantomData<T>,
+}
+
+impl<T: Entry> RowKind for Entries<T> {
+    ghost shape = { T.Entry.shape };
+
+    ghost is_sound = { items_sound T.Entry.shape T.Entry.rows_sound };
+
+    ghost is_closed = { items_closed T.Entry.shape T.Entry.rows_sound };
+
+    ghost rows_sound = { T.Entry.rows_sound };
+}
+
+impl<T: Entry> VectorRow for Entries<T> {
+    fn most(bytes: usize) -> usize {
+        T::most(bytes)
+    }
+}
+
+impl<'a, T: ReadEntry<'a>> ReadRow<'a> for Entries<T> {
+    type Row = T;
+
+    ghost tree = { T.Entry.tree };
+
+    ghost takes_memory = { true };
+
+    #[inline]
+    fn front(alloc: Global, bytes: &'a [u8]) -> Result<Option<(T, &'a [u8])>, NoMemory> {
+        T::front(alloc, bytes)
+    }
+}
+
+/// The vector of rows at the front of some bytes, and the bytes behind it. Memory is taken for no more rows than the bytes
+/// can hold.
+pub fn front_rows<'a, K: ReadRow<'a> + VectorRow>(
     alloc: Global,
     bytes: &'a [u8],
-) -> Result<Option<(List<T>, &'a [u8])>, NoMemory>
+) -> Result<Option<(List<K::Row>, &'a [u8])>, NoMemory>
+where
+    K::Row: Drop,
     ensures some { IfOk result (λ o. IfSome o (λ r.
-        Begins (Shape.vec T.shape) bytes.now (vector_tree (map T.tree r.0)) r.1.now)) }
+        Begins (Shape.vec K.shape) bytes.now (vector_tree (map K.tree r.0)) r.1.now)) }
     ensures counted { IfOk result (λ o. IfSome o (λ r. length r.0 < 2 ^ 32)) }
-    ensures none { IfOk result (λ o. IfNone o (BeginsNone (Shape.vec T.shape) bytes.now)) }
+    ensures none { IfOk result (λ o. IfNone o (BeginsNone (Shape.vec K.shape) bytes.now)) }
 {
     let Some((count, start)) = front_u32(bytes) else {
         return Ok(None);
     };
-    let most = T::most(start.len()).min(count as usize);
+    let most = K::most(start.len()).min(count as usize);
     let mut entries = match List::with_capacity(alloc, most) {
         Ok(entries) => entries,
         Err(NoMemory) => return Err(NoMemory),
@@ -348,7 +378,7 @@ pub fn front_vec<'a, T: ReadEntry<'a> + Drop>(
     let mut rest = start;
     let mut left = count;
     'entries: while left > 0 {
-        match T::front(alloc, rest) {
+        match K::front(alloc, rest) {
             Ok(Some((entry, behind))) => {
                 match entries.push(entry) {
                     Ok(()) => {}
@@ -362,6 +392,20 @@ pub fn front_vec<'a, T: ReadEntry<'a> + Drop>(
         }
     }
     Ok(Some((entries, rest)))
+}
+
+/// The vector of entries at the front of some bytes, and the bytes behind it.
+#[inline]
+pub fn front_vec<'a, T: ReadEntry<'a> + Drop>(
+    alloc: Global,
+    bytes: &'a [u8],
+) -> Result<Option<(List<T>, &'a [u8])>, NoMemory>
+    ensures some { IfOk result (λ o. IfSome o (λ r.
+        Begins (Shape.vec T.shape) bytes.now (vector_tree (map T.tree r.0)) r.1.now)) }
+    ensures counted { IfOk result (λ o. IfSome o (λ r. length r.0 < 2 ^ 32)) }
+    ensures none { IfOk result (λ o. IfNone o (BeginsNone (Shape.vec T.shape) bytes.now)) }
+{
+    front_rows::<Entries<T>>(alloc, bytes)
 }
 
 /// The bytes behind the vector of entries at the front of some bytes. It takes no memory.

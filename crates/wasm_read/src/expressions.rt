@@ -87,9 +87,7 @@ impl<'a> Entry for ConstExpr<'a> {
 
     ghost tree = { expr_tree };
 
-    ghost is_sound = { refl };
-
-    ghost is_closed = { refl };
+    ghost rows_sound = { refl };
 
     fn most(bytes: usize) -> usize {
         bytes

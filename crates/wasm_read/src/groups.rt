@@ -264,9 +264,7 @@ impl Entry for SubType {
 
     ghost tree = { sub_type_tree };
 
-    ghost is_sound = { refl };
-
-    ghost is_closed = { refl };
+    ghost rows_sound = { refl };
 
     fn most(bytes: usize) -> usize {
         bytes / 2

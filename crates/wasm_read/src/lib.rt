@@ -20,9 +20,10 @@ mod sections;
 mod types;
 mod values;
 
+pub use entries::{VectorRow, front_rows};
 pub use expressions::ConstExpr;
 pub use externals::read_type_ref;
-pub use fields::{front_name, read_item, read_name};
+pub use fields::{front_export, front_name, read_item, read_name};
 pub use groups::read_group;
 pub use name_section::NameSectionReader;
 pub use names::{IndirectNameMap, NameMap};
@@ -43,4 +44,4 @@ pub use types::{
     RefType, StorageType, StructType, SubType, Table, TableInit, TableType, TagKind, TagType,
     TypeRef, UnpackedIndex, ValType,
 };
-pub use values::read_val_type;
+pub use values::{front_val_type, read_val_type};

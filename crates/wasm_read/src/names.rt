@@ -112,9 +112,7 @@ impl<'a> Entry for Naming<'a> {
 
     ghost tree = { λ n. entry_tree (record { index = n.index; name = n.name.now }) };
 
-    ghost is_sound = { refl };
-
-    ghost is_closed = { refl };
+    ghost rows_sound = { refl };
 
     fn most(bytes: usize) -> usize {
         bytes / 2

@@ -5,10 +5,9 @@ use Rattle.wasm_shapes.specs.Tree.{Tree}
 use Rattle.wasm_shapes.specs.Place.{Begins, BeginsNone}
 use Rattle.wasm_shapes.specs.Component.{alias, core_alias, core_instance_export}
 use Rattle.wasm_shapes.proofs.Begins.{begins_ref, begins_row, begins_seq, begins_byte, begins_within, at_byte, none_here, none_byte, none_or, none_row, none_seq_first, none_seq_second}
-use Rattle.wasm_read_component.specs.declared.types.ComponentExternalKind.TheVariants as component
-use Rattle.wasm_read_component.specs.declared.types.ComponentOuterAliasKind.TheVariants as outer
-use Rattle.wasm_read_component.specs.declared.types.ComponentAlias.{ComponentAlias}
-use Rattle.wasm_read_component.specs.Aliases.{alias_tree, CoreBegins, ExportBegins, TargetBegins}
+use Rattle.wasm_types.specs.declared.components.ComponentExternalKind.TheVariants as component
+use Rattle.wasm_types.specs.declared.components.ComponentOuterAliasKind.TheVariants as outer
+use Rattle.wasm_read_component.specs.Aliases.{ComponentAlias, alias_tree, CoreBegins, ExportBegins, TargetBegins}
 
 pub some_to : {A : Type 0} {P Q : A → Type 0} (o : Option A) → IfSome o P → ((x : A) → P x → Q x) → IfSome o Q
 some_to (Some x) p f = f x p

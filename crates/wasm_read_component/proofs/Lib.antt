@@ -1,2 +1,5 @@
 pub mod AliasSorts
+pub mod ComponentCanonical
+pub mod ComponentStart
+pub mod ComponentValues
 pub mod ScopedRows

@@ -1,21 +1,22 @@
 -- The trees that aliases stand for.
 use Rattle.std.specs.Prelude.{◌≡◌, ◌⊎◌, ℕ, List}
 use Rattle.wasm_shapes.specs.declared.Space.{Space}
-use Rattle.wasm_shapes.specs.declared.Space.TheVariants as space
 use Rattle.wasm_shapes.specs.Tree.{Tree}
 use Rattle.wasm_shapes.specs.Place.{Begins}
 use Rattle.wasm_shapes.specs.Component.{core_alias, instance_export, export_or_outer}
-use Rattle.wasm_shapes.specs.ComponentTypes.{core_alias_of, instance_export_tree, core_instance_export_tree, outer_tree, core_export_alias, core_type_alias, module_alias, type_alias, component_alias, func_alias, value_alias, instance_alias}
+use Rattle.wasm_shapes.specs.ComponentTypes.{core_alias_of, instance_export_tree, outer_tree}
 use Rattle.wasm_read.specs.declared.types.ExternalKind.{ExternalKind}
 use Rattle.wasm_read.specs.declared.types.ExternalKind.TheVariants as external
-use Rattle.wasm_read_component.specs.declared.types.ComponentExternalKind.{ComponentExternalKind}
-use Rattle.wasm_read_component.specs.declared.types.ComponentExternalKind.TheVariants as component
-use Rattle.wasm_read_component.specs.declared.types.ComponentOuterAliasKind.{ComponentOuterAliasKind}
-use Rattle.wasm_read_component.specs.declared.types.ComponentOuterAliasKind.TheVariants as outer
-use Rattle.wasm_read_component.specs.declared.types.ComponentAlias.{ComponentAlias}
-use Rattle.wasm_read_component.specs.declared.types.ComponentAlias.TheVariants.{InstanceExport, CoreInstanceExport, Outer}
+use Rattle.wasm_types.specs.declared.components.Alias.{Alias}
+use Rattle.wasm_types.specs.declared.components.ComponentExternalKind.{ComponentExternalKind}
+use Rattle.wasm_types.specs.declared.components.ComponentOuterAliasKind.{ComponentOuterAliasKind}
+use Rattle.wasm_types.specs.ComponentTrees as component
+use Rattle.wasm_types.specs.ComponentTrees.{export_alias, outer_alias}
 use Rattle.wasm_read_component.specs.declared.aliases.Target.{Target}
 use Rattle.wasm_read_component.specs.declared.aliases.Target.TheVariants as target
+
+abbrev pub ComponentAlias : Type 0
+ComponentAlias = Alias ExternalKind
 
 -- the sort of what a core instance exports: a function of exactly its type is a function here
 abbrev pub core_sort_byte : ExternalKind → ℕ
@@ -26,24 +27,8 @@ core_sort_byte external.Memory = 0x02
 core_sort_byte external.Global = 0x03
 core_sort_byte external.Tag = 0x04
 
-abbrev pub export_alias : ComponentExternalKind → Tree → Tree
-export_alias component.Module t = module_alias 0 t
-export_alias component.Func t = func_alias t
-export_alias component.Value t = value_alias t
-export_alias component.Type_ t = type_alias 0 t
-export_alias component.Instance t = instance_alias t
-export_alias component.Component t = component_alias 0 t
-
-abbrev pub outer_alias : ComponentOuterAliasKind → ℕ → ℕ → Tree
-outer_alias outer.CoreModule c i = module_alias 1 (outer_tree space.Module c i)
-outer_alias outer.CoreType c i = core_type_alias (outer_tree space.Type_ c i)
-outer_alias outer.Type_ c i = type_alias 1 (outer_tree space.ComponentType c i)
-outer_alias outer.Component c i = component_alias 1 (outer_tree space.Component c i)
-
 abbrev pub alias_tree : ComponentAlias → Tree
-alias_tree (InstanceExport kind i name) = export_alias kind (instance_export_tree i name.now)
-alias_tree (CoreInstanceExport kind i name) = core_export_alias (core_sort_byte kind) (core_instance_export_tree i name.now)
-alias_tree (Outer kind c i) = outer_alias kind c i
+alias_tree a = component.alias_tree core_sort_byte a
 
 -- what an alias of a sort names
 abbrev pub target_tree : Space → Target → Tree

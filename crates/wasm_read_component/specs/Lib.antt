@@ -1,2 +1,3 @@
 pub mod Aliases
+pub mod ComponentRows
 pub mod Scoped

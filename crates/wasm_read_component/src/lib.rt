@@ -2,10 +2,23 @@
 #![tactic(auto)]
 
 mod aliases;
+mod canonical;
+mod items;
+mod rows;
 mod scoped_reader;
 mod sections;
 mod types;
+mod values;
 
 pub use scoped_reader::{ReadRowAt, ScopedReader};
-pub use sections::{ComponentAliasSectionReader, Of};
-pub use types::{ComponentAlias, ComponentExternalKind, ComponentOuterAliasKind};
+pub use sections::{
+    ComponentAliasSectionReader, ComponentCanonicalSectionReader, ComponentExportSectionReader,
+    ComponentImportSectionReader, ComponentInstanceSectionReader, InstanceSectionReader, Of,
+    read_start,
+};
+pub use types::{
+    CanonicalFunction, CanonicalOption, ComponentAlias, ComponentArg, ComponentExport,
+    ComponentExternalKind, ComponentImport, ComponentInstance, ComponentOuterAliasKind,
+    ComponentStartFunction, ComponentTypeRef, ComponentValType, Instance, InstantiationArg,
+    InstantiationArgKind, Operands, PrimitiveValType, TypeBounds,
+};

@@ -1,42 +1,28 @@
 //! What the readers give.
-use wasm_read::ExternalKind;
-
-/// The sort of what a component exports.
-#[derive(Clone, Copy, Debug, PartialEq)]
-pub enum ComponentExternalKind {
-    Module,
-    Func,
-    Value,
-    Type_,
-    Instance,
-    Component,
-}
-
-/// The sort of what an alias names further out.
-#[derive(Clone, Copy, Debug, PartialEq)]
-pub enum ComponentOuterAliasKind {
-    CoreModule,
-    CoreType,
-    Type_,
-    Component,
-}
+use wasm_leb::List;
+use wasm_read::{Export, ExternalKind, UnpackedIndex};
+pub use wasm_types::{
+    CanonicalOption, ComponentArg, ComponentExport, ComponentExternalKind, ComponentImport,
+    ComponentInstance, ComponentOuterAliasKind, ComponentTypeRef, ComponentValType,
+    InstantiationArg, InstantiationArgKind, PrimitiveValType, TypeBounds,
+};
 
 /// An alias.
-#[derive(Clone, Copy, Debug, PartialEq)]
-pub enum ComponentAlias<'a> {
-    InstanceExport {
-        kind: ComponentExternalKind,
-        instance_index: u32,
-        name: &'a str,
-    },
-    CoreInstanceExport {
-        kind: ExternalKind,
-        instance_index: u32,
-        name: &'a str,
-    },
-    Outer {
-        kind: ComponentOuterAliasKind,
-        count: u32,
-        index: u32,
-    },
+pub type ComponentAlias<'a> = wasm_types::Alias<'a, ExternalKind>;
+
+/// A core instance.
+pub type Instance<'a> = wasm_types::Instance<'a, Export<'a>>;
+
+/// A canonical function.
+pub type CanonicalFunction = wasm_types::CanonicalFunction<UnpackedIndex>;
+
+/// What stands behind the byte of a canonical function.
+pub type Operands = wasm_types::Operands<UnpackedIndex>;
+
+/// The function that starts a component, its arguments, and how many results it has (`start`).
+#[derive(Drop)]
+pub struct ComponentStartFunction {
+    pub func_index: u32,
+    pub arguments: List<u32>,
+    pub results: u32,
 }

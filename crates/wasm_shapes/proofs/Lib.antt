@@ -1,4 +1,5 @@
 pub mod Begins
+pub mod CanonicalRows
 pub mod ComponentFrames
 pub mod ComponentLaws
 pub mod ComponentParts

@@ -1,5 +1,7 @@
 -- The tables of components (the Component Model's binary format).
-use Rattle.std.specs.Prelude.{ℕ, zero, suc, List, [], ◌∷◌, codes}
+use Rattle.std.specs.Prelude.{ℕ, zero, suc, List, [], ◌∷◌, map, codes, nat_eq, if◌then◌else◌, Option, Some, None}
+use Rattle.wasm_shapes.specs.declared.canonical.CanonicalForm.{CanonicalForm}
+use Rattle.wasm_shapes.specs.declared.canonical.CanonicalForm.TheVariants as form
 use Rattle.wasm_shapes.specs.declared.Space.{Space}
 use Rattle.wasm_shapes.specs.declared.Space.TheVariants as space
 use Rattle.wasm_shapes.specs.Tree.{Tree}
@@ -186,22 +188,63 @@ type_and_asynchronous = Shape.seq of_type asynchronous
 abbrev pub context_slot : Shape
 context_slot = Shape.seq (Shape.ref Named.value) Shape.u32
 
--- Canonical functions: a lifted one and a lowered one, and those of resources, tasks, the context, streams, futures, error
--- contexts, waitables and threads.
+-- What stands behind the byte of a canonical function: nothing, a lifted function or a lowered one, a type, with options or with
+-- whether it is asynchronous, that alone, results with options, a slot, options, a core type, and one with a table.
+abbrev pub operands : CanonicalForm → Shape
+operands form.Nothing = Shape.empty
+operands form.Lift = lead 0x00 (Shape.seq (Shape.ix space.Function) (Shape.swap canonical_options of_type))
+operands form.Lower = lead 0x00 (Shape.seq (Shape.ix space.ComponentFunc) canonical_options)
+operands form.Type_ = of_type
+operands form.TypeAndOptions = type_and_options
+operands form.TypeAndAsync = type_and_asynchronous
+operands form.Async = asynchronous
+operands form.ResultAndOptions = Shape.swap function_result canonical_options
+operands form.Slot = context_slot
+operands form.Options = canonical_options
+operands form.CoreType = Shape.ix space.Type_
+operands form.CoreTypeAndTable = Shape.seq (Shape.ix space.Type_) (Shape.ix space.Table)
+
+-- Canonical functions by their bytes: a lifted one and a lowered one, and those of resources, tasks, the context, streams,
+-- futures, error contexts, waitables and threads.
+abbrev pub canonical_rows : List (ℕ × CanonicalForm)
+canonical_rows =
+    (0x00, form.Lift) ∷ (0x01, form.Lower) ∷ (0x02, form.Type_) ∷ (0x03, form.Type_) ∷ (0x04, form.Type_) ∷
+    (0x05, form.Nothing) ∷ (0x06, form.Async) ∷ (0x09, form.ResultAndOptions) ∷ (0x0d, form.Nothing) ∷ (0x24, form.Nothing) ∷ (0x25, form.Nothing) ∷
+    (0x0a, form.Slot) ∷ (0x0b, form.Slot) ∷
+    (0x0e, form.Type_) ∷ (0x0f, form.TypeAndOptions) ∷ (0x10, form.TypeAndOptions) ∷ (0x11, form.TypeAndAsync) ∷ (0x12, form.TypeAndAsync) ∷
+    (0x13, form.Type_) ∷ (0x14, form.Type_) ∷
+    (0x15, form.Type_) ∷ (0x16, form.TypeAndOptions) ∷ (0x17, form.TypeAndOptions) ∷ (0x18, form.TypeAndAsync) ∷ (0x19, form.TypeAndAsync) ∷
+    (0x1a, form.Type_) ∷ (0x1b, form.Type_) ∷
+    (0x1c, form.Options) ∷ (0x1d, form.Options) ∷ (0x1e, form.Nothing) ∷
+    (0x1f, form.Nothing) ∷ (0x22, form.Nothing) ∷ (0x23, form.Nothing) ∷
+    (0x40, form.CoreType) ∷ (0x41, form.CoreTypeAndTable) ∷ (0x42, form.Nothing) ∷ []
+
+abbrev pub canonical_row : ℕ × CanonicalForm → Shape
+canonical_row r = lead r.0 (operands r.1)
+
 abbrev pub canonical_function : Shape
-canonical_function = choice (
-    lead 0x00 (lead 0x00 (Shape.seq (Shape.ix space.Function) (Shape.swap canonical_options of_type))) ∷
-    lead 0x01 (lead 0x00 (Shape.seq (Shape.ix space.ComponentFunc) canonical_options)) ∷
-    lead 0x02 of_type ∷ lead 0x03 of_type ∷ lead 0x04 of_type ∷
-    Shape.fixed 0x05 ∷ lead 0x06 asynchronous ∷ lead 0x09 (Shape.swap function_result canonical_options) ∷ Shape.fixed 0x0d ∷ Shape.fixed 0x24 ∷ Shape.fixed 0x25 ∷
-    lead 0x0a context_slot ∷ lead 0x0b context_slot ∷
-    lead 0x0e of_type ∷ lead 0x0f type_and_options ∷ lead 0x10 type_and_options ∷ lead 0x11 type_and_asynchronous ∷ lead 0x12 type_and_asynchronous ∷
-    lead 0x13 of_type ∷ lead 0x14 of_type ∷
-    lead 0x15 of_type ∷ lead 0x16 type_and_options ∷ lead 0x17 type_and_options ∷ lead 0x18 type_and_asynchronous ∷ lead 0x19 type_and_asynchronous ∷
-    lead 0x1a of_type ∷ lead 0x1b of_type ∷
-    lead 0x1c canonical_options ∷ lead 0x1d canonical_options ∷ Shape.fixed 0x1e ∷
-    Shape.fixed 0x1f ∷ Shape.fixed 0x22 ∷ Shape.fixed 0x23 ∷
-    lead 0x40 (Shape.ix space.Type_) ∷ lead 0x41 (Shape.seq (Shape.ix space.Type_) (Shape.ix space.Table)) ∷ Shape.fixed 0x42 ∷ [])
+canonical_function = choice (map canonical_row canonical_rows)
+
+-- a row of a byte in a table, one further behind
+abbrev pub row_behind : Option (ℕ × CanonicalForm) → Option (ℕ × CanonicalForm)
+row_behind None = None
+row_behind (Some r) = Some (suc r.0, r.1)
+
+-- the number of the row of a byte, and what stands behind the byte
+abbrev pub canonical_in : List (ℕ × CanonicalForm) → ℕ → Option (ℕ × CanonicalForm)
+canonical_in [] b = None
+canonical_in (r ∷ rows) b = if nat_eq r.0 b then Some (0, r.1) else row_behind (canonical_in rows b)
+
+abbrev pub canonical_at : ℕ → Option (ℕ × CanonicalForm)
+canonical_at b = canonical_in canonical_rows b
+
+abbrev pub number_of : Option (ℕ × CanonicalForm) → ℕ
+number_of None = 0
+number_of (Some r) = r.0
+
+abbrev pub form_of : Option (ℕ × CanonicalForm) → Option CanonicalForm
+form_of None = None
+form_of (Some r) = Some r.1
 
 -- ---- rows of sections
 

@@ -1,6 +1,7 @@
 //! The shapes of WebAssembly binaries, and what bytes spell: the tables of the formats and the definitions over them.
 #![tactic(auto)]
 
+mod canonical;
 pub mod component_kinds;
 mod components;
 pub mod kinds;
@@ -8,6 +9,7 @@ mod operator_rows;
 mod operators;
 mod spelling;
 
+pub use canonical::{CanonicalForm, canonical_form};
 pub use components::{
     answers_open_no_scope, bytes_have_one_reading, component_header_spells, component_reads_back,
     components_are_sound, nested_readings, opens_is_deepest,

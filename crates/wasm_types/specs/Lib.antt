@@ -1,2 +1,3 @@
+pub mod ComponentTrees
 pub mod Immediates
 pub mod Types

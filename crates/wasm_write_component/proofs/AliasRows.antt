@@ -9,18 +9,19 @@ use Rattle.wasm_shapes.specs.ComponentTypes.{instance_export_tree, core_instance
 use Rattle.wasm_shapes.proofs.Frameless.{frameless_spells}
 use Rattle.wasm_write.specs.declared.types.ExportKind.{ExportKind}
 use Rattle.wasm_write.specs.declared.types.ExportKind.TheVariants as export
-use Rattle.wasm_write_component.specs.declared.types.ComponentExportKind.{ComponentExportKind}
-use Rattle.wasm_write_component.specs.declared.types.ComponentExportKind.TheVariants as component
-use Rattle.wasm_write_component.specs.declared.types.ComponentOuterAliasKind.{ComponentOuterAliasKind}
-use Rattle.wasm_write_component.specs.declared.types.ComponentOuterAliasKind.TheVariants as outer
-use Rattle.wasm_write_component.specs.Aliases.{core_sort_byte, export_alias, outer_alias}
+use Rattle.wasm_types.specs.declared.components.ComponentExternalKind.{ComponentExternalKind}
+use Rattle.wasm_types.specs.declared.components.ComponentExternalKind.TheVariants as component
+use Rattle.wasm_types.specs.declared.components.ComponentOuterAliasKind.{ComponentOuterAliasKind}
+use Rattle.wasm_types.specs.declared.components.ComponentOuterAliasKind.TheVariants as outer
+use Rattle.wasm_types.specs.ComponentTrees.{export_alias, outer_alias}
+use Rattle.wasm_write_component.specs.Aliases.{core_sort_byte}
 
 abbrev SpelledAs : Shape → Tree → Type 0
 SpelledAs s t = ∥ Spells s (normal t) t ∥₁
 
 -- ---- an export of an instance
 
-export_is : (kind : ComponentExportKind) (i : ℕ) (name : List ℕ) → Is alias (export_alias kind (instance_export_tree i name))
+export_is : (kind : ComponentExternalKind) (i : ℕ) (name : List ℕ) → Is alias (export_alias kind (instance_export_tree i name))
 export_is component.Module i name = Is.ref (Is.first (Is.seq Is.fixed (Is.later {k = 1} (Is.later {k = 0} (Is.first (Is.seq Is.fixed (Is.first (Is.seq Is.fixed (Is.seq Is.ix Is.name)))))))))
 export_is component.Func i name = Is.ref (Is.later {k = 0} (Is.first (Is.seq Is.fixed (Is.seq Is.fixed (Is.seq Is.ix Is.name)))))
 export_is component.Value i name = Is.ref (Is.later {k = 1} (Is.later {k = 0} (Is.first (Is.seq Is.fixed (Is.seq Is.fixed (Is.seq Is.ix Is.name))))))
@@ -30,12 +31,12 @@ export_is component.Component i name =
 export_is component.Instance i name =
     Is.ref (Is.later {k = 4} (Is.later {k = 3} (Is.later {k = 2} (Is.later {k = 1} (Is.later {k = 0} (Is.first (Is.seq Is.fixed (Is.seq Is.fixed (Is.seq Is.ix Is.name)))))))))
 
-export_in_range : (kind : ComponentExportKind) (i : ℕ) (name : List ℕ) → i < 2 ^ 32 → InRange (Tree.name name) → InRange (export_alias kind (instance_export_tree i name))
+export_in_range : (kind : ComponentExternalKind) (i : ℕ) (name : List ℕ) → i < 2 ^ 32 → InRange (Tree.name name) → InRange (export_alias kind (instance_export_tree i name))
 export_in_range component.Module i name h r = (tt, (tt, (tt, (h, r))))
 export_in_range component.Func i name h r = (tt, (tt, (h, r)))
 export_in_range _ i name h r = (tt, (tt, (h, r)))
 
-pub export_spelled : (kind : ComponentExportKind) (i : ℕ) (name : List ℕ) → i < 2 ^ 32 → InRange (Tree.name name) →
+pub export_spelled : (kind : ComponentExternalKind) (i : ℕ) (name : List ℕ) → i < 2 ^ 32 → InRange (Tree.name name) →
     SpelledAs alias (export_alias kind (instance_export_tree i name))
 export_spelled kind i name h r = ∣ frameless_spells alias refl (export_is kind i name) (export_in_range kind i name h r) ∣₁
 

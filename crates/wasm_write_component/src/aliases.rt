@@ -6,6 +6,7 @@ ghost use Rattle.wasm_shapes.specs.Fits.{InRange};
 ghost use Rattle.wasm_write.specs.Faults.{IfTooLarge};
 ghost use Rattle.wasm_write_component.specs.Aliases.{export_front, core_export_front, outer_front};
 
+use crate::sections::Of;
 use crate::types::{Alias, ComponentExportKind, ComponentOuterAliasKind};
 use wasm_leb::{NoMemory, write_u32};
 use wasm_shapes::component_kinds;
@@ -92,7 +93,7 @@ fn write_outer(out: &mut Vec<u8>, front: &[u8], count: u32, index: u32) -> Resul
     write_u32(out, index)
 }
 
-impl<'a> RowOf<component_kinds::Aliases> for Alias<'a> {
+impl<'a> RowOf<Of<component_kinds::Aliases>> for Alias<'a> {
     ghost use Rattle.wasm_write_component.specs.Aliases.{alias_tree};
 
     ghost tree = { alias_tree };

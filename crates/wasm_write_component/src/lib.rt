@@ -5,5 +5,5 @@ mod aliases;
 mod sections;
 mod types;
 
-pub use sections::ComponentAliasSection;
+pub use sections::{ComponentAliasSection, Of};
 pub use types::{Alias, ComponentExportKind, ComponentOuterAliasKind};

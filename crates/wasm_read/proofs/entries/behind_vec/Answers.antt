@@ -2,6 +2,7 @@ use Rattle.std.proofs.Common.{◌≡◌, suc, [], ◌∷◌, ◌++◌, ◌-◌, 
 use Rattle.wasm_shapes.specs.Tree.{Tree}
 use Rattle.wasm_shapes.specs.Rows.{rows_then}
 use Rattle.wasm_read.proofs.Vectors.{items_none, items_more, items_stuck, vec_read, none_vec}
+use Rattle.wasm_read.specs.VectorRows.{items_closed, items_sound}
 use Rattle.wasm_read.proofs.entries.behind_vec.Goals as goal
 
 pub entries-init : goal.entries-init
@@ -11,7 +12,7 @@ pub entries-preserved-in-Some-small : goal.entries-preserved-in-Some-small
 entries-preserved-in-Some-small g c =
     let more : c.entries.left ≡ suc (c.entries.left - 1) = omega arith in (
       c.entries.invariant.0 ++ _ ∷ [],
-      items_more c.entries.invariant.0 g.met.T.Entry.is_sound g.met.T.Entry.is_closed more c.in-Some-small.ensures.some c.entries.invariant.1,
+      items_more c.entries.invariant.0 (items_sound g.T.Entry.shape g.T.Entry.rows_sound) (items_closed g.T.Entry.shape g.T.Entry.rows_sound) more c.in-Some-small.ensures.some c.entries.invariant.1,
     )
 
 pub returns-in-None-clause-none : goal.returns-in-None-clause-none

@@ -1,10 +1,10 @@
 use Rattle.std.proofs.Common.{◌+◌, ◌≡◌, length, map}
 use Rattle.wasm_read.proofs.Vectors.{ItemsSoFar}
-use Rattle.wasm_read.proofs.entries.front_vec.Given as goal
+use Rattle.wasm_read.proofs.entries.front_rows.Given as goal
 
 abbrev pub invariant-entries : goal.invariant-entries
 invariant-entries g l =
-    ItemsSoFar g.T.Entry.shape l.initial.left l.initial.rest (map g.T.Entry.tree l.entries) l.left l.rest
+    ItemsSoFar g.K.RowKind.shape l.initial.left l.initial.rest (map g.K.ReadRow.tree l.entries) l.left l.rest
     × (length l.entries + l.left ≡ l.initial.left)
 
 abbrev pub decreases-entries : goal.decreases-entries

@@ -1,7 +1,7 @@
 use Rattle.std.proofs.Common.{◌≡◌, suc, ◌-◌, [], ◌∷◌, ◌++◌, map, arith, length-append}
 use Rattle.std.proofs.lemmas.List.{map-append}
 use Rattle.wasm_read.proofs.Vectors.{items_more, items_stuck, vec_read, none_vec}
-use Rattle.wasm_read.proofs.entries.front_vec.Goals as goal
+use Rattle.wasm_read.proofs.entries.front_rows.Goals as goal
 
 pub entries-preserved : goal.entries-preserved
 entries-preserved g c =
@@ -10,10 +10,10 @@ entries-preserved g c =
     let before = c.entries.entries in
     let more : c.entries.left ≡ suc (c.entries.left - 1) = omega arith in
     let so_far =
-    items_more (map g.T.Entry.tree before) g.met.T.Entry.is_sound g.met.T.Entry.is_closed more some c.entries.invariant.0 in
+    items_more (map g.K.ReadRow.tree before) g.K.RowKind.is_sound g.K.RowKind.is_closed more some c.entries.invariant.0 in
     let counted = c.entries.invariant.1 in
     let long = length-append before (c.in-Ok-Some.entry ∷ []) in
-    rw (pushed, map-append g.T.Entry.tree before (c.in-Ok-Some.entry ∷ [])) (so_far, omega arith)
+    rw (pushed, map-append g.K.ReadRow.tree before (c.in-Ok-Some.entry ∷ [])) (so_far, omega arith)
 
 pub returns-in-Ok-None-clause-none : goal.returns-in-Ok-None-clause-none
 returns-in-Ok-None-clause-none g c =

@@ -1,0 +1,9 @@
+use Rattle.std.proofs.Common.{refl}
+use Rattle.wasm_shapes.proofs.Begins.{begins_seq, none_seq_second}
+use Rattle.wasm_read_component.proofs.rows.front_inline_export.Goals as goal
+
+pub returns-in-Some-front_sorted-clause-some : goal.returns-in-Some-front_sorted-clause-some
+returns-in-Some-front_sorted-clause-some c = begins_seq c.in-Some.ensures.some c.in-Some-front_sorted.ensures.some
+
+pub returns-in-None-clause-none : goal.returns-in-None-clause-none
+returns-in-None-clause-none c = none_seq_second refl refl c.in-Some.ensures.some c.in-None.ensures.none
