@@ -13,6 +13,7 @@ use Rattle.reencode_hooks.proofs.Agrees.{given}
 use Rattle.reencode_hooks.specs.declared.error.Error.{Error}
 use Rattle.reencode_hooks.specs.Run.{Step, accepted, refused, and_then}
 use Rattle.reencode_hooks.specs.Walk.{walk}
+pub use Rattle.reencode_items.proofs.Rows.{rows_then-both}
 use Rattle.reencode_core.specs.Rows.{Asks, onto_rows}
 
 -- These items were walked, to what is made so far and this state, and what stands behind them is walked from here.
@@ -44,10 +45,6 @@ module _ {S E A B : Type 0} (asked : Asks S E) (read : A → Tree) (write : B �
   }
 
 -- ---- the whole group
-
-pub rows_then-both : (ts us : List Tree) (others : Tree) → rows_then (ts ++ us) others ≡ rows_then ts (rows_then us others)
-rows_then-both [] us others = refl
-rows_then-both (t ∷ ts) us others = ap (λ (u : Tree). Tree.cons t u) (rows_then-both ts us others)
 
 none_counted : {A : Type 0} (xs : List A) (n : ℕ) → n ≡ length xs → n ≡ 0 → xs ≡ []
 none_counted [] n e z = refl

@@ -32,7 +32,6 @@ pub mod RuleRuns
 pub mod MappedSection
 pub mod EachSection
 pub mod EachBody
-pub mod Passing
 pub mod Runs
 pub mod ManyLoop
 pub mod InFrame
@@ -43,7 +42,6 @@ pub mod Weaves
 pub mod WovenRead
 pub mod Additions
 pub mod Interspersing
-pub mod SkippedLocals
 pub mod MapsOn
 pub mod MapsRest
 pub mod MapsWhole

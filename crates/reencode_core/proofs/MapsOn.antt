@@ -20,15 +20,17 @@ use Rattle.reencode_items.specs.Maps.{MovesOn, ParsesOperator}
 use Rattle.reencode_core.specs.Bodies.{GivesBody, KeepsCode}
 use Rattle.reencode_core.specs.Leaves.{LeavesMade, body_in}
 use Rattle.reencode_core.specs.Rows.{Asks, locals}
-use Rattle.reencode_core.specs.declared.direct.passing.Fresh.{Fresh}
-use Rattle.reencode_core.specs.declared.direct.passing.Next.{Next}
-use Rattle.reencode_core.specs.declared.direct.passing.Next.TheVariants as next
-use Rattle.reencode_core.specs.Direct.{AcceptsFront, DealsWith, MakesOperator, MapsFront, PassesNext, PassesRun, SkipsLocals, imm_of}
+use Rattle.reencode_items.specs.declared.direct.passing.Fresh.{Fresh}
+use Rattle.reencode_items.specs.declared.direct.passing.Next.{Next}
+use Rattle.reencode_items.specs.declared.direct.passing.Next.TheVariants as next
+use Rattle.reencode_items.specs.Direct.{MakesOperator, PassesNext, PassesRun, SkipsLocals, imm_of}
+use Rattle.reencode_core.specs.Direct.{AcceptsFront, DealsWith, MapsFront}
 use Rattle.reencode_core.proofs.BodyLoop.{OperatorsDone, operators_begin, operators_more, same_locals}
 use Rattle.reencode_core.proofs.EachBody.{BodyClauses, LocalsClauses, OperatorsKept}
 use Rattle.reencode_core.proofs.OneRow.{asks}
-use Rattle.reencode_core.proofs.Passing.{unasked_walk}
-use Rattle.reencode_core.proofs.Runs.{many_front, no_run, no_run_counted, operators_many, run_left, run_not_added}
+use Rattle.reencode_items.proofs.Passing.{unasked_walk}
+use Rattle.reencode_items.proofs.Runs.{no_run, no_run_counted, run_left}
+use Rattle.reencode_core.proofs.Runs.{many_front, operators_many, run_not_added}
 use Rattle.reencode_core.proofs.WholeBody.{operators_none, operators_on}
 
 module _ {S E : Type 0} {asked : Asks S E} {c : ℕ} {start rest : List ℕ} {s m : S} {made : List Tree} where

@@ -16,15 +16,16 @@ use Rattle.reencode_hooks.specs.Errors.{error_of_write}
 use Rattle.reencode_hooks.specs.Run.{NeverWants}
 use Rattle.reencode_items.specs.Maps.{LeavesOperator, MovesOn, ParsesOperator}
 use Rattle.reencode_core.specs.Bodies.{KeepsCode}
-use Rattle.reencode_core.specs.declared.direct.passing.Fresh.{Fresh}
-use Rattle.reencode_core.specs.declared.direct.passing.Next.{Next}
-use Rattle.reencode_core.specs.declared.direct.passing.Next.TheVariants as next
-use Rattle.reencode_core.specs.Direct.{PassesRun, Run, StopsRun, imm_of}
+use Rattle.reencode_items.specs.declared.direct.passing.Fresh.{Fresh}
+use Rattle.reencode_items.specs.declared.direct.passing.Next.{Next}
+use Rattle.reencode_items.specs.declared.direct.passing.Next.TheVariants as next
+use Rattle.reencode_items.specs.Direct.{PassesRun, Run, StopsRun, imm_of}
+use Rattle.reencode_items.proofs.Runs.{run_added}
 use Rattle.reencode_core.proofs.BodyLoop.{keeps_code}
 use Rattle.reencode_core.proofs.EachBody.{body_added, body_refused, operator_not_added, operator_refused}
 use Rattle.reencode_core.proofs.MapsOn.{RestClauses, RestKept, begins_of, front_at, front_made, front_other, front_run, here_of, made_of, next_not_added, rest_given}
 use Rattle.reencode_core.proofs.OneRow.{asks}
-use Rattle.reencode_core.proofs.Runs.{run_added, run_not_added, run_refused}
+use Rattle.reencode_core.proofs.Runs.{run_not_added, run_refused}
 use Rattle.reencode_core.proofs.WholeBody.{some_length}
 
 pub rest_at : {S E : Type 0} (i : Ghosts S E) {reader0 reader : Reading} {f0 f : Body} {s0 s : S} {y0 : Next} (y z : Next) → y ≡ z → RestKept i reader0 f0 s0 y0 reader f s y → RestKept i reader0 f0 s0 y0 reader f s z

@@ -17,9 +17,10 @@ use Rattle.reencode_hooks.specs.declared.indices.ReencodeIndices.{Ghosts}
 use Rattle.reencode_hooks.specs.Errors.{error_of_write}
 use Rattle.reencode_hooks.specs.Run.{NeverWants}
 use Rattle.reencode_core.specs.Rows.{locals}
-use Rattle.reencode_core.specs.declared.direct.passing.Next.{Next}
-use Rattle.reencode_core.specs.declared.direct.passing.Next.TheVariants as next
-use Rattle.reencode_core.specs.Direct.{IsWithin, MapsFront, PassesRun, Run, SkipsLocals, StopsRun}
+use Rattle.reencode_items.specs.declared.direct.passing.Next.{Next}
+use Rattle.reencode_items.specs.declared.direct.passing.Next.TheVariants as next
+use Rattle.reencode_items.specs.Direct.{IsWithin, PassesRun, Run, SkipsLocals, StopsRun}
+use Rattle.reencode_core.specs.Direct.{MapsFront}
 use Rattle.reencode_core.proofs.BodyLoop.{keeps_code, same_locals}
 use Rattle.reencode_core.proofs.EachBody.{BodyClauses, body_added, body_refused}
 use Rattle.reencode_core.proofs.MapsOn.{begins_of, behind_skipped, front_at, front_passed, front_skipped, here_of, made_of, passed_body, passed_held, skipped_begins, skipped_rest, with_skipped}

@@ -1,6 +1,5 @@
 -- What the calls that map rows give.
 use Rattle.std.specs.Prelude.{◌≡◌, ◌≢◌, ◌+◌, ◌-◌, ◌^◌, ◌<◌, ◌⊎◌, ℕ, List, [], ◌∷◌, ◌++◌, length, take, true, Result, Ok, Err, IfOk, IfErr}
-use Rattle.wasm_shapes.specs.declared.Visit.{Visit}
 use Rattle.wasm_shapes.specs.Shape.{Shape}
 use Rattle.wasm_shapes.specs.Tree.{Tree}
 use Rattle.wasm_shapes.specs.Spells.{Is, Spelled}
@@ -12,25 +11,14 @@ use Rattle.wasm_read.specs.Reading.{Standing}
 use Rattle.wasm_write.specs.Counts.{counts, IsTooLarge}
 use Rattle.reencode_hooks.specs.declared.error.Error.{Error}
 use Rattle.reencode_hooks.specs.declared.error.Error.TheVariants.{TooLarge, NoMemory}
-use Rattle.reencode_hooks.specs.Run.{Step, accepted, refused, and_then}
+use Rattle.reencode_hooks.specs.Run.{accepted, refused}
 use Rattle.reencode_hooks.specs.Walk.{walk}
+pub use Rattle.reencode_items.specs.Rows.{Asks, onto_rows, AcceptsRows}
 use Rattle.reencode_core.specs.Errors.{IfParse, IfRefused}
 
 -- the second begins with the first
 abbrev pub KeepsFront : {R : Type 0} → List R → List R → Type 0
 KeepsFront old new = take (length old) new ≡ old
-
--- what is asked: a visit, in a state
-abbrev pub Asks : (S E : Type 0) → Type 0
-Asks S E = S → Visit → Step S (Error E) ℕ
-
--- rows that were accepted, in front of a step over those behind them
-abbrev pub onto_rows : {S E : Type 0} → List Tree → Step S (Error E) Tree → Step S (Error E) Tree
-onto_rows made step = and_then step (λ u m. accepted (rows_then made u) m)
-
--- These rows are accepted, whatever stands behind them, and become those; what stands behind them is walked from here.
-abbrev pub AcceptsRows : {S E : Type 0} → Asks S E → ℕ → S → List Tree → List Tree → S → Type 0
-AcceptsRows asked c s read made m = (others : Tree) → walk asked c s (rows_then read others) ≡ onto_rows made (walk asked c m others)
 
 -- all visits of the row are accepted: under some ceiling the walk of it is
 pub record AcceptedHooks {S E : Type 0} (asked : Asks S E) (s : S) (row : Tree) (m : S) : Type 0 where

@@ -1,5 +1,5 @@
 //! The body of a function, mapped as `Reencode::parse_function_body` does by default, and without lists: operators that do
-//! not change are passed by and added as they stand, run by run, or the whole body at once.
+//! not change are passed by (`reencode_items::direct`) and added as they stand, run by run, or the whole body at once.
 ghost use Rattle.std.specs.Prelude.{◌≡◌, ◌∷◌, [], IfErr, IsTrue, List, OnOk, ℕ};
 ghost use Rattle.wasm_write.specs.Bodies.{with_operator};
 ghost use Rattle.wasm_read.specs.Operations.{rest_of};
@@ -8,21 +8,14 @@ ghost use Rattle.wasm_write.specs.Instructions.{imm_kind, operator_tree};
 ghost use Rattle.wasm_write.specs.declared.fault.WriteFault.TheVariants as write;
 ghost use Rattle.reencode_hooks.specs.Run.{ask};
 ghost use Rattle.reencode_core.specs.Bodies.{GivesBody, KeepsCode};
-ghost use Rattle.reencode_core.specs.Direct.{DealsWith, MapsFront, imm_of};
+ghost use Rattle.reencode_items.specs.Direct.{imm_of};
+ghost use Rattle.reencode_core.specs.Direct.{DealsWith, MapsFront};
 ghost use Rattle.reencode_core.specs.Leaves.{LeavesMade, body_in};
 
-mod classes;
-mod fronts;
-mod passing;
-mod runs;
-mod skipping;
-
-use crate::direct::passing::{Fresh, Next};
-use crate::direct::runs::pass_run;
-use crate::direct::skipping::skip_locals;
 use crate::shared::new_function_with_parsed_locals;
 use reencode_hooks::Error;
 use reencode_items::ReencodeItems;
+use reencode_items::direct::{Fresh, Next, pass_run, skip_locals};
 use std::alloc::Global;
 use wasm_read as r;
 use wasm_shapes::Opcode;

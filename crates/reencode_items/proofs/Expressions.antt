@@ -68,6 +68,17 @@ first {rest = rest} {left = left} {operator = operator} {t = t} {others = others
           behind = record { shaped = Is.ref (Is.until d'); spelled = (q.1, append_cancel_left q.0 left tail shifted, q.4) };
         }
 
+-- the first of the operators ahead
+pub one_ahead : {rest left : List ℕ} {t : Tree} (ahead : List Tree) → Ahead rest ahead → rest ≢ 0x0b ∷ [] → Begins (Shape.op true) rest t left →
+    (others : List Tree) × (ahead ≡ t ∷ others) × Ahead left others × ∥ Is (Shape.op false) t ∥₁
+one_ahead [] p more there = absurd (∥∥₁_elim p no_lie (λ q. more (none_spelled q)))
+one_ahead {t = t} (u ∷ us) p more there = (
+  us,
+  ∥∥₁_elim p (Coded-set trees_code (u ∷ us) (t ∷ us)) (λ q. ap (λ (z : Tree). z ∷ us) (sym (first q there).same)),
+  ∥∥₁_elim p ∥∥₁_prop (λ q. ∣ (first q there).behind ∣₁),
+  ∥∥₁_elim p ∥∥₁_prop (λ q. ∣ (first q there).inside ∣₁),
+)
+
 -- where `end` alone is left no operator stands before it
 some_spelled : (t : Tree) (others : List Tree) → SpellsExpression (0x0b ∷ []) (expression_of (t ∷ others)) → ⊥
 some_spelled t others p = go (inner p.shaped) p.spelled
@@ -149,6 +160,23 @@ module _ {S E : Type 0} (k' : Code) (v : Tree) (m : S) where
   same_code k (accepted u n) e = cc
   same_code k (refused x n) e = absurd cc
 
+-- one operator more
+pub expression_step : {S E : Type 0} {asked : S → Visit → Step S (Error E) ℕ} {keeps : Bool} {s0 s m : S} {operators made made' : List Tree} {reader behind : Reading} {operator : Tree} {left : List ℕ} →
+    ExpressionDone asked keeps s0 operators reader s made → rest_of reader ≢ 0x0b ∷ [] → Begins (Shape.op true) (rest_of reader) operator left → rest_of behind ≡ left → (t : Tree) →
+    (IsTrue keeps → (c : ℕ) → walk asked c s operator ≡ accepted t m) → made' ≡ made ++ t ∷ [] → ExpressionDone asked keeps s0 operators behind m made'
+expression_step {asked = asked} {keeps = keeps} {s0 = s0} {s = s} {m = m} {operators = operators} {made = made} {made' = made'} {behind = behind} d more there behind_it t maps pushed =
+    let n = next d.ahead more there in
+    let long : length made' ≡ length made + 1 = ap length pushed ∙ length-append made (t ∷ []) in
+    let step : IsTrue keeps → (c : ℕ) → walk asked c s (get_or operators (length made) Tree.nil) ≡ accepted t m =
+    λ k c. let V : Tree → Type 0 = λ z. walk asked c s z ≡ accepted t m in subst V (sym n.at) (maps k c) in
+    let D : ℕ → Type 0 = λ z. ItemsDone asked keeps (λ t. t) (λ t. t) s0 operators z m made' in
+    let A : ℕ → Type 0 = λ z. Ahead (rest_of behind) (drop z operators) in
+    let R : List ℕ → Type 0 = λ z. Ahead z (drop (length made + 1) operators) in
+    record {
+      done = subst D (sym long) (items_more Tree.nil d.done refl n.within step pushed);
+      ahead = subst A (sym long) (subst R (sym behind_it) n.ahead);
+    }
+
 is_operator : {operator : Tree} → Is (Shape.op true) operator → (c : Code) × (u : Tree) × (operator ≡ Tree.op c u)
 is_operator (Is.op {c = c} {t = u} k d) = (c, u, refl)
 
@@ -175,18 +203,7 @@ module _ {S E : Type 0} (reply : S → Visit → Result ℕ E) (next_state : S �
     pub expression_more : {B : Type 0} {m : S} {behind : Reading} {made' : List Tree} (view : B → Tree) (b : B) →
         ParsesOperator reply next_state s reader view m behind (Ok b) → made' ≡ made ++ view b ∷ [] → ExpressionDone (ask reply next_state) keeps s0 operators behind m made'
     expression_more {m = m} {behind = behind} {made' = made'} view b p pushed =
-        let n = here p.begins in
-        let long : length made' ≡ length made + 1 = ap length pushed ∙ length-append made (view b ∷ []) in
-        let W : Tree → ℕ → Type 0 = λ z c. walk (ask reply next_state) c s z ≡ accepted (view b) m in
-        let step : IsTrue keeps → (c : ℕ) → walk (ask reply next_state) c s (get_or operators (length made) Tree.nil) ≡ accepted (view b) m =
-        λ _ c. let V : Tree → Type 0 = λ z. W z c in subst V (sym n.at) (p.maps c) in
-        let D : ℕ → Type 0 = λ z. ItemsDone (ask reply next_state) keeps (λ t. t) (λ t. t) s0 operators z m made' in
-        let A : ℕ → Type 0 = λ z. Ahead (rest_of behind) (drop z operators) in
-        let R : List ℕ → Type 0 = λ z. Ahead z (drop (length made + 1) operators) in
-        record {
-          done = subst D (sym long) (items_more Tree.nil d.done refl n.within step pushed);
-          ahead = subst A (sym long) (subst R (sym p.behind_it) n.ahead);
-        }
+        expression_step d more p.begins p.behind_it (view b) (λ _ c. p.maps c) pushed
 
     -- no `end` is made of it
     pub no_end_made : {B : Type 0} {m : S} {behind : Reading} (view : B → Tree) (b : B) (c : Code) (u : Tree) →
@@ -205,7 +222,7 @@ module _ {S E : Type 0} (reply : S → Visit → Result ℕ E) (next_state : S �
         ∥∥₁_elim (subst R (sym p.behind_it ∙ empty) n.ahead) no_lie (λ q. let s = q.spelled in
         let e : 0 ≡ length (s.0 ++ (0x0b ∷ [])) = ap length s.1 in let l = length-append s.0 (0x0b ∷ []) in omega arith)
 
-    refused_here : {m : S} {operator : Tree} {left : List ℕ} {e : Error E} (c : ℕ) → Begins (Shape.op true) (rest_of reader) operator left → walk (ask reply next_state) c s operator ≡ refused e m →
+    pub refused_here : {m : S} {operator : Tree} {left : List ℕ} {e : Error E} (c : ℕ) → Begins (Shape.op true) (rest_of reader) operator left → walk (ask reply next_state) c s operator ≡ refused e m →
         walk (ask reply next_state) c s0 (expression_of operators) ≡ refused e m
     refused_here {m = m} {e = e} c there stops =
         let n = here there in
@@ -249,7 +266,7 @@ module _ {S E : Type 0} (reply : S → Visit → Result ℕ E) (next_state : S �
         go (UserError x) p = by (UserError x) p
         go (TooLarge size) p = by (TooLarge size) p
 
-    left_there : {m : S} {operator : Tree} {left : List ℕ} → Begins (Shape.op true) (rest_of reader) operator left → Visited (ask reply next_state) s (visits operator) m →
+    pub left_there : {m : S} {operator : Tree} {left : List ℕ} → Begins (Shape.op true) (rest_of reader) operator left → Visited (ask reply next_state) s (visits operator) m →
         Visited (ask reply next_state) s0 (visits (expression_of operators)) m
     left_there {m = m} there v =
         let n = here there in

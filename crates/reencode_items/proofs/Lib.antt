@@ -1,7 +1,12 @@
 pub mod Leaving
+pub mod Rows
 pub mod Loops
 pub mod Parts
 pub mod Composites
 pub mod Immediates
 pub mod Operators
 pub mod Expressions
+pub mod Passing
+pub mod Runs
+pub mod SkippedLocals
+pub mod DirectExpressions

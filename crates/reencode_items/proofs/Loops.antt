@@ -3,23 +3,19 @@ use Rattle.std.proofs.Common.{◌≡◌, ◌≢◌, ◌<◌, ◌≤◌, ℕ, ◌
 use Rattle.std.specs.Prelude.{map, IsTrue}
 use Rattle.std.proofs.lemmas.Grind.{common_steps}
 use Rattle.std.proofs.lemmas.List.{map-append, drop_all}
-use Rattle.wasm_shapes.specs.declared.Visit.{Visit}
 use Rattle.wasm_shapes.specs.Tree.{Tree, visits}
-use Rattle.wasm_shapes.specs.Rows.{rows_then}
 use Rattle.wasm_shapes.specs.Types.{rows_tree, vector_tree}
 use Rattle.reencode_hooks.specs.declared.error.Error.{Error}
 use Rattle.reencode_hooks.specs.declared.error.Error.TheVariants.{NoMemory}
 use Rattle.reencode_hooks.specs.Run.{Step, accepted, refused, and_then, NeverWants, Visited}
 use Rattle.reencode_hooks.specs.Walk.{walk}
 use Rattle.reencode_hooks.proofs.Leaving.{accepted_visited, first_visited, never_wants, refused_visited, second_visited}
-
--- a step behind rows that were accepted
-abbrev onto_rows : {S E : Type 0} → List Tree → Step S E Tree → Step S E Tree
-onto_rows rows step = and_then step (λ u m. accepted (rows_then rows u) m)
+use Rattle.reencode_items.specs.Rows.{Asks, onto_rows}
+use Rattle.reencode_items.proofs.Rows.{one_onto, onto_nothing}
 
 -- Of the items of a list those in front of a place were mapped one by one. Where the defaults are kept, these were walked, to
 -- what is made so far and this state, and the others are walked from here.
-pub record ItemsDone {S E A B : Type 0} (asked : S → Visit → Step S (Error E) ℕ) (keeps : Bool) (read : A → Tree) (write : B → Tree)
+pub record ItemsDone {S E A B : Type 0} (asked : Asks S E) (keeps : Bool) (read : A → Tree) (write : B → Tree)
     (s0 : S) (items : List A) (place : ℕ) (s : S) (made : List B) : Type 0 where
   pub counted : length made ≡ place
   pub walks : IsTrue keeps → (c : ℕ) →
@@ -28,27 +24,16 @@ pub record ItemsDone {S E A B : Type 0} (asked : S → Visit → Step S (Error E
   pub onward : IsTrue keeps → (m : S) →
       Visited asked s (visits (rows_tree (map read (drop place items)))) m → Visited asked s0 (visits (rows_tree (map read items))) m
 
-onto_nothing : {S E : Type 0} (step : Step S E Tree) → step ≡ onto_rows [] step
-onto_nothing (accepted u m) = refl
-onto_nothing (refused e m) = refl
-
-rows_then-append : (ts : List Tree) (t u : Tree) → rows_then (ts ++ t ∷ []) u ≡ rows_then ts (Tree.cons t u)
-rows_then-append [] t u = refl
-rows_then-append (x ∷ ts) t u = ap (λ (z : Tree). Tree.cons x z) (rows_then-append ts t u)
-
 -- one row more in front of a step
-one_onto : {S E B : Type 0} (write : B → Tree) (made : List B) (b : B) (step : Step S E Tree) →
+made_onto : {S E B : Type 0} (write : B → Tree) (made : List B) (b : B) (step : Step S (Error E) Tree) →
     onto_rows (map write made) (and_then step (λ u m. accepted (Tree.cons (write b) u) m)) ≡ onto_rows (map write (made ++ b ∷ [])) step
-one_onto write made b (accepted u m) =
-    ap (λ (t : Tree). accepted t m)
-    (sym (rows_then-append (map write made) (write b) u) ∙ ap (λ (ts : List Tree). rows_then ts u) (sym (map-append write made (b ∷ []))))
-one_onto write made b (refused e m) = refl
+made_onto write made b step = one_onto (map write made) (write b) step ∙ ap (λ (ts : List Tree). onto_rows ts step) (sym (map-append write made (b ∷ [])))
 
 -- the item at a place, in front of those behind it
 pub drop_at : {A : Type 0} (items slice : List A) (i : ℕ) (d : A) → slice ≡ items → i < length slice → drop i items ≡ get_or slice i d ∷ drop (i + 1) items
 drop_at items slice i d e h = rw (← e) (rw add-one (drop-cons slice i d h))
 
-module _ {S E A B : Type 0} {asked : S → Visit → Step S (Error E) ℕ} {keeps : Bool} {read : A → Tree} {write : B → Tree} where
+module _ {S E A B : Type 0} {asked : Asks S E} {keeps : Bool} {read : A → Tree} {write : B → Tree} where
   pub items_begin : (s : S) (items : List A) → ItemsDone asked keeps read write s items 0 s []
   items_begin s items = record { counted = refl; walks = λ k c. onto_nothing (walk asked c s (rows_tree (map read items))); onward = λ k m v. v }
 
@@ -65,7 +50,7 @@ module _ {S E A B : Type 0} {asked : S → Visit → Step S (Error E) ℕ} {keep
         counted = rw pushed (let so_far = done.counted in grind (arith, common_steps));
         walks = λ k c. rw pushed (
             let first : walk asked c s (Tree.cons (read x) rest) ≡ and_then (walk asked c m rest) (λ u n. accepted (Tree.cons (write b) u) n) = rw (step k c) refl in
-            done.walks k c ∙ rw here (ap (λ (r : Step S (Error E) Tree). onto_rows (map write made) r) first ∙ one_onto write made b (walk asked c m rest)));
+            done.walks k c ∙ rw here (ap (λ (r : Step S (Error E) Tree). onto_rows (map write made) r) first ∙ made_onto write made b (walk asked c m rest)));
         onward = λ k n v.
             let P : List A → Type 0 = λ z. Visited asked s (visits (rows_tree (map read z))) n in
             done.onward k n (subst P (sym here) (second_visited 0 (read x) (step k 0) v));

@@ -49,6 +49,7 @@ pub fn external_index<T: ReencodeIndices>(
 }
 
 /// The index of a space of core modules, by its hook. One of another space is no hook's, and stays as it is.
+#[inline(always)]
 pub(crate) fn core_index<T: ReencodeIndices>(
     reencoder: &mut T,
     space: Space,

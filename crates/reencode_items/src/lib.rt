@@ -2,6 +2,7 @@
 #![tactic(auto)]
 
 mod bodies;
+pub mod direct;
 mod indices;
 mod items;
 mod kinds;

@@ -18,6 +18,7 @@ use Rattle.wasm_write.specs.Types.{ValType}
 use Rattle.wasm_shapes.specs.Types.{rows_tree, vector_tree, expression_of}
 use Rattle.wasm_write.specs.declared.fault.WriteFault.{WriteFault}
 use Rattle.wasm_write.specs.declared.fault.WriteFault.TheVariants.{TooLarge, NoMemory}
+use Rattle.wasm_write.specs.Held.{AreHeld}
 use Rattle.wasm_write.specs.Counts.{counts, IsTooLarge}
 use Rattle.wasm_write.specs.Faults.{IfTooLarge}
 use Rattle.wasm_write.specs.Instructions.{Parts, imms_tree, instruction_tree}
@@ -195,6 +196,15 @@ inner_operator : (i : Parts) → code_of i.opcode ≢ plain 0x0b → Spells (Sha
     Spells (Shape.op false) (normal (instruction_tree i)) (instruction_tree i)
 inner_operator i other p = record { shaped = inner_is (code_of i.opcode) (imms_tree i.imms) other p.shaped; spelled = p.spelled }
 
+-- two runs of operators, one behind the other
+are_joined : {s : Shape} {x y : List ℕ} {xs ys : List Tree} → AreHeld s (length xs) x xs → AreHeld s (length ys) y ys → AreHeld s (length (xs ++ ys)) (x ++ y) (xs ++ ys)
+are_joined {x = x} {y = y} {xs = xs} {ys = ys} p q = record {
+  shaped = many_is xs ys p.shaped q.shaped;
+  counted = refl;
+  spelled = many_spelled xs ys x y p.spelled q.spelled;
+  normally = many_normal xs ys ∙ ap₂ (λ (v z : List ℕ). v ++ z) p.normally q.normally;
+}
+
 pub expression_none : {bytes : List ℕ} → bytes ≡ [] → HeldOperators bytes
 expression_none e = ([], ∣ rw e (are_none (Shape.op false)) ∣₁)
 
@@ -213,6 +223,19 @@ module _ {bytes : List ℕ} (h : HeldOperators bytes) where
       ∥ Spells (Shape.op true) (normal (instruction_tree i)) (instruction_tree i) ∥₁ → held_operators new k ≡ held_operators bytes h ++ instruction_tree i ∷ []
   unfolding held_operators operators_grown
   operators_grown_is {new} i k other e p = HeldOperators-one new k (operators_grown i other e p)
+
+  -- the bytes have grown by several operators
+  pub operators_joined : {new text : List ℕ} → new ≡ bytes ++ text → HeldOperators text → HeldOperators new
+  operators_joined e q = (h.0 ++ q.0, ∥∥₁_elim h.1 ∥∥₁_prop (λ r. ∥∥₁_map q.1 (λ p. rw e (are_joined r p))))
+
+  -- or they are as they were
+  pub operators_perhaps_joined : {A E : Type 0} {new text : List ℕ} (r : Result A E) → OnOk r (new ≡ bytes ++ text) → OnErr r (new ≡ bytes) → HeldOperators text → HeldOperators new
+  operators_perhaps_joined (Ok a) grown same q = operators_joined grown q
+  operators_perhaps_joined (Err e) grown same q = let P : List ℕ → Type 0 = λ z. HeldOperators z in subst P (sym same) h
+
+  pub operators_joined_is : {new text : List ℕ} (k : HeldOperators new) → new ≡ bytes ++ text → (q : HeldOperators text) → held_operators new k ≡ held_operators bytes h ++ q.0
+  unfolding held_operators operators_joined
+  operators_joined_is {new} k e q = HeldOperators-one new k (operators_joined e q)
 
   -- the bytes are the same
   pub operators_same_is : {new : List ℕ} (k : HeldOperators new) → new ≡ bytes → held_operators new k ≡ held_operators bytes h

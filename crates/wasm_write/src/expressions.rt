@@ -1,18 +1,22 @@
 //! Constant expressions, as they are written.
-ghost use Rattle.std.specs.Prelude.{◌≡◌, ◌≢◌, ◌++◌, ◌∷◌, [], ◌+◌, length, take, vec_len, OnOk, OnErr};
+ghost use Rattle.std.specs.Prelude.{◌≡◌, ◌≢◌, ◌++◌, ◌∷◌, [], ◌+◌, length, map, take, vec_len, OnOk, OnErr};
 ghost use Rattle.wasm_shapes.specs.Tree.{normal};
 ghost use Rattle.wasm_shapes.specs.Shape.{Shape, Named};
 ghost use Rattle.wasm_shapes.specs.Spells.{Spells};
 ghost use Rattle.wasm_shapes.specs.Types.{expression_of};
 ghost use Rattle.wasm_shapes.specs.Operators.{code_of, plain};
-ghost use Rattle.wasm_write.specs.Instructions.{instruction_tree};
+ghost use Rattle.wasm_shapes.specs.Immediates.{HasKinds};
+ghost use Rattle.wasm_write.specs.Instructions.{imm_kind, instruction_tree, operator_tree};
 ghost use Rattle.wasm_write.specs.Bodies.{HeldOperators, HeldOperators-prop};
 
-use crate::instructions::Instruction;
+use crate::immediates::write_bytes;
+use crate::instructions::{Instruction, write_operator};
+use crate::types::Imm;
 use crate::types_write::write_byte;
 use std::alloc::Global;
 use std::marker::Model;
 use wasm_leb::NoMemory;
+use wasm_shapes::Opcode;
 
 /// A constant expression (WebAssembly Core Specification 3.0, section 5.4.13).
 ///
@@ -61,6 +65,37 @@ impl ConstExpr {
                 Err(NoMemory)
             }
         }
+    }
+
+    /// Adds the operator of an opcode with these immediates, as `instruction` does, with no list of them.
+    pub fn operator(&mut self, opcode: Opcode, imms: &[Imm<'_>]) -> Result<(), NoMemory>
+        requires kinds { HasKinds opcode (map imm_kind imms.now) }
+        requires other { code_of opcode ≢ plain 0x0b }
+        ensures ok { OnOk result (self.new ≡ self.old ++ operator_tree opcode imms.now ∷ []) }
+        ensures err { OnErr result (self.new ≡ self.old) }
+    {
+        let len = self.bytes.len();
+        match write_operator(&mut self.bytes, opcode, imms) {
+            Ok(()) => Ok(()),
+            Err(NoMemory) => {
+                self.bytes.truncate(len);
+                Err(NoMemory)
+            }
+        }
+    }
+
+    /// Adds the operators other than `end` whose normal spelling these bytes are, or nothing where memory is wanting.
+    #[inline(always)]
+    pub fn spelled(&mut self, bytes: &[u8]) -> Result<(), NoMemory>
+        requires { HeldOperators bytes.now }
+        ensures ok { OnOk result
+            ((held : HeldOperators bytes.now) → self.new ≡ self.old ++ held.0) }
+        ensures err { OnErr result (self.new ≡ self.old) }
+    {
+        let Ok(()) = write_bytes(&mut self.bytes, bytes) else {
+            return Err(NoMemory);
+        };
+        Ok(())
     }
 
     /// How many bytes its operators have. They and `end` have a spelling.

@@ -2,7 +2,7 @@ use Rattle.std.proofs.Common.{◌≡◌, ◌<◌, length, refl, ap, arith}
 use Rattle.std.proofs.lemmas.List.{length-drop}
 use Rattle.wasm_read.specs.Operations.{rest_of}
 use Rattle.wasm_write.specs.Instructions.{instruction_tree}
-use Rattle.reencode_core.specs.declared.direct.passing.Next.TheVariants as next
+use Rattle.reencode_items.specs.declared.direct.passing.Next.TheVariants as next
 use Rattle.reencode_core.proofs.MapsOn.{RestKept, deals_made, made_within, run_deals}
 use Rattle.reencode_core.proofs.MapsRest.{rest_added, rest_at, rest_code, rest_is, rest_made, rest_not_added, rest_other, rest_run, rest_refused, rest_run_refused, rest_run_wants, rest_stuck, rest_wants, some_behind}
 use Rattle.reencode_core.proofs.OneRow.{asks}

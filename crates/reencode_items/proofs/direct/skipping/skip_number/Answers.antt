@@ -1,0 +1,5 @@
+use Rattle.reencode_items.proofs.Passing.{skips_number}
+use Rattle.reencode_items.proofs.direct.skipping.skip_number.Goals as goal
+
+pub returns-in-Some-default-true-default : goal.returns-in-Some-default-true-default
+returns-in-Some-default-true-default c = let s = c.in-Some-default-true-default in skips_number s.ensures.begins (s.ensures.short s.field-0-1-test)
