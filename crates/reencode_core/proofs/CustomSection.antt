@@ -3,7 +3,7 @@ use Rattle.std.proofs.Common.{◌≡◌, ◌≢◌, ◌⊎◌, ℕ, ◌≤◌, �
 use Rattle.wasm_leb.specs.Leb.{leb}
 use Rattle.wasm_shapes.specs.Tree.{Tree, normal, visits}
 use Rattle.wasm_shapes.specs.Types.{rows_tree}
-use Rattle.wasm_shapes.specs.Module.{ReadsContents, ReadsCustom, custom_tree_of, names, names_name, unknown_tree_of}
+use Rattle.wasm_shapes.specs.Module.{ReadsContents, ReadsCustom, custom_tree_of, names, names_name}
 use Rattle.wasm_read.specs.Names.{NamesStanding}
 use Rattle.wasm_write.specs.declared.fault.WriteFault.{WriteFault}
 use Rattle.wasm_write.specs.declared.fault.WriteFault.TheVariants as write
@@ -15,7 +15,7 @@ use Rattle.reencode_hooks.specs.declared.error.Error.{Error}
 use Rattle.reencode_hooks.specs.declared.error.Error.TheVariants.{NoMemory, TooLarge}
 use Rattle.reencode_hooks.specs.declared.indices.ReencodeIndices.{Ghosts}
 use Rattle.reencode_hooks.specs.Errors.{error_of_write}
-use Rattle.reencode_hooks.specs.Run.{LeavesVisited, NeverWants, accepted, refused}
+use Rattle.reencode_hooks.specs.Run.{NeverWants, accepted, refused}
 use Rattle.reencode_hooks.specs.Walk.{walk}
 use Rattle.reencode_items.proofs.Leaving.{none_visited, visited_left}
 use Rattle.reencode_core.specs.Errors.{IfParse}
@@ -26,12 +26,12 @@ use Rattle.wasm_shapes.proofs.Laws.{one_tree}
 use Rattle.reencode_core.specs.Names.{GivesCustom, GivesNames, SubsectionsLeft, contents_standing}
 use Rattle.reencode_core.specs.Rows.{Asks}
 use Rattle.reencode_core.specs.Sections.{AddsMapped, GivesAdded, KeepsModule}
+use Rattle.reencode_core.specs.Clauses.{CustomClauses, NamesClauses, UnknownClauses, asks}
 use Rattle.reencode_core.proofs.InFrame.{framed, framed_fits, framed_large, framed_refused}
 use Rattle.reencode_core.proofs.Known.{keeps_same}
 use Rattle.reencode_core.proofs.Leaving.{never_refused}
 use Rattle.reencode_core.proofs.MappedSection.{keeps_none}
-use Rattle.reencode_core.proofs.NamesLoop.{NamesClauses}
-use Rattle.reencode_core.proofs.OneRow.{MapsIf, answers, asks}
+use Rattle.reencode_core.proofs.OneRow.{MapsIf, answers}
 use Rattle.reencode_core.proofs.Usual.{IfParse-map, IfRefused-map, stops_usual, unless_wanting, write_usual}
 
 -- ---- a section in its frame
@@ -68,15 +68,6 @@ added_usual {E = E} P row old new (Err e) adds = let Q : Error E → Type 0 = λ
 
 -- ---- a section of another id
 
-abbrev pub UnknownClauses : {S E : Type 0} → Ghosts S E → ℕ → List ℕ → S → Sections → S → Sections → Result (Unit {0}) (Error E) → Type 0
-UnknownClauses i id contents s old m new result =
-    record {
-      kept : KeepsModule old new;
-      default : IsTrue i.keeps_defaults → GivesAdded (asks i) id (s, old) (unknown_tree_of id contents) (m, new) result;
-      after_error : IsTrue i.keeps_defaults → IsTrue i.sure → LeavesVisited (asks i) s [] m result;
-      usual : IsTrue i.keeps_defaults → IfErr result (λ e. IfParse e (λ at. ⊥));
-    }
-
 pub unknown_added : {S E : Type 0} (i : Ghosts S E) (id : ℕ) (contents : List ℕ) (s : S) (old new : Sections) (r : Result (Unit {0}) (Error E)) →
     AddsMapped {E = E} (section_row id contents) old (Ok tt) new r → UnknownClauses i id contents s old s new r
 unknown_added i id contents s old new r adds = record {
@@ -87,14 +78,6 @@ unknown_added i id contents s old new r adds = record {
 }
 
 -- ---- a custom section
-
-abbrev pub CustomClauses : {S E : Type 0} → Ghosts S E → List ℕ → List ℕ → S → Sections → S → Sections → Result (Unit {0}) (Error E) → Type 0
-CustomClauses i name contents s old m new result =
-    record {
-      kept : KeepsModule old new;
-      default : IsTrue i.keeps_defaults → GivesCustom (asks i) name contents (s, old) (m, new) result;
-      after_error : IsTrue i.keeps_defaults → LeavesMade i.sure (asks i) (custom_in name contents) s m result;
-    }
 
 -- the body of a custom section of a name
 abbrev named : List ℕ → Tree → Tree

@@ -1,5 +1,5 @@
 -- A data segment, as a row that one call maps.
-use Rattle.std.proofs.Common.{◌≡◌, ℕ, ◌+◌, ◌-◌, ◌^◌, ◌<◌, List, [], ◌∷◌, ◌++◌, ◌⊎◌, Contains, Ok, refl, sym, inl, inr, arith}
+use Rattle.std.proofs.Common.{◌≡◌, ℕ, ◌+◌, ◌-◌, ◌^◌, ◌<◌, List, [], ◌∷◌, ◌++◌, ◌⊎◌, Contains, Err, Ok, refl, sym, inl, inr, arith}
 use Rattle.std.proofs.lemmas.List.Elements.{Contains-append_left, Contains-append_right}
 use Rattle.wasm_shapes.specs.declared.Space.TheVariants as space
 use Rattle.wasm_shapes.specs.declared.Visit.TheVariants.{Index}
@@ -9,16 +9,23 @@ use Rattle.wasm_write.specs.declared.fault.WriteFault.{WriteFault}
 use Rattle.wasm_write.specs.declared.fault.WriteFault.TheVariants as fault
 use Rattle.wasm_write.specs.Counts.{IsTooLarge}
 use Rattle.wasm_write.specs.Faults.{IfTooLarge}
+use Rattle.reencode_hooks.specs.declared.error.Error.{Error}
 use Rattle.reencode_hooks.specs.declared.indices.ReencodeIndices.{Ghosts}
 use Rattle.reencode_hooks.specs.Hooks.{Replies}
 use Rattle.reencode_hooks.specs.Run.{Visited, accepted, run}
 use Rattle.reencode_hooks.proofs.Walks.{visited_then}
 use Rattle.reencode_items.proofs.Leaving.{first_visited}
-use Rattle.reencode_core.proofs.OneRow.{MapsIf, asks}
+use Rattle.reencode_core.specs.Clauses.{asks}
+use Rattle.reencode_core.proofs.OneRow.{MapsIf}
 
 -- what a segment becomes, as it is
 abbrev pub as_it_is : Tree → Tree
 as_it_is t = t
+
+-- the memory is refused
+pub memory_refused : {S E : Type 0} (i : Ghosts S E) (memory : ℕ) (offset : Tree) (bytes : List ℕ) (s m : S) (e : Error E) → Replies i.reply i.next s m (Index space.Memory memory) (Err e) →
+    MapsIf i s (active_data_of memory offset bytes) as_it_is m (Err e)
+memory_refused i memory offset bytes s m e h = λ k c other. rw (h other) refl
 
 -- the memory is answered
 module _ {S E : Type 0} (i : Ghosts S E) (memory : ℕ) (offset : Tree) (bytes : List ℕ) (s m n : S) (j : ℕ)
@@ -28,6 +35,10 @@ module _ {S E : Type 0} (i : Ghosts S E) (memory : ℕ) (offset : Tree) (bytes :
   offset_visited v =
       let ran : run (asks i) s (Index space.Memory memory ∷ []) ≡ accepted (j ∷ []) m = rw h refl in
       visited_then (asks i) (Index space.Memory memory ∷ []) ran (first_visited [] v)
+
+  -- the offset is refused
+  pub offset_refused : (e : Error E) → MapsIf i m offset expression_of n (Err e) → MapsIf i s (active_data_of memory offset bytes) as_it_is n (Err e)
+  offset_refused e maps = λ k c other. rw (h, maps k c other) refl
 
   -- it is answered too
   pub segment_mapped : (made : List Tree) → MapsIf i m offset expression_of n (Ok made) →

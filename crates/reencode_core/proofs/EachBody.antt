@@ -23,14 +23,16 @@ use Rattle.reencode_hooks.specs.Walk.{walk}
 use Rattle.reencode_items.specs.Maps.{LeavesOperator, MovesOn, ParsesOperator}
 use Rattle.reencode_core.specs.Errors.{placed_at}
 use Rattle.reencode_core.specs.Rows.{GivesRows, locals}
-use Rattle.reencode_core.specs.Bodies.{GivesBody, GivesLocals, KeepsCode}
+use Rattle.reencode_core.specs.Bodies.{KeepsCode}
 use Rattle.reencode_core.specs.Holds.{AskedRow, HoldsRows}
-use Rattle.reencode_core.specs.Leaves.{Leaves, LeavesMade, body_in, locals_in, rows_in}
+use Rattle.reencode_core.specs.Leaves.{Leaves, LeavesMade, body_in, rows_in}
+use Rattle.reencode_core.specs.Clauses.{CodeSectionClauses, asks}
+pub use Rattle.reencode_core.specs.Clauses.{BodyClauses, LocalsClauses}
 use Rattle.reencode_core.proofs.BodyLoop.{OperatorsDone, body_err, body_more, frames_missing, frames_unread, keeps_code}
 use Rattle.reencode_core.proofs.FunctionMade.{body_leaves_locals, body_leaves_next, body_leaves_none, body_leaves_operator, code_leaves_next}
 use Rattle.reencode_core.proofs.Made.{ended_all, fault_known, placed_wants, tells_if, tree_made, wants_placed, wants_tells_none, write_tells_none, write_unasked}
 use Rattle.reencode_core.proofs.RowsMade.{rows_held, rows_leave_none}
-use Rattle.reencode_core.proofs.OneRow.{answers, asks}
+use Rattle.reencode_core.proofs.OneRow.{answers}
 use Rattle.reencode_core.proofs.RowLoop.{RowsDone, kept_on, rows_all, rows_begin}
 use Rattle.reencode_core.proofs.WholeBody.{body_given, body_locals_refused, body_not_added, body_wants, operator_err, operators_never, operators_none, operators_on}
 
@@ -50,36 +52,9 @@ CodeClauses i start s old m new result =
       after_error : IsTrue i.keeps_defaults → LeavesMade i.sure (asks i) (rows_in code_row start) s m result;
     }
 
--- the same with what the section holds where memory was wanting
-abbrev pub CodeSectionClauses : {S E : Type 0} → Ghosts S E → Standing → S → CodeRows → S → CodeRows → Result (Unit {0}) (Error E) → Type 0
-CodeSectionClauses i start s old m new result =
-    record {
-      kept : KeepsCode old new;
-      default : IsTrue i.keeps_defaults → GivesRows (asks i) old.ceiling code_row start (s, old.rows) (m, new.rows) result;
-      after_error : IsTrue i.keeps_defaults → LeavesMade i.sure (asks i) (rows_in code_row start) s m result;
-      wants : IsTrue i.keeps_defaults → IsTrue i.sure → HoldsRows (asks i) old.ceiling code_row start (s, old.rows) (m, new.rows) result;
-    }
-
 pub code_clauses : {S E : Type 0} (i : Ghosts S E) {start : Standing} {s m : S} {old new : CodeRows} {result : Result (Unit {0}) (Error E)} →
     CodeSectionClauses i start s old m new result → CodeClauses i start s old m new result
 code_clauses i given = record { kept = given.kept; default = given.default; after_error = given.after_error }
-
--- the clauses of the call that maps a body
-abbrev pub BodyClauses : {S E : Type 0} → Ghosts S E → List ℕ → S → CodeRows → S → CodeRows → Result (Unit {0}) (Error E) → Type 0
-BodyClauses i bytes s old m new result =
-    record {
-      kept : KeepsCode old new;
-      default : IsTrue i.keeps_defaults → GivesBody (asks i) bytes (s, old) (m, new) result;
-      after_error : IsTrue i.keeps_defaults → LeavesMade i.sure (asks i) (body_in bytes) s m result;
-    }
-
--- the clauses of the call that maps its locals
-abbrev pub LocalsClauses : {S E : Type 0} → Ghosts S E → List ℕ → S → S → Result Body (Error E) → Type 0
-LocalsClauses i bytes s m result =
-    record {
-      default : IsTrue i.keeps_defaults → GivesLocals (asks i) bytes s m result (λ f. f);
-      after_error : IsTrue i.keeps_defaults → LeavesMade i.sure (asks i) (locals_in bytes) s m result;
-    }
 
 module _ {S E : Type 0} (i : Ghosts S E) {start : Standing} {s0 : S} {old : CodeRows} where
   pub code_begun : CodeKept i start s0 old start s0 old

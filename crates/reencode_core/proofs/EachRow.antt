@@ -10,12 +10,12 @@ use Rattle.wasm_read.specs.Reading.{Standing, place_of, ReadsNoneOrWants, RowRea
 use Rattle.reencode_hooks.specs.declared.error.Error.{Error}
 use Rattle.reencode_hooks.specs.declared.indices.ReencodeIndices.{Ghosts}
 use Rattle.reencode_hooks.specs.Errors.{error_of_fault}
-use Rattle.reencode_core.specs.Rows.{KeepsFront, GivesRows}
-use Rattle.reencode_core.specs.Leaves.{LeavesMade, rows_in}
-use Rattle.reencode_core.specs.Holds.{AskedRow, HoldsRows}
+use Rattle.reencode_core.specs.Rows.{KeepsFront}
+use Rattle.reencode_core.specs.Holds.{AskedRow}
+use Rattle.reencode_core.specs.Clauses.{RowClauses, RowsClauses, asks}
 use Rattle.reencode_core.proofs.Made.{tells_none}
 use Rattle.reencode_core.proofs.RowsMade.{row_made, rows_held, rows_leave_next, rows_leave_none}
-use Rattle.reencode_core.proofs.OneRow.{RowClauses, answers, asks}
+use Rattle.reencode_core.proofs.OneRow.{answers}
 use Rattle.reencode_core.proofs.RowLoop.{RowsDone, kept_on, row_refused, row_usual, rows_all, rows_begin, rows_more, rows_unread}
 
 -- the rows so far are walked and added
@@ -25,16 +25,6 @@ pub record RowsKept {S E : Type 0} (i : Ghosts S E) (row : Shape) (start : Stand
   pub is_closed : closed row ≡ true
   pub kept : KeepsFront old new
   pub default : IsTrue i.keeps_defaults → (c : ℕ) → RowsDone (asks i) c row start s0 old reader s new
-
--- the clauses of a call that maps rows
-abbrev pub RowsClauses : {S E : Type 0} → Ghosts S E → Shape → Standing → S → List Tree → S → List Tree → Result (Unit {0}) (Error E) → Type 0
-RowsClauses i row start s old m new result =
-    record {
-      kept : KeepsFront old new;
-      default : IsTrue i.keeps_defaults → (c : ℕ) → GivesRows (asks i) c row start (s, old) (m, new) result;
-      after_error : IsTrue i.keeps_defaults → LeavesMade i.sure (asks i) (rows_in row start) s m result;
-      wants : IsTrue i.keeps_defaults → IsTrue i.sure → (c : ℕ) → HoldsRows (asks i) c row start (s, old) (m, new) result;
-    }
 
 module _ {S E : Type 0} (i : Ghosts S E) {row : Shape} {start : Standing} {s0 : S} {old : List Tree} where
   pub rows_begun : IsItem row → sound row ≡ true → closed row ≡ true → RowsKept i row start s0 old start s0 old

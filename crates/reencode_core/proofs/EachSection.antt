@@ -26,19 +26,19 @@ use Rattle.reencode_hooks.specs.Hooks.{RepliesSection, KeepsAdds}
 use Rattle.reencode_hooks.specs.Run.{NeverWants, LeavesVisited, ask}
 use Rattle.reencode_core.proofs.Made.{drawn_made, either_made, ended_all, fault_unasked, front_none, front_same, not_wanting, one_ended, placed_wants, tells_if, tells_none, wants_placed}
 use Rattle.reencode_core.proofs.SectionMade.{custom_drawn, numbered_drawn}
-use Rattle.reencode_core.specs.Errors.{IfParse, placed_at}
+use Rattle.reencode_core.specs.Errors.{placed_at}
 use Rattle.reencode_core.specs.Sections.{KeepsModule, GivesAdded, StopsSection}
-use Rattle.reencode_core.specs.Names.{StopsCustom, GivesCustom}
+use Rattle.reencode_core.specs.Names.{StopsCustom}
 use Rattle.reencode_core.specs.Core.{GivesCore}
 use Rattle.reencode_core.specs.Woven.{AddedBefore, GivesWoven}
 use Rattle.reencode_core.specs.Holds.{FrameLeaves, HoldsCore}
 use Rattle.reencode_core.specs.Leaves.{CoreUpTo, Leaves, LeavesCore, NoCoreHeading, LeavesMade, custom_in, module_in, section_in}
+use Rattle.reencode_core.specs.Clauses.{CustomClauses, ModuleClauses, SectionClauses, UnknownClauses, asks}
 use Rattle.reencode_core.proofs.AddsNothing.{core_given}
 use Rattle.reencode_core.proofs.CoreLoop.{SectionsDone, Put, nothing_put, core_leaves_hook, core_leaves_inside, core_leaves_none, end_given, end_left, header_wrong, hook_refused, hook_told, hook_usual, no_header, hook_stops, no_frame, section_err, section_held, sections_begin, sections_more}
 use Rattle.reencode_core.proofs.AnySection.{GivesFramed, Reached, kind_gives, kind_reached, custom_gives, custom_reached, unknown_gives, unknown_reached}
 use Rattle.reencode_core.proofs.Known.{keeps_same, keeps_more, hook_keeps}
-use Rattle.reencode_core.proofs.MappedSection.{SectionClauses}
-use Rattle.reencode_core.proofs.OneRow.{answers, asks}
+use Rattle.reencode_core.proofs.OneRow.{answers}
 
 -- the sections so far are walked and added
 pub record SectionsKept {S E : Type 0} (i : Ghosts S E) (start : read.Sections) (s0 : S) (old : Sections) (reader : read.Sections) (last : Option SectionId) (s : S) (new : Sections) : Type 0 where
@@ -57,41 +57,10 @@ CoreClauses i bytes s old m new result =
       headless : IsTrue i.keeps_defaults → NoCoreHeading bytes → m ≡ s;
     }
 
--- the same with what the module holds where memory was wanting
-abbrev pub ModuleClauses : {S E : Type 0} → Ghosts S E → List ℕ → S → Sections → S → Sections → Result (Unit {0}) (Error E) → Type 0
-ModuleClauses i bytes s old m new result =
-    record {
-      kept : KeepsModule old new;
-      default : IsTrue i.keeps_defaults → IsTrue i.adds_nothing → GivesCore (asks i) bytes (s, old) (m, new) result;
-      woven : IsTrue i.keeps_defaults → GivesWoven (asks i) i.adds bytes (s, old) (m, new) result;
-      after_error : IsTrue i.keeps_defaults → LeavesCore i.sure i.adds_nothing (asks i) (module_in bytes) s m result;
-      headless : IsTrue i.keeps_defaults → NoCoreHeading bytes → m ≡ s;
-      wants : IsTrue i.keeps_defaults → IsTrue i.sure → HoldsCore (asks i) i.adds bytes (s, old) (m, new) result;
-    }
-
 -- the clauses of the section hook
 abbrev pub HookClauses : {S E : Type 0} → Ghosts S E → S → S → Sections → Sections → Option SectionId → Option SectionId → Result (Unit {0}) (Error E) → Type 0
 HookClauses i s m old new after before result =
     record { answer : RepliesSection i.reply i.next i.adds s m old new after before result; sure : NeverWants i.sure result }
-
--- the clauses of the call that maps a custom section
-abbrev pub CustomClauses : {S E : Type 0} → Ghosts S E → List ℕ → List ℕ → S → Sections → S → Sections → Result (Unit {0}) (Error E) → Type 0
-CustomClauses i name contents s old m new result =
-    record {
-      kept : KeepsModule old new;
-      default : IsTrue i.keeps_defaults → GivesCustom (asks i) name contents (s, old) (m, new) result;
-      after_error : IsTrue i.keeps_defaults → LeavesMade i.sure (asks i) (custom_in name contents) s m result;
-    }
-
--- of the one that adds a section of another id
-abbrev pub UnknownClauses : {S E : Type 0} → Ghosts S E → ℕ → List ℕ → S → Sections → S → Sections → Result (Unit {0}) (Error E) → Type 0
-UnknownClauses i id contents s old m new result =
-    record {
-      kept : KeepsModule old new;
-      default : IsTrue i.keeps_defaults → GivesAdded (asks i) id (s, old) (unknown_tree_of id contents) (m, new) result;
-      after_error : IsTrue i.keeps_defaults → IsTrue i.sure → LeavesVisited (asks i) s [] m result;
-      usual : IsTrue i.keeps_defaults → IfErr result (λ e. IfParse e (λ _. ⊥));
-    }
 
 -- ---- what an error of a section leaves
 

@@ -37,10 +37,10 @@ use Rattle.reencode_core.proofs.BodyLoop.{keeps_code}
 use Rattle.reencode_core.proofs.InFrame.{framed, framed_fits, framed_large, framed_refused}
 use Rattle.reencode_core.proofs.NameCalls.{GivesMap, MapLeaves, Quiet, due_drawn, gives_map_at, map_leaves_at, maps_kept}
 use Rattle.reencode_core.specs.Leaves.{Leaves, LeavesMade, entries_bytes, subsection_in}
+use Rattle.reencode_core.specs.Clauses.{SubsectionClauses, asks}
 use Rattle.reencode_core.proofs.Made.{PartMade, drawn_made, front_same, one_ended, tree_made, write_unasked}
 use Rattle.reencode_core.proofs.RowsMade.{drawn_rows}
-use Rattle.reencode_core.proofs.NamesLoop.{SubsectionClauses}
-use Rattle.reencode_core.proofs.OneRow.{answers, asks}
+use Rattle.reencode_core.proofs.OneRow.{answers}
 use Rattle.reencode_core.proofs.Usual.{IfParse-map, IfRefused-map, unless_wanting, usual_ask, write_usual}
 
 -- with an error of a writer nothing was added

@@ -37,7 +37,8 @@ use Rattle.reencode_hooks.proofs.Agrees.{given, inv}
 use Rattle.reencode_items.proofs.Leaving.{first_visited, hook_visited, second_visited}
 use Rattle.reencode_core.specs.Rows.{Asks}
 use Rattle.reencode_core.specs.Elements.{answered_table, asked_table}
-use Rattle.reencode_core.proofs.OneRow.{asks, one_too_many, row_mapped, row_not_added, row_unmapped, MapsIf, RowClauses}
+use Rattle.reencode_core.specs.Clauses.{RowClauses, asks}
+use Rattle.reencode_core.proofs.OneRow.{one_too_many, row_mapped, row_not_added, row_unmapped, MapsIf}
 
 -- ---- the type that a flag stands for
 

@@ -19,10 +19,9 @@ use Rattle.reencode_hooks.specs.declared.indices.ReencodeIndices.{Ghosts}
 use Rattle.reencode_hooks.specs.Run.{Step, accepted, refused, and_then}
 use Rattle.reencode_hooks.specs.Walk.{closed, walk}
 use Rattle.reencode_core.specs.Rows.{Asks, GivesRows}
-use Rattle.reencode_core.proofs.EachBody.{BodyClauses}
-use Rattle.reencode_core.proofs.OneRow.{asks}
 use Rattle.reencode_core.specs.Pieces.{Range, range}
 use Rattle.reencode_core.specs.Sinks.{CodeGrown, FramesDone, GainsFrames, KeepsBody, KeepsCodeSection, KeepsFrames, KeepsRow, ModuleGrown, with_rows}
+use Rattle.reencode_core.specs.Clauses.{BodyClauses, asks}
 use Rattle.reencode_core.proofs.Moved.{fresh_code}
 
 -- ---- a body that was mapped

@@ -72,7 +72,7 @@ module _ {S E : Type 0} {asked : Asks S E} where
   group_leaves {s = s} {m = m} explicit types bare v =
       let P : List Visit → Type 0 = λ z. Visited asked s z m in subst P (sym (group_visits explicit types bare)) v
 
--- ---- a table that is refused
+-- ---- a row that is refused
 
 module _ {S E : Type 0} (asked : Asks S E) (c : ℕ) (s : S) where
   -- where its type is refused, or the expression of its first value, so is the table
@@ -84,3 +84,9 @@ module _ {S E : Type 0} (asked : Asks S E) (c : ℕ) (s : S) where
   pub init_refused : {m : S} {e : Error E} (n : S) (u : Tree) (ty : TableType) (expr : Expression) → walk asked c s (read.table_type_tree ty) ≡ accepted u n →
       walk asked c n (expr_tree expr) ≡ refused e m → walk asked c s (read.table_parts (init.Expr expr) ty) ≡ refused e m
   init_refused n u ty expr h k = rw h (rw k refl)
+
+  -- and where the index of an export is, so is the export
+  pub item_refused : {m : S} {e : Error E} (row : Export) (n : S) (kind : ExportKind) (i : ℕ) →
+      ◌≡◌ {A = Step S (Error E) Tree} (accepted (read.item_tree row.kind i) s) (accepted (write.item_tree kind i) n) → walk asked c n (read.item_tree row.kind row.index) ≡ refused e m →
+      walk asked c s (read.export_tree row) ≡ refused e m
+  item_refused row n kind i k h = let same : s ≡ n = cc in rw (same, h) refl

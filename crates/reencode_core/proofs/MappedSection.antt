@@ -29,24 +29,15 @@ use Rattle.reencode_core.specs.Errors.{IfParse}
 use Rattle.reencode_core.specs.Rows.{GivesRows}
 use Rattle.reencode_core.specs.Sections.{AddsMapped, GivesSection, HasBody, HasItem, HasRows, KeepsModule, NoBody, NoItem}
 use Rattle.reencode_core.specs.Leaves.{LeavesMade, rows_in, section_in}
+use Rattle.reencode_core.specs.Clauses.{RowsClauses, SectionClauses, asks}
 use Rattle.reencode_core.proofs.EachBody.{CodeClauses}
-use Rattle.reencode_core.proofs.EachRow.{RowsClauses}
 use Rattle.reencode_core.proofs.Known.{keeps_same}
 use Rattle.reencode_core.proofs.Made.{fault_unasked, not_wanting, refused_made, write_unasked}
 use Rattle.reencode_core.proofs.SectionMade.{section_leaves, section_leaves_all, section_leaves_part, section_untouched}
-use Rattle.reencode_core.proofs.OneRow.{MapsIf, answers, asks, index_maps}
+use Rattle.reencode_core.proofs.OneRow.{MapsIf, answers, index_maps}
 use Rattle.reencode_core.proofs.OneSection.{BodyMade, gives_none, item_made, item_missing, item_read, item_stops, rows_made, rows_stop, section_given, section_not_given, section_uncounted}
 use Rattle.reencode_core.proofs.RowLoop.{at_ceiling}
 use Rattle.reencode_core.proofs.Usual.{stops_usual, usual_walk}
-
--- the clauses of the call that maps a section
-abbrev pub SectionClauses : {S E : Type 0} → Ghosts S E → SectionId → List ℕ → S → Sections → S → Sections → Result (Unit {0}) (Error E) → Type 0
-SectionClauses i kind body s old m new result =
-    record {
-      kept : KeepsModule old new;
-      default : IsTrue i.keeps_defaults → GivesSection (asks i) kind body (s, old) (m, new) result;
-      after_error : IsTrue i.keeps_defaults → LeavesMade i.sure (asks i) (section_in kind body) s m result;
-    }
 
 -- the clauses of the call that maps a section's one item
 abbrev pub ItemClauses : {S E : Type 0} → Ghosts S E → Space → S → ℕ → S → Result ℕ (Error E) → Type 0

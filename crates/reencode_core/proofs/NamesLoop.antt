@@ -1,5 +1,5 @@
 -- The loop over the subsections of a name section.
-use Rattle.std.proofs.Common.{◌≡◌, ◌≢◌, ◌⊎◌, ℕ, ◌-◌, ◌<◌, ◌+◌, ◌^◌, List, [], ◌∷◌, ◌++◌, length, length-append, Result, Ok, Err, IfErr, IsErrAnd, IsTrue, refl, sym, ap, ◌∙◌, subst, inl, inr, arith}
+use Rattle.std.proofs.Common.{◌≡◌, ◌≢◌, ◌⊎◌, ℕ, ◌-◌, ◌<◌, ◌+◌, ◌^◌, List, [], ◌∷◌, ◌++◌, length, length-append, Result, Ok, Err, IsErrAnd, IsTrue, refl, sym, ap, ◌∙◌, subst, inl, inr, arith}
 use Rattle.std.proofs.lemmas.List.Elements.{Contains-append_left}
 use Rattle.wasm_leb.specs.declared.fault.Fault.{Fault}
 use Rattle.wasm_leb.specs.declared.fault.Fault.TheVariants as fault
@@ -28,38 +28,18 @@ use Rattle.reencode_hooks.specs.Errors.{error_of_fault}
 use Rattle.reencode_hooks.specs.Run.{accepted, refused}
 use Rattle.reencode_hooks.specs.Walk.{walk}
 use Rattle.reencode_hooks.proofs.Walks.{walk_is_run}
-use Rattle.reencode_core.specs.Bodies.{KeepsCode}
 use Rattle.reencode_core.specs.Errors.{IfParse, IfRefused, placed_at}
-use Rattle.reencode_core.specs.Leaves.{EndsBy, IsFront, Leaves, LeavesMade, MadeUpTo, NamesUpTo, TellsFault, entries_bytes, names_in, subsection_in}
+use Rattle.reencode_core.specs.Leaves.{EndsBy, IsFront, Leaves, MadeUpTo, NamesUpTo, TellsFault, entries_bytes, names_in, subsection_in}
 use Rattle.reencode_core.specs.Names.{GivesNames, GivesSubsection, MapRow, RefusesEntry, RefusesSubsection, StopsContent, StopsMap, StopsNames, SubsectionsFault, SubsectionsLeft, TooLargeNames}
 use Rattle.reencode_core.specs.Rows.{Asks}
+use Rattle.reencode_core.specs.Clauses.{NamesClauses, SubsectionClauses, asks}
 use Rattle.reencode_core.proofs.Counts.{only_rows}
 use Rattle.reencode_core.proofs.Made.{ended_all, ended_behind, ended_placed, fault_unasked, front_first, front_none, front_same, front_then, tells_if, tells_placed, wants_placed}
 use Rattle.reencode_core.proofs.RowsMade.{RowsAhead, rows_ahead, visits_behind, visits_more}
 use Rattle.reencode_core.proofs.SectionMade.{names_drawn}
 use Rattle.reencode_core.proofs.ManyLoop.{ManyDone, many_begun, many_more, many_read, many_refused, many_stuck, many_walked}
-use Rattle.reencode_core.proofs.OneRow.{answers, asks}
+use Rattle.reencode_core.proofs.OneRow.{answers}
 use Rattle.reencode_core.proofs.Usual.{IfParse-map, fault_unrefused}
-
--- ---- the clauses
-
--- those of the call that maps a subsection
-abbrev pub SubsectionClauses : {S E : Type 0} → Ghosts S E → Name → S → CodeRows → S → CodeRows → Result (Unit {0}) (Error E) → Type 0
-SubsectionClauses i n s old m new result =
-    record {
-      kept : KeepsCode old new;
-      default : IsTrue i.keeps_defaults → GivesSubsection (asks i) n (s, old) (m, new) result;
-      after_error : IsTrue i.keeps_defaults → LeavesMade i.sure (asks i) (subsection_in n) s m result;
-      unchanged : IsTrue i.keeps_defaults → IfErr result (λ _. new ≡ old);
-    }
-
--- those of the call that maps the subsections of a section
-abbrev pub NamesClauses : {S E : Type 0} → Ghosts S E → ℕ → NamesStanding → S → S → Result CodeRows (Error E) → Type 0
-NamesClauses i c start s m result =
-    record {
-      default : IsTrue i.keeps_defaults → GivesNames (asks i) c start s m result (λ z. z);
-      after_error : IsTrue i.keeps_defaults → LeavesMade i.sure (asks i) (names_in start) s m result;
-    }
 
 -- the subsections so far are walked and added
 pub record NamesKept {S E : Type 0} (i : Ghosts S E) (c : ℕ) (start : NamesStanding) (s0 : S) (reader : NamesStanding) (s : S) (new : CodeRows) : Type 0 where

@@ -28,29 +28,19 @@ use Rattle.reencode_hooks.specs.declared.error.Error.TheVariants.{NoMemory}
 use Rattle.reencode_hooks.specs.declared.indices.ReencodeIndices.{Ghosts}
 use Rattle.reencode_hooks.specs.Errors.{error_of_write}
 use Rattle.reencode_hooks.specs.Hooks.{Replies}
-use Rattle.reencode_hooks.specs.Run.{Step, accepted, refused, LeavesVisited, NeverWants, ask}
+use Rattle.reencode_hooks.specs.Run.{Step, accepted, refused, LeavesVisited, NeverWants}
 use Rattle.reencode_hooks.specs.Walk.{walk}
 use Rattle.reencode_items.specs.Maps.{Maps}
 use Rattle.reencode_items.proofs.Leaving.{accepted_visited, sure_visited}
-use Rattle.reencode_core.specs.Rows.{Asks, KeepsFront, GivesRow, TooLargeMade}
-
--- what asks
-abbrev pub asks : {S E : Type 0} → Ghosts S E → Asks S E
-asks i = ask i.reply i.next
+use Rattle.reencode_core.specs.Rows.{Asks, GivesRow, TooLargeMade}
+use Rattle.reencode_core.specs.Clauses.{RowClauses}
+pub use Rattle.reencode_core.specs.Clauses.{asks}
 
 -- what a `?` answers is that error
 pub answers : {A E : Type 0} {e : Error E} (r : Result A (Error E)) → IsErrAnd r (λ y. y ≡ e) → Err e ≡ r
 answers r q = let p = err_from_is_err_and r q in sym (p.1 ∙ ap (λ (z : Error _). Err z) p.2)
 
--- ---- the clauses of a call that maps a row
-
-abbrev pub RowClauses : {S E : Type 0} → Ghosts S E → Tree → S → List Tree → S → List Tree → Result (Unit {0}) (Error E) → Type 0
-RowClauses i t s old m new result =
-    record {
-      kept : KeepsFront old new;
-      default : IsTrue i.keeps_defaults → (c : ℕ) → GivesRow (asks i) c (s, old) t (m, new) result;
-      after_error : IsTrue i.keeps_defaults → IsTrue i.sure → LeavesVisited (asks i) s (visits t) m result;
-    }
+-- ---- a row that was mapped
 
 -- a call that maps an item, in a reencoder that keeps the defaults
 abbrev pub MapsIf : {S E B : Type 0} → Ghosts S E → S → Tree → (B → Tree) → S → Result B (Error E) → Type 0
@@ -129,6 +119,10 @@ module _ {S E B : Type 0} (i : Ghosts S E) (s m : S) (t : Tree) (view : B → Tr
   behind_byte : (x : ℕ) (r : Result B (Error E)) → MapsIf i s t view m r → MapsIf i s (led x t) (λ b. led x (view b)) m r
   behind_byte x (Ok b) maps = λ k c. rw (maps k c) refl
   behind_byte x (Err e) maps = λ k c other. rw (maps k c other) refl
+
+-- two parts, of which the first was refused
+pub first_refused : {S E A B : Type 0} (i : Ghosts S E) (s m : S) (t u : Tree) (front : A → Tree) (view : B → Tree) (e : Error E) → MapsIf i s t front m (Err e) → MapsIf i s (Tree.pair t u) view m (Err e)
+first_refused i s m t u front view e maps = λ k c other. rw (maps k c other) refl
 
 -- two parts, of which the first was accepted
 pub second_mapped : {S E A B : Type 0} (i : Ghosts S E) (s n m : S) (t u : Tree) (front : A → Tree) (behind : B → Tree) (a : A) (r : Result B (Error E)) →

@@ -25,7 +25,6 @@ use Rattle.reencode_core.proofs.Answered.{kept_is_answered}
 use Rattle.reencode_hooks.specs.Walk.{walk}
 use Rattle.reencode_hooks.specs.Hooks.{KeepsAnswers, RepliesSection}
 use Rattle.reencode_hooks.specs.declared.indices.ReencodeIndices.{Ghosts}
-use Rattle.reencode_core.proofs.OneRow.{asks}
 use Rattle.reencode_core.specs.Rows.{Asks}
 use Rattle.reencode_core.specs.Core.{onto}
 use Rattle.reencode_core.specs.Weave.{Puts}
@@ -33,6 +32,7 @@ use Rattle.reencode_core.proofs.AnySection.{GivesFramed, Reached}
 use Rattle.reencode_core.proofs.CoreLoop.{Ahead, Put, SectionsDone, ahead, none_behind, sections_begin, sections_begin_parts, sections_more, sections_more_parts}
 use Rattle.reencode_core.specs.Pieces.{Range}
 use Rattle.reencode_core.specs.Sinks.{InCode, KeepsCodeSection, KeepsFrames, KeepsKind, KeptOf, KeepsRanges, KeepsSections, NotCode}
+use Rattle.reencode_core.specs.Clauses.{asks}
 
 -- ---- one section more
 

@@ -19,3 +19,4 @@ pub mod Interspersed
 pub mod Pieces
 pub mod Sinks
 pub mod Kept
+pub mod Clauses

@@ -1,14 +1,12 @@
 //! Sections whose rows are mapped by hooks and by methods of items alone, one loop for all of them: `utils` has them, and the
 //! methods call them.
-ghost use Rattle.std.specs.Prelude.{IsTrue, ℕ};
+ghost use Rattle.std.specs.Prelude.{IsTrue};
 ghost use Rattle.wasm_shapes.specs.declared.SectionId.TheVariants as ids;
 ghost use Rattle.wasm_shapes.specs.Drawn.{IsItem};
 ghost use Rattle.wasm_shapes.specs.Module.{row_of};
-ghost use Rattle.reencode_hooks.specs.Run.{NeverWants, ask};
+ghost use Rattle.reencode_hooks.specs.Run.{NeverWants};
 ghost use Rattle.reencode_items.specs.Maps.{Maps};
-ghost use Rattle.reencode_core.specs.Rows.{KeepsFront, GivesRows};
-ghost use Rattle.reencode_core.specs.Holds.{HoldsRows};
-ghost use Rattle.reencode_core.specs.Leaves.{LeavesMade, rows_in};
+ghost use Rattle.reencode_core.specs.Clauses.{RowsClauses};
 
 use reencode_hooks::Error;
 use reencode_items::ReencodeItems;
@@ -64,15 +62,8 @@ where
     K: MapRow<'a, B>,
     B: RowOf<K> + Drop,
     requires { IsItem K.shape }
-    ensures kept { KeepsFront sink.old sink.new }
-    ensures default { IsTrue T.keeps_defaults → (c : ℕ)
-        → GivesRows (ask T.reply T.next) c K.shape section.entry (reencoder.old, sink.old)
-        (reencoder.new, sink.new) result }
-    ensures after_error { IsTrue T.keeps_defaults → LeavesMade T.sure (ask T.reply T.next) (rows_in K.shape section.entry) reencoder.old
-        reencoder.new result }
-    ensures wants { IsTrue T.keeps_defaults → IsTrue T.sure → (c : ℕ)
-        → HoldsRows (ask T.reply T.next) c K.shape section.entry (reencoder.old, sink.old)
-        (reencoder.new, sink.new) result }
+    ensures { RowsClauses T.ReencodeIndices K.shape section.entry
+        reencoder.old sink.old reencoder.new sink.new result }
 {
     let mut rows = section;
     'rows: while let Some(row) = rows.next_row(alloc)? {
@@ -89,15 +80,8 @@ pub fn parse_function_section<T: ReencodeItems>(
     functions: &mut w::FunctionSection,
     section: r::FunctionSectionReader<'_>,
 ) -> Result<(), Error<T::Error>>
-    ensures kept { KeepsFront functions.old functions.new }
-    ensures default { IsTrue T.keeps_defaults → (c : ℕ)
-        → GivesRows (ask T.reply T.next) c (row_of ids.Function) section.entry
-        (reencoder.old, functions.old) (reencoder.new, functions.new) result }
-    ensures after_error { IsTrue T.keeps_defaults → LeavesMade T.sure (ask T.reply T.next) (rows_in (row_of ids.Function) section.entry)
-        reencoder.old reencoder.new result }
-    ensures wants { IsTrue T.keeps_defaults → IsTrue T.sure → (c : ℕ)
-        → HoldsRows (ask T.reply T.next) c (row_of ids.Function) section.entry
-        (reencoder.old, functions.old) (reencoder.new, functions.new) result }
+    ensures { RowsClauses T.ReencodeIndices (row_of ids.Function) section.entry
+        reencoder.old functions.old reencoder.new functions.new result }
 {
     map_section(reencoder, alloc, functions, section)
 }
@@ -109,15 +93,8 @@ pub fn parse_memory_section<T: ReencodeItems>(
     memories: &mut w::MemorySection,
     section: r::MemorySectionReader<'_>,
 ) -> Result<(), Error<T::Error>>
-    ensures kept { KeepsFront memories.old memories.new }
-    ensures default { IsTrue T.keeps_defaults → (c : ℕ)
-        → GivesRows (ask T.reply T.next) c (row_of ids.Memory) section.entry
-        (reencoder.old, memories.old) (reencoder.new, memories.new) result }
-    ensures after_error { IsTrue T.keeps_defaults → LeavesMade T.sure (ask T.reply T.next) (rows_in (row_of ids.Memory) section.entry)
-        reencoder.old reencoder.new result }
-    ensures wants { IsTrue T.keeps_defaults → IsTrue T.sure → (c : ℕ)
-        → HoldsRows (ask T.reply T.next) c (row_of ids.Memory) section.entry
-        (reencoder.old, memories.old) (reencoder.new, memories.new) result }
+    ensures { RowsClauses T.ReencodeIndices (row_of ids.Memory) section.entry
+        reencoder.old memories.old reencoder.new memories.new result }
 {
     map_section(reencoder, alloc, memories, section)
 }
@@ -129,15 +106,8 @@ pub fn parse_tag_section<T: ReencodeItems>(
     tags: &mut w::TagSection,
     section: r::TagSectionReader<'_>,
 ) -> Result<(), Error<T::Error>>
-    ensures kept { KeepsFront tags.old tags.new }
-    ensures default { IsTrue T.keeps_defaults → (c : ℕ)
-        → GivesRows (ask T.reply T.next) c (row_of ids.Tag) section.entry
-        (reencoder.old, tags.old) (reencoder.new, tags.new) result }
-    ensures after_error { IsTrue T.keeps_defaults → LeavesMade T.sure (ask T.reply T.next) (rows_in (row_of ids.Tag) section.entry) reencoder.old
-        reencoder.new result }
-    ensures wants { IsTrue T.keeps_defaults → IsTrue T.sure → (c : ℕ)
-        → HoldsRows (ask T.reply T.next) c (row_of ids.Tag) section.entry
-        (reencoder.old, tags.old) (reencoder.new, tags.new) result }
+    ensures { RowsClauses T.ReencodeIndices (row_of ids.Tag) section.entry
+        reencoder.old tags.old reencoder.new tags.new result }
 {
     map_section(reencoder, alloc, tags, section)
 }

@@ -1,26 +1,17 @@
 //! What a re-encoder does with each section.
-ghost use Rattle.std.specs.Prelude.{◌≡◌, ◌≤◌, IfErr, IsTrue, [], ℕ};
+ghost use Rattle.std.specs.Prelude.{◌≤◌, IsTrue};
 ghost use Rattle.wasm_shapes.specs.declared.SectionId.TheVariants as kinds;
-ghost use Rattle.wasm_shapes.specs.Module.{CoreReading, ReadsCustom, core_module, row_of, unknown_tree_of};
-ghost use Rattle.wasm_shapes.specs.Spells.{Spells};
+ghost use Rattle.wasm_shapes.specs.Module.{row_of};
 ghost use Rattle.wasm_shapes.specs.Tree.{visits};
 ghost use Rattle.wasm_read.specs.declared.types.Imports.TheVariants as imported;
-ghost use Rattle.wasm_read.specs.Subsections.{IsRaw, ReadsName};
+ghost use Rattle.wasm_read.specs.Subsections.{IsRaw};
 ghost use Rattle.wasm_read.specs.Types as read;
 ghost use Rattle.wasm_write.specs.Rows.{start_tree};
 ghost use Rattle.wasm_write.specs.Rows.{elements_tree};
 ghost use Rattle.wasm_write.specs.Types as write;
 ghost use Rattle.reencode_hooks.specs.Run.{LeavesVisited, NeverWants, ask};
 ghost use Rattle.reencode_items.specs.Maps.{Maps};
-ghost use Rattle.reencode_core.specs.Rows.{KeepsFront, GivesRow, GivesRows};
-ghost use Rattle.reencode_core.specs.Bodies.{KeepsCode, GivesLocals, GivesBody};
-ghost use Rattle.reencode_core.specs.Sections.{KeepsModule, ReadsAs, GivesAdded, GivesSection};
-ghost use Rattle.reencode_core.specs.Errors.{IfParse};
-ghost use Rattle.reencode_core.specs.Names.{GivesCustom, GivesNames, GivesSubsection, SubsectionsLeft};
-ghost use Rattle.reencode_core.specs.Core.{GivesCore, GivesBytes};
-ghost use Rattle.reencode_core.specs.Woven.{GivesWoven, GivesWovenBytes};
-ghost use Rattle.reencode_core.specs.Holds.{HoldsCore, HoldsRows};
-ghost use Rattle.reencode_core.specs.Leaves.{LeavesCore, LeavesMade, NoCoreHeading, body_in, core_in, custom_in, locals_in, module_in, names_in, rows_in, section_in, subsection_in};
+ghost use Rattle.reencode_core.specs.Clauses.{BodyClauses, BytesClauses, CodeSectionClauses, CustomClauses, LocalsClauses, ModuleClauses, NamesClauses, RowClauses, RowsClauses, SectionClauses, SubsectionClauses, UnknownClauses};
 
 use crate::errors::placed;
 use crate::sections::{Body, add_rows, add_section, read_body, take_section};
@@ -33,6 +24,8 @@ use wasm_shapes::SectionId;
 use wasm_write as w;
 
 /// What a re-encoder does with each section of a core module.
+///
+/// The clauses of a method are the fields of the record that it cites (`specs/Clauses.antt`).
 ///
 /// The clauses `default` and `after_error` of each method hold where the reencoder keeps the defaults. `after_error` says
 /// that every error leaves the state after the visits that were made. Of what has a reading these are a front part of its
@@ -51,15 +44,8 @@ pub trait Reencode: ReencodeItems {
         types: &mut w::TypeSection,
         section: r::TypeSectionReader<'_>,
     ) -> Result<(), Error<Self::Error>>
-        ensures kept { KeepsFront types.old types.new }
-        ensures default { IsTrue Self.keeps_defaults → (c : ℕ)
-            → GivesRows (ask Self.reply Self.next) c (row_of kinds.Type_) section.entry
-            (self.old, types.old) (self.new, types.new) result }
-        ensures after_error { IsTrue Self.keeps_defaults → LeavesMade Self.sure (ask Self.reply Self.next) (rows_in (row_of kinds.Type_) section.entry)
-            self.old self.new result }
-        ensures wants { IsTrue Self.keeps_defaults → IsTrue Self.sure → (c : ℕ)
-            → HoldsRows (ask Self.reply Self.next) c (row_of kinds.Type_) section.entry
-            (self.old, types.old) (self.new, types.new) result }
+        ensures { RowsClauses Self.ReencodeIndices (row_of kinds.Type_) section.entry
+            self.old types.old self.new types.new result }
     {
         bodies::each_row!(section, alloc, row => types.group(&self.parse_recursive_type_group(alloc, row)?))
     }
@@ -87,14 +73,8 @@ pub trait Reencode: ReencodeItems {
         functions: &mut w::FunctionSection,
         section: r::FunctionSectionReader<'_>,
     ) -> Result<(), Error<Self::Error>>
-        ensures kept { KeepsFront functions.old functions.new }
-        ensures default { IsTrue Self.keeps_defaults → (c : ℕ)
-            → GivesRows (ask Self.reply Self.next) c (row_of kinds.Function) section.entry
-            (self.old, functions.old) (self.new, functions.new) result }
-        ensures after_error { IsTrue Self.keeps_defaults → LeavesMade Self.sure (ask Self.reply Self.next) (rows_in (row_of kinds.Function) section.entry) self.old self.new result }
-        ensures wants { IsTrue Self.keeps_defaults → IsTrue Self.sure → (c : ℕ)
-            → HoldsRows (ask Self.reply Self.next) c (row_of kinds.Function) section.entry
-            (self.old, functions.old) (self.new, functions.new) result }
+        ensures { RowsClauses Self.ReencodeIndices (row_of kinds.Function) section.entry
+            self.old functions.old self.new functions.new result }
     {
         mapped::parse_function_section(self, alloc, functions, section)
     }
@@ -106,15 +86,8 @@ pub trait Reencode: ReencodeItems {
         imports: &mut w::ImportSection,
         section: r::ImportSectionReader<'_>,
     ) -> Result<(), Error<Self::Error>>
-        ensures kept { KeepsFront imports.old imports.new }
-        ensures default { IsTrue Self.keeps_defaults → (c : ℕ)
-            → GivesRows (ask Self.reply Self.next) c (row_of kinds.Import) section.entry
-            (self.old, imports.old) (self.new, imports.new) result }
-        ensures after_error { IsTrue Self.keeps_defaults → LeavesMade Self.sure (ask Self.reply Self.next) (rows_in (row_of kinds.Import) section.entry)
-            self.old self.new result }
-        ensures wants { IsTrue Self.keeps_defaults → IsTrue Self.sure → (c : ℕ)
-            → HoldsRows (ask Self.reply Self.next) c (row_of kinds.Import) section.entry
-            (self.old, imports.old) (self.new, imports.new) result }
+        ensures { RowsClauses Self.ReencodeIndices (row_of kinds.Import) section.entry
+            self.old imports.old self.new imports.new result }
     {
         bodies::each_row!(section, alloc, row => self.parse_imports(alloc, imports, row))
     }
@@ -126,13 +99,8 @@ pub trait Reencode: ReencodeItems {
         import_section: &mut w::ImportSection,
         imports: r::Imports<'_>,
     ) -> Result<(), Error<Self::Error>>
-        ensures kept { KeepsFront import_section.old import_section.new }
-        ensures default { IsTrue Self.keeps_defaults → (c : ℕ)
-            → GivesRow (ask Self.reply Self.next) c (self.old, import_section.old)
-            (read.import_tree imports.entry) (self.new, import_section.new) result }
-        ensures after_error { IsTrue Self.keeps_defaults → IsTrue Self.sure
-            → LeavesVisited (ask Self.reply Self.next) self.old
-            (visits (read.import_tree imports.entry)) self.new result }
+        ensures { RowClauses Self.ReencodeIndices (read.import_tree imports.entry)
+            self.old import_section.old self.new import_section.new result }
     {
         shared::parse_imports(self, alloc, import_section, imports)
     }
@@ -144,13 +112,8 @@ pub trait Reencode: ReencodeItems {
         imports: &mut w::ImportSection,
         import: r::Import<'_>,
     ) -> Result<(), Error<Self::Error>>
-        ensures kept { KeepsFront imports.old imports.new }
-        ensures default { IsTrue Self.keeps_defaults → (c : ℕ)
-            → GivesRow (ask Self.reply Self.next) c (self.old, imports.old)
-            (read.import_tree (imported.Single import.entry)) (self.new, imports.new) result }
-        ensures after_error { IsTrue Self.keeps_defaults → IsTrue Self.sure
-            → LeavesVisited (ask Self.reply Self.next) self.old
-            (visits (read.import_tree (imported.Single import.entry))) self.new result }
+        ensures { RowClauses Self.ReencodeIndices (read.import_tree (imported.Single import.entry))
+            self.old imports.old self.new imports.new result }
     {
         self.parse_imports(alloc, imports, r::Imports::Single(import))
     }
@@ -162,15 +125,8 @@ pub trait Reencode: ReencodeItems {
         tables: &mut w::TableSection,
         section: r::TableSectionReader<'_>,
     ) -> Result<(), Error<Self::Error>>
-        ensures kept { KeepsFront tables.old tables.new }
-        ensures default { IsTrue Self.keeps_defaults → (c : ℕ)
-            → GivesRows (ask Self.reply Self.next) c (row_of kinds.Table) section.entry
-            (self.old, tables.old) (self.new, tables.new) result }
-        ensures after_error { IsTrue Self.keeps_defaults → LeavesMade Self.sure (ask Self.reply Self.next) (rows_in (row_of kinds.Table) section.entry)
-            self.old self.new result }
-        ensures wants { IsTrue Self.keeps_defaults → IsTrue Self.sure → (c : ℕ)
-            → HoldsRows (ask Self.reply Self.next) c (row_of kinds.Table) section.entry
-            (self.old, tables.old) (self.new, tables.new) result }
+        ensures { RowsClauses Self.ReencodeIndices (row_of kinds.Table) section.entry
+            self.old tables.old self.new tables.new result }
     {
         bodies::each_row!(section, alloc, row => self.parse_table(alloc, tables, row))
     }
@@ -182,13 +138,8 @@ pub trait Reencode: ReencodeItems {
         tables: &mut w::TableSection,
         table: r::Table<'_>,
     ) -> Result<(), Error<Self::Error>>
-        ensures kept { KeepsFront tables.old tables.new }
-        ensures default { IsTrue Self.keeps_defaults → (c : ℕ)
-            → GivesRow (ask Self.reply Self.next) c (self.old, tables.old)
-            (read.table_tree table.entry) (self.new, tables.new) result }
-        ensures after_error { IsTrue Self.keeps_defaults → IsTrue Self.sure
-            → LeavesVisited (ask Self.reply Self.next) self.old
-            (visits (read.table_tree table.entry)) self.new result }
+        ensures { RowClauses Self.ReencodeIndices (read.table_tree table.entry)
+            self.old tables.old self.new tables.new result }
     {
         shared::parse_table(self, alloc, tables, table)
     }
@@ -200,15 +151,8 @@ pub trait Reencode: ReencodeItems {
         memories: &mut w::MemorySection,
         section: r::MemorySectionReader<'_>,
     ) -> Result<(), Error<Self::Error>>
-        ensures kept { KeepsFront memories.old memories.new }
-        ensures default { IsTrue Self.keeps_defaults → (c : ℕ)
-            → GivesRows (ask Self.reply Self.next) c (row_of kinds.Memory) section.entry
-            (self.old, memories.old) (self.new, memories.new) result }
-        ensures after_error { IsTrue Self.keeps_defaults → LeavesMade Self.sure (ask Self.reply Self.next) (rows_in (row_of kinds.Memory) section.entry)
-            self.old self.new result }
-        ensures wants { IsTrue Self.keeps_defaults → IsTrue Self.sure → (c : ℕ)
-            → HoldsRows (ask Self.reply Self.next) c (row_of kinds.Memory) section.entry
-            (self.old, memories.old) (self.new, memories.new) result }
+        ensures { RowsClauses Self.ReencodeIndices (row_of kinds.Memory) section.entry
+            self.old memories.old self.new memories.new result }
     {
         mapped::parse_memory_section(self, alloc, memories, section)
     }
@@ -220,15 +164,8 @@ pub trait Reencode: ReencodeItems {
         globals: &mut w::GlobalSection,
         section: r::GlobalSectionReader<'_>,
     ) -> Result<(), Error<Self::Error>>
-        ensures kept { KeepsFront globals.old globals.new }
-        ensures default { IsTrue Self.keeps_defaults → (c : ℕ)
-            → GivesRows (ask Self.reply Self.next) c (row_of kinds.Global) section.entry
-            (self.old, globals.old) (self.new, globals.new) result }
-        ensures after_error { IsTrue Self.keeps_defaults → LeavesMade Self.sure (ask Self.reply Self.next) (rows_in (row_of kinds.Global) section.entry)
-            self.old self.new result }
-        ensures wants { IsTrue Self.keeps_defaults → IsTrue Self.sure → (c : ℕ)
-            → HoldsRows (ask Self.reply Self.next) c (row_of kinds.Global) section.entry
-            (self.old, globals.old) (self.new, globals.new) result }
+        ensures { RowsClauses Self.ReencodeIndices (row_of kinds.Global) section.entry
+            self.old globals.old self.new globals.new result }
     {
         bodies::each_row!(section, alloc, row => self.parse_global(alloc, globals, row))
     }
@@ -240,13 +177,8 @@ pub trait Reencode: ReencodeItems {
         globals: &mut w::GlobalSection,
         global: r::Global<'_>,
     ) -> Result<(), Error<Self::Error>>
-        ensures kept { KeepsFront globals.old globals.new }
-        ensures default { IsTrue Self.keeps_defaults → (c : ℕ)
-            → GivesRow (ask Self.reply Self.next) c (self.old, globals.old)
-            (read.global_tree global.entry) (self.new, globals.new) result }
-        ensures after_error { IsTrue Self.keeps_defaults → IsTrue Self.sure
-            → LeavesVisited (ask Self.reply Self.next) self.old
-            (visits (read.global_tree global.entry)) self.new result }
+        ensures { RowClauses Self.ReencodeIndices (read.global_tree global.entry)
+            self.old globals.old self.new globals.new result }
     {
         shared::parse_global(self, alloc, globals, global)
     }
@@ -258,15 +190,8 @@ pub trait Reencode: ReencodeItems {
         tags: &mut w::TagSection,
         section: r::TagSectionReader<'_>,
     ) -> Result<(), Error<Self::Error>>
-        ensures kept { KeepsFront tags.old tags.new }
-        ensures default { IsTrue Self.keeps_defaults → (c : ℕ)
-            → GivesRows (ask Self.reply Self.next) c (row_of kinds.Tag) section.entry
-            (self.old, tags.old) (self.new, tags.new) result }
-        ensures after_error { IsTrue Self.keeps_defaults → LeavesMade Self.sure (ask Self.reply Self.next) (rows_in (row_of kinds.Tag) section.entry)
-            self.old self.new result }
-        ensures wants { IsTrue Self.keeps_defaults → IsTrue Self.sure → (c : ℕ)
-            → HoldsRows (ask Self.reply Self.next) c (row_of kinds.Tag) section.entry
-            (self.old, tags.old) (self.new, tags.new) result }
+        ensures { RowsClauses Self.ReencodeIndices (row_of kinds.Tag) section.entry
+            self.old tags.old self.new tags.new result }
     {
         mapped::parse_tag_section(self, alloc, tags, section)
     }
@@ -278,15 +203,8 @@ pub trait Reencode: ReencodeItems {
         exports: &mut w::ExportSection,
         section: r::ExportSectionReader<'_>,
     ) -> Result<(), Error<Self::Error>>
-        ensures kept { KeepsFront exports.old exports.new }
-        ensures default { IsTrue Self.keeps_defaults → (c : ℕ)
-            → GivesRows (ask Self.reply Self.next) c (row_of kinds.Export) section.entry
-            (self.old, exports.old) (self.new, exports.new) result }
-        ensures after_error { IsTrue Self.keeps_defaults → LeavesMade Self.sure (ask Self.reply Self.next) (rows_in (row_of kinds.Export) section.entry)
-            self.old self.new result }
-        ensures wants { IsTrue Self.keeps_defaults → IsTrue Self.sure → (c : ℕ)
-            → HoldsRows (ask Self.reply Self.next) c (row_of kinds.Export) section.entry
-            (self.old, exports.old) (self.new, exports.new) result }
+        ensures { RowsClauses Self.ReencodeIndices (row_of kinds.Export) section.entry
+            self.old exports.old self.new exports.new result }
     {
         bodies::each_row!(section, alloc, row => self.parse_export(exports, row))
     }
@@ -297,13 +215,8 @@ pub trait Reencode: ReencodeItems {
         exports: &mut w::ExportSection,
         export: r::Export<'_>,
     ) -> Result<(), Error<Self::Error>>
-        ensures kept { KeepsFront exports.old exports.new }
-        ensures default { IsTrue Self.keeps_defaults → (c : ℕ)
-            → GivesRow (ask Self.reply Self.next) c (self.old, exports.old)
-            (read.export_tree export.entry) (self.new, exports.new) result }
-        ensures after_error { IsTrue Self.keeps_defaults → IsTrue Self.sure
-            → LeavesVisited (ask Self.reply Self.next) self.old
-            (visits (read.export_tree export.entry)) self.new result }
+        ensures { RowClauses Self.ReencodeIndices (read.export_tree export.entry)
+            self.old exports.old self.new exports.new result }
     {
         shared::parse_export(self, exports, export)
     }
@@ -325,15 +238,8 @@ pub trait Reencode: ReencodeItems {
         elements: &mut w::ElementSection,
         section: r::ElementSectionReader<'_>,
     ) -> Result<(), Error<Self::Error>>
-        ensures kept { KeepsFront elements.old elements.new }
-        ensures default { IsTrue Self.keeps_defaults → (c : ℕ)
-            → GivesRows (ask Self.reply Self.next) c (row_of kinds.Element) section.entry
-            (self.old, elements.old) (self.new, elements.new) result }
-        ensures after_error { IsTrue Self.keeps_defaults → LeavesMade Self.sure (ask Self.reply Self.next) (rows_in (row_of kinds.Element) section.entry)
-            self.old self.new result }
-        ensures wants { IsTrue Self.keeps_defaults → IsTrue Self.sure → (c : ℕ)
-            → HoldsRows (ask Self.reply Self.next) c (row_of kinds.Element) section.entry
-            (self.old, elements.old) (self.new, elements.new) result }
+        ensures { RowsClauses Self.ReencodeIndices (row_of kinds.Element) section.entry
+            self.old elements.old self.new elements.new result }
     {
         bodies::each_row!(section, alloc, row => self.parse_element(alloc, elements, row))
     }
@@ -347,13 +253,8 @@ pub trait Reencode: ReencodeItems {
         elements: &mut w::ElementSection,
         element: r::Element<'_>,
     ) -> Result<(), Error<Self::Error>>
-        ensures kept { KeepsFront elements.old elements.new }
-        ensures default { IsTrue Self.keeps_defaults → (c : ℕ)
-            → GivesRow (ask Self.reply Self.next) c (self.old, elements.old)
-            (read.element_tree element.entry) (self.new, elements.new) result }
-        ensures after_error { IsTrue Self.keeps_defaults → IsTrue Self.sure
-            → LeavesVisited (ask Self.reply Self.next) self.old
-            (visits (read.element_tree element.entry)) self.new result }
+        ensures { RowClauses Self.ReencodeIndices (read.element_tree element.entry)
+            self.old elements.old self.new elements.new result }
     {
         bodies::parse_element!(self, alloc, elements, element)
     }
@@ -383,15 +284,8 @@ pub trait Reencode: ReencodeItems {
         code: &mut w::CodeSection,
         section: r::CodeSectionReader<'_>,
     ) -> Result<(), Error<Self::Error>>
-        ensures kept { KeepsCode code.old code.new }
-        ensures default { IsTrue Self.keeps_defaults
-            → GivesRows (ask Self.reply Self.next) code.old.ceiling (row_of kinds.Code)
-            section.entry (self.old, code.old.rows) (self.new, code.new.rows) result }
-        ensures after_error { IsTrue Self.keeps_defaults → LeavesMade Self.sure (ask Self.reply Self.next) (rows_in (row_of kinds.Code) section.entry)
-            self.old self.new result }
-        ensures wants { IsTrue Self.keeps_defaults → IsTrue Self.sure
-            → HoldsRows (ask Self.reply Self.next) code.old.ceiling (row_of kinds.Code) section.entry
-            (self.old, code.old.rows) (self.new, code.new.rows) result }
+        ensures { CodeSectionClauses Self.ReencodeIndices section.entry
+            self.old code.old self.new code.new result }
     {
         bodies::parse_code_section!(self, alloc, code, section)
     }
@@ -404,12 +298,8 @@ pub trait Reencode: ReencodeItems {
         code: &mut w::CodeSection,
         func: r::FunctionBody<'_>,
     ) -> Result<(), Error<Self::Error>>
-        ensures kept { KeepsCode code.old code.new }
-        ensures default { IsTrue Self.keeps_defaults
-            → GivesBody (ask Self.reply Self.next) func.entry.bytes.now (self.old, code.old)
-            (self.new, code.new) result }
-        ensures after_error { IsTrue Self.keeps_defaults → LeavesMade Self.sure (ask Self.reply Self.next) (body_in func.entry.bytes.now) self.old
-            self.new result }
+        ensures { BodyClauses Self.ReencodeIndices func.entry.bytes.now
+            self.old code.old self.new code.new result }
     {
         bodies::parse_function_body!(
             self,
@@ -426,11 +316,7 @@ pub trait Reencode: ReencodeItems {
         alloc: Global,
         func: &r::FunctionBody<'_>,
     ) -> Result<w::Function, Error<Self::Error>>
-        ensures default { IsTrue Self.keeps_defaults
-            → GivesLocals (ask Self.reply Self.next) func.now.bytes.now self.old self.new result
-            (λ f. f) }
-        ensures after_error { IsTrue Self.keeps_defaults → LeavesMade Self.sure (ask Self.reply Self.next) (locals_in func.now.bytes.now) self.old
-            self.new result }
+        ensures { LocalsClauses Self.ReencodeIndices func.now.bytes.now self.old self.new result }
     {
         shared::new_function_with_parsed_locals(self, alloc, func)
     }
@@ -442,15 +328,8 @@ pub trait Reencode: ReencodeItems {
         segments: &mut w::DataSection,
         section: r::DataSectionReader<'_>,
     ) -> Result<(), Error<Self::Error>>
-        ensures kept { KeepsFront segments.old segments.new }
-        ensures default { IsTrue Self.keeps_defaults → (c : ℕ)
-            → GivesRows (ask Self.reply Self.next) c (row_of kinds.Data) section.entry
-            (self.old, segments.old) (self.new, segments.new) result }
-        ensures after_error { IsTrue Self.keeps_defaults → LeavesMade Self.sure (ask Self.reply Self.next) (rows_in (row_of kinds.Data) section.entry)
-            self.old self.new result }
-        ensures wants { IsTrue Self.keeps_defaults → IsTrue Self.sure → (c : ℕ)
-            → HoldsRows (ask Self.reply Self.next) c (row_of kinds.Data) section.entry
-            (self.old, segments.old) (self.new, segments.new) result }
+        ensures { RowsClauses Self.ReencodeIndices (row_of kinds.Data) section.entry
+            self.old segments.old self.new segments.new result }
     {
         bodies::each_row!(section, alloc, row => self.parse_data(alloc, segments, row))
     }
@@ -463,13 +342,8 @@ pub trait Reencode: ReencodeItems {
         segments: &mut w::DataSection,
         datum: r::Data<'_>,
     ) -> Result<(), Error<Self::Error>>
-        ensures kept { KeepsFront segments.old segments.new }
-        ensures default { IsTrue Self.keeps_defaults → (c : ℕ)
-            → GivesRow (ask Self.reply Self.next) c (self.old, segments.old)
-            (read.data_tree datum.entry) (self.new, segments.new) result }
-        ensures after_error { IsTrue Self.keeps_defaults → IsTrue Self.sure
-            → LeavesVisited (ask Self.reply Self.next) self.old
-            (visits (read.data_tree datum.entry)) self.new result }
+        ensures { RowClauses Self.ReencodeIndices (read.data_tree datum.entry)
+            self.old segments.old self.new segments.new result }
     {
         shared::parse_data(self, alloc, segments, datum)
     }
@@ -482,12 +356,8 @@ pub trait Reencode: ReencodeItems {
         id: SectionId,
         body: &[u8],
     ) -> Result<(), Error<Self::Error>>
-        ensures kept { KeepsModule «module».old «module».new }
-        ensures default { IsTrue Self.keeps_defaults
-            → GivesSection (ask Self.reply Self.next) id body.now (self.old, «module».old)
-            (self.new, «module».new) result }
-        ensures after_error { IsTrue Self.keeps_defaults → LeavesMade Self.sure (ask Self.reply Self.next) (section_in id body.now)
-            self.old self.new result }
+        ensures { SectionClauses Self.ReencodeIndices id body.now
+            self.old «module».old self.new «module».new result }
     {
         bodies::parse_section!(self, alloc, module, id, body)
     }
@@ -513,12 +383,8 @@ pub trait Reencode: ReencodeItems {
         module: &mut w::Module,
         section: r::CustomSection<'_>,
     ) -> Result<(), Error<Self::Error>>
-        ensures kept { KeepsModule «module».old «module».new }
-        ensures default { IsTrue Self.keeps_defaults
-            → GivesCustom (ask Self.reply Self.next)
-            section.entry.name.now section.entry.contents.now
-            (self.old, «module».old) (self.new, «module».new) result }
-        ensures after_error { IsTrue Self.keeps_defaults → LeavesMade Self.sure (ask Self.reply Self.next) (custom_in section.entry.name.now section.entry.contents.now) self.old self.new result }
+        ensures { CustomClauses Self.ReencodeIndices section.entry.name.now section.entry.contents.now
+            self.old «module».old self.new «module».new result }
     {
         bodies::parse_custom_section!(self, alloc, module, section)
     }
@@ -531,13 +397,8 @@ pub trait Reencode: ReencodeItems {
         contents: &[u8],
     ) -> Result<(), Error<Self::Error>>
         requires { id ≤ 127 }
-        ensures kept { KeepsModule «module».old «module».new }
-        ensures default { IsTrue Self.keeps_defaults
-            → GivesAdded (ask Self.reply Self.next) id (self.old, «module».old)
-            (unknown_tree_of id contents.now) (self.new, «module».new) result }
-        ensures after_error { IsTrue Self.keeps_defaults → IsTrue Self.sure
-            → LeavesVisited (ask Self.reply Self.next) self.old [] self.new result }
-        ensures usual { IsTrue Self.keeps_defaults → IfErr result (λ e. IfParse e (λ _. ⊥)) }
+        ensures { UnknownClauses Self.ReencodeIndices id contents.now
+            self.old «module».old self.new «module».new result }
     {
         shared::parse_unknown_section(self, module, id, contents)
     }
@@ -550,11 +411,7 @@ pub trait Reencode: ReencodeItems {
         section: r::NameSectionReader<'_>,
         ceiling: u32,
     ) -> Result<w::NameSection, Error<Self::Error>>
-        ensures default { IsTrue Self.keeps_defaults
-            → GivesNames (ask Self.reply Self.next) ceiling section.entry self.old self.new result
-            (λ names. names) }
-        ensures after_error { IsTrue Self.keeps_defaults → LeavesMade Self.sure (ask Self.reply Self.next) (names_in section.entry)
-            self.old self.new result }
+        ensures { NamesClauses Self.ReencodeIndices ceiling section.entry self.old self.new result }
     {
         bodies::custom_name_section!(self, alloc, section, ceiling)
     }
@@ -568,13 +425,8 @@ pub trait Reencode: ReencodeItems {
         section: r::Name<'_>,
     ) -> Result<(), Error<Self::Error>>
         requires { IsRaw section }
-        ensures kept { KeepsCode names.old names.new }
-        ensures default { IsTrue Self.keeps_defaults
-            → GivesSubsection (ask Self.reply Self.next) section.entry (self.old, names.old)
-            (self.new, names.new) result }
-        ensures after_error { IsTrue Self.keeps_defaults → LeavesMade Self.sure (ask Self.reply Self.next) (subsection_in section.entry)
-            self.old self.new result }
-        ensures unchanged { IsTrue Self.keeps_defaults → IfErr result (λ _. names.new ≡ names.old) }
+        ensures { SubsectionClauses Self.ReencodeIndices section.entry
+            self.old names.old self.new names.new result }
     {
         subsections::parse_custom_name_subsection(self, alloc, names, section)
     }
@@ -586,19 +438,8 @@ pub trait Reencode: ReencodeItems {
         module: &mut w::Module,
         bytes: &[u8],
     ) -> Result<(), Error<Self::Error>>
-        ensures kept { KeepsModule «module».old «module».new }
-        ensures default { IsTrue Self.keeps_defaults → IsTrue Self.adds_nothing
-            → GivesCore (ask Self.reply Self.next) bytes.now (self.old, «module».old)
-            (self.new, «module».new) result }
-        ensures woven { IsTrue Self.keeps_defaults
-            → GivesWoven (ask Self.reply Self.next) Self.adds bytes.now (self.old, «module».old)
-            (self.new, «module».new) result }
-        ensures after_error { IsTrue Self.keeps_defaults → LeavesCore Self.sure Self.adds_nothing (ask Self.reply Self.next) (module_in bytes.now)
-            self.old self.new result }
-        ensures headless { IsTrue Self.keeps_defaults → NoCoreHeading bytes.now → self.new ≡ self.old }
-        ensures wants { IsTrue Self.keeps_defaults → IsTrue Self.sure
-            → HoldsCore (ask Self.reply Self.next) Self.adds bytes.now (self.old, «module».old)
-            (self.new, «module».new) result }
+        ensures { ModuleClauses Self.ReencodeIndices bytes.now
+            self.old «module».old self.new «module».new result }
     {
         bodies::parse_core_module!(self, alloc, module, bytes)
     }
@@ -611,13 +452,7 @@ pub fn reencode_core<R: Reencode>(
     bytes: &[u8],
     ceiling: u32,
 ) -> Result<Vec<u8>, Error<R::Error>>
-    ensures default { IsTrue R.keeps_defaults → IsTrue R.adds_nothing
-        → GivesBytes (ask R.reply R.next) ceiling bytes.now r.old r.new result (λ v. v.items) }
-    ensures woven { IsTrue R.keeps_defaults
-        → GivesWovenBytes (ask R.reply R.next) R.adds ceiling bytes.now r.old r.new result
-        (λ v. v.items) }
-    ensures after_error { IsTrue R.keeps_defaults → LeavesCore R.sure R.adds_nothing (ask R.reply R.next) (core_in bytes.now) r.old r.new result }
-    ensures headless { IsTrue R.keeps_defaults → NoCoreHeading bytes.now → r.new ≡ r.old }
+    ensures { BytesClauses R.ReencodeIndices ceiling bytes.now r.old r.new result (λ v. v.items) }
 {
     let mut module = w::Module::new(alloc, ceiling)?;
     r.parse_core_module(alloc, &mut module, bytes)?;

@@ -1,18 +1,13 @@
 //! The bodies that call methods of the traits below alone, each once: `utils` has them, and the methods call them.
-ghost use Rattle.std.specs.Prelude.{◌≡◌, ◌≤◌, IfErr, IsTrue, [], ℕ};
-ghost use Rattle.wasm_shapes.specs.Module.{unknown_tree_of};
+ghost use Rattle.std.specs.Prelude.{◌≡◌, ◌≤◌, IsTrue};
 ghost use Rattle.wasm_shapes.specs.Tree.{visits};
 ghost use Rattle.wasm_read.specs.Types as read;
 ghost use Rattle.wasm_write.specs.Rows.{elements_tree};
 ghost use Rattle.wasm_write.specs.Types as write;
 ghost use Rattle.reencode_hooks.specs.Run.{LeavesVisited, ask};
 ghost use Rattle.reencode_items.specs.Maps.{Maps};
-ghost use Rattle.reencode_core.specs.Rows.{KeepsFront, GivesRow};
-ghost use Rattle.reencode_core.specs.Bodies.{GivesBody, GivesLocals, KeepsCode};
-ghost use Rattle.reencode_core.specs.Sections.{KeepsModule, GivesAdded};
-ghost use Rattle.reencode_core.specs.Errors.{IfParse};
 ghost use Rattle.reencode_core.specs.Elements.{answered_table, asked_table};
-ghost use Rattle.reencode_core.specs.Leaves.{LeavesMade, body_in, locals_in};
+ghost use Rattle.reencode_core.specs.Clauses.{BodyClauses, LocalsClauses, RowClauses, UnknownClauses};
 
 use crate::bodies;
 use crate::imports::single;
@@ -56,13 +51,8 @@ pub fn parse_imports<T: ReencodeItems>(
     import_section: &mut w::ImportSection,
     imports: r::Imports<'_>,
 ) -> Result<(), Error<T::Error>>
-    ensures kept { KeepsFront import_section.old import_section.new }
-    ensures default { IsTrue T.keeps_defaults → (c : ℕ)
-        → GivesRow (ask T.reply T.next) c (reencoder.old, import_section.old)
-        (read.import_tree imports.entry) (reencoder.new, import_section.new) result }
-    ensures after_error { IsTrue T.keeps_defaults → IsTrue T.sure
-        → LeavesVisited (ask T.reply T.next) reencoder.old (visits (read.import_tree imports.entry))
-        reencoder.new result }
+    ensures { RowClauses T.ReencodeIndices (read.import_tree imports.entry)
+        reencoder.old import_section.old reencoder.new import_section.new result }
 {
     let import = single(imports);
     let ty = reencoder.entity_type(import.ty)?;
@@ -82,13 +72,8 @@ pub fn parse_table<T: ReencodeItems>(
     tables: &mut w::TableSection,
     table: r::Table<'_>,
 ) -> Result<(), Error<T::Error>>
-    ensures kept { KeepsFront tables.old tables.new }
-    ensures default { IsTrue T.keeps_defaults → (c : ℕ)
-        → GivesRow (ask T.reply T.next) c (reencoder.old, tables.old)
-        (read.table_tree table.entry) (reencoder.new, tables.new) result }
-    ensures after_error { IsTrue T.keeps_defaults → IsTrue T.sure
-        → LeavesVisited (ask T.reply T.next) reencoder.old (visits (read.table_tree table.entry))
-        reencoder.new result }
+    ensures { RowClauses T.ReencodeIndices (read.table_tree table.entry)
+        reencoder.old tables.old reencoder.new tables.new result }
 {
     let ty = reencoder.table_type(table.ty)?;
     match table.init {
@@ -111,13 +96,8 @@ pub fn parse_global<T: ReencodeItems>(
     globals: &mut w::GlobalSection,
     global: r::Global<'_>,
 ) -> Result<(), Error<T::Error>>
-    ensures kept { KeepsFront globals.old globals.new }
-    ensures default { IsTrue T.keeps_defaults → (c : ℕ)
-        → GivesRow (ask T.reply T.next) c (reencoder.old, globals.old)
-        (read.global_tree global.entry) (reencoder.new, globals.new) result }
-    ensures after_error { IsTrue T.keeps_defaults → IsTrue T.sure
-        → LeavesVisited (ask T.reply T.next) reencoder.old (visits (read.global_tree global.entry))
-        reencoder.new result }
+    ensures { RowClauses T.ReencodeIndices (read.global_tree global.entry)
+        reencoder.old globals.old reencoder.new globals.new result }
 {
     let ty = reencoder.global_type(global.ty)?;
     let init = reencoder.const_expr(alloc, global.init_expr)?;
@@ -131,13 +111,8 @@ pub fn parse_export<T: ReencodeItems>(
     exports: &mut w::ExportSection,
     export: r::Export<'_>,
 ) -> Result<(), Error<T::Error>>
-    ensures kept { KeepsFront exports.old exports.new }
-    ensures default { IsTrue T.keeps_defaults → (c : ℕ)
-        → GivesRow (ask T.reply T.next) c (reencoder.old, exports.old)
-        (read.export_tree export.entry) (reencoder.new, exports.new) result }
-    ensures after_error { IsTrue T.keeps_defaults → IsTrue T.sure
-        → LeavesVisited (ask T.reply T.next) reencoder.old (visits (read.export_tree export.entry))
-        reencoder.new result }
+    ensures { RowClauses T.ReencodeIndices (read.export_tree export.entry)
+        reencoder.old exports.old reencoder.new exports.new result }
 {
     let kind = reencoder.export_kind(export.kind)?;
     let index = reencoder.external_index(export.kind, export.index)?;
@@ -153,13 +128,8 @@ pub fn parse_data<T: ReencodeItems>(
     segments: &mut w::DataSection,
     datum: r::Data<'_>,
 ) -> Result<(), Error<T::Error>>
-    ensures kept { KeepsFront segments.old segments.new }
-    ensures default { IsTrue T.keeps_defaults → (c : ℕ)
-        → GivesRow (ask T.reply T.next) c (reencoder.old, segments.old)
-        (read.data_tree datum.entry) (reencoder.new, segments.new) result }
-    ensures after_error { IsTrue T.keeps_defaults → IsTrue T.sure
-        → LeavesVisited (ask T.reply T.next) reencoder.old (visits (read.data_tree datum.entry))
-        reencoder.new result }
+    ensures { RowClauses T.ReencodeIndices (read.data_tree datum.entry)
+        reencoder.old segments.old reencoder.new segments.new result }
 {
     let r::Data { kind, contents } = datum;
     match kind {
@@ -234,11 +204,8 @@ pub fn new_function_with_parsed_locals<T: ReencodeItems>(
     alloc: Global,
     func: &r::FunctionBody<'_>,
 ) -> Result<w::Function, Error<T::Error>>
-    ensures default { IsTrue T.keeps_defaults
-        → GivesLocals (ask T.reply T.next) func.now.bytes.now reencoder.old reencoder.new result
-        (λ f. f) }
-    ensures after_error { IsTrue T.keeps_defaults → LeavesMade T.sure (ask T.reply T.next) (locals_in func.now.bytes.now) reencoder.old
-        reencoder.new result }
+    ensures { LocalsClauses T.ReencodeIndices func.now.bytes.now
+        reencoder.old reencoder.new result }
 {
     let locals = func.locals(alloc)?;
     let mut mapped = List::with_capacity(alloc, locals.len())?;
@@ -256,12 +223,8 @@ pub(crate) fn parse_function_body<T: ReencodeItems>(
     code: &mut w::CodeSection,
     func: r::FunctionBody<'_>,
 ) -> Result<(), Error<T::Error>>
-    ensures kept { KeepsCode code.old code.new }
-    ensures default { IsTrue T.keeps_defaults
-        → GivesBody (ask T.reply T.next) func.entry.bytes.now (reencoder.old, code.old)
-        (reencoder.new, code.new) result }
-    ensures after_error { IsTrue T.keeps_defaults → LeavesMade T.sure (ask T.reply T.next) (body_in func.entry.bytes.now) reencoder.old
-        reencoder.new result }
+    ensures { BodyClauses T.ReencodeIndices func.entry.bytes.now
+        reencoder.old code.old reencoder.new code.new result }
 {
     bodies::parse_function_body!(
         reencoder,
@@ -292,13 +255,8 @@ pub fn parse_unknown_section<T: ReencodeIndices>(
     contents: &[u8],
 ) -> Result<(), Error<T::Error>>
     requires { id ≤ 127 }
-    ensures kept { KeepsModule «module».old «module».new }
-    ensures default { IsTrue T.keeps_defaults
-        → GivesAdded (ask T.reply T.next) id (reencoder.old, «module».old)
-        (unknown_tree_of id contents.now) (reencoder.new, «module».new) result }
-    ensures after_error { IsTrue T.keeps_defaults → IsTrue T.sure
-        → LeavesVisited (ask T.reply T.next) reencoder.old [] reencoder.new result }
-    ensures usual { IsTrue T.keeps_defaults → IfErr result (λ e. IfParse e (λ _. ⊥)) }
+    ensures { UnknownClauses T.ReencodeIndices id contents.now
+        reencoder.old «module».old reencoder.new «module».new result }
 {
     add_section(module, Ok(()), &w::RawSection { id, contents })
 }

@@ -10,6 +10,7 @@ ghost use Rattle.wasm_write.specs.Faults.{IfTooLarge};
 ghost use Rattle.wasm_write.specs.Names.{PassesCeiling};
 ghost use Rattle.reencode_hooks.specs.Run.{ask};
 ghost use Rattle.reencode_core.specs.Bodies.{KeepsCode};
+ghost use Rattle.reencode_core.specs.Clauses.{SubsectionClauses};
 ghost use Rattle.reencode_core.specs.Leaves.{LeavesMade, subsection_in};
 ghost use Rattle.reencode_core.specs.Names.{GivesSubsection, IsIndirect, names_id, of_writer};
 
@@ -148,13 +149,8 @@ pub fn parse_custom_name_subsection<T: ReencodeIndices>(
     section: r::Name<'_>,
 ) -> Result<(), Error<T::Error>>
     requires { IsRaw section }
-    ensures kept { KeepsCode names.old names.new }
-    ensures default { IsTrue T.keeps_defaults
-        → GivesSubsection (ask T.reply T.next) section.entry (reencoder.old, names.old)
-        (reencoder.new, names.new) result }
-    ensures after_error { IsTrue T.keeps_defaults → LeavesMade T.sure (ask T.reply T.next) (subsection_in section.entry)
-        reencoder.old reencoder.new result }
-    ensures unchanged { IsTrue T.keeps_defaults → IfErr result (λ _. names.new ≡ names.old) }
+    ensures { SubsectionClauses T.ReencodeIndices section.entry
+        reencoder.old names.old reencoder.new names.new result }
 {
     match section {
         r::Name::Module { name } => written(names.module(name)),

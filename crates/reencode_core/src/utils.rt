@@ -2,21 +2,11 @@
 //!
 //! Those whose bodies call no method of `Reencode` are bounded by the trait below whose methods they call, `ReencodeItems` or
 //! `ReencodeIndices`, so that an override can call them.
-ghost use Rattle.std.specs.Prelude.{◌≡◌, IsTrue, ℕ};
 ghost use Rattle.wasm_shapes.specs.declared.SectionId.TheVariants as kinds;
 ghost use Rattle.wasm_shapes.specs.Module.{row_of};
-ghost use Rattle.wasm_shapes.specs.Tree.{visits};
 ghost use Rattle.wasm_read.specs.declared.types.Imports.TheVariants as imported;
 ghost use Rattle.wasm_read.specs.Types as read;
-ghost use Rattle.reencode_hooks.specs.Run.{LeavesVisited, ask};
-ghost use Rattle.reencode_core.specs.Rows.{KeepsFront, GivesRow, GivesRows};
-ghost use Rattle.reencode_core.specs.Bodies.{KeepsCode, GivesBody};
-ghost use Rattle.reencode_core.specs.Sections.{KeepsModule, GivesSection};
-ghost use Rattle.reencode_core.specs.Names.{GivesCustom, GivesNames};
-ghost use Rattle.reencode_core.specs.Core.{GivesCore};
-ghost use Rattle.reencode_core.specs.Woven.{GivesWoven};
-ghost use Rattle.reencode_core.specs.Holds.{HoldsCore, HoldsRows};
-ghost use Rattle.reencode_core.specs.Leaves.{LeavesCore, LeavesMade, NoCoreHeading, body_in, custom_in, module_in, names_in, rows_in, section_in};
+ghost use Rattle.reencode_core.specs.Clauses.{BodyClauses, CodeSectionClauses, CustomClauses, ModuleClauses, NamesClauses, RowClauses, RowsClauses, SectionClauses};
 
 use crate::errors::placed;
 pub use crate::mapped::{parse_function_section, parse_memory_section, parse_tag_section};
@@ -41,15 +31,8 @@ pub fn parse_type_section<T: Reencode>(
     types: &mut w::TypeSection,
     section: r::TypeSectionReader<'_>,
 ) -> Result<(), Error<T::Error>>
-    ensures kept { KeepsFront types.old types.new }
-    ensures default { IsTrue T.keeps_defaults → (c : ℕ)
-        → GivesRows (ask T.reply T.next) c (row_of kinds.Type_) section.entry
-        (reencoder.old, types.old) (reencoder.new, types.new) result }
-    ensures after_error { IsTrue T.keeps_defaults → LeavesMade T.sure (ask T.reply T.next) (rows_in (row_of kinds.Type_) section.entry)
-        reencoder.old reencoder.new result }
-    ensures wants { IsTrue T.keeps_defaults → IsTrue T.sure → (c : ℕ)
-        → HoldsRows (ask T.reply T.next) c (row_of kinds.Type_) section.entry
-        (reencoder.old, types.old) (reencoder.new, types.new) result }
+    ensures { RowsClauses T.ReencodeIndices (row_of kinds.Type_) section.entry
+        reencoder.old types.old reencoder.new types.new result }
 {
     bodies::each_row!(section, alloc, row => types.group(&reencoder.parse_recursive_type_group(alloc, row)?))
 }
@@ -61,15 +44,8 @@ pub fn parse_import_section<T: Reencode>(
     imports: &mut w::ImportSection,
     section: r::ImportSectionReader<'_>,
 ) -> Result<(), Error<T::Error>>
-    ensures kept { KeepsFront imports.old imports.new }
-    ensures default { IsTrue T.keeps_defaults → (c : ℕ)
-        → GivesRows (ask T.reply T.next) c (row_of kinds.Import) section.entry
-        (reencoder.old, imports.old) (reencoder.new, imports.new) result }
-    ensures after_error { IsTrue T.keeps_defaults → LeavesMade T.sure (ask T.reply T.next) (rows_in (row_of kinds.Import) section.entry)
-        reencoder.old reencoder.new result }
-    ensures wants { IsTrue T.keeps_defaults → IsTrue T.sure → (c : ℕ)
-        → HoldsRows (ask T.reply T.next) c (row_of kinds.Import) section.entry
-        (reencoder.old, imports.old) (reencoder.new, imports.new) result }
+    ensures { RowsClauses T.ReencodeIndices (row_of kinds.Import) section.entry
+        reencoder.old imports.old reencoder.new imports.new result }
 {
     bodies::each_row!(section, alloc, row => reencoder.parse_imports(alloc, imports, row))
 }
@@ -81,13 +57,8 @@ pub fn parse_import<T: Reencode>(
     imports: &mut w::ImportSection,
     import: r::Import<'_>,
 ) -> Result<(), Error<T::Error>>
-    ensures kept { KeepsFront imports.old imports.new }
-    ensures default { IsTrue T.keeps_defaults → (c : ℕ)
-        → GivesRow (ask T.reply T.next) c (reencoder.old, imports.old)
-        (read.import_tree (imported.Single import.entry)) (reencoder.new, imports.new) result }
-    ensures after_error { IsTrue T.keeps_defaults → IsTrue T.sure
-        → LeavesVisited (ask T.reply T.next) reencoder.old
-        (visits (read.import_tree (imported.Single import.entry))) reencoder.new result }
+    ensures { RowClauses T.ReencodeIndices (read.import_tree (imported.Single import.entry))
+        reencoder.old imports.old reencoder.new imports.new result }
 {
     reencoder.parse_imports(alloc, imports, r::Imports::Single(import))
 }
@@ -99,15 +70,8 @@ pub fn parse_table_section<T: Reencode>(
     tables: &mut w::TableSection,
     section: r::TableSectionReader<'_>,
 ) -> Result<(), Error<T::Error>>
-    ensures kept { KeepsFront tables.old tables.new }
-    ensures default { IsTrue T.keeps_defaults → (c : ℕ)
-        → GivesRows (ask T.reply T.next) c (row_of kinds.Table) section.entry
-        (reencoder.old, tables.old) (reencoder.new, tables.new) result }
-    ensures after_error { IsTrue T.keeps_defaults → LeavesMade T.sure (ask T.reply T.next) (rows_in (row_of kinds.Table) section.entry)
-        reencoder.old reencoder.new result }
-    ensures wants { IsTrue T.keeps_defaults → IsTrue T.sure → (c : ℕ)
-        → HoldsRows (ask T.reply T.next) c (row_of kinds.Table) section.entry
-        (reencoder.old, tables.old) (reencoder.new, tables.new) result }
+    ensures { RowsClauses T.ReencodeIndices (row_of kinds.Table) section.entry
+        reencoder.old tables.old reencoder.new tables.new result }
 {
     bodies::each_row!(section, alloc, row => reencoder.parse_table(alloc, tables, row))
 }
@@ -119,15 +83,8 @@ pub fn parse_global_section<T: Reencode>(
     globals: &mut w::GlobalSection,
     section: r::GlobalSectionReader<'_>,
 ) -> Result<(), Error<T::Error>>
-    ensures kept { KeepsFront globals.old globals.new }
-    ensures default { IsTrue T.keeps_defaults → (c : ℕ)
-        → GivesRows (ask T.reply T.next) c (row_of kinds.Global) section.entry
-        (reencoder.old, globals.old) (reencoder.new, globals.new) result }
-    ensures after_error { IsTrue T.keeps_defaults → LeavesMade T.sure (ask T.reply T.next) (rows_in (row_of kinds.Global) section.entry)
-        reencoder.old reencoder.new result }
-    ensures wants { IsTrue T.keeps_defaults → IsTrue T.sure → (c : ℕ)
-        → HoldsRows (ask T.reply T.next) c (row_of kinds.Global) section.entry
-        (reencoder.old, globals.old) (reencoder.new, globals.new) result }
+    ensures { RowsClauses T.ReencodeIndices (row_of kinds.Global) section.entry
+        reencoder.old globals.old reencoder.new globals.new result }
 {
     bodies::each_row!(section, alloc, row => reencoder.parse_global(alloc, globals, row))
 }
@@ -139,15 +96,8 @@ pub fn parse_export_section<T: Reencode>(
     exports: &mut w::ExportSection,
     section: r::ExportSectionReader<'_>,
 ) -> Result<(), Error<T::Error>>
-    ensures kept { KeepsFront exports.old exports.new }
-    ensures default { IsTrue T.keeps_defaults → (c : ℕ)
-        → GivesRows (ask T.reply T.next) c (row_of kinds.Export) section.entry
-        (reencoder.old, exports.old) (reencoder.new, exports.new) result }
-    ensures after_error { IsTrue T.keeps_defaults → LeavesMade T.sure (ask T.reply T.next) (rows_in (row_of kinds.Export) section.entry)
-        reencoder.old reencoder.new result }
-    ensures wants { IsTrue T.keeps_defaults → IsTrue T.sure → (c : ℕ)
-        → HoldsRows (ask T.reply T.next) c (row_of kinds.Export) section.entry
-        (reencoder.old, exports.old) (reencoder.new, exports.new) result }
+    ensures { RowsClauses T.ReencodeIndices (row_of kinds.Export) section.entry
+        reencoder.old exports.old reencoder.new exports.new result }
 {
     bodies::each_row!(section, alloc, row => reencoder.parse_export(exports, row))
 }
@@ -159,15 +109,8 @@ pub fn parse_element_section<T: Reencode>(
     elements: &mut w::ElementSection,
     section: r::ElementSectionReader<'_>,
 ) -> Result<(), Error<T::Error>>
-    ensures kept { KeepsFront elements.old elements.new }
-    ensures default { IsTrue T.keeps_defaults → (c : ℕ)
-        → GivesRows (ask T.reply T.next) c (row_of kinds.Element) section.entry
-        (reencoder.old, elements.old) (reencoder.new, elements.new) result }
-    ensures after_error { IsTrue T.keeps_defaults → LeavesMade T.sure (ask T.reply T.next) (rows_in (row_of kinds.Element) section.entry)
-        reencoder.old reencoder.new result }
-    ensures wants { IsTrue T.keeps_defaults → IsTrue T.sure → (c : ℕ)
-        → HoldsRows (ask T.reply T.next) c (row_of kinds.Element) section.entry
-        (reencoder.old, elements.old) (reencoder.new, elements.new) result }
+    ensures { RowsClauses T.ReencodeIndices (row_of kinds.Element) section.entry
+        reencoder.old elements.old reencoder.new elements.new result }
 {
     bodies::each_row!(section, alloc, row => reencoder.parse_element(alloc, elements, row))
 }
@@ -181,13 +124,8 @@ pub fn parse_element<T: Reencode>(
     elements: &mut w::ElementSection,
     element: r::Element<'_>,
 ) -> Result<(), Error<T::Error>>
-    ensures kept { KeepsFront elements.old elements.new }
-    ensures default { IsTrue T.keeps_defaults → (c : ℕ)
-        → GivesRow (ask T.reply T.next) c (reencoder.old, elements.old)
-        (read.element_tree element.entry) (reencoder.new, elements.new) result }
-    ensures after_error { IsTrue T.keeps_defaults → IsTrue T.sure
-        → LeavesVisited (ask T.reply T.next) reencoder.old
-        (visits (read.element_tree element.entry)) reencoder.new result }
+    ensures { RowClauses T.ReencodeIndices (read.element_tree element.entry)
+        reencoder.old elements.old reencoder.new elements.new result }
 {
     bodies::parse_element!(reencoder, alloc, elements, element)
 }
@@ -200,15 +138,8 @@ pub fn parse_code_section<T: Reencode>(
     code: &mut w::CodeSection,
     section: r::CodeSectionReader<'_>,
 ) -> Result<(), Error<T::Error>>
-    ensures kept { KeepsCode code.old code.new }
-    ensures default { IsTrue T.keeps_defaults
-        → GivesRows (ask T.reply T.next) code.old.ceiling (row_of kinds.Code) section.entry
-        (reencoder.old, code.old.rows) (reencoder.new, code.new.rows) result }
-    ensures after_error { IsTrue T.keeps_defaults → LeavesMade T.sure (ask T.reply T.next) (rows_in (row_of kinds.Code) section.entry)
-        reencoder.old reencoder.new result }
-    ensures wants { IsTrue T.keeps_defaults → IsTrue T.sure
-        → HoldsRows (ask T.reply T.next) code.old.ceiling (row_of kinds.Code) section.entry
-        (reencoder.old, code.old.rows) (reencoder.new, code.new.rows) result }
+    ensures { CodeSectionClauses T.ReencodeIndices section.entry
+        reencoder.old code.old reencoder.new code.new result }
 {
     bodies::parse_code_section!(reencoder, alloc, code, section)
 }
@@ -221,12 +152,8 @@ pub fn parse_function_body<T: Reencode>(
     code: &mut w::CodeSection,
     func: r::FunctionBody<'_>,
 ) -> Result<(), Error<T::Error>>
-    ensures kept { KeepsCode code.old code.new }
-    ensures default { IsTrue T.keeps_defaults
-        → GivesBody (ask T.reply T.next) func.entry.bytes.now (reencoder.old, code.old)
-        (reencoder.new, code.new) result }
-    ensures after_error { IsTrue T.keeps_defaults → LeavesMade T.sure (ask T.reply T.next) (body_in func.entry.bytes.now) reencoder.old
-        reencoder.new result }
+    ensures { BodyClauses T.ReencodeIndices func.entry.bytes.now
+        reencoder.old code.old reencoder.new code.new result }
 {
     bodies::parse_function_body!(
         reencoder,
@@ -244,15 +171,8 @@ pub fn parse_data_section<T: Reencode>(
     segments: &mut w::DataSection,
     section: r::DataSectionReader<'_>,
 ) -> Result<(), Error<T::Error>>
-    ensures kept { KeepsFront segments.old segments.new }
-    ensures default { IsTrue T.keeps_defaults → (c : ℕ)
-        → GivesRows (ask T.reply T.next) c (row_of kinds.Data) section.entry
-        (reencoder.old, segments.old) (reencoder.new, segments.new) result }
-    ensures after_error { IsTrue T.keeps_defaults → LeavesMade T.sure (ask T.reply T.next) (rows_in (row_of kinds.Data) section.entry)
-        reencoder.old reencoder.new result }
-    ensures wants { IsTrue T.keeps_defaults → IsTrue T.sure → (c : ℕ)
-        → HoldsRows (ask T.reply T.next) c (row_of kinds.Data) section.entry
-        (reencoder.old, segments.old) (reencoder.new, segments.new) result }
+    ensures { RowsClauses T.ReencodeIndices (row_of kinds.Data) section.entry
+        reencoder.old segments.old reencoder.new segments.new result }
 {
     bodies::each_row!(section, alloc, row => reencoder.parse_data(alloc, segments, row))
 }
@@ -265,12 +185,8 @@ pub fn parse_section<T: Reencode>(
     id: SectionId,
     body: &[u8],
 ) -> Result<(), Error<T::Error>>
-    ensures kept { KeepsModule «module».old «module».new }
-    ensures default { IsTrue T.keeps_defaults
-        → GivesSection (ask T.reply T.next) id body.now (reencoder.old, «module».old)
-        (reencoder.new, «module».new) result }
-    ensures after_error { IsTrue T.keeps_defaults → LeavesMade T.sure (ask T.reply T.next) (section_in id body.now)
-        reencoder.old reencoder.new result }
+    ensures { SectionClauses T.ReencodeIndices id body.now
+        reencoder.old «module».old reencoder.new «module».new result }
 {
     bodies::parse_section!(reencoder, alloc, module, id, body)
 }
@@ -283,11 +199,8 @@ pub fn parse_custom_section<T: Reencode>(
     module: &mut w::Module,
     section: r::CustomSection<'_>,
 ) -> Result<(), Error<T::Error>>
-    ensures kept { KeepsModule «module».old «module».new }
-    ensures default { IsTrue T.keeps_defaults
-        → GivesCustom (ask T.reply T.next) section.entry.name.now section.entry.contents.now
-        (reencoder.old, «module».old) (reencoder.new, «module».new) result }
-    ensures after_error { IsTrue T.keeps_defaults → LeavesMade T.sure (ask T.reply T.next) (custom_in section.entry.name.now section.entry.contents.now) reencoder.old reencoder.new result }
+    ensures { CustomClauses T.ReencodeIndices section.entry.name.now section.entry.contents.now
+        reencoder.old «module».old reencoder.new «module».new result }
 {
     bodies::parse_custom_section!(reencoder, alloc, module, section)
 }
@@ -300,10 +213,7 @@ pub fn custom_name_section<T: Reencode>(
     section: r::NameSectionReader<'_>,
     ceiling: u32,
 ) -> Result<w::NameSection, Error<T::Error>>
-    ensures default { IsTrue T.keeps_defaults
-        → GivesNames (ask T.reply T.next) ceiling section.entry reencoder.old reencoder.new result
-        (λ names. names) }
-    ensures after_error { IsTrue T.keeps_defaults → LeavesMade T.sure (ask T.reply T.next) (names_in section.entry)
+    ensures { NamesClauses T.ReencodeIndices ceiling section.entry
         reencoder.old reencoder.new result }
 {
     bodies::custom_name_section!(reencoder, alloc, section, ceiling)
@@ -316,19 +226,8 @@ pub fn parse_core_module<T: Reencode>(
     module: &mut w::Module,
     bytes: &[u8],
 ) -> Result<(), Error<T::Error>>
-    ensures kept { KeepsModule «module».old «module».new }
-    ensures default { IsTrue T.keeps_defaults → IsTrue T.adds_nothing
-        → GivesCore (ask T.reply T.next) bytes.now (reencoder.old, «module».old)
-        (reencoder.new, «module».new) result }
-    ensures woven { IsTrue T.keeps_defaults
-        → GivesWoven (ask T.reply T.next) T.adds bytes.now (reencoder.old, «module».old)
-        (reencoder.new, «module».new) result }
-    ensures after_error { IsTrue T.keeps_defaults → LeavesCore T.sure T.adds_nothing (ask T.reply T.next) (module_in bytes.now)
-        reencoder.old reencoder.new result }
-    ensures headless { IsTrue T.keeps_defaults → NoCoreHeading bytes.now → reencoder.new ≡ reencoder.old }
-    ensures wants { IsTrue T.keeps_defaults → IsTrue T.sure
-        → HoldsCore (ask T.reply T.next) T.adds bytes.now (reencoder.old, «module».old)
-        (reencoder.new, «module».new) result }
+    ensures { ModuleClauses T.ReencodeIndices bytes.now
+        reencoder.old «module».old reencoder.new «module».new result }
 {
     bodies::parse_core_module!(reencoder, alloc, module, bytes)
 }

@@ -1,27 +1,35 @@
-use Rattle.std.proofs.Common.{◌++◌, [], length}
+use Rattle.std.proofs.Common.{◌++◌, [], length, refl}
 use Rattle.wasm_shapes.specs.declared.Space.TheVariants as space
 use Rattle.wasm_shapes.specs.declared.Visit.TheVariants.{Index}
 use Rattle.wasm_shapes.specs.Tree.{visits}
 use Rattle.wasm_shapes.specs.Types.{active_data_of, expression_of, passive_data_tree}
 use Rattle.wasm_read.specs.Expressions.{expr_tree}
 use Rattle.wasm_write.specs.Counts.{counts}
-use Rattle.reencode_items.proofs.Leaving.{first_visited, hook_visited, visited_left}
-use Rattle.reencode_core.proofs.DataRow.{as_it_is, data_large, offset_visited, passive_mapped, segment_mapped}
-use Rattle.reencode_core.proofs.OneRow.{row_not_added}
+use Rattle.reencode_items.proofs.Leaving.{first_visited, hook_visited}
+use Rattle.reencode_core.proofs.DataRow.{as_it_is, data_large, memory_refused, offset_refused, offset_visited, passive_mapped, segment_mapped}
+use Rattle.reencode_core.proofs.OneRow.{row_not_added, row_unmapped}
 use Rattle.reencode_core.proofs.shared.parse_data.Goals as goal
 
-pub returns-in_err-memory-in-Active-clause-after_error : goal.returns-in_err-memory-in-Active-clause-after_error
-returns-in_err-memory-in-Active-clause-after_error g c =
+pub returns-in_err-memory-in-Active : goal.returns-in_err-memory-in-Active
+returns-in_err-memory-in-Active g c =
     let i = g.T.ReencodeIndices in
-    let gone = c.in_err-memory-in-Active.ensures in
-    let asked = Index space.Memory c.in-Active.memory_index in
-    rw c.in-Active.is (λ k sure. visited_left _ (first_visited (visits (expr_tree c.in-Active.offset_expr) ++ []) (hook_visited i.reply i.next asked _ gone.answer gone.sure sure)))
-
-pub returns-in_err-offset-in-Active-clause-after_error : goal.returns-in_err-offset-in-Active-clause-after_error
-returns-in_err-offset-in-Active-clause-after_error g c =
+    let memory = c.in-Active.memory_index in
     let offset = expr_tree c.in-Active.offset_expr in
-    rw c.in-Active.is (λ k sure. visited_left _ (offset_visited g.T.ReencodeIndices c.in-Active.memory_index offset c.args.datum.contents.now _ _ _ _
-    c.in_ok-memory-in-Active.ensures.answer (c.in_err-offset-in-Active.ensures.after_error k sure)))
+    let gone = c.in_err-memory-in-Active.ensures in
+    rw c.in-Active.is (row_unmapped i (active_data_of memory offset c.args.datum.contents.now) as_it_is _ _ _ (memory_refused i memory offset c.args.datum.contents.now _ _ _ gone.answer)
+    (λ k sure. first_visited (visits offset ++ []) (hook_visited i.reply i.next (Index space.Memory memory) _ gone.answer gone.sure sure)) refl _
+    c.from_residual.ensures.1)
+
+pub returns-in_err-offset-in-Active : goal.returns-in_err-offset-in-Active
+returns-in_err-offset-in-Active g c =
+    let i = g.T.ReencodeIndices in
+    let memory = c.in-Active.memory_index in
+    let offset = expr_tree c.in-Active.offset_expr in
+    let bytes = c.args.datum.contents.now in
+    let given = c.in_ok-memory-in-Active.ensures.answer in
+    let gone = c.in_err-offset-in-Active.ensures in
+    rw c.in-Active.is (row_unmapped i (active_data_of memory offset bytes) as_it_is _ _ _ (offset_refused i memory offset bytes _ _ _ _ given _ gone.default)
+    (λ k sure. offset_visited i memory offset bytes _ _ _ _ given (gone.after_error k sure)) refl _ c.from_residual-in_err-offset-in-Active.ensures.1)
 
 pub returns-in_err-active-in-Active : goal.returns-in_err-active-in-Active
 returns-in_err-active-in-Active g c =

@@ -1,25 +1,23 @@
-use Rattle.std.proofs.Common.{Ok, refl, inl}
+use Rattle.std.proofs.Common.{Ok, refl}
+use Rattle.wasm_shapes.specs.Tree.{Tree}
 use Rattle.wasm_read.specs.declared.types.TableInit.TheVariants as init
 use Rattle.wasm_read.specs.Types as read
 use Rattle.wasm_write.specs.Types as write
 use Rattle.wasm_write.specs.Rows.{null_table_tree, table_with_init_tree}
-use Rattle.reencode_hooks.specs.Run.{ask}
-use Rattle.reencode_hooks.proofs.Leaving.{handed}
-use Rattle.reencode_items.proofs.Leaving.{second_visited, sure_visited, visited_left}
+use Rattle.reencode_items.proofs.Leaving.{second_visited, sure_visited}
+use Rattle.reencode_core.specs.Clauses.{asks}
 use Rattle.reencode_core.proofs.Leaving.{init_refused, table_leaves, table_refused}
-use Rattle.reencode_core.proofs.OneRow.{null_table_mapped, one_too_many, row_not_added, table_mapped}
+use Rattle.reencode_core.proofs.OneRow.{null_table_mapped, one_too_many, row_not_added, row_unmapped, table_mapped}
 use Rattle.reencode_core.proofs.shared.parse_table.Goals as goal
 
-pub returns-in_err-ty-clause-default : goal.returns-in_err-ty-clause-default
-returns-in_err-ty-clause-default g c = let i = g.T.ReencodeIndices in rw (handed _ c.from_residual.ensures.1) (λ k ceiling.
-    (refl, λ other. inl (table_refused (ask i.reply i.next) ceiling c.args.reencoder.now c.args.table.ty c.args.table.init (c.in_err-ty.ensures.default k ceiling other))))
-
-pub returns-in_err-ty-clause-after_error : goal.returns-in_err-ty-clause-after_error
-returns-in_err-ty-clause-after_error g c =
+pub returns-in_err-ty : goal.returns-in_err-ty
+returns-in_err-ty g c =
     let i = g.T.ReencodeIndices in
-    let ty = c.args.table.ty in
+    let row = c.args.table in
     let gone = c.in_err-ty.ensures in
-    λ k sure. visited_left _ (table_leaves ty c.args.table.init (sure_visited i.reply i.next (read.table_type_tree ty) write.table_type_tree _ (gone.default k) (gone.sure k) sure))
+    row_unmapped i (read.table_parts row.init row.ty) (λ (t : Tree). t) _ _ _ (λ k ceiling other. table_refused (asks i) ceiling _ row.ty row.init (gone.default k ceiling other))
+    (λ k sure. table_leaves row.ty row.init (sure_visited i.reply i.next (read.table_type_tree row.ty) write.table_type_tree _ (gone.default k) (gone.sure k) sure)) refl _
+    c.from_residual.ensures.1
 
 pub returns-in_err-table-in-RefNull : goal.returns-in_err-table-in-RefNull
 returns-in_err-table-in-RefNull g c =
@@ -30,17 +28,17 @@ returns-in_err-table-in-RefNull g c =
     rw c.in-RefNull.is (row_not_added i (read.table_parts init.RefNull ty) null_table_tree _ _ made _ (null_table_mapped i _ _ ty (Ok made) c.in_ok-ty.ensures.default) gone.err (one_too_many (null_table_tree made) _ _ gone.large) _
     c.from_residual-in_err-table-in-RefNull.ensures.1)
 
-pub returns-in_err-init-in-Expr-clause-default : goal.returns-in_err-init-in-Expr-clause-default
-returns-in_err-init-in-Expr-clause-default g c =
+pub returns-in_err-init-in-Expr : goal.returns-in_err-init-in-Expr
+returns-in_err-init-in-Expr g c =
     let i = g.T.ReencodeIndices in
+    let ty = c.args.table.ty in
+    let expr = c.in-Expr.expr in
+    let first = c.in_ok-ty.ensures.default in
     let maps = rw c.in-Expr.is at c.in_err-init-in-Expr.ensures.default in
-    rw c.in-Expr.is (rw (handed _ c.from_residual-in_err-init-in-Expr.ensures.1) (λ k ceiling.
-    (refl, λ other. inl (init_refused (ask i.reply i.next) ceiling c.args.reencoder.now c.table_type.new.self (write.table_type_tree c.in_ok-ty.ty) c.args.table.ty c.in-Expr.expr (c.in_ok-ty.ensures.default k ceiling) (maps k ceiling other)))))
-
-pub returns-in_err-init-in-Expr-clause-after_error : goal.returns-in_err-init-in-Expr-clause-after_error
-returns-in_err-init-in-Expr-clause-after_error g c =
     let left = rw c.in-Expr.is at c.in_err-init-in-Expr.ensures.after_error in
-    rw c.in-Expr.is (λ k sure. visited_left _ (second_visited 0 (read.table_type_tree c.args.table.ty) (c.in_ok-ty.ensures.default k 0) (left k sure)))
+    rw c.in-Expr.is (row_unmapped i (read.table_parts (init.Expr expr) ty) (λ (t : Tree). t) _ _ _
+    (λ k ceiling other. init_refused (asks i) ceiling _ _ (write.table_type_tree c.in_ok-ty.ty) ty expr (first k ceiling) (maps k ceiling other))
+    (λ k sure. second_visited 0 (read.table_type_tree ty) (first k 0) (left k sure)) refl _ c.from_residual-in_err-init-in-Expr.ensures.1)
 
 pub returns-in_err-table_with_init-in-Expr : goal.returns-in_err-table_with_init-in-Expr
 returns-in_err-table_with_init-in-Expr g c =

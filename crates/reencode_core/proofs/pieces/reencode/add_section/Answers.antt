@@ -1,6 +1,6 @@
 use Rattle.std.proofs.Common.{ap, ◌∙◌, ℕ}
-use Rattle.reencode_core.proofs.OneRow.{asks}
 use Rattle.reencode_core.specs.Sinks.{ModuleGrown}
+use Rattle.reencode_core.specs.Clauses.{asks}
 use Rattle.reencode_core.proofs.Left.{left_section, left_none}
 use Rattle.reencode_core.proofs.Moved.{added_moved, fresh_module}
 use Rattle.reencode_core.proofs.pieces.reencode.add_section.Goals as goal

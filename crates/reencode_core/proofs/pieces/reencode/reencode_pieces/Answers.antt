@@ -3,11 +3,11 @@ use Rattle.std.proofs.lemmas.Result.{err_from_is_err_and}
 use Rattle.reencode_core.specs.Weave.{added}
 use Rattle.reencode_core.proofs.AddsNothing.{bytes_nothing}
 use Rattle.reencode_core.proofs.BytesMade.{bytes_leave}
-use Rattle.reencode_core.proofs.OneRow.{asks}
 use Rattle.reencode_core.proofs.Weaves.{weave_is_run}
 use Rattle.reencode_core.proofs.WholeBytes.{bytes_given, bytes_refused}
 use Rattle.reencode_core.specs.Pieces.{joined}
 use Rattle.reencode_core.specs.Sinks.{ModuleGrown}
+use Rattle.reencode_core.specs.Clauses.{asks}
 use Rattle.reencode_core.proofs.Left.{left_core, left_none}
 use Rattle.reencode_core.proofs.Ranges.{answered_kept}
 use Rattle.reencode_core.proofs.pieces.reencode.reencode_pieces.Goals as goal

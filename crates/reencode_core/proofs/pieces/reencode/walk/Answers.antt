@@ -2,9 +2,9 @@ use Rattle.std.proofs.Common.{◌≡◌, ◌+◌, ◌-◌, ◌++◌, ℕ, List, 
 use Rattle.wasm_shapes.specs.Module.{core_header}
 use Rattle.reencode_core.proofs.EachSection.{core_headless, core_more, core_section_refused, core_unframed, custom_called, kind_called, sections_begun, unknown_called}
 use Rattle.reencode_core.proofs.Known.{frame_id}
-use Rattle.reencode_core.proofs.OneRow.{asks}
 use Rattle.reencode_core.specs.Pieces.{Range}
 use Rattle.reencode_core.specs.Sinks.{KeepsKind, StandsAt}
+use Rattle.reencode_core.specs.Clauses.{asks}
 use Rattle.reencode_core.proofs.Ranges.{body_place, custom_not_code, kind_one, ranges_begun, ranges_end, ranges_more, unknown_not_code}
 use Rattle.reencode_core.proofs.Standing.{section_stands, text_within}
 use Rattle.reencode_core.proofs.Walking.{between_ended, between_refused, hook_answered}

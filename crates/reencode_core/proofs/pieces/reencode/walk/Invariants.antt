@@ -1,6 +1,6 @@
 use Rattle.std.proofs.Common.{◌≡◌, ◌++◌, ℕ, List, IsTrue, length}
+use Rattle.reencode_core.specs.Clauses.{asks}
 use Rattle.reencode_core.proofs.EachSection.{SectionsKept}
-use Rattle.reencode_core.proofs.OneRow.{asks}
 use Rattle.reencode_core.proofs.Ranges.{RangesDone}
 use Rattle.reencode_core.proofs.pieces.reencode.walk.Given as goal
 
