@@ -9,6 +9,8 @@ mod calls_tests;
 #[cfg(test)]
 mod chain_tests;
 #[cfg(test)]
+mod component_tests;
+#[cfg(test)]
 mod examples_tests;
 #[cfg(test)]
 mod hooks_tests;
