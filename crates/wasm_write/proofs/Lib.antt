@@ -17,3 +17,4 @@ pub mod DataRows
 pub mod NameRows
 pub mod Shorter
 pub mod FramesFound
+pub mod FramesFit
