@@ -10,3 +10,4 @@ pub mod Tables
 pub mod Renamings
 pub mod Renamed
 pub mod Rules
+pub mod SectionVisits
