@@ -264,7 +264,8 @@ fn add_between<R: Reencode>(
         sink.old.sections sink.new.sections after before result }
     ensures leaves { LeavesHook R.sure R.adds_nothing (ask R.reply R.next) reencoder.old reencoder.new
         (Section after before) result }
-    ensures fits { OnOk result (AllFit sink.old.sections.ceiling (R.adds reencoder.old after before)) }
+    ensures fits { OnOk result
+        (AllFit sink.old.sections.ceiling (R.adds reencoder.old after before)) }
     ensures input { sink.new.input ≡ sink.old.input }
     ensures ranges { OnOk result (sink.new.kept ≡ sink.old.kept) }
 {
