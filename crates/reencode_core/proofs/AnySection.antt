@@ -33,6 +33,12 @@ kind_announced asked k {body = body} s last {t = t} i = let r = kind_in_frame k 
 pub kind_before : (k : SectionId) {body : List ℕ} (last : Option SectionId) {t : Tree} → InFrame t (numbered_frame (number k) body) → before last t ≡ Section last (Some k) ∷ []
 kind_before k {body = body} last {t = t} i = let r = kind_in_frame k body t i in rw r.1 refl
 
+pub custom_before : {name contents : List ℕ} (last : Option SectionId) {t : Tree} → InFrame t (custom_frame name contents) → before last t ≡ []
+custom_before {name = name} {contents = contents} last {t = t} i = let r = custom_in_frame name contents t i in rw r.1 refl
+
+pub unknown_before : {id : ℕ} {contents : List ℕ} (last : Option SectionId) {t : Tree} → 14 ≤ id → InFrame t (numbered_frame id contents) → before last t ≡ []
+unknown_before {id = id} {contents = contents} last {t = t} low i = rw (unknown_in_frame id contents t low i) refl
+
 -- what the section hook puts before it
 pub kind_put : {S A : Type 0} (put : Puts S A) (k : SectionId) {body : List ℕ} (s : S) (last : Option SectionId) {t : Tree} → InFrame t (numbered_frame (number k) body) →
     put_before put s last t ≡ put s last (Some k)

@@ -21,7 +21,7 @@ use Rattle.wasm_shapes.specs.SectionTable.{number}
 use Rattle.wasm_read.specs.Frames.{NoCoreHeader}
 use Rattle.wasm_read.specs.Payloads.{NoFrame}
 use Rattle.wasm_read.proofs.CodeSize.{code_size_some, code_size_other}
-use Rattle.wasm_write.specs.Sections.{Sections, SectionRow, section_row, section_bytes, sections_bytes, framed_tree}
+use Rattle.wasm_write.specs.Sections.{AllFit, Sections, SectionRow, section_row, section_bytes, sections_bytes, framed_tree}
 use Rattle.reencode_hooks.specs.declared.error.Error.{Error}
 use Rattle.reencode_hooks.specs.declared.error.Error.TheVariants.{CanonicalizedHeapTypeReference, InvalidConstExpr, InvalidCodeSectionSize, UnexpectedNonCoreModuleSection, UnexpectedNonComponentSection, UnsupportedCoreTypeInComponent, ParseError, UserError, TooLarge, NoMemory}
 use Rattle.reencode_hooks.specs.Errors.{error_of_fault}
@@ -35,8 +35,9 @@ use Rattle.reencode_core.specs.Holds.{FrameLeaves, HoldsSections}
 use Rattle.reencode_core.specs.Rows.{Asks}
 use Rattle.reencode_core.specs.Core.{hooked, onto, AcceptsSections, RefusedIn, StopsThere, BeforeFault, IsCause}
 use Rattle.reencode_core.specs.Weave.{Puts, added, kind_after, put_before, woven_one, weave, weave_from}
-use Rattle.reencode_core.specs.Woven.{IsOwn, IsPart, StopsHook, StopsHooked, StopsNext, WeavesSections, StopsWoven, GivesWovenModule, OwnNext, WovenFront, OwnTooLarge, IsWovenCause, AddedBefore, AddedThere, GainsBefore, GivesWoven}
+use Rattle.reencode_core.specs.Woven.{AddsFit, IsOwn, IsPart, StopsHook, StopsHooked, StopsNext, WeavesSections, StopsWoven, GivesWovenModule, OwnNext, WovenFront, OwnTooLarge, IsWovenCause, AddedBefore, AddedThere, GainsBefore, GivesWoven}
 use Rattle.reencode_core.proofs.AddsNothing.{none_own}
+use Rattle.reencode_core.proofs.Fitting.{fits_begin, fits_more, rows_none}
 use Rattle.reencode_core.proofs.Weaves.{alsos-append}
 use Rattle.reencode_core.proofs.AnySection.{GivesFramed, Reached, added_put, kind_announced, kind_before, kind_put}
 use Rattle.reencode_core.proofs.Made.{ended_all, ended_behind, ended_placed, fault_unasked, front_all, front_first, front_none, front_same, front_then, not_wanting, one_ended, tells_placed}
@@ -255,17 +256,19 @@ pub record SectionsDone {S E : Type 0} (asked : Asks S E) (adds : Puts S Section
   pub gains : Gains old new rows
   pub spelled : sections_bytes rows ≡ normals woven
   pub drawn : Drawn text (visits (alsos read Tree.empty))
+  pub fits : AddsFit asked adds old.ceiling s0 (visits (alsos read Tree.empty))
 
--- What the section hook puts before the section in a frame was added.
+-- What the section hook puts before the section in a frame was added, and fits.
 pub record Put {S E : Type 0} (asked : Asks S E) (adds : Puts S SectionRow) (f : Tree) (last : Option SectionId) (s n : S) (new mid : Sections) : Type 0 where
   pub own : List SectionRow
   pub gains : Gains new mid own
   pub before : AddedBefore asked adds last s f n own
+  pub fits : AllFit new.ceiling own
 
 -- nothing is put before it
 pub nothing_put : {S E : Type 0} {asked : Asks S E} {adds : Puts S SectionRow} {f : Tree} {last : Option SectionId} {s n : S} {new : Sections} → AddedBefore asked adds last s f n [] →
     Put asked adds f last s n new new
-nothing_put none = record { own = []; gains = gains_none _; before = none }
+nothing_put none = record { own = []; gains = gains_none _; before = none; fits = rows_none _ }
 
 module _ {S E : Type 0} (asked : Asks S E) where
   onto_nothing : (step : Step S (Error E) Tree) → step ≡ onto [] step
@@ -318,6 +321,7 @@ module _ {S E : Type 0} (asked : Asks S E) (adds : Puts S SectionRow) where
     gains = gains_none old;
     spelled = refl;
     drawn = drawn_none;
+    fits = fits_begin asked adds old.ceiling s;
   }
 
   pub sections_more : {Stops : ℕ → Error E → S → Type 0} {id : ℕ} {f : Tree} {start rest rest' : List ℕ} {s0 s n s' : S} {old new mid new' : Sections} {last now : Option SectionId} →
@@ -370,6 +374,15 @@ module _ {S E : Type 0} (asked : Asks S E) (adds : Puts S SectionRow) where
             let both : Drawn (d.text ++ here.text) (visits (alsos d.read Tree.empty) ++ (before last t ++ (visits t ++ []))) =
             drawn_joined (d.text ++ here.text) (visits (alsos d.read Tree.empty)) (before last t ++ (visits t ++ [])) (drawn_front d.text here.text refl d.drawn) (drawn_behind d.text here.text refl one) in
             let V : Option SectionId → Type 0 = λ z. Drawn (d.text ++ here.text) (visits (alsos d.read Tree.empty) ++ visits_from z (Tree.also t Tree.empty)) in
+            subst P (sym (alsos-append d.read (t ∷ []) Tree.empty)) (subst Q (sym (visits_alsos None d.read (Tree.also t Tree.empty))) (subst V d.ends both));
+        fits =
+            let P : Tree → Type 0 = λ z. AddsFit asked adds old.ceiling s0 (visits z) in
+            let Q : List Visit → Type 0 = λ z. AddsFit asked adds old.ceiling s0 z in
+            let V : Option SectionId → Type 0 = λ z. AddsFit asked adds old.ceiling s0 (visits (alsos d.read Tree.empty) ++ visits_from z (Tree.also t Tree.empty)) in
+            let A : ℕ → Type 0 = λ z. AllFit z put.own in
+            let ran = (walk_is_run asked).forth old.ceiling s0 s (alsos d.read Tree.empty) (alsos d.made Tree.empty) (d.accepts Tree.empty) in
+            let both : AddsFit asked adds old.ceiling s0 (visits (alsos d.read Tree.empty) ++ (before last t ++ (visits t ++ []))) =
+            fits_more asked adds old.ceiling ran.given (visits (alsos d.read Tree.empty)) ran.ran d.fits put.before (subst A (ap Sections.ceiling d.gains) put.fits) t here.text in_it here.spells in
             subst P (sym (alsos-append d.read (t ∷ []) Tree.empty)) (subst Q (sym (visits_alsos None d.read (Tree.also t Tree.empty))) (subst V d.ends both));
       }
 
@@ -428,6 +441,7 @@ module _ {S E : Type 0} (asked : Asks S E) (adds : Puts S SectionRow) where
       parts = f;
       ends = d.ends;
       weaves = d.weaves;
+      fits = d.fits;
       gains = gains_both old new new' d.rows part d.gains gains;
       spelled = d.spelled ∙ sym (normal-alsos d.woven);
       stops = stops;
@@ -446,6 +460,7 @@ module _ {S E : Type 0} (asked : Asks S E) (adds : Puts S SectionRow) where
       stands = reads ∙ ap (λ (z : List ℕ). core_header ++ z) d.stands;
       ends = d.ends;
       weaves = d.weaves;
+      fits = d.fits;
     }
 
     -- what stands behind them of the hook's own sections

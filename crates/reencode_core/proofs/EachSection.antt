@@ -1,5 +1,5 @@
 -- The loop over the sections of a module, and what the call gives at each of its ends.
-use Rattle.std.proofs.Common.{◌≡◌, ◌≢◌, ◌-◌, ◌≤◌, ℕ, List, [], ◌++◌, append-nil, length, Bool, Option, Some, None, Result, Ok, Err, IfErr, IsErrAnd, IsTrue, refl, sym, ap, ◌∙◌, subst}
+use Rattle.std.proofs.Common.{◌≡◌, ◌≢◌, ◌-◌, ◌≤◌, ℕ, List, [], ◌++◌, append-nil, length, Bool, Option, Some, None, Result, Ok, Err, IfErr, IsErrAnd, OnOk, IsTrue, refl, sym, ap, ◌∙◌, subst}
 use Rattle.wasm_leb.specs.declared.fault.Fault.{Fault}
 use Rattle.wasm_leb.specs.declared.fault.Fault.TheVariants as fault
 use Rattle.wasm_leb.specs.declared.fault.Kind.TheVariants as kinds
@@ -16,7 +16,7 @@ use Rattle.wasm_shapes.proofs.SectionTable.{kind_in_frame, custom_in_frame, unkn
 use Rattle.wasm_read.specs.Frames.{sections_place, HeaderRead, NoCoreHeader}
 use Rattle.wasm_read.specs.Frames as read
 use Rattle.wasm_read.specs.Payloads.{NoFrame}
-use Rattle.wasm_write.specs.Sections.{Sections}
+use Rattle.wasm_write.specs.Sections.{AllFit, Sections}
 use Rattle.reencode_hooks.specs.declared.error.Error.{Error}
 use Rattle.reencode_hooks.specs.declared.error.Error.TheVariants.{NoMemory}
 use Rattle.reencode_core.specs.Rows.{Asks}
@@ -60,7 +60,11 @@ CoreClauses i bytes s old m new result =
 -- the clauses of the section hook
 abbrev pub HookClauses : {S E : Type 0} → Ghosts S E → S → S → Sections → Sections → Option SectionId → Option SectionId → Result (Unit {0}) (Error E) → Type 0
 HookClauses i s m old new after before result =
-    record { answer : RepliesSection i.reply i.next i.adds s m old new after before result; sure : NeverWants i.sure result }
+    record {
+      answer : RepliesSection i.reply i.next i.adds s m old new after before result;
+      sure : NeverWants i.sure result;
+      fits : OnOk result (AllFit old.ceiling (i.adds s after before));
+    }
 
 -- ---- what an error of a section leaves
 
@@ -181,7 +185,7 @@ module _ {S E : Type 0} (i : Ghosts S E) where
       framed = framed;
       kept = keeps_more old mid new' (keeps_more old new mid inv.kept (hook_keeps i.reply i.next i.adds s n new mid last (Some k) (Ok u) hook.answer)) given.kept;
       reached = λ d. kind_reached (asks i) k framed hook.answer.0;
-      put = record { own = i.adds s last (Some k); gains = hook.answer.1; before = AddedBefore.known k body n hook.answer.0 };
+      put = record { own = i.adds s last (Some k); gains = hook.answer.1; before = AddedBefore.known k body n hook.answer.0; fits = hook.fits };
       gives = λ d. kind_gives r k framed (given.default d);
       leaves = λ d. kind_leaves (asks i) _ _ i.sure k framed r (given.after_error d);
     }

@@ -8,6 +8,7 @@ pub mod EachItem
 pub mod EachRow
 pub mod OneSection
 pub mod AnySection
+pub mod Fitting
 pub mod AddsNothing
 pub mod CoreLoop
 pub mod Fronts

@@ -8,7 +8,7 @@ use Rattle.wasm_shapes.specs.Module.{frame, numbered_frame}
 use Rattle.wasm_shapes.specs.SectionTable.{number}
 use Rattle.wasm_read.specs.Frames.{HeaderRead}
 use Rattle.wasm_read.specs.Frames as read
-use Rattle.wasm_write.specs.Sections.{Sections}
+use Rattle.wasm_write.specs.Sections.{AllFit, Sections}
 use Rattle.reencode_hooks.specs.declared.error.Error.{Error}
 use Rattle.reencode_hooks.specs.declared.error.Error.TheVariants.{NoMemory}
 use Rattle.reencode_hooks.specs.declared.indices.ReencodeIndices.{Ghosts}
@@ -25,8 +25,9 @@ use Rattle.reencode_core.specs.Sinks.{HookLeaves, LeavesHook}
 
 module _ {S E : Type 0} (i : Ghosts S E) where
   -- a hook that answered did not want memory
-  pub hook_answered : (s m : S) (old new : Sections) (a b : Option SectionId) → RepliesSection i.reply i.next i.adds s m old new a b (Ok tt) → HookClauses i s m old new a b (Ok tt)
-  hook_answered s m old new a b answer = record { answer = answer; sure = λ sure wants. absurd cc }
+  pub hook_answered : (s m : S) (old new : Sections) (a b : Option SectionId) → RepliesSection i.reply i.next i.adds s m old new a b (Ok tt) → AllFit old.ceiling (i.adds s a b) →
+      HookClauses i s m old new a b (Ok tt)
+  hook_answered s m old new a b answer fits = record { answer = answer; sure = λ sure wants. absurd cc; fits = fits }
 
   -- it refused
   pub hook_left : KeepsAdds i.adds i.adds_nothing → {s m : S} {old new : Sections} {a b : Option SectionId} (e : Error E) → HookClauses i s m old new a b (Err e) →

@@ -82,6 +82,7 @@ module _ {S E : Type 0} (asked : Asks S E) (adds : Puts S SectionRow) where
           stands = r.stands ∙ ap (λ (w : List ℕ). core_header ++ w) parts;
           ends = g.ends;
           weaves = g.weaves;
+          fits = g.fits;
         };
         own = own;
       }

@@ -49,14 +49,19 @@ StopsNext asked adds c last s _ part e m = ⊥
 
 -- ---- sections one behind another
 
+-- No section that is added at a section visit among these, at the state that the run over those before it leaves, has a body
+-- above the ceiling.
+abbrev pub AddsFit : {S E : Type 0} → Asks S E → Puts S SectionRow → ℕ → S → List Visit → Type 0
+AddsFit asked adds c s visits = AtSections asked s visits (λ m after before. (size : ℕ) → ¬ HasTooLarge c (adds m after before) size)
+
 -- These sections are accepted, whatever stands behind them, and become those, added ones in their places; what stands behind them
 -- is walked from here, behind a section of that kind.
 abbrev pub WeavesSections : {S E : Type 0} → Asks S E → Puts S Tree → ℕ → S → List Tree → List Tree → Option SectionId → S → Type 0
 WeavesSections asked put c s read made last m =
     (others : Tree) → weave asked put c s (alsos read others) ≡ onto made (weave_from asked put c last m others)
 
--- The sections before the refused one were accepted, and what they became was added, with what the hook adds before each; and of
--- the last hook what it had added, and no more.
+-- The sections before the refused one were accepted, and what they became was added, with what the hook adds before each, which
+-- fits; and of the last hook what it had added, and no more.
 pub record StopsWoven {S E : Type 0} (asked : Asks S E) (adds : Puts S SectionRow) (c : ℕ) (before : S × Sections) (t : Tree) (after : S × Sections) (e : Error E) : Type 0 where
   pub read : List Tree
   pub others : Tree
@@ -68,6 +73,7 @@ pub record StopsWoven {S E : Type 0} (asked : Asks S E) (adds : Puts S SectionRo
   pub parts : t ≡ alsos read others
   pub ends : last ≡ kind_after None read
   pub weaves : WeavesSections asked (added adds) c before.0 read made last at
+  pub fits : AddsFit asked adds c before.0 (visits (alsos read Tree.empty))
   pub gains : Gains before.1 after.1 (rows ++ part)
   pub spelled : sections_bytes rows ≡ normal (alsos made Tree.finish)
   pub stops : StopsNext asked adds c last at others part e after.0
@@ -87,8 +93,8 @@ OwnNext adds c last s rest e =
     ((rest ≡ []) × IsOwn c (adds s last None) e)
     ⊎ ((id : SectionId) × (body left : List ℕ) × Begins frame rest (numbered_frame (number id) body) left × IsOwn c (adds s last (Some id)) e)
 
--- Some sections stand behind the header, were accepted and became those, added ones in their places; what stands behind them is
--- walked from here, behind a section of that kind.
+-- Some sections stand behind the header, were accepted and became those, added ones in their places, which fit; what stands behind
+-- them is walked from here, behind a section of that kind.
 pub record WovenFront {S E : Type 0} (asked : Asks S E) (adds : Puts S SectionRow) (c : ℕ) (bytes : List ℕ) (s : S) : Type 0 where
   pub read : List Tree
   pub text : List ℕ
@@ -100,8 +106,9 @@ pub record WovenFront {S E : Type 0} (asked : Asks S E) (adds : Puts S SectionRo
   pub stands : bytes ≡ core_header ++ (text ++ rest)
   pub ends : last ≡ kind_after None read
   pub weaves : WeavesSections asked (added adds) c s read made last at
+  pub fits : AddsFit asked adds c s (visits (alsos read Tree.empty))
 
--- the section hook behind some sections that were accepted was to add one that is too large
+-- The section hook behind some sections that were accepted was to add one that is too large, and at none of its visits before.
 pub record OwnTooLarge {S E : Type 0} (asked : Asks S E) (adds : Puts S SectionRow) (c : ℕ) (bytes : List ℕ) (s : S) (e : Error E) : Type 0 where
   pub front : WovenFront asked adds c bytes s
   pub own : OwnNext adds c front.last front.at front.rest e
@@ -168,11 +175,6 @@ pub record GivesWovenBytes {S E A : Type 0} (asked : Asks S E) (adds : Puts S Se
   pub cause : IfErr result (IsWovenCause asked adds ceiling bytes s m)
 
 -- ---- completeness
-
--- No section that is added at a section visit among these, at the state that the run over those before it leaves, has a body
--- above the ceiling.
-abbrev pub AddsFit : {S E : Type 0} → Asks S E → Puts S SectionRow → ℕ → S → List Visit → Type 0
-AddsFit asked adds c s visits = AtSections asked s visits (λ m after before. (size : ℕ) → ¬ HasTooLarge c (adds m after before) size)
 
 -- these bytes are the answer, and this is the state that is left; or memory is wanting
 abbrev pub IsOrWants : {S E A : Type 0} → List ℕ → S → S → Result A (Error E) → (A → List ℕ) → Type 0

@@ -163,7 +163,7 @@ macro_rules! parse_core_module {
         'sections: loop {
             match payloads.next()? {
                 Some(r::Payload::Section { id, at, body }) => {
-                    $reencoder.intersperse_section_hook($module, last, Some(id))?;
+                    crate::sections::intersperse_section_hook($reencoder, $module, last, Some(id))?;
                     match $reencoder.parse_section($alloc, $module, id, body) {
                         Ok(()) => last = Some(id),
                         Err(e) => return Err(placed(e, at)),
@@ -181,7 +181,9 @@ macro_rules! parse_core_module {
                         Err(e) => return Err(placed(e, at)),
                     }
                 }
-                None => return $reencoder.intersperse_section_hook($module, last, None),
+                None => {
+                    return crate::sections::intersperse_section_hook($reencoder, $module, last, None);
+                }
             }
         }
     }};

@@ -1,12 +1,14 @@
 //! Sections that are one item, and sections as they are added to a module.
-ghost use Rattle.std.specs.Prelude.{IfOk, IfErr};
+ghost use Rattle.std.specs.Prelude.{IfOk, IfErr, OnOk};
 ghost use Rattle.wasm_leb.specs.Leb.{IsUnsigned};
 ghost use Rattle.wasm_shapes.specs.Tree.{normal};
 ghost use Rattle.wasm_shapes.specs.Types.{vector_tree};
-ghost use Rattle.wasm_write.specs.Sections.{section_row};
+ghost use Rattle.wasm_write.specs.Sections.{AllFit, section_row};
+ghost use Rattle.reencode_hooks.specs.Hooks.{RepliesSection};
+ghost use Rattle.reencode_hooks.specs.Run.{NeverWants};
 ghost use Rattle.reencode_core.specs.Sections.{AddsMapped, HasBody, NoBody, NoItem};
 
-use reencode_hooks::Error;
+use reencode_hooks::{Error, ReencodeIndices};
 use wasm_leb::{ReadError, front_u32};
 use wasm_read as r;
 use wasm_shapes::SectionId;
@@ -106,4 +108,26 @@ pub(crate) fn take_section<K: SectionKind, E>(
     mapped?;
     module.take(section)?;
     Ok(())
+}
+
+/// Calls the section hook. What it added fits, since the module holds it.
+#[inline(always)]
+pub(crate) fn intersperse_section_hook<R: ReencodeIndices>(
+    reencoder: &mut R,
+    module: &mut Module,
+    after: Option<SectionId>,
+    before: Option<SectionId>,
+) -> Result<(), Error<R::Error>>
+    ensures answer { RepliesSection R.reply R.next R.adds reencoder.old reencoder.new
+        «module».old «module».new after before result }
+    ensures sure { NeverWants R.sure result }
+    ensures fits { OnOk result (AllFit «module».old.ceiling (R.adds reencoder.old after before)) }
+{
+    match reencoder.intersperse_section_hook(module, after, before) {
+        Ok(()) => {
+            module.sections_fit();
+            Ok(())
+        }
+        Err(e) => Err(e),
+    }
 }

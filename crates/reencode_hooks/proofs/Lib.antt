@@ -6,3 +6,4 @@ pub mod Frames
 pub mod Leaving
 pub mod Chained
 pub mod InRange
+pub mod SectionVisits

@@ -11,3 +11,4 @@ pub mod Renamings
 pub mod Renamed
 pub mod Rules
 pub mod Shifts
+pub mod SectionVisits

@@ -65,47 +65,38 @@ impl<T: AnswerVisits> ReencodeIndices for T {
 
     ghost adds_ok = { λ _ _ _ _. refl };
 
-    #[inline(always)]
     fn data_index(&mut self, index: u32) -> Result<u32, Error<<T as AnswerVisits>::Error>> {
         ask!(self, Space::Data, index)
     }
 
-    #[inline(always)]
     fn element_index(&mut self, index: u32) -> Result<u32, Error<<T as AnswerVisits>::Error>> {
         ask!(self, Space::Element, index)
     }
 
-    #[inline(always)]
     fn function_index(&mut self, index: u32) -> Result<u32, Error<<T as AnswerVisits>::Error>> {
         ask!(self, Space::Function, index)
     }
 
-    #[inline(always)]
     fn global_index(&mut self, index: u32) -> Result<u32, Error<<T as AnswerVisits>::Error>> {
         ask!(self, Space::Global, index)
     }
 
-    #[inline(always)]
     fn memory_index(&mut self, index: u32) -> Result<u32, Error<<T as AnswerVisits>::Error>> {
         ask!(self, Space::Memory, index)
     }
 
-    #[inline(always)]
     fn table_index(&mut self, index: u32) -> Result<u32, Error<<T as AnswerVisits>::Error>> {
         ask!(self, Space::Table, index)
     }
 
-    #[inline(always)]
     fn tag_index(&mut self, index: u32) -> Result<u32, Error<<T as AnswerVisits>::Error>> {
         ask!(self, Space::Tag, index)
     }
 
-    #[inline(always)]
     fn type_index(&mut self, index: u32) -> Result<u32, Error<<T as AnswerVisits>::Error>> {
         ask!(self, Space::Type_, index)
     }
 
-    #[inline(always)]
     fn data_count(&mut self, count: u32) -> Result<u32, Error<<T as AnswerVisits>::Error>> {
         ask!(self, Space::DataCount, count)
     }

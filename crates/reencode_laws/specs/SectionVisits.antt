@@ -7,6 +7,7 @@ use Rattle.wasm_shapes.specs.declared.Visit.TheVariants.{Section}
 use Rattle.wasm_shapes.specs.Tree.{Tree, normal, visits}
 use Rattle.wasm_shapes.specs.Spells.{Spells}
 use Rattle.wasm_shapes.specs.SectionTable.{number}
+pub use Rattle.reencode_hooks.specs.SectionVisits.{is_section, section_visits}
 use Rattle.wasm_shapes.specs.Module.{in_force, section, core_header, core_module, core_tree, alsos, CoreReading}
 
 -- ---- the sections, and their kinds
@@ -32,15 +33,6 @@ abbrev pub kinds_of_texts : List (List ℕ) → List SectionId
 kinds_of_texts texts = filter_map kind_of_text texts
 
 -- ---- what the section hook is told
-
--- whether the section hook is asked
-abbrev pub is_section : Visit → Bool
-is_section (Section last next) = true
-is_section _ = false
-
--- the section visits among some visits
-abbrev pub section_visits : List Visit → List Visit
-section_visits vs = filter is_section vs
 
 -- What is told of sections of these kinds: of each, the kind before it and its own, and at the end the last. With none it is one visit, of no kinds.
 abbrev pub visits_of_kinds : List SectionId → List Visit

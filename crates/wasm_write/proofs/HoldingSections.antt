@@ -1,6 +1,7 @@
 -- The sections of a module, and one more.
 use Rattle.std.proofs.Common.{◌≡◌, ℕ, suc, ◌+◌, ◌<◌, ◌≤◌, ◌^◌, List, [], ◌∷◌, ◌++◌, length, map, refl, sym, ap, ◌∙◌, append_assoc, arith, length-append, subst}
 use Rattle.std.specs.Coded.{Coded-set, coded_ℕ, coded_list}
+use Rattle.std.proofs.lemmas.List.Elements.{All-append, All-cons, All-nil}
 use mathlib.Core.Logic.{∥∥₁_elim, ∥∥₁_map}
 use Rattle.wasm_leb.specs.Leb.{leb}
 use Rattle.wasm_leb.proofs.Shortest.{leb_spells}
@@ -8,7 +9,7 @@ use Rattle.wasm_shapes.specs.Tree.{Tree, normal}
 use Rattle.wasm_shapes.specs.Spells.{Is, Spells}
 use Rattle.wasm_shapes.specs.Module.{core_header}
 use Rattle.wasm_shapes.specs.Types.{rows_tree}
-use Rattle.wasm_write.specs.Sections.{SectionRow, Sections, with_section, section_bytes, sections_bytes, module_bytes, framed, framed_tree, AreSections, HeldSections, HeldSections-one, held_sections}
+use Rattle.wasm_write.specs.Sections.{AllFit, SectionRow, Sections, with_section, section_bytes, sections_bytes, module_bytes, framed, framed_tree, AreSections, HeldSections, HeldSections-one, held_sections}
 use Rattle.wasm_write.specs.Held.{AreHeld}
 use Rattle.wasm_write.proofs.Holding.{are_none, are_more}
 
@@ -62,6 +63,9 @@ module _ {bytes : List ℕ} where
   unfolding held_sections sections_none
   sections_none_is h e = HeldSections-one 0 bytes h (sections_none e)
 
+  pub sections_none_fit : (c : ℕ) (h : HeldSections 0 bytes) → bytes ≡ core_header → AllFit c (held_sections 0 bytes h)
+  sections_none_fit c h e = rw (sections_none_is h e) (All-nil _)
+
 module _ {n : ℕ} {bytes : List ℕ} (h : HeldSections n bytes) where
   pub sections_length : length (held_sections n bytes h) ≡ n
   unfolding held_sections
@@ -104,6 +108,17 @@ module _ {n : ℕ} {bytes : List ℕ} (h : HeldSections n bytes) where
   sections_same_is : {new : List ℕ} (k : HeldSections n new) → new ≡ bytes → held_sections n new k ≡ held_sections n bytes h
   unfolding held_sections
   sections_same_is {new} k e = HeldSections-one n new k (h.0, ∥∥₁_map h.1 (λ r. rw e r))
+
+  -- ---- and each of them fits
+
+  pub fit_same : {new : List ℕ} {c : ℕ} (k : HeldSections n new) → new ≡ bytes → AllFit c (held_sections n bytes h) → AllFit c (held_sections n new k)
+  fit_same k e fit = rw (sections_same_is k e) fit
+
+  pub fit_grown : {new : List ℕ} {c : ℕ} (s : SectionRow) (k : HeldSections (n + 1) new) → new ≡ bytes ++ section_bytes s → IsWritable s → length s.body ≤ c →
+      AllFit c (held_sections n bytes h) → AllFit c (held_sections (n + 1) new k)
+  fit_grown {c = c} s k e w short fit =
+      let Fits : SectionRow → Type 0 = λ s. length s.body ≤ c in
+      rw (sections_grown_is s k e w) (All-append Fits (held_sections n bytes h) (s ∷ []) fit (All-cons Fits s [] short (All-nil Fits)))
 
   -- ---- the same of the whole module, seen as its ceiling and its sections
 

@@ -1,5 +1,6 @@
 -- A module under construction, as contracts see it: its sections, each an id and a body, and its ceiling.
-use Rattle.std.specs.Prelude.{◌≡◌, ℕ, List, [], ◌∷◌, ◌++◌, length, map, true}
+use Rattle.std.specs.Prelude.{◌≡◌, ◌≤◌, ℕ, List, [], ◌∷◌, ◌++◌, length, map, true}
+use Rattle.std.specs.List.{All}
 use Rattle.std.specs.Coded.{Coded, Coded-set, code_by, coded×, coded_list, coded_ℕ}
 use Rattle.std.proofs.Common.{refl, sym, ap, subst, ◌∙◌}
 use Rattle.std.proofs.lemmas.List.{append_cancel_left}
@@ -29,6 +30,10 @@ pub record Sections : Type 0 where
 -- the module with one section more
 abbrev pub with_section : Sections → SectionRow → Sections
 with_section m s = record m { sections = m.sections ++ s ∷ [] }
+
+-- no section has a body above the ceiling
+abbrev pub AllFit : ℕ → List SectionRow → Type 0
+AllFit ceiling rows = All (λ s. length s.body ≤ ceiling) rows
 
 -- the id, the length and the body
 abbrev pub section_bytes : SectionRow → List ℕ

@@ -6,7 +6,7 @@ ghost use Rattle.wasm_shapes.specs.Tree.{normal};
 ghost use Rattle.wasm_shapes.specs.Types.{vector_tree};
 ghost use Rattle.wasm_write.specs.Faults.{IfTooLarge};
 ghost use Rattle.wasm_write.specs.Held.{AreHeld};
-ghost use Rattle.wasm_write.specs.Sections.{section_row, with_section, section_bytes, sections_bytes, module_bytes, framed, framed_tree, HeldSections, HeldSections-prop};
+ghost use Rattle.wasm_write.specs.Sections.{AllFit, section_row, with_section, section_bytes, sections_bytes, module_bytes, framed, framed_tree, HeldSections, HeldSections-prop};
 
 use crate::fault::WriteFault;
 use crate::frames::frame_at;
@@ -31,7 +31,7 @@ pub struct Module {
 }
 
 impl Model for Module {
-    ghost use Rattle.wasm_write.specs.Sections.{Sections, held_sections};
+    ghost use Rattle.wasm_write.specs.Sections.{AllFit, Sections, held_sections};
 
     ghost Value = { Sections };
 
@@ -39,6 +39,8 @@ impl Model for Module {
       ceiling = m.ceiling;
       sections = held_sections m.count m.bytes.items m.held;
     } };
+
+    ghost invariant = { λ m. AllFit m.ceiling (held_sections m.count m.bytes.items m.held) };
 }
 
 impl Module {
@@ -68,6 +70,14 @@ impl Module {
         ensures { result ≡ length self.now.sections }
     {
         self.count
+    }
+
+    /// Does nothing: no section that a module holds has a body above its ceiling.
+    #[inline(always)]
+    pub fn sections_fit(&self)
+        ensures { AllFit self.now.ceiling self.now.sections }
+    {
+        let _ = &self.count;
     }
 
     /// Adds a section at the end. A refusal changes nothing.

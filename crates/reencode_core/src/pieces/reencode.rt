@@ -7,7 +7,7 @@ ghost use Rattle.wasm_shapes.specs.Types.{vector_tree};
 ghost use Rattle.wasm_shapes.specs.Module.{code_row, core_module, unknown_tree_of};
 ghost use Rattle.wasm_shapes.specs.Spells.{Spells};
 ghost use Rattle.wasm_read.specs.Reading.{place_of};
-ghost use Rattle.wasm_write.specs.Sections.{section_row};
+ghost use Rattle.wasm_write.specs.Sections.{AllFit, section_row};
 ghost use Rattle.reencode_hooks.specs.Hooks.{RepliesSection};
 ghost use Rattle.reencode_hooks.specs.Run.{LeavesVisited, accepted, ask, run};
 ghost use Rattle.reencode_core.specs.Bodies.{GivesBody, KeepsCode};
@@ -27,6 +27,7 @@ use crate::pieces::code::CodePieces;
 use crate::pieces::module::ModulePieces;
 use crate::pieces::piece::Pieces;
 use crate::reencode::Reencode;
+use crate::sections::intersperse_section_hook;
 use crate::utils;
 use reencode_hooks::Error;
 use std::alloc::Global;
@@ -263,13 +264,15 @@ fn add_between<R: Reencode>(
         sink.old.sections sink.new.sections after before result }
     ensures leaves { LeavesHook R.sure R.adds_nothing (ask R.reply R.next) reencoder.old reencoder.new
         (Section after before) result }
+    ensures fits { OnOk result
+        (AllFit sink.old.sections.ceiling (R.adds reencoder.old after before)) }
     ensures input { sink.new.input ≡ sink.old.input }
     ensures ranges { OnOk result (sink.new.kept ≡ sink.old.kept) }
 {
     let Ok(mut own) = w::Module::new(alloc, sink.ceiling()) else {
         return Err(Error::NoMemory);
     };
-    match reencoder.intersperse_section_hook(&mut own, after, before) {
+    match intersperse_section_hook(reencoder, &mut own, after, before) {
         Ok(()) => {}
         Err(e) => return Err(e),
     }

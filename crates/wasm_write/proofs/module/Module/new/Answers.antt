@@ -1,10 +1,13 @@
 use Rattle.std.proofs.Common.{List, ap}
 use Rattle.wasm_write.specs.Sections.{SectionRow, Sections}
-use Rattle.wasm_write.proofs.HoldingSections.{sections_none, sections_none_is}
+use Rattle.wasm_write.proofs.HoldingSections.{sections_none, sections_none_is, sections_none_fit}
 use Rattle.wasm_write.proofs.module.Module.new.Goals as goal
 
 pub invariant_of-result : goal.invariant_of-result
 invariant_of-result c = (sections_none c.in-Ok.ensures.items, tt)
+
+pub invariant_of-result-in-Ok : goal.invariant_of-result-in-Ok
+invariant_of-result-in-Ok c = sections_none_fit c.args.ceiling _ c.in-Ok.ensures.items
 
 pub returns-in-Ok : goal.returns-in-Ok
 returns-in-Ok c =

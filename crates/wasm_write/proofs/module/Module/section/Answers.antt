@@ -1,6 +1,6 @@
 use Rattle.std.proofs.Common.{◌<◌, ◌^◌, length, ◌∙◌, arith}
 use Rattle.wasm_write.specs.Sections.{section_row}
-use Rattle.wasm_write.proofs.HoldingSections.{IsWritable, sections_few, sections_grown, module_same, module_grown}
+use Rattle.wasm_write.proofs.HoldingSections.{IsWritable, sections_few, sections_grown, module_same, module_grown, fit_same, fit_grown}
 use Rattle.wasm_write.proofs.module.Module.section.Goals as goal
 
 pub overflow_add-self : goal.overflow_add-self
@@ -12,6 +12,16 @@ invariant_of-self-inside g c =
     let short : length (g.S.Section.contents s) < 2 ^ 32 = omega (arith, c.in-Ok.ensures.fits) in
     let w : IsWritable (section_row (g.S.Section.number s) (g.S.Section.contents s)) = record { byte = omega (arith, g.met.S.Section.small s); short = short } in
     (sections_grown c.self.inside.held _ c.in-Ok.ensures.ok w, tt)
+
+pub invariant_of-self : goal.invariant_of-self
+invariant_of-self g c =
+    let s = c.args.section.now in
+    let short : length (g.S.Section.contents s) < 2 ^ 32 = omega (arith, c.in-Ok.ensures.fits) in
+    let w : IsWritable (section_row (g.S.Section.number s) (g.S.Section.contents s)) = record { byte = omega (arith, g.met.S.Section.small s); short = short } in
+    fit_grown c.self.inside.held (section_row (g.S.Section.number s) (g.S.Section.contents s)) _ c.in-Ok.ensures.ok w c.in-Ok.ensures.fits c.self.invariant
+
+pub invariant_of-self-in-Err : goal.invariant_of-self-in-Err
+invariant_of-self-in-Err g c = fit_same c.self.inside.held _ (c.truncate.ensures.items ∙ rw c.len-len.ensures c.in-Err.ensures.err) c.self.invariant
 
 pub returns-in-Ok-clause-ok : goal.returns-in-Ok-clause-ok
 returns-in-Ok-clause-ok g c =

@@ -1,0 +1,13 @@
+-- The section visits among some visits.
+use Rattle.std.specs.Prelude.{List, Bool, true, false, filter}
+use Rattle.wasm_shapes.specs.declared.Visit.{Visit}
+use Rattle.wasm_shapes.specs.declared.Visit.TheVariants.{Section}
+
+-- whether the section hook is asked
+abbrev pub is_section : Visit → Bool
+is_section (Section last next) = true
+is_section _ = false
+
+-- the section visits among some visits
+abbrev pub section_visits : List Visit → List Visit
+section_visits vs = filter is_section vs
