@@ -1,5 +1,5 @@
 //! The examples, run.
-use examples::{NotBelow, TooMany, Widened, check_below, move_behind, strip};
+use examples::{NotBelow, Stripper, TooMany, Widened, check_below, move_behind, strip};
 use reencode_core::reencode_core;
 use reencode_hooks::Error;
 use std::convert::Infallible;
@@ -68,5 +68,34 @@ fn names_are_stripped(rt: HostRuntime) -> Result<(), Error<Infallible>> {
         0x00, 0x61, 0x73, 0x6d, 0x01, 0x00, 0x00, 0x00, 0x08, 0x01, 0x00,
     ];
     assert!(rt; bytes.as_slice() == bare.as_slice());
+    let bytes = reencode_core(rt.alloc(), &mut Stripper { all: true }, &NAMED, u32::MAX)?;
+    assert!(rt; bytes.as_slice() == bare.as_slice());
+    Ok(())
+}
+
+/// A name section without contents, a code section whose body is nothing, a section of no known kind whose size is spelled in two
+/// bytes, and one whose size passes the end.
+const FRAMES: [u8; 23] = [
+    0x00, 0x61, 0x73, 0x6d, 0x01, 0x00, 0x00, 0x00, 0x00, 0x05, 0x04, 0x6e, 0x61, 0x6d, 0x65, 0x0a,
+    0x00, 0x0e, 0x81, 0x00, 0xff, 0x01, 0x02,
+];
+
+#[test]
+fn frames_alone_are_read(rt: HostRuntime) -> Result<(), Error<Infallible>> {
+    let bytes = strip(rt.alloc(), &FRAMES[..21], false)?;
+    let left = [
+        0x00, 0x61, 0x73, 0x6d, 0x01, 0x00, 0x00, 0x00, 0x0a, 0x00, 0x0e, 0x01, 0xff,
+    ];
+    assert!(rt; bytes.as_slice() == left.as_slice());
+    let place = match strip(rt.alloc(), &FRAMES, true) {
+        Err(Error::ParseError(e)) => e.at == 21,
+        _ => false,
+    };
+    assert!(rt; place);
+    let place = match strip(rt.alloc(), &FRAMES[1..], true) {
+        Err(Error::ParseError(e)) => e.at == 0,
+        _ => false,
+    };
+    assert!(rt; place);
     Ok(())
 }
