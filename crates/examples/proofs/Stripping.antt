@@ -1,9 +1,9 @@
 -- The loop over the frames of a module, and what the stripper gives at each of its ends.
-use Rattle.std.proofs.Common.{◌≡◌, ◌≢◌, inl, inr, ℕ, zero, suc, ◌+◌, ◌-◌, ◌^◌, ◌<◌, ◌≤◌, List, [], ◌∷◌, ◌++◌, append-nil, append_assoc, length, length-append, Bool, true, Result, Ok, Err, IfErr, refl, sym, ap, ◌∙◌, subst, arith}
+use Rattle.std.proofs.Common.{◌≡◌, ◌≢◌, inl, inr, ℕ, ◌+◌, ◌-◌, ◌^◌, ◌<◌, ◌≤◌, List, [], ◌∷◌, ◌++◌, append-nil, append_assoc, length, length-append, Bool, Result, Ok, Err, IfErr, refl, sym, ap, ◌∙◌, subst, arith}
 use Rattle.std.proofs.lemmas.List.{append_cancel_left}
 use Rattle.wasm_leb.specs.declared.fault.Fault.{Fault}
 use Rattle.wasm_leb.specs.declared.fault.Fault.TheVariants as fault
-use Rattle.wasm_leb.specs.Leb.{leb, IsUnsigned}
+use Rattle.wasm_leb.specs.Leb.{leb}
 use Rattle.wasm_leb.proofs.Spellings.{unsigned_32_is_shortest}
 use Rattle.wasm_shapes.specs.Tree.{Tree, normal}
 use Rattle.wasm_shapes.specs.Shape.{Shape}
@@ -21,7 +21,7 @@ use Rattle.wasm_read.specs.Payloads.{NoFrame}
 use Rattle.wasm_write.specs.declared.fault.WriteFault.{WriteFault}
 use Rattle.wasm_write.specs.declared.fault.WriteFault.TheVariants as write
 use Rattle.wasm_write.specs.Faults.{IfTooLarge}
-use Rattle.wasm_write.specs.Sections.{SectionRow, Sections, section_bytes, sections_bytes, with_section}
+use Rattle.wasm_write.specs.Sections.{SectionRow, Sections, section_bytes, sections_bytes}
 use Rattle.wasm_write.proofs.Holding.{snoc_normal}
 use Rattle.reencode_hooks.specs.declared.error.Error.{Error}
 use Rattle.reencode_hooks.specs.declared.error.Error.TheVariants.{NoMemory}
@@ -30,7 +30,7 @@ use Rattle.reencode_core.specs.Rows.{RowsBefore}
 use Rattle.reencode_core.proofs.CoreLoop.{no_header}
 use Rattle.reencode_core.proofs.ManyLoop.{first_of_many, none_of_many}
 use Rattle.reencode_core.proofs.RowLoop.{before_more}
-use Rattle.examples.specs.Stripper.{AddsKept, Framed, IsStripped, IsUnframed, LeavesOut, Stay, StopsFramed, payload_row}
+use Rattle.examples.specs.Stripper.{AddsKept, Framed, IsStripped, IsUnframed, Stay, payload_row}
 
 -- ---- one section
 

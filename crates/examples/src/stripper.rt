@@ -5,7 +5,6 @@
 //! method. What is left is what the override says of itself, and the clauses that hold for every implementation.
 ghost use Rattle.std.specs.Prelude.{◌≡◌, ◌<◌, ◌≤◌, ◌↔◌, ◌⊎◌, ◌^◌, ◌-◌, [], List, IsTrue, length, OnErr, OnOk, IfOk, IfErr};
 ghost use Rattle.wasm_shapes.specs.Tree.{Tree, normal};
-ghost use Rattle.wasm_read.specs.Frames.{frame_tree};
 ghost use Rattle.wasm_read.specs.Types.{custom_tree};
 ghost use Rattle.wasm_write.specs.Sections.{section_row, with_section};
 ghost use Rattle.reencode_hooks.specs.declared.error.Error.TheVariants.{NoMemory as Wanting};

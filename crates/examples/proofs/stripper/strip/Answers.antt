@@ -1,4 +1,3 @@
-use Rattle.std.proofs.Common.{refl}
 use Rattle.examples.proofs.Stripping.{headless, none_whole, not_whole, stripping_begun, stripping_more}
 use Rattle.examples.proofs.stripper.strip.Goals as goal
 
