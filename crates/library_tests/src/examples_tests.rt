@@ -1,5 +1,7 @@
 //! The examples, run.
-use examples::{NotBelow, TooMany, Widened, check_below, move_behind, strip};
+use examples::{
+    NotBelow, Parts, Shift, Stripper, TooMany, Widened, check_below, link, move_behind, strip,
+};
 use reencode_core::reencode_core;
 use reencode_hooks::Error;
 use std::convert::Infallible;
@@ -68,5 +70,83 @@ fn names_are_stripped(rt: HostRuntime) -> Result<(), Error<Infallible>> {
         0x00, 0x61, 0x73, 0x6d, 0x01, 0x00, 0x00, 0x00, 0x08, 0x01, 0x00,
     ];
     assert!(rt; bytes.as_slice() == bare.as_slice());
+    let bytes = reencode_core(rt.alloc(), &mut Stripper { all: true }, &NAMED, u32::MAX)?;
+    assert!(rt; bytes.as_slice() == bare.as_slice());
+    Ok(())
+}
+
+/// A name section without contents, a code section whose body is nothing, a section of no known kind whose size is spelled in two
+/// bytes, and one whose size passes the end.
+const FRAMES: [u8; 23] = [
+    0x00, 0x61, 0x73, 0x6d, 0x01, 0x00, 0x00, 0x00, 0x00, 0x05, 0x04, 0x6e, 0x61, 0x6d, 0x65, 0x0a,
+    0x00, 0x0e, 0x81, 0x00, 0xff, 0x01, 0x02,
+];
+
+#[test]
+fn frames_alone_are_read(rt: HostRuntime) -> Result<(), Error<Infallible>> {
+    let bytes = strip(rt.alloc(), &FRAMES[..21], false)?;
+    let left = [
+        0x00, 0x61, 0x73, 0x6d, 0x01, 0x00, 0x00, 0x00, 0x0a, 0x00, 0x0e, 0x01, 0xff,
+    ];
+    assert!(rt; bytes.as_slice() == left.as_slice());
+    let place = match strip(rt.alloc(), &FRAMES, true) {
+        Err(Error::ParseError(e)) => e.at == 21,
+        _ => false,
+    };
+    assert!(rt; place);
+    let place = match strip(rt.alloc(), &FRAMES[1..], true) {
+        Err(Error::ParseError(e)) => e.at == 0,
+        _ => false,
+    };
+    assert!(rt; place);
+    Ok(())
+}
+
+/// A type without parameters that gives an `i32`; a function of it, which gives 1.
+const ONE: Parts<'static> = Parts {
+    types: &[0x01, 0x60, 0x00, 0x01, 0x7f],
+    functions: &[0x01, 0x00],
+    code: &[0x01, 0x04, 0x00, 0x41, 0x01, 0x0b],
+};
+
+/// The same type, and one whose parameter is a reference to a function of it. A function of each: the first calls itself, and the
+/// second has a block of the first type, which gives 7, and calls the first.
+const TWO: Parts<'static> = Parts {
+    types: &[0x02, 0x60, 0x00, 0x01, 0x7f, 0x60, 0x01, 0x63, 0x00, 0x00],
+    functions: &[0x02, 0x00, 0x01],
+    code: &[
+        0x02, 0x04, 0x00, 0x10, 0x00, 0x0b, 0x0b, 0x00, 0x02, 0x00, 0x41, 0x07, 0x0b, 0x1a, 0x10,
+        0x00, 0x1a, 0x0b,
+    ],
+};
+
+/// Both, by hand: the types and functions of the second are named by one more.
+const BOTH: [u8; 55] = [
+    0x00, 0x61, 0x73, 0x6d, 0x01, 0x00, 0x00, 0x00, // the header
+    0x01, 0x0e, 0x03, 0x60, 0x00, 0x01, 0x7f, // the types
+    0x60, 0x00, 0x01, 0x7f, 0x60, 0x01, 0x63, 0x01, 0x00, // those of the second
+    0x03, 0x04, 0x03, 0x00, 0x01, 0x02, // the functions, by their types
+    0x0a, 0x17, 0x03, 0x04, 0x00, 0x41, 0x01, 0x0b, // the code
+    0x04, 0x00, 0x10, 0x01, 0x0b, // that of the second
+    0x0b, 0x00, 0x02, 0x01, 0x41, 0x07, 0x0b, 0x1a, 0x10, 0x01, 0x1a, 0x0b,
+];
+
+#[test]
+fn modules_are_linked(rt: HostRuntime) -> Result<(), Error<TooMany>> {
+    let shift = Shift {
+        types: 1,
+        functions: 1,
+    };
+    let bytes = link(rt.alloc(), ONE, TWO, shift)?;
+    assert!(rt; bytes.as_slice() == BOTH.as_slice());
+    let far = Shift {
+        types: u32::MAX,
+        functions: 1,
+    };
+    let refused = match link(rt.alloc(), ONE, TWO, far) {
+        Err(Error::UserError(TooMany { index })) => index == 1,
+        _ => false,
+    };
+    assert!(rt; refused);
     Ok(())
 }
