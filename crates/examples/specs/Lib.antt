@@ -3,3 +3,4 @@ pub mod Below
 pub mod Linker
 pub mod Marks
 pub mod Stripper
+pub mod Widened

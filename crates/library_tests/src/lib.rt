@@ -23,6 +23,8 @@ mod read_tests;
 #[cfg(test)]
 mod refusing_tests;
 #[cfg(test)]
+mod rules_tests;
+#[cfg(test)]
 mod shapes_tests;
 #[cfg(test)]
 mod write_tests;

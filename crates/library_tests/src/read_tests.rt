@@ -59,3 +59,15 @@ fn called_again(rt: HostRuntime) -> Result<(), Fault> {
     }
     Ok(())
 }
+
+/// The number of the rows stays what the body says.
+#[test]
+fn rows_are_counted(rt: HostRuntime) -> Result<(), Fault> {
+    let mut rows = FunctionSectionReader::new(&[0x02, 0x05, 0x07])?;
+    for row in [Some(5), Some(7), None] {
+        assert_eq!(rt; rows.count(), 2);
+        assert_eq!(rt; rows.next_row(rt.alloc())?, row);
+    }
+    assert_eq!(rt; rows.count(), 2);
+    Ok(())
+}

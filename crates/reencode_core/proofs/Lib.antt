@@ -57,3 +57,4 @@ pub mod Frames
 pub mod Ranges
 pub mod KeptLaws
 pub mod Answered
+pub mod CheckRuns

@@ -15,6 +15,7 @@ pub mod Leaves
 pub mod Holds
 pub mod Refusals
 pub mod Rules
+pub mod Checks
 pub mod Interspersed
 pub mod Pieces
 pub mod Sinks

@@ -32,4 +32,4 @@ pub use pieces::{
 };
 pub use plain::{DefaultReencode, DefaultSections};
 pub use reencode::{Reencode, reencode_core};
-pub use rule::reencode_by_rule;
+pub use rule::{check_by_rule, reencode_by_rule};

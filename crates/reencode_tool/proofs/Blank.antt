@@ -21,7 +21,7 @@ use Rattle.reencode_hooks.specs.Moments as moment
 use Rattle.reencode_hooks.proofs.Walks.{walk_is_run, walk_stops}
 use Rattle.reencode_hooks.proofs.Moments as moments
 use Rattle.reencode_tool.specs.Counts.{raised, visit_place}
-use Rattle.reencode_tool.proofs.Shortest.{frames_fit}
+use Rattle.wasm_write.proofs.FramesFit.{frames_in_text}
 
 -- ---- one visit
 
@@ -111,7 +111,7 @@ short_accepted {s} c t x b p h =
       given = own t;
       ran = blank_run (visits t) b;
       filled = fill_own t;
-      fits = frames_fit c t x p h;
+      fits = frames_in_text c t x p h;
     })
 
 -- an error says that a size is above the ceiling, and the text is longer than that

@@ -10,5 +10,4 @@ mod OutsideLemmas
 mod Refusals
 mod Reports
 mod Shelves
-mod Shortest
 mod WithoutBlanks

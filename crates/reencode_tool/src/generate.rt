@@ -1,5 +1,5 @@
 //! A module of any number of functions, which is made.
-ghost use Rattle.std.specs.Prelude.{◌≡◌, ◌+◌, ◌≤◌, ◌<◌, ◌++◌, ◌∷◌, [], ◌%◌, ◌^◌, replicate, IfOk, OnOk};
+ghost use Rattle.std.specs.Prelude.{◌≡◌, ◌+◌, ◌<◌, ◌++◌, ◌%◌, replicate, IfOk, OnOk};
 ghost use Rattle.reencode_tool.specs.Generated.{bodies, body, code, five_bytes, generated, sized};
 ghost use Rattle.wasm_leb.specs.Leb.{leb};
 

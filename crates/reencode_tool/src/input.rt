@@ -1,5 +1,5 @@
 //! Reading the input to its end.
-ghost use Rattle.std.specs.Prelude.{◌≡◌, ℕ, ◌+◌, ◌<◌, ◌≤◌, ◌++◌, [], Some, take, length, Ok, IfOk, IsErrOf, vec_len};
+ghost use Rattle.std.specs.Prelude.{◌≡◌, ◌+◌, ◌<◌, ◌≤◌, ◌++◌, [], Some, take, length, Ok, IfOk, IsErrOf, vec_len};
 ghost use Rattle.reencode_tool.specs.Outside.{Rose, WhereTold, before, GaveAll, TookMore};
 
 use crate::buffer::zeros;

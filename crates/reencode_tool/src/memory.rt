@@ -1,7 +1,7 @@
 //! Sources, sinks and shelves in memory some of whose calls fail.
-ghost use Rattle.std.specs.Prelude.{◌||◌, Err, ◌≡◌, ◌-◌, ◌<◌, ◌≤◌, ◌++◌, ℕ, List, [], Option, Some, None, Bool, true, false, if◌then◌else◌, drop, length, min, take, IfOk, IsOk, OnErr, OnOk, IsErrOf, Ok, vec_len, vec_capacity, is_err, ◌+◌, ◌∷◌, map, option_map, string_bytes, IsTrue, ◌⊎◌};
+ghost use Rattle.std.specs.Prelude.{◌||◌, Err, ◌≡◌, ◌-◌, ◌<◌, ◌≤◌, ◌++◌, List, [], Option, Some, None, if◌then◌else◌, drop, length, min, take, IfOk, OnErr, OnOk, IsErrOf, Ok, vec_len, vec_capacity, is_err, ◌+◌, ◌∷◌, map, option_map, string_bytes, IsTrue, ◌⊎◌};
 ghost use Rattle.reencode_tool.specs.Memory.{fails_next, is_full, one_more, text_of};
-ghost use Rattle.reencode_tool.specs.Outside.{Rose, WhereTold, before, followed, HasText, IsLonger};
+ghost use Rattle.reencode_tool.specs.Outside.{Rose, HasText, IsLonger};
 
 use crate::outside::{Failed, Shelf, ShelfFault, Sink, Source};
 use std::alloc::Global;

@@ -1,5 +1,5 @@
 //! The standard streams and files. What they give and take is not told.
-ghost use Rattle.std.specs.Prelude.{◌≡◌, ◌≤◌, ℕ, List, Option, None};
+ghost use Rattle.std.specs.Prelude.{◌≡◌, ◌≤◌, None};
 ghost use Rattle.reencode_tool.specs.Outside.{Rose};
 
 use crate::input::{InputFault, read_all};

@@ -1,5 +1,5 @@
 //! The top call.
-ghost use Rattle.std.specs.Prelude.{None, Some, ℕ, List, [], ◌∷◌, ◌<◌, ◌==◌, Contains, decimal, ◌≡◌, ◌≢◌, ◌≤◌, ◌++◌, ◌↔◌, ◌⊎◌, codes, map, length, string_bytes, vec_len, IsTrue, OnOk, OnErr};
+ghost use Rattle.std.specs.Prelude.{None, Some, ℕ, [], ◌∷◌, ◌<◌, Contains, decimal, ◌≡◌, ◌≢◌, ◌≤◌, ◌++◌, ◌↔◌, ◌⊎◌, codes, map, length, string_bytes, vec_len, OnOk, OnErr};
 ghost use Rattle.hex.specs.Hex.{encode_lower};
 ghost use Rattle.reencode_tool.specs.Answer.{Ends, EndsFor, ForJob, HasNoDigits, IsBadFile, IsDecided, IsMaking, IsTooLong, IsUnfetched, IsUnread, Made, MakesModule, NamesNone, Says, StopsWith, message, report_of, status_of, text_of};
 ghost use Rattle.reencode_tool.specs.Words.{files, job, job_seen};
