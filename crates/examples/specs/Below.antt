@@ -1,5 +1,5 @@
 -- Functions below a bound.
-use Rattle.std.specs.Prelude.{◌≡◌, ◌<◌, ◌^◌, ℕ, Bool, true, false, nat_lt, if◌then◌else◌, Result, Ok, Err, refl}
+use Rattle.std.specs.Prelude.{◌<◌, ◌^◌, ℕ, Bool, true, false, nat_lt, if◌then◌else◌, Result, Ok, Err, refl}
 use Rattle.wasm_shapes.specs.declared.Space.{Space}
 use Rattle.wasm_shapes.specs.declared.Space.TheVariants as space
 use Rattle.wasm_shapes.specs.declared.Visit.TheVariants.{Index}

@@ -14,7 +14,7 @@ pub struct Behind {
     pub count: u32,
 }
 
-/// This function would pass the last index.
+/// This index would pass the last one.
 #[derive(Clone, Copy, Debug)]
 pub struct TooMany {
     pub index: u32,
