@@ -58,7 +58,9 @@ fn an_index_overflows(rt: HostRuntime) -> Result<(), Error<IndexOverflow>> {
         index: 1,
     };
     assert!(rt; refusal == overflow);
-    let text = refusal.to_string(rt.alloc())?;
+    let Ok(text) = refusal.to_string(rt.alloc()) else {
+        return Err(Error::NoMemory);
+    };
     assert_eq!(rt; text.as_str(), "overflow of function 1");
     Ok(())
 }

@@ -97,9 +97,9 @@ module _ {R E : Type 0} (renamed : R → Space → ℕ → Result ℕ E) where
     never_refused : (x : E) → Leaves asks (core_in bytes) (start rule) (UserError x) m → ⊥
     never_refused x l = (refusal_tells asks).never (λ s v. (index_of v, next s v, refl)) bytes (start rule) m x l
 
-    pub check_user : {P : E → Type 0} (e : Error E) → ((e ≡ NoMemory → IsTrue true) → (IsSize e → IsTrue true) → Leaves asks (core_in bytes) (start rule) e m) → IfUser e P
-    check_user (UserError x) l = absurd (never_refused x (l (λ same. refl) (λ size. refl)))
-    check_user e l = tt
+    pub check_user : (P : E → Type 0) (e : Error E) → ((e ≡ NoMemory → IsTrue true) → (IsSize e → IsTrue true) → Leaves asks (core_in bytes) (start rule) e m) → IfUser e P
+    check_user P (UserError x) l = absurd (never_refused x (l (λ same. refl) (λ size. refl)))
+    check_user P e l = tt
 
     fault : (at : ℕ) → FaultThere asks 4294967295 bytes (start rule) m at →
         (NoHeader bytes × (at ≡ 0)) ⊎ ((before : List Tree) × (rest : List ℕ) × FaultAt bytes before rest × ¬ InvalidCodeSize rest × (at ≡ length bytes - length rest))

@@ -9,7 +9,7 @@ pub returns-in-Ok-clause-accepted : goal.returns-in-Ok-clause-accepted
 returns-in-Ok-clause-accepted g c = check_accepts (λ rule. g.R.IndexRule.renamed rule) (c.in-Ok.ensures.default refl refl) c.in-None.is
 
 pub returns-clause-refused : goal.returns-clause-refused
-returns-clause-refused g c = check_user (λ rule. g.R.IndexRule.renamed rule) c.in-Err.e (c.in-Err.ensures.after_error refl)
+returns-clause-refused g c = check_user (λ rule. g.R.IndexRule.renamed rule) _ c.in-Err.e (c.in-Err.ensures.after_error refl)
 
 pub returns-clause-unread : goal.returns-clause-unread
 returns-clause-unread g c = check_unread (λ rule. g.R.IndexRule.renamed rule) c.in-Err.e (c.in-Err.ensures.default refl refl)
