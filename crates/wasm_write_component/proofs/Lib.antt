@@ -1,1 +1,2 @@
 pub mod AliasRows
+pub mod ExternRows

@@ -2,8 +2,13 @@
 #![tactic(auto)]
 
 mod aliases;
+mod rows;
 mod sections;
 mod types;
+mod values;
 
-pub use sections::{ComponentAliasSection, Of};
-pub use types::{Alias, ComponentExportKind, ComponentOuterAliasKind};
+pub use sections::{ComponentAliasSection, ComponentExportSection, ComponentImportSection, Of};
+pub use types::{
+    Alias, ComponentExport, ComponentExportKind, ComponentImport, ComponentOuterAliasKind,
+    ComponentTypeRef, ComponentValType, PrimitiveValType, TypeBounds,
+};

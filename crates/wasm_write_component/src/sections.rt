@@ -29,3 +29,9 @@ impl<K: SectionKind> SectionKind for Of<K> {
 
 /// An alias section. `add` takes an `Alias`.
 pub type ComponentAliasSection = RowSection<Of<component_kinds::Aliases>>;
+
+/// An import section of a component. `add` takes a `ComponentImport`.
+pub type ComponentImportSection = RowSection<Of<component_kinds::ComponentImports>>;
+
+/// An export section of a component. `add` takes a `ComponentExport`.
+pub type ComponentExportSection = RowSection<Of<component_kinds::ComponentExports>>;

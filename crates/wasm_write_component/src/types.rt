@@ -1,5 +1,8 @@
 //! What the writers take.
-pub use wasm_types::{ComponentExternalKind as ComponentExportKind, ComponentOuterAliasKind};
+pub use wasm_types::{
+    ComponentExport, ComponentExternalKind as ComponentExportKind, ComponentImport,
+    ComponentOuterAliasKind, ComponentTypeRef, ComponentValType, PrimitiveValType, TypeBounds,
+};
 use wasm_write::ExportKind;
 
 /// An alias.
