@@ -74,7 +74,7 @@ abbrev pub AddsMapped : Shift → SectionId → List ℕ → List Tree → List 
 AddsMapped shift kind body old new = (made : List Tree) × IsMapped shift kind body made × (new ≡ old ++ made)
 
 -- The body has no reading, where the error is one of the bytes; or the walk over its rows is refused so, or with the rows before it
--- they are too many for one section; or memory is wanting.
+-- they are too many for one section; or memory runs out.
 abbrev pub NotMapped : Shift → SectionId → ℕ → List ℕ → Error TooMany → Type 0
 NotMapped shift kind before body e =
     IfParse e (λ _. (t : Tree) → Spells (body_of kind) body t → ⊥)

@@ -20,7 +20,7 @@ use Rattle.reencode_core.specs.Rows.{RowsBefore}
 abbrev pub IsLeftOut : Bool → List ℕ → Type 0
 IsLeftOut all name = (all ≡ true) ⊎ (name ≡ names_name)
 
--- a size is too large, of which the fact is true, or memory is wanting: no other error
+-- a size is too large, of which the fact is true, or memory runs out: no other error
 abbrev pub IsUnwritten : {E : Type 0} → Error E → (ℕ → Type 0) → Type 0
 IsUnwritten (TooLarge size) P = P size
 IsUnwritten NoMemory P = Unit {0}

@@ -41,7 +41,7 @@ impl Reencode for Stripper {
     /// Leaves the section out, or adds it as it is. An error changes nothing.
     ///
     /// `TooLarge` comes only where the section is added and its body is longer than the ceiling, with its length. No other
-    /// error comes but want of memory.
+    /// error comes but out of memory.
     fn parse_custom_section(
         &mut self,
         _alloc: Global,

@@ -15,7 +15,7 @@ pub enum Stop {
     Refused(Error<Unmapped>),
     /// A call that asks nobody refused.
     Unasked(Error<Infallible>),
-    /// Memory is wanting.
+    /// Out of memory.
     NoMemory,
 }
 

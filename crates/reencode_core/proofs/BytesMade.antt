@@ -11,7 +11,7 @@ use Rattle.reencode_core.specs.Rows.{Asks}
 use Rattle.reencode_core.proofs.Made.{front_none, front_same, wants_tells_none}
 
 module _ {S E : Type 0} (asked : Asks S E) (bytes : List ℕ) {s : S} where
-  -- memory was wanting before anything was asked
+  -- memory ran out before anything was asked
   pub bytes_leave_none : Leaves asked (core_in bytes) s NoMemory s
   bytes_leave_none = record {
     made = [];

@@ -655,7 +655,7 @@ module _ {S E : Type 0} (asked : Asks S E) (adds : Puts S SectionRow) where
         go NoMemory g = refuses NoMemory tt g
         go _ g = absurd g.unreadable
 
-    -- where memory is wanting in a section, all that the hook added before it stands, and nothing of the section
+    -- where memory runs out in a section, all that the hook added before it stands, and nothing of the section
     pub section_held : {f : Tree} {left : List ℕ} {n s' : S} {mid new' : Sections} (framed : Begins frame rest f left) → Put asked adds f last s n new mid → new' ≡ mid →
         FrameLeaves asked framed.text f n NoMemory s' → HoldsSections asked adds old.ceiling bytes (s0, old) (s', new')
     section_held {f = f} {left = left} {n = n} {new' = new'} framed put unchanged inside = record {

@@ -222,7 +222,7 @@ module _ {S E : Type 0} (i : Ghosts S E) {name contents : List ℕ} (s : S) (old
           becomes = λ u q. let P : Tree → Type 0 = λ z. walk (asks i) old.ceiling s (named name z) ≡ accepted (view a) m in subst P (sym (raw_of other u q)) h;
         }
 
-    -- memory is wanting
+    -- memory runs out
     pub other_not_mapped : {A : Type 0} (view : A → Tree) {m : S} (e : Error E) → MapsIf i s (named name (Tree.raw contents)) view m (Err e) → (IsTrue i.keeps_defaults → NeverWants {A = A} i.sure (Err e)) →
         (r : Result (Unit {0}) (Error E)) → IsErrAnd r (λ y. y ≡ e) → CustomClauses i name contents s old m old r
     other_not_mapped {A = A} view {m = m} e maps sure r q =

@@ -250,7 +250,7 @@ module _ {S E : Type 0} (i : Ghosts S E) (keeps : KeepsAdds i.adds i.adds_nothin
       (IsTrue i.keeps_defaults → IsTrue i.sure → HoldsCore (asks i) i.adds bytes (s, old) (m, new) r) → ModuleClauses i bytes s old m new r
   both given wants = record { kept = given.kept; default = given.default; woven = given.woven; after_error = given.after_error; headless = given.headless; wants = wants }
 
-  -- memory is not what was wanting
+  -- memory did not run out
   unwanted : {bytes : List ℕ} {s m : S} {old new : Sections} (e : Error E) (r : Result (Unit {0}) (Error E)) → IsErrAnd r (λ y. y ≡ e) → CoreClauses i bytes s old m new r →
       (IsTrue i.sure → e ≢ NoMemory) → ModuleClauses i bytes s old m new r
   unwanted {bytes = bytes} {s = s} {m = m} {old = old} {new = new} e r q given other =

@@ -95,7 +95,7 @@ only_added {asked = asked} {adds = adds} {ceiling = ceiling} {s = s} {m = m} sam
     }
 only_added same (Err e) g = tt
 
--- Where nothing that is added is too large, memory alone may be wanting.
+-- Where nothing that is added is too large, memory alone may run out.
 pub made_between : {S E A : Type 0} {asked : Asks S E} {adds : Puts S SectionRow} {ceiling : ℕ} {bytes : List ℕ} {s m : S} {view : A → List ℕ} →
     ((k : S) (v : Visit) → asked k v ≡ accepted (index_of v) k) → (r : Result A (Error E)) → GivesWovenBytes asked adds ceiling bytes s m r view →
     IfErr r (IsMadeBetween (adds s) ceiling bytes)

@@ -1,4 +1,4 @@
--- The visits that were made when memory was wanting, or a size was too large: none, or all those of what was read.
+-- The visits that were made when memory ran out, or a size was too large: none, or all those of what was read.
 use Rattle.std.proofs.Common.{◌≡◌, ℕ, List, [], ◌++◌, Option, None, inl, refl, sym, ap, ◌∙◌, append-nil, subst}
 use Rattle.wasm_shapes.specs.declared.SectionId.{SectionId}
 use Rattle.wasm_shapes.specs.declared.Visit.{Visit}
@@ -49,7 +49,7 @@ module_drawn bytes t p =
 
 -- ---- what is left
 
--- memory was wanting before anything was asked
+-- memory ran out before anything was asked
 pub left_none : {S E : Type 0} (asked : Asks S E) {s : S} (text : Text) → Leaves asked text s NoMemory s
 left_none {E = E} asked text = record {
   made = [];

@@ -74,7 +74,7 @@ pub write_tells_none : (E : Type 0) (w : WriteFault) → ¬ TellsFault (error_of
 write_tells_none E (write.TooLarge x) = λ h. h
 write_tells_none E write.NoMemory = λ h. h
 
--- the reencoder is sure where memory is wanting, and its call never wants any
+-- the reencoder is sure where memory runs out, and its call never wants any
 pub not_wanting : {E B : Type 0} {sure : Bool} (e : Error E) → NeverWants {A = B} sure (Err e) → (e ≡ NoMemory → IsTrue sure) → e ≢ NoMemory
 not_wanting e never told h = never_wants e never (told h) h
 
@@ -217,7 +217,7 @@ module _ {S E : Type 0} (asked : Asks S E) {s m : S} where
   pub tree_made : {v : Tree} (c : ℕ) (e : Error E) (t : Tree) → Unasked e → walk asked c s t ≡ accepted v m → PartMade asked s (visits t) e m
   tree_made {v = v} c e t u h = whole_made e (visits t) u ((walk_is_run asked).forth c s m t v h).ran
 
-  -- memory was wanting
+  -- memory ran out
   pub wants_made : {all : List Visit} → Visited asked s all m → PartMade asked s all NoMemory m
   wants_made v = record { part = v.front; front = record { rest = v.rest; parts = v.parts }; ended = record { by = v.state } }
 
@@ -265,7 +265,7 @@ module _ {S E : Type 0} (reply : S → Visit → Result ℕ E) (next : S → Vis
       let P : List Visit → Type 0 = λ z. PartMade (ask reply next) s z e m in
       subst P all (stops_made c e p.state p.moment p.front p.rest p.so_far p.ran p.ends)
 
-  -- the walk was refused, or memory was wanting
+  -- the walk was refused, or memory ran out
   pub either_made : (c : ℕ) (t : Tree) (e : Error E) → (e ≢ NoMemory → walk (ask reply next) c s t ≡ refused e m) → (e ≡ NoMemory → Visited (ask reply next) s (visits t) m) →
       PartMade (ask reply next) s (visits t) e m
   either_made c t e stops wants = go (is_wanting e)

@@ -407,7 +407,7 @@ module _ {F S E : Type 0} (step : F → ℕ → Result ℕ (Error E) → F → T
       refusal (inr (inl u)) = let P : Error E → Type 0 = λ x. IfRefused x (StopsMap asked c (asked_row p body) m (see f) e (see g)) in subst P (sym u.parse) tt
       refusal (inr (inr k)) = let P : Error E → Type 0 = λ x. IfRefused x (StopsMap asked c (asked_row p body) m (see f) e (see g)) in subst P (sym k.memory) tt
 
-  -- The visits that were made when an error came, where no call answers want of memory.
+  -- The visits that were made when an error came, where no call answers out of memory.
   pub map_leaves : IsItem (asked_row p body) → ((s k : S) (v : Visit) (e : Error E) → asked s v ≡ refused e k → EndsBy asked s (v ∷ []) e k) → (m : MapStanding) (f g : F) (e : Error E) →
       MapsEntries (plain_row body) step m f g (Err e) → (e ≡ NoMemory → (f : F) (i : ℕ) (g : F) → step f i (Err NoMemory) g → ⊥) → MapLeaves asked p body m (see f) e (see g)
   map_leaves item ends m f g e h never = by h.why

@@ -196,7 +196,7 @@ module _ {S E : Type 0} {asked : Asks S E} {c : ℕ} {row : Shape} {start reader
 
 -- ---- a row that stands whole
 
--- a row was refused, or is too large, or memory was wanting
+-- a row was refused, or is too large, or memory ran out
 pub row_made : {S E : Type 0} (reply : S → Visit → Result ℕ E) (next : S → Visit → S) {n : ℕ} {s m : S} {t : Tree} (c : ℕ) (e : Error E) →
     (e ≢ NoMemory → (walk (ask reply next) c s t ≡ refused e m) ⊎ TooLargeMade (ask reply next) s t n e m) → (e ≡ NoMemory → Visited (ask reply next) s (visits t) m) →
     PartMade (ask reply next) s (visits t) e m

@@ -35,7 +35,7 @@ IfRefused-map (UserError _) f h = f h
 IfRefused-map (TooLarge _) f h = f h
 IfRefused-map _ f h = tt
 
--- what holds of every error but want of memory
+-- what holds of every error but out of memory
 pub unless_wanting : {E : Type 0} {P : Type 0} (e : Error E) → (e ≢ NoMemory → P) → IfRefused e P
 unless_wanting (UserError _) h = h (λ q. cc)
 unless_wanting (TooLarge _) h = h (λ q. cc)

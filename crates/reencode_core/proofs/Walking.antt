@@ -38,7 +38,7 @@ module _ {S E : Type 0} (i : Ghosts S E) where
 
   module _ (keeps : KeepsAdds i.adds i.adds_nothing) {bytes : List ℕ} {start : read.Sections} (header : HeaderRead bytes start) {s0 : S} {old : Sections}
       {reader : read.Sections} {last : Option SectionId} {s : S} {new : Sections} (inv : SectionsKept i start s0 old reader last s new) where
-    -- memory was wanting before the hook was asked
+    -- memory ran out before the hook was asked
     unasked : IsTrue i.keeps_defaults → Leaves (asks i) (module_in bytes) s0 NoMemory s
     unasked d =
         core_leaves (asks i) i.adds header.stands (inv.done d) NoMemory [] (ended_all {a = []} NoMemory tt refl) drawn_none (λ empty. front_none (Section last None ∷ []))

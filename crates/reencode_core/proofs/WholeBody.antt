@@ -31,7 +31,7 @@ use Rattle.reencode_core.specs.Bodies.{GivesLocals, GivesBody}
 use Rattle.reencode_core.proofs.Usual.{IfParse-map, unless_wanting, usual_walk, stops_usual, write_usual}
 use Rattle.reencode_core.proofs.BodyLoop.{ManyLeft, OperatorsDone, operators_begin, operators_more, body_is, body_spelled, no_locals, many_first, many_none, no_many, pair_accepted, sized_refused, pair_refused, first_refused, sized_fits, sized_large}
 
--- nothing is said of want of memory
+-- nothing is said of out of memory
 pub body_wants : {S E : Type 0} (asked : Asks S E) (bytes : List ℕ) (s m : S) (old : CodeRows) → GivesBody asked bytes (s, old) (m, old) (Err NoMemory)
 body_wants asked bytes s m old = record { reading = λ t p. (refl, λ other. absurd (other refl)); readable = tt; unchanged = refl; unreadable = tt; refusal = tt }
 

@@ -152,6 +152,6 @@ module _ {S E : Type 0} (asked : Asks S E) (adds : Puts S SectionRow) where
       at_bytes t u is (inl own) = inl own
       at_bytes t u is (inr step) = inr (core_refused c s s' e t u is step)
 
-  -- memory is wanting, and of that nothing is said
+  -- memory runs out, and of that nothing is said
   pub bytes_wanting : {A : Type 0} (bytes : List ℕ) (c : ℕ) (s s' : S) (view : A → List ℕ) → GivesWovenBytes asked adds c bytes s s' (Err NoMemory) view
   bytes_wanting bytes c s s' view = record { reading = λ t p other. absurd (other refl); readable = tt; cause = inl tt }

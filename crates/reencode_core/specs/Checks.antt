@@ -29,7 +29,7 @@ pub record IsRefused {E : Type 0} (renamed : Space → ℕ → Result ℕ E) (by
 abbrev pub IsNoModule : List ℕ → Type 0
 IsNoModule bytes = (tree : Tree) → Spells core_module bytes tree → ⊥
 
--- Any other error but want of memory says that the bytes are no core module. Neither header stands there, and the place is 0; or the
+-- Any other error but out of memory says that the bytes are no core module. Neither header stands there, and the place is 0; or the
 -- place is the first where no section begins. There a code section may state a size past the end; or the header is a component's.
 abbrev pub IsUnread : {E : Type 0} → List ℕ → Error E → Type 0
 IsUnread bytes (UserError refusal) = Unit {0}

@@ -131,7 +131,7 @@ pub record GivesCore {S E : Type 0} (asked : Asks S E) (bytes : List ℕ) (befor
   pub readable : IfOk result (λ _. (t : Tree) × CoreReading bytes t)
   pub cause : IfErr result (IsCause asked before.1.ceiling bytes before.0 after.0)
 
--- The bytes of the walk's tree are the answer, or the walk's refusal, or memory is wanting.
+-- The bytes of the walk's tree are the answer, or the walk's refusal, or memory runs out.
 abbrev pub GivesNormal : {S E A : Type 0} → Step S (Error E) Tree → S → Result A (Error E) → (A → List ℕ) → Type 0
 GivesNormal step m (Ok out) view = (u : Tree) × (step ≡ accepted u m) × (view out ≡ normal u)
 GivesNormal step m (Err e) view = e ≢ NoMemory → step ≡ refused e m

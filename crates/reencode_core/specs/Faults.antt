@@ -28,7 +28,7 @@ OneFront =
     (bytes : List ℕ) (before others : List Tree) (rest left : List ℕ) → Front bytes before rest → Front bytes others left → (before ≡ others) × (rest ≡ left)
 
 -- The errors where these bytes are left at the first place where no section begins: the place, or where a code section states a
--- size past the end, that; a refusal, or a size that is too large, which is then one of the sections before; or want of memory.
+-- size past the end, that; a refusal, or a size that is too large, which is then one of the sections before; or out of memory.
 abbrev pub FaultGives : {S E : Type 0} → Asks S E → ℕ → List ℕ → S → S → List Tree → List ℕ → Error E → Type 0
 FaultGives asked c bytes s m before rest InvalidCodeSectionSize = InvalidCodeSize rest
 FaultGives asked c bytes s m before rest (ParseError e) = ¬ InvalidCodeSize rest × (e.at ≡ length bytes - length rest)

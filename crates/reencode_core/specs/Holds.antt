@@ -1,4 +1,4 @@
--- What a sink holds after want of memory: what the rows or the sections before the one at which it was wanting became, and no more.
+-- What a sink holds after `NoMemory`: what the rows or the sections before the one at which it ran out became, and no more.
 use Rattle.std.specs.Prelude.{◌≡◌, ◌+◌, ◌<◌, ℕ, List, ◌++◌, length, Result, IfErr}
 use Rattle.wasm_shapes.specs.declared.Visit.{Visit}
 use Rattle.wasm_shapes.specs.Drawn.{Drawn}
@@ -19,7 +19,7 @@ use Rattle.reencode_core.specs.Leaves.{EndsBy, IsFront, Leaves, body_in}
 use Rattle.reencode_core.specs.Weave.{Puts}
 use Rattle.reencode_core.specs.Woven.{AddedBefore, WovenFront}
 
--- the fact, where memory was wanting
+-- the fact, where memory ran out
 abbrev pub IfWants : {E A : Type 0} → Result A (Error E) → Type 0 → Type 0
 IfWants result P = IfErr result (λ e. e ≡ NoMemory → P)
 
@@ -49,7 +49,7 @@ pub record HoldsMade {S E : Type 0} (asked : Asks S E) (c : ℕ) (row : Shape) (
   pub gains : after.1 ≡ before.1 ++ made
   pub next : AskedRow asked row due rest state after.0
 
--- the same after a call in which memory was wanting
+-- the same after a call in which memory ran out
 abbrev pub HoldsRows : {S E : Type 0} → Asks S E → ℕ → Shape → Standing → S × List Tree → S × List Tree → Result (Unit {0}) (Error E) → Type 0
 HoldsRows asked c row reader before after result = IfWants result (HoldsMade asked c row reader before after)
 
@@ -79,6 +79,6 @@ pub record HoldsSections {S E : Type 0} (asked : Asks S E) (adds : Puts S Sectio
   pub gains : Gains before.1 after.1 (rows ++ own)
   pub inside : FrameLeaves asked framed.text next state NoMemory after.0
 
--- the same after a call in which memory was wanting
+-- the same after a call in which memory ran out
 abbrev pub HoldsCore : {S E : Type 0} → Asks S E → Puts S SectionRow → List ℕ → S × Sections → S × Sections → Result (Unit {0}) (Error E) → Type 0
 HoldsCore asked adds bytes before after result = IfWants result (HoldsSections asked adds before.1.ceiling bytes before after)

@@ -35,7 +35,7 @@ pub record IsInterspersed (sections : Between SectionRow) (bytes output : List �
   pub spelled : output ≡ normal (interspersed sections tree)
 
 -- Where the bytes are a core module, no frame of its normal spelling and no section between its own is above the ceiling, memory
--- is the one thing that may be wanting.
+-- is the one thing that may run out.
 abbrev pub IsMadeBetween : {E : Type 0} → Between SectionRow → ℕ → List ℕ → Error E → Type 0
 IsMadeBetween sections ceiling bytes e =
     (tree : Tree) → Spells core_module bytes tree → Fits tree ceiling

@@ -30,7 +30,7 @@ pub record Text : Type 1 where
   pub reads : Tree → Type 0
   pub faulty : Tree → List ℕ → Type 0
 
--- How the visits that were made ended, by the error that came: by a refusal the last of them was refused; for want of memory any of
+-- How the visits that were made ended, by the error that came: by a refusal the last of them was refused; with `NoMemory` any of
 -- them may have been the last; by any other all were accepted.
 abbrev pub Ended : {S E A : Type 0} → Error E → Step S (Error E) A → S → Type 0
 Ended (UserError x) step m = step ≡ refused (UserError x) m
@@ -66,7 +66,7 @@ pub record Leaves {S E : Type 0} (asked : Asks S E) (text : Text) (s : S) (e : E
   pub reading : (t : Tree) → text.reads t → IsFront made (visits t)
   pub fault : ((t : Tree) → text.reads t → ⊥) → (t : Tree) (rest : List ℕ) → text.faulty t rest → MadeUpTo e made (visits t) rest
 
--- the same of an error; of want of memory nothing is said unless the reencoder is sure
+-- the same of an error; of `NoMemory` nothing is said unless the reencoder is sure
 abbrev pub LeavesMade : {S E A : Type 0} → Bool → Asks S E → Text → S → S → Result A (Error E) → Type 0
 LeavesMade sure asked text s m result = IfErr result (λ e. (e ≡ NoMemory → IsTrue sure) → Leaves asked text s e m)
 

@@ -60,13 +60,13 @@ pub record Unread {F E : Type 0} (row : Shape) (m rest : MapStanding) (between n
   pub missing : EntryMissing row rest
   pub state : new ≡ between
 
--- No call was refused, and memory is wanting.
+-- No call was refused, and memory runs out.
 pub record Wants {F E : Type 0} (between new : F) (e : Error E) : Type 0 where
   pub memory : e ≡ NoMemory
   pub state : new ≡ between
 
 -- There was one call for each entry of a front of the map, all answered Ok; and then there was one more, which refused, or the
--- map is no such, or memory is wanting.
+-- map is no such, or memory runs out.
 pub record Stopped {F E : Type 0} (row : Shape) (step : F → ℕ → Result ℕ (Error E) → F → Type 0) (m : MapStanding) (old new : F) (e : Error E) : Type 0 where
   pub asked : List Asked
   pub rest : MapStanding
@@ -80,7 +80,7 @@ abbrev pub MapsEntries : {F E : Type 0} → Shape → (F → ℕ → Result ℕ 
 MapsEntries row step m old new (Ok entries) = Mapped row step m old new entries
 MapsEntries row step m old new (Err e) = Stopped row step m old new e
 
--- What a map that is whole became: its entries as they are; or memory is wanting.
+-- What a map that is whole became: its entries as they are; or memory runs out.
 abbrev pub KeepsNames : {E : Type 0} → MapStanding → Result (List Tree) (Error E) → Type 0
 KeepsNames m (Ok trees) = (es : List Entry) → NamesLeft m es → trees ≡ entries_trees es
 KeepsNames m (Err e) = (es : List Entry) → NamesLeft m es → e ≡ NoMemory

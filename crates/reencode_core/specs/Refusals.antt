@@ -33,7 +33,7 @@ pub record RefusalTells {S E : Type 0} (asked : Asks S E) (text : List ℕ → T
       RefusedUpTo asked s (visits (alsos before Tree.empty)) rest (UserError x) m
   pub never : RefusesNone asked → (bytes : List ℕ) (s m : S) (x : E) → Leaves asked (text bytes) s (UserError x) m → ⊥
 
--- what bytes with a fault come to where no visit is refused: the fault's error, or a size that is too large, or want of memory
+-- what bytes with a fault come to where no visit is refused: the fault's error, or a size that is too large, or out of memory
 abbrev pub IsFaultOr : {E A : Type 0} → List ℕ → List ℕ → Result A (Error E) → Type 0
 IsFaultOr bytes rest (Err InvalidCodeSectionSize) = InvalidCodeSize rest
 IsFaultOr bytes rest (Err (ParseError e)) = ¬ InvalidCodeSize rest × (e.at ≡ length bytes - length rest)
@@ -41,7 +41,7 @@ IsFaultOr bytes rest (Err (TooLarge size)) = Unit {0}
 IsFaultOr bytes rest (Err NoMemory) = Unit {0}
 IsFaultOr bytes rest _ = ⊥
 
--- Where no visit is refused, bytes with a fault give its error, or a size that is too large, or want of memory: of a call that gives a
+-- Where no visit is refused, bytes with a fault give its error, or a size that is too large, or out of memory: of a call that gives a
 -- module's bytes, and of one that adds its sections to a module.
 pub record FaultIsAnswered {S E A : Type 0} (asked : Asks S E) (adds : Puts S SectionRow) (view : A → List ℕ) : Type 0 where
   pub bytes : RefusesNone asked → (c : ℕ) (bytes : List ℕ) (s m : S) (result : Result A (Error E)) → GivesWovenBytes asked adds c bytes s m result view →

@@ -41,7 +41,7 @@ IfUser (UserError refusal) P = P refusal
 IfUser _ P = Unit {0}
 
 -- Where the bytes are a core module whose indices all have answers, and no frame of the output is above the ceiling, memory is
--- the one thing that may be wanting.
+-- the one thing that may run out.
 abbrev pub IsMade : {E : Type 0} → (Space → ℕ → Result ℕ E) → ℕ → List ℕ → Error E → Type 0
 IsMade renamed ceiling bytes e =
     (tree : Tree) (answers : List ℕ) → Spells core_module bytes tree → map (by_rule renamed) (visits tree) ≡ map Ok answers

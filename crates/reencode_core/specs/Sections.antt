@@ -59,7 +59,7 @@ HasBody kind bytes (body.Tags reader) = (kind ≡ id.Tag) × CountRead bytes rea
 HasBody kind bytes (body.Start item) = (kind ≡ id.Start) × IsUnsigned 32 bytes item
 HasBody kind bytes (body.DataCount item) = (kind ≡ id.DataCount) × IsUnsigned 32 bytes item
 
--- A section whose rows were mapped was added, or it is too large, or memory is wanting; where its rows were refused, that is
+-- A section whose rows were mapped was added, or it is too large, or memory runs out; where its rows were refused, that is
 -- the answer.
 abbrev pub AddsMapped : {E : Type 0} → SectionRow → Sections → Result (Unit {0}) (Error E) → Sections → Result (Unit {0}) (Error E) → Type 0
 AddsMapped row old (Err e) new result = (result ≡ Err e) × (new ≡ old)

@@ -146,11 +146,11 @@ pub record RowsStand (input : List ℕ) (start : ℕ) (reader : Standing) : Type
   pub place : length front ≡ start + place_of reader
   pub short : length reader.rest ≤ reader.len
 
--- What a section hook leaves with an error: it was not asked, since memory was wanting; or it was, and the error is none of the bytes.
+-- What a section hook leaves with an error: it was not asked, since memory ran out; or it was, and the error is none of the bytes.
 abbrev pub HookLeaves : {S E : Type 0} → Asks S E → S → S → Visit → Error E → Type 0
 HookLeaves asked s m v e = ((e ≡ NoMemory) × (m ≡ s)) ⊎ (EndsBy asked s (v ∷ []) e m × ¬ TellsFault e)
 
--- The same of its answer. Of want of memory nothing is said unless the reencoder is sure, and of a size that is too large unless it adds
+-- The same of its answer. Of `NoMemory` nothing is said unless the reencoder is sure, and of a size that is too large unless it adds
 -- nothing.
 abbrev pub LeavesHook : {S E A : Type 0} → Bool → Bool → Asks S E → S → S → Visit → Result A (Error E) → Type 0
 LeavesHook sure nothing asked s m v result = IfErr result (λ e. (e ≡ NoMemory → IsTrue sure) → (IsSize e → IsTrue nothing) → HookLeaves asked s m v e)

@@ -162,7 +162,7 @@ pub record GivesWoven {S E : Type 0} (asked : Asks S E) (adds : Puts S SectionRo
   pub cause : IfErr result (IsWovenCause asked adds before.1.ceiling bytes before.0 after.0)
   pub gained : IfErr result (GainsBefore asked adds bytes before after)
 
--- The bytes of the woven tree are the answer; or its refusal, or a section that the hook was to add is too large; or memory is wanting.
+-- The bytes of the woven tree are the answer; or its refusal, or a section that the hook was to add is too large; or memory runs out.
 abbrev pub GivesWovenNormal : {S E A : Type 0} → Step S (Error E) Tree → (Error E → Type 0) → S → Result A (Error E) → (A → List ℕ) → Type 0
 GivesWovenNormal step own m (Ok out) view = (u : Tree) × (step ≡ accepted u m) × (view out ≡ normal u)
 GivesWovenNormal step own m (Err e) view = e ≢ NoMemory → own e ⊎ (step ≡ refused e m)
@@ -176,13 +176,13 @@ pub record GivesWovenBytes {S E A : Type 0} (asked : Asks S E) (adds : Puts S Se
 
 -- ---- completeness
 
--- these bytes are the answer, and this is the state that is left; or memory is wanting
+-- these bytes are the answer, and this is the state that is left; or memory runs out
 abbrev pub IsOrWants : {S E A : Type 0} → List ℕ → S → S → Result A (Error E) → (A → List ℕ) → Type 0
 IsOrWants bytes n m (Ok out) view = (view out ≡ bytes) × (m ≡ n)
 IsOrWants bytes n m (Err e) view = e ≡ NoMemory
 
 -- Where the bytes have a reading, what is added at its visits fits, and the woven walk over it is accepted, the normal spelling of
--- that walk's tree is the answer, in its state; or memory is wanting.
+-- that walk's tree is the answer, in its state; or memory runs out.
 abbrev pub AcceptedIsAnswered : {S E A : Type 0} → Asks S E → Puts S SectionRow → (A → List ℕ) → Type 0
 AcceptedIsAnswered {S} {E} {A} asked adds view =
     (c : ℕ) (bytes : List ℕ) (s m : S) (result : Result A (Error E)) → GivesWovenBytes asked adds c bytes s m result view

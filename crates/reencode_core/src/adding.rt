@@ -5,7 +5,7 @@ ghost use Rattle.wasm_write.specs.Faults.{IfTooLarge};
 ghost use Rattle.wasm_write.specs.Sections.{SectionRow};
 ghost use Rattle.reencode_hooks.specs.Hooks.{Gains, GainsPart, HasTooLarge};
 
-use crate::plain::DefaultReencode;
+use crate::defaults::DefaultReencode;
 use reencode_hooks::{Error, ReencodeIndices};
 use reencode_items::DefaultItems;
 use wasm_shapes::SectionId;

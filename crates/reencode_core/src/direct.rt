@@ -12,7 +12,7 @@ ghost use Rattle.reencode_items.specs.Direct.{imm_of};
 ghost use Rattle.reencode_core.specs.Direct.{DealsWith, MapsFront};
 ghost use Rattle.reencode_core.specs.Leaves.{LeavesMade, body_in};
 
-use crate::shared::new_function_with_parsed_locals;
+use crate::rows::new_function_with_parsed_locals;
 use reencode_hooks::Error;
 use reencode_items::ReencodeItems;
 use reencode_items::direct::{Fresh, Next, pass_run, skip_locals};

@@ -37,7 +37,7 @@ pub fn refusal_tells<T: ReencodeIndices>(_reencoder: &T)
     ensures sections { RefusalTells (ask T.reply T.next) module_in }
 {}
 
-/// Bytes with a fault give the fault's error of a reencoder that refuses no visit, or a size that is too large, or want of memory:
+/// Bytes with a fault give the fault's error of a reencoder that refuses no visit, or a size that is too large, or out of memory:
 /// where the clauses `woven` and `after_error` of `reencode_core` hold, or of `parse_core_module`. `A` is the answer's type; the
 /// slice may be empty.
 pub fn fault_is_answered<T: ReencodeIndices, A>(_reencoder: &T, _answers: &[A])
@@ -68,7 +68,7 @@ pub fn output_is_read<T: ReencodeIndices>(_reencoder: &T)
 
 /// What answers as the clause `woven` of `reencode_core` says is complete: where the bytes have a reading, no section that the
 /// section hook adds at one of its visits is above the ceiling, and the walk over the reading with the added sections is accepted,
-/// the answer is the normal spelling of its tree, in its state, or memory is wanting. `A` is the answer's type; the slice may be
+/// the answer is the normal spelling of its tree, in its state, or memory runs out. `A` is the answer's type; the slice may be
 /// empty.
 pub fn accepted_is_answered<T: ReencodeIndices, A>(_reencoder: &T, _answers: &[A])
     ensures { (view : A → List ℕ) → AcceptedIsAnswered (ask T.reply T.next) T.adds view }

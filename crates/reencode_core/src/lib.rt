@@ -2,25 +2,26 @@
 #![tactic(auto)]
 
 mod adding;
-mod bodies;
+mod default_bodies;
+mod defaults;
 pub mod direct;
 mod errors;
 mod imports;
 mod indices;
+mod item_lists;
 mod laws;
-mod lists;
-mod mapped;
 mod names;
 mod pieces;
-mod plain;
 mod reencode;
+mod row_sections;
+mod rows;
 mod rule;
 mod sections;
-mod shared;
 mod subsections;
 pub mod utils;
 
 pub use adding::{Adding, SectionRule};
+pub use defaults::{DefaultReencode, DefaultSections};
 pub use laws::{
     accepted_is_answered, fault_gains, fault_is_answered, fault_tells, front_is_one,
     output_is_read, refusal_tells, weave_ends, weave_is_run, weave_of_nothing,
@@ -30,6 +31,5 @@ pub use pieces::{
     Piece, Pieces, fill_is_own, kept_is_answered, reencode_joined, reencode_pieces,
     spelling_is_kept,
 };
-pub use plain::{DefaultReencode, DefaultSections};
 pub use reencode::{Reencode, reencode_core};
 pub use rule::{check_by_rule, reencode_by_rule};

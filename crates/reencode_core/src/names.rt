@@ -12,7 +12,7 @@ use wasm_write as w;
 ///
 /// An error of a call ends the calls and is the answer. `ParseError` comes only where every call answered Ok and what the map
 /// still has is no entries with nothing behind them. It holds the place in the map where the reader stands then, behind the
-/// entries that were asked for. No other error comes but want of memory.
+/// entries that were asked for. No other error comes but out of memory.
 pub fn map_names<E, F: FnMut(u32) -> Result<u32, Error<E>>>(
     alloc: Global,
     map: r::NameMap<'_>,

@@ -30,12 +30,12 @@ use wasm_write as w;
 /// The clauses `default` and `after_error` of each method hold where the reencoder keeps the defaults. `after_error` says
 /// that every error leaves the state after the visits that were made. Of what has a reading these are a front part of its
 /// visits; of bytes without one, a front part of the visits of what stands before the fault, or all of these and then some
-/// that are drawn from the bytes from there on. After want of memory it wants a reencoder that is sure, and of
+/// that are drawn from the bytes from there on. After `NoMemory` it wants a reencoder that is sure, and of
 /// `parse_core_module`, after a size that is too large, one that adds nothing; of a method that is handed a row it speaks
-/// of sure reencoders alone. `start_section` and `custom_section` take no memory, and have `sure` in its place: memory is
-/// never wanting where no hook wants any.
-/// `wants` says what a sink holds where the reencoder is sure and memory was wanting: what the rows or sections before the one
-/// at which it was wanting became, and no more.
+/// of sure reencoders alone. `start_section` and `custom_section` take no memory, and have `sure` in its place:
+/// `NoMemory` never comes where no hook answers it.
+/// `wants` says what a sink holds where the reencoder is sure and memory ran out: what the rows or sections before the one
+/// at which it ran out became, and no more.
 pub trait Reencode: ReencodeItems {
     /// Maps the rows that the reader still has, each by `parse_recursive_type_group`, and adds each row once it is mapped.
     fn parse_type_section(

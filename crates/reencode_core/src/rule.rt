@@ -4,7 +4,7 @@ ghost use Rattle.reencode_hooks.specs.declared.rule.ByRule.{ByRule as Ruled};
 ghost use Rattle.reencode_core.specs.Checks.{IsAccepted, IsRefused, IsUnread};
 ghost use Rattle.reencode_core.specs.Rules.{GivesByRule, IfUser, IsMade, IsRefusal, IsRenamed};
 
-use crate::plain::DefaultReencode;
+use crate::defaults::DefaultReencode;
 use crate::reencode::reencode_core;
 use reencode_hooks::{AnswerVisits, ByRule, Error, IndexRule, utils};
 use reencode_items::DefaultItems;

@@ -9,13 +9,13 @@ ghost use Rattle.wasm_read.specs.Types as read;
 ghost use Rattle.reencode_core.specs.Clauses.{BodyClauses, CodeSectionClauses, CustomClauses, ModuleClauses, NamesClauses, RowClauses, RowsClauses, SectionClauses};
 
 use crate::errors::placed;
-pub use crate::mapped::{parse_function_section, parse_memory_section, parse_tag_section};
 use crate::reencode::Reencode;
-use crate::sections::{Body, add_rows, add_section, read_body, take_section};
-pub use crate::shared::{
+pub use crate::row_sections::{parse_function_section, parse_memory_section, parse_tag_section};
+pub use crate::rows::{
     custom_section, element_items, new_function_with_parsed_locals, parse_data, parse_export,
     parse_global, parse_imports, parse_recursive_type_group, parse_table, parse_unknown_section,
 };
+use crate::sections::{Body, add_rows, add_section, read_body, take_section};
 pub use crate::subsections::parse_custom_name_subsection;
 use crate::{bodies, shared};
 use reencode_hooks::Error;

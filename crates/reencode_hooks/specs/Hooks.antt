@@ -43,7 +43,7 @@ pub record HasTooLarge (ceiling : ℕ) (rows : List SectionRow) (size : ℕ) : T
   pub sized : length row.body ≡ size
   pub above : ceiling < size
 
--- A section hook refused: as `reply` says, or because one of its own sections is too large, or memory is wanting.
+-- A section hook refused: as `reply` says, or because one of its own sections is too large, or memory runs out.
 -- In the last two cases the state is left open.
 abbrev pub RefusesSection : {S E : Type 0} → (S → Visit → Result ℕ E) → (S → Visit → S) → S → S → Visit
     → ℕ → List SectionRow → Error E → Type 0

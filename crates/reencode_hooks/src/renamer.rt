@@ -104,7 +104,7 @@ impl Renamer {
         }
     }
 
-    /// Renames an index of a space, in place of an older entry. Where memory is wanting, it changes nothing.
+    /// Renames an index of a space, in place of an older entry. Where memory runs out, it changes nothing.
     ///
     /// It takes time that grows as the logarithm of the number of entries, where the index is above all that have one;
     /// elsewhere each entry of a greater index is moved, so entries are best set in rising order.

@@ -48,7 +48,7 @@ impl Table {
         look_up(&self.pairs, key)
     }
 
-    // Sets an entry, in place of an older one, and changes nothing where memory is wanting.
+    // Sets an entry, in place of an older one, and changes nothing where memory runs out.
     pub fn set(&mut self, key: u32, value: u32) -> Result<(), NoMemory>
         ensures ok { OnOk result (self.new ≡ map.insert self.old key value) }
         ensures err { OnErr result (self.new ≡ self.old) }

@@ -24,8 +24,8 @@ use wasm_write as w;
 /// answer. A part of an item that has a method of its own is mapped by that method.
 ///
 /// The clause `default` of each method, and `sure` or `after_error`, hold where the reencoder keeps the defaults. `sure`
-/// says that memory is never wanting where no hook wants any, and `after_error` that every error then leaves the state
-/// after a front part of the item's visits, want of memory too.
+/// says that memory never runs out where no hook wants any, and `after_error` that every error then leaves the state
+/// after a front part of the item's visits, out of memory too.
 pub trait ReencodeItems: ReencodeIndices {
     /// The index of a type. `CanonicalizedHeapTypeReference` comes for one inside a recursion group.
     fn type_index_unpacked(&mut self, ty: r::UnpackedIndex) -> Result<u32, Error<Self::Error>>

@@ -1,13 +1,13 @@
 //! The items of a core module, re-encoded through a reencoder's hooks.
 #![tactic(auto)]
 
-mod bodies;
+mod default_bodies;
+mod defaults;
 pub mod direct;
 mod indices;
 mod items;
 mod kinds;
-mod plain;
 pub mod utils;
 
+pub use defaults::DefaultItems;
 pub use items::ReencodeItems;
-pub use plain::DefaultItems;

@@ -52,7 +52,7 @@ same_renaming text t r q e h k = let k' = subst (λ (z : List ℕ). IsRenaming z
 module _ (H R W : Type 0) where
   -- H, R and W are that the shelf, the source and the sink failed
 
-  -- ---- want of memory
+  -- ---- out of memory
 
   memory_bytes : (c : ℕ) (rs : Renamers) (bytes : List ℕ) → IsDecidedByBytes W c rs bytes 1
   memory_bytes c rs bytes = inr (reencoding_fault.NoMemory, refl, tt, λ t given reading all fits. refl)

@@ -27,7 +27,7 @@ use Rattle.reencode_tool.specs.declared.renamers.Renamers.{Renamers}
 use Rattle.reencode_tool.specs.declared.renamers.Renamers.TheVariants.{Alone, Both}
 use Rattle.reencode_tool.specs.Plain.{IsPlain}
 use Rattle.reencode_tool.specs.Renamers.{AreCounts, IsLacking, Lack, State, all_counted, asks_of, begun, counts_in, next_of, reply_of, rule_of, told_lack}
-use Rattle.reencode_tool.specs.Reencoded.{IsReencoded, IsMade, IsRefused, IsRefusedAt, IsCodeSize, IsComponent, IsFirstUpTo, IsRefusal, IsTooLarge}
+use Rattle.reencode_tool.specs.Reencoded.{IsReencoded, IsMakingFault, IsRefused, IsRefusedAt, IsCodeSize, IsComponent, IsFirstUpTo, IsUserRefusal, IsOutputTooLarge}
 use Rattle.reencode_tool.specs.Answer.{EndsAs, HasStatus}
 use Rattle.reencode_tool.proofs.Blank.{Blank, Large, blank_new, blank_next, run_is, walk_blank, only_large}
 use Rattle.reencode_tool.proofs.ByRule.{Keeps, Told, hook_answers, keeps_begun, keeps_next, lacking_or_not, now, now_begun, ran, replies_by_rule, runs, stops, told_walk, walk_keeps}
@@ -100,8 +100,8 @@ abbrev pub Why : ℕ → (rs : Renamers) → List ℕ → Error (Lack rs) → Ty
 Why c rs bytes error.InvalidCodeSectionSize = IsCodeSize c rs bytes
 Why c rs bytes error.UnexpectedNonCoreModuleSection = IsComponent bytes
 Why c rs bytes (error.ParseError e) = IsRefusedAt c rs bytes e.at
-Why c rs bytes (error.UserError u) = IsRefusal c rs bytes (told_lack rs u)
-Why c rs bytes (error.TooLarge size) = IsTooLarge c rs bytes size
+Why c rs bytes (error.UserError u) = IsUserRefusal c rs bytes (told_lack rs u)
+Why c rs bytes (error.TooLarge size) = IsOutputTooLarge c rs bytes size
 Why c rs bytes error.NoMemory = Unit {0}
 Why c rs bytes _ = ⊥
 
@@ -262,7 +262,7 @@ module _ {A : Type 0} (c : ℕ) (rs : Renamers) (bytes : List ℕ) {m : State rs
       (record { given = answers; ran = there.1; filled = refl; fits = fits }) in
       absurd cc
 
-  pub made_as : (e : Error (Lack rs)) → GivesBytes (asks_of rs) c bytes (begun rs) m (Err e) view → (fault : ReencodingFault) → EndsAs (told_lack rs) c e fault → IsMade c rs bytes fault
+  pub made_as : (e : Error (Lack rs)) → GivesBytes (asks_of rs) c bytes (begun rs) m (Err e) view → (fault : ReencodingFault) → EndsAs (told_lack rs) c e fault → IsMakingFault c rs bytes fault
   made_as error.NoMemory h fault f = λ t answers reading all fits. f
   made_as e h fault f = λ t answers reading all fits. absurd (not_made e h (λ same. cc) t answers reading all fits)
 

@@ -29,7 +29,7 @@ use Rattle.reencode_tool.specs.Generated.{generated}
 use Rattle.reencode_tool.specs.Kept.{kept_report}
 use Rattle.reencode_tool.specs.Report.{lengths_report, report}
 use Rattle.reencode_tool.specs.Plain.{IsPlain}
-use Rattle.reencode_tool.specs.Reencoded.{IsReencoded, IsRefused, IsMade}
+use Rattle.reencode_tool.specs.Reencoded.{IsReencoded, IsRefused, IsMakingFault}
 use Rattle.reencode_tool.specs.Words.{Command, generate, keep_report, Job, files, functions}
 
 -- what shelves tell
@@ -204,11 +204,11 @@ RefusesBytes command is_text faults_old faults_new left_old left_new answer =
     RefusesFrom (functions command) is_text faults_old faults_new left_old left_new answer
 
 -- The renamings and the bytes were accepted, and the re-encoding is refused. Where all visits are accepted and all frames fit, that is
--- for want of memory alone.
+-- out of memory alone.
 pub record StopsAtReencoding (job : Job) (texts : Texts) (left_old left_new : Option (List ℕ)) (fault : ReencodingFault) : Type 0 where
   pub work : Work job texts left_old left_new
   pub stops : IsRefused job.ceiling work.renamers work.bytes fault
-  pub made : IsMade job.ceiling work.renamers work.bytes fault
+  pub made : IsMakingFault job.ceiling work.renamers work.bytes fault
 
 abbrev pub StopsFor : Job → Outside → ReencodingFault → Type 0
 StopsFor job o fault = StopsAtReencoding job o.texts o.left_old o.left_new fault
@@ -355,11 +355,11 @@ EndsAs told ceiling _ fault = ⊥
 -- ---- what decides: the words, each file, the input, its digits, the re-encoding and the output, in this order
 
 -- Which status comes by the renamings and the bytes. Where all visits are accepted and all frames fit, it is 0, or 4 where the sink
--- failed, or memory is wanting.
+-- failed, or memory runs out.
 abbrev pub IsDecidedByBytes : (Unwritten : Type 0) → ℕ → Renamers → List ℕ → ℕ → Type 0
 IsDecidedByBytes Unwritten ceiling rs bytes status =
     (((status ≡ 0) ⊎ ((status ≡ 4) × Unwritten)) × ((output : List ℕ) × (counts : List (List ℕ)) × IsReencoded ceiling rs bytes output counts))
-    ⊎ ((fault : ReencodingFault) × (status ≡ status_of (Reencoding fault)) × IsRefused ceiling rs bytes fault × IsMade ceiling rs bytes fault)
+    ⊎ ((fault : ReencodingFault) × (status ≡ status_of (Reencoding fault)) × IsRefused ceiling rs bytes fault × IsMakingFault ceiling rs bytes fault)
 
 -- which status comes by the form of the text and the bytes that it is
 abbrev pub IsDecidedByForm : (Unwritten : Type 0) → ℕ → Renamers → Option (List ℕ) → ℕ → Type 0
@@ -404,7 +404,7 @@ IsDecidedByFiles Unfetched texts (name ∷ names) status by =
     IsDecidedByFile Unfetched (told_text texts name) status (λ r. IsDecidedByFiles Unfetched texts names status (λ rs. by (r ∷ rs)))
 
 -- Which status comes for a job. What stands first decides, whatever failed behind it: where a file, its shelf not having failed, says no
--- renaming, it is 11, and where the input, its source not having failed either, is no hexadecimal text, it is 14; or memory is wanting.
+-- renaming, it is 11, and where the input, its source not having failed either, is no hexadecimal text, it is 14; or memory runs out.
 abbrev pub IsDecidedByJob : (Unfetched Unread Unwritten : Type 0) → Job → Texts → Option (List ℕ) → ℕ → Type 0
 IsDecidedByJob Unfetched Unread Unwritten job texts left status =
     IsDecidedByFiles Unfetched texts (files job.command) status

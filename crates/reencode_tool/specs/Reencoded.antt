@@ -34,9 +34,9 @@ pub record IsReencoded (ceiling : ℕ) (rs : Renamers) (bytes output : List ℕ)
   pub asked : counts ≡ all_counted (counts_in rs) (visits tree)
 
 -- Where the bytes have a reading whose visits all have answers, and no frame of what it becomes is above the ceiling, memory is the one
--- thing that may be wanting.
-abbrev pub IsMade : ℕ → Renamers → List ℕ → ReencodingFault → Type 0
-IsMade ceiling rs bytes fault =
+-- thing that may run out.
+abbrev pub IsMakingFault : ℕ → Renamers → List ℕ → ReencodingFault → Type 0
+IsMakingFault ceiling rs bytes fault =
     (tree : Tree) (answers : List ℕ) → CoreReading bytes tree → map (rule_of rs) (visits tree) ≡ map Ok answers
     → Fits (fill (core_tree tree) answers) ceiling → fault ≡ NoMemory
 
@@ -87,7 +87,7 @@ IsFirstUpTo rs vs rest u =
 -- is the first of its visits that has none, and on the walk no frame that closes before it is above the ceiling. Where they have a fault,
 -- it is that of the visits of the sections before it, or all of these have answers, and it is that of visits that are drawn from the
 -- bytes from the fault on; and no frame before is above the ceiling.
-pub record IsRefusal (ceiling : ℕ) (rs : Renamers) (bytes : List ℕ) (refusal : Refusal) : Type 0 where
+pub record IsUserRefusal (ceiling : ℕ) (rs : Renamers) (bytes : List ℕ) (refusal : Refusal) : Type 0 where
   pub u : Lack rs
   pub is : refusal ≡ told_lack rs u
   pub unmapped : IsLacking rs u
@@ -100,7 +100,7 @@ pub record IsRefusal (ceiling : ℕ) (rs : Renamers) (bytes : List ℕ) (refusal
 -- The size is above the ceiling. Where the bytes have a reading, it is that of the first frame above the ceiling that closes on the
 -- walk over it, and each visit before was accepted. Where they have none, it is that of such a frame before the fault. Where
 -- nothing is renamed, the bytes are longer than the ceiling.
-pub record IsTooLarge (ceiling : ℕ) (rs : Renamers) (bytes : List ℕ) (size : ℕ) : Type 0 where
+pub record IsOutputTooLarge (ceiling : ℕ) (rs : Renamers) (bytes : List ℕ) (size : ℕ) : Type 0 where
   pub above : ceiling < size
   pub first : (tree : Tree) → CoreReading bytes tree
       → (after : State rs) × (walk (asks_of rs) ceiling (begun rs) (core_tree tree) ≡ refused (error.TooLarge size) after)
@@ -108,12 +108,12 @@ pub record IsTooLarge (ceiling : ℕ) (rs : Renamers) (bytes : List ℕ) (size :
   pub longer : rs ≡ Alone no_renaming → ceiling < length bytes
 
 -- Why nothing is made of the bytes: they have no reading, for a place or the size of a code section, or are a component; an index
--- is refused, or a frame is above the ceiling; or memory is wanting.
+-- is refused, or a frame is above the ceiling; or memory runs out.
 abbrev pub IsRefused : ℕ → Renamers → List ℕ → ReencodingFault → Type 0
 IsRefused ceiling rs bytes (ParseError at) = IsRefusedAt ceiling rs bytes at
 IsRefused ceiling rs bytes CodeSectionSize = IsCodeSize ceiling rs bytes
 IsRefused ceiling rs bytes NonCoreModule = IsComponent bytes
-IsRefused ceiling rs bytes (Refused u) = IsRefusal ceiling rs bytes u
-IsRefused ceiling rs bytes (TooLarge size above) = (above ≡ ceiling) × IsTooLarge ceiling rs bytes size
+IsRefused ceiling rs bytes (Refused u) = IsUserRefusal ceiling rs bytes u
+IsRefused ceiling rs bytes (TooLarge size above) = (above ≡ ceiling) × IsOutputTooLarge ceiling rs bytes size
 IsRefused ceiling rs bytes NoMemory = Unit {0}
 IsRefused ceiling rs bytes _ = ⊥

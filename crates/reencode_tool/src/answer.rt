@@ -19,7 +19,7 @@ use wasm_leb::ReadError;
 pub enum WordsFault {
     /// They are not accepted.
     NotAccepted,
-    /// Memory was wanting.
+    /// Out of memory.
     NoMemory,
 }
 
@@ -32,7 +32,7 @@ pub enum FileFault {
     TooLong,
     /// It says none.
     Bad,
-    /// Memory was wanting.
+    /// Out of memory.
     NoMemory,
 }
 
@@ -57,7 +57,7 @@ pub enum ReencodingFault {
         size: u64,
         ceiling: u32,
     },
-    /// Memory was wanting.
+    /// Out of memory.
     NoMemory,
 }
 
@@ -66,7 +66,7 @@ pub enum ReencodingFault {
 pub enum WritingFault {
     /// A write failed.
     Failed,
-    /// Memory was wanting.
+    /// Out of memory.
     NoMemory,
 }
 

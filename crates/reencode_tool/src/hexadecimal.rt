@@ -10,7 +10,7 @@ use std::alloc::Global;
 pub enum TextFault {
     /// It is not pairs of hexadecimal digits.
     NotHexadecimal,
-    /// Memory was wanting.
+    /// Out of memory.
     NoMemory,
 }
 

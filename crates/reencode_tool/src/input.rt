@@ -16,7 +16,7 @@ pub enum InputFault {
     Failed,
     /// It has more bytes than it may have.
     TooLong,
-    /// Memory was wanting.
+    /// Out of memory.
     NoMemory,
 }
 

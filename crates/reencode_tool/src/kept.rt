@@ -3,7 +3,7 @@ ghost use Rattle.std.specs.Prelude.{◌≡◌, ℕ, ◌-◌, ◌^◌, ◌<◌, �
 ghost use Rattle.reencode_core.specs.Pieces.{AreWithin, IsWithin, kept_ranges, total};
 ghost use Rattle.reencode_hooks.specs.Renamings.{no_renaming};
 ghost use Rattle.reencode_tool.specs.Kept.{Keeps, kept_len, kept_line, kept_lines, kept_report, kept_total};
-ghost use Rattle.reencode_tool.specs.Reencoded.{IsMade, IsRefused};
+ghost use Rattle.reencode_tool.specs.Reencoded.{IsMakingFault, IsRefused};
 ghost use Rattle.reencode_tool.specs.Renamers.{AreCounts, counts_in};
 
 use crate::answer::{ReencodingFault, reencoding_fault};
@@ -75,7 +75,7 @@ pub fn kept_report(alloc: Global, bytes: &[u8], ceiling: u32) -> Result<Vec<u8>,
     ensures refused { IfErr result
         (λ fault. IsRefused ceiling (Renamers.Alone no_renaming) bytes.now fault) }
     ensures made { IfErr result
-        (λ fault. IsMade ceiling (Renamers.Alone no_renaming) bytes.now fault) }
+        (λ fault. IsMakingFault ceiling (Renamers.Alone no_renaming) bytes.now fault) }
 {
     let mut renamer = Renamer::new(alloc);
     let pieces = match reencode_pieces(alloc, &mut renamer, bytes, ceiling) {

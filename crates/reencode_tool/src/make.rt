@@ -4,7 +4,7 @@ ghost use Rattle.hex.specs.Hex.{encode_lower};
 ghost use Rattle.reencode_hooks.specs.Renamings.{no_renaming};
 ghost use Rattle.reencode_tool.specs.Answer.{Ends, FileSays, HasBytes, IsMaking, Made, Output, RefusesBytes, RefusesFile, RefusesRenaming, RefusesSource, Reports, Takes, Uses, output_text, report_of, status_of, text_of};
 ghost use Rattle.reencode_tool.specs.Generated.{generated};
-ghost use Rattle.reencode_tool.specs.Reencoded.{IsMade, IsRefused};
+ghost use Rattle.reencode_tool.specs.Reencoded.{IsMakingFault, IsRefused};
 ghost use Rattle.reencode_tool.specs.Renamers.{AreCounts};
 ghost use Rattle.reencode_tool.specs.Report.{lengths_report, report};
 ghost use Rattle.reencode_tool.specs.Words.{command_seen, files, job_seen};
@@ -161,7 +161,7 @@ fn digits(
     ensures ok { IfOk result (λ p. Reports ceiling renamers bytes.now report
         (encode_lower p.0.items ++ p.1.items)) }
     ensures refused { IfErr result (λ fault. IsRefused ceiling renamers bytes.now fault) }
-    ensures made { IfErr result (λ fault. IsMade ceiling renamers bytes.now fault) }
+    ensures made { IfErr result (λ fault. IsMakingFault ceiling renamers bytes.now fault) }
 {
     let (output, renamers) = reencoded(alloc, renamers, bytes, ceiling)?;
     match tail(alloc, &renamers) {
@@ -182,7 +182,7 @@ fn lengths(
     ensures ok { IfOk result (λ text. Reports ceiling renamers bytes.now
         (lengths_report functions (length bytes.now)) text.items) }
     ensures refused { IfErr result (λ fault. IsRefused ceiling renamers bytes.now fault) }
-    ensures made { IfErr result (λ fault. IsMade ceiling renamers bytes.now fault) }
+    ensures made { IfErr result (λ fault. IsMakingFault ceiling renamers bytes.now fault) }
 {
     let (output, renamers) = reencoded(alloc, renamers, bytes, ceiling)?;
     match made_lines(alloc, functions, bytes.len(), output.len(), &renamers) {
@@ -206,7 +206,7 @@ fn shown(
         (λ p. (m : Output (command_seen command.entry) ceiling renamers bytes.now)
         × (encode_lower p.0.items ++ p.1.items ≡ output_text m)) }
     ensures refused { IfErr result (λ fault. IsRefused ceiling renamers bytes.now fault) }
-    ensures made { IfErr result (λ fault. IsMade ceiling renamers bytes.now fault) }
+    ensures made { IfErr result (λ fault. IsMakingFault ceiling renamers bytes.now fault) }
 {
     match command {
         Command::Plain => digits(alloc, renamers, bytes, ceiling),

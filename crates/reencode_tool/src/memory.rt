@@ -247,7 +247,7 @@ impl Texts {
         }
     }
 
-    /// Adds a text, in place of an older one of its name. Where memory is wanting, it changes nothing.
+    /// Adds a text, in place of an older one of its name. Where memory runs out, it changes nothing.
     pub fn put(&mut self, name: &str, bytes: &[u8]) -> Result<(), NoMemory>
         ensures ok { OnOk result
             (self.new ≡ record { name = name.now; bytes = bytes.now } ∷ self.old) }
@@ -331,7 +331,7 @@ impl MemShelf {
         }
     }
 
-    /// Puts a text there, in place of an older one of its name. Where memory is wanting, it changes nothing.
+    /// Puts a text there, in place of an older one of its name. Where memory runs out, it changes nothing.
     pub fn put(&mut self, name: &str, text: &[u8]) -> Result<(), NoMemory>
         ensures ok { OnOk result (self.new ≡ record self.old {
           texts = record { name = name.now; bytes = text.now } ∷ self.old.texts;

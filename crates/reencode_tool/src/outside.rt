@@ -15,7 +15,7 @@ pub enum ShelfFault {
     Failed,
     /// The text has more bytes than were asked for.
     TooLong,
-    /// Memory was wanting.
+    /// Out of memory.
     NoMemory,
 }
 

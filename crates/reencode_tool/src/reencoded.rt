@@ -1,6 +1,6 @@
 //! The re-encoding under the renamings of a command.
 ghost use Rattle.std.specs.Prelude.{IfOk, IfErr};
-ghost use Rattle.reencode_tool.specs.Reencoded.{IsMade, IsReencoded, IsRefused};
+ghost use Rattle.reencode_tool.specs.Reencoded.{IsMakingFault, IsReencoded, IsRefused};
 ghost use Rattle.reencode_tool.specs.Renamers.{AreCounts, counts_in};
 
 use crate::answer::{ReencodingFault, reencoding_fault};
@@ -22,7 +22,7 @@ fn by_one(
     ensures refused { IfErr result
         (λ fault. IsRefused ceiling (Renamers.Alone renamer) bytes.now fault) }
     ensures made { IfErr result
-        (λ fault. IsMade ceiling (Renamers.Alone renamer) bytes.now fault) }
+        (λ fault. IsMakingFault ceiling (Renamers.Alone renamer) bytes.now fault) }
 {
     let mut renamer = renamer;
     match reencode_core(alloc, &mut renamer, bytes, ceiling) {
@@ -43,7 +43,7 @@ fn by_both(
     ensures counts { AreCounts (Renamers.Both both) → IfOk result (λ made. AreCounts made.1) }
     ensures refused { IfErr result
         (λ fault. IsRefused ceiling (Renamers.Both both) bytes.now fault) }
-    ensures made { IfErr result (λ fault. IsMade ceiling (Renamers.Both both) bytes.now fault) }
+    ensures made { IfErr result (λ fault. IsMakingFault ceiling (Renamers.Both both) bytes.now fault) }
 {
     let mut both = both;
     match reencode_core(alloc, &mut both, bytes, ceiling) {
@@ -64,7 +64,7 @@ pub fn reencoded(
         (λ made. IsReencoded ceiling renamers bytes.now made.0.items (counts_in made.1)) }
     ensures counts { AreCounts renamers → IfOk result (λ made. AreCounts made.1) }
     ensures refused { IfErr result (λ fault. IsRefused ceiling renamers bytes.now fault) }
-    ensures made { IfErr result (λ fault. IsMade ceiling renamers bytes.now fault) }
+    ensures made { IfErr result (λ fault. IsMakingFault ceiling renamers bytes.now fault) }
 {
     match renamers {
         Renamers::Alone(renamer) => by_one(alloc, renamer, bytes, ceiling),

@@ -16,7 +16,7 @@ use wasm_shapes::Space;
 pub enum RenamingFault {
     /// It says none.
     Bad,
-    /// Memory was wanting.
+    /// Out of memory.
     NoMemory,
 }
 

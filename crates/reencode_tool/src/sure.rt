@@ -146,7 +146,7 @@ impl SureShelf {
         }
     }
 
-    /// Puts a text there, in place of an older one of its name. Where memory is wanting, it changes nothing.
+    /// Puts a text there, in place of an older one of its name. Where memory runs out, it changes nothing.
     pub fn put(&mut self, name: &str, text: &[u8]) -> Result<(), NoMemory>
         ensures ok { OnOk result
             (self.new ≡ record { name = name.now; bytes = text.now } ∷ self.old) }

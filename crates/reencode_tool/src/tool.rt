@@ -159,7 +159,7 @@ fn tell<D: Sink>(answer: Answer, err: &mut D)
 /// | Status | |
 /// |---|---|
 /// | 0 | all output was written, and the input was read to its end, but for `generate` |
-/// | 1 | memory was wanting |
+/// | 1 | memory ran out |
 /// | 2 | the words are not accepted |
 /// | 3 | the input could not be read |
 /// | 4 | the output could not be written |

@@ -7,7 +7,7 @@ pub struct ReadError {
     pub at: usize,
 }
 
-/// Memory is wanting.
+/// Out of memory.
 #[derive(Debug, Clone, Copy, PartialEq)]
 pub struct NoMemory;
 
@@ -29,7 +29,7 @@ pub enum Fault {
     CodeSize,
     /// The header of the other kind stands there: this kind was found.
     Header(Kind),
-    /// Memory is wanting.
+    /// Out of memory.
     NoMemory,
 }
 

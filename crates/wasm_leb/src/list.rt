@@ -91,7 +91,7 @@ impl<T> List<T> {
 }
 
 impl<T: Drop> List<T> {
-    /// Adds an item at the end, and changes nothing where memory is wanting.
+    /// Adds an item at the end, and changes nothing where memory runs out.
     #[inline(always)]
     pub fn push(&mut self, item: T) -> Result<(), NoMemory>
         ensures ok { OnOk result (self.new ≡ self.old ++ item ∷ []) }

@@ -79,7 +79,7 @@ fn write_signed(out: &mut Vec<u8>, v: i64) -> Result<(), NoMemory>
     }
 }
 
-/// Appends the shortest spelling of a number of 32 bits without sign, or nothing where memory is wanting.
+/// Appends the shortest spelling of a number of 32 bits without sign, or nothing where memory runs out.
 /// WebAssembly Core Specification 3.0, section 5.2.2.
 #[inline(always)]
 pub fn write_u32(out: &mut Vec<u8>, v: u32) -> Result<(), NoMemory>
@@ -93,7 +93,7 @@ pub fn write_u32(out: &mut Vec<u8>, v: u32) -> Result<(), NoMemory>
     }
 }
 
-/// Appends the shortest spelling of a number of 64 bits without sign, or nothing where memory is wanting.
+/// Appends the shortest spelling of a number of 64 bits without sign, or nothing where memory runs out.
 /// WebAssembly Core Specification 3.0, section 5.2.2.
 #[inline(always)]
 pub fn write_u64(out: &mut Vec<u8>, v: u64) -> Result<(), NoMemory>
@@ -107,7 +107,7 @@ pub fn write_u64(out: &mut Vec<u8>, v: u64) -> Result<(), NoMemory>
     }
 }
 
-/// Appends the shortest spelling of an index as a number of 33 bits with sign, or nothing where memory is wanting.
+/// Appends the shortest spelling of an index as a number of 33 bits with sign, or nothing where memory runs out.
 /// WebAssembly Core Specification 3.0, sections 5.2.2 and 5.3.
 #[inline(always)]
 pub fn write_index(out: &mut Vec<u8>, index: u32) -> Result<(), NoMemory>
@@ -121,7 +121,7 @@ pub fn write_index(out: &mut Vec<u8>, index: u32) -> Result<(), NoMemory>
     }
 }
 
-/// Appends the shortest spelling of a number of 32 bits with sign, or nothing where memory is wanting.
+/// Appends the shortest spelling of a number of 32 bits with sign, or nothing where memory runs out.
 /// WebAssembly Core Specification 3.0, section 5.2.2.
 pub fn write_s32(out: &mut Vec<u8>, v: i32) -> Result<(), NoMemory>
     ensures ok { OnOk result (out.new.items ≡ out.old.items ++ shortest_signed v) }
@@ -130,7 +130,7 @@ pub fn write_s32(out: &mut Vec<u8>, v: i32) -> Result<(), NoMemory>
     write_signed(out, i64::from(v))
 }
 
-/// Appends the shortest spelling of a number of 33 bits with sign, or nothing where memory is wanting.
+/// Appends the shortest spelling of a number of 33 bits with sign, or nothing where memory runs out.
 /// WebAssembly Core Specification 3.0, section 5.2.2.
 pub fn write_s33(out: &mut Vec<u8>, v: i64) -> Result<(), NoMemory>
     requires low { negsuc (2 ^ 32 - 1) ≤ℤ v }
@@ -141,7 +141,7 @@ pub fn write_s33(out: &mut Vec<u8>, v: i64) -> Result<(), NoMemory>
     write_signed(out, v)
 }
 
-/// Appends the shortest spelling of a number of 64 bits with sign, or nothing where memory is wanting.
+/// Appends the shortest spelling of a number of 64 bits with sign, or nothing where memory runs out.
 /// WebAssembly Core Specification 3.0, section 5.2.2.
 pub fn write_s64(out: &mut Vec<u8>, v: i64) -> Result<(), NoMemory>
     ensures ok { OnOk result (out.new.items ≡ out.old.items ++ shortest_signed v) }

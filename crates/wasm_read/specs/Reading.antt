@@ -27,13 +27,13 @@ abbrev pub ReadsNone : Fault → ℕ → Type 0 → Type 0
 ReadsNone (fault.Read e) at why = (e.at ≡ at) × why
 ReadsNone _ at why = ⊥
 
--- The same, or memory is wanting, of which nothing is said.
+-- The same, or memory runs out, of which nothing is said.
 abbrev pub ReadsNoneOrWants : Fault → ℕ → Type 0 → Type 0
 ReadsNoneOrWants (fault.Read e) at why = (e.at ≡ at) × why
 ReadsNoneOrWants fault.NoMemory at why = Unit {0}
 ReadsNoneOrWants _ at why = ⊥
 
--- The one, or the other where memory may be wanting.
+-- The one, or the other where memory may run out.
 abbrev pub ReadsNoneIf : Bool → Fault → ℕ → Type 0 → Type 0
 ReadsNoneIf true e at why = ReadsNoneOrWants e at why
 ReadsNoneIf false e at why = ReadsNone e at why

@@ -8,10 +8,10 @@ ghost use Rattle.wasm_read.specs.Immediates.{locals_tree};
 ghost use Rattle.wasm_read.specs.Operations.{rest_of, frame_row, body_tree};
 ghost use Rattle.wasm_read.specs.Reading.{ReadsNone, ReadsNoneOrWants};
 
-use crate::entries::{behind_vec, front_vec};
 use crate::operators::OperatorsReader;
 use crate::payloads::front_sized;
 use crate::types::{FunctionBody, ValType};
+use crate::vectors::{behind_vec, front_vec};
 use std::alloc::Global;
 use wasm_leb::{Fault, List, NoMemory, ReadError};
 

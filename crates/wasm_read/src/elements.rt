@@ -9,10 +9,10 @@ ghost use Rattle.wasm_shapes.specs.Types.{led, vector_tree, function_index_tree,
 ghost use Rattle.wasm_read.specs.Expressions.{expr_tree};
 ghost use Rattle.wasm_read.specs.Types.{ref_type_tree, element_tree};
 
-use crate::entries::front_vec;
 use crate::expressions::{ConstExpr, front_expr};
 use crate::types::{AbstractHeapType, Element, ElementItems, ElementKind, HeapType, RefType};
-use crate::values::front_ref_type;
+use crate::value_types::front_ref_type;
+use crate::vectors::front_vec;
 use std::alloc::Global;
 use wasm_leb::{List, NoMemory, front_byte, front_u32};
 

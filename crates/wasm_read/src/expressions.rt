@@ -4,8 +4,8 @@ ghost use Rattle.wasm_shapes.specs.Place.{Begins, BeginsNone};
 ghost use Rattle.wasm_shapes.specs.Shape.{Shape, Named};
 ghost use Rattle.wasm_read.specs.Expressions.{HeldExpression, HeldExpression-prop, SpellsExpression, NoExpression, expr_tree};
 
-use crate::entries::{Entry, ReadEntry};
 use crate::operators::{OperatorsReader, behind_operator};
+use crate::vectors::{Entry, ReadEntry};
 use std::alloc::Global;
 use std::marker::Model;
 use wasm_leb::{NoMemory, ReadError, front_byte};

@@ -12,7 +12,7 @@ use crate::types::{
     Global, GlobalType, Import, Imports, MemoryType, Table, TableInit, TableType, TagKind, TagType,
     TypeRef,
 };
-use crate::values::{front_ref_type, front_val_type};
+use crate::value_types::{front_ref_type, front_val_type};
 use wasm_leb::{ReadError, front_byte, front_u32, front_u64};
 
 /// What the flags of limits say: that there is a maximum, that they are shared, that they count in 64 bits, and that the

@@ -6,13 +6,13 @@ ghost use Rattle.wasm_shapes.specs.Shape.{Shape, Named, choice, values, inner_ro
 ghost use Rattle.wasm_read.specs.Reading.{ReadsNoneOrWants};
 ghost use Rattle.wasm_read.specs.Types.{val_types_tree, func_type_tree, inner_tree, described_tree, describing_tree, composite_tree, supertypes_tree, sub_type_tree, group_tree};
 
-use crate::entries::{Entry, ReadEntry, front_vec};
 use crate::fields::from_place;
 use crate::types::{
     ArrayType, CompositeInnerType, CompositeType, ContType, FuncType, RecGroup, StructType,
     SubType, UnpackedIndex,
 };
-use crate::values::front_field_type;
+use crate::value_types::front_field_type;
+use crate::vectors::{Entry, ReadEntry, front_vec};
 use std::alloc::Global;
 use wasm_leb::{Fault, List, NoMemory, ReadError, front_byte, front_index, front_u32};
 
@@ -332,7 +332,7 @@ pub fn front_group(alloc: Global, bytes: &[u8]) -> Result<Option<(RecGroup, &[u8
 /// 5.3.9).
 ///
 /// The error is `Read` with the place that was asked for exactly where no group begins there, as past the end, or
-/// memory is wanting.
+/// memory runs out.
 pub fn read_group(alloc: Global, bytes: &[u8], at: usize) -> Result<(RecGroup, usize), Fault>
     ensures ok { IfOk result (λ r.
         Begins (Shape.ref Named.group) (drop at bytes.now) (group_tree r.0) (drop r.1 bytes.now)) }

@@ -9,11 +9,11 @@ ghost use Rattle.wasm_read.specs.Types.{heap_type_tree};
 ghost use Rattle.wasm_read.specs.Immediates.{block_type_tree, imm_tree, imms_tree, imm_kind, is_core};
 ghost use Rattle.wasm_read.specs.Operations.{BeginsCode, BeginsNoCode, is_core_kind, AreCore};
 
-use crate::entries::{behind_vec, front_vec};
 use crate::types::{
     BlockType, Catch, Handle, HeapType, Ieee32, Ieee64, Imm, MemArg, RefType, ValType,
 };
-use crate::values::{front_heap_type, front_val_type};
+use crate::value_types::{front_heap_type, front_val_type};
+use crate::vectors::{behind_vec, front_vec};
 use std::alloc::Global;
 use wasm_leb::{List, NoMemory, front_byte, front_s32, front_s64, front_u32, front_u64};
 use wasm_shapes::{ImmKind, Opcode, Space};

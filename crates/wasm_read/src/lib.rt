@@ -4,7 +4,6 @@
 mod code;
 mod data_segments;
 mod elements;
-mod entries;
 mod expressions;
 mod externals;
 mod fields;
@@ -18,9 +17,9 @@ mod rows;
 mod section_reader;
 mod sections;
 mod types;
-mod values;
+mod value_types;
+mod vectors;
 
-pub use entries::{VectorRow, front_rows};
 pub use expressions::ConstExpr;
 pub use externals::read_type_ref;
 pub use fields::{front_export, front_name, read_item, read_name};
@@ -44,4 +43,5 @@ pub use types::{
     RefType, StorageType, StructType, SubType, Table, TableInit, TableType, TagKind, TagType,
     TypeRef, UnpackedIndex, ValType,
 };
-pub use values::{front_val_type, read_val_type};
+pub use value_types::{front_val_type, read_val_type};
+pub use vectors::{VectorRow, front_rows};

@@ -7,9 +7,9 @@ ghost use Rattle.wasm_shapes.specs.Place.{Begins, BeginsNone};
 ghost use Rattle.wasm_shapes.specs.Shape.{Shape};
 ghost use Rattle.wasm_read.specs.Names.{whole_map, map_place, Due, EntryRead, IndirectBegins, IndirectRead, EntryMissing, EntriesEnded};
 
-use crate::entries::{Entry, SmallEntry, behind_vec};
 use crate::fields::front_name;
 use crate::types::{IndirectNaming, Naming};
+use crate::vectors::{Entry, SmallEntry, behind_vec};
 use std::marker::Model;
 use wasm_leb::{ReadError, front_u32};
 

@@ -86,7 +86,7 @@ impl<'a, K: ReadRow<'a>> SectionReader<'a, K> {
     /// The next row, or none where all counted rows were given and the body is filled.
     ///
     /// The error is `Read` exactly where no row begins or where bytes are left after the last, with that place, or
-    /// memory is wanting, for a kind whose rows take any. It leaves the reader where it stood.
+    /// memory runs out, for a kind whose rows take any. It leaves the reader where it stood.
     #[inline]
     pub fn next_row(&mut self, alloc: Global) -> Result<Option<K::Row>, Fault>
         ensures row { IfOk result (λ o. IfSome o (λ row.

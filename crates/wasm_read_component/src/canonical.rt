@@ -9,7 +9,7 @@ ghost use Rattle.wasm_read_component.specs.ComponentRows.{canonical_tree, operan
 
 use crate::items::CanonicalOptions;
 use crate::types::{CanonicalFunction, CanonicalOption, Operands};
-use crate::values::front_result;
+use crate::value_types::front_result;
 use std::alloc::Global;
 use wasm_leb::{List, NoMemory, front_byte, front_u32};
 use wasm_read::{front_rows, front_val_type};

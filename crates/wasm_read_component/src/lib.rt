@@ -8,7 +8,7 @@ mod rows;
 mod scoped_reader;
 mod sections;
 mod types;
-mod values;
+mod value_types;
 
 pub use scoped_reader::{ReadRowAt, ScopedReader};
 pub use sections::{

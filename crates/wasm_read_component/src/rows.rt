@@ -11,7 +11,7 @@ use crate::types::{
     ComponentArg, ComponentExport, ComponentImport, ComponentInstance, ComponentStartFunction,
     Instance, InstantiationArg, InstantiationArgKind,
 };
-use crate::values::{
+use crate::value_types::{
     front_component_type_ref, front_extern_name, front_maybe_type_ref, front_sorted,
 };
 use std::alloc::Global;

@@ -158,8 +158,7 @@ impl<'a> ReadRow<'a> for Of<component_kinds::ComponentExports> {
     }
 }
 
-/// The start that a section holds. The error is `Read` with the place 0 exactly where the body is no start, or memory is
-/// wanting.
+/// The start that a section holds. The error is `Read` with the place 0 exactly where the body is no start, or `NoMemory`.
 pub fn read_start(alloc: Global, body: &[u8]) -> Result<ComponentStartFunction, Fault>
     ensures ok { IfOk result (λ start. Spells component_start body.now (start_tree start)) }
     ensures err { IfErr result (λ e.

@@ -14,7 +14,7 @@ use crate::fault::WriteFault;
 use crate::immediates::write_bytes;
 use crate::instructions::{Instruction, write_index_operator, write_operator};
 use crate::types::{Imm, ValType};
-use crate::types_write::write_val_type;
+use crate::value_types::write_val_type;
 use crate::vectors::{InCode, ItemOf, write_list};
 use std::alloc::Global;
 use std::marker::Model;
@@ -43,7 +43,7 @@ impl Model for Function {
 /// The bytes for which a function has room from the start: most need no more, and take memory once.
 const COMMON_LENGTH: usize = 64;
 
-/// Appends so many locals of a type, or a part of them where memory is wanting.
+/// Appends so many locals of a type, or a part of them where memory runs out.
 fn write_local(out: &mut Vec<u8>, local: (u32, ValType)) -> Result<(), NoMemory>
     ensures ok { OnOk result (out.new.items ≡ out.old.items ++ normal (local_tree local)) }
     ensures in_range { OnOk result (InRange (local_tree local)) }
@@ -93,7 +93,7 @@ impl Function {
         }
     }
 
-    /// The function whose normal spelling these bytes are, with room for so many. The one refusal is want of memory.
+    /// The function whose normal spelling these bytes are, with room for so many. The one refusal is out of memory.
     pub fn of_spelled(alloc: Global, bytes: &[u8], room: usize) -> Result<Function, WriteFault>
         requires { HeldBody bytes.now }
         ensures ok { IfOk result (λ f. (g : Body) → IsBody bytes.now g → f ≡ g) }
@@ -108,7 +108,7 @@ impl Function {
         Ok(Function { bytes: held })
     }
 
-    /// Adds an operator. The one refusal is want of memory, and changes nothing.
+    /// Adds an operator. The one refusal is out of memory, and changes nothing.
     pub fn instruction(&mut self, instruction: &Instruction<'_>) -> Result<(), WriteFault>
         ensures ok { OnOk result
             (self.new ≡ with_operator self.old (instruction_tree instruction.now)) }
@@ -168,7 +168,7 @@ impl Function {
         }
     }
 
-    /// Adds the operators whose normal spelling these bytes are. The one refusal is want of memory, and changes nothing.
+    /// Adds the operators whose normal spelling these bytes are. The one refusal is out of memory, and changes nothing.
     #[inline(always)]
     pub fn spelled(&mut self, bytes: &[u8]) -> Result<(), WriteFault>
         requires { HasOperators bytes.now }

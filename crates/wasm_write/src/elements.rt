@@ -13,7 +13,7 @@ use crate::expressions::ConstExpr;
 use crate::fault::WriteFault;
 use crate::row_section::RowOf;
 use crate::types::{AbstractHeapType, Elements, HeapType, RefType};
-use crate::types_write::{write_byte, write_ref_type};
+use crate::value_types::{write_byte, write_ref_type};
 use crate::vectors::{ItemOf, write_vec};
 use wasm_leb::{NoMemory, write_u32};
 use wasm_shapes::kinds;
@@ -77,7 +77,7 @@ fn is_funcref(ty: RefType) -> bool
     }
 }
 
-/// Appends a flag and an offset, or a part of them where memory is wanting.
+/// Appends a flag and an offset, or a part of them where memory runs out.
 fn write_left(out: &mut Vec<u8>, flag: u32, offset: &ConstExpr) -> Result<(), NoMemory>
     ensures ok { OnOk result (out.new.items ≡ out.old.items
         ++ normal (Tree.pair (Tree.flag flag) (expression_of offset.now))) }
@@ -89,7 +89,7 @@ fn write_left(out: &mut Vec<u8>, flag: u32, offset: &ConstExpr) -> Result<(), No
     }
 }
 
-/// Appends a flag, a table and an offset, or a part of them where memory is wanting.
+/// Appends a flag, a table and an offset, or a part of them where memory runs out.
 fn write_aimed(out: &mut Vec<u8>, flag: u32, table: u32, offset: &ConstExpr) -> Result<(), NoMemory>
     ensures ok { OnOk result (out.new.items ≡ out.old.items ++ normal (Tree.pair (Tree.flag flag)
         (Tree.pair (Tree.ix space.Table table) (expression_of offset.now)))) }

@@ -12,7 +12,7 @@ ghost use Rattle.wasm_write.specs.Bodies.{HeldOperators, HeldOperators-prop};
 use crate::immediates::write_bytes;
 use crate::instructions::{Instruction, write_operator};
 use crate::types::Imm;
-use crate::types_write::write_byte;
+use crate::value_types::write_byte;
 use std::alloc::Global;
 use std::marker::Model;
 use wasm_leb::NoMemory;
@@ -51,7 +51,7 @@ impl ConstExpr {
         }
     }
 
-    /// Adds an operator other than `end`, or nothing where memory is wanting.
+    /// Adds an operator other than `end`, or nothing where memory runs out.
     pub fn instruction(&mut self, instruction: &Instruction<'_>) -> Result<(), NoMemory>
         requires { code_of instruction.now.opcode ≢ plain 0x0b }
         ensures ok { OnOk result (self.new ≡ self.old ++ instruction_tree instruction.now ∷ []) }
@@ -84,7 +84,7 @@ impl ConstExpr {
         }
     }
 
-    /// Adds the operators other than `end` whose normal spelling these bytes are, or nothing where memory is wanting.
+    /// Adds the operators other than `end` whose normal spelling these bytes are, or nothing where memory runs out.
     #[inline(always)]
     pub fn spelled(&mut self, bytes: &[u8]) -> Result<(), NoMemory>
         requires { HeldOperators bytes.now }
@@ -107,7 +107,7 @@ impl ConstExpr {
         self.bytes.len()
     }
 
-    /// Appends the operators and `end` behind them, or a part of that where memory is wanting.
+    /// Appends the operators and `end` behind them, or a part of that where memory runs out.
     pub(crate) fn encode(&self, out: &mut Vec<u8>) -> Result<(), NoMemory>
         ensures ok { OnOk result
             (out.new.items ≡ out.old.items ++ normal (expression_of self.now)) }

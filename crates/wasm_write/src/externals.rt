@@ -11,7 +11,7 @@ ghost use Rattle.wasm_write.specs.Types.{table_type_tree, memory_type_tree, glob
 use crate::fault::WriteFault;
 use crate::fields::write_name;
 use crate::types::{EntityType, GlobalType, Import, MemoryType, TableType, TagKind, TagType};
-use crate::types_write::{write_byte, write_marked, write_ref_type, write_val_type};
+use crate::value_types::{write_byte, write_marked, write_ref_type, write_val_type};
 use wasm_leb::{NoMemory, write_u32, write_u64};
 
 /// So much where it is set, and otherwise 0.
@@ -31,7 +31,7 @@ fn flags_of(maximum: bool, shared: bool, wide: bool, page: bool) -> u8
     value_if(1, maximum) + value_if(2, shared) + value_if(4, wide) + value_if(8, page)
 }
 
-/// Appends the minimum and the maximum, or a part of them where memory is wanting.
+/// Appends the minimum and the maximum, or a part of them where memory runs out.
 fn write_bounds(out: &mut Vec<u8>, minimum: u64, maximum: Option<u64>) -> Result<(), NoMemory>
     ensures ok { OnOk result
         (out.new.items ≡ out.old.items ++ normal (bounds_tree minimum maximum)) }
@@ -47,7 +47,7 @@ fn write_bounds(out: &mut Vec<u8>, minimum: u64, maximum: Option<u64>) -> Result
     }
 }
 
-/// Appends the minimum, the maximum and the logarithm of the page size, or a part of them where memory is wanting.
+/// Appends the minimum, the maximum and the logarithm of the page size, or a part of them where memory runs out.
 fn write_paged(
     out: &mut Vec<u8>,
     minimum: u64,
@@ -68,7 +68,7 @@ fn write_paged(
     }
 }
 
-/// Appends limits behind their flags, or a part of them where memory is wanting.
+/// Appends limits behind their flags, or a part of them where memory runs out.
 fn write_limits(
     out: &mut Vec<u8>,
     flags: u8,
@@ -89,7 +89,7 @@ fn write_limits(
     }
 }
 
-/// Appends a table type, or a part of it where memory is wanting.
+/// Appends a table type, or a part of it where memory runs out.
 pub(crate) fn write_table_type(out: &mut Vec<u8>, ty: TableType) -> Result<(), NoMemory>
     ensures ok { OnOk result (out.new.items ≡ out.old.items ++ normal (table_type_tree ty)) }
     ensures in_range { OnOk result (InRange (table_type_tree ty)) }
@@ -102,7 +102,7 @@ pub(crate) fn write_table_type(out: &mut Vec<u8>, ty: TableType) -> Result<(), N
     }
 }
 
-/// Appends a memory type, or a part of it where memory is wanting.
+/// Appends a memory type, or a part of it where memory runs out.
 pub(crate) fn write_memory_type(out: &mut Vec<u8>, ty: MemoryType) -> Result<(), NoMemory>
     ensures ok { OnOk result (out.new.items ≡ out.old.items ++ normal (memory_type_tree ty)) }
     ensures in_range { OnOk result (InRange (memory_type_tree ty)) }
@@ -113,7 +113,7 @@ pub(crate) fn write_memory_type(out: &mut Vec<u8>, ty: MemoryType) -> Result<(),
     write_limits(out, flags, ty.minimum, ty.maximum, page)
 }
 
-/// Appends a global type, or a part of it where memory is wanting.
+/// Appends a global type, or a part of it where memory runs out.
 pub(crate) fn write_global_type(out: &mut Vec<u8>, ty: GlobalType) -> Result<(), NoMemory>
     ensures ok { OnOk result (out.new.items ≡ out.old.items ++ normal (global_type_tree ty)) }
     ensures in_range { OnOk result (InRange (global_type_tree ty)) }
@@ -133,7 +133,7 @@ fn global_flags_of(mutable: bool, shared: bool) -> u8
     value_if(1, mutable) + value_if(2, shared)
 }
 
-/// Appends a tag type, or a part of it where memory is wanting.
+/// Appends a tag type, or a part of it where memory runs out.
 pub(crate) fn write_tag_type(out: &mut Vec<u8>, ty: TagType) -> Result<(), NoMemory>
     ensures ok { OnOk result (out.new.items ≡ out.old.items ++ normal (tag_type_tree ty)) }
     ensures in_range { OnOk result (InRange (tag_type_tree ty)) }
@@ -144,7 +144,7 @@ pub(crate) fn write_tag_type(out: &mut Vec<u8>, ty: TagType) -> Result<(), NoMem
     }
 }
 
-/// Appends the type of what is imported (WebAssembly Core Specification 3.0, section 5.3.15). Where memory is wanting, what
+/// Appends the type of what is imported (WebAssembly Core Specification 3.0, section 5.3.15). Where memory runs out, what
 /// stood in `out` before stands there still.
 pub fn write_entity_type(out: &mut Vec<u8>, ty: EntityType) -> Result<(), NoMemory>
     ensures ok { OnOk result (out.new.items ≡ out.old.items ++ normal (entity_tree ty)) }

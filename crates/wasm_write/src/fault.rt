@@ -5,6 +5,6 @@
 pub enum WriteFault {
     /// A frame is longer than the ceiling, or a count or a length would pass 2^32 - 1: this is that number.
     TooLarge { size: u64 },
-    /// Memory is wanting.
+    /// Out of memory.
     NoMemory,
 }

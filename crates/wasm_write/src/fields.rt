@@ -10,7 +10,7 @@ use crate::fault::WriteFault;
 use crate::types::ExportKind;
 use wasm_leb::{NoMemory, len_u32, write_u32};
 
-/// Appends bytes behind a number, or a part of that where memory is wanting.
+/// Appends bytes behind a number, or a part of that where memory runs out.
 #[inline(always)]
 pub(crate) fn write_behind(out: &mut Vec<u8>, number: u32, bytes: &[u8]) -> Result<(), NoMemory>
     ensures ok { OnOk result (out.new.items ≡ out.old.items ++ (leb number ++ bytes.now)) }

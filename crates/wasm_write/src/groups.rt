@@ -11,7 +11,7 @@ use crate::fault::WriteFault;
 use crate::types::{
     CompositeInnerType, CompositeType, FieldType, FuncType, RecGroup, SubType, ValType,
 };
-use crate::types_write::{write_byte, write_field_type, write_marked, write_val_type};
+use crate::value_types::{write_byte, write_field_type, write_marked, write_val_type};
 use crate::vectors::{InTypes, ItemOf, write_vec};
 use wasm_leb::{NoMemory, write_index, write_u32};
 

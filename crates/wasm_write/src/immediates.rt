@@ -9,7 +9,7 @@ ghost use Rattle.wasm_write.specs.Instructions.{imm_kind, imm_tree, block_type_t
 
 use crate::fault::WriteFault;
 use crate::types::{BlockType, Catch, Handle, HeapType, Imm, MemArg, RefType};
-use crate::types_write::{write_byte, write_heap_type, write_marked, write_val_type};
+use crate::value_types::{write_byte, write_heap_type, write_marked, write_val_type};
 use crate::vectors::{InCode, ItemOf, write_list};
 use wasm_leb::{NoMemory, write_index, write_s32, write_s64, write_u32, write_u64};
 
@@ -53,7 +53,7 @@ impl ItemOf<InCode> for Handle {
     }
 }
 
-/// Appends a byte and two numbers, or a part of them where memory is wanting.
+/// Appends a byte and two numbers, or a part of them where memory runs out.
 fn write_pair(out: &mut Vec<u8>, byte: u8, first: u32, second: u32) -> Result<(), NoMemory>
     ensures ok { OnOk result (out.new.items ≡ out.old.items ++ (byte ∷ (leb first ++ leb second))) }
     ensures err { OnErr result (take (vec_len out.old) out.new.items ≡ out.old.items) }
@@ -64,7 +64,7 @@ fn write_pair(out: &mut Vec<u8>, byte: u8, first: u32, second: u32) -> Result<()
     }
 }
 
-/// Appends what a block catches, or a part of it where memory is wanting.
+/// Appends what a block catches, or a part of it where memory runs out.
 fn write_catch(out: &mut Vec<u8>, catch: Catch) -> Result<(), NoMemory>
     ensures ok { OnOk result (out.new.items ≡ out.old.items ++ normal (catch_tree catch)) }
     ensures in_range { OnOk result (InRange (catch_tree catch)) }
@@ -78,7 +78,7 @@ fn write_catch(out: &mut Vec<u8>, catch: Catch) -> Result<(), NoMemory>
     }
 }
 
-/// Appends a handler, or a part of it where memory is wanting.
+/// Appends a handler, or a part of it where memory runs out.
 fn write_handler(out: &mut Vec<u8>, handler: Handle) -> Result<(), NoMemory>
     ensures ok { OnOk result (out.new.items ≡ out.old.items ++ normal (handle_tree handler)) }
     ensures in_range { OnOk result (InRange (handle_tree handler)) }
@@ -90,7 +90,7 @@ fn write_handler(out: &mut Vec<u8>, handler: Handle) -> Result<(), NoMemory>
     }
 }
 
-/// Appends the type of a block, or a part of it where memory is wanting.
+/// Appends the type of a block, or a part of it where memory runs out.
 fn write_block_type(out: &mut Vec<u8>, ty: BlockType) -> Result<(), NoMemory>
     ensures ok { OnOk result (out.new.items ≡ out.old.items ++ normal (block_type_tree ty)) }
     ensures in_range { OnOk result (InRange (block_type_tree ty)) }
@@ -103,7 +103,7 @@ fn write_block_type(out: &mut Vec<u8>, ty: BlockType) -> Result<(), NoMemory>
     }
 }
 
-/// Appends labels and the default one, or a part of them where memory is wanting.
+/// Appends labels and the default one, or a part of them where memory runs out.
 fn write_targets(out: &mut Vec<u8>, targets: &[u32], default: u32) -> Result<(), NoMemory>
     ensures ok { OnOk result
         (out.new.items ≡ out.old.items ++ normal (targets_tree targets.now default)) }
@@ -116,7 +116,7 @@ fn write_targets(out: &mut Vec<u8>, targets: &[u32], default: u32) -> Result<(),
     }
 }
 
-/// Appends the flags, the memory and the offset of a memory access, or a part of them where memory is wanting.
+/// Appends the flags, the memory and the offset of a memory access, or a part of them where memory runs out.
 /// The memory is left out where it is 0.
 fn write_mem_arg(out: &mut Vec<u8>, arg: MemArg) -> Result<(), NoMemory>
     ensures ok { OnOk result
@@ -134,7 +134,7 @@ fn write_mem_arg(out: &mut Vec<u8>, arg: MemArg) -> Result<(), NoMemory>
     }
 }
 
-/// Appends the flags, the memory and the offset of a memory access, or a part of them where memory is wanting.
+/// Appends the flags, the memory and the offset of a memory access, or a part of them where memory runs out.
 fn write_far_mem_arg(out: &mut Vec<u8>, arg: MemArg) -> Result<(), NoMemory>
     ensures ok { OnOk result
         (out.new.items ≡ out.old.items
@@ -164,7 +164,7 @@ fn flags_of(from: bool, to: bool) -> u8
     }
 }
 
-/// Appends two heap types, or a part of them where memory is wanting.
+/// Appends two heap types, or a part of them where memory runs out.
 fn write_heap_types(out: &mut Vec<u8>, from: HeapType, to: HeapType) -> Result<(), NoMemory>
     ensures ok { OnOk result
         (out.new.items ≡ out.old.items
@@ -178,7 +178,7 @@ fn write_heap_types(out: &mut Vec<u8>, from: HeapType, to: HeapType) -> Result<(
     }
 }
 
-/// Appends the flags, the label and the heap types of a cast, or a part of them where memory is wanting.
+/// Appends the flags, the label and the heap types of a cast, or a part of them where memory runs out.
 fn write_cast(out: &mut Vec<u8>, label: u32, from: RefType, to: RefType) -> Result<(), NoMemory>
     ensures ok { OnOk result (out.new.items ≡ out.old.items ++ normal (cast_tree label from to)) }
     ensures in_range { OnOk result (InRange (cast_tree label from to)) }
@@ -206,7 +206,7 @@ pub(crate) fn write_bytes(out: &mut Vec<u8>, bytes: &[u8]) -> Result<(), NoMemor
     }
 }
 
-/// Appends an immediate, or a part of it where memory is wanting. The commonest are written in line.
+/// Appends an immediate, or a part of it where memory runs out. The commonest are written in line.
 #[inline(always)]
 pub(crate) fn write_imm(out: &mut Vec<u8>, imm: &Imm<'_>) -> Result<(), NoMemory>
     requires { IsSome (imm_kind imm.now) }
@@ -222,7 +222,7 @@ pub(crate) fn write_imm(out: &mut Vec<u8>, imm: &Imm<'_>) -> Result<(), NoMemory
     }
 }
 
-/// Appends an immediate, or a part of it where memory is wanting. It stands apart, so that what is in line stays small.
+/// Appends an immediate, or a part of it where memory runs out. It stands apart, so that what is in line stays small.
 #[inline(never)]
 fn write_any_imm(out: &mut Vec<u8>, imm: &Imm<'_>) -> Result<(), NoMemory>
     requires { IsSome (imm_kind imm.now) }

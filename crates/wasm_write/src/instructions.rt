@@ -13,7 +13,7 @@ ghost use Rattle.wasm_write.specs.Instructions.{imm_kind, imms_tree, instruction
 
 use crate::immediates::write_imm;
 use crate::types::Imm;
-use crate::types_write::write_byte;
+use crate::value_types::write_byte;
 use std::marker::Model;
 use wasm_leb::{List, NoMemory, write_u32};
 use wasm_shapes::{ImmKind, Opcode, Space, row_of};
@@ -153,7 +153,7 @@ impl<'a> Instruction<'a> {
         self.imms.as_slice()
     }
 
-    /// Appends the operator and its immediates, which read back as this instruction. Where memory is wanting, what stood in
+    /// Appends the operator and its immediates, which read back as this instruction. Where memory runs out, what stood in
     /// `out` before stands there still.
     #[inline(always)]
     pub fn encode(&self, out: &mut Vec<u8>) -> Result<(), NoMemory>
@@ -168,7 +168,7 @@ impl<'a> Instruction<'a> {
     }
 }
 
-/// Appends an operator with immediates of the kinds of its row, or a part of it where memory is wanting.
+/// Appends an operator with immediates of the kinds of its row, or a part of it where memory runs out.
 #[inline(always)]
 pub(crate) fn write_operator(
     out: &mut Vec<u8>,
@@ -233,7 +233,7 @@ fn write_short(out: &mut Vec<u8>, byte: u8, number: u16) -> Result<(), NoMemory>
     Ok(())
 }
 
-/// Appends the number of an operator, or a part of it where memory is wanting.
+/// Appends the number of an operator, or a part of it where memory runs out.
 #[inline(always)]
 fn write_opcode(out: &mut Vec<u8>, op: Opcode) -> Result<(), NoMemory>
     requires { op.prefix ≡ 0 → op.sub < 256 }
@@ -248,7 +248,7 @@ fn write_opcode(out: &mut Vec<u8>, op: Opcode) -> Result<(), NoMemory>
     }
 }
 
-/// Appends a byte and a number, or a part of them where memory is wanting.
+/// Appends a byte and a number, or a part of them where memory runs out.
 #[inline(never)]
 fn write_prefixed(out: &mut Vec<u8>, prefix: u8, sub: u32) -> Result<(), NoMemory>
     ensures ok { OnOk result (out.new.items ≡ out.old.items ++ (prefix ∷ leb sub)) }
@@ -260,7 +260,7 @@ fn write_prefixed(out: &mut Vec<u8>, prefix: u8, sub: u32) -> Result<(), NoMemor
     }
 }
 
-/// Appends immediates one behind another, or a part of them where memory is wanting.
+/// Appends immediates one behind another, or a part of them where memory runs out.
 #[inline(always)]
 fn write_imms(out: &mut Vec<u8>, imms: &[Imm<'_>]) -> Result<(), NoMemory>
     requires { All (λ i. IsSome (imm_kind i)) imms.now }

@@ -19,9 +19,9 @@ mod row_section;
 mod rows;
 mod section;
 mod sections;
+mod single_sections;
 mod types;
-mod types_write;
-mod values;
+mod value_types;
 mod vectors;
 
 pub use bodies::Function;
@@ -41,11 +41,11 @@ pub use sections::{
     DataSection, ElementSection, ExportSection, FunctionSection, GlobalSection, ImportSection,
     MemorySection, TableSection, TagSection, TypeSection,
 };
+pub use single_sections::{DataCountSection, RawSection, StartSection};
 pub use types::{
     AbstractHeapType, ArrayType, BlockType, Catch, CompositeInnerType, CompositeType, ContType,
     CustomSection, Elements, EntityType, Export, ExportKind, FieldType, FuncType, GlobalType,
     Handle, HeapType, Ieee32, Ieee64, Imm, Import, Imports, MemArg, MemoryType, Ordering, RecGroup,
     RefType, StorageType, StructType, SubType, TableType, TagKind, TagType, ValType,
 };
-pub use types_write::write_val_type;
-pub use values::{DataCountSection, RawSection, StartSection};
+pub use value_types::write_val_type;

@@ -19,7 +19,7 @@ use crate::fields::{named_len, write_behind};
 use crate::immediates::write_bytes;
 use crate::names::{Entries, IndirectNameMap, MapKind, NameMap};
 use crate::section::Section;
-use crate::types_write::write_byte;
+use crate::value_types::write_byte;
 use std::alloc::Global;
 use std::marker::Model;
 use wasm_leb::{NoMemory, len_u32, write_u32};

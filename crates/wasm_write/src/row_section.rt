@@ -76,7 +76,7 @@ impl<K: RowKind> RowSection<K> {
     }
 
     /// A section without rows, with room for a body of `len` bytes of which the first `counted` are the number of the rows.
-    /// It takes memory for them at once, or later where that is wanting.
+    /// It takes memory for them at once, or later where that runs out.
     ///
     /// Where the body comes out so, and is longer than the module is now, `Module::take` copies no row.
     pub fn with_room(alloc: Global, module: &Module, counted: usize, len: usize) -> Self

@@ -161,7 +161,7 @@ pub(crate) struct ActiveData<'a> {
 }
 
 /// Appends the flag of an active data segment and its memory, which is left out where it is 0, or a part of them where
-/// memory is wanting.
+/// memory runs out.
 fn write_place(out: &mut Vec<u8>, memory: u32) -> Result<(), NoMemory>
     ensures ok { OnOk result (out.new.items ≡ out.old.items ++ placed_bytes memory) }
     ensures err { OnErr result (take (vec_len out.old) out.new.items ≡ out.old.items) }

@@ -15,7 +15,7 @@ pub trait Section {
     fn id(&self) -> u8
         ensures { result ≡ number self.now };
 
-    /// Appends the body. Where memory is wanting, what stood in `out` before stands there still, and a part of the body
+    /// Appends the body. Where memory runs out, what stood in `out` before stands there still, and a part of the body
     /// may stand behind it.
     fn encode_body(&self, out: &mut Vec<u8>) -> Result<(), NoMemory>
         ensures ok { OnOk result (out.new.items ≡ out.old.items ++ contents self.now) }

@@ -67,7 +67,7 @@ pub(crate) fn write_vec<P, T: ItemOf<P>>(out: &mut Vec<u8>, items: &[T]) -> Resu
     Ok(())
 }
 
-/// Appends few items behind their number, or a part of that where memory is wanting: items that have no counts of their own,
+/// Appends few items behind their number, or a part of that where memory runs out: items that have no counts of their own,
 /// and no more than can be counted, are refused for nothing else.
 pub(crate) fn write_list<T: ItemOf<InCode>>(out: &mut Vec<u8>, items: &[T]) -> Result<(), NoMemory>
     ensures ok { OnOk result

@@ -76,7 +76,7 @@ fn write_export(
     write_name(out, name)
 }
 
-/// Appends two numbers behind some bytes, or a part of that where memory is wanting.
+/// Appends two numbers behind some bytes, or a part of that where memory runs out.
 fn write_outer(out: &mut Vec<u8>, front: &[u8], count: u32, index: u32) -> Result<(), NoMemory>
     ensures ok { OnOk result (out.new.items
         ≡ out.old.items ++ (front.now ++ (leb count ++ leb index))) }

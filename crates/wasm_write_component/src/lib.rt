@@ -5,7 +5,7 @@ mod aliases;
 mod rows;
 mod sections;
 mod types;
-mod values;
+mod value_types;
 
 pub use sections::{ComponentAliasSection, ComponentExportSection, ComponentImportSection, Of};
 pub use types::{

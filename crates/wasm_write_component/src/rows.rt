@@ -1,7 +1,7 @@
 //! Imports and exports of components in their normal spelling.
 use crate::sections::Of;
 use crate::types::{ComponentExport, ComponentImport};
-use crate::values::{
+use crate::value_types::{
     write_component_type_ref, write_extern_name, write_maybe_type_ref, write_sorted,
 };
 use wasm_leb::NoMemory;

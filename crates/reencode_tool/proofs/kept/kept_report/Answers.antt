@@ -3,7 +3,7 @@ use Rattle.reencode_core.specs.Pieces.{joined, kept_ranges}
 use Rattle.reencode_hooks.specs.Renamings.{Renaming}
 use Rattle.reencode_tool.specs.declared.renamers.Renamers.TheVariants as renamers
 use Rattle.reencode_tool.specs.Kept.{kept_report}
-use Rattle.reencode_tool.specs.Reencoded.{IsMade, IsRefused}
+use Rattle.reencode_tool.specs.Reencoded.{IsMakingFault, IsRefused}
 use Rattle.reencode_tool.proofs.Keeping.{keeps_given}
 use Rattle.reencode_tool.proofs.Outcomes.{made_as, refused_as, why_given}
 use Rattle.reencode_tool.proofs.kept.kept_report.Goals as goal
@@ -19,7 +19,7 @@ returns-in-Err-clause-refused c =
 pub returns-in-Err-clause-made : goal.returns-in-Err-clause-made
 returns-in-Err-clause-made c =
     let r = c.new-renamer.result in
-    subst (λ (z : Renaming). IsMade c.args.ceiling (renamers.Alone z) c.args.bytes.now c.reencoding_fault.result) c.new-renamer.ensures
+    subst (λ (z : Renaming). IsMakingFault c.args.ceiling (renamers.Alone z) c.args.bytes.now c.reencoding_fault.result) c.new-renamer.ensures
     (made_as c.args.ceiling (renamers.Alone r) c.args.bytes.now (joined c.args.bytes.now) c.in-Err.e (c.in-Err.ensures.default refl refl) c.reencoding_fault.result c.reencoding_fault.ensures)
 
 pub returns-in-Ok-lines_of-clause-ok : goal.returns-in-Ok-lines_of-clause-ok
