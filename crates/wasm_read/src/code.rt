@@ -11,7 +11,7 @@ ghost use Rattle.wasm_read.specs.Reading.{ReadsNone, ReadsNoneOrWants};
 use crate::operators::OperatorsReader;
 use crate::payloads::front_sized;
 use crate::types::{FunctionBody, ValType};
-use crate::vectors::{behind_vec, front_vec};
+use crate::vector_items::{behind_vec, front_vec};
 use std::alloc::Global;
 use wasm_leb::{Fault, List, NoMemory, ReadError};
 

@@ -12,7 +12,7 @@ ghost use Rattle.wasm_read.specs.Types.{ref_type_tree, element_tree};
 use crate::expressions::{ConstExpr, front_expr};
 use crate::types::{AbstractHeapType, Element, ElementItems, ElementKind, HeapType, RefType};
 use crate::value_types::front_ref_type;
-use crate::vectors::front_vec;
+use crate::vector_items::front_vec;
 use std::alloc::Global;
 use wasm_leb::{List, NoMemory, front_byte, front_u32};
 

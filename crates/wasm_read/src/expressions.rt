@@ -5,7 +5,7 @@ ghost use Rattle.wasm_shapes.specs.Shape.{Shape, Named};
 ghost use Rattle.wasm_read.specs.Expressions.{HeldExpression, HeldExpression-prop, SpellsExpression, NoExpression, expr_tree};
 
 use crate::operators::{OperatorsReader, behind_operator};
-use crate::vectors::{Entry, ReadEntry};
+use crate::vector_items::{Entry, ReadEntry};
 use std::alloc::Global;
 use std::marker::Model;
 use wasm_leb::{NoMemory, ReadError, front_byte};

@@ -12,7 +12,7 @@ use crate::types::{
     SubType, UnpackedIndex,
 };
 use crate::value_types::front_field_type;
-use crate::vectors::{Entry, ReadEntry, front_vec};
+use crate::vector_items::{Entry, ReadEntry, front_vec};
 use std::alloc::Global;
 use wasm_leb::{Fault, List, NoMemory, ReadError, front_byte, front_index, front_u32};
 

@@ -13,7 +13,7 @@ use crate::types::{
     BlockType, Catch, Handle, HeapType, Ieee32, Ieee64, Imm, MemArg, RefType, ValType,
 };
 use crate::value_types::{front_heap_type, front_val_type};
-use crate::vectors::{behind_vec, front_vec};
+use crate::vector_items::{behind_vec, front_vec};
 use std::alloc::Global;
 use wasm_leb::{List, NoMemory, front_byte, front_s32, front_s64, front_u32, front_u64};
 use wasm_shapes::{ImmKind, Opcode, Space};

@@ -18,7 +18,7 @@ mod section_reader;
 mod sections;
 mod types;
 mod value_types;
-mod vectors;
+mod vector_items;
 
 pub use expressions::ConstExpr;
 pub use externals::read_type_ref;
@@ -44,4 +44,4 @@ pub use types::{
     TypeRef, UnpackedIndex, ValType,
 };
 pub use value_types::{front_val_type, read_val_type};
-pub use vectors::{VectorRow, front_rows};
+pub use vector_items::{VectorRow, front_rows};

@@ -9,7 +9,7 @@ ghost use Rattle.wasm_read.specs.Names.{whole_map, map_place, Due, EntryRead, In
 
 use crate::fields::front_name;
 use crate::types::{IndirectNaming, Naming};
-use crate::vectors::{Entry, SmallEntry, behind_vec};
+use crate::vector_items::{Entry, SmallEntry, behind_vec};
 use std::marker::Model;
 use wasm_leb::{ReadError, front_u32};
 

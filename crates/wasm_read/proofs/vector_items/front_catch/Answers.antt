@@ -3,7 +3,7 @@ use Rattle.std.proofs.lemmas.Bool.Decides.{nat_tests}
 use Rattle.wasm_shapes.specs.Sound.{contains, first_bytes}
 use Rattle.wasm_shapes.proofs.Begins.{begins_row, begins_seq, begins_byte, begins_u32, at_byte, none_here, none_at_end, none_choice, none_lead, none_u32, none_by_front}
 use Rattle.wasm_shapes.specs.Types.{catch_row}
-use Rattle.wasm_read.proofs.vectors.front_catch.Goals as goal
+use Rattle.wasm_read.proofs.vector_items.front_catch.Goals as goal
 
 pub returns-in_default-clause-none : goal.returns-in_default-clause-none
 returns-in_default-clause-none c = none_here c.in_default.ensures.none (none_at_end refl)

@@ -1,6 +1,6 @@
 use Rattle.std.proofs.Common.{refl}
 use Rattle.wasm_shapes.proofs.Begins.{begins_u32, begins_seq, none_seq_second}
-use Rattle.wasm_read.proofs.vectors.front_local.Goals as goal
+use Rattle.wasm_read.proofs.vector_items.front_local.Goals as goal
 
 pub returns-in-Some-front_val_type-clause-some : goal.returns-in-Some-front_val_type-clause-some
 returns-in-Some-front_val_type-clause-some c = begins_seq (begins_u32 c.in-Some.ensures.some) c.in-Some-front_val_type.ensures.some

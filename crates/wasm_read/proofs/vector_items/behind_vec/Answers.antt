@@ -3,7 +3,7 @@ use Rattle.wasm_shapes.specs.Tree.{Tree}
 use Rattle.wasm_shapes.specs.Rows.{rows_then}
 use Rattle.wasm_read.proofs.Vectors.{items_none, items_more, items_stuck, vec_read, none_vec}
 use Rattle.wasm_read.specs.VectorRows.{items_closed, items_sound}
-use Rattle.wasm_read.proofs.vectors.behind_vec.Goals as goal
+use Rattle.wasm_read.proofs.vector_items.behind_vec.Goals as goal
 
 pub entries-init : goal.entries-init
 entries-init g c = ([], items_none _ _ _)

@@ -1,6 +1,6 @@
 use Rattle.std.proofs.Common.{◌+◌, ◌≡◌, length, map}
 use Rattle.wasm_read.proofs.Vectors.{ItemsSoFar}
-use Rattle.wasm_read.proofs.vectors.front_rows.Given as goal
+use Rattle.wasm_read.proofs.vector_items.front_rows.Given as goal
 
 abbrev pub invariant-entries : goal.invariant-entries
 invariant-entries g l =

@@ -1,7 +1,7 @@
 use Rattle.std.proofs.Common.{◌≡◌, suc, ◌-◌, [], ◌∷◌, ◌++◌, map, arith, length-append}
 use Rattle.std.proofs.lemmas.List.{map-append}
 use Rattle.wasm_read.proofs.Vectors.{items_more, items_stuck, vec_read, none_vec}
-use Rattle.wasm_read.proofs.vectors.front_rows.Goals as goal
+use Rattle.wasm_read.proofs.vector_items.front_rows.Goals as goal
 
 pub entries-preserved : goal.entries-preserved
 entries-preserved g c =
