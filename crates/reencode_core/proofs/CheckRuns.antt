@@ -1,14 +1,19 @@
 -- Runs of the reencoder that keeps the first refusal of a rule.
 use Rattle.std.proofs.Common.{◌≡◌, ◌≢◌, ℕ, List, [], ◌∷◌, map, true, IsTrue, Option, Some, None, Result, Ok, Err, refl, sym, ap, ap₂, ◌∙◌, subst, ◌⊎◌, inl, inr, ◌-◌, length}
+use Rattle.wasm_shapes.specs.declared.SectionId.{SectionId}
 use Rattle.wasm_shapes.specs.declared.Space.{Space}
 use Rattle.wasm_shapes.specs.declared.Visit.{Visit}
-use Rattle.wasm_shapes.specs.declared.Visit.TheVariants.{Index, Outer}
+use Rattle.wasm_shapes.specs.declared.Visit.TheVariants.{Index, Outer, Section}
 use Rattle.wasm_shapes.specs.Tree.{Tree, visits}
 use Rattle.wasm_shapes.specs.Own.{asked_index, own}
-use Rattle.wasm_shapes.specs.Spells.{Spells}
+use Rattle.wasm_shapes.specs.Shape.{Shape}
+use Rattle.wasm_shapes.specs.Spells.{Spelled, Spells}
 use Rattle.wasm_shapes.specs.CodeSize.{InvalidCodeSize}
-use Rattle.wasm_shapes.specs.Module.{core_module, FaultAt}
+use Rattle.wasm_shapes.specs.Module.{core_module, core_tree, alsos, FaultAt}
 use Rattle.wasm_shapes.proofs.OwnAnswers.{fill_own}
+use Rattle.wasm_shapes.proofs.Laws.{module_headed}
+use Rattle.wasm_read.specs.Names.{NamesStanding}
+use Rattle.wasm_read.specs.Reading.{Standing}
 use Rattle.wasm_write.proofs.FramesFit.{read_frames_fit}
 use Rattle.reencode_hooks.specs.declared.error.Error.{Error}
 use Rattle.reencode_hooks.specs.declared.error.Error.TheVariants.{InvalidCodeSectionSize, UnexpectedNonCoreModuleSection, ParseError, UserError, TooLarge, NoMemory}
@@ -19,9 +24,13 @@ use Rattle.reencode_hooks.specs.Walk.{walk}
 use Rattle.reencode_hooks.proofs.Walks.{walk_is_run}
 use Rattle.reencode_core.specs.declared.rule.Checking.{Checking}
 use Rattle.reencode_core.specs.Checks.{IsAccepted, IsNoModule, IsRefused, IsUnread, noted, refusal_of}
-use Rattle.reencode_core.specs.Core.{GivesBytes, NoHeader, FaultThere}
+use Rattle.reencode_core.specs.Core.{AcceptsSections, GivesBytes, NoHeader, FaultThere, RefusedIn, StopsThere}
+use Rattle.reencode_core.specs.Names.{RefusesEntry, RefusesSubsection, StopsNames}
+use Rattle.reencode_core.specs.Rows.{RefusesInside, RefusesRow, StopsBody, StopsDue, StopsEach}
 use Rattle.reencode_core.specs.Leaves.{IsSize, Leaves, core_in}
 use Rattle.reencode_core.specs.Rules.{IfUser, Refuses}
+use Rattle.reencode_core.specs.Sections.{StopsSection}
+use Rattle.reencode_core.proofs.Fronts.{reads_or_fails}
 use Rattle.reencode_core.proofs.Refusals.{refusal_tells}
 
 -- ---- a rule's first refusal of some visits
@@ -128,14 +137,64 @@ module _ {R E : Type 0} (renamed : R → Space → ℕ → Result ℕ E) where
     pub check_refuses : {out : A} {x : E} → GivesBytes asks 4294967295 bytes (start rule) m (Ok out) view → m.refusal ≡ Some x → IsRefused (renamed rule) bytes x
     check_refuses g some = let h = subst (Checked renamed rule bytes) some (checked g) in record { tree = h.tree; reading = h.reading; refuses = h.told }
 
+    -- What stands whole is accepted: its indices keep their numbers, and its frames are no longer than they stand.
+    never : {x : List ℕ} {e : Error E} {k : Checking R E} (s : Checking R E) (t : Tree) → Spelled t x → walk asks 4294967295 s t ≡ refused e k → ⊥
+    never {x = x} s t p refusal =
+        let accepts : walk asks 4294967295 s t ≡ accepted t (after s (visits t)) =
+        (walk_is_run asks).back 4294967295 s (after s (visits t)) t t x p
+        (record { given = own t; ran = runs s (visits t); filled = fill_own t; fits = read_frames_fit t x p }) in
+        absurd cc
+
+    never_row : {row : Shape} {rest : List ℕ} {s k : Checking R E} {e : Error E} → RefusesRow asks 4294967295 row rest s e k → ⊥
+    never_row {s = s} r = never s r.tree r.begins.spells.spelled r.refusal
+
+    never_each : {item : Shape} {rest : List ℕ} {s k : Checking R E} {e : Error E} → StopsEach asks 4294967295 item rest s e k → ⊥
+    never_each h = never h.state h.next h.begins.spells.spelled h.refuses
+
+    never_body : {body : List ℕ} {s k : Checking R E} {e : Error E} → StopsBody asks 4294967295 body s e k → ⊥
+    never_body {s = s} (inl h) = never s h.0 h.2.spells.spelled h.3
+    never_body (inr h) = never_each h.6
+
+    never_due : {row : Shape} {reader : Standing} {s k : Checking R E} {e : Error E} → StopsDue asks 4294967295 row reader s e k → ⊥
+    never_due {row = row} {k = k} {e = e} h = go h.refuses
+      where
+        go : RefusesRow asks 4294967295 row h.rest h.state e k ⊎ RefusesInside asks 4294967295 row h.rest h.state e k → ⊥
+        go (inl r) = never_row r
+        go (inr r) = never_body r.stops
+
+    never_names : {reader : NamesStanding} {s k : Checking R E} {e : Error E} → StopsNames asks 4294967295 reader s e k → ⊥
+    never_names {k = k} {e = e} h = go h.refuses
+      where
+        go : RefusesSubsection asks 4294967295 h.rest h.state e k ⊎ RefusesEntry asks h.rest 4294967295 h.state e k → ⊥
+        go (inl r) = never_row r
+        go (inr r) = never_each r.stops
+
+    never_there : {rest : List ℕ} {last : Option SectionId} {s k : Checking R E} {e : Error E} → StopsThere asks 4294967295 rest last s e k → ⊥
+    never_there (inr h) = never_names h.stops
+    never_there {last = last} {s = s} {k = k} {e = e} (inl h) = go h.stops
+      where
+        go : (asks s (Section last (Some h.id)) ≡ refused e k)
+            ⊎ ((n : Checking R E) × (asks s (Section last (Some h.id)) ≡ accepted 0 n) × StopsSection asks 4294967295 h.id h.body n e k) → ⊥
+        go (inl hook) = absurd cc
+        go (inr behind) = never_due behind.2.stops
+
     -- an error says that the bytes are no core module
     no_module : (e : Error E) → GivesBytes {A = A} asks 4294967295 bytes (start rule) m (Err e) view → e ≢ NoMemory → IsNoModule bytes
     no_module e g other t p =
-        let refusal : walk asks 4294967295 (start rule) t ≡ refused e m = g.reading t p other in
-        let accepts : walk asks 4294967295 (start rule) t ≡ accepted t (after (start rule) (visits t)) =
-        (walk_is_run asks).back 4294967295 (start rule) (after (start rule) (visits t)) t t bytes p.spelled
-        (record { given = own t; ran = runs (start rule) (visits t); filled = fill_own t; fits = read_frames_fit t bytes p.spelled }) in
-        absurd cc
+        never (start rule) t p.spelled (g.reading t p other)
+
+    -- no size is too large: the bytes have no reading, so a fault, and what stands before it is accepted
+    none_large : (size : ℕ) → GivesBytes {A = A} asks 4294967295 bytes (start rule) m (Err (TooLarge size)) view → ⊥
+    none_large size g =
+        let none = no_module (TooLarge size) g (λ same. absurd cc) in
+        let cause = g.cause in
+        reads_or_fails bytes cause.0.0 cause.0.1 (λ t p. none (core_tree t) (module_headed.forth bytes t p)) (λ before rest f. go before f (cause.1 before rest f))
+      where
+        go : (before : List Tree) {rest : List ℕ} → FaultAt bytes before rest → RefusedIn asks 4294967295 (start rule) before (TooLarge size) m
+            ⊎ ((made : List Tree) × (last : Option SectionId) × (n : Checking R E) × AcceptsSections asks 4294967295 (start rule) before made last n
+            × StopsThere asks 4294967295 rest last n (TooLarge size) m) → ⊥
+        go before f (inl refusal) = never (start rule) (alsos before Tree.finish) f.front.spells.spelled (refusal Tree.finish)
+        go before f (inr h) = never_there h.4
 
     pub check_unread : (e : Error E) → GivesBytes {A = A} asks 4294967295 bytes (start rule) m (Err e) view → IsUnread bytes e
     check_unread (UserError x) g = tt
@@ -143,5 +202,5 @@ module _ {R E : Type 0} (renamed : R → Space → ℕ → Result ℕ E) where
     check_unread (ParseError e) g = (no_module (ParseError e) g (λ same. absurd cc), fault e.at g.cause)
     check_unread InvalidCodeSectionSize g = let c = g.cause in (no_module InvalidCodeSectionSize g (λ same. absurd cc), (c.0, c.1, c.2, c.3))
     check_unread UnexpectedNonCoreModuleSection g = let c = g.cause in (no_module UnexpectedNonCoreModuleSection g (λ same. absurd cc), (c.0, c.1))
-    check_unread (TooLarge size) g = no_module (TooLarge size) g (λ same. absurd cc)
+    check_unread (TooLarge size) g = absurd (none_large size g)
     check_unread e g = absurd g.cause

@@ -7,7 +7,7 @@ use Rattle.wasm_shapes.specs.Spells.{Spells}
 use Rattle.wasm_shapes.specs.CodeSize.{InvalidCodeSize}
 use Rattle.wasm_shapes.specs.Module.{component_header, core_module, FaultAt}
 use Rattle.reencode_hooks.specs.declared.error.Error.{Error}
-use Rattle.reencode_hooks.specs.declared.error.Error.TheVariants.{InvalidCodeSectionSize, UnexpectedNonCoreModuleSection, ParseError, UserError, TooLarge, NoMemory}
+use Rattle.reencode_hooks.specs.declared.error.Error.TheVariants.{InvalidCodeSectionSize, UnexpectedNonCoreModuleSection, ParseError, UserError, NoMemory}
 use Rattle.reencode_hooks.specs.Rules.{by_rule}
 use Rattle.reencode_core.specs.Core.{NoHeader}
 use Rattle.reencode_core.specs.Rules.{Refuses}
@@ -31,6 +31,7 @@ IsNoModule bytes = (tree : Tree) → Spells core_module bytes tree → ⊥
 
 -- Any other error but out of memory says that the bytes are no core module. Neither header stands there, and the place is 0; or the
 -- place is the first where no section begins. There a code section may state a size past the end; or the header is a component's.
+-- `TooLarge` does not come: the indices keep their numbers.
 abbrev pub IsUnread : {E : Type 0} → List ℕ → Error E → Type 0
 IsUnread bytes (UserError refusal) = Unit {0}
 IsUnread bytes NoMemory = Unit {0}
@@ -39,7 +40,6 @@ IsUnread bytes (ParseError e) =
     ⊎ ((before : List Tree) × (rest : List ℕ) × FaultAt bytes before rest × ¬ InvalidCodeSize rest × (e.at ≡ length bytes - length rest)))
 IsUnread bytes InvalidCodeSectionSize = IsNoModule bytes × ((before : List Tree) × (rest : List ℕ) × FaultAt bytes before rest × InvalidCodeSize rest)
 IsUnread bytes UnexpectedNonCoreModuleSection = IsNoModule bytes × ((rest : List ℕ) × (bytes ≡ component_header ++ rest))
-IsUnread bytes (TooLarge size) = IsNoModule bytes
 IsUnread bytes _ = ⊥
 
 -- the first refusal so far
