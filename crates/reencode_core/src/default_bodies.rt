@@ -22,9 +22,9 @@ macro_rules! parse_element {
                 table_index,
                 offset_expr,
             } => {
-                let answer = $reencoder.table_index(shared::asked_table(table_index))?;
+                let answer = $reencoder.table_index(rows::asked_table(table_index))?;
                 let offset = $reencoder.const_expr($alloc, offset_expr)?;
-                let table = shared::answered_table(table_index, answer);
+                let table = rows::answered_table(table_index, answer);
                 $elements.active(table, &offset, &items)?;
                 Ok(())
             }

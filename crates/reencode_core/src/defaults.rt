@@ -1,6 +1,6 @@
 //! The reencoders that keep every default.
 use crate::reencode::Reencode;
-use crate::{direct, shared};
+use crate::{direct, rows};
 use reencode_hooks::{
     ByRule, Chain, Error, IndexRule, ReencodeIndices, Renamer, RoundtripReencoder,
 };
@@ -29,7 +29,7 @@ impl<T: DefaultSections> Reencode for T {
         if T::DIRECT_BODIES {
             direct::parse_function_body(self, alloc, code, func)
         } else {
-            shared::parse_function_body(self, alloc, code, func)
+            rows::parse_function_body(self, alloc, code, func)
         }
     }
 }

@@ -15,7 +15,7 @@ ghost use Rattle.reencode_core.specs.Clauses.{BodyClauses, BytesClauses, CodeSec
 
 use crate::errors::placed;
 use crate::sections::{Body, add_rows, add_section, read_body, take_section};
-use crate::{bodies, mapped, shared, subsections};
+use crate::{default_bodies, row_sections, rows, subsections};
 use reencode_hooks::Error;
 use reencode_items::ReencodeItems;
 use std::alloc::Global;
@@ -47,7 +47,7 @@ pub trait Reencode: ReencodeItems {
         ensures { RowsClauses Self.ReencodeIndices (row_of kinds.Type_) section.entry
             self.old types.old self.new types.new result }
     {
-        bodies::each_row!(section, alloc, row => types.group(&self.parse_recursive_type_group(alloc, row)?))
+        default_bodies::each_row!(section, alloc, row => types.group(&self.parse_recursive_type_group(alloc, row)?))
     }
 
     /// Maps each type of a group by `sub_type`.
@@ -63,7 +63,7 @@ pub trait Reencode: ReencodeItems {
             → LeavesVisited (ask Self.reply Self.next) self.old (visits (read.group_tree rec_group))
             self.new result }
     {
-        shared::parse_recursive_type_group(self, alloc, rec_group)
+        rows::parse_recursive_type_group(self, alloc, rec_group)
     }
 
     /// Maps the rows that the reader still has, each index by `type_index`, and adds each row once its index was answered.
@@ -76,7 +76,7 @@ pub trait Reencode: ReencodeItems {
         ensures { RowsClauses Self.ReencodeIndices (row_of kinds.Function) section.entry
             self.old functions.old self.new functions.new result }
     {
-        mapped::parse_function_section(self, alloc, functions, section)
+        row_sections::parse_function_section(self, alloc, functions, section)
     }
 
     /// Maps the rows that the reader still has, each by `parse_imports`.
@@ -89,7 +89,7 @@ pub trait Reencode: ReencodeItems {
         ensures { RowsClauses Self.ReencodeIndices (row_of kinds.Import) section.entry
             self.old imports.old self.new imports.new result }
     {
-        bodies::each_row!(section, alloc, row => self.parse_imports(alloc, imports, row))
+        default_bodies::each_row!(section, alloc, row => self.parse_imports(alloc, imports, row))
     }
 
     /// Maps an entry of an import section, its type by `entity_type`, and adds it.
@@ -102,7 +102,7 @@ pub trait Reencode: ReencodeItems {
         ensures { RowClauses Self.ReencodeIndices (read.import_tree imports.entry)
             self.old import_section.old self.new import_section.new result }
     {
-        shared::parse_imports(self, alloc, import_section, imports)
+        rows::parse_imports(self, alloc, import_section, imports)
     }
 
     /// Maps what is imported by `parse_imports`, as an entry of its own.
@@ -128,7 +128,7 @@ pub trait Reencode: ReencodeItems {
         ensures { RowsClauses Self.ReencodeIndices (row_of kinds.Table) section.entry
             self.old tables.old self.new tables.new result }
     {
-        bodies::each_row!(section, alloc, row => self.parse_table(alloc, tables, row))
+        default_bodies::each_row!(section, alloc, row => self.parse_table(alloc, tables, row))
     }
 
     /// Maps a table by `table_type`, and the expression of its first value by `const_expr` where it has one, and adds it.
@@ -141,7 +141,7 @@ pub trait Reencode: ReencodeItems {
         ensures { RowClauses Self.ReencodeIndices (read.table_tree table.entry)
             self.old tables.old self.new tables.new result }
     {
-        shared::parse_table(self, alloc, tables, table)
+        rows::parse_table(self, alloc, tables, table)
     }
 
     /// Maps the rows that the reader still has, each by `memory_type`, and adds each row once it is mapped.
@@ -154,7 +154,7 @@ pub trait Reencode: ReencodeItems {
         ensures { RowsClauses Self.ReencodeIndices (row_of kinds.Memory) section.entry
             self.old memories.old self.new memories.new result }
     {
-        mapped::parse_memory_section(self, alloc, memories, section)
+        row_sections::parse_memory_section(self, alloc, memories, section)
     }
 
     /// Maps the rows that the reader still has, each by `parse_global`.
@@ -167,7 +167,7 @@ pub trait Reencode: ReencodeItems {
         ensures { RowsClauses Self.ReencodeIndices (row_of kinds.Global) section.entry
             self.old globals.old self.new globals.new result }
     {
-        bodies::each_row!(section, alloc, row => self.parse_global(alloc, globals, row))
+        default_bodies::each_row!(section, alloc, row => self.parse_global(alloc, globals, row))
     }
 
     /// Maps a global by `global_type`, the expression of its first value by `const_expr`, and adds it.
@@ -180,7 +180,7 @@ pub trait Reencode: ReencodeItems {
         ensures { RowClauses Self.ReencodeIndices (read.global_tree global.entry)
             self.old globals.old self.new globals.new result }
     {
-        shared::parse_global(self, alloc, globals, global)
+        rows::parse_global(self, alloc, globals, global)
     }
 
     /// Maps the rows that the reader still has, each by `tag_type`, and adds each row once it is mapped.
@@ -193,7 +193,7 @@ pub trait Reencode: ReencodeItems {
         ensures { RowsClauses Self.ReencodeIndices (row_of kinds.Tag) section.entry
             self.old tags.old self.new tags.new result }
     {
-        mapped::parse_tag_section(self, alloc, tags, section)
+        row_sections::parse_tag_section(self, alloc, tags, section)
     }
 
     /// Maps the rows that the reader still has, each by `parse_export`.
@@ -206,7 +206,7 @@ pub trait Reencode: ReencodeItems {
         ensures { RowsClauses Self.ReencodeIndices (row_of kinds.Export) section.entry
             self.old exports.old self.new exports.new result }
     {
-        bodies::each_row!(section, alloc, row => self.parse_export(exports, row))
+        default_bodies::each_row!(section, alloc, row => self.parse_export(exports, row))
     }
 
     /// Maps an export by `export_kind` and `external_index`, and adds it.
@@ -218,7 +218,7 @@ pub trait Reencode: ReencodeItems {
         ensures { RowClauses Self.ReencodeIndices (read.export_tree export.entry)
             self.old exports.old self.new exports.new result }
     {
-        shared::parse_export(self, exports, export)
+        rows::parse_export(self, exports, export)
     }
 
     /// The index of the function that starts the module, by `function_index` (WebAssembly Core Specification 3.0, section
@@ -241,7 +241,7 @@ pub trait Reencode: ReencodeItems {
         ensures { RowsClauses Self.ReencodeIndices (row_of kinds.Element) section.entry
             self.old elements.old self.new elements.new result }
     {
-        bodies::each_row!(section, alloc, row => self.parse_element(alloc, elements, row))
+        default_bodies::each_row!(section, alloc, row => self.parse_element(alloc, elements, row))
     }
 
     /// Maps an element segment, and adds it: what it lists by `element_items`, then its table by `table_index` and its
@@ -256,7 +256,7 @@ pub trait Reencode: ReencodeItems {
         ensures { RowClauses Self.ReencodeIndices (read.element_tree element.entry)
             self.old elements.old self.new elements.new result }
     {
-        bodies::parse_element!(self, alloc, elements, element)
+        default_bodies::parse_element!(self, alloc, elements, element)
     }
 
     /// Maps what an element segment lists: functions each by `function_index`, or expressions each by `const_expr` and
@@ -273,7 +273,7 @@ pub trait Reencode: ReencodeItems {
             → LeavesVisited (ask Self.reply Self.next) self.old
             (visits (read.element_items_tree items.entry)) self.new result }
     {
-        shared::element_items(self, alloc, items)
+        rows::element_items(self, alloc, items)
     }
 
     /// Maps the rows that the reader still has, each by `parse_function_body`. A `ParseError` holds the place of the row in
@@ -287,7 +287,7 @@ pub trait Reencode: ReencodeItems {
         ensures { CodeSectionClauses Self.ReencodeIndices section.entry
             self.old code.old self.new code.new result }
     {
-        bodies::parse_code_section!(self, alloc, code, section)
+        default_bodies::parse_code_section!(self, alloc, code, section)
     }
 
     /// Maps the locals of a body by `new_function_with_parsed_locals` and its operators by `parse_instruction`, and adds the
@@ -301,7 +301,7 @@ pub trait Reencode: ReencodeItems {
         ensures { BodyClauses Self.ReencodeIndices func.entry.bytes.now
             self.old code.old self.new code.new result }
     {
-        bodies::parse_function_body!(
+        default_bodies::parse_function_body!(
             self,
             alloc,
             code,
@@ -318,7 +318,7 @@ pub trait Reencode: ReencodeItems {
     ) -> Result<w::Function, Error<Self::Error>>
         ensures { LocalsClauses Self.ReencodeIndices func.now.bytes.now self.old self.new result }
     {
-        shared::new_function_with_parsed_locals(self, alloc, func)
+        rows::new_function_with_parsed_locals(self, alloc, func)
     }
 
     /// Maps the rows that the reader still has, each by `parse_data`.
@@ -331,7 +331,7 @@ pub trait Reencode: ReencodeItems {
         ensures { RowsClauses Self.ReencodeIndices (row_of kinds.Data) section.entry
             self.old segments.old self.new segments.new result }
     {
-        bodies::each_row!(section, alloc, row => self.parse_data(alloc, segments, row))
+        default_bodies::each_row!(section, alloc, row => self.parse_data(alloc, segments, row))
     }
 
     /// Maps a data segment and adds it. The memory of an active one is mapped by `memory_index`, and then its offset by
@@ -345,7 +345,7 @@ pub trait Reencode: ReencodeItems {
         ensures { RowClauses Self.ReencodeIndices (read.data_tree datum.entry)
             self.old segments.old self.new segments.new result }
     {
-        shared::parse_data(self, alloc, segments, datum)
+        rows::parse_data(self, alloc, segments, datum)
     }
 
     /// Maps the body of a section of a kind by the methods of that kind, and adds the section. It calls no section hook.
@@ -359,7 +359,7 @@ pub trait Reencode: ReencodeItems {
         ensures { SectionClauses Self.ReencodeIndices id body.now
             self.old «module».old self.new «module».new result }
     {
-        bodies::parse_section!(self, alloc, module, id, body)
+        default_bodies::parse_section!(self, alloc, module, id, body)
     }
 
     /// A custom section as it is, whatever its name.
@@ -372,7 +372,7 @@ pub trait Reencode: ReencodeItems {
             write.custom_section_tree self.new result }
         ensures sure { IsTrue Self.keeps_defaults → NeverWants Self.sure result }
     {
-        Ok(shared::custom_section(self, section))
+        Ok(rows::custom_section(self, section))
     }
 
     /// Maps a custom section and adds it: one named `name` by `custom_name_section`, and any other by `custom_section`. It calls
@@ -386,7 +386,7 @@ pub trait Reencode: ReencodeItems {
         ensures { CustomClauses Self.ReencodeIndices section.entry.name.now section.entry.contents.now
             self.old «module».old self.new «module».new result }
     {
-        bodies::parse_custom_section!(self, alloc, module, section)
+        default_bodies::parse_custom_section!(self, alloc, module, section)
     }
 
     /// Adds a section of an id that no kind has, by its bytes. It calls no section hook.
@@ -400,7 +400,7 @@ pub trait Reencode: ReencodeItems {
         ensures { UnknownClauses Self.ReencodeIndices id contents.now
             self.old «module».old self.new «module».new result }
     {
-        shared::parse_unknown_section(self, module, id, contents)
+        rows::parse_unknown_section(self, module, id, contents)
     }
 
     /// Maps the subsections that the reader still has, each by `parse_custom_name_subsection`. No subsection that is written may
@@ -413,7 +413,7 @@ pub trait Reencode: ReencodeItems {
     ) -> Result<w::NameSection, Error<Self::Error>>
         ensures { NamesClauses Self.ReencodeIndices ceiling section.entry self.old self.new result }
     {
-        bodies::custom_name_section!(self, alloc, section, ceiling)
+        default_bodies::custom_name_section!(self, alloc, section, ceiling)
     }
 
     /// Maps a name subsection and adds it. The indices of a map are mapped by the method of their space; of an indirect map the
@@ -441,7 +441,7 @@ pub trait Reencode: ReencodeItems {
         ensures { ModuleClauses Self.ReencodeIndices bytes.now
             self.old «module».old self.new «module».new result }
     {
-        bodies::parse_core_module!(self, alloc, module, bytes)
+        default_bodies::parse_core_module!(self, alloc, module, bytes)
     }
 }
 

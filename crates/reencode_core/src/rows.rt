@@ -226,7 +226,7 @@ pub(crate) fn parse_function_body<T: ReencodeItems>(
     ensures { BodyClauses T.ReencodeIndices func.entry.bytes.now
         reencoder.old code.old reencoder.new code.new result }
 {
-    bodies::parse_function_body!(
+    default_bodies::parse_function_body!(
         reencoder,
         alloc,
         code,

@@ -17,7 +17,7 @@ pub use crate::rows::{
 };
 use crate::sections::{Body, add_rows, add_section, read_body, take_section};
 pub use crate::subsections::parse_custom_name_subsection;
-use crate::{bodies, shared};
+use crate::{default_bodies, rows};
 use reencode_hooks::Error;
 use std::alloc::Global;
 use wasm_read as r;
@@ -34,7 +34,7 @@ pub fn parse_type_section<T: Reencode>(
     ensures { RowsClauses T.ReencodeIndices (row_of kinds.Type_) section.entry
         reencoder.old types.old reencoder.new types.new result }
 {
-    bodies::each_row!(section, alloc, row => types.group(&reencoder.parse_recursive_type_group(alloc, row)?))
+    default_bodies::each_row!(section, alloc, row => types.group(&reencoder.parse_recursive_type_group(alloc, row)?))
 }
 
 /// Maps the rows that the reader still has, each by `parse_imports`.
@@ -47,7 +47,7 @@ pub fn parse_import_section<T: Reencode>(
     ensures { RowsClauses T.ReencodeIndices (row_of kinds.Import) section.entry
         reencoder.old imports.old reencoder.new imports.new result }
 {
-    bodies::each_row!(section, alloc, row => reencoder.parse_imports(alloc, imports, row))
+    default_bodies::each_row!(section, alloc, row => reencoder.parse_imports(alloc, imports, row))
 }
 
 /// Maps what is imported by `parse_imports`, as an entry of its own.
@@ -73,7 +73,7 @@ pub fn parse_table_section<T: Reencode>(
     ensures { RowsClauses T.ReencodeIndices (row_of kinds.Table) section.entry
         reencoder.old tables.old reencoder.new tables.new result }
 {
-    bodies::each_row!(section, alloc, row => reencoder.parse_table(alloc, tables, row))
+    default_bodies::each_row!(section, alloc, row => reencoder.parse_table(alloc, tables, row))
 }
 
 /// Maps the rows that the reader still has, each by `parse_global`.
@@ -86,7 +86,7 @@ pub fn parse_global_section<T: Reencode>(
     ensures { RowsClauses T.ReencodeIndices (row_of kinds.Global) section.entry
         reencoder.old globals.old reencoder.new globals.new result }
 {
-    bodies::each_row!(section, alloc, row => reencoder.parse_global(alloc, globals, row))
+    default_bodies::each_row!(section, alloc, row => reencoder.parse_global(alloc, globals, row))
 }
 
 /// Maps the rows that the reader still has, each by `parse_export`.
@@ -99,7 +99,7 @@ pub fn parse_export_section<T: Reencode>(
     ensures { RowsClauses T.ReencodeIndices (row_of kinds.Export) section.entry
         reencoder.old exports.old reencoder.new exports.new result }
 {
-    bodies::each_row!(section, alloc, row => reencoder.parse_export(exports, row))
+    default_bodies::each_row!(section, alloc, row => reencoder.parse_export(exports, row))
 }
 
 /// Maps the rows that the reader still has, each by `parse_element`.
@@ -112,7 +112,7 @@ pub fn parse_element_section<T: Reencode>(
     ensures { RowsClauses T.ReencodeIndices (row_of kinds.Element) section.entry
         reencoder.old elements.old reencoder.new elements.new result }
 {
-    bodies::each_row!(section, alloc, row => reencoder.parse_element(alloc, elements, row))
+    default_bodies::each_row!(section, alloc, row => reencoder.parse_element(alloc, elements, row))
 }
 
 /// Maps an element segment, and adds it: what it lists by `element_items`, then its table by `table_index` and its
@@ -127,7 +127,7 @@ pub fn parse_element<T: Reencode>(
     ensures { RowClauses T.ReencodeIndices (read.element_tree element.entry)
         reencoder.old elements.old reencoder.new elements.new result }
 {
-    bodies::parse_element!(reencoder, alloc, elements, element)
+    default_bodies::parse_element!(reencoder, alloc, elements, element)
 }
 
 /// Maps the rows that the reader still has, each by `parse_function_body`. A `ParseError` holds the place of the row in
@@ -141,7 +141,7 @@ pub fn parse_code_section<T: Reencode>(
     ensures { CodeSectionClauses T.ReencodeIndices section.entry
         reencoder.old code.old reencoder.new code.new result }
 {
-    bodies::parse_code_section!(reencoder, alloc, code, section)
+    default_bodies::parse_code_section!(reencoder, alloc, code, section)
 }
 
 /// Maps the locals of a body by `new_function_with_parsed_locals` and its operators by `parse_instruction`, and adds the
@@ -155,7 +155,7 @@ pub fn parse_function_body<T: Reencode>(
     ensures { BodyClauses T.ReencodeIndices func.entry.bytes.now
         reencoder.old code.old reencoder.new code.new result }
 {
-    bodies::parse_function_body!(
+    default_bodies::parse_function_body!(
         reencoder,
         alloc,
         code,
@@ -174,7 +174,7 @@ pub fn parse_data_section<T: Reencode>(
     ensures { RowsClauses T.ReencodeIndices (row_of kinds.Data) section.entry
         reencoder.old segments.old reencoder.new segments.new result }
 {
-    bodies::each_row!(section, alloc, row => reencoder.parse_data(alloc, segments, row))
+    default_bodies::each_row!(section, alloc, row => reencoder.parse_data(alloc, segments, row))
 }
 
 /// Maps the body of a section of a kind by the methods of that kind, and adds the section. It calls no section hook.
@@ -188,7 +188,7 @@ pub fn parse_section<T: Reencode>(
     ensures { SectionClauses T.ReencodeIndices id body.now
         reencoder.old «module».old reencoder.new «module».new result }
 {
-    bodies::parse_section!(reencoder, alloc, module, id, body)
+    default_bodies::parse_section!(reencoder, alloc, module, id, body)
 }
 
 /// Maps a custom section and adds it: one named `name` by `custom_name_section`, and any other by `custom_section`. It calls
@@ -202,7 +202,7 @@ pub fn parse_custom_section<T: Reencode>(
     ensures { CustomClauses T.ReencodeIndices section.entry.name.now section.entry.contents.now
         reencoder.old «module».old reencoder.new «module».new result }
 {
-    bodies::parse_custom_section!(reencoder, alloc, module, section)
+    default_bodies::parse_custom_section!(reencoder, alloc, module, section)
 }
 
 /// Maps the subsections that the reader still has, each by `parse_custom_name_subsection`. No subsection that is written may
@@ -216,7 +216,7 @@ pub fn custom_name_section<T: Reencode>(
     ensures { NamesClauses T.ReencodeIndices ceiling section.entry
         reencoder.old reencoder.new result }
 {
-    bodies::custom_name_section!(reencoder, alloc, section, ceiling)
+    default_bodies::custom_name_section!(reencoder, alloc, section, ceiling)
 }
 
 /// Reads a module and adds what its sections become. The section hook is called before each section and at the end.
@@ -229,5 +229,5 @@ pub fn parse_core_module<T: Reencode>(
     ensures { ModuleClauses T.ReencodeIndices bytes.now
         reencoder.old «module».old reencoder.new «module».new result }
 {
-    bodies::parse_core_module!(reencoder, alloc, module, bytes)
+    default_bodies::parse_core_module!(reencoder, alloc, module, bytes)
 }

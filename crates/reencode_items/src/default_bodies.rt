@@ -129,8 +129,8 @@ macro_rules! each_val_type {
 macro_rules! func_type {
     ($reencoder:ident, $alloc:ident, $func_ty:ident) => {
         {
-            let params = bodies::each_val_type!($reencoder, $alloc, $func_ty.params);
-            let results = bodies::each_val_type!($reencoder, $alloc, $func_ty.results);
+            let params = default_bodies::each_val_type!($reencoder, $alloc, $func_ty.params);
+            let results = default_bodies::each_val_type!($reencoder, $alloc, $func_ty.results);
             Ok(w::FuncType { params, results })
         }
     };
@@ -169,7 +169,7 @@ macro_rules! sub_type {
 
 macro_rules! val_types {
     ($reencoder:ident, $alloc:ident, $val_tys:ident) => {
-        Ok(bodies::each_val_type!($reencoder, $alloc, $val_tys))
+        Ok(default_bodies::each_val_type!($reencoder, $alloc, $val_tys))
     };
 }
 

@@ -11,7 +11,7 @@ ghost use Rattle.wasm_write.specs.Rows as rows;
 ghost use Rattle.wasm_write.specs.Types as write;
 ghost use Rattle.reencode_items.specs.Maps.{LeavesOperator, Maps, MovesOn, ParsesOperator};
 
-use crate::{bodies, indices, kinds};
+use crate::{default_bodies, indices, kinds};
 use reencode_hooks::{Error, ReencodeIndices};
 use std::alloc::Global;
 use wasm_leb::List;
@@ -71,7 +71,7 @@ pub trait ReencodeItems: ReencodeIndices {
             (λ ty. write.field_type_tree ty.0) self.new result }
         ensures sure { IsTrue Self.keeps_defaults → NeverWants Self.sure result }
     {
-        bodies::array_type!(self, array_ty)
+        default_bodies::array_type!(self, array_ty)
     }
 
     /// A continuation by the type of its function.
@@ -82,7 +82,7 @@ pub trait ReencodeItems: ReencodeIndices {
             (λ ty. write.signed_index ty.0) self.new result }
         ensures sure { IsTrue Self.keeps_defaults → NeverWants Self.sure result }
     {
-        bodies::cont_type!(self, cont_ty)
+        default_bodies::cont_type!(self, cont_ty)
     }
 
     /// The kind of what is exported (section 5.5.10): with each index it is the same item. An exact function becomes a
@@ -106,7 +106,7 @@ pub trait ReencodeItems: ReencodeIndices {
             write.field_type_tree self.new result }
         ensures sure { IsTrue Self.keeps_defaults → NeverWants Self.sure result }
     {
-        bodies::field_type!(self, field_ty)
+        default_bodies::field_type!(self, field_ty)
     }
 
     /// What a reference points to (section 5.3.3).
@@ -117,7 +117,7 @@ pub trait ReencodeItems: ReencodeIndices {
             write.heap_type_tree self.new result }
         ensures sure { IsTrue Self.keeps_defaults → NeverWants Self.sure result }
     {
-        bodies::heap_type!(self, heap_type)
+        default_bodies::heap_type!(self, heap_type)
     }
 
     /// A reference type (section 5.3.4).
@@ -128,7 +128,7 @@ pub trait ReencodeItems: ReencodeIndices {
             write.ref_type_tree self.new result }
         ensures sure { IsTrue Self.keeps_defaults → NeverWants Self.sure result }
     {
-        bodies::ref_type!(self, ref_type)
+        default_bodies::ref_type!(self, ref_type)
     }
 
     /// The type of a field as it is stored (section 5.3.8).
@@ -141,7 +141,7 @@ pub trait ReencodeItems: ReencodeIndices {
             write.storage_type_tree self.new result }
         ensures sure { IsTrue Self.keeps_defaults → NeverWants Self.sure result }
     {
-        bodies::storage_type!(self, storage_ty)
+        default_bodies::storage_type!(self, storage_ty)
     }
 
     /// A value type (section 5.3.5).
@@ -151,7 +151,7 @@ pub trait ReencodeItems: ReencodeIndices {
             write.val_type_tree self.new result }
         ensures sure { IsTrue Self.keeps_defaults → NeverWants Self.sure result }
     {
-        bodies::val_type!(self, val_ty)
+        default_bodies::val_type!(self, val_ty)
     }
 
     /// A composite type (section 5.3.8). What it holds is asked before the type that describes it, and that before the
@@ -169,7 +169,7 @@ pub trait ReencodeItems: ReencodeIndices {
             → LeavesVisited (ask Self.reply Self.next) self.old
             (visits (read.composite_tree composite_ty)) self.new result }
     {
-        bodies::composite_type!(self, alloc, composite_ty)
+        default_bodies::composite_type!(self, alloc, composite_ty)
     }
 
     /// The parameters and results of a function (section 5.3.8), each by the method `val_type`.
@@ -185,7 +185,7 @@ pub trait ReencodeItems: ReencodeIndices {
             → LeavesVisited (ask Self.reply Self.next) self.old
             (visits (read.func_type_tree func_ty)) self.new result }
     {
-        bodies::func_type!(self, alloc, func_ty)
+        default_bodies::func_type!(self, alloc, func_ty)
     }
 
     /// A structure by its fields (section 5.3.8).
@@ -201,7 +201,7 @@ pub trait ReencodeItems: ReencodeIndices {
             → LeavesVisited (ask Self.reply Self.next) self.old
             (visits (read.fields_tree struct_ty.fields)) self.new result }
     {
-        bodies::struct_type!(self, alloc, struct_ty)
+        default_bodies::struct_type!(self, alloc, struct_ty)
     }
 
     /// A composite type with its supertypes, which are asked first (section 5.3.9).
@@ -217,7 +217,7 @@ pub trait ReencodeItems: ReencodeIndices {
             → LeavesVisited (ask Self.reply Self.next) self.old
             (visits (read.sub_type_tree sub_ty)) self.new result }
     {
-        bodies::sub_type!(self, alloc, sub_ty)
+        default_bodies::sub_type!(self, alloc, sub_ty)
     }
 
     /// Value types, each by the method `val_type`. There are as many as there were, also where the defaults are not kept.
@@ -234,7 +234,7 @@ pub trait ReencodeItems: ReencodeIndices {
             → LeavesVisited (ask Self.reply Self.next) self.old
             (visits (read.val_types_tree val_tys)) self.new result }
     {
-        bodies::val_types!(self, alloc, val_tys)
+        default_bodies::val_types!(self, alloc, val_tys)
     }
 
     /// A table: its elements, by the method `ref_type`, and its limits (section 5.3.11).
@@ -244,7 +244,7 @@ pub trait ReencodeItems: ReencodeIndices {
             write.table_type_tree self.new result }
         ensures sure { IsTrue Self.keeps_defaults → NeverWants Self.sure result }
     {
-        bodies::table_type!(self, table_ty)
+        default_bodies::table_type!(self, table_ty)
     }
 
     /// A memory by its limits (section 5.3.12).
@@ -264,7 +264,7 @@ pub trait ReencodeItems: ReencodeIndices {
             write.global_type_tree self.new result }
         ensures sure { IsTrue Self.keeps_defaults → NeverWants Self.sure result }
     {
-        bodies::global_type!(self, global_ty)
+        default_bodies::global_type!(self, global_ty)
     }
 
     /// What a tag is for (section 5.3.14): with each index it is the same tag.
@@ -286,7 +286,7 @@ pub trait ReencodeItems: ReencodeIndices {
             write.tag_type_tree self.new result }
         ensures sure { IsTrue Self.keeps_defaults → NeverWants Self.sure result }
     {
-        bodies::tag_type!(self, tag_ty)
+        default_bodies::tag_type!(self, tag_ty)
     }
 
     /// The type of what is imported (section 5.3.15).
@@ -296,7 +296,7 @@ pub trait ReencodeItems: ReencodeIndices {
             write.entity_tree self.new result }
         ensures sure { IsTrue Self.keeps_defaults → NeverWants Self.sure result }
     {
-        bodies::entity_type!(self, type_ref)
+        default_bodies::entity_type!(self, type_ref)
     }
 
     /// The type of a block (section 5.4.1).
@@ -306,7 +306,7 @@ pub trait ReencodeItems: ReencodeIndices {
             instructions.block_type_tree self.new result }
         ensures sure { IsTrue Self.keeps_defaults → NeverWants Self.sure result }
     {
-        bodies::block_type!(self, arg)
+        default_bodies::block_type!(self, arg)
     }
 
     /// Where a memory access goes (section 5.4.6): its memory, also where it was left out. The alignment and the offset
@@ -385,7 +385,7 @@ pub trait ReencodeItems: ReencodeIndices {
             → LeavesVisited (ask Self.reply Self.next) self.old
             (visits (immediates.imm_tree imm.entry)) self.new result }
     {
-        bodies::immediate!(self, alloc, imm)
+        default_bodies::immediate!(self, alloc, imm)
     }
 
     /// An operator (section 5.4), each immediate by the method `immediate`.
@@ -401,7 +401,7 @@ pub trait ReencodeItems: ReencodeIndices {
             → LeavesVisited (ask Self.reply Self.next) self.old
             (visits (immediates.operator_tree arg.entry)) self.new result }
     {
-        bodies::instruction!(self, alloc, arg)
+        default_bodies::instruction!(self, alloc, arg)
     }
 
     /// The operator that begins at a reader's place, by the method `instruction`. The reader stands further on then, also
@@ -421,7 +421,7 @@ pub trait ReencodeItems: ReencodeIndices {
         ensures after_error { IsTrue Self.keeps_defaults → IsTrue Self.sure
             → LeavesOperator (ask Self.reply Self.next) self.old reader.old self.new result }
     {
-        bodies::parse_instruction!(self, alloc, reader)
+        default_bodies::parse_instruction!(self, alloc, reader)
     }
 
     /// A constant expression (section 5.4.13), each operator before its `end` by the method `parse_instruction`.
@@ -440,6 +440,6 @@ pub trait ReencodeItems: ReencodeIndices {
             → LeavesVisited (ask Self.reply Self.next) self.old
             (visits (expr_tree const_expr.entry)) self.new result }
     {
-        bodies::const_expr!(self, alloc, const_expr)
+        default_bodies::const_expr!(self, alloc, const_expr)
     }
 }

@@ -18,7 +18,7 @@ use crate::items::ReencodeItems;
 pub use crate::kinds::{
     abstract_heap_type, export_kind, ieee32_arg, ieee64_arg, memory_type, ordering, tag_kind,
 };
-use crate::{bodies, indices};
+use crate::{default_bodies, indices};
 use reencode_hooks::Error;
 use std::alloc::Global;
 use wasm_leb::List;
@@ -36,7 +36,7 @@ pub fn array_type<T: ReencodeItems>(
         (λ ty. write.field_type_tree ty.0) reencoder.new result }
     ensures sure { IsTrue T.keeps_defaults → NeverWants T.sure result }
 {
-    bodies::array_type!(reencoder, array_ty)
+    default_bodies::array_type!(reencoder, array_ty)
 }
 
 /// A continuation by the type of its function.
@@ -50,7 +50,7 @@ pub fn cont_type<T: ReencodeItems>(
         (λ ty. write.signed_index ty.0) reencoder.new result }
     ensures sure { IsTrue T.keeps_defaults → NeverWants T.sure result }
 {
-    bodies::cont_type!(reencoder, cont_ty)
+    default_bodies::cont_type!(reencoder, cont_ty)
 }
 
 /// A field of a structure or of an array (section 5.3.8).
@@ -63,7 +63,7 @@ pub fn field_type<T: ReencodeItems>(
         write.field_type_tree reencoder.new result }
     ensures sure { IsTrue T.keeps_defaults → NeverWants T.sure result }
 {
-    bodies::field_type!(reencoder, field_ty)
+    default_bodies::field_type!(reencoder, field_ty)
 }
 
 /// What a reference points to (section 5.3.3).
@@ -77,7 +77,7 @@ pub fn heap_type<T: ReencodeItems>(
         write.heap_type_tree reencoder.new result }
     ensures sure { IsTrue T.keeps_defaults → NeverWants T.sure result }
 {
-    bodies::heap_type!(reencoder, heap_type)
+    default_bodies::heap_type!(reencoder, heap_type)
 }
 
 /// A reference type (section 5.3.4).
@@ -91,7 +91,7 @@ pub fn ref_type<T: ReencodeItems>(
         write.ref_type_tree reencoder.new result }
     ensures sure { IsTrue T.keeps_defaults → NeverWants T.sure result }
 {
-    bodies::ref_type!(reencoder, ref_type)
+    default_bodies::ref_type!(reencoder, ref_type)
 }
 
 /// The type of a field as it is stored (section 5.3.8).
@@ -104,7 +104,7 @@ pub fn storage_type<T: ReencodeItems>(
         write.storage_type_tree reencoder.new result }
     ensures sure { IsTrue T.keeps_defaults → NeverWants T.sure result }
 {
-    bodies::storage_type!(reencoder, storage_ty)
+    default_bodies::storage_type!(reencoder, storage_ty)
 }
 
 /// A value type (section 5.3.5).
@@ -117,7 +117,7 @@ pub fn val_type<T: ReencodeItems>(
         write.val_type_tree reencoder.new result }
     ensures sure { IsTrue T.keeps_defaults → NeverWants T.sure result }
 {
-    bodies::val_type!(reencoder, val_ty)
+    default_bodies::val_type!(reencoder, val_ty)
 }
 
 /// A composite type (section 5.3.8). What it holds is asked before the type that describes it, and that before the
@@ -135,7 +135,7 @@ pub fn composite_type<T: ReencodeItems>(
         → LeavesVisited (ask T.reply T.next) reencoder.old
         (visits (read.composite_tree composite_ty)) reencoder.new result }
 {
-    bodies::composite_type!(reencoder, alloc, composite_ty)
+    default_bodies::composite_type!(reencoder, alloc, composite_ty)
 }
 
 /// The parameters and results of a function (section 5.3.8), each by the method `val_type`.
@@ -151,7 +151,7 @@ pub fn func_type<T: ReencodeItems>(
         → LeavesVisited (ask T.reply T.next) reencoder.old
         (visits (read.func_type_tree func_ty)) reencoder.new result }
 {
-    bodies::func_type!(reencoder, alloc, func_ty)
+    default_bodies::func_type!(reencoder, alloc, func_ty)
 }
 
 /// A structure by its fields (section 5.3.8).
@@ -167,7 +167,7 @@ pub fn struct_type<T: ReencodeItems>(
         → LeavesVisited (ask T.reply T.next) reencoder.old
         (visits (read.fields_tree struct_ty.fields)) reencoder.new result }
 {
-    bodies::struct_type!(reencoder, alloc, struct_ty)
+    default_bodies::struct_type!(reencoder, alloc, struct_ty)
 }
 
 /// A composite type with its supertypes, which are asked first (section 5.3.9).
@@ -183,7 +183,7 @@ pub fn sub_type<T: ReencodeItems>(
         → LeavesVisited (ask T.reply T.next) reencoder.old
         (visits (read.sub_type_tree sub_ty)) reencoder.new result }
 {
-    bodies::sub_type!(reencoder, alloc, sub_ty)
+    default_bodies::sub_type!(reencoder, alloc, sub_ty)
 }
 
 /// Value types, each by the method `val_type`. There are as many as there were, also where the defaults are not kept.
@@ -200,7 +200,7 @@ pub fn val_types<T: ReencodeItems>(
         → LeavesVisited (ask T.reply T.next) reencoder.old
         (visits (read.val_types_tree val_tys)) reencoder.new result }
 {
-    bodies::val_types!(reencoder, alloc, val_tys)
+    default_bodies::val_types!(reencoder, alloc, val_tys)
 }
 
 /// A table: its elements, by the method `ref_type`, and its limits (section 5.3.11).
@@ -213,7 +213,7 @@ pub fn table_type<T: ReencodeItems>(
         write.table_type_tree reencoder.new result }
     ensures sure { IsTrue T.keeps_defaults → NeverWants T.sure result }
 {
-    bodies::table_type!(reencoder, table_ty)
+    default_bodies::table_type!(reencoder, table_ty)
 }
 
 /// A global: its type, by the method `val_type`, and whether it may change (section 5.3.13).
@@ -226,7 +226,7 @@ pub fn global_type<T: ReencodeItems>(
         write.global_type_tree reencoder.new result }
     ensures sure { IsTrue T.keeps_defaults → NeverWants T.sure result }
 {
-    bodies::global_type!(reencoder, global_ty)
+    default_bodies::global_type!(reencoder, global_ty)
 }
 
 /// A tag, by the index of its function type (section 5.3.14).
@@ -239,7 +239,7 @@ pub fn tag_type<T: ReencodeItems>(
         write.tag_type_tree reencoder.new result }
     ensures sure { IsTrue T.keeps_defaults → NeverWants T.sure result }
 {
-    bodies::tag_type!(reencoder, tag_ty)
+    default_bodies::tag_type!(reencoder, tag_ty)
 }
 
 /// The type of what is imported (section 5.3.15).
@@ -252,7 +252,7 @@ pub fn entity_type<T: ReencodeItems>(
         write.entity_tree reencoder.new result }
     ensures sure { IsTrue T.keeps_defaults → NeverWants T.sure result }
 {
-    bodies::entity_type!(reencoder, type_ref)
+    default_bodies::entity_type!(reencoder, type_ref)
 }
 
 /// The type of a block (section 5.4.1).
@@ -265,7 +265,7 @@ pub fn block_type<T: ReencodeItems>(
         instructions.block_type_tree reencoder.new result }
     ensures sure { IsTrue T.keeps_defaults → NeverWants T.sure result }
 {
-    bodies::block_type!(reencoder, arg)
+    default_bodies::block_type!(reencoder, arg)
 }
 
 /// An immediate of an operator (section 5.4) that has a kind: its types, its memory access, what it catches or handles, its
@@ -286,7 +286,7 @@ pub fn immediate<'a, T: ReencodeItems>(
         → LeavesVisited (ask T.reply T.next) reencoder.old
         (visits (immediates.imm_tree imm.entry)) reencoder.new result }
 {
-    bodies::immediate!(reencoder, alloc, imm)
+    default_bodies::immediate!(reencoder, alloc, imm)
 }
 
 /// An operator (section 5.4), each immediate by the method `immediate`.
@@ -302,7 +302,7 @@ pub fn instruction<'a, T: ReencodeItems>(
         → LeavesVisited (ask T.reply T.next) reencoder.old
         (visits (immediates.operator_tree arg.entry)) reencoder.new result }
 {
-    bodies::instruction!(reencoder, alloc, arg)
+    default_bodies::instruction!(reencoder, alloc, arg)
 }
 
 /// The operator that begins at a reader's place, by the method `instruction`. The reader stands further on then, also
@@ -322,7 +322,7 @@ pub fn parse_instruction<'a, T: ReencodeItems>(
     ensures after_error { IsTrue T.keeps_defaults → IsTrue T.sure
         → LeavesOperator (ask T.reply T.next) reencoder.old reader.old reencoder.new result }
 {
-    bodies::parse_instruction!(reencoder, alloc, reader)
+    default_bodies::parse_instruction!(reencoder, alloc, reader)
 }
 
 /// A constant expression (section 5.4.13), each operator before its `end` by the method `parse_instruction`.
@@ -341,5 +341,5 @@ pub fn const_expr<T: ReencodeItems>(
         → LeavesVisited (ask T.reply T.next) reencoder.old (visits (expr_tree const_expr.entry))
         reencoder.new result }
 {
-    bodies::const_expr!(reencoder, alloc, const_expr)
+    default_bodies::const_expr!(reencoder, alloc, const_expr)
 }
