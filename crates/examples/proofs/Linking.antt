@@ -20,26 +20,25 @@ use Rattle.wasm_read.specs.Reading.{CountRead, ReadsNone, Standing}
 use Rattle.reencode_hooks.specs.declared.error.Error.{Error}
 use Rattle.reencode_hooks.specs.declared.error.Error.TheVariants.{NoMemory}
 use Rattle.reencode_hooks.specs.declared.rule.ByRule.{ByRule}
+use Rattle.reencode_hooks.specs.declared.shift.IndexOverflow.{IndexOverflow}
+use Rattle.reencode_hooks.specs.declared.shift.Shift.{Shift}
 use Rattle.reencode_hooks.specs.Errors.{error_of_fault, error_of_write}
 use Rattle.reencode_hooks.specs.Hooks.{HasTooLarge}
 use Rattle.reencode_hooks.specs.Run.{Step, refused}
 use Rattle.reencode_hooks.specs.Walk.{walk}
 use Rattle.reencode_hooks.proofs.Walks.{walk_is_run}
 use Rattle.reencode_core.specs.Errors.{IfParse}
-use Rattle.reencode_core.specs.Rows.{AcceptedHooks, GivesRows, RefusesFirst, StopsRows, onto_rows}
-use Rattle.reencode_core.specs.Rows.{TooMany as NoRoom}
+use Rattle.reencode_core.specs.Rows.{AcceptedHooks, GivesRows, RefusesFirst, StopsRows, TooMany, onto_rows}
 use Rattle.reencode_core.specs.Sections.{HasRows}
 use Rattle.reencode_core.proofs.Known.{vec_is}
 use Rattle.reencode_core.proofs.OneRow.{answers}
 use Rattle.reencode_core.proofs.Usual.{IfParse-map}
-use Rattle.examples.specs.declared.behind.TooMany.{TooMany}
-use Rattle.examples.specs.declared.linker.Shift.{Shift}
 use Rattle.examples.specs.declared.linker.Parts.{Parts}
 use Rattle.examples.specs.Linker.{AddsMapped, IsJoined, Joined, NotJoined, NotLinked, NotMapped, asks, none, sections_of}
 use Rattle.examples.specs.Stripper.{IsUnwritten}
 
 -- what the call gives
-abbrev pub Clauses : Shift → SectionId → List ℕ → List Tree → List Tree → Result (Unit {0}) (Error TooMany) → Type 0
+abbrev pub Clauses : Shift → SectionId → List ℕ → List Tree → List Tree → Result (Unit {0}) (Error IndexOverflow) → Type 0
 Clauses shift k body old new r = record { ok : OnOk r (AddsMapped shift k body old new); err : IfErr r (NotMapped shift k (length old) body) }
 
 -- so many rows stand in front of others
@@ -52,10 +51,10 @@ module _ (shift : Shift) (k : SectionId) (known : HasRows k) (body : List ℕ) w
   as_vector t r = let P : Shape → Type 0 = λ s. Spells s body t in subst P known r
 
   -- no count stands there
-  pub uncounted : (f : Fault) → ReadsNone f 0 (BeginsNoNumber 128 32 32 body) → (old : List Tree) (r : Result (Unit {0}) (Error TooMany)) → IsErrAnd r (λ y. y ≡ error_of_fault f) →
+  pub uncounted : (f : Fault) → ReadsNone f 0 (BeginsNoNumber 128 32 32 body) → (old : List Tree) (r : Result (Unit {0}) (Error IndexOverflow)) → IsErrAnd r (λ y. y ≡ error_of_fault f) →
       Clauses shift k body old old r
   uncounted f none old r q =
-      let P : Result (Unit {0}) (Error TooMany) → Type 0 = λ z. Clauses shift k body old old z in
+      let P : Result (Unit {0}) (Error IndexOverflow) → Type 0 = λ z. Clauses shift k body old old z in
       subst P (answers r q) (record { ok = tt; err = (unread f none, λ other rows s. absurd (never f none (Tree.vec rows) s)) })
     where
       never : (f : Fault) → ReadsNone f 0 (BeginsNoNumber 128 32 32 body) → (t : Tree) → Spells (body_of k) body t → ⊥
@@ -64,14 +63,14 @@ module _ (shift : Shift) (k : SectionId) (known : HasRows k) (body : List ℕ) w
       never fault.CodeSize h t s = h
       never (fault.Header x) h t s = h
 
-      unread : (f : Fault) → ReadsNone f 0 (BeginsNoNumber 128 32 32 body) → IfParse (error_of_fault {E = TooMany} f) (λ _. (t : Tree) → Spells (body_of k) body t → ⊥)
+      unread : (f : Fault) → ReadsNone f 0 (BeginsNoNumber 128 32 32 body) → IfParse (error_of_fault {E = IndexOverflow} f) (λ _. (t : Tree) → Spells (body_of k) body t → ⊥)
       unread (fault.Read x) h = never (fault.Read x) h
       unread fault.NoMemory h = absurd h
       unread fault.CodeSize h = absurd h
       unread (fault.Header x) h = absurd h
 
   module _ {reader : Standing} (there : CountRead body reader) {old new : List Tree} {after : ByRule Shift} where
-    pub mapped : (r : Result (Unit {0}) (Error TooMany)) → GivesRows asks (2 ^ 32 - 1) (row_of k) reader (record { rule = shift }, old) (after, new) r → Clauses shift k body old new r
+    pub mapped : (r : Result (Unit {0}) (Error IndexOverflow)) → GivesRows asks (2 ^ 32 - 1) (row_of k) reader (record { rule = shift }, old) (after, new) r → Clauses shift k body old new r
     mapped (Ok u) g =
         let rows : Tree = g.readable.0 in
         let given = g.reading g.readable.0 g.readable.1 in
@@ -94,7 +93,7 @@ module _ (shift : Shift) (k : SectionId) (known : HasRows k) (body : List ℕ) w
     }
       where
         stops : e ≢ NoMemory → (rows : Tree) → StopsRows asks (2 ^ 32 - 1) (record { rule = shift }, old) rows (after, new) e →
-            ((m : ByRule Shift) × (walk asks (2 ^ 32 - 1) (record { rule = shift }) rows ≡ refused e m)) ⊎ ((n : ℕ) × NoRoom e n × (n < length old + count rows))
+            ((m : ByRule Shift) × (walk asks (2 ^ 32 - 1) (record { rule = shift }) rows ≡ refused e m)) ⊎ ((n : ℕ) × TooMany e n × (n < length old + count rows))
         stops other rows d = go (d.refuses other)
           where
             few : RefusesFirst asks (2 ^ 32 - 1) d.at d.others (length new) e after → length new < length old + count rows
@@ -105,18 +104,18 @@ module _ (shift : Shift) (k : SectionId) (known : HasRows k) (body : List ℕ) w
                 let same : length d.made ≡ length d.read = d.counted in
                 omega arith
 
-            by_cause : (first : RefusesFirst asks (2 ^ 32 - 1) d.at d.others (length new) e after) → (walk asks (2 ^ 32 - 1) d.at first.row ≡ refused e after) ⊎ (AcceptedHooks asks d.at first.row after × NoRoom e (length new)) →
-                ((m : ByRule Shift) × (walk asks (2 ^ 32 - 1) (record { rule = shift }) rows ≡ refused e m)) ⊎ ((n : ℕ) × NoRoom e n × (n < length old + count rows))
+            by_cause : (first : RefusesFirst asks (2 ^ 32 - 1) d.at d.others (length new) e after) → (walk asks (2 ^ 32 - 1) d.at first.row ≡ refused e after) ⊎ (AcceptedHooks asks d.at first.row after × TooMany e (length new)) →
+                ((m : ByRule Shift) × (walk asks (2 ^ 32 - 1) (record { rule = shift }) rows ≡ refused e m)) ⊎ ((n : ℕ) × TooMany e n × (n < length old + count rows))
             by_cause first (inl h) =
                 let here : walk asks (2 ^ 32 - 1) d.at d.others ≡ refused e after = rw (first.parts, h) refl in
-                inl (after, rw d.parts (d.accepts d.others ∙ ap (λ (r : Step (ByRule Shift) (Error TooMany) Tree). onto_rows d.made r) here))
+                inl (after, rw d.parts (d.accepts d.others ∙ ap (λ (r : Step (ByRule Shift) (Error IndexOverflow) Tree). onto_rows d.made r) here))
             by_cause first (inr h) = inr (length new, h.1, few first)
 
-            go : RefusesFirst asks (2 ^ 32 - 1) d.at d.others (length new) e after → ((m : ByRule Shift) × (walk asks (2 ^ 32 - 1) (record { rule = shift }) rows ≡ refused e m)) ⊎ ((n : ℕ) × NoRoom e n × (n < length old + count rows))
+            go : RefusesFirst asks (2 ^ 32 - 1) d.at d.others (length new) e after → ((m : ByRule Shift) × (walk asks (2 ^ 32 - 1) (record { rule = shift }) rows ≡ refused e m)) ⊎ ((n : ℕ) × TooMany e n × (n < length old + count rows))
             go first = by_cause first first.refusal
 
         stopped : e ≢ NoMemory → (rows : Tree) → (v : Tree) × (Tree.vec rows ≡ Tree.vec v) × RowsLeft (row_of k) reader.left reader.rest v →
-            ((m : ByRule Shift) × (walk asks (2 ^ 32 - 1) (record { rule = shift }) rows ≡ refused e m)) ⊎ ((n : ℕ) × NoRoom e n × (n < length old + count rows))
+            ((m : ByRule Shift) × (walk asks (2 ^ 32 - 1) (record { rule = shift }) rows ≡ refused e m)) ⊎ ((n : ℕ) × TooMany e n × (n < length old + count rows))
         stopped other rows v =
             let same : v.0 ≡ rows = cc in
             let P : Tree → Type 0 = λ z. RowsLeft (row_of k) reader.left reader.rest z in
@@ -134,10 +133,10 @@ joined shift k first second old mid new empty a b = record {
   joins = b.2 ∙ ap (λ (z : List Tree). z ++ b.0) (a.2 ∙ ap (λ (z : List Tree). z ++ a.0) empty);
 }
 
-pub first_not : (shift : Shift) (k : SectionId) (first second : List ℕ) (old : List Tree) → old ≡ [] → (e : Error TooMany) → NotMapped none k (length old) first e → NotJoined shift k first second e
+pub first_not : (shift : Shift) (k : SectionId) (first second : List ℕ) (old : List Tree) → old ≡ [] → (e : Error IndexOverflow) → NotMapped none k (length old) first e → NotJoined shift k first second e
 first_not shift k first second old empty e h = let P : List Tree → Type 0 = λ z. NotMapped none k (length z) first e in inl (subst P empty h)
 
-pub second_not : (shift : Shift) (k : SectionId) (first second : List ℕ) (old mid : List Tree) → old ≡ [] → (e : Error TooMany) → AddsMapped none k first old mid →
+pub second_not : (shift : Shift) (k : SectionId) (first second : List ℕ) (old mid : List Tree) → old ≡ [] → (e : Error IndexOverflow) → AddsMapped none k first old mid →
     NotMapped shift k (length mid) second e → NotJoined shift k first second e
 second_not shift k first second old mid empty e a h =
     let P : List Tree → Type 0 = λ z. NotMapped shift k (length z) second e in
@@ -149,16 +148,16 @@ abbrev pub rows_of : (shift : Shift) (first second : Parts) (types functions cod
 rows_of shift first second types functions code t f b = record { types = types; functions = functions; code = code; types_joined = t; functions_joined = f; code_joined = b }
 
 module _ {A : Type 0} (shift : Shift) (first second : Parts) where
-  pub failed : (e : Error TooMany) → NotLinked shift first second e → (r : Result A (Error TooMany)) → IsErrAnd r (λ y. y ≡ e) → IfErr r (NotLinked shift first second)
-  failed e why r q = let P : Result A (Error TooMany) → Type 0 = λ z. IfErr z (NotLinked shift first second) in subst P (answers r q) why
+  pub failed : (e : Error IndexOverflow) → NotLinked shift first second e → (r : Result A (Error IndexOverflow)) → IsErrAnd r (λ y. y ≡ e) → IfErr r (NotLinked shift first second)
+  failed e why r q = let P : Result A (Error IndexOverflow) → Type 0 = λ z. IfErr z (NotLinked shift first second) in subst P (answers r q) why
 
   -- with all rows joined, a section is not added
   pub not_added : (rows : Joined shift first second) (front : List SectionRow) (row : SectionRow) (rest : List SectionRow) → sections_of rows ≡ front ++ row ∷ rest → (ceiling : ℕ) →
-      ceiling ≡ 2 ^ 32 - 1 → (w : WriteFault) → IfTooLarge w (λ size. (size ≡ length row.body) × (ceiling < size)) → (r : Result A (Error TooMany)) →
+      ceiling ≡ 2 ^ 32 - 1 → (w : WriteFault) → IfTooLarge w (λ size. (size ≡ length row.body) × (ceiling < size)) → (r : Result A (Error IndexOverflow)) →
       IsErrAnd r (λ y. y ≡ error_of_write w) → IfErr r (NotLinked shift first second)
   not_added rows front row rest parts ceiling most w large r q = failed (error_of_write w) (inr (inr (inr (rows, why w large)))) r q
     where
-      why : (w : WriteFault) → IfTooLarge w (λ size. (size ≡ length row.body) × (ceiling < size)) → IsUnwritten (error_of_write {E = TooMany} w) (HasTooLarge (2 ^ 32 - 1) (sections_of rows))
+      why : (w : WriteFault) → IfTooLarge w (λ size. (size ≡ length row.body) × (ceiling < size)) → IsUnwritten (error_of_write {E = IndexOverflow} w) (HasTooLarge (2 ^ 32 - 1) (sections_of rows))
       why (write.TooLarge size) h = record { front = front; row = row; rest = rest; parts = parts; sized = sym h.0; above = let p : ceiling < size = h.1 in omega arith }
       why write.NoMemory h = tt
 

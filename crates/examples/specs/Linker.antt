@@ -1,11 +1,7 @@
 -- One module of two: what stands behind what, and which indices move.
-use Rattle.std.specs.Prelude.{◌≡◌, ◌≢◌, ◌<◌, ◌^◌, ◌-◌, ◌+◌, ◌⊎◌, ◌++◌, ℕ, List, [], ◌∷◌, length, Bool, true, false, nat_lt, if◌then◌else◌, Result, Ok, Err, refl}
-use Rattle.std.proofs.lemmas.Bool.{ltb-true}
+use Rattle.std.specs.Prelude.{◌≡◌, ◌≢◌, ◌<◌, ◌^◌, ◌-◌, ◌+◌, ◌⊎◌, ◌++◌, ℕ, List, [], ◌∷◌, length}
 use Rattle.wasm_shapes.specs.declared.SectionId.{SectionId}
 use Rattle.wasm_shapes.specs.declared.SectionId.TheVariants as id
-use Rattle.wasm_shapes.specs.declared.Space.{Space}
-use Rattle.wasm_shapes.specs.declared.Space.TheVariants as space
-use Rattle.wasm_shapes.specs.declared.Visit.TheVariants.{Index}
 use Rattle.wasm_shapes.specs.Tree.{Tree, count, normal}
 use Rattle.wasm_shapes.specs.Spells.{Spells}
 use Rattle.wasm_shapes.specs.Module.{body_of}
@@ -15,49 +11,27 @@ use Rattle.wasm_write.specs.Sections.{SectionRow, module_bytes, section_row}
 use Rattle.reencode_hooks.specs.declared.error.Error.{Error}
 use Rattle.reencode_hooks.specs.declared.error.Error.TheVariants.{NoMemory}
 use Rattle.reencode_hooks.specs.declared.rule.ByRule.{ByRule}
-use Rattle.reencode_hooks.specs.Hooks.{HasTooLarge, IsAnswer}
+use Rattle.reencode_hooks.specs.declared.shift.IndexOverflow.{IndexOverflow}
+use Rattle.reencode_hooks.specs.declared.shift.Shift.{Shift}
+use Rattle.reencode_hooks.specs.Hooks.{HasTooLarge}
 use Rattle.reencode_hooks.specs.Laws.{Accepts}
 use Rattle.reencode_hooks.specs.Rules.{by_rule}
 use Rattle.reencode_hooks.specs.Run.{ask, refused}
+use Rattle.reencode_hooks.specs.Shifts.{shifted}
 use Rattle.reencode_hooks.specs.Walk.{walk}
 use Rattle.reencode_core.specs.Errors.{IfParse}
-use Rattle.reencode_core.specs.Rows.{Asks, TooMany as NoRoom}
+use Rattle.reencode_core.specs.Rows.{Asks, TooMany}
 use Rattle.examples.specs.Stripper.{IsUnwritten}
-use Rattle.examples.specs.declared.behind.TooMany.{TooMany}
 use Rattle.examples.specs.declared.linker.Parts.{Parts}
-use Rattle.examples.specs.declared.linker.Shift.{Shift}
 
 -- ---- which indices move
 
--- an index behind so many others, refused where no index is left
-abbrev pub behind : ℕ → ℕ → Result ℕ TooMany
-behind count i = if nat_lt (i + count) (2 ^ 32) then Ok (i + count) else Err (record { index = i })
-
--- a type and a function behind those that stand before; every other index as it is
-abbrev pub shifted : Shift → Space → ℕ → Result ℕ TooMany
-shifted shift space.Type_ i = behind shift.types i
-shifted shift space.Function i = behind shift.functions i
-shifted shift _ i = Ok i
-
 -- none stands before
 abbrev pub none : Shift
-none = record { types = 0; functions = 0 }
-
-type_behind : (b : Bool) (n i : ℕ) → nat_lt n (2 ^ 32) ≡ b → IsAnswer {E = TooMany} (Index space.Type_ i) (if b then Ok n else Err (record { index = i }))
-type_behind true n i e = ltb-true n (2 ^ 32) e
-type_behind false n i e = refl
-
-function_behind : (b : Bool) (n i : ℕ) → nat_lt n (2 ^ 32) ≡ b → IsAnswer {E = TooMany} (Index space.Function i) (if b then Ok n else Err (record { index = i }))
-function_behind true n i e = ltb-true n (2 ^ 32) e
-function_behind false n i e = refl
-
-pub shifted_is_rule : (shift : Shift) (p : Space) (i : ℕ) → i < 2 ^ 32 → IsAnswer (Index p i) (shifted shift p i)
-shifted_is_rule shift space.Type_ i h = type_behind (nat_lt (i + shift.types) (2 ^ 32)) (i + shift.types) i refl
-shifted_is_rule shift space.Function i h = function_behind (nat_lt (i + shift.functions) (2 ^ 32)) (i + shift.functions) i refl
-shifted_is_rule shift _ i h = h
+none = record { «data» = 0; elements = 0; functions = 0; globals = 0; memories = 0; tables = 0; tags = 0; types = 0 }
 
 -- what the rule answers to a visit
-abbrev pub asks : Asks (ByRule Shift) TooMany
+abbrev pub asks : Asks (ByRule Shift) IndexOverflow
 asks = ask (λ of visit. by_rule (shifted of.rule) visit) (λ of _. of)
 
 -- ---- one section
@@ -75,11 +49,11 @@ AddsMapped shift kind body old new = (made : List Tree) × IsMapped shift kind b
 
 -- The body has no reading, where the error is one of the bytes; or the walk over its rows is refused so, or with the rows before it
 -- they are too many for one section; or memory runs out.
-abbrev pub NotMapped : Shift → SectionId → ℕ → List ℕ → Error TooMany → Type 0
+abbrev pub NotMapped : Shift → SectionId → ℕ → List ℕ → Error IndexOverflow → Type 0
 NotMapped shift kind before body e =
     IfParse e (λ _. (t : Tree) → Spells (body_of kind) body t → ⊥)
     × (e ≢ NoMemory → (rows : Tree) → Spells (body_of kind) body (Tree.vec rows) →
-    ((after : ByRule Shift) × (walk asks (2 ^ 32 - 1) (record { rule = shift }) rows ≡ refused e after)) ⊎ ((n : ℕ) × NoRoom e n × (n < before + count rows)))
+    ((after : ByRule Shift) × (walk asks (2 ^ 32 - 1) (record { rule = shift }) rows ≡ refused e after)) ⊎ ((n : ℕ) × TooMany e n × (n < before + count rows)))
 
 -- ---- two modules
 
@@ -92,7 +66,7 @@ pub record IsJoined (shift : Shift) (kind : SectionId) (first second : List ℕ)
   pub joins : joined ≡ before ++ behind
 
 -- one of the two is not mapped
-abbrev pub NotJoined : Shift → SectionId → List ℕ → List ℕ → Error TooMany → Type 0
+abbrev pub NotJoined : Shift → SectionId → List ℕ → List ℕ → Error IndexOverflow → Type 0
 NotJoined shift kind first second e =
     NotMapped none kind 0 first e ⊎ ((before : List Tree) × IsMapped none kind first before × NotMapped shift kind (length before) second e)
 
@@ -118,7 +92,7 @@ abbrev pub IsLinked : Shift → Parts → Parts → List ℕ → Type 0
 IsLinked shift first second output = (rows : Joined shift first second) × (output ≡ module_bytes (sections_of rows))
 
 -- a section of two modules is not joined; or all are, and the body of a section is longer than its size can say
-abbrev pub NotLinked : Shift → Parts → Parts → Error TooMany → Type 0
+abbrev pub NotLinked : Shift → Parts → Parts → Error IndexOverflow → Type 0
 NotLinked shift first second e =
     NotJoined shift id.Type_ first.types.now second.types.now e ⊎ NotJoined shift id.Function first.functions.now second.functions.now e
     ⊎ NotJoined shift id.Code first.code.now second.code.now e

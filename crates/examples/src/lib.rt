@@ -10,7 +10,7 @@ mod widened;
 
 pub use behind::{Behind, TooMany, move_behind};
 pub use below::{Below, NotBelow, check_below};
-pub use linker::{Parts, Shift, link};
+pub use linker::{Parts, link};
 pub use marks::{Marks, add_marks};
 pub use stripper::{Stripper, strip};
 pub use widened::Widened;

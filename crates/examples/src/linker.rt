@@ -4,38 +4,13 @@
 //! memories, wants the calls of `utils` for these too, in the same way. Names are left out.
 ghost use Rattle.std.specs.Prelude.{◌^◌, ◌-◌, ◌≡◌, length, OnOk, IfOk, IfErr};
 ghost use Rattle.wasm_shapes.specs.declared.SectionId.TheVariants as id;
-ghost use Rattle.examples.specs.Linker.{AddsMapped, IsLinked, NotLinked, NotMapped, shifted, shifted_is_rule};
+ghost use Rattle.examples.specs.Linker.{AddsMapped, IsLinked, NotLinked, NotMapped};
 
-use crate::behind::TooMany;
 use reencode_core::utils;
-use reencode_hooks::{ByRule, Error, IndexRule};
+use reencode_hooks::{ByRule, Error, IndexOverflow, Shift};
 use std::alloc::Global;
 use wasm_read as r;
-use wasm_shapes::Space;
 use wasm_write as w;
-
-/// So many types and functions stand before.
-#[derive(Clone, Copy, Debug)]
-pub struct Shift {
-    pub types: u32,
-    pub functions: u32,
-}
-
-impl IndexRule for Shift {
-    type Error = TooMany;
-
-    ghost renamed = { λ rule space index. shifted rule space index };
-
-    ghost is_rule = { λ rule space index h. shifted_is_rule rule space index h };
-
-    fn index(&self, space: Space, index: u32) -> Result<u32, TooMany> {
-        match space {
-            Space::Type_ => index.checked_add(self.types).ok_or(TooMany { index }),
-            Space::Function => index.checked_add(self.functions).ok_or(TooMany { index }),
-            _ => Ok(index),
-        }
-    }
-}
 
 /// The bodies of the three sections of a module that are linked.
 #[derive(Clone, Copy, Debug)]
@@ -51,7 +26,7 @@ fn add_types(
     types: &mut w::TypeSection,
     body: &[u8],
     shift: Shift,
-) -> Result<(), Error<TooMany>>
+) -> Result<(), Error<IndexOverflow>>
     ensures ok { OnOk result (AddsMapped shift id.Type_ body.now types.old types.new) }
     ensures err { IfErr result (NotMapped shift id.Type_ (length types.old) body.now) }
 {
@@ -65,7 +40,7 @@ fn add_functions(
     functions: &mut w::FunctionSection,
     body: &[u8],
     shift: Shift,
-) -> Result<(), Error<TooMany>>
+) -> Result<(), Error<IndexOverflow>>
     ensures ok { OnOk result
         (AddsMapped shift id.Function body.now functions.old functions.new) }
     ensures err { IfErr result (NotMapped shift id.Function (length functions.old) body.now) }
@@ -80,7 +55,7 @@ fn add_code(
     code: &mut w::CodeSection,
     body: &[u8],
     shift: Shift,
-) -> Result<(), Error<TooMany>>
+) -> Result<(), Error<IndexOverflow>>
     requires { code.old.ceiling ≡ 2 ^ 32 - 1 }
     ensures ceiling { code.new.ceiling ≡ 2 ^ 32 - 1 }
     ensures ok { OnOk result (AddsMapped shift id.Code body.now code.old.rows code.new.rows) }
@@ -90,20 +65,26 @@ fn add_code(
     utils::parse_code_section(&mut ByRule { rule: shift }, alloc, code, rows)
 }
 
-/// One module of two: the types, functions and bodies of the first, and behind them those of the second, where each index of a
-/// type or a function moves behind as many as `shift` says. How many the first module has is for the caller to say.
+/// One module of two: the types, functions and bodies of the first, and behind them those of the second, where each index moves
+/// behind as many as `shift` says. How many the first module has is for the caller to say.
 pub fn link(
     alloc: Global,
     first: Parts<'_>,
     second: Parts<'_>,
     shift: Shift,
-) -> Result<Vec<u8>, Error<TooMany>>
+) -> Result<Vec<u8>, Error<IndexOverflow>>
     ensures ok { IfOk result (λ out. IsLinked shift first.entry second.entry out.items) }
     ensures err { IfErr result (NotLinked shift first.entry second.entry) }
 {
     let stays = Shift {
-        types: 0,
+        data: 0,
+        elements: 0,
         functions: 0,
+        globals: 0,
+        memories: 0,
+        tables: 0,
+        tags: 0,
+        types: 0,
     };
     let mut types = w::TypeSection::new(alloc);
     add_types(alloc, &mut types, first.types, stays)?;

@@ -1,9 +1,9 @@
 //! The examples, run.
 use examples::{
-    NotBelow, Parts, Shift, Stripper, TooMany, Widened, check_below, link, move_behind, strip,
+    NotBelow, Parts, Stripper, TooMany, Widened, check_below, link, move_behind, strip,
 };
 use reencode_core::reencode_core;
-use reencode_hooks::Error;
+use reencode_hooks::{Error, IndexOverflow, Shift};
 use std::convert::Infallible;
 
 /// A module that adds two numbers: a type, a function, an export and its code.
@@ -132,19 +132,21 @@ const BOTH: [u8; 55] = [
 ];
 
 #[test]
-fn modules_are_linked(rt: HostRuntime) -> Result<(), Error<TooMany>> {
+fn modules_are_linked(rt: HostRuntime) -> Result<(), Error<IndexOverflow>> {
     let shift = Shift {
         types: 1,
         functions: 1,
+        ..Shift::default()
     };
     let bytes = link(rt.alloc(), ONE, TWO, shift)?;
     assert!(rt; bytes.as_slice() == BOTH.as_slice());
     let far = Shift {
         types: u32::MAX,
         functions: 1,
+        ..Shift::default()
     };
     let refused = match link(rt.alloc(), ONE, TWO, far) {
-        Err(Error::UserError(TooMany { index })) => index == 1,
+        Err(Error::UserError(IndexOverflow { index, .. })) => index == 1,
         _ => false,
     };
     assert!(rt; refused);
