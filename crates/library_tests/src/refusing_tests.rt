@@ -1,12 +1,12 @@
 //! A reencoder that refuses one of its hook calls: every call before it is made, and none behind it.
-ghost use Rattle.library_tests.specs.Refusing.{next_call, refuses_call, refuses_call-given};
+ghost use Rattle.std.specs.Prelude.{◌≡◌};
+ghost use Rattle.library_tests.specs.Refusing.{may_refuse, next_call, refuses_call, refuses_call-given};
 
 use reencode_core::{DefaultReencode, reencode_core};
-use reencode_hooks::{Error, ReencodeIndices};
+use reencode_hooks::{AnswerVisits, Error, utils};
 use reencode_items::DefaultItems;
 use std::alloc::Global;
-use wasm_shapes::SectionId;
-use wasm_write as w;
+use wasm_shapes::{Space, Visit};
 
 /// Answers each index as it is, and refuses the call of one number with that number.
 #[derive(Clone, Copy)]
@@ -15,20 +15,30 @@ struct Refusing {
     at: u32,
 }
 
-/// Counts the call, and answers the index.
-macro_rules! answer {
-    ($reencoder:ident, $index:expr) => {{
-        $reencoder.calls = $reencoder.calls.saturating_add(1);
-        if $reencoder.calls == $reencoder.at {
-            Err(Error::UserError($reencoder.at))
-        } else {
-            Ok($index)
-        }
-    }};
+/// Whether a visit is one of a core module.
+fn is_refusable(visit: Visit) -> bool
+    ensures { result ≡ may_refuse visit }
+{
+    match visit {
+        Visit::Index(space, _) => match space {
+            Space::Data
+            | Space::Element
+            | Space::Function
+            | Space::Global
+            | Space::Memory
+            | Space::Table
+            | Space::Tag
+            | Space::Type_
+            | Space::DataCount => true,
+            _ => false,
+        },
+        Visit::Section(..) => true,
+        Visit::Outer(..) | Visit::Push | Visit::Pop => false,
+    }
 }
 
-impl ReencodeIndices for Refusing {
-    ghost use Rattle.std.specs.Prelude.{true, [], refl};
+impl AnswerVisits for Refusing {
+    ghost use Rattle.std.specs.Prelude.{true};
 
     type Error = u32;
 
@@ -36,62 +46,18 @@ impl ReencodeIndices for Refusing {
 
     ghost next = { λ s _. record s { calls = next_call s.calls } };
 
-    ghost adds = { λ _ _ _. [] };
-
     ghost keeps_defaults = { true };
 
-    ghost adds_nothing = { true };
-
-    ghost sure = { true };
+    fn answer(&mut self, visit: Visit) -> Result<u32, u32> {
+        self.calls = self.calls.saturating_add(1);
+        if self.calls == self.at && is_refusable(visit) {
+            Err(self.at)
+        } else {
+            Ok(utils::index_of(visit))
+        }
+    }
 
     ghost answers_ok = { λ s visit h. refuses_call-given s.calls s.at visit h };
-
-    ghost adds_ok = { λ _ _ _ _. refl };
-
-    fn data_index(&mut self, index: u32) -> Result<u32, Error<u32>> {
-        answer!(self, index)
-    }
-
-    fn element_index(&mut self, index: u32) -> Result<u32, Error<u32>> {
-        answer!(self, index)
-    }
-
-    fn function_index(&mut self, index: u32) -> Result<u32, Error<u32>> {
-        answer!(self, index)
-    }
-
-    fn global_index(&mut self, index: u32) -> Result<u32, Error<u32>> {
-        answer!(self, index)
-    }
-
-    fn memory_index(&mut self, index: u32) -> Result<u32, Error<u32>> {
-        answer!(self, index)
-    }
-
-    fn table_index(&mut self, index: u32) -> Result<u32, Error<u32>> {
-        answer!(self, index)
-    }
-
-    fn tag_index(&mut self, index: u32) -> Result<u32, Error<u32>> {
-        answer!(self, index)
-    }
-
-    fn type_index(&mut self, index: u32) -> Result<u32, Error<u32>> {
-        answer!(self, index)
-    }
-
-    fn data_count(&mut self, count: u32) -> Result<u32, Error<u32>> {
-        answer!(self, count)
-    }
-
-    fn intersperse_section_hook(
-        &mut self,
-        _module: &mut w::Module,
-        _after: Option<SectionId>,
-        _before: Option<SectionId>,
-    ) -> Result<(), Error<u32>> {
-        answer!(self, ())
-    }
 }
 
 impl DefaultItems for Refusing {}

@@ -16,7 +16,7 @@ use Rattle.wasm_read.specs.declared.types.BlockType.{BlockType}
 use Rattle.wasm_read.specs.declared.types.BlockType.TheVariants as block
 use Rattle.wasm_shapes.specs.Types.{are_sixteen}
 pub use Rattle.wasm_shapes.specs.Types.{is_core, is_counted, tagged_label, tagged_label_tree, catch_row, handle_row}
-use Rattle.wasm_read.specs.Types.{RefType, ValType, indices, heap_type_tree, val_type_tree, val_types_tree, vector_tree, no_reading}
+use Rattle.wasm_read.specs.Types.{ValType, indices, heap_type_tree, val_type_tree, val_types_tree, vector_tree, no_reading}
 
 -- an immediate
 abbrev pub Imm : Type 0

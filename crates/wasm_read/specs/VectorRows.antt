@@ -1,7 +1,7 @@
 -- What the test of the rows of a vector says of one row.
-use Rattle.std.proofs.Common.{◌≡◌, true, not}
+use Rattle.std.proofs.Common.{◌≡◌, true}
 use Rattle.wasm_shapes.specs.Shape.{Shape, closed}
-use Rattle.wasm_shapes.specs.Sound.{nullable, sound}
+use Rattle.wasm_shapes.specs.Sound.{sound}
 use Rattle.wasm_shapes.proofs.Lists.{both}
 
 pub items_closed : (s : Shape) → sound (Shape.many s) ≡ true → closed s ≡ true

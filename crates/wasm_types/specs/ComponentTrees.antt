@@ -37,7 +37,6 @@ use Rattle.wasm_types.specs.declared.components.PrimitiveValType.{PrimitiveValTy
 use Rattle.wasm_types.specs.declared.components.PrimitiveValType.TheVariants as primitive
 use Rattle.wasm_types.specs.declared.components.TypeBounds.{TypeBounds}
 use Rattle.wasm_types.specs.declared.components.TypeBounds.TheVariants as bounds
-use Rattle.wasm_types.specs.declared.types.ValType.{ValType}
 use Rattle.wasm_types.specs.Types.{Indices, val_type_tree}
 
 -- ---- types of values
