@@ -101,6 +101,47 @@ module _ {R E : Type 0} (renamed : R → Space → ℕ → Result ℕ E) where
   abbrev start : R → Checking R E
   start rule = record { rule = rule; refusal = None }
 
+  -- What stands whole is accepted: its indices keep their numbers, and its frames are no longer than they stand.
+  never : {e : Error E} {k : Checking R E} (s : Checking R E) (t : Tree) (x : List ℕ) → Spelled t x → walk asks 4294967295 s t ≡ refused e k → ⊥
+  never s t x p refusal =
+      let accepts : walk asks 4294967295 s t ≡ accepted t (after s (visits t)) =
+      (walk_is_run asks).back 4294967295 s (after s (visits t)) t t x p
+      (record { given = own t; ran = runs s (visits t); filled = fill_own t; fits = read_frames_fit t x p }) in
+      absurd cc
+
+  never_row : {row : Shape} {rest : List ℕ} {s k : Checking R E} {e : Error E} → RefusesRow asks 4294967295 row rest s e k → ⊥
+  never_row {s = s} r = never s r.tree r.begins.text r.begins.spells.spelled r.refusal
+
+  never_each : {item : Shape} {rest : List ℕ} {s k : Checking R E} {e : Error E} → StopsEach asks 4294967295 item rest s e k → ⊥
+  never_each h = never h.state h.next h.begins.text h.begins.spells.spelled h.refuses
+
+  never_body : {body : List ℕ} {s k : Checking R E} {e : Error E} → StopsBody asks 4294967295 body s e k → ⊥
+  never_body {s = s} (inl h) = never s h.0 h.2.text h.2.spells.spelled h.3
+  never_body (inr h) = never_each h.6
+
+  never_due : {row : Shape} {reader : Standing} {s k : Checking R E} {e : Error E} → StopsDue asks 4294967295 row reader s e k → ⊥
+  never_due {row = row} {k = k} {e = e} h = go h.refuses
+    where
+      go : RefusesRow asks 4294967295 row h.rest h.state e k ⊎ RefusesInside asks 4294967295 row h.rest h.state e k → ⊥
+      go (inl r) = never_row r
+      go (inr r) = never_body r.stops
+
+  never_names : {reader : NamesStanding} {s k : Checking R E} {e : Error E} → StopsNames asks 4294967295 reader s e k → ⊥
+  never_names {k = k} {e = e} h = go h.refuses
+    where
+      go : RefusesSubsection asks 4294967295 h.rest h.state e k ⊎ RefusesEntry asks h.rest 4294967295 h.state e k → ⊥
+      go (inl r) = never_row r
+      go (inr r) = never_each r.stops
+
+  never_there : {rest : List ℕ} {last : Option SectionId} {s k : Checking R E} {e : Error E} → StopsThere asks 4294967295 rest last s e k → ⊥
+  never_there (inr h) = never_names h.stops
+  never_there {last = last} {s = s} {k = k} {e = e} (inl h) = go h.stops
+    where
+      go : (asks s (Section last (Some h.id)) ≡ refused e k)
+          ⊎ ((n : Checking R E) × (asks s (Section last (Some h.id)) ≡ accepted 0 n) × StopsSection asks 4294967295 h.id h.body n e k) → ⊥
+      go (inl hook) = absurd cc
+      go (inr behind) = never_due behind.2.stops
+
   module _ {bytes : List ℕ} {rule : R} {m : Checking R E} where
     -- no refusal is one of the reencoder's
     never_refused : (x : E) → Leaves asks (core_in bytes) (start rule) (UserError x) m → ⊥
@@ -137,51 +178,10 @@ module _ {R E : Type 0} (renamed : R → Space → ℕ → Result ℕ E) where
     pub check_refuses : {out : A} {x : E} → GivesBytes asks 4294967295 bytes (start rule) m (Ok out) view → m.refusal ≡ Some x → IsRefused (renamed rule) bytes x
     check_refuses g some = let h = subst (Checked renamed rule bytes) some (checked g) in record { tree = h.tree; reading = h.reading; refuses = h.told }
 
-    -- What stands whole is accepted: its indices keep their numbers, and its frames are no longer than they stand.
-    never : {x : List ℕ} {e : Error E} {k : Checking R E} (s : Checking R E) (t : Tree) → Spelled t x → walk asks 4294967295 s t ≡ refused e k → ⊥
-    never {x = x} s t p refusal =
-        let accepts : walk asks 4294967295 s t ≡ accepted t (after s (visits t)) =
-        (walk_is_run asks).back 4294967295 s (after s (visits t)) t t x p
-        (record { given = own t; ran = runs s (visits t); filled = fill_own t; fits = read_frames_fit t x p }) in
-        absurd cc
-
-    never_row : {row : Shape} {rest : List ℕ} {s k : Checking R E} {e : Error E} → RefusesRow asks 4294967295 row rest s e k → ⊥
-    never_row {s = s} r = never s r.tree r.begins.spells.spelled r.refusal
-
-    never_each : {item : Shape} {rest : List ℕ} {s k : Checking R E} {e : Error E} → StopsEach asks 4294967295 item rest s e k → ⊥
-    never_each h = never h.state h.next h.begins.spells.spelled h.refuses
-
-    never_body : {body : List ℕ} {s k : Checking R E} {e : Error E} → StopsBody asks 4294967295 body s e k → ⊥
-    never_body {s = s} (inl h) = never s h.0 h.2.spells.spelled h.3
-    never_body (inr h) = never_each h.6
-
-    never_due : {row : Shape} {reader : Standing} {s k : Checking R E} {e : Error E} → StopsDue asks 4294967295 row reader s e k → ⊥
-    never_due {row = row} {k = k} {e = e} h = go h.refuses
-      where
-        go : RefusesRow asks 4294967295 row h.rest h.state e k ⊎ RefusesInside asks 4294967295 row h.rest h.state e k → ⊥
-        go (inl r) = never_row r
-        go (inr r) = never_body r.stops
-
-    never_names : {reader : NamesStanding} {s k : Checking R E} {e : Error E} → StopsNames asks 4294967295 reader s e k → ⊥
-    never_names {k = k} {e = e} h = go h.refuses
-      where
-        go : RefusesSubsection asks 4294967295 h.rest h.state e k ⊎ RefusesEntry asks h.rest 4294967295 h.state e k → ⊥
-        go (inl r) = never_row r
-        go (inr r) = never_each r.stops
-
-    never_there : {rest : List ℕ} {last : Option SectionId} {s k : Checking R E} {e : Error E} → StopsThere asks 4294967295 rest last s e k → ⊥
-    never_there (inr h) = never_names h.stops
-    never_there {last = last} {s = s} {k = k} {e = e} (inl h) = go h.stops
-      where
-        go : (asks s (Section last (Some h.id)) ≡ refused e k)
-            ⊎ ((n : Checking R E) × (asks s (Section last (Some h.id)) ≡ accepted 0 n) × StopsSection asks 4294967295 h.id h.body n e k) → ⊥
-        go (inl hook) = absurd cc
-        go (inr behind) = never_due behind.2.stops
-
     -- an error says that the bytes are no core module
     no_module : (e : Error E) → GivesBytes {A = A} asks 4294967295 bytes (start rule) m (Err e) view → e ≢ NoMemory → IsNoModule bytes
     no_module e g other t p =
-        never (start rule) t p.spelled (g.reading t p other)
+        never (start rule) t bytes p.spelled (g.reading t p other)
 
     -- no size is too large: the bytes have no reading, so a fault, and what stands before it is accepted
     none_large : (size : ℕ) → GivesBytes {A = A} asks 4294967295 bytes (start rule) m (Err (TooLarge size)) view → ⊥
@@ -193,7 +193,7 @@ module _ {R E : Type 0} (renamed : R → Space → ℕ → Result ℕ E) where
         go : (before : List Tree) {rest : List ℕ} → FaultAt bytes before rest → RefusedIn asks 4294967295 (start rule) before (TooLarge size) m
             ⊎ ((made : List Tree) × (last : Option SectionId) × (n : Checking R E) × AcceptsSections asks 4294967295 (start rule) before made last n
             × StopsThere asks 4294967295 rest last n (TooLarge size) m) → ⊥
-        go before f (inl refusal) = never (start rule) (alsos before Tree.finish) f.front.spells.spelled (refusal Tree.finish)
+        go before f (inl refusal) = never (start rule) (alsos before Tree.finish) f.front.text f.front.spells.spelled (refusal Tree.finish)
         go before f (inr h) = never_there h.4
 
     pub check_unread : (e : Error E) → GivesBytes {A = A} asks 4294967295 bytes (start rule) m (Err e) view → IsUnread bytes e
