@@ -27,7 +27,7 @@ pub use groups::read_group;
 pub use name_section::NameSectionReader;
 pub use names::{IndirectNameMap, NameMap};
 pub use operators::{Operator, OperatorsReader};
-pub use payloads::Payloads;
+pub use payloads::{Payloads, front_frame};
 pub use rows::Rows;
 pub use section_reader::{ReadRow, SectionReader};
 pub use sections::{

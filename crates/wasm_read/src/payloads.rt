@@ -164,8 +164,8 @@ fn numbered(at: usize, id: u8, body: &[u8]) -> Payload<'_>
     }
 }
 
-/// The frame at the front of some bytes, which stand at a place, and the bytes behind it.
-fn front_frame(bytes: &[u8], at: usize) -> Option<(Payload<'_>, &[u8])>
+/// The frame at the front of some bytes, which stand at a place, and the bytes behind it. None exactly where no frame begins.
+pub fn front_frame(bytes: &[u8], at: usize) -> Option<(Payload<'_>, &[u8])>
     ensures some { IfSome result (λ r. Begins frame bytes.now (frame_tree r.0) r.1.now) }
     ensures at { IfSome result (λ r. payload_at r.0 ≡ at) }
     ensures unknown { IfSome result (λ r. IsUnknown r.0) }

@@ -1,7 +1,8 @@
 -- The trees that the rows of a component stand for, beside those of `wasm_types`.
-use Rattle.std.specs.Prelude.{ℕ}
+use Rattle.std.specs.Prelude.{ℕ, List}
 use Rattle.wasm_shapes.specs.Tree.{Tree}
 use Rattle.wasm_types.specs.declared.components.CanonicalFunction.{CanonicalFunction}
+use Rattle.wasm_types.specs.declared.components.CanonicalOption.{CanonicalOption}
 use Rattle.wasm_types.specs.declared.components.Operands.{Operands}
 use Rattle.wasm_types.specs.ComponentTrees as component
 use Rattle.wasm_read.specs.declared.types.UnpackedIndex.{UnpackedIndex}
@@ -11,7 +12,7 @@ use Rattle.wasm_read_component.specs.declared.types.ComponentStartFunction.{Comp
 abbrev pub start_tree : ComponentStartFunction → Tree
 start_tree f = component.component_start_tree f.func_index f.arguments f.results
 
-abbrev pub operands_tree : Operands UnpackedIndex → Tree
+abbrev pub operands_tree : Operands UnpackedIndex (List CanonicalOption) → Tree
 operands_tree o = component.operands_tree indices o
 
 abbrev pub canonical_tree : CanonicalFunction UnpackedIndex → Tree

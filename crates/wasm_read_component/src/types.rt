@@ -17,7 +17,7 @@ pub type Instance<'a> = wasm_types::Instance<'a, Export<'a>>;
 pub type CanonicalFunction = wasm_types::CanonicalFunction<UnpackedIndex>;
 
 /// What stands behind the byte of a canonical function.
-pub type Operands = wasm_types::Operands<UnpackedIndex>;
+pub type Operands = wasm_types::Operands<UnpackedIndex, List<CanonicalOption>>;
 
 /// The function that starts a component, its arguments, and how many results it has (`start`).
 #[derive(Drop)]

@@ -1,6 +1,7 @@
 -- The trees that the types and rows of a component stand for (the Component Model's binary format), whatever the kind of what
 -- differs between a reader's and a writer's.
 use Rattle.std.specs.Prelude.{ℕ, List, [], ◌∷◌, map, Bool, true, false, Option, Some, None}
+use Rattle.std.specs.Borrow.{Bor}
 use Rattle.wasm_shapes.specs.declared.Space.{Space}
 use Rattle.wasm_shapes.specs.declared.Space.TheVariants as space
 use Rattle.wasm_shapes.specs.declared.canonical.CanonicalForm.{CanonicalForm}
@@ -194,7 +195,7 @@ component_start_tree f args results =
 
 -- ---- canonical functions
 
-abbrev pub operands_form : {I : Type 0} → Operands I → CanonicalForm
+abbrev pub operands_form : {I O : Type 0} → Operands I O → CanonicalForm
 operands_form operands.Nothing = form.Nothing
 operands_form (operands.Lift f os t) = form.Lift
 operands_form (operands.Lower f os) = form.Lower
@@ -209,7 +210,7 @@ operands_form (operands.CoreType t) = form.CoreType
 operands_form (operands.CoreTypeAndTable t m) = form.CoreTypeAndTable
 
 -- the byte of a canonical function, and what stands behind it
-abbrev pub canonical_parts : {I : Type 0} → CanonicalFunction I → ℕ × Operands I
+abbrev pub canonical_parts : {I : Type 0} → CanonicalFunction I → ℕ × Operands I (List CanonicalOption)
 canonical_parts (canonical.Lift f t os) = (0x00, operands.Lift f os t)
 canonical_parts (canonical.Lower f os) = (0x01, operands.Lower f os)
 canonical_parts (canonical.ResourceNew t) = (0x02, operands.Type_ t)
@@ -247,6 +248,24 @@ canonical_parts (canonical.ThreadSpawnRef t) = (0x40, operands.CoreType t)
 canonical_parts (canonical.ThreadSpawnIndirect t m) = (0x41, operands.CoreTypeAndTable t m)
 canonical_parts canonical.ThreadAvailableParallelism = (0x42, operands.Nothing)
 
+-- what stands behind it, whose options are borrowed
+abbrev pub borrowed_operands : {I : Type 0} → Operands I (Bor (List CanonicalOption)) → Operands I (List CanonicalOption)
+borrowed_operands operands.Nothing = operands.Nothing
+borrowed_operands (operands.Lift f os t) = operands.Lift f os.now t
+borrowed_operands (operands.Lower f os) = operands.Lower f os.now
+borrowed_operands (operands.Type_ t) = operands.Type_ t
+borrowed_operands (operands.TypeAndOptions t os) = operands.TypeAndOptions t os.now
+borrowed_operands (operands.TypeAndAsync t a) = operands.TypeAndAsync t a
+borrowed_operands (operands.Async a) = operands.Async a
+borrowed_operands (operands.ResultAndOptions r os) = operands.ResultAndOptions r os.now
+borrowed_operands (operands.Slot t n) = operands.Slot t n
+borrowed_operands (operands.Options os) = operands.Options os.now
+borrowed_operands (operands.CoreType t) = operands.CoreType t
+borrowed_operands (operands.CoreTypeAndTable t m) = operands.CoreTypeAndTable t m
+
+abbrev pub borrowed_parts : {I : Type 0} → ℕ × Operands I (Bor (List CanonicalOption)) → ℕ × Operands I (List CanonicalOption)
+borrowed_parts p = (p.0, borrowed_operands p.1)
+
 abbrev pub canonical_option_tree : CanonicalOption → Tree
 canonical_option_tree option.UTF8 = Tree.row 0 (Tree.fixed 0x00)
 canonical_option_tree option.UTF16 = Tree.row 1 (Tree.fixed 0x01)
@@ -275,7 +294,7 @@ result_tree None = Tree.row 1 (led 0x01 (Tree.fixed 0x00))
 
 module _ {I : Type 0} (indices : Indices I) where
   -- what stands behind the byte
-  abbrev pub operands_tree : Operands I → Tree
+  abbrev pub operands_tree : Operands I (List CanonicalOption) → Tree
   operands_tree operands.Nothing = Tree.empty
   operands_tree (operands.Lift f os t) = led 0x00 (Tree.pair (Tree.ix space.Function f) (Tree.swap (canonical_options_tree os) (type_tree t)))
   operands_tree (operands.Lower f os) = led 0x00 (Tree.pair (Tree.ix space.ComponentFunc f) (canonical_options_tree os))
@@ -290,7 +309,7 @@ module _ {I : Type 0} (indices : Indices I) where
   operands_tree (operands.CoreTypeAndTable t m) = Tree.pair (Tree.ix space.Type_ t) (Tree.ix space.Table m)
 
   -- the row of a byte, with what stands behind it
-  abbrev pub parts_tree : ℕ × Operands I → Tree
+  abbrev pub parts_tree : ℕ × Operands I (List CanonicalOption) → Tree
   parts_tree p = Tree.row (number_of (canonical_at p.0)) (led p.0 (operands_tree p.1))
 
   abbrev pub canonical_tree : CanonicalFunction I → Tree

@@ -269,25 +269,26 @@ pub enum CanonicalFunction<I> {
     ThreadAvailableParallelism,
 }
 
-/// What stands behind the byte of a canonical function, by its form; `I` is the kind of the type indices of core modules.
+/// What stands behind the byte of a canonical function, by its form; `I` is the kind of the type indices of core modules, and
+/// `O` holds the options.
 #[derive(Drop)]
-pub enum Operands<I> {
+pub enum Operands<I, O> {
     Nothing,
     Lift {
         func: u32,
-        options: List<CanonicalOption>,
+        options: O,
         ty: u32,
     },
     Lower {
         func: u32,
-        options: List<CanonicalOption>,
+        options: O,
     },
     Type_ {
         ty: u32,
     },
     TypeAndOptions {
         ty: u32,
-        options: List<CanonicalOption>,
+        options: O,
     },
     TypeAndAsync {
         ty: u32,
@@ -298,14 +299,14 @@ pub enum Operands<I> {
     },
     ResultAndOptions {
         result: Option<ComponentValType>,
-        options: List<CanonicalOption>,
+        options: O,
     },
     Slot {
         ty: ValType<I>,
         slot: u32,
     },
     Options {
-        options: List<CanonicalOption>,
+        options: O,
     },
     CoreType {
         ty: u32,
@@ -316,19 +317,19 @@ pub enum Operands<I> {
     },
 }
 
-impl<I> CanonicalFunction<I> {
+impl<I: Copy> CanonicalFunction<I> {
     ghost use Rattle.std.specs.Prelude.{◌≡◌};
-    ghost use Rattle.wasm_types.specs.ComponentTrees.{canonical_parts};
+    ghost use Rattle.wasm_types.specs.ComponentTrees.{borrowed_parts, canonical_parts};
 
     /// The byte that it begins with, and what stands behind it.
-    pub fn parts(self) -> (u8, Operands<I>)
-        ensures { result ≡ canonical_parts self }
+    pub fn parts(&self) -> (u8, Operands<I, &List<CanonicalOption>>)
+        ensures { borrowed_parts result ≡ canonical_parts self.now }
     {
-        match self {
+        match *self {
             CanonicalFunction::Lift {
                 core_func_index,
                 type_index,
-                options,
+                ref options,
             } => (
                 0x00,
                 Operands::Lift {
@@ -339,7 +340,7 @@ impl<I> CanonicalFunction<I> {
             ),
             CanonicalFunction::Lower {
                 func_index,
-                options,
+                ref options,
             } => (
                 0x01,
                 Operands::Lower {
@@ -355,21 +356,21 @@ impl<I> CanonicalFunction<I> {
             CanonicalFunction::ResourceRep { resource } => (0x04, Operands::Type_ { ty: resource }),
             CanonicalFunction::TaskCancel => (0x05, Operands::Nothing),
             CanonicalFunction::SubtaskCancel { async_ } => (0x06, Operands::Async { async_ }),
-            CanonicalFunction::TaskReturn { result, options } => (
-                0x09,
-                Operands::ResultAndOptions { result, options },
-            ),
+            CanonicalFunction::TaskReturn {
+                result,
+                ref options,
+            } => (0x09, Operands::ResultAndOptions { result, options }),
             CanonicalFunction::SubtaskDrop => (0x0d, Operands::Nothing),
             CanonicalFunction::BackpressureInc => (0x24, Operands::Nothing),
             CanonicalFunction::BackpressureDec => (0x25, Operands::Nothing),
             CanonicalFunction::ContextGet { ty, slot } => (0x0a, Operands::Slot { ty, slot }),
             CanonicalFunction::ContextSet { ty, slot } => (0x0b, Operands::Slot { ty, slot }),
             CanonicalFunction::StreamNew { ty } => (0x0e, Operands::Type_ { ty }),
-            CanonicalFunction::StreamRead { ty, options } => (
+            CanonicalFunction::StreamRead { ty, ref options } => (
                 0x0f,
                 Operands::TypeAndOptions { ty, options },
             ),
-            CanonicalFunction::StreamWrite { ty, options } => (
+            CanonicalFunction::StreamWrite { ty, ref options } => (
                 0x10,
                 Operands::TypeAndOptions { ty, options },
             ),
@@ -384,11 +385,11 @@ impl<I> CanonicalFunction<I> {
             CanonicalFunction::StreamDropReadable { ty } => (0x13, Operands::Type_ { ty }),
             CanonicalFunction::StreamDropWritable { ty } => (0x14, Operands::Type_ { ty }),
             CanonicalFunction::FutureNew { ty } => (0x15, Operands::Type_ { ty }),
-            CanonicalFunction::FutureRead { ty, options } => (
+            CanonicalFunction::FutureRead { ty, ref options } => (
                 0x16,
                 Operands::TypeAndOptions { ty, options },
             ),
-            CanonicalFunction::FutureWrite { ty, options } => (
+            CanonicalFunction::FutureWrite { ty, ref options } => (
                 0x17,
                 Operands::TypeAndOptions { ty, options },
             ),
@@ -402,8 +403,11 @@ impl<I> CanonicalFunction<I> {
             ),
             CanonicalFunction::FutureDropReadable { ty } => (0x1a, Operands::Type_ { ty }),
             CanonicalFunction::FutureDropWritable { ty } => (0x1b, Operands::Type_ { ty }),
-            CanonicalFunction::ErrorContextNew { options } => (0x1c, Operands::Options { options }),
-            CanonicalFunction::ErrorContextDebugMessage { options } => (
+            CanonicalFunction::ErrorContextNew { ref options } => (
+                0x1c,
+                Operands::Options { options },
+            ),
+            CanonicalFunction::ErrorContextDebugMessage { ref options } => (
                 0x1d,
                 Operands::Options { options },
             ),
@@ -437,7 +441,7 @@ impl<I: Drop> CanonicalFunction<I> {
 
     /// The canonical function that begins with a byte, with what stands behind it. None exactly where that doesn't stand
     /// behind the byte.
-    pub fn of_parts(byte: u8, operands: Operands<I>) -> Option<Self>
+    pub fn of_parts(byte: u8, operands: Operands<I, List<CanonicalOption>>) -> Option<Self>
         ensures some { IfSome result (λ f. canonical_parts f ≡ (byte, operands)) }
         ensures none { IfNone result (form_of (canonical_at byte) ≢ Some (operands_form operands)) }
     {

@@ -25,19 +25,28 @@ module _ {A : Type 0} (f : A → Tree) (xs : List A) {i : ℕ} {out start : List
   none_left : map f (drop i xs) ≡ []
   none_left = ap (map f) (drop_of_length-le xs past)
 
-  -- all items are written behind their number
-  pub items_written : (old : List ℕ) → start ≡ old ++ leb (length xs) → out ≡ old ++ normal (vector_tree (map f xs))
-  items_written old e =
+  -- all items are written
+  pub items_written : out ≡ start ++ normal (rows_tree (map f xs))
+  items_written =
       let P : List Tree → Type 0 = λ z. out ++ normal (rows_tree z) ≡ start ++ normal (rows_tree (map f xs)) in
-      let all : out ++ [] ≡ start ++ normal (rows_tree (map f xs)) = subst P none_left done.written in
-      sym (append-nil out) ∙ all ∙ ap (λ (z : List ℕ). z ++ normal (rows_tree (map f xs))) e
+      sym (append-nil out) ∙ subst P none_left done.written
+
+  pub items_in_range : InRange (rows_tree (map f xs))
+  items_in_range =
+      let P : List Tree → Type 0 = λ z. InRange (rows_tree z) → InRange (rows_tree (map f xs)) in
+      subst P none_left done.in_range tt
+
+-- ---- and behind their number
+
+module _ {A : Type 0} (f : A → Tree) (xs : List A) where
+  pub numbered_written : (old : List ℕ) {start out : List ℕ} → start ≡ old ++ leb (length xs) → out ≡ start ++ normal (rows_tree (map f xs)) → out ≡ old ++ normal (vector_tree (map f xs))
+  numbered_written old e p =
+      p ∙ ap (λ (z : List ℕ). z ++ normal (rows_tree (map f xs))) e
       ∙ append_assoc old (leb (length xs)) (normal (rows_tree (map f xs)))
       ∙ ap (λ (k : ℕ). old ++ (leb k ++ normal (rows_tree (map f xs)))) (sym (count_map f xs))
 
-  pub items_in_range : length xs < 2 ^ 32 → InRange (vector_tree (map f xs))
-  items_in_range few =
-      let P : List Tree → Type 0 = λ z. InRange (rows_tree z) → InRange (rows_tree (map f xs)) in
-      (rw (count_map f xs) few, subst P none_left done.in_range tt)
+  pub numbered_in_range : length xs < 2 ^ 32 → InRange (rows_tree (map f xs)) → InRange (vector_tree (map f xs))
+  numbered_in_range few r = (rw (count_map f xs) few, r)
 
 -- ---- counts
 
@@ -61,24 +70,23 @@ pub large_second : (e : WriteFault) (m n : ℕ) (others : List ℕ) → IfTooLar
 large_second e m n others p = large_right e (m ∷ []) (n ∷ others) (large_first e n others p)
 
 -- the number of the items is too large
-pub items_too_large : {A : Type 0} (f : A → Tree) (xs : List A) (e : WriteFault) → IfTooLarge e (λ size. (size ≡ length xs) × (2 ^ 32 - 1 < size)) →
+pub number_too_large : {A : Type 0} (f : A → Tree) (xs : List A) (e : WriteFault) → IfTooLarge e (λ size. (size ≡ length xs) × (2 ^ 32 - 1 < size)) →
     LargeAmong e (counts (vector_tree (map f xs)))
-items_too_large f xs e p =
+number_too_large f xs e p =
     large_right e (counts (rows_tree (map f xs))) (count (rows_tree (map f xs)) ∷ []) (large_first e _ [] (rw (count_map f xs) p))
 
-items_at : {A : Type 0} (f : A → Tree) (xs : List A) (i : ℕ) (x : A) (e : WriteFault) → i < length xs → x ≡ get_or xs i x → LargeAmong e (counts (f x)) →
+-- a count of an item is too large
+pub item_too_large : {A : Type 0} (f : A → Tree) (xs : List A) (i : ℕ) (x : A) (e : WriteFault) → i < length xs → x ≡ get_or xs i x → LargeAmong e (counts (f x)) →
     LargeAmong e (counts (rows_tree (map f xs)))
-items_at f [] i x e h is p = absurd (omega arith)
-items_at f (y ∷ xs) zero x e h is p =
+item_too_large f [] i x e h is p = absurd (omega arith)
+item_too_large f (y ∷ xs) zero x e h is p =
     let P : _ → Type 0 = λ z. LargeAmong e (counts (f z)) in
     large_left e (counts (f y)) (counts (rows_tree (map f xs))) (subst P is p)
-items_at f (y ∷ xs) (suc i) x e h is p = large_right e (counts (f y)) (counts (rows_tree (map f xs))) (items_at f xs i x e (omega arith) is p)
+item_too_large f (y ∷ xs) (suc i) x e h is p = large_right e (counts (f y)) (counts (rows_tree (map f xs))) (item_too_large f xs i x e (omega arith) is p)
 
--- a count of an item is too large
-pub item_too_large : {A : Type 0} (f : A → Tree) (xs : List A) (i : ℕ) (x : A) (e : WriteFault) → i < length xs → x ≡ get_or xs i x →
-    LargeAmong e (counts (f x)) → LargeAmong e (counts (vector_tree (map f xs)))
-item_too_large f xs i x e h is p =
-    large_left e (counts (rows_tree (map f xs))) (count (rows_tree (map f xs)) ∷ []) (items_at f xs i x e h is p)
+pub numbered_too_large : {A : Type 0} (f : A → Tree) (xs : List A) (e : WriteFault) → LargeAmong e (counts (rows_tree (map f xs))) →
+    LargeAmong e (counts (vector_tree (map f xs)))
+numbered_too_large f xs e p = large_left e (counts (rows_tree (map f xs))) (count (rows_tree (map f xs)) ∷ []) p
 
 -- one of a few counts, or the last
 pub large_last : (xs : List ℕ) {n size : ℕ} → size ≡ n → 2 ^ 32 - 1 < size → IsTooLarge (xs ++ n ∷ []) size

@@ -41,7 +41,7 @@ memory_type_spelled ty r = ∣ frameless_spells memory_type refl (memory_type_is
 pub tag_type_spelled : (ty : TagType) → InRange (tag_type_tree ty) → SpelledAs tag_type (tag_type_tree ty)
 tag_type_spelled ty r = ∣ frameless_spells tag_type refl (tag_type_is ty) r ∣₁
 
-item_is : (kind : ExportKind) (i : ℕ) → Is (Shape.ref Named.item) (item_tree kind i)
+pub item_is : (kind : ExportKind) (i : ℕ) → Is (Shape.ref Named.item) (item_tree kind i)
 item_is export.Func i = Is.ref (Is.first (Is.seq Is.alike Is.ix))
 item_is export.Table i = Is.ref (Is.later {k = 0} (Is.first (Is.seq Is.fixed Is.ix)))
 item_is export.Memory i = Is.ref (Is.later {k = 1} (Is.later {k = 0} (Is.first (Is.seq Is.fixed Is.ix))))

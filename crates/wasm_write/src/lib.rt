@@ -49,3 +49,4 @@ pub use types::{
     RefType, StorageType, StructType, SubType, TableType, TagKind, TagType, ValType,
 };
 pub use value_types::write_val_type;
+pub use vectors::{ItemOf, write_rows, write_vec};

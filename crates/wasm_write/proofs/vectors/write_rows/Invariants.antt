@@ -1,6 +1,6 @@
 use Rattle.std.proofs.Common.{◌≡◌, drop, map, take, vec_len}
 use Rattle.wasm_write.proofs.Items.{ItemsSoFar}
-use Rattle.wasm_write.proofs.vectors.write_vec.Given as goal
+use Rattle.wasm_write.proofs.vectors.write_rows.Given as goal
 
 -- what is written and the items that are left are all, and what stood before stands there still
 abbrev pub invariant-loop-item : goal.invariant-loop-item
