@@ -21,9 +21,9 @@ mod value_types;
 mod vector_items;
 
 pub use expressions::ConstExpr;
-pub use externals::read_type_ref;
+pub use externals::{front_import, front_type_ref, read_type_ref};
 pub use fields::{front_export, front_name, read_item, read_name};
-pub use groups::read_group;
+pub use groups::{front_group, read_group};
 pub use name_section::NameSectionReader;
 pub use names::{IndirectNameMap, NameMap};
 pub use operators::{Operator, OperatorsReader};

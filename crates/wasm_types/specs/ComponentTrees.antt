@@ -1,6 +1,6 @@
 -- The trees that the types and rows of a component stand for (the Component Model's binary format), whatever the kind of what
 -- differs between a reader's and a writer's.
-use Rattle.std.specs.Prelude.{ℕ, List, [], ◌∷◌, map, Bool, true, false, Option, Some, None}
+use Rattle.std.specs.Prelude.{ℕ, zero, suc, List, [], ◌∷◌, map, Bool, true, false, Option, Some, None}
 use Rattle.std.specs.Borrow.{Bor}
 use Rattle.wasm_shapes.specs.declared.Space.{Space}
 use Rattle.wasm_shapes.specs.declared.Space.TheVariants as space
@@ -17,9 +17,12 @@ use Rattle.wasm_types.specs.declared.components.CanonicalFunction.TheVariants as
 use Rattle.wasm_types.specs.declared.components.CanonicalOption.{CanonicalOption}
 use Rattle.wasm_types.specs.declared.components.CanonicalOption.TheVariants as option
 use Rattle.wasm_types.specs.declared.components.ComponentArg.{ComponentArg}
+use Rattle.wasm_types.specs.declared.components.ComponentDefinedType.{ComponentDefinedType}
+use Rattle.wasm_types.specs.declared.components.ComponentDefinedType.TheVariants as defined
 use Rattle.wasm_types.specs.declared.components.ComponentExport.{ComponentExport}
 use Rattle.wasm_types.specs.declared.components.ComponentExternalKind.{ComponentExternalKind}
 use Rattle.wasm_types.specs.declared.components.ComponentExternalKind.TheVariants as kind
+use Rattle.wasm_types.specs.declared.components.ComponentFuncType.{ComponentFuncType}
 use Rattle.wasm_types.specs.declared.components.ComponentImport.{ComponentImport}
 use Rattle.wasm_types.specs.declared.components.ComponentInstance.{ComponentInstance}
 use Rattle.wasm_types.specs.declared.components.ComponentInstance.TheVariants as component_instance
@@ -38,6 +41,7 @@ use Rattle.wasm_types.specs.declared.components.PrimitiveValType.{PrimitiveValTy
 use Rattle.wasm_types.specs.declared.components.PrimitiveValType.TheVariants as primitive
 use Rattle.wasm_types.specs.declared.components.TypeBounds.{TypeBounds}
 use Rattle.wasm_types.specs.declared.components.TypeBounds.TheVariants as bounds
+use Rattle.wasm_types.specs.declared.components.VariantCase.{VariantCase}
 use Rattle.wasm_types.specs.Types.{Indices, val_type_tree}
 
 -- ---- types of values
@@ -85,6 +89,41 @@ type_tree i = Tree.ix space.ComponentType i
 abbrev pub component_val_type_tree : ComponentValType → Tree
 component_val_type_tree (value.Primitive ty) = Tree.row 0 (primitive_tree ty)
 component_val_type_tree (value.Type_ i) = Tree.row 1 (Tree.sx space.ComponentType i)
+
+-- one that may be left out
+abbrev pub maybe_value_tree : Option ComponentValType → Tree
+maybe_value_tree None = Tree.absent
+maybe_value_tree (Some ty) = Tree.present (component_val_type_tree ty)
+
+-- a name and a type, of a field or a parameter
+abbrev pub named_value_tree : Bor (List ℕ) × ComponentValType → Tree
+named_value_tree v = Tree.pair (Tree.name v.0.now) (component_val_type_tree v.1)
+
+abbrev pub named_values_tree : List (Bor (List ℕ) × ComponentValType) → Tree
+named_values_tree vs = vector_tree (map named_value_tree vs)
+
+abbrev pub variant_case_tree : VariantCase → Tree
+variant_case_tree c = Tree.pair (Tree.name c.name.now) (Tree.pair (maybe_value_tree c.ty) (Tree.fixed 0x00))
+
+abbrev pub label_tree : Bor (List ℕ) → Tree
+label_tree name = Tree.name name.now
+
+abbrev pub component_defined_type_tree : ComponentDefinedType → Tree
+component_defined_type_tree (defined.Primitive ty) = Tree.row 0 (primitive_tree ty)
+component_defined_type_tree (defined.Record fields) = Tree.row 1 (led 0x72 (named_values_tree fields))
+component_defined_type_tree (defined.Variant cases) = Tree.row 2 (led 0x71 (vector_tree (map variant_case_tree cases)))
+component_defined_type_tree (defined.List ty) = Tree.row 3 (led 0x70 (component_val_type_tree ty))
+component_defined_type_tree (defined.Tuple types) = Tree.row 4 (led 0x6f (vector_tree (map component_val_type_tree types)))
+component_defined_type_tree (defined.Flags names) = Tree.row 5 (led 0x6e (vector_tree (map label_tree names)))
+component_defined_type_tree (defined.Enum names) = Tree.row 6 (led 0x6d (vector_tree (map label_tree names)))
+component_defined_type_tree (defined.Option ty) = Tree.row 7 (led 0x6b (component_val_type_tree ty))
+component_defined_type_tree (defined.Result ok err) = Tree.row 8 (led 0x6a (Tree.pair (maybe_value_tree ok) (maybe_value_tree err)))
+component_defined_type_tree (defined.Own i) = Tree.row 9 (led 0x69 (type_tree i))
+component_defined_type_tree (defined.Borrow i) = Tree.row 10 (led 0x68 (type_tree i))
+component_defined_type_tree (defined.FixedLengthList ty n) = Tree.row 11 (led 0x67 (Tree.pair (component_val_type_tree ty) (Tree.u32 n)))
+component_defined_type_tree (defined.Stream ty) = Tree.row 12 (led 0x66 (maybe_value_tree ty))
+component_defined_type_tree (defined.Future ty) = Tree.row 13 (led 0x65 (maybe_value_tree ty))
+component_defined_type_tree (defined.Map key value) = Tree.row 14 (led 0x63 (Tree.pair (component_val_type_tree key) (component_val_type_tree value)))
 
 -- ---- what is imported and exported
 
@@ -291,6 +330,41 @@ async_tree true = Tree.row 1 (Tree.fixed 0x01)
 abbrev pub result_tree : Option ComponentValType → Tree
 result_tree (Some ty) = Tree.row 0 (led 0x00 (component_val_type_tree ty))
 result_tree None = Tree.row 1 (led 0x01 (Tree.fixed 0x00))
+
+-- ---- types of functions and resources
+
+-- the parameters and the result
+abbrev pub component_signature_tree : ComponentFuncType → Tree
+component_signature_tree f = Tree.pair (named_values_tree f.params) (result_tree f.result)
+
+-- behind the byte that says whether it is asynchronous
+abbrev pub func_row : Bool → Tree → Tree
+func_row false t = Tree.row 1 (led 0x40 t)
+func_row true t = Tree.row 2 (led 0x43 t)
+
+abbrev pub component_func_type_tree : ComponentFuncType → Tree
+component_func_type_tree f = func_row f.async_ (component_signature_tree f)
+
+-- an index of a function, which may be left out
+abbrev pub maybe_function : Option ℕ → Tree
+maybe_function None = Tree.absent
+maybe_function (Some i) = Tree.present (Tree.ix space.Function i)
+
+-- a resource behind its byte, by the tree of the type that stands for it
+abbrev pub resource_parts : Tree → Option ℕ → Tree
+resource_parts rep dtor = Tree.pair rep (maybe_function dtor)
+
+abbrev pub resource_tree : Tree → Option ℕ → Tree
+resource_tree rep dtor = Tree.row 5 (led 0x3f (resource_parts rep dtor))
+
+-- ---- core types
+
+-- A group of a core module's types: one open subtype stands behind another byte.
+abbrev pub core_group_tree : Tree → Tree
+core_group_tree (Tree.row (suc zero) t) = Tree.row 1 (led 0x00 (Tree.row 1 t))
+core_group_tree t = Tree.row 2 t
+
+-- ---- canonical functions by what stands behind their bytes
 
 module _ {I : Type 0} (indices : Indices I) where
   -- what stands behind the byte

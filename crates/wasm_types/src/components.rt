@@ -46,6 +46,44 @@ pub enum ComponentTypeRef {
     Component(u32),
 }
 
+/// A function type: whether it is asynchronous, its parameters, and its result, of which there may be none (`functype`).
+#[derive(Drop)]
+pub struct ComponentFuncType<'a> {
+    pub async_: bool,
+    pub params: List<(&'a str, ComponentValType)>,
+    pub result: Option<ComponentValType>,
+}
+
+/// A case of a variant: its name and its type, of which there may be none (`case`).
+#[derive(Clone, Copy, PartialEq, Debug)]
+pub struct VariantCase<'a> {
+    pub name: &'a str,
+    pub ty: Option<ComponentValType>,
+}
+
+/// A type of values that is defined (`defvaltype`).
+#[derive(Drop)]
+pub enum ComponentDefinedType<'a> {
+    Primitive(PrimitiveValType),
+    Record(List<(&'a str, ComponentValType)>),
+    Variant(List<VariantCase<'a>>),
+    List(ComponentValType),
+    Map(ComponentValType, ComponentValType),
+    FixedLengthList(ComponentValType, u32),
+    Tuple(List<ComponentValType>),
+    Flags(List<&'a str>),
+    Enum(List<&'a str>),
+    Option(ComponentValType),
+    Result {
+        ok: Option<ComponentValType>,
+        err: Option<ComponentValType>,
+    },
+    Own(u32),
+    Borrow(u32),
+    Future(Option<ComponentValType>),
+    Stream(Option<ComponentValType>),
+}
+
 /// The sort of what a component exports (`sort`).
 #[derive(Clone, Copy, PartialEq, Debug)]
 pub enum ComponentExternalKind {
@@ -64,6 +102,12 @@ pub enum ComponentOuterAliasKind {
     CoreType,
     Type_,
     Component,
+}
+
+/// The sort of what an alias in a module type names further out (`core:alias`).
+#[derive(Clone, Copy, PartialEq, Debug)]
+pub enum OuterAliasKind {
+    Type_,
 }
 
 /// An alias; `K` is the sort of what core instances export (`alias`).

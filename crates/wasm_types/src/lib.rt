@@ -6,10 +6,10 @@ mod components;
 mod types;
 
 pub use components::{
-    Alias, CanonicalFunction, CanonicalOption, ComponentArg, ComponentExport,
-    ComponentExternalKind, ComponentImport, ComponentInstance, ComponentOuterAliasKind,
-    ComponentTypeRef, ComponentValType, Instance, InstantiationArg, InstantiationArgKind, Operands,
-    PrimitiveValType, TypeBounds,
+    Alias, CanonicalFunction, CanonicalOption, ComponentArg, ComponentDefinedType, ComponentExport,
+    ComponentExternalKind, ComponentFuncType, ComponentImport, ComponentInstance,
+    ComponentOuterAliasKind, ComponentTypeRef, ComponentValType, Instance, InstantiationArg,
+    InstantiationArgKind, Operands, OuterAliasKind, PrimitiveValType, TypeBounds, VariantCase,
 };
 pub use types::{
     AbstractHeapType, Catch, CustomSection, FieldType, FuncType, Handle, HeapType, Ieee32, Ieee64,
