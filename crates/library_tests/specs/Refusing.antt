@@ -1,5 +1,5 @@
 -- A reencoder of the tests that refuses one of its hook calls.
-use Rattle.std.specs.Prelude.{ℕ, suc, ◌+◌, ◌-◌, ◌^◌, ◌<◌, ◌≡◌, Bool, true, false, not, ◌&&◌, Result, Ok, Err, nat_eq, min, if◌then◌else◌, refl}
+use Rattle.std.specs.Prelude.{ℕ, ◌+◌, ◌-◌, ◌^◌, ◌≡◌, Bool, true, false, not, ◌&&◌, Result, Ok, Err, nat_eq, min, if◌then◌else◌, refl}
 use Rattle.wasm_shapes.specs.declared.Visit.{Visit}
 use Rattle.wasm_shapes.specs.declared.Visit.TheVariants.{Index, Outer, Section, Push, Pop}
 use Rattle.reencode_hooks.specs.Hooks.{IsAnswer, IsInRange, MayRefuse, index_of, index_of-given, is_of_components}

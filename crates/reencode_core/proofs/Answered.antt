@@ -13,7 +13,7 @@ use Rattle.wasm_shapes.specs.Module.{alsos, body, code_row, core_tree, tree_of}
 use Rattle.wasm_shapes.specs.Types.{rows_tree, vector_tree}
 use Rattle.reencode_core.specs.Pieces.{Range}
 use Rattle.reencode_core.specs.Sinks.{InCode, KeepsBody, KeepsFrames, KeepsSections, NotCode}
-use Rattle.reencode_core.specs.Kept.{IsKept, KeepsIf, KeptBodies, KeptInCode, KeptSections, Kept}
+use Rattle.reencode_core.specs.Kept.{IsKept, KeepsIf, KeptBodies, KeptInCode, KeptSections}
 use Rattle.reencode_core.specs.Kept as statements
 use Rattle.reencode_core.proofs.KeptLaws.{spelling_is_kept}
 

@@ -8,7 +8,7 @@ use Rattle.wasm_shapes.specs.declared.Space.TheVariants as space
 use Rattle.wasm_shapes.specs.Tree.{Tree, visits, visits_from, before, kind, after, fill, aimed_at, normal, Listed}
 use Rattle.wasm_shapes.specs.Spells.{Spells}
 use Rattle.wasm_shapes.proofs.Laws.{one_tree, filled_read_back}
-use Rattle.reencode_core.specs.Kept.{IsOwnAnswer, OwnAnswers, IsKept}
+use Rattle.reencode_core.specs.Kept.{OwnAnswers, IsKept}
 use Rattle.reencode_core.specs.Kept as statements
 
 -- ---- lists of visits one behind another

@@ -13,7 +13,7 @@ use Rattle.reencode_hooks.specs.Walk.{walk}
 use Rattle.reencode_items.specs.Rows.{Asks, onto_rows}
 use Rattle.reencode_items.specs.declared.direct.passing.Next.{Next}
 use Rattle.reencode_items.specs.declared.direct.passing.Next.TheVariants as next
-use Rattle.reencode_items.specs.Direct.{IsWithin, KeepsOperator, KeepsOperators, PassesNext, PassesRun, RefusesOperator, Run, StopsRun}
+use Rattle.reencode_items.specs.Direct.{IsWithin, KeepsOperator, KeepsOperators, PassesNext, PassesRun, RefusesOperator, StopsRun}
 use Rattle.reencode_items.proofs.Rows.{one_onto, onto_nothing}
 
 pub no_run : {S E : Type 0} (asked : Asks S E) (s : S) (bytes : List ℕ) → KeepsOperators asked s bytes bytes s

@@ -1,25 +1,19 @@
 -- The section visits of a reading are those of the kinds of its sections.
-use Rattle.std.proofs.Common.{◌≡◌, ◌≤◌, ◌<◌, lit≤, ◌⊎◌, inl, inr, ℕ, suc, List, [], ◌∷◌, ◌++◌, Bool, true, false, ◌&&◌, nat_eq, length, map, Option, Some, None, refl, sym, ap, ap₂, ◌∙◌, arith}
+use Rattle.std.proofs.Common.{◌≡◌, ◌≤◌, ◌<◌, lit≤, ◌⊎◌, inl, inr, ℕ, suc, List, [], ◌∷◌, ◌++◌, Bool, true, false, nat_eq, length, map, Option, Some, None, refl, sym, ap, ap₂, ◌∙◌, arith}
 use Rattle.std.specs.Prelude.{find, zip, cond}
 use Rattle.std.specs.List.{concat, AllZip, cons_option}
 use Rattle.std.proofs.lemmas.List.Elements.{filter-append}
 use Rattle.std.proofs.lemmas.Bool.Decides.{Decides-eqb}
-use Rattle.wasm_shapes.specs.declared.ImmKind.{ImmKind}
 use Rattle.wasm_shapes.specs.declared.ImmKind.TheVariants as kind
 use Rattle.wasm_shapes.specs.declared.SectionId.{SectionId}
 use Rattle.wasm_shapes.specs.declared.SectionId.TheVariants as id
-use Rattle.wasm_shapes.specs.declared.Space.TheVariants as space
 use Rattle.wasm_shapes.specs.declared.Visit.{Visit}
-use Rattle.wasm_shapes.specs.declared.Visit.TheVariants.{Index, Section, Pop}
-use Rattle.wasm_shapes.specs.Operators.{kinds_among}
+use Rattle.wasm_shapes.specs.declared.Visit.TheVariants.{Section}
 use Rattle.wasm_shapes.specs.Tree as trees
-use Rattle.wasm_shapes.specs.Tree.{Tree, Listed, normal, visits, visits_from, before}
-use Rattle.wasm_shapes.specs.Shape.{Shape, Named, flat, shape_of_kind, shape_of_kinds, shape_of_row, listing}
-use Rattle.wasm_shapes.specs.NamedShapes.{shape_of}
+use Rattle.wasm_shapes.specs.Tree.{Tree, normal, visits, visits_from, before}
 use Rattle.wasm_shapes.specs.Spells.{Is, Spelled, Spells}
 use Rattle.wasm_shapes.specs.SectionTable.{number}
 use Rattle.wasm_shapes.specs.Module.{in_force, section, sections, core_header, alsos, CoreReading, InFrame}
-use Rattle.wasm_shapes.proofs.Lists.{both}
 use Rattle.wasm_shapes.proofs.SectionTable.{in_frame}
 use Rattle.wasm_shapes.proofs.Laws.{module_headed}
 use Rattle.reencode_hooks.specs.SectionVisits.{is_section, section_visits}

@@ -1,5 +1,5 @@
 -- The law of section visits: what the section hook is told on the walk over a core module.
-use Rattle.std.specs.Prelude.{◌≡◌, ◌≤◌, ◌<◌, ◌⊎◌, ℕ, suc, List, [], ◌∷◌, ◌++◌, Bool, true, false, nat_eq, length, map, find, filter, filter_map, zip, Option, Some, None}
+use Rattle.std.specs.Prelude.{◌≡◌, ◌≤◌, ◌<◌, ◌⊎◌, ℕ, suc, List, [], ◌∷◌, ◌++◌, nat_eq, length, map, find, filter_map, zip, Option, Some, None}
 use Rattle.std.specs.List.{concat, AllZip}
 use Rattle.wasm_shapes.specs.declared.SectionId.{SectionId}
 use Rattle.wasm_shapes.specs.declared.Visit.{Visit}

@@ -3,7 +3,7 @@ use Rattle.wasm_shapes.specs.Operators.{code_of}
 use Rattle.wasm_write.specs.Instructions.{imms_tree, instruction_tree}
 use Rattle.reencode_hooks.proofs.Leaving.{handed, visited_left}
 use Rattle.reencode_items.proofs.DirectExpressions.{kept_left, kept_refused, mapped_there, operator_left, operator_refused, read_there, run_finished, run_gains, run_left_there, run_made, run_more_left, run_other, run_spelled, some_left}
-use Rattle.reencode_items.proofs.Expressions.{expression_begins, expression_step, is_end, left_there, no_end_made}
+use Rattle.reencode_items.proofs.Expressions.{expression_step, is_end, left_there, no_end_made}
 use Rattle.reencode_items.proofs.defaults.AnyReencodeItems.const_expr.Goals as goal
 
 pub slice_bounds-bytes-count : goal.slice_bounds-bytes-count
