@@ -1,12 +1,13 @@
 //! The rows of a component's sections, as typed values.
-use wasm_leb::{Fault, ReadError};
+use wasm_leb::{Fault, Kind, ReadError};
 use wasm_read::ExternalKind;
 use wasm_read_component::{
     CanonicalFunction, CanonicalOption, ComponentAlias, ComponentAliasSectionReader,
     ComponentCanonicalSectionReader, ComponentExport, ComponentExportSectionReader,
     ComponentExternalKind, ComponentImport, ComponentImportSectionReader, ComponentInstance,
-    ComponentInstanceSectionReader, ComponentOuterAliasKind, ComponentTypeRef, ComponentValType,
-    Instance, InstanceSectionReader, PrimitiveValType, TypeBounds, read_start,
+    ComponentInstanceSectionReader, ComponentOuterAliasKind, ComponentPayload, ComponentPayloads,
+    ComponentTypeRef, ComponentValType, Instance, InstanceSectionReader, PrimitiveValType,
+    TypeBounds, read_start,
 };
 
 /// The first byte of a name of what is imported says nothing.
@@ -263,5 +264,40 @@ fn starts(rt: HostRuntime) -> Result<(), Fault> {
         Err(fault) => Some(fault),
     };
     assert_eq!(rt; refused, Some(Fault::Read(ReadError { at: 0 })));
+    Ok(())
+}
+
+#[test]
+fn payloads(rt: HostRuntime) -> Result<(), Fault> {
+    let mut payloads = ComponentPayloads::new(&[
+        0x00, 0x61, 0x73, 0x6d, 0x0d, 0x00, 0x01, 0x00, 8, 2, 1, 0x05, 13, 1, 0x63,
+    ])?;
+    let section = ComponentPayload::Section {
+        id: 8,
+        at: 8,
+        body: &[1, 0x05],
+    };
+    assert_eq!(rt; payloads.next(), Ok(Some(section)));
+    let unknown = ComponentPayload::Unknown {
+        at: 12,
+        id: 13,
+        contents: &[0x63],
+    };
+    assert_eq!(rt; payloads.next(), Ok(Some(unknown)));
+    assert_eq!(rt; payloads.next(), Ok(None));
+    for id in [0u8, 1, 3, 4, 7, 128] {
+        let bytes = [0x00, 0x61, 0x73, 0x6d, 0x0d, 0x00, 0x01, 0x00, id, 1, 0];
+        let mut payloads = ComponentPayloads::new(&bytes)?;
+        assert_eq!(rt;
+            payloads.next(),
+            Err(Fault::Read(ReadError { at: 8 })),
+            "of {id}"
+        );
+    }
+    let refused = match ComponentPayloads::new(&[0x00, 0x61, 0x73, 0x6d, 0x01, 0x00, 0x00, 0x00]) {
+        Ok(_) => None,
+        Err(fault) => Some(fault),
+    };
+    assert_eq!(rt; refused, Some(Fault::Header(Kind::Module)));
     Ok(())
 }

@@ -25,7 +25,7 @@ fn alone(alloc: Global, inner: CompositeInnerType) -> SubType {
     }
 }
 
-fn list_of<T: Copy + Drop>(alloc: Global, items: &[T]) -> Result<List<T>, NoMemory> {
+pub(crate) fn list_of<T: Copy + Drop>(alloc: Global, items: &[T]) -> Result<List<T>, NoMemory> {
     let mut list = List::with_capacity(alloc, items.len())?;
     for item in items {
         list.push(*item)?;

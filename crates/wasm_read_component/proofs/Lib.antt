@@ -3,3 +3,4 @@ pub mod ComponentCanonical
 pub mod ComponentStart
 pub mod ComponentValues
 pub mod ScopedRows
+pub mod PayloadFrames

@@ -1,3 +1,4 @@
 pub mod Aliases
+pub mod ComponentPayloads
 pub mod ComponentRows
 pub mod Scoped

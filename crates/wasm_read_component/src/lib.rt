@@ -4,12 +4,14 @@
 mod aliases;
 mod canonical;
 mod items;
+mod payloads;
 mod rows;
 mod scoped_reader;
 mod sections;
 mod types;
 mod value_types;
 
+pub use payloads::ComponentPayloads;
 pub use scoped_reader::{ReadRowAt, ScopedReader};
 pub use sections::{
     ComponentAliasSectionReader, ComponentCanonicalSectionReader, ComponentExportSectionReader,
@@ -19,6 +21,6 @@ pub use sections::{
 pub use types::{
     CanonicalFunction, CanonicalOption, ComponentAlias, ComponentArg, ComponentExport,
     ComponentExternalKind, ComponentImport, ComponentInstance, ComponentOuterAliasKind,
-    ComponentStartFunction, ComponentTypeRef, ComponentValType, Instance, InstantiationArg,
-    InstantiationArgKind, Operands, PrimitiveValType, TypeBounds,
+    ComponentPayload, ComponentStartFunction, ComponentTypeRef, ComponentValType, Instance,
+    InstantiationArg, InstantiationArgKind, Operands, PrimitiveValType, TypeBounds,
 };

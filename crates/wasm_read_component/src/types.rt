@@ -1,6 +1,7 @@
 //! What the readers give.
 use wasm_leb::List;
-use wasm_read::{Export, ExternalKind, UnpackedIndex};
+use wasm_read::{CustomSection, Export, ExternalKind, UnpackedIndex};
+use wasm_shapes::SectionId;
 pub use wasm_types::{
     CanonicalOption, ComponentArg, ComponentExport, ComponentExternalKind, ComponentImport,
     ComponentInstance, ComponentOuterAliasKind, ComponentTypeRef, ComponentValType,
@@ -25,4 +26,33 @@ pub struct ComponentStartFunction {
     pub func_index: u32,
     pub arguments: List<u32>,
     pub results: u32,
+}
+
+/// A section of a component: of an id by its body, a module, a component, a custom one, or of an id that no table knows. `Core`
+/// is a section of a core module, which does not belong there; no reader gives it.
+#[derive(Clone, Copy, PartialEq, Debug)]
+pub enum ComponentPayload<'a> {
+    Core(SectionId),
+    Section {
+        id: u8,
+        at: usize,
+        body: &'a [u8],
+    },
+    Module {
+        at: usize,
+        bytes: &'a [u8],
+    },
+    Component {
+        at: usize,
+        bytes: &'a [u8],
+    },
+    Custom {
+        at: usize,
+        section: CustomSection<'a>,
+    },
+    Unknown {
+        at: usize,
+        id: u8,
+        contents: &'a [u8],
+    },
 }

@@ -21,14 +21,14 @@ use Rattle.wasm_types.specs.declared.components.TypeBounds.{TypeBounds}
 use Rattle.wasm_types.specs.declared.components.TypeBounds.TheVariants as bounds
 use Rattle.wasm_types.specs.ComponentTrees.{component_export_tree, component_import_tree, component_val_type_tree, maybe_type_ref, primitive_tree, sorted_tree, type_bounds_tree, type_ref_tree}
 
-abbrev SpelledAs : Shape → Tree → Type 0
+abbrev pub SpelledAs : Shape → Tree → Type 0
 SpelledAs s t = ∥ Spells s (normal t) t ∥₁
 
 primitive_is : (t : PrimitiveValType) → Is primitive (primitive_tree t)
 primitive_is ty.Bool = row_is primitive 0 Is.fixed
 primitive_is _ = row_is primitive _ Is.fixed
 
-value_is : (t : ComponentValType) → Is component_value (component_val_type_tree t)
+pub value_is : (t : ComponentValType) → Is component_value (component_val_type_tree t)
 value_is (value.Primitive t) = Is.ref (Is.first (primitive_is t))
 value_is (value.Type_ i) = Is.ref (Is.later {k = 0} (Is.first Is.sx))
 
@@ -44,7 +44,7 @@ ref_is (ref.Type_ b) = Is.ref (row_is type_ref_rows 3 (Is.seq Is.fixed (bounds_i
 ref_is (ref.Component i) = Is.ref (row_is type_ref_rows 4 (Is.seq Is.fixed Is.ix))
 ref_is (ref.Instance i) = Is.ref (row_is type_ref_rows 5 (Is.seq Is.fixed Is.ix))
 
-sorted_is : (k : ComponentExternalKind) (i : ℕ) → Is sorted_item (sorted_tree k i)
+pub sorted_is : (k : ComponentExternalKind) (i : ℕ) → Is sorted_item (sorted_tree k i)
 sorted_is kind.Module i = row_is sorted_item 0 (Is.seq Is.fixed (Is.seq Is.fixed Is.ix))
 sorted_is kind.Func i = row_is sorted_item 1 (Is.seq Is.fixed Is.ix)
 sorted_is kind.Value i = row_is sorted_item 2 (Is.seq Is.fixed Is.ix)

@@ -1,2 +1,4 @@
 pub mod AliasRows
 pub mod ExternRows
+pub mod InstanceRows
+pub mod ComponentCanonical

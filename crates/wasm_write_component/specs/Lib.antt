@@ -1,1 +1,3 @@
 pub mod Aliases
+pub mod ComponentBytes
+pub mod ComponentRows

@@ -1,0 +1,153 @@
+//! The sections of a component, frame by frame.
+ghost use Rattle.std.specs.Prelude.{◌≡◌, [], false, IfOk, IfErr, IfSome, IfNone};
+ghost use Rattle.wasm_shapes.specs.Module.{frame, numbered_frame};
+ghost use Rattle.wasm_shapes.specs.Place.{Begins};
+ghost use Rattle.wasm_read.specs.Frames.{frame_tree, payload_at, section_number, sections_place};
+ghost use Rattle.wasm_read_component.specs.ComponentPayloads.{component_frame_tree, component_payload_at, in_force, ComponentHeaderRead, IsGiven, IsNotInForce, NoComponentFrame, NoComponentHeader, NoneInForce};
+
+use crate::types::ComponentPayload;
+use std::marker::Model;
+use wasm_leb::{Fault, Kind, ReadError};
+use wasm_read::{Payload, front_frame};
+use wasm_shapes::SectionId;
+
+/// A reader of the sections of a component.
+#[derive(Drop)]
+pub struct ComponentPayloads<'a> {
+    rest: &'a [u8],
+    len: usize,
+}
+
+impl<'a> Model for ComponentPayloads<'a> {
+    ghost use Rattle.wasm_read.specs.Frames.{Sections};
+
+    ghost Value = { Sections };
+
+    ghost view = { λ payloads. record { rest = payloads.rest.now; len = payloads.len } };
+}
+
+impl<'a> ComponentPayloads<'a> {
+    /// Reads the header of a component.
+    ///
+    /// The error is `Header(Module)` exactly where the header of a module stands there, and `Read` with the place 0 exactly
+    /// where neither header does.
+    pub fn new(bytes: &'a [u8]) -> Result<ComponentPayloads<'a>, Fault>
+        ensures ok { IfOk result (λ payloads. ComponentHeaderRead bytes.now payloads) }
+        ensures err { IfErr result (λ e. NoComponentHeader e bytes.now) }
+    {
+        match bytes {
+            [0x00, 0x61, 0x73, 0x6d, 0x0d, 0x00, 0x01, 0x00, rest @ ..] => Ok(ComponentPayloads {
+                rest,
+                len: bytes.len(),
+            }),
+            [0x00, 0x61, 0x73, 0x6d, 0x01, 0x00, 0x00, 0x00, ..] => {
+                Err(Fault::Header(Kind::Module))
+            }
+            _ => Err(Fault::Read(ReadError { at: 0 })),
+        }
+    }
+
+    /// The place where it stands, counted from the first byte of the header.
+    pub fn place(&self) -> usize
+        ensures { result ≡ sections_place self.now }
+    {
+        self.len.saturating_sub(self.rest.len())
+    }
+
+    /// The frame of the next section, or none at the end. It is a `Section` or an `Unknown`.
+    ///
+    /// The error comes exactly where no frame of an id begins that is in force: of these are the ids 2, 5, 6 and 8 to 127. It
+    /// holds the place where the frame is due, counted from the first byte of the header, and leaves the reader where it
+    /// stood. No memory is taken.
+    pub fn next(&mut self) -> Result<Option<ComponentPayload<'a>>, Fault>
+        ensures some { IfOk result (λ o. IfSome o (λ p.
+            Begins frame self.old.rest (component_frame_tree p) self.new.rest)) }
+        ensures at { IfOk result (λ o. IfSome o (λ p.
+            component_payload_at p ≡ sections_place self.old)) }
+        ensures given { IfOk result (λ o. IfSome o (λ p. IsGiven p)) }
+        ensures ended { IfOk result (λ o. IfNone o ((self.old.rest ≡ []) × (self.new ≡ self.old))) }
+        ensures err { IfErr result (λ e.
+            NoComponentFrame e self.old.rest (sections_place self.old)) }
+        ensures stays { IfErr result (λ _. self.new ≡ self.old) }
+        ensures len { self.new.len ≡ self.old.len }
+    {
+        if self.rest.is_empty() {
+            return Ok(None);
+        }
+        let at = self.place();
+        match front_payload(self.rest, at) {
+            Some((payload, rest)) => {
+                self.rest = rest;
+                Ok(Some(payload))
+            }
+            None => Err(Fault::Read(ReadError { at })),
+        }
+    }
+}
+
+/// The id of the sections of a kind of core modules.
+fn id_of_kind(kind: SectionId) -> u8
+    ensures { result ≡ section_number kind }
+{
+    kind as u8
+}
+
+/// Whether a section may have this id.
+fn is_in_force(id: u8) -> bool
+    ensures { result ≡ in_force id }
+{
+    id == 2 || id == 5 || id == 6 || (8 <= id && id <= 127)
+}
+
+/// The section of this id, where it is in force.
+fn of_id(id: u8, at: usize, body: &[u8]) -> Option<ComponentPayload<'_>>
+    ensures tree { IfSome result (λ p. component_frame_tree p ≡ numbered_frame id body.now) }
+    ensures at { IfSome result (λ p. component_payload_at p ≡ at) }
+    ensures given { IfSome result (λ p. IsGiven p) }
+    ensures none { IfNone result (in_force id ≡ false) }
+{
+    if !is_in_force(id) {
+        return None;
+    }
+    if id < 12 {
+        return Some(ComponentPayload::Section { id, at, body });
+    }
+    let contents = body;
+    Some(ComponentPayload::Unknown { at, id, contents })
+}
+
+/// The section that stands in a frame, where its id is in force.
+fn of_frame(payload: Payload<'_>) -> Option<ComponentPayload<'_>>
+    ensures tree { IfSome result (λ p. component_frame_tree p ≡ frame_tree payload.entry) }
+    ensures at { IfSome result (λ p. component_payload_at p ≡ payload_at payload.entry) }
+    ensures given { IfSome result (λ p. IsGiven p) }
+    ensures none { IfNone result (IsNotInForce payload.entry) }
+{
+    match payload {
+        Payload::Section { id, at, body } => match of_id(id_of_kind(id), at, body) {
+            Some(payload) => Some(payload),
+            None => None,
+        },
+        Payload::Unknown { at, id, contents } => match of_id(id, at, contents) {
+            Some(payload) => Some(payload),
+            None => None,
+        },
+        Payload::Custom { .. } => None,
+    }
+}
+
+/// The section at the front of some bytes, which stand at a place, and the bytes behind it.
+fn front_payload(bytes: &[u8], at: usize) -> Option<(ComponentPayload<'_>, &[u8])>
+    ensures some { IfSome result (λ r. Begins frame bytes.now (component_frame_tree r.0) r.1.now) }
+    ensures at { IfSome result (λ r. component_payload_at r.0 ≡ at) }
+    ensures given { IfSome result (λ r. IsGiven r.0) }
+    ensures none { IfNone result (NoneInForce bytes.now) }
+{
+    let Some((payload, rest)) = front_frame(bytes, at) else {
+        return None;
+    };
+    match of_frame(payload) {
+        Some(payload) => Some((payload, rest)),
+        None => None,
+    }
+}
