@@ -36,7 +36,7 @@ impl ReencodeIndices for Refusing {
 
     ghost next = { λ s _. record s { calls = next_call s.calls } };
 
-    ghost adds = { λ _ _ _. [] };
+    ghost adds = { λ _ _. [] };
 
     ghost keeps_defaults = { true };
 
@@ -46,7 +46,7 @@ impl ReencodeIndices for Refusing {
 
     ghost answers_ok = { λ s visit h. refuses_call-given s.calls s.at visit h };
 
-    ghost adds_ok = { λ _ _ _ _. refl };
+    ghost adds_ok = { λ _ _ _. refl };
 
     fn data_index(&mut self, index: u32) -> Result<u32, Error<u32>> {
         answer!(self, index)

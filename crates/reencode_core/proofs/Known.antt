@@ -111,7 +111,7 @@ pub keeps_more : (old mid new : Sections) → KeepsModule old mid → KeepsModul
 keeps_more old mid new p q = (p.0 ++ q.0, gains_both old mid new p.0 q.0 p.1 q.1)
 
 -- what a section hook did
-pub hook_keeps : {S E : Type 0} (reply : S → Visit → Result ℕ E) (next : S → Visit → S) (adds : S → Option SectionId → Option SectionId → List SectionRow) (s m : S) (old new : Sections)
-    (a b : Option SectionId) (r : Result (Unit {0}) (Error E)) → RepliesSection reply next adds s m old new a b r → KeepsModule old new
-hook_keeps reply next adds s m old new a b (Ok u) h = (adds s a b, h.1)
-hook_keeps reply next adds s m old new a b (Err e) h = (h.1.part, h.1.gains)
+pub hook_keeps : {S E : Type 0} (reply : S → Visit → Result ℕ E) (next : S → Visit → S) (adds : S → Visit → List SectionRow) (s m : S) (old new : Sections)
+    (v : Visit) (r : Result (Unit {0}) (Error E)) → RepliesSection reply next adds s m old new v r → KeepsModule old new
+hook_keeps reply next adds s m old new v (Ok u) h = (adds s v, h.1)
+hook_keeps reply next adds s m old new v (Err e) h = (h.1.part, h.1.gains)

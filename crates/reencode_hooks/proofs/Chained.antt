@@ -1,9 +1,7 @@
 -- The section hook of a chain where one of the two refuses.
-use Rattle.std.specs.Prelude.{◌≡◌, ◌++◌, ◌∷◌, ℕ, List, Option, Result, Ok, Err}
+use Rattle.std.specs.Prelude.{◌≡◌, ◌++◌, ◌∷◌, ℕ, List, Result, Ok, Err}
 use Rattle.std.proofs.Common.{refl, sym, ap, subst, ◌∙◌, append_assoc}
-use Rattle.wasm_shapes.specs.declared.SectionId.{SectionId}
 use Rattle.wasm_shapes.specs.declared.Visit.{Visit}
-use Rattle.wasm_shapes.specs.declared.Visit.TheVariants.{Section}
 use Rattle.wasm_write.specs.Sections.{SectionRow, Sections}
 use Rattle.reencode_hooks.specs.declared.error.Error.{Error}
 use Rattle.reencode_hooks.specs.declared.error.Error.TheVariants.{CanonicalizedHeapTypeReference, InvalidConstExpr, InvalidCodeSectionSize, UnexpectedNonCoreModuleSection, UnexpectedNonComponentSection, UnsupportedCoreTypeInComponent, ParseError, UserError, TooLarge, NoMemory}
@@ -62,8 +60,8 @@ refused_second {A} {B} {X} {Y} (Ok j) k n s a b m next e h q =
         let same_state : t ≡ m = cc in
         rw (← same_error, ← same_state) refl
 
-module _ {A B X Y : Type 0} (f : A → Visit → Result ℕ X) (f' : A → Visit → A) (adds : A → Option SectionId → Option SectionId → List SectionRow)
-    (g : B → Visit → Result ℕ Y) (g' : B → Visit → B) (more : B → Option SectionId → Option SectionId → List SectionRow) where
+module _ {A B X Y : Type 0} (f : A → Visit → Result ℕ X) (f' : A → Visit → A) (adds : A → Visit → List SectionRow)
+    (g : B → Visit → Result ℕ Y) (g' : B → Visit → B) (more : B → Visit → List SectionRow) where
   abbrev Refuses : A → A → B → B → Visit → ℕ → List SectionRow → Error (ChainError X Y) → Type 0
   Refuses s a t b v c rows e = RefusesSection (chain_reply f g) (chain_next f f' g') (record { a = s; b = t }) (record { a = a; b = b }) v c rows e
 
@@ -93,22 +91,22 @@ module _ {A B X Y : Type 0} (f : A → Visit → Result ℕ X) (f' : A → Visit
   second_refuses (UserError x) s a t b v n c front rows p h = refused_second (f s v) _ n (f' s v) a t b _ (UserError x) p h
 
   -- the section hook of the chain
-  abbrev Hook : A → A → B → B → Sections → Sections → Option SectionId → Option SectionId → Error (ChainError X Y) → Type 0
-  Hook s a t b old new after before e =
-      RepliesSection (chain_reply f g) (chain_next f f' g') (chain_adds adds more) (record { a = s; b = t }) (record { a = a; b = b }) old new after before (Err e)
+  abbrev Hook : A → A → B → B → Sections → Sections → Visit → Error (ChainError X Y) → Type 0
+  Hook s a t b old new v e =
+      RepliesSection (chain_reply f g) (chain_next f f' g') (chain_adds adds more) (record { a = s; b = t }) (record { a = a; b = b }) old new v (Err e)
 
   -- the first one's hook refused
-  pub first_error : (s a : A) (t : B) (old new : Sections) (after before : Option SectionId) (e : Error X)
-      → RepliesSection f f' adds s a old new after before (Err e) → Hook s a t t old new after before (as_first e)
-  first_error s a t old new after before e h =
-      (first_refuses e s a t (Section after before) old.ceiling (adds s after before) (more t after before) h.0, part_front (more t after before) h.1)
+  pub first_error : (s a : A) (t : B) (old new : Sections) (v : Visit) (e : Error X)
+      → RepliesSection f f' adds s a old new v (Err e) → Hook s a t t old new v (as_first e)
+  first_error s a t old new v e h =
+      (first_refuses e s a t v old.ceiling (adds s v) (more t v) h.0, part_front (more t v) h.1)
 
   -- the second one's hook refused, where the first one's accepted
-  pub second_error : (s a : A) (t b : B) (old mid new : Sections) (after before : Option SectionId) (e : Error Y)
-      → (ask f f' s (Section after before) ≡ accepted 0 a) × Gains old mid (adds s after before)
-      → RepliesSection g g' more t b mid new after before (Err e) → Hook s a t b old new after before (as_second e)
-  second_error s a t b old mid new after before e p h =
+  pub second_error : (s a : A) (t b : B) (old mid new : Sections) (v : Visit) (e : Error Y) → reindexed v 0 ≡ v
+      → (ask f f' s v ≡ accepted 0 a) × Gains old mid (adds s v)
+      → RepliesSection g g' more t b mid new v (Err e) → Hook s a t b old new v (as_second e)
+  second_error s a t b old mid new v e asks_none p h =
       let same : mid.ceiling ≡ old.ceiling = ap (λ z. z.ceiling) p.1 in
-      let own : RefusesSection g g' t b (Section after before) old.ceiling (more t after before) e =
-      subst (λ z. RefusesSection g g' t b (Section after before) z (more t after before) e) same h.0 in
-      (second_refuses e s a t b (Section after before) 0 old.ceiling (adds s after before) (more t after before) p.0 own, part_behind (adds s after before) p.1 h.1)
+      let own : RefusesSection g g' t b (reindexed v 0) old.ceiling (more t v) e =
+      subst (λ w. RefusesSection g g' t b w old.ceiling (more t v) e) (sym asks_none) (subst (λ z. RefusesSection g g' t b v z (more t v) e) same h.0) in
+      (second_refuses e s a t b v 0 old.ceiling (adds s v) (more t v) p.0 own, part_behind (adds s v) p.1 h.1)
