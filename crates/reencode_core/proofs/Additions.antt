@@ -11,32 +11,9 @@ use Rattle.reencode_hooks.specs.declared.error.Error.TheVariants.{TooLarge, NoMe
 use Rattle.reencode_hooks.specs.Errors.{error_of_write}
 use Rattle.reencode_hooks.specs.Run.{refused, answered}
 use Rattle.reencode_hooks.specs.Hooks.{Gains, GainsPart, HasTooLarge, RefusesSection, RepliesSection, at_section}
+use Rattle.reencode_hooks.proofs.Chained.{part_behind, part_front, too_large_behind, too_large_front}
 use Rattle.reencode_core.specs.declared.adding.Adding.{Adding}
 use Rattle.reencode_core.specs.Interspersed.{Between}
-
--- ---- sections in front of others
-
--- a section that is too large is one of more sections too
-too_large_front : {c size : ℕ} {rows : List SectionRow} (more : List SectionRow) → HasTooLarge c rows size → HasTooLarge c (rows ++ more) size
-too_large_front more h =
-    record { front = h.front; row = h.row; rest = h.rest ++ more; parts = ap (λ z. z ++ more) h.parts ∙ append_assoc h.front (h.row ∷ h.rest) more; sized = h.sized; above = h.above }
-
-too_large_behind : {c size : ℕ} {more : List SectionRow} (rows : List SectionRow) → HasTooLarge c more size → HasTooLarge c (rows ++ more) size
-too_large_behind rows h =
-    record { front = rows ++ h.front; row = h.row; rest = h.rest; parts = ap (λ z. rows ++ z) h.parts ∙ sym (append_assoc rows h.front (h.row ∷ h.rest)); sized = h.sized; above = h.above }
-
--- a front part of them is one of more sections too
-part_front : {m n : Sections} {rows : List SectionRow} (more : List SectionRow) → GainsPart m n rows → GainsPart m n (rows ++ more)
-part_front more h = record { part = h.part; rest = h.rest ++ more; parts = ap (λ z. z ++ more) h.parts ∙ append_assoc h.part h.rest more; gains = h.gains }
-
-gains_both : (m n o : Sections) (rows more : List SectionRow) → Gains m n rows → Gains n o more → Gains m o (rows ++ more)
-gains_both m n o rows more first second =
-    let at_first : Gains (record m { sections = m.sections ++ rows }) o more = subst (λ z. Gains z o more) first second in
-    at_first ∙ ap (λ z. record m { sections = z }) (append_assoc m.sections rows more)
-
-part_behind : {m n o : Sections} {more : List SectionRow} (rows : List SectionRow) → Gains m n rows → GainsPart n o more → GainsPart m o (rows ++ more)
-part_behind {m} {n} {o} rows gains h =
-    record { part = rows ++ h.part; rest = h.rest; parts = ap (λ z. rows ++ z) h.parts ∙ sym (append_assoc rows h.part h.rest); gains = gains_both m n o rows h.part gains h.gains }
 
 -- ---- the hook
 

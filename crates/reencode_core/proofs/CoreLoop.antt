@@ -28,6 +28,7 @@ use Rattle.reencode_hooks.specs.Errors.{error_of_fault}
 use Rattle.reencode_hooks.specs.Run.{Step, accepted, refused, and_then, ask, NeverWants}
 use Rattle.reencode_hooks.specs.Walk.{walk, walk_from, announced}
 use Rattle.reencode_hooks.specs.Hooks.{KeepsAdds, RepliesSection, Gains}
+use Rattle.reencode_hooks.proofs.Chained.{gains_both}
 use Rattle.reencode_hooks.proofs.Walks.{walk_is_run}
 use Rattle.reencode_core.specs.Leaves.{CoreUpTo, EndsBy, IsFront, IsSize, Leaves, LeavesCore, MadeUpTo, TellsFault, module_in}
 use Rattle.reencode_core.specs.Errors.{IfParse, IfRefused, placed_at}
@@ -43,7 +44,7 @@ use Rattle.reencode_core.proofs.AnySection.{GivesFramed, Reached, added_put, kin
 use Rattle.reencode_core.proofs.Made.{ended_all, ended_behind, ended_placed, fault_unasked, front_all, front_first, front_none, front_same, front_then, not_wanting, one_ended, tells_placed}
 use Rattle.reencode_core.proofs.SectionMade.{before_drawn, in_frame_drawn}
 use Rattle.reencode_core.proofs.Usual.{IfRefused-map, unless_wanting, usual_ask, stops_usual}
-use Rattle.reencode_core.proofs.Known.{some_begun, gains_none, gains_both}
+use Rattle.reencode_core.proofs.Known.{some_begun, gains_none}
 
 -- ---- lists of sections
 

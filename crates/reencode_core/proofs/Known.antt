@@ -22,6 +22,7 @@ use Rattle.reencode_hooks.specs.declared.error.Error.{Error}
 use Rattle.reencode_hooks.specs.declared.error.Error.TheVariants.{TooLarge}
 use Rattle.reencode_hooks.specs.Run.{Step, accepted, refused}
 use Rattle.reencode_hooks.specs.Walk.{walk, closed, announced}
+use Rattle.reencode_hooks.proofs.Chained.{gains_both}
 use Rattle.reencode_core.specs.Rows.{Asks}
 use Rattle.reencode_core.specs.Sections.{KeepsModule}
 
@@ -98,11 +99,6 @@ vec_is {s = s} {n = n} {body = body} {start = start} there tree p = go tree p.sh
 -- no section was added
 pub gains_none : (m : Sections) → Gains m m []
 gains_none m = ap (λ (rows : List SectionRow). record m { sections = rows }) (sym (append-nil m.sections))
-
--- what was added one behind the other was added at once
-pub gains_both : (old mid new : Sections) (own rows : List SectionRow) → Gains old mid own → Gains mid new rows → Gains old new (own ++ rows)
-gains_both old mid new own rows g h =
-    h ∙ ap (λ (m : Sections). record m { sections = m.sections ++ rows }) g ∙ ap (λ (z : List SectionRow). record old { sections = z }) (append_assoc old.sections own rows)
 
 pub keeps_same : (m : Sections) → KeepsModule m m
 keeps_same m = ([], gains_none m)
