@@ -114,7 +114,7 @@ struct Refusing;
 impl ReencodeIndices for Refusing {
     ghost use Rattle.std.specs.Prelude.{true, false, Some, codes, []};
     ghost use Rattle.wasm_shapes.specs.declared.SectionId.TheVariants.{Code};
-    ghost use mathlib.Core.Bool.{false≢true};
+    ghost use Rattle.reencode_hooks.specs.Hooks.{at_section, at_section-keeps};
 
     type Error = SectionId;
 
@@ -122,7 +122,8 @@ impl ReencodeIndices for Refusing {
 
     ghost next = { λ s _. s };
 
-    ghost adds = { λ _ after before. put_at (Some Code) (custom_row (codes "x") []) before };
+    ghost adds = { λ _. at_section (λ after before.
+        put_at (Some Code) (custom_row (codes "x") []) before) };
 
     ghost keeps_defaults = { true };
 
@@ -132,7 +133,7 @@ impl ReencodeIndices for Refusing {
 
     ghost answers_ok = { λ _ visit h. refuses_code-given visit h };
 
-    ghost adds_ok = { λ never. absurd (false≢true never) };
+    ghost adds_ok = { at_section-keeps _ };
 
     fn data_index(&mut self, index: u32) -> Result<u32, Error<SectionId>> {
         Ok(index)

@@ -119,7 +119,7 @@ impl<K> ReencodeIndices for Noter<K> {
 
     ghost next = { λ s _. s };
 
-    ghost adds = { λ _ _ _. [] };
+    ghost adds = { λ _ _. [] };
 
     ghost keeps_defaults = { false };
 
@@ -129,7 +129,7 @@ impl<K> ReencodeIndices for Noter<K> {
 
     ghost answers_ok = { λ _ visit h. index_of-given visit h };
 
-    ghost adds_ok = { λ _ _ _ _. refl };
+    ghost adds_ok = { λ _ _ _. refl };
 
     fn data_index(&mut self, index: u32) -> Made<u32> {
         self.note("data_index");

@@ -1,9 +1,7 @@
 -- The section hook of a reencoder that adds the sections of a rule behind those of another.
-use Rattle.std.specs.Prelude.{◌≡◌, ◌++◌, ◌∷◌, ℕ, List, Option, Result, Ok, Err, IsErrAnd}
+use Rattle.std.specs.Prelude.{◌≡◌, ◌++◌, ◌∷◌, ℕ, List, Result, Ok, Err, IsErrAnd}
 use Rattle.std.proofs.Common.{sym, ap, subst, ◌∙◌, append_assoc}
-use Rattle.wasm_shapes.specs.declared.SectionId.{SectionId}
 use Rattle.wasm_shapes.specs.declared.Visit.{Visit}
-use Rattle.wasm_shapes.specs.declared.Visit.TheVariants.{Section}
 use Rattle.wasm_write.specs.declared.fault.WriteFault.{WriteFault}
 use Rattle.wasm_write.specs.declared.fault.WriteFault.TheVariants as write
 use Rattle.wasm_write.specs.Faults.{IfTooLarge}
@@ -12,32 +10,10 @@ use Rattle.reencode_hooks.specs.declared.error.Error.{Error}
 use Rattle.reencode_hooks.specs.declared.error.Error.TheVariants.{TooLarge, NoMemory}
 use Rattle.reencode_hooks.specs.Errors.{error_of_write}
 use Rattle.reencode_hooks.specs.Run.{refused, answered}
-use Rattle.reencode_hooks.specs.Hooks.{Gains, GainsPart, HasTooLarge, RefusesSection, RepliesSection}
+use Rattle.reencode_hooks.specs.Hooks.{Gains, GainsPart, HasTooLarge, RefusesSection, RepliesSection, at_section}
+use Rattle.reencode_hooks.proofs.Chained.{part_behind, part_front, too_large_behind, too_large_front}
 use Rattle.reencode_core.specs.declared.adding.Adding.{Adding}
-
--- ---- sections in front of others
-
--- a section that is too large is one of more sections too
-too_large_front : {c size : ℕ} {rows : List SectionRow} (more : List SectionRow) → HasTooLarge c rows size → HasTooLarge c (rows ++ more) size
-too_large_front more h =
-    record { front = h.front; row = h.row; rest = h.rest ++ more; parts = ap (λ z. z ++ more) h.parts ∙ append_assoc h.front (h.row ∷ h.rest) more; sized = h.sized; above = h.above }
-
-too_large_behind : {c size : ℕ} {more : List SectionRow} (rows : List SectionRow) → HasTooLarge c more size → HasTooLarge c (rows ++ more) size
-too_large_behind rows h =
-    record { front = rows ++ h.front; row = h.row; rest = h.rest; parts = ap (λ z. rows ++ z) h.parts ∙ sym (append_assoc rows h.front (h.row ∷ h.rest)); sized = h.sized; above = h.above }
-
--- a front part of them is one of more sections too
-part_front : {m n : Sections} {rows : List SectionRow} (more : List SectionRow) → GainsPart m n rows → GainsPart m n (rows ++ more)
-part_front more h = record { part = h.part; rest = h.rest ++ more; parts = ap (λ z. z ++ more) h.parts ∙ append_assoc h.part h.rest more; gains = h.gains }
-
-gains_both : (m n o : Sections) (rows more : List SectionRow) → Gains m n rows → Gains n o more → Gains m o (rows ++ more)
-gains_both m n o rows more first second =
-    let at_first : Gains (record m { sections = m.sections ++ rows }) o more = subst (λ z. Gains z o more) first second in
-    at_first ∙ ap (λ z. record m { sections = z }) (append_assoc m.sections rows more)
-
-part_behind : {m n o : Sections} {more : List SectionRow} (rows : List SectionRow) → Gains m n rows → GainsPart n o more → GainsPart m o (rows ++ more)
-part_behind {m} {n} {o} rows gains h =
-    record { part = rows ++ h.part; rest = h.rest; parts = ap (λ z. rows ++ z) h.parts ∙ sym (append_assoc rows h.part h.rest); gains = gains_both m n o rows h.part gains h.gains }
+use Rattle.reencode_core.specs.Interspersed.{Between}
 
 -- ---- the hook
 
@@ -47,8 +23,8 @@ refused_within : {S R E : Type 0} (r : Result ℕ E) (s m : S) (k : R) (e : Erro
 refused_within (Ok n) s m k e h = cc
 refused_within (Err x) s m k e h = cc
 
-module _ {S R E : Type 0} (reply : S → Visit → Result ℕ E) (next : S → Visit → S) (adds : S → Option SectionId → Option SectionId → List SectionRow)
-    (sections : R → Option SectionId → Option SectionId → List SectionRow) where
+module _ {S R E : Type 0} (reply : S → Visit → Result ℕ E) (next : S → Visit → S) (adds : S → Visit → List SectionRow)
+    (sections : R → Between SectionRow) where
   refuses_within : (e : Error E) (s m : S) (k : R) (v : Visit) (c : ℕ) (rows more : List SectionRow)
       → RefusesSection reply next s m v c rows e
       → RefusesSection {S = Adding S R} (λ t w. reply t.reencoder w) (λ t w. record t { reencoder = next t.reencoder w })
@@ -58,19 +34,19 @@ module _ {S R E : Type 0} (reply : S → Visit → Result ℕ E) (next : S → V
   refuses_within e s m k v c rows more h = refused_within (reply s v) (next s v) m k e h
 
   -- the hook of both
-  abbrev Hook : S → S → R → Sections → Sections → Option SectionId → Option SectionId → Result (Unit {0}) (Error E) → Type 0
-  Hook s m k old new after before r =
+  abbrev Hook : S → S → R → Sections → Sections → Visit → Result (Unit {0}) (Error E) → Type 0
+  Hook s m k old new v r =
       RepliesSection {S = Adding S R} (λ t w. reply t.reencoder w) (λ t w. record t { reencoder = next t.reencoder w })
-      (λ t a b. adds t.reencoder a b ++ sections t.sections a b)
-      (record { reencoder = s; sections = k }) (record { reencoder = m; sections = k }) old new after before r
+      (λ t w. adds t.reencoder w ++ at_section (sections t.sections) w)
+      (record { reencoder = s; sections = k }) (record { reencoder = m; sections = k }) old new v r
 
   -- the inner hook's error is that of both
-  pub inner_error : (s m : S) (k : R) (old new : Sections) (after before : Option SectionId) (e : Error E)
-      → RepliesSection reply next adds s m old new after before (Err e)
-      → (r : Result (Unit {0}) (Error E)) → IsErrAnd r (λ x. x ≡ e) → Hook s m k old new after before r
-  inner_error s m k old new after before e h (Ok _) is = absurd is
-  inner_error s m k old new after before e h (Err x) is =
-      (refuses_within x s m k (Section after before) old.ceiling (adds s after before) (sections k after before) (rw is h.0), part_front (sections k after before) h.1)
+  pub inner_error : (s m : S) (k : R) (old new : Sections) (v : Visit) (e : Error E)
+      → RepliesSection reply next adds s m old new v (Err e)
+      → (r : Result (Unit {0}) (Error E)) → IsErrAnd r (λ x. x ≡ e) → Hook s m k old new v r
+  inner_error s m k old new v e h (Ok _) is = absurd is
+  inner_error s m k old new v e h (Err x) is =
+      (refuses_within x s m k v old.ceiling (adds s v) (at_section (sections k) v) (rw is h.0), part_front (at_section (sections k) v) h.1)
 
   rule_refuses : (s m : S) (k : R) (v : Visit) (c : ℕ) (rows more : List SectionRow) (fault : WriteFault) → IfTooLarge fault (HasTooLarge c more)
       → RefusesSection {S = Adding S R} (λ t w. reply t.reencoder w) (λ t w. record t { reencoder = next t.reencoder w })
@@ -79,11 +55,11 @@ module _ {S R E : Type 0} (reply : S → Visit → Result ℕ E) (next : S → V
   rule_refuses s m k v c rows more write.NoMemory h = tt
 
   -- the rule's error, where the inner hook accepted, is that of both
-  pub rule_error : (s m : S) (k : R) (old mid new : Sections) (after before : Option SectionId) (fault : WriteFault)
-      → Gains old mid (adds s after before) → GainsPart mid new (sections k after before) → IfTooLarge fault (HasTooLarge mid.ceiling (sections k after before))
-      → (r : Result (Unit {0}) (Error E)) → IsErrAnd r (λ x. x ≡ error_of_write fault) → Hook s m k old new after before r
-  rule_error s m k old mid new after before fault gains part large (Ok _) is = absurd is
-  rule_error s m k old mid new after before fault gains part large (Err x) is =
+  pub rule_error : (s m : S) (k : R) (old mid new : Sections) (v : Visit) (fault : WriteFault)
+      → Gains old mid (adds s v) → GainsPart mid new (at_section (sections k) v) → IfTooLarge fault (HasTooLarge mid.ceiling (at_section (sections k) v))
+      → (r : Result (Unit {0}) (Error E)) → IsErrAnd r (λ x. x ≡ error_of_write fault) → Hook s m k old new v r
+  rule_error s m k old mid new v fault gains part large (Ok _) is = absurd is
+  rule_error s m k old mid new v fault gains part large (Err x) is =
       let same : mid.ceiling ≡ old.ceiling = ap (λ z. z.ceiling) gains in
-      let own : IfTooLarge fault (HasTooLarge old.ceiling (sections k after before)) = subst (λ z. IfTooLarge fault (HasTooLarge z (sections k after before))) same large in
-      (rw is (rule_refuses s m k (Section after before) old.ceiling (adds s after before) (sections k after before) fault own), part_behind (adds s after before) gains part)
+      let own : IfTooLarge fault (HasTooLarge old.ceiling (at_section (sections k) v)) = subst (λ z. IfTooLarge fault (HasTooLarge z (at_section (sections k) v))) same large in
+      (rw is (rule_refuses s m k v old.ceiling (adds s v) (at_section (sections k) v) fault own), part_behind (adds s v) gains part)

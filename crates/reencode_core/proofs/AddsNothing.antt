@@ -1,6 +1,7 @@
 -- A reencoder that adds nothing: what is woven is walked.
-use Rattle.std.proofs.Common.{◌≡◌, ◌≢◌, ℕ, List, [], ◌∷◌, ◌++◌, map, Option, Some, None, Result, Ok, Err, refl, sym, ap, ◌∙◌, subst, append-nil, ◌⊎◌, inl, inr}
+use Rattle.std.proofs.Common.{◌≡◌, ◌≢◌, ℕ, List, [], ◌∷◌, ◌++◌, map, Option, Some, None, Result, Ok, Err, Bool, IsTrue, refl, sym, ap, ◌∙◌, subst, append-nil, ◌⊎◌, inl, inr}
 use Rattle.wasm_shapes.specs.declared.SectionId.{SectionId}
+use Rattle.wasm_shapes.specs.declared.Visit.{Visit}
 use Rattle.wasm_shapes.specs.declared.Visit.TheVariants.{Section}
 use Rattle.wasm_shapes.specs.Tree.{Tree}
 use Rattle.wasm_shapes.specs.Module.{alsos}
@@ -9,7 +10,7 @@ use Rattle.reencode_hooks.specs.declared.error.Error.{Error}
 use Rattle.reencode_hooks.specs.declared.error.Error.TheVariants.{TooLarge, NoMemory}
 use Rattle.reencode_hooks.specs.Run.{Step, refused}
 use Rattle.reencode_hooks.specs.Walk.{walk, walk_from, announced}
-use Rattle.reencode_hooks.specs.Hooks.{Gains, HasTooLarge}
+use Rattle.reencode_hooks.specs.Hooks.{Gains, HasTooLarge, KeepsAdds, MayAdd}
 use Rattle.reencode_core.specs.Rows.{Asks}
 use Rattle.reencode_core.specs.Core.{onto, AcceptsSections, RefusesNext, StopsSections, IsCause, GivesCore, GivesBytes}
 use Rattle.reencode_core.specs.Weave.{Puts, added, put_before, weave, weave_from}
@@ -32,12 +33,12 @@ none_own c own e none h = own_fits c own e (λ size. let P : List SectionRow →
 
 -- where what the hook was to add there fits, none of that is too large
 nothing_large : {S E : Type 0} {asked : Asks S E} {adds : Puts S SectionRow} {c : ℕ} {bytes : List ℕ} {s : S} {e : Error E} (o : OwnTooLarge asked adds c bytes s e) →
-    ((before : Option SectionId) (size : ℕ) → ¬ HasTooLarge c (adds o.front.at o.front.last before) size) → ⊥
+    ((v : Visit) → MayAdd v → (size : ℕ) → ¬ HasTooLarge c (adds o.front.at v) size) → ⊥
 nothing_large {adds = adds} {c = c} {e = e} o fit = go o.own
   where
     go : OwnNext adds c o.front.last o.front.at o.front.rest e → ⊥
-    go (inl q) = own_fits c (adds o.front.at o.front.last None) e (fit None) q.1
-    go (inr q) = own_fits c (adds o.front.at o.front.last (Some q.0)) e (fit (Some q.0)) q.4
+    go (inl q) = own_fits c (adds o.front.at (Section o.front.last None)) e (fit (Section o.front.last None) tt) q.1
+    go (inr q) = own_fits c (adds o.front.at (Section o.front.last (Some q.0))) e (fit (Section o.front.last (Some q.0)) tt) q.4
 
 no_part : {part own : List SectionRow} → IsPart part own → own ≡ [] → part ≡ []
 no_part {part = part} p none = go part p.rest (sym none ∙ p.parts)
@@ -46,13 +47,17 @@ no_part {part = part} p none = go part p.rest (sym none ∙ p.parts)
     go [] rest e = refl
     go (r ∷ part) rest e = absurd cc
 
-module _ {S E : Type 0} (asked : Asks S E) (adds : Puts S SectionRow) (none : (s : S) (a b : Option SectionId) → adds s a b ≡ []) where
+-- where the type says that it adds nothing, nothing is added
+pub added_none : {S : Type 0} {adds : Puts S SectionRow} {nothing : Bool} → KeepsAdds adds nothing → IsTrue nothing → (s : S) (v : Visit) → MayAdd v → adds s v ≡ []
+added_none keeps none s v may = keeps s v (λ _. none)
+
+module _ {S E : Type 0} (asked : Asks S E) (adds : Puts S SectionRow) (none : (s : S) (v : Visit) → MayAdd v → adds s v ≡ []) where
   same : (c : ℕ) (last : Option SectionId) (s : S) (t : Tree) → weave_from asked (added adds) c last s t ≡ walk_from asked c last s t
-  same c last s t = weave_nothing asked (added adds) (λ s a b. ap (λ (rows : List SectionRow). map framed_tree rows) (none s a b)) c last s t
+  same c last s t = weave_nothing asked (added adds) (λ s v may. ap (λ (rows : List SectionRow). map framed_tree rows) (none s v may)) c last s t
 
   before_none : (s : S) (last : Option SectionId) (t : Tree) → put_before adds s last t ≡ []
   before_none s last (Tree.row k t) = before_none s last t
-  before_none s last (Tree.told k t) = none s last (Some k)
+  before_none s last (Tree.told k t) = none s (Section last (Some k)) tt
   before_none s last _ = refl
 
   all_accepted : (c : ℕ) (s m : S) (read made : List Tree) (last : Option SectionId) → WeavesSections asked (added adds) c s read made last m → AcceptsSections asked c s read made last m
@@ -67,16 +72,16 @@ module _ {S E : Type 0} (asked : Asks S E) (adds : Puts S SectionRow) (none : (s
       by (inl own) = absurd (none_own c (put_before adds s last t) e (before_none s last t) own)
       by (inr step) = rw step refl
   next_refused c last s m (Tree.also t others) part e (inr behind) = (behind.2 ∙ before_none s last t, λ other. rw (behind.1, behind.3 other) refl)
-  next_refused c last s m Tree.finish part e hook = (no_part hook.0 (none s last None), λ other. by (hook.1 other))
+  next_refused c last s m Tree.finish part e hook = (no_part hook.0 (none s (Section last None) tt), λ other. by (hook.1 other))
     where
-      by : IsOwn c (adds s last None) e ⊎ (asked s (Section last None) ≡ refused e m) → asked s (Section last None) ≡ refused e m
-      by (inl own) = absurd (none_own c (adds s last None) e (none s last None) own)
+      by : IsOwn c (adds s (Section last None)) e ⊎ (asked s (Section last None) ≡ refused e m) → asked s (Section last None) ≡ refused e m
+      by (inl own) = absurd (none_own c (adds s (Section last None)) e (none s (Section last None) tt) own)
       by (inr step) = step
   next_refused c last s m _ part e h = absurd h
 
   no_own : {c : ℕ} {bytes : List ℕ} {s : S} {e : Error E} → OwnTooLarge asked adds c bytes s e → ⊥
   no_own {c = c} o =
-      nothing_large o (λ b size. let P : List SectionRow → Type 0 = λ rows. ¬ HasTooLarge c rows size in subst P (sym (none o.front.at o.front.last b)) (none_large c size))
+      nothing_large o (λ v may size. let P : List SectionRow → Type 0 = λ rows. ¬ HasTooLarge c rows size in subst P (sym (none o.front.at v may)) (none_large c size))
 
   plain_cause : (c : ℕ) (bytes : List ℕ) (s m : S) (e : Error E) → IsWovenCause asked adds c bytes s m e → IsCause asked c bytes s m e
   plain_cause c bytes s m e (inl h) = h

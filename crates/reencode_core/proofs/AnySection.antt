@@ -41,7 +41,7 @@ unknown_before {id = id} {contents = contents} last {t = t} low i = rw (unknown_
 
 -- what the section hook puts before it
 pub kind_put : {S A : Type 0} (put : Puts S A) (k : SectionId) {body : List ℕ} (s : S) (last : Option SectionId) {t : Tree} → InFrame t (numbered_frame (number k) body) →
-    put_before put s last t ≡ put s last (Some k)
+    put_before put s last t ≡ put s (Section last (Some k))
 kind_put put k {body = body} s last {t = t} i = let r = kind_in_frame k body t i in rw r.1 refl
 
 custom_put : {S A : Type 0} (put : Puts S A) {name contents : List ℕ} (s : S) (last : Option SectionId) {t : Tree} → InFrame t (custom_frame name contents) → put_before put s last t ≡ []

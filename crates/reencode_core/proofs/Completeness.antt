@@ -13,7 +13,7 @@ use Rattle.wasm_read.specs.Frames.{numbered_frame}
 use Rattle.wasm_write.specs.Sections.{SectionRow}
 use Rattle.reencode_hooks.specs.declared.error.Error.{Error}
 use Rattle.reencode_hooks.specs.declared.error.Error.TheVariants.{NoMemory}
-use Rattle.reencode_hooks.specs.Hooks.{HasTooLarge}
+use Rattle.reencode_hooks.specs.Hooks.{HasTooLarge, MayAdd}
 use Rattle.reencode_hooks.specs.Run.{Step, accepted, refused, run, state_after}
 use Rattle.reencode_core.specs.Rows.{Asks}
 use Rattle.reencode_core.specs.Weave.{Puts, added, kind_after, weave}
@@ -48,8 +48,8 @@ module _ {S E : Type 0} {asked : Asks S E} {adds : Puts S SectionRow} {c : ℕ} 
         let asked_so_far : visits (alsos f.read Tree.nil) ≡ visits_of None f.read = visits-alsos None f.read Tree.nil ∙ append-nil (visits_of None f.read) in
         ap (λ (z : List Visit). state_after (run asked s z)) (sym asked_so_far) ∙ ap state_after a.ran
 
-    fits : (before : Option SectionId) (rest : List Visit) → visits t ≡ visits_of None f.read ++ Section f.last before ∷ rest → (size : ℕ) → ¬ HasTooLarge c (adds f.at f.last before) size
-    fits before rest parts size = let P : S → Type 0 = λ k. ¬ HasTooLarge c (adds k f.last before) size in subst P reached (fit (visits_of None f.read) f.last before rest parts size)
+    fits : (v : Visit) (rest : List Visit) → MayAdd v → visits t ≡ visits_of None f.read ++ v ∷ rest → (size : ℕ) → ¬ HasTooLarge c (adds f.at v) size
+    fits v rest may parts size = let P : S → Type 0 = λ k. ¬ HasTooLarge c (adds k v) size in subst P reached (fit (visits_of None f.read) v rest may parts size)
 
     behind : (u : Tree) → t ≡ alsos f.read u → visits t ≡ visits_of None f.read ++ visits_from f.last u
     behind u e = ap visits e ∙ visits-alsos None f.read u ∙ ap (λ (z : Option SectionId). visits_of None f.read ++ visits_from z u) (sym f.ends)
@@ -63,14 +63,14 @@ module _ {S E : Type 0} {asked : Asks S E} {adds : Puts S SectionRow} {c : ℕ} 
   never e o = go (next o.front) o.own
     where
       go : Ahead o.front.read o.front.rest t [] → OwnNext adds c o.front.last o.front.at o.front.rest e → ⊥
-      go (same is empty) (inl q) = own_fits c (adds o.front.at o.front.last None) e (fits o.front None [] (behind o.front Tree.finish is)) q.1
+      go (same is empty) (inl q) = own_fits c (adds o.front.at (Section o.front.last None)) e (fits o.front (Section o.front.last None) [] tt (behind o.front Tree.finish is)) q.1
       go (same is empty) (inr q) = some_begun q.3 empty
       go (more u v left is b) (inl q) = none_behind.none b.text left u b.spells (sym q.0 ∙ b.reads)
       go (more u v left is b) (inr q) =
           let told : visits_from o.front.last (Tree.also u v) ≡ Section o.front.last (Some q.0) ∷ (visits_from None u ++ visits_from (kind o.front.last u) v) =
           ap (λ (z : List Visit). z ++ (visits_from None u ++ visits_from (kind o.front.last u) v)) (told_before q.0 o.front.last (frame_there q.3 b)) in
-          own_fits c (adds o.front.at o.front.last (Some q.0)) e
-          (fits o.front (Some q.0) (visits_from None u ++ visits_from (kind o.front.last u) v) (behind o.front (Tree.also u v) is ∙ ap (λ (z : List Visit). visits_of None o.front.read ++ z) told)) q.4
+          own_fits c (adds o.front.at (Section o.front.last (Some q.0))) e
+          (fits o.front (Section o.front.last (Some q.0)) (visits_from None u ++ visits_from (kind o.front.last u) v) tt (behind o.front (Tree.also u v) is ∙ ap (λ (z : List Visit). visits_of None o.front.read ++ z) told)) q.4
 
 pub accepted_is_answered : {S E A : Type 0} (asked : Asks S E) (adds : Puts S SectionRow) (view : A → List ℕ) → AcceptedIsAnswered asked adds view
 accepted_is_answered {S = S} {E = E} asked adds view c bytes s m (Ok out) g t u n p fit h =

@@ -28,6 +28,7 @@ use Rattle.reencode_hooks.specs.Errors.{error_of_fault}
 use Rattle.reencode_hooks.specs.Run.{Step, accepted, refused, and_then, ask, NeverWants}
 use Rattle.reencode_hooks.specs.Walk.{walk, walk_from, announced}
 use Rattle.reencode_hooks.specs.Hooks.{KeepsAdds, RepliesSection, Gains}
+use Rattle.reencode_hooks.proofs.Chained.{gains_both}
 use Rattle.reencode_hooks.proofs.Walks.{walk_is_run}
 use Rattle.reencode_core.specs.Leaves.{CoreUpTo, EndsBy, IsFront, IsSize, Leaves, LeavesCore, MadeUpTo, TellsFault, module_in}
 use Rattle.reencode_core.specs.Errors.{IfParse, IfRefused, placed_at}
@@ -43,7 +44,7 @@ use Rattle.reencode_core.proofs.AnySection.{GivesFramed, Reached, added_put, kin
 use Rattle.reencode_core.proofs.Made.{ended_all, ended_behind, ended_placed, fault_unasked, front_all, front_first, front_none, front_same, front_then, not_wanting, one_ended, tells_placed}
 use Rattle.reencode_core.proofs.SectionMade.{before_drawn, in_frame_drawn}
 use Rattle.reencode_core.proofs.Usual.{IfRefused-map, unless_wanting, usual_ask, stops_usual}
-use Rattle.reencode_core.proofs.Known.{some_begun, gains_none, gains_both}
+use Rattle.reencode_core.proofs.Known.{some_begun, gains_none}
 
 -- ---- lists of sections
 
@@ -199,9 +200,9 @@ abbrev pub HookStops : {S E : Type 0} → Step S (Error E) ℕ → List SectionR
 HookStops step own m old new e =
     (part : List SectionRow) × Gains old new part × IsPart part own × (IsOwn old.ceiling own e ⊎ ((e ≢ NoMemory → step ≡ refused e m) × IfParse e (λ at. ⊥)))
 
-module _ {S E : Type 0} (reply : S → Visit → Result ℕ E) (next : S → Visit → S) (adds : Puts S SectionRow) (s m : S) (old new : Sections) (a b : Option SectionId) where
+module _ {S E : Type 0} (reply : S → Visit → Result ℕ E) (next : S → Visit → S) (adds : Puts S SectionRow) (s m : S) (old new : Sections) (v : Visit) where
   -- it refused: one of its own sections is too large, or as it replies
-  hook_own : (e : Error E) → RepliesSection reply next adds s m old new a b (Err e) → IsOwn old.ceiling (adds s a b) e ⊎ (e ≢ NoMemory → ask reply next s (Section a b) ≡ refused e m)
+  hook_own : (e : Error E) → RepliesSection reply next adds s m old new v (Err e) → IsOwn old.ceiling (adds s v) e ⊎ (e ≢ NoMemory → ask reply next s v ≡ refused e m)
   hook_own (TooLarge n) r = inl r.0
   hook_own NoMemory r = inr (λ other. absurd (other refl))
   hook_own (ParseError x) r = inr (λ other. r.0)
@@ -214,20 +215,20 @@ module _ {S E : Type 0} (reply : S → Visit → Result ℕ E) (next : S → Vis
   hook_own UnsupportedCoreTypeInComponent r = inr (λ other. r.0)
 
   -- its error says nothing of the bytes that are read
-  pub hook_usual : (e : Error E) → (e ≢ NoMemory → ask reply next s (Section a b) ≡ refused e m) → IfParse e (λ at. ⊥)
-  hook_usual e h = stops_usual (λ at. ⊥) (ask reply next s (Section a b)) e m (usual_ask reply next s (Section a b)) h
+  pub hook_usual : (e : Error E) → (e ≢ NoMemory → ask reply next s v ≡ refused e m) → IfParse e (λ at. ⊥)
+  hook_usual e h = stops_usual (λ at. ⊥) (ask reply next s v) e m (usual_ask reply next s v) h
 
-  pub hook_stops : (e : Error E) → RepliesSection reply next adds s m old new a b (Err e) → HookStops (ask reply next s (Section a b)) (adds s a b) m old new e
+  pub hook_stops : (e : Error E) → RepliesSection reply next adds s m old new v (Err e) → HookStops (ask reply next s v) (adds s v) m old new e
   hook_stops e r = (r.1.part, r.1.gains, record { rest = r.1.rest; parts = r.1.parts }, why (hook_own e r))
     where
-      why : IsOwn old.ceiling (adds s a b) e ⊎ (e ≢ NoMemory → ask reply next s (Section a b) ≡ refused e m) →
-          IsOwn old.ceiling (adds s a b) e ⊎ ((e ≢ NoMemory → ask reply next s (Section a b) ≡ refused e m) × IfParse e (λ at. ⊥))
+      why : IsOwn old.ceiling (adds s v) e ⊎ (e ≢ NoMemory → ask reply next s v ≡ refused e m) →
+          IsOwn old.ceiling (adds s v) e ⊎ ((e ≢ NoMemory → ask reply next s v ≡ refused e m) × IfParse e (λ at. ⊥))
       why (inl own) = inl own
       why (inr h) = inr (h, hook_usual e h)
 
   -- where a size is none of its own sections', it refused as it replies
-  pub hook_told : (e : Error E) → RepliesSection reply next adds s m old new a b (Err e) → (IsSize e → adds s a b ≡ []) → e ≢ NoMemory → ask reply next s (Section a b) ≡ refused e m
-  hook_told (TooLarge n) r none other = absurd (none_own {E = E} old.ceiling (adds s a b) (TooLarge n) (none tt) r.0)
+  pub hook_told : (e : Error E) → RepliesSection reply next adds s m old new v (Err e) → (IsSize e → adds s v ≡ []) → e ≢ NoMemory → ask reply next s v ≡ refused e m
+  hook_told (TooLarge n) r none other = absurd (none_own {E = E} old.ceiling (adds s v) (TooLarge n) (none tt) r.0)
   hook_told NoMemory r none other = absurd (other refl)
   hook_told (ParseError x) r none other = r.0
   hook_told (UserError x) r none other = r.0
@@ -583,12 +584,12 @@ module _ {S E : Type 0} (asked : Asks S E) (adds : Puts S SectionRow) where
 
     -- the error of the hook before a section
     pub hook_refused : (k : SectionId) {left body : List ℕ} {s' : S} {new' : Sections} (e : Error E) → Begins frame rest (numbered_frame (number k) body) left →
-        HookStops (asked s (Section last (Some k))) (adds s last (Some k)) s' new new' e → GivesWoven asked adds bytes (s0, old) (s', new') (Err e)
+        HookStops (asked s (Section last (Some k))) (adds s (Section last (Some k))) s' new new' e → GivesWoven asked adds bytes (s0, old) (s', new') (Err e)
     hook_refused k {left = left} {body = body} {s' = s'} {new' = new'} e there h =
         section_refused e there stops (why h.3) (gained h.1 (AddedThere.hook k body left there (h.2, own_or_refused own (asked s (Section last (Some k))) e h.3)))
       where
         own : List SectionRow
-        own = adds s last (Some k)
+        own = adds s (Section last (Some k))
 
         told : {t : Tree} → InFrame t (numbered_frame (number k) body) → announced asked s last t ≡ asked s (Section last (Some k))
         told i = (kind_announced asked k s last i).0
@@ -678,7 +679,7 @@ module _ {S E : Type 0} (asked : Asks S E) (adds : Puts S SectionRow) where
         go t (more u v left e b) = (Tree.also u v, e)
 
     -- the end
-    pub sections_end : {s' : S} {new' : Sections} → rest ≡ [] → (asked s (Section last None) ≡ accepted 0 s') × Gains new new' (adds s last None) →
+    pub sections_end : {s' : S} {new' : Sections} → rest ≡ [] → (asked s (Section last None) ≡ accepted 0 s') × Gains new new' (adds s (Section last None)) →
         GivesWoven asked adds bytes (s0, old) (s', new') (Ok tt)
     sections_end {s' = s'} {new' = new'} empty h = record {
       reading = λ t r. go t (read_ahead t r);
@@ -694,23 +695,23 @@ module _ {S E : Type 0} (asked : Asks S E) (adds : Puts S SectionRow) where
             subst P whole d.spells
 
         own : List Tree
-        own = added adds s last None
+        own = added adds s (Section last None)
 
         go : (t : Tree) → Ahead d.read rest t [] → GivesWovenModule asked adds (s0, old) t (s', new') (Ok tt)
         go t (same f _) =
             let last_step : weave_from asked (added adds) old.ceiling last s Tree.finish ≡ accepted (alsos own Tree.finish) s' = rw h.0 refl in
             let woven : weave asked (added adds) old.ceiling s0 t ≡ accepted (alsos d.woven (alsos own Tree.finish)) s' =
             rw f (d.weaves Tree.finish ∙ ap (λ (r : Step S (Error E) Tree). onto d.woven r) last_step) in
-            let spelled : sections_bytes (d.rows ++ adds s last None) ≡ normals (d.woven ++ own) = spelled_both d.rows (adds s last None) d.woven own d.spelled (spelled_added (adds s last None)) in (
+            let spelled : sections_bytes (d.rows ++ adds s (Section last None)) ≡ normals (d.woven ++ own) = spelled_both d.rows (adds s (Section last None)) d.woven own d.spelled (spelled_added (adds s (Section last None))) in (
               alsos d.woven (alsos own Tree.finish),
-              d.rows ++ adds s last None,
+              d.rows ++ adds s (Section last None),
               woven,
-              gains_both old new new' d.rows (adds s last None) d.gains h.1,
+              gains_both old new new' d.rows (adds s (Section last None)) d.gains h.1,
               spelled ∙ sym (normal-alsos (d.woven ++ own)) ∙ ap normal (alsos-append d.woven own Tree.finish),
             )
         go t (more u v left f b) = absurd (none_behind.none b.text left u b.spells (sym empty ∙ b.reads))
 
-    pub end_refused : {s' : S} {new' : Sections} (e : Error E) → rest ≡ [] → HookStops (asked s (Section last None)) (adds s last None) s' new new' e →
+    pub end_refused : {s' : S} {new' : Sections} (e : Error E) → rest ≡ [] → HookStops (asked s (Section last None)) (adds s (Section last None)) s' new new' e →
         GivesWoven asked adds bytes (s0, old) (s', new') (Err e)
     end_refused {s' = s'} {new' = new'} e empty h = record {
       reading = λ t r. go t (read_ahead t r);
@@ -720,7 +721,7 @@ module _ {S E : Type 0} (asked : Asks S E) (adds : Puts S SectionRow) where
     }
       where
         own : List SectionRow
-        own = adds s last None
+        own = adds s (Section last None)
 
         by : e ≢ NoMemory → IsOwn old.ceiling own e ⊎ (asked s (Section last None) ≡ refused e s')
         by = own_or_refused own (asked s (Section last None)) e h.3
@@ -858,16 +859,16 @@ no_header fault.NoMemory none rest stands = none
 -- the section hook at the end
 pub end_given : {S E : Type 0} (reply : S → Visit → Result ℕ E) (next : S → Visit → S) (adds : Puts S SectionRow) {start bytes rest : List ℕ} {s0 s : S} {old new : Sections} {last : Option SectionId} →
     bytes ≡ core_header ++ start → SectionsDone (ask reply next) adds start s0 old rest last s new → rest ≡ [] → (s' : S) (new' : Sections) (r : Result (Unit {0}) (Error E)) →
-    RepliesSection reply next adds s s' new new' last None r → GivesWoven (ask reply next) adds bytes (s0, old) (s', new') r
+    RepliesSection reply next adds s s' new new' (Section last None) r → GivesWoven (ask reply next) adds bytes (s0, old) (s', new') r
 end_given reply next adds {s = s} {new = new} {last = last} reads d empty s' new' (Ok u) h = sections_end (ask reply next) adds reads d empty h
 end_given reply next adds {s = s} {new = new} {last = last} reads d empty s' new' (Err e) h =
-    end_refused (ask reply next) adds reads d e empty (hook_stops reply next adds s s' new new' last None e h)
+    end_refused (ask reply next) adds reads d e empty (hook_stops reply next adds s s' new new' (Section last None) e h)
 
 pub end_left : {S E : Type 0} (reply : S → Visit → Result ℕ E) (next : S → Visit → S) (adds : Puts S SectionRow) {sure nothing : Bool} → KeepsAdds adds nothing →
     {start bytes rest : List ℕ} {s0 s : S} {old new : Sections} {last : Option SectionId} → bytes ≡ core_header ++ start →
     SectionsDone (ask reply next) adds start s0 old rest last s new → rest ≡ [] → (s' : S) (new' : Sections) (r : Result (Unit {0}) (Error E)) →
-    RepliesSection reply next adds s s' new new' last None r → NeverWants sure r → LeavesCore sure nothing (ask reply next) (module_in bytes) s0 s' r
+    RepliesSection reply next adds s s' new new' (Section last None) r → NeverWants sure r → LeavesCore sure nothing (ask reply next) (module_in bytes) s0 s' r
 end_left reply next adds keeps reads d empty s' new' (Ok u) h never = tt
 end_left reply next adds keeps {s = s} {new = new} {last = last} reads d empty s' new' (Err e) h never =
     λ told size. core_leaves_end (ask reply next) adds reads d e empty
-    (one_ended reply next e (Section last None) (hook_told reply next adds s s' new new' last None e h (λ q. keeps (size q) s last None) (not_wanting e never told)))
+    (one_ended reply next e (Section last None) (hook_told reply next adds s s' new new' (Section last None) e h (λ q. keeps s (Section last None) (λ _. size q)) (not_wanting e never told)))

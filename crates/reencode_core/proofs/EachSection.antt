@@ -34,7 +34,7 @@ use Rattle.reencode_core.specs.Woven.{AddedBefore, GivesWoven}
 use Rattle.reencode_core.specs.Holds.{FrameLeaves, HoldsCore}
 use Rattle.reencode_core.specs.Leaves.{CoreUpTo, Leaves, LeavesCore, NoCoreHeading, LeavesMade, custom_in, module_in, section_in}
 use Rattle.reencode_core.specs.Clauses.{CustomClauses, ModuleClauses, SectionClauses, UnknownClauses, asks}
-use Rattle.reencode_core.proofs.AddsNothing.{core_given}
+use Rattle.reencode_core.proofs.AddsNothing.{added_none, core_given}
 use Rattle.reencode_core.proofs.CoreLoop.{SectionsDone, Put, nothing_put, core_leaves_hook, core_leaves_inside, core_leaves_none, end_given, end_left, header_wrong, hook_refused, hook_told, hook_usual, no_header, hook_stops, no_frame, section_err, section_held, sections_begin, sections_more}
 use Rattle.reencode_core.proofs.AnySection.{GivesFramed, Reached, kind_gives, kind_reached, custom_gives, custom_reached, unknown_gives, unknown_reached}
 use Rattle.reencode_core.proofs.Known.{keeps_same, keeps_more, hook_keeps}
@@ -58,12 +58,12 @@ CoreClauses i bytes s old m new result =
     }
 
 -- the clauses of the section hook
-abbrev pub HookClauses : {S E : Type 0} → Ghosts S E → S → S → Sections → Sections → Option SectionId → Option SectionId → Result (Unit {0}) (Error E) → Type 0
-HookClauses i s m old new after before result =
+abbrev pub HookClauses : {S E : Type 0} → Ghosts S E → S → S → Sections → Sections → Visit → Result (Unit {0}) (Error E) → Type 0
+HookClauses i s m old new v result =
     record {
-      answer : RepliesSection i.reply i.next i.adds s m old new after before result;
+      answer : RepliesSection i.reply i.next i.adds s m old new v result;
       sure : NeverWants i.sure result;
-      fits : OnOk result (AllFit old.ceiling (i.adds s after before));
+      fits : OnOk result (AllFit old.ceiling (i.adds s v));
     }
 
 -- ---- what an error of a section leaves
@@ -120,7 +120,7 @@ module _ {S E : Type 0} (i : Ghosts S E) where
       (IsTrue i.keeps_defaults → LeavesCore i.sure i.adds_nothing (asks i) (module_in bytes) s m r) → (NoCoreHeading bytes → m ≡ s) → CoreClauses i bytes s old m new r
   core_clauses keeps {bytes = bytes} {s = s} {m = m} {old = old} {new = new} r kept woven leaves headless = record {
     kept = kept;
-    default = λ k none. core_given (asks i) i.adds (keeps none) bytes (s, old) (m, new) r (woven k);
+    default = λ k none. core_given (asks i) i.adds (added_none keeps none) bytes (s, old) (m, new) r (woven k);
     woven = woven;
     after_error = leaves;
     headless = λ k. headless;
@@ -154,16 +154,16 @@ module _ {S E : Type 0} (i : Ghosts S E) where
 
     -- the hook before a section is refused
     pub core_hook_refused : (k : SectionId) {body left : List ℕ} {n : S} {mid : Sections} (e : Error E) → Begins frame reader.rest (numbered_frame (number k) body) left →
-        HookClauses i s n new mid last (Some k) (Err e) → (r : Result (Unit {0}) (Error E)) → IsErrAnd r (λ y. y ≡ e) → CoreClauses i bytes s0 old n mid r
+        HookClauses i s n new mid (Section last (Some k)) (Err e) → (r : Result (Unit {0}) (Error E)) → IsErrAnd r (λ y. y ≡ e) → CoreClauses i bytes s0 old n mid r
     core_hook_refused k {n = n} {mid = mid} e framed hook r q =
         let P : Result (Unit {0}) (Error E) → Type 0 = λ z. CoreClauses i bytes s0 old n mid z in
         subst P (answers r q)
-        (core_clauses keeps (Err e) (keeps_more old new mid inv.kept (hook_keeps i.reply i.next i.adds s n new mid last (Some k) (Err e) hook.answer))
-        (λ d. hook_refused (asks i) i.adds header.stands (inv.done d) k e framed (hook_stops i.reply i.next i.adds s n new mid last (Some k) e hook.answer))
+        (core_clauses keeps (Err e) (keeps_more old new mid inv.kept (hook_keeps i.reply i.next i.adds s n new mid (Section last (Some k)) (Err e) hook.answer))
+        (λ d. hook_refused (asks i) i.adds header.stands (inv.done d) k e framed (hook_stops i.reply i.next i.adds s n new mid (Section last (Some k)) e hook.answer))
         (λ d told size.
-        let stops = hook_told i.reply i.next i.adds s n new mid last (Some k) e hook.answer (λ h. keeps (size h) s last (Some k)) in
+        let stops = hook_told i.reply i.next i.adds s n new mid (Section last (Some k)) e hook.answer (λ h. keeps s (Section last (Some k)) (λ _. size h)) in
         core_leaves_hook (asks i) i.adds header.stands (inv.done d) k e framed (one_ended i.reply i.next e (Section last (Some k)) (stops (not_wanting e hook.sure told)))
-        (tells_none e (hook_usual i.reply i.next i.adds s n new mid last (Some k) e stops))) headed)
+        (tells_none e (hook_usual i.reply i.next i.adds s n new mid (Section last (Some k)) e stops))) headed)
 
     -- the section in a frame is reached, and the call that maps it gave this
     abbrev pub Called : (ℕ → Error E → S → Type 0) → ℕ → Tree → List ℕ → Option SectionId → S → Sections → S → Sections → Result (Unit {0}) (Error E) → Type 0
@@ -179,13 +179,13 @@ module _ {S E : Type 0} (i : Ghosts S E) where
 
     -- one of a known kind, behind the section hook
     pub kind_called : (k : SectionId) {body left : List ℕ} {n : S} {mid : Sections} {u : Unit {0}} {m : S} {new' : Sections} {r : Result (Unit {0}) (Error E)} →
-        Begins frame reader.rest (numbered_frame (number k) body) left → HookClauses i s n new mid last (Some k) (Ok u) → SectionClauses i k body n mid m new' r →
+        Begins frame reader.rest (numbered_frame (number k) body) left → HookClauses i s n new mid (Section last (Some k)) (Ok u) → SectionClauses i k body n mid m new' r →
         Called (λ c e m. StopsSection (asks i) c k body n e m) (number k) (numbered_frame (number k) body) left (Some k) n mid m new' r
     kind_called k {body = body} {n = n} {mid = mid} {u = u} {new' = new'} {r = r} framed hook given = record {
       framed = framed;
-      kept = keeps_more old mid new' (keeps_more old new mid inv.kept (hook_keeps i.reply i.next i.adds s n new mid last (Some k) (Ok u) hook.answer)) given.kept;
+      kept = keeps_more old mid new' (keeps_more old new mid inv.kept (hook_keeps i.reply i.next i.adds s n new mid (Section last (Some k)) (Ok u) hook.answer)) given.kept;
       reached = λ d. kind_reached (asks i) k framed hook.answer.0;
-      put = record { own = i.adds s last (Some k); gains = hook.answer.1; before = AddedBefore.known k body n hook.answer.0; fits = hook.fits };
+      put = record { own = i.adds s (Section last (Some k)); gains = hook.answer.1; before = AddedBefore.known k body n hook.answer.0; fits = hook.fits };
       gives = λ d. kind_gives r k framed (given.default d);
       leaves = λ d. kind_leaves (asks i) _ _ i.sure k framed r (given.after_error d);
     }
@@ -237,9 +237,9 @@ module _ {S E : Type 0} (i : Ghosts S E) where
           (λ d told size. core_leaves_inside (asks i) i.adds header.stands (inv.done d) (call.reached d) call.framed e at (λ t i. tells_if e (λ at h. h t i) (call.gives d).unreadable) (call.leaves d (λ h. told (wants_placed e at h)))) headed)
 
     -- the hook at the end
-    pub core_ended : {n : S} {mid : Sections} → reader.rest ≡ [] → (r : Result (Unit {0}) (Error E)) → HookClauses i s n new mid last None r → CoreClauses i bytes s0 old n mid r
+    pub core_ended : {n : S} {mid : Sections} → reader.rest ≡ [] → (r : Result (Unit {0}) (Error E)) → HookClauses i s n new mid (Section last None) r → CoreClauses i bytes s0 old n mid r
     core_ended {n = n} {mid = mid} empty r hook =
-        core_clauses keeps r (keeps_more old new mid inv.kept (hook_keeps i.reply i.next i.adds s n new mid last None r hook.answer))
+        core_clauses keeps r (keeps_more old new mid inv.kept (hook_keeps i.reply i.next i.adds s n new mid (Section last None) r hook.answer))
         (λ d. end_given i.reply i.next i.adds header.stands (inv.done d) empty n mid r hook.answer)
         (λ d. end_left i.reply i.next i.adds keeps header.stands (inv.done d) empty n mid r hook.answer hook.sure) headed
 
@@ -280,7 +280,7 @@ module _ {S E : Type 0} (i : Ghosts S E) (keeps : KeepsAdds i.adds i.adds_nothin
         known fault.NoMemory h = absurd h
 
     pub module_hook_refused : (k : SectionId) {body left : List ℕ} {n : S} {mid : Sections} (e : Error E) → Begins frame reader.rest (numbered_frame (number k) body) left →
-        HookClauses i s n new mid last (Some k) (Err e) → (r : Result (Unit {0}) (Error E)) → IsErrAnd r (λ y. y ≡ e) → ModuleClauses i bytes s0 old n mid r
+        HookClauses i s n new mid (Section last (Some k)) (Err e) → (r : Result (Unit {0}) (Error E)) → IsErrAnd r (λ y. y ≡ e) → ModuleClauses i bytes s0 old n mid r
     module_hook_refused k e framed hook r q = unwanted e r q (core_hook_refused i keeps header inv k e framed hook r q) (λ sure. not_wanting e hook.sure (λ h. sure))
 
     pub module_section_refused : {Stops : ℕ → Error E → S → Type 0} {id : ℕ} {f : Tree} {left : List ℕ} {now : Option SectionId} {n m : S} {mid new' : Sections} (e : Error E) (at : ℕ) →
@@ -292,7 +292,7 @@ module _ {S E : Type 0} (i : Ghosts S E) (keeps : KeepsAdds i.adds i.adds_nothin
         let wants : e ≡ NoMemory = placed_wants e at (sym q ∙ h) in
         section_held (asks i) i.adds header.stands (inv.done k) call.framed call.put (call.gives k).unchanged (subst P wants (call.leaves k (λ h. sure))))
 
-    pub module_ended : {n : S} {mid : Sections} → reader.rest ≡ [] → (r : Result (Unit {0}) (Error E)) → HookClauses i s n new mid last None r → ModuleClauses i bytes s0 old n mid r
+    pub module_ended : {n : S} {mid : Sections} → reader.rest ≡ [] → (r : Result (Unit {0}) (Error E)) → HookClauses i s n new mid (Section last None) r → ModuleClauses i bytes s0 old n mid r
     module_ended {n = n} {mid = mid} empty r hook = both (core_ended i keeps header inv empty r hook) (λ k sure. never r hook.sure sure)
       where
         never : (r : Result (Unit {0}) (Error E)) → NeverWants i.sure r → IsTrue i.sure → HoldsCore (asks i) i.adds bytes (s0, old) (n, mid) r

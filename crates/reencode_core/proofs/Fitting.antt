@@ -65,34 +65,32 @@ part_of (x ∷ xs) ys (w ∷ front) v rest e = go (part_of xs ys front v rest (l
     go (inl p) = let same : xs ≡ front ++ v ∷ p.0 = p.1 in inl (p.0, cc)
     go (inr p) = let same : front ≡ xs ++ p.0 = p.1 in inr (p.0, cc, p.2)
 
-module _ {S E : Type 0} (asked : Asks S E) (P : S → Option SectionId → Option SectionId → Type 0) where
+module _ {S E : Type 0} (asked : Asks S E) (P : S → Visit → Type 0) where
   at_both : (s n : S) (told : List ℕ) (xs ys : List Visit) → run asked s xs ≡ accepted told n → AtSections asked s xs P → AtSections asked n ys P → AtSections asked s (xs ++ ys) P
-  at_both s n told xs ys ran at_xs at_ys front a b rest parts = go (part_of xs ys front (Section a b) rest parts)
+  at_both s n told xs ys ran at_xs at_ys front v rest may parts = go (part_of xs ys front v rest parts)
     where
-      go : ((r : List Visit) × (xs ≡ front ++ Section a b ∷ r)) ⊎ ((f : List Visit) × (front ≡ xs ++ f) × (ys ≡ f ++ Section a b ∷ rest)) → P (state_after (run asked s front)) a b
-      go (inl p) = at_xs front a b p.0 p.1
+      go : ((r : List Visit) × (xs ≡ front ++ v ∷ r)) ⊎ ((f : List Visit) × (front ≡ xs ++ f) × (ys ≡ f ++ v ∷ rest)) → P (state_after (run asked s front)) v
+      go (inl p) = at_xs front v p.0 may p.1
       go (inr p) =
-          let Q : S → Type 0 = λ k. P k a b in
-          let R : List Visit → Type 0 = λ z. P (state_after (run asked s z)) a b in
-          subst R (sym p.1) (subst Q (sym (run_state asked s n xs p.0 told ran)) (at_ys p.0 a b rest p.2))
+          let Q : S → Type 0 = λ k. P k v in
+          let R : List Visit → Type 0 = λ z. P (state_after (run asked s z)) v in
+          subst R (sym p.1) (subst Q (sym (run_state asked s n xs p.0 told ran)) (at_ys p.0 v rest may p.2))
 
   at_none : (s : S) (xs : List Visit) → section_visits xs ≡ [] → AtSections asked s xs P
-  at_none s xs none front a b rest parts =
+  at_none s xs none front (Section a b) rest may parts =
       let Q : List Visit → Type 0 = λ z. section_visits z ≡ [] in absurd (none_told front rest a b (subst Q parts none))
+  at_none s xs none front _ rest may parts = absurd may
 
-  at_one : (s : S) (last now : Option SectionId) → P s last now → AtSections asked s (Section last now ∷ []) P
-  at_one s last now p [] a b rest parts =
-      let lasts : last ≡ a = cc in
-      let nows : now ≡ b = cc in
-      subst (λ (z : Option SectionId). P s z b) lasts (subst (λ (z : Option SectionId). P s last z) nows p)
-  at_one s last now p (v ∷ []) a b rest parts = absurd cc
-  at_one s last now p (v ∷ w ∷ front) a b rest parts = absurd cc
+  at_one : (s : S) (v : Visit) → P s v → AtSections asked s (v ∷ []) P
+  at_one s v p [] w rest may parts = let same : v ≡ w = cc in subst (λ (z : Visit). P s z) same p
+  at_one s v p (u ∷ []) w rest may parts = absurd cc
+  at_one s v p (u ∷ x ∷ front) w rest may parts = absurd cc
 
 -- ---- a section, and what was added before it
 
 module _ {S E : Type 0} (asked : Asks S E) (adds : Puts S SectionRow) (c : ℕ) where
-  abbrev Fits : S → Option SectionId → Option SectionId → Type 0
-  Fits m after now = (size : ℕ) → ¬ HasTooLarge c (adds m after now) size
+  abbrev Fits : S → Visit → Type 0
+  Fits m v = (size : ℕ) → ¬ HasTooLarge c (adds m v) size
 
   pub fits_begin : (s : S) → AddsFit asked adds c s []
   fits_begin s = at_none asked Fits s [] refl
@@ -102,7 +100,7 @@ module _ {S E : Type 0} (asked : Asks S E) (adds : Puts S SectionRow) (c : ℕ) 
   before_fits {last = last} {s = s} (AddedBefore.known k body n h) fit t i =
       let same = sym (kind_before k last i) in
       let P : List Visit → Type 0 = λ z. (told : List ℕ) × (run asked s z ≡ accepted told n) × AddsFit asked adds c s z in
-      subst P same (0 ∷ [], rw h refl, at_one asked Fits s last (Some k) (none_too_large fit))
+      subst P same (0 ∷ [], rw h refl, at_one asked Fits s (Section last (Some k)) (none_too_large fit))
   before_fits {last = last} {s = s} (AddedBefore.custom name contents) fit t i =
       let P : List Visit → Type 0 = λ z. (told : List ℕ) × (run asked s z ≡ accepted told s) × AddsFit asked adds c s z in
       subst P (sym (custom_before last i)) ([], refl, fits_begin s)

@@ -2,7 +2,7 @@
 use Rattle.std.proofs.Common.{◌≡◌, ℕ, zero, suc, List, [], ◌∷◌, ◌++◌, length, map, drop, get_or, Option, None, Result, Ok, Err, IfErr, IfOk, refl, sym, ap, ap₂, ◌∙◌, subst}
 use Rattle.wasm_shapes.specs.declared.SectionId.{SectionId}
 use Rattle.wasm_shapes.specs.declared.Visit.{Visit}
-use Rattle.wasm_shapes.specs.declared.Visit.TheVariants.{Index, Outer}
+use Rattle.wasm_shapes.specs.declared.Visit.TheVariants.{Index, Outer, Section}
 use Rattle.wasm_shapes.specs.Own.{asked_index}
 use Rattle.wasm_shapes.specs.Tree.{Tree, Listed, kind, before, visits, visits_from, after, fill, aimed_at, normal}
 use Rattle.wasm_shapes.specs.Fits.{Fits}
@@ -10,12 +10,12 @@ use Rattle.wasm_shapes.specs.Module.{alsos}
 use Rattle.wasm_shapes.proofs.OwnAnswers.{fill_own}
 use Rattle.wasm_write.specs.Sections.{SectionRow}
 use Rattle.reencode_hooks.specs.declared.error.Error.{Error}
-use Rattle.reencode_hooks.specs.Hooks.{HasTooLarge, index_of}
+use Rattle.reencode_hooks.specs.Hooks.{HasTooLarge, MayAdd, at_section, index_of}
 use Rattle.reencode_hooks.specs.Run.{accepted, run, state_after}
 use Rattle.reencode_core.specs.Rows.{Asks}
 use Rattle.reencode_core.specs.Weave.{Puts, added, put_before, weave, woven, woven_from}
 use Rattle.reencode_core.specs.Woven.{GivesWovenBytes}
-use Rattle.reencode_core.specs.Interspersed.{IsInterspersed, IsMadeBetween, interspersed, interspersed_from}
+use Rattle.reencode_core.specs.Interspersed.{Between, IsInterspersed, IsMadeBetween, interspersed, interspersed_from}
 use Rattle.reencode_core.proofs.Completeness.{accepted_is_answered}
 use Rattle.reencode_core.proofs.Weaves.{weave_is_run}
 
@@ -77,11 +77,16 @@ module _ {S E : Type 0} (asked : Asks S E) (same : (s : S) (v : Visit) → asked
     woven_stays s (Tree.left w o t) answers last = interspersed-aimed put s w (get_or (after t answers) 0 0) (fill o (drop 1 (after t answers))) (fill t answers) last
     woven_stays s t answers last = refl
 
+-- these, added by a section hook
+abbrev hooks_put : {S : Type 0} → (S → Between SectionRow) → Puts S SectionRow
+hooks_put between s = at_section (between s)
+
 -- What comes out is the reading, and between its sections what is added.
-pub only_added : {S E A : Type 0} {asked : Asks S E} {adds : Puts S SectionRow} {ceiling : ℕ} {bytes : List ℕ} {s m : S} {view : A → List ℕ} →
-    ((k : S) (v : Visit) → asked k v ≡ accepted (index_of v) k) → (r : Result A (Error E)) → GivesWovenBytes asked adds ceiling bytes s m r view →
-    IfOk r (λ out. IsInterspersed (adds s) bytes (view out))
-only_added {asked = asked} {adds = adds} {ceiling = ceiling} {s = s} {m = m} same (Ok out) g =
+pub only_added : {S E A : Type 0} {asked : Asks S E} {between : S → Between SectionRow} {ceiling : ℕ} {bytes : List ℕ} {s m : S} {view : A → List ℕ} →
+    ((k : S) (v : Visit) → asked k v ≡ accepted (index_of v) k) → (r : Result A (Error E)) → GivesWovenBytes asked (hooks_put between) ceiling bytes s m r view →
+    IfOk r (λ out. IsInterspersed (between s) bytes (view out))
+only_added {asked = asked} {between = between} {ceiling = ceiling} {s = s} {m = m} same (Ok out) g =
+    let adds = hooks_put between in
     let p = g.readable in
     let q = g.reading p.0 p.1 in
     let a = (weave_is_run asked).forth (added adds) ceiling s m p.0 q.0 q.1 in
@@ -91,21 +96,27 @@ only_added {asked = asked} {adds = adds} {ceiling = ceiling} {s = s} {m = m} sam
     record {
       tree = p.0;
       reading = p.1;
-      spelled = q.2 ∙ ap normal (sym a.wove ∙ (woven_stays asked same (added adds) s p.0 a.given None ∙ ap (interspersed (adds s)) filled));
+      spelled = q.2 ∙ ap normal (sym a.wove ∙ (woven_stays asked same (added adds) s p.0 a.given None ∙ ap (interspersed (between s)) filled));
     }
 only_added same (Err e) g = tt
 
+fit_at : {c : ℕ} (between : Between SectionRow) → ((after before : Option SectionId) (size : ℕ) → ¬ HasTooLarge c (between after before) size) → (v : Visit) → MayAdd v →
+    (size : ℕ) → ¬ HasTooLarge c (at_section between v) size
+fit_at between small (Section after before) may = small after before
+fit_at between small _ may = absurd may
+
 -- Where nothing that is added is too large, memory alone may run out.
-pub made_between : {S E A : Type 0} {asked : Asks S E} {adds : Puts S SectionRow} {ceiling : ℕ} {bytes : List ℕ} {s m : S} {view : A → List ℕ} →
-    ((k : S) (v : Visit) → asked k v ≡ accepted (index_of v) k) → (r : Result A (Error E)) → GivesWovenBytes asked adds ceiling bytes s m r view →
-    IfErr r (IsMadeBetween (adds s) ceiling bytes)
+pub made_between : {S E A : Type 0} {asked : Asks S E} {between : S → Between SectionRow} {ceiling : ℕ} {bytes : List ℕ} {s m : S} {view : A → List ℕ} →
+    ((k : S) (v : Visit) → asked k v ≡ accepted (index_of v) k) → (r : Result A (Error E)) → GivesWovenBytes asked (hooks_put between) ceiling bytes s m r view →
+    IfErr r (IsMadeBetween (between s) ceiling bytes)
 made_between same (Ok out) g = tt
-made_between {S = S} {asked = asked} {adds = adds} {ceiling = ceiling} {bytes = bytes} {s = s} {m = m} {view = view} same (Err e) g = λ t p fits small.
+made_between {S = S} {asked = asked} {between = between} {ceiling = ceiling} {bytes = bytes} {s = s} {m = m} {view = view} same (Err e) g = λ t p fits small.
+    let adds = hooks_put between in
     let own : List ℕ = map asked_index (visits t) in
     let P : Tree → Type 0 = λ u. Fits u ceiling in
     let accepts : weave asked (added adds) ceiling s t ≡ accepted (woven asked (added adds) s t own) s =
     (weave_is_run asked).back (added adds) ceiling s s t (woven asked (added adds) s t own) bytes p.spelled
     (record { given = own; ran = runs asked same s (visits t); wove = refl; fits = subst P (sym (fill_own t)) fits }) in
     accepted_is_answered asked adds view ceiling bytes s m (Err e) g t (woven asked (added adds) s t own) s p
-    (λ front after before rest parts size. let Q : S → Type 0 = λ k. ¬ HasTooLarge ceiling (adds k after before) size in subst Q (sym (run_stays asked same s front)) (small after before size))
+    (λ front v rest may parts size. let Q : S → Type 0 = λ k. ¬ HasTooLarge ceiling (adds k v) size in subst Q (sym (run_stays asked same s front)) (fit_at (between s) small v may size))
     accepts

@@ -22,6 +22,7 @@ use Rattle.reencode_hooks.specs.declared.error.Error.{Error}
 use Rattle.reencode_hooks.specs.declared.error.Error.TheVariants.{TooLarge}
 use Rattle.reencode_hooks.specs.Run.{Step, accepted, refused}
 use Rattle.reencode_hooks.specs.Walk.{walk, closed, announced}
+use Rattle.reencode_hooks.proofs.Chained.{gains_both}
 use Rattle.reencode_core.specs.Rows.{Asks}
 use Rattle.reencode_core.specs.Sections.{KeepsModule}
 
@@ -99,11 +100,6 @@ vec_is {s = s} {n = n} {body = body} {start = start} there tree p = go tree p.sh
 pub gains_none : (m : Sections) → Gains m m []
 gains_none m = ap (λ (rows : List SectionRow). record m { sections = rows }) (sym (append-nil m.sections))
 
--- what was added one behind the other was added at once
-pub gains_both : (old mid new : Sections) (own rows : List SectionRow) → Gains old mid own → Gains mid new rows → Gains old new (own ++ rows)
-gains_both old mid new own rows g h =
-    h ∙ ap (λ (m : Sections). record m { sections = m.sections ++ rows }) g ∙ ap (λ (z : List SectionRow). record old { sections = z }) (append_assoc old.sections own rows)
-
 pub keeps_same : (m : Sections) → KeepsModule m m
 keeps_same m = ([], gains_none m)
 
@@ -111,7 +107,7 @@ pub keeps_more : (old mid new : Sections) → KeepsModule old mid → KeepsModul
 keeps_more old mid new p q = (p.0 ++ q.0, gains_both old mid new p.0 q.0 p.1 q.1)
 
 -- what a section hook did
-pub hook_keeps : {S E : Type 0} (reply : S → Visit → Result ℕ E) (next : S → Visit → S) (adds : S → Option SectionId → Option SectionId → List SectionRow) (s m : S) (old new : Sections)
-    (a b : Option SectionId) (r : Result (Unit {0}) (Error E)) → RepliesSection reply next adds s m old new a b r → KeepsModule old new
-hook_keeps reply next adds s m old new a b (Ok u) h = (adds s a b, h.1)
-hook_keeps reply next adds s m old new a b (Err e) h = (h.1.part, h.1.gains)
+pub hook_keeps : {S E : Type 0} (reply : S → Visit → Result ℕ E) (next : S → Visit → S) (adds : S → Visit → List SectionRow) (s m : S) (old new : Sections)
+    (v : Visit) (r : Result (Unit {0}) (Error E)) → RepliesSection reply next adds s m old new v r → KeepsModule old new
+hook_keeps reply next adds s m old new v (Ok u) h = (adds s v, h.1)
+hook_keeps reply next adds s m old new v (Err e) h = (h.1.part, h.1.gains)

@@ -178,7 +178,7 @@ module _ {S E : Type 0} (asked : Asks S E) (adds : Puts S SectionRow) where
       go read made walked kept (Ahead.more u v left e b) = absurd (none_behind.none b.text left u b.spells (sym empty ∙ b.reads))
 
 pub ranges_end : {S E : Type 0} (i : Ghosts S E) {start bytes rest : List ℕ} {s0 s : S} {old new : Sections} {last : Option SectionId} (m : S) (mid : Sections) (k0 k k' : List Range) (r : Result (Unit {0}) (Error E)) →
-    bytes ≡ core_header ++ start → RangesDone (asks i) i.adds start s0 old rest last s new k0 k → rest ≡ [] → RepliesSection i.reply i.next i.adds s m new mid last None r → OnOk r (k' ≡ k) →
+    bytes ≡ core_header ++ start → RangesDone (asks i) i.adds start s0 old rest last s new k0 k → rest ≡ [] → RepliesSection i.reply i.next i.adds s m new mid (Section last None) r → OnOk r (k' ≡ k) →
     OnOk r (KeepsRanges (asks i) old.ceiling bytes s0 m k0 k')
 ranges_end i {bytes = bytes} {s0 = s0} {old = old} m mid k0 k k' (Ok u) reads p empty answer same =
     let K : List Range → Type 0 = λ z. KeepsRanges (asks i) old.ceiling bytes s0 m k0 z in

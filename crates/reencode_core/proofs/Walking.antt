@@ -1,6 +1,7 @@
 -- The loop over the sections of a module in pieces, where the section hook is called with a module of its own.
 use Rattle.std.proofs.Common.{◌≡◌, inl, inr, ℕ, List, [], ◌∷◌, ◌++◌, Option, Some, None, Result, Ok, Err, IsErrAnd, IsTrue, refl, sym, subst}
 use Rattle.wasm_shapes.specs.declared.SectionId.{SectionId}
+use Rattle.wasm_shapes.specs.declared.Visit.{Visit}
 use Rattle.wasm_shapes.specs.declared.Visit.TheVariants.{Section}
 use Rattle.wasm_shapes.specs.Tree.{before, visits}
 use Rattle.wasm_shapes.specs.Place.{Begins}
@@ -15,7 +16,7 @@ use Rattle.reencode_hooks.specs.declared.indices.ReencodeIndices.{Ghosts}
 use Rattle.reencode_hooks.specs.Hooks.{RepliesSection, KeepsAdds}
 use Rattle.wasm_shapes.proofs.Drawn.{drawn_none}
 use Rattle.reencode_core.specs.Leaves.{Leaves, LeavesCore, module_in}
-use Rattle.reencode_core.proofs.AddsNothing.{core_given}
+use Rattle.reencode_core.proofs.AddsNothing.{added_none, core_given}
 use Rattle.reencode_core.proofs.CoreLoop.{core_leaves, core_leaves_end, core_leaves_hook, end_given, hook_refused, hook_stops, hook_told, hook_usual}
 use Rattle.reencode_core.proofs.EachSection.{CoreClauses, HookClauses, SectionsKept}
 use Rattle.reencode_core.proofs.Known.{keeps_more, hook_keeps}
@@ -25,16 +26,15 @@ use Rattle.reencode_core.specs.Sinks.{HookLeaves, LeavesHook}
 
 module _ {S E : Type 0} (i : Ghosts S E) where
   -- a hook that answered did not want memory
-  pub hook_answered : (s m : S) (old new : Sections) (a b : Option SectionId) → RepliesSection i.reply i.next i.adds s m old new a b (Ok tt) → AllFit old.ceiling (i.adds s a b) →
-      HookClauses i s m old new a b (Ok tt)
-  hook_answered s m old new a b answer fits = record { answer = answer; sure = λ sure wants. absurd cc; fits = fits }
+  pub hook_answered : (s m : S) (old new : Sections) (v : Visit) → RepliesSection i.reply i.next i.adds s m old new v (Ok tt) → AllFit old.ceiling (i.adds s v) → HookClauses i s m old new v (Ok tt)
+  hook_answered s m old new v answer fits = record { answer = answer; sure = λ sure wants. absurd cc; fits = fits }
 
   -- it refused
-  pub hook_left : KeepsAdds i.adds i.adds_nothing → {s m : S} {old new : Sections} {a b : Option SectionId} (e : Error E) → HookClauses i s m old new a b (Err e) →
-      LeavesHook {A = Unit {0}} i.sure i.adds_nothing (asks i) s m (Section a b) (Err e)
-  hook_left keeps {s = s} {m = m} {old = old} {new = new} {a = a} {b = b} e hook told size =
-      let stops = hook_told i.reply i.next i.adds s m old new a b e hook.answer (λ h. keeps (size h) s a b) in
-      inr (one_ended i.reply i.next e (Section a b) (stops (not_wanting e hook.sure told)), tells_none e (hook_usual i.reply i.next i.adds s m old new a b e stops))
+  pub hook_left : KeepsAdds i.adds i.adds_nothing → {s m : S} {old new : Sections} {v : Visit} (e : Error E) → HookClauses i s m old new v (Err e) →
+      LeavesHook {A = Unit {0}} i.sure i.adds_nothing (asks i) s m v (Err e)
+  hook_left keeps {s = s} {m = m} {old = old} {new = new} {v = v} e hook told size =
+      let stops = hook_told i.reply i.next i.adds s m old new v e hook.answer (λ h. keeps s v (λ _. size h)) in
+      inr (one_ended i.reply i.next e v (stops (not_wanting e hook.sure told)), tells_none e (hook_usual i.reply i.next i.adds s m old new v e stops))
 
   module _ (keeps : KeepsAdds i.adds i.adds_nothing) {bytes : List ℕ} {start : read.Sections} (header : HeaderRead bytes start) {s0 : S} {old : Sections}
       {reader : read.Sections} {last : Option SectionId} {s : S} {new : Sections} (inv : SectionsKept i start s0 old reader last s new) where
@@ -52,14 +52,14 @@ module _ {S E : Type 0} (i : Ghosts S E) where
 
     -- the hook before a section is refused
     pub between_refused : (k : SectionId) {body left : List ℕ} {n : S} {mid : Sections} (e : Error E) → Begins frame reader.rest (numbered_frame (number k) body) left →
-        RepliesSection i.reply i.next i.adds s n new mid last (Some k) (Err e) → LeavesHook {A = Unit {0}} i.sure i.adds_nothing (asks i) s n (Section last (Some k)) (Err e) →
+        RepliesSection i.reply i.next i.adds s n new mid (Section last (Some k)) (Err e) → LeavesHook {A = Unit {0}} i.sure i.adds_nothing (asks i) s n (Section last (Some k)) (Err e) →
         (r : Result (Unit {0}) (Error E)) → IsErrAnd r (λ y. y ≡ e) → CoreClauses i bytes s0 old n mid r
     between_refused k {n = n} {mid = mid} e framed answer leaves r q =
         let P : Result (Unit {0}) (Error E) → Type 0 = λ z. CoreClauses i bytes s0 old n mid z in
-        let woven = λ (d : IsTrue i.keeps_defaults). hook_refused (asks i) i.adds header.stands (inv.done d) k e framed (hook_stops i.reply i.next i.adds s n new mid last (Some k) e answer) in
+        let woven = λ (d : IsTrue i.keeps_defaults). hook_refused (asks i) i.adds header.stands (inv.done d) k e framed (hook_stops i.reply i.next i.adds s n new mid (Section last (Some k)) e answer) in
         subst P (answers r q) (record {
-          kept = keeps_more old new mid inv.kept (hook_keeps i.reply i.next i.adds s n new mid last (Some k) (Err e) answer);
-          default = λ d none. core_given (asks i) i.adds (keeps none) bytes (s0, old) (n, mid) (Err e) (woven d);
+          kept = keeps_more old new mid inv.kept (hook_keeps i.reply i.next i.adds s n new mid (Section last (Some k)) (Err e) answer);
+          default = λ d none. core_given (asks i) i.adds (added_none keeps none) bytes (s0, old) (n, mid) (Err e) (woven d);
           woven = woven;
           after_error = λ d told size. go d (leaves told size);
           headless = λ d none. absurd (none start.rest header.stands);
@@ -70,12 +70,12 @@ module _ {S E : Type 0} (i : Ghosts S E) where
         go d (inr h) = core_leaves_hook (asks i) i.adds header.stands (inv.done d) k e framed h.0 h.1
 
     -- the hook at the end
-    pub between_ended : {n : S} {mid : Sections} → reader.rest ≡ [] → (r : Result (Unit {0}) (Error E)) → RepliesSection i.reply i.next i.adds s n new mid last None r →
+    pub between_ended : {n : S} {mid : Sections} → reader.rest ≡ [] → (r : Result (Unit {0}) (Error E)) → RepliesSection i.reply i.next i.adds s n new mid (Section last None) r →
         LeavesHook i.sure i.adds_nothing (asks i) s n (Section last None) r → CoreClauses i bytes s0 old n mid r
     between_ended {n = n} {mid = mid} empty r answer leaves =
         let woven = λ (d : IsTrue i.keeps_defaults). end_given i.reply i.next i.adds header.stands (inv.done d) empty n mid r answer in record {
-          kept = keeps_more old new mid inv.kept (hook_keeps i.reply i.next i.adds s n new mid last None r answer);
-          default = λ d none. core_given (asks i) i.adds (keeps none) bytes (s0, old) (n, mid) r (woven d);
+          kept = keeps_more old new mid inv.kept (hook_keeps i.reply i.next i.adds s n new mid (Section last None) r answer);
+          default = λ d none. core_given (asks i) i.adds (added_none keeps none) bytes (s0, old) (n, mid) r (woven d);
           woven = woven;
           after_error = λ d. left d r leaves;
           headless = λ d none. absurd (none start.rest header.stands);

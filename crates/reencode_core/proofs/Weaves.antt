@@ -9,6 +9,7 @@ use Rattle.wasm_shapes.specs.Spells.{Spelled}
 use Rattle.wasm_shapes.specs.Fits.{Fits}
 use Rattle.wasm_shapes.specs.Module.{alsos}
 use Rattle.reencode_hooks.specs.declared.error.Error.{Error}
+use Rattle.reencode_hooks.specs.Hooks.{MayAdd}
 use Rattle.reencode_hooks.specs.Run.{Step, accepted, refused, and_then, run, answers, state_after}
 use Rattle.reencode_hooks.specs.Walk.{walk, walk_from, announced}
 use Rattle.reencode_hooks.specs.Moments.{moments_from, passed}
@@ -64,14 +65,14 @@ also_ran asked s m last t u told ran =
     let V : List Visit = visits_from (kind last t) u in
     run_parts asked s m (before last t ++ visits_from None t) V told (ap (run asked s) (append_assoc (before last t) (visits_from None t) V) ∙ ran)
 
-module _ {S E : Type 0} (asked : Asks S E) (P : S → Option SectionId → Option SectionId → Type 0) where
+module _ {S E : Type 0} (asked : Asks S E) (P : S → Visit → Type 0) where
   pub at_front : (s : S) (xs ys : List Visit) → AtSections asked s (xs ++ ys) P → AtSections asked s xs P
-  at_front s xs ys h front a b rest parts = h front a b (rest ++ ys) (ap (λ (z : List Visit). z ++ ys) parts ∙ append_assoc front (Section a b ∷ rest) ys)
+  at_front s xs ys h front v rest may parts = h front v (rest ++ ys) may (ap (λ (z : List Visit). z ++ ys) parts ∙ append_assoc front (v ∷ rest) ys)
 
   pub at_behind : (s n : S) (told : List ℕ) (xs ys : List Visit) → run asked s xs ≡ accepted told n → AtSections asked s (xs ++ ys) P → AtSections asked n ys P
-  at_behind s n told xs ys ran h front a b rest parts =
-      let Q : S → Type 0 = λ k. P k a b in
-      subst Q (run_state asked s n xs front told ran) (h (xs ++ front) a b rest (ap (λ (z : List Visit). xs ++ z) parts ∙ sym (append_assoc xs front (Section a b ∷ rest))))
+  at_behind s n told xs ys ran h front v rest may parts =
+      let Q : S → Type 0 = λ k. P k v in
+      subst Q (run_state asked s n xs front told ran) (h (xs ++ front) v rest may (ap (λ (z : List Visit). xs ++ z) parts ∙ sym (append_assoc xs front (v ∷ rest))))
 
   pub also_behind : (s n : S) (told : List ℕ) (last : Option SectionId) (t u : Tree) → run asked s (before last t ++ visits_from None t) ≡ accepted told n →
       AtSections asked s (visits_from last (Tree.also t u)) P → AtSections asked n (visits_from (kind last t) u) P
@@ -116,9 +117,9 @@ module _ {S E : Type 0} (asked : Asks S E) (c : ℕ) where
 module _ {S E : Type 0} (asked : Asks S E) (put : Puts S Tree) where
   -- ---- nothing is put
 
-  pub nothing_before : ((s : S) (a b : Option SectionId) → put s a b ≡ []) → (s : S) (last : Option SectionId) (t : Tree) → put_before put s last t ≡ []
+  pub nothing_before : ((s : S) (v : Visit) → MayAdd v → put s v ≡ []) → (s : S) (last : Option SectionId) (t : Tree) → put_before put s last t ≡ []
   nothing_before none s last (Tree.row k t) = nothing_before none s last t
-  nothing_before none s last (Tree.told k t) = none s last (Some k)
+  nothing_before none s last (Tree.told k t) = none s (Section last (Some k)) tt
   nothing_before none s last _ = refl
 
   one_section : (a : Step S (Error E) ℕ) (f : S → Step S (Error E) Tree) (g h : S → Step S (Error E) Tree) → ((m : S) → g m ≡ h m) →
@@ -130,10 +131,10 @@ module _ {S E : Type 0} (asked : Asks S E) (put : Puts S Tree) where
       go (refused e m) = refl
       go (accepted t m) = rw (same m) refl
 
-  pub weave_nothing : ((s : S) (a b : Option SectionId) → put s a b ≡ []) → (c : ℕ) (last : Option SectionId) (s : S) (t : Tree) → weave_from asked put c last s t ≡ walk_from asked c last s t
+  pub weave_nothing : ((s : S) (v : Visit) → MayAdd v → put s v ≡ []) → (c : ℕ) (last : Option SectionId) (s : S) (t : Tree) → weave_from asked put c last s t ≡ walk_from asked c last s t
   weave_nothing none c last s (Tree.pair t u) =
       rw (weave_nothing none c None s t) (then_same (walk_from asked c None s t) _ _ (λ t' m. rw (weave_nothing none c None m u) refl))
-  weave_nothing none c last s Tree.finish = then_same (asked s (Section last None)) _ _ (λ n m. rw (none s last None) refl)
+  weave_nothing none c last s Tree.finish = then_same (asked s (Section last None)) _ _ (λ n m. rw (none s (Section last None) tt) refl)
   weave_nothing none c last s (Tree.also t u) =
       rw (nothing_before none s last t)
       (one_section (announced asked s last t) (λ m. walk_from asked c None m t) (λ n. weave_from asked put c (kind last t) n u) (λ n. walk_from asked c (kind last t) n u) (λ n. weave_nothing none c (kind last t) n u))
@@ -247,13 +248,13 @@ module _ {S E : Type 0} (asked : Asks S E) (put : Puts S Tree) where
   -- ---- spelled alike
 
   module _ (other : Puts S Tree) where
-    abbrev Same : S → Option SectionId → Option SectionId → Type 0
-    Same s a b = map normal (put s a b) ≡ map normal (other s a b)
+    abbrev Same : S → Visit → Type 0
+    Same s v = map normal (put s v) ≡ map normal (other s v)
 
     before_alike : (s : S) (last : Option SectionId) (t : Tree) (more : List Visit) → AtSections asked s (before last t ++ more) Same →
         map normal (put_before put s last t) ≡ map normal (put_before other s last t)
     before_alike s last (Tree.row k t) more alike = before_alike s last t more alike
-    before_alike s last (Tree.told k t) more alike = alike [] last (Some k) more refl
+    before_alike s last (Tree.told k t) more alike = alike [] (Section last (Some k)) more tt refl
     before_alike s last _ more alike = refl
 
     pub woven_alike : (last : Option SectionId) (s m : S) (t : Tree) (told xs : List ℕ) → run asked s (visits_from last t) ≡ accepted told m → AtSections asked s (visits_from last t) Same →
@@ -262,7 +263,7 @@ module _ {S E : Type 0} (asked : Asks S E) (put : Puts S Tree) where
         let r = run_parts asked s m (visits_from None t) (visits_from None u) told ran in
         let state : state_after (run asked s (visits_from None t)) ≡ r.1 = ap state_after r.3 in
         rw (woven_alike None s r.1 t r.0 xs r.3 (at_front asked Same s (visits_from None t) (visits_from None u) alike), state, woven_alike None r.1 m u r.2 (after t xs) r.4 (at_behind asked Same s r.1 r.0 (visits_from None t) (visits_from None u) r.3 alike)) refl
-    woven_alike last s m Tree.finish told xs ran alike = alsos_alike (put s last None) (other s last None) Tree.finish Tree.finish (alike [] last None [] refl) refl
+    woven_alike last s m Tree.finish told xs ran alike = alsos_alike (put s (Section last None)) (other s (Section last None)) Tree.finish Tree.finish (alike [] (Section last None) [] tt refl) refl
     woven_alike last s m (Tree.also t u) told xs ran alike =
         let own : List ℕ = drop (length (before None t)) xs in
         let r = also_ran asked s m last t u told ran in

@@ -107,7 +107,7 @@ module _ {S E : Type 0} (asked : Asks S E) (adds : Puts S SectionRow) where
           hook (Tree.also v others) (put_before adds g.at g.last v) (announced asked g.at g.last v) is (λ x z p. own_next c g.last g.at v others z e p x) (λ step. rw step refl) (h.1 other)
       go (Tree.also v others) is (inr h) = inr (refuses (Tree.also v others) is (rw (h.1, h.3 other) refl))
       go Tree.finish is h =
-          hook Tree.finish (adds g.at g.last None) (asked g.at (Section g.last None)) is (λ x z p. inl (at_end z p, x)) (λ step. rw step refl) (h.1 other)
+          hook Tree.finish (adds g.at (Section g.last None)) (asked g.at (Section g.last None)) is (λ x z p. inl (at_end z p, x)) (λ step. rw step refl) (h.1 other)
       go _ is h = absurd h
 
   core_accepted : (c : ℕ) (s m : S) (t u v : Tree) → t ≡ core_tree u → weave asked (added adds) c s u ≡ accepted v m → weave asked (added adds) c s t ≡ accepted (core_tree v) m

@@ -3,6 +3,7 @@ use Rattle.std.proofs.Common.{◌≡◌, ◌<◌, ◌≤◌, ◌^◌, ◌-◌, �
 use Rattle.std.proofs.lemmas.List.Elements.{All-nil, All-cons, All-head, All-tail}
 use Rattle.wasm_shapes.specs.declared.SectionId.{SectionId}
 use Rattle.wasm_shapes.specs.declared.Visit.{Visit}
+use Rattle.wasm_shapes.specs.declared.Visit.TheVariants.{Section}
 use Rattle.wasm_shapes.specs.Tree.{Tree, visits, visits_from, before, kind, fill, after, normal, frames}
 use Rattle.wasm_shapes.specs.Fits.{Fits}
 use Rattle.wasm_shapes.specs.Spells.{Is, Spelled, Spells}
@@ -42,20 +43,20 @@ reads_before _ _ p q (AreReadings.more {row = row} {rows = rows} {vs = vs} r res
     record { shaped = Is.also r.shaped others.shaped; spelled = (section_bytes row, normal (alsos (map framed_tree rows) p), refl, r.spelled, others.spelled) }
 
 module _ {S E : Type 0} (asked : Asks S E) (adds : Puts S SectionRow) (readings : Puts S Tree) where
-  abbrev Reads : S → Option SectionId → Option SectionId → Type 0
-  Reads s a b = AreReadings (adds s a b) (readings s a b)
+  abbrev Reads : S → Visit → Type 0
+  Reads s v = AreReadings (adds s v) (readings s v)
 
   reads_hook : (s : S) (last : Option SectionId) (t p q : Tree) (more : List Visit) → AtSections asked s (before last t ++ more) Reads → Spells sections (normal p) q →
       Spells sections (normal (alsos (put_before (added adds) s last t) p)) (alsos (put_before readings s last t) q)
   reads_hook s last (Tree.row k t) p q more are h = reads_hook s last t p q more are h
-  reads_hook s last (Tree.told k t) p q more are h = reads_before (adds s last (Some k)) (readings s last (Some k)) p q (are [] last (Some k) more refl) h
+  reads_hook s last (Tree.told k t) p q more are h = reads_before (adds s (Section last (Some k))) (readings s (Section last (Some k))) p q (are [] (Section last (Some k)) more tt refl) h
   reads_hook s last _ p q more are h = h
 
   reads_from : (last : Option SectionId) (s m : S) (t : Tree) (x xs told : List ℕ) → Is sections t → Spelled t x → Small xs → Fits (fill t xs) (2 ^ 32 - 1) →
       run asked s (visits_from last t) ≡ accepted told m → AtSections asked s (visits_from last t) Reads →
       Spells sections (normal (woven_from asked (added adds) last s t xs)) (woven_from asked readings last s t xs)
   reads_from last s m t x xs told Is.finish p small fits ran are =
-      reads_before (adds s last None) (readings s last None) Tree.finish Tree.finish (are [] last None [] refl) (record { shaped = Is.finish; spelled = refl })
+      reads_before (adds s (Section last None)) (readings s (Section last None)) Tree.finish Tree.finish (are [] (Section last None) [] tt refl) (record { shaped = Is.finish; spelled = refl })
   reads_from last s m t x xs told (Is.also {t = v} {u = u} d d') p small fits ran are =
       let own : List ℕ = drop (length (before None v)) xs in
       let own_small : Small own = small_behind (length (before None v)) xs small in
@@ -130,7 +131,7 @@ output_is_read reply next adds keeps readings c bound s m bytes t u p h are =
       reading = there;
       only = λ v q. one_tree core_module tables_sound.core_sound (normal u) v w q there;
       normally = λ are_normal.
-          let alike : AtSections asked s (visits t) (λ k x y. map normal (added adds k x y) ≡ map normal (readings k x y)) =
-          λ front x y rest parts. framed_alike (adds (state_after (run asked s front)) x y) ∙ sym (are_normal front x y rest parts) in
+          let alike : AtSections asked s (visits t) (λ k v. map normal (added adds k v) ≡ map normal (readings k v)) =
+          λ front v rest may parts. framed_alike (adds (state_after (run asked s front)) v) ∙ sym (are_normal front v rest may parts) in
           sym (woven_alike asked (added adds) readings None s m t a.given a.given a.ran alike) ∙ ap normal a.wove;
     }

@@ -1,6 +1,8 @@
 -- What sections make of a core module that are added by the kinds of their neighbours alone, as those of a rule are.
 use Rattle.std.specs.Prelude.{◌≡◌, ℕ, List, map, Option, None}
 use Rattle.wasm_shapes.specs.declared.SectionId.{SectionId}
+use Rattle.wasm_shapes.specs.declared.Visit.{Visit}
+use Rattle.wasm_shapes.specs.declared.Visit.TheVariants.{Section}
 use Rattle.wasm_shapes.specs.Tree.{Tree, kind, normal}
 use Rattle.wasm_shapes.specs.Spells.{Spells}
 use Rattle.wasm_shapes.specs.Fits.{Fits}
@@ -8,25 +10,25 @@ use Rattle.wasm_shapes.specs.Module.{alsos, core_module}
 use Rattle.wasm_write.specs.Sections.{SectionRow, framed_tree}
 use Rattle.reencode_hooks.specs.declared.error.Error.{Error}
 use Rattle.reencode_hooks.specs.declared.error.Error.TheVariants.{NoMemory}
-use Rattle.reencode_hooks.specs.Hooks.{HasTooLarge}
+use Rattle.reencode_hooks.specs.Hooks.{HasTooLarge, at_section}
 use Rattle.reencode_core.specs.Weave.{put_before}
 
--- what is put between a section of the first kind and one of the second, as rows or as trees
+-- what is put between a section of the first kind and one of the second
 abbrev pub Between : Type 0 → Type 0
 Between A = Option SectionId → Option SectionId → List A
 
 -- The sections with these before each that the section hook is told of, and at the end. The kind is that of the last such
 -- section so far.
-abbrev pub interspersed_from : Between Tree → Option SectionId → Tree → Tree
+abbrev pub interspersed_from : (Visit → List Tree) → Option SectionId → Tree → Tree
 interspersed_from put last (Tree.pair t u) = Tree.pair (interspersed_from put None t) (interspersed_from put None u)
-interspersed_from put last Tree.finish = alsos (put last None) Tree.finish
+interspersed_from put last Tree.finish = alsos (put (Section last None)) Tree.finish
 interspersed_from put last (Tree.also t u) =
     alsos (put_before (λ (_ : Unit {0}). put) tt last t) (Tree.also t (interspersed_from put (kind last t) u))
 interspersed_from put last t = t
 
 -- a module, and the sections of a rule between its own
 abbrev pub interspersed : Between SectionRow → Tree → Tree
-interspersed sections t = interspersed_from (λ after before. map framed_tree (sections after before)) None t
+interspersed sections t = interspersed_from (λ v. map framed_tree (at_section sections v)) None t
 
 -- The bytes are a core module, and the output is its normal spelling, with these sections between its own.
 pub record IsInterspersed (sections : Between SectionRow) (bytes output : List ℕ) : Type 0 where

@@ -7,23 +7,24 @@ use Rattle.wasm_shapes.specs.Tree.{Tree, kind, before, visits_from, after, fill}
 use Rattle.wasm_shapes.specs.Module.{alsos}
 use Rattle.wasm_write.specs.Sections.{SectionRow, framed_tree}
 use Rattle.reencode_hooks.specs.declared.error.Error.{Error}
+use Rattle.reencode_hooks.specs.Hooks.{MayAdd}
 use Rattle.reencode_hooks.specs.Run.{Step, accepted, and_then, state_after, run}
 use Rattle.reencode_hooks.specs.Walk.{walk, walk_from, announced}
 use Rattle.reencode_core.specs.Rows.{Asks}
 use Rattle.reencode_core.specs.Core.{onto}
 
--- what a section hook puts between two sections, as rows or as trees
+-- what a section hook puts at a visit, as rows or as trees
 abbrev pub Puts : Type 0 → Type 0 → Type 0
-Puts S A = S → Option SectionId → Option SectionId → List A
+Puts S A = S → Visit → List A
 
 -- the sections that it adds, as trees
 abbrev pub added : {S : Type 0} → Puts S SectionRow → Puts S Tree
-added adds s after before = map framed_tree (adds s after before)
+added adds s v = map framed_tree (adds s v)
 
 -- what stands before a section, where the section hook is told of it
 abbrev pub put_before : {S A : Type 0} → Puts S A → S → Option SectionId → Tree → List A
 put_before put s last (Tree.row k t) = put_before put s last t
-put_before put s last (Tree.told k t) = put s last (Some k)
+put_before put s last (Tree.told k t) = put s (Section last (Some k))
 put_before put s last _ = []
 
 -- the kind of the last of these sections that are of a known kind, where this was the last one before them
@@ -40,7 +41,7 @@ woven_one asked put c last s t =
 abbrev pub weave_from : {S E : Type 0} → Asks S E → Puts S Tree → ℕ → Option SectionId → S → Tree → Step S (Error E) Tree
 weave_from asked put c last s (Tree.pair t u) =
     and_then (weave_from asked put c None s t) (λ t' m. and_then (weave_from asked put c None m u) (λ u' n. accepted (Tree.pair t' u') n))
-weave_from asked put c last s Tree.finish = and_then (asked s (Section last None)) (λ _ m. accepted (alsos (put s last None) Tree.finish) m)
+weave_from asked put c last s Tree.finish = and_then (asked s (Section last None)) (λ _ m. accepted (alsos (put s (Section last None)) Tree.finish) m)
 weave_from asked put c last s (Tree.also t u) =
     and_then (woven_one asked put c last s t) (λ us n. onto us (weave_from asked put c (kind last t) n u))
 weave_from asked put c last s t = walk_from asked c last s t
@@ -51,17 +52,16 @@ weave asked put c s t = weave_from asked put c None s t
 
 -- ---- the same in terms of the run
 
--- this holds at each section visit among these, of the state that the run over those before it leaves
-abbrev pub AtSections : {S E : Type 0} → Asks S E → S → List Visit → (S → Option SectionId → Option SectionId → Type 0) → Type 0
+-- this holds at each visit among these at which sections may be added, of the state that the run over those before it leaves
+abbrev pub AtSections : {S E : Type 0} → Asks S E → S → List Visit → (S → Visit → Type 0) → Type 0
 AtSections asked s visits P =
-    (front : List Visit) (last next : Option SectionId) (rest : List Visit) → visits ≡ front ++ Section last next ∷ rest
-    → P (state_after (run asked s front)) last next
+    (front : List Visit) (v : Visit) (rest : List Visit) → MayAdd v → visits ≡ front ++ v ∷ rest → P (state_after (run asked s front)) v
 
 -- the filled tree, with what is put at the state of each section visit of the run
 abbrev pub woven_from : {S E : Type 0} → Asks S E → Puts S Tree → Option SectionId → S → Tree → List ℕ → Tree
 woven_from asked put last s (Tree.pair t u) answers =
     Tree.pair (woven_from asked put None s t answers) (woven_from asked put None (state_after (run asked s (visits_from None t))) u (after t answers))
-woven_from asked put last s Tree.finish answers = alsos (put s last None) Tree.finish
+woven_from asked put last s Tree.finish answers = alsos (put s (Section last None)) Tree.finish
 woven_from asked put last s (Tree.also t u) answers =
     let own = drop (length (before None t)) answers in
     alsos (put_before put s last t) (Tree.also (fill t own)

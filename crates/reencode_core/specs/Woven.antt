@@ -44,7 +44,7 @@ StopsHooked {S} asked adds c last s t part e m =
 -- the first of these sections was refused, or the hook before it; or the hook at the end
 abbrev pub StopsNext : {S E : Type 0} → Asks S E → Puts S SectionRow → ℕ → Option SectionId → S → Tree → List SectionRow → Error E → S → Type 0
 StopsNext asked adds c last s (Tree.also t others) part e m = StopsHooked asked adds c last s t part e m
-StopsNext asked adds c last s Tree.finish part e m = StopsHook c (adds s last None) part (asked s (Section last None)) e m
+StopsNext asked adds c last s Tree.finish part e m = StopsHook c (adds s (Section last None)) part (asked s (Section last None)) e m
 StopsNext asked adds c last s _ part e m = ⊥
 
 -- ---- sections one behind another
@@ -52,7 +52,7 @@ StopsNext asked adds c last s _ part e m = ⊥
 -- No section that is added at a section visit among these, at the state that the run over those before it leaves, has a body
 -- above the ceiling.
 abbrev pub AddsFit : {S E : Type 0} → Asks S E → Puts S SectionRow → ℕ → S → List Visit → Type 0
-AddsFit asked adds c s visits = AtSections asked s visits (λ m after before. (size : ℕ) → ¬ HasTooLarge c (adds m after before) size)
+AddsFit asked adds c s visits = AtSections asked s visits (λ m v. (size : ℕ) → ¬ HasTooLarge c (adds m v) size)
 
 -- These sections are accepted, whatever stands behind them, and become those, added ones in their places; what stands behind them
 -- is walked from here, behind a section of that kind.
@@ -90,8 +90,8 @@ GivesWovenModule asked adds before t after (Err e) = StopsWoven asked adds befor
 -- The section hook before the section that stands here in its frame, or at the end, was to add one that is too large.
 abbrev pub OwnNext : {S E : Type 0} → Puts S SectionRow → ℕ → Option SectionId → S → List ℕ → Error E → Type 0
 OwnNext adds c last s rest e =
-    ((rest ≡ []) × IsOwn c (adds s last None) e)
-    ⊎ ((id : SectionId) × (body left : List ℕ) × Begins frame rest (numbered_frame (number id) body) left × IsOwn c (adds s last (Some id)) e)
+    ((rest ≡ []) × IsOwn c (adds s (Section last None)) e)
+    ⊎ ((id : SectionId) × (body left : List ℕ) × Begins frame rest (numbered_frame (number id) body) left × IsOwn c (adds s (Section last (Some id))) e)
 
 -- Some sections stand behind the header, were accepted and became those, added ones in their places, which fit; what stands behind
 -- them is walked from here, behind a section of that kind.
@@ -123,7 +123,7 @@ IsWovenCause asked adds c bytes s m e = IsCause asked c bytes s m e ⊎ OwnTooLa
 -- of a known kind the section hook, and all of them; before another nothing.
 pub data AddedBefore {S E : Type 0} (asked : Asks S E) (adds : Puts S SectionRow) (last : Option SectionId) (s : S) : Tree → S → List SectionRow → Type 0 where
   known : (k : SectionId) (body : List ℕ) (n : S) → asked s (Section last (Some k)) ≡ accepted 0 n →
-      AddedBefore asked adds last s (numbered_frame (number k) body) n (adds s last (Some k))
+      AddedBefore asked adds last s (numbered_frame (number k) body) n (adds s (Section last (Some k)))
   custom : (name contents : List ℕ) → AddedBefore asked adds last s (custom_frame name contents) s []
   unknown : (id : ℕ) (contents : List ℕ) → 14 ≤ id → AddedBefore asked adds last s (numbered_frame id contents) s []
 
@@ -131,9 +131,9 @@ pub data AddedBefore {S E : Type 0} (asked : Asks S E) (adds : Puts S SectionRow
 -- at the end refused, or the one before a section; else all of them, where the section is refused or has no reading; and none
 -- where no frame begins.
 pub data AddedThere {S E : Type 0} (asked : Asks S E) (adds : Puts S SectionRow) (c : ℕ) (last : Option SectionId) (s : S) (rest : List ℕ) (e : Error E) (m : S) (part : List SectionRow) : Type 0 where
-  at_end : rest ≡ [] → StopsHook c (adds s last None) part (asked s (Section last None)) e m → AddedThere asked adds c last s rest e m part
+  at_end : rest ≡ [] → StopsHook c (adds s (Section last None)) part (asked s (Section last None)) e m → AddedThere asked adds c last s rest e m part
   hook : (k : SectionId) (body left : List ℕ) → Begins frame rest (numbered_frame (number k) body) left →
-      StopsHook c (adds s last (Some k)) part (asked s (Section last (Some k))) e m → AddedThere asked adds c last s rest e m part
+      StopsHook c (adds s (Section last (Some k))) part (asked s (Section last (Some k))) e m → AddedThere asked adds c last s rest e m part
   section : (f : Tree) (left : List ℕ) (n : S) → Begins frame rest f left → AddedBefore asked adds last s f n part →
       ((t : Tree) → InFrame t f → e ≢ NoMemory → walk asked c n t ≡ refused e m) → AddedThere asked adds c last s rest e m part
   unframed : BeginsNone frame rest → rest ≢ [] → part ≡ [] → AddedThere asked adds c last s rest e m part

@@ -1,12 +1,12 @@
 -- Laws of the walk of a reencoder whose section hook adds: beside the plain walk, the run, and what its output is read as.
-use Rattle.std.specs.Prelude.{◌≡◌, ◌≤◌, ◌-◌, ◌^◌, ℕ, List, [], ◌∷◌, map, Option}
-use Rattle.wasm_shapes.specs.declared.SectionId.{SectionId}
+use Rattle.std.specs.Prelude.{◌≡◌, ◌≤◌, ◌-◌, ◌^◌, ℕ, List, [], ◌∷◌, map}
 use Rattle.wasm_shapes.specs.declared.Visit.{Visit}
 use Rattle.wasm_shapes.specs.Tree.{Tree, visits, fill, normal}
 use Rattle.wasm_shapes.specs.Spells.{Spelled, Spells}
 use Rattle.wasm_shapes.specs.Fits.{Fits}
 use Rattle.wasm_shapes.specs.Module.{core_module, section}
 use Rattle.wasm_write.specs.Sections.{SectionRow, section_bytes}
+use Rattle.reencode_hooks.specs.Hooks.{MayAdd}
 use Rattle.reencode_hooks.specs.Run.{Step, accepted, and_then, run}
 use Rattle.reencode_hooks.specs.Walk.{walk}
 use Rattle.reencode_core.specs.Rows.{Asks}
@@ -14,7 +14,7 @@ use Rattle.reencode_core.specs.Weave.{AtSections, Puts, added, weave, woven}
 
 -- Where nothing is put, it is the walk.
 abbrev pub WeaveOfNothing : {S E : Type 0} → Asks S E → Type 0
-WeaveOfNothing {S} asked = (put : Puts S Tree) → ((s : S) (after before : Option SectionId) → put s after before ≡ []) →
+WeaveOfNothing {S} asked = (put : Puts S Tree) → ((s : S) (v : Visit) → MayAdd v → put s v ≡ []) →
     (c : ℕ) (s : S) (t : Tree) → weave asked put c s t ≡ walk asked c s t
 
 -- how a step ended: accepted, or refused with this error, and in which state
@@ -51,12 +51,12 @@ pub data AreReadings : List SectionRow → List Tree → Type 0 where
 
 -- these are readings of the sections that are added at these visits
 abbrev pub ReadsAdded : {S E : Type 0} → Asks S E → Puts S SectionRow → Puts S Tree → S → List Visit → Type 0
-ReadsAdded asked adds readings s visits = AtSections asked s visits (λ m after before. AreReadings (adds m after before) (readings m after before))
+ReadsAdded asked adds readings s visits = AtSections asked s visits (λ m v. AreReadings (adds m v) (readings m v))
 
 -- and these sections are spelled normally
 abbrev pub AreNormal : {S E : Type 0} → Asks S E → Puts S SectionRow → Puts S Tree → S → List Visit → Type 0
 AreNormal asked adds readings s visits =
-    AtSections asked s visits (λ m after before. map normal (readings m after before) ≡ map section_bytes (adds m after before))
+    AtSections asked s visits (λ m v. map normal (readings m v) ≡ map section_bytes (adds m v))
 
 -- The run is accepted, and these bytes are a core module, read as this tree alone: the filled tree, with these readings directly
 -- before each section asked for, and at the end. The bytes are its normal spelling where what was added is spelled normally.

@@ -3,7 +3,7 @@ ghost use Rattle.std.specs.Prelude.{◌≡◌, ◌++◌, List, Option, OnOk, OnE
 ghost use Rattle.wasm_shapes.specs.declared.SectionId.{SectionId};
 ghost use Rattle.wasm_write.specs.Faults.{IfTooLarge};
 ghost use Rattle.wasm_write.specs.Sections.{SectionRow};
-ghost use Rattle.reencode_hooks.specs.Hooks.{Gains, GainsPart, HasTooLarge};
+ghost use Rattle.reencode_hooks.specs.Hooks.{Gains, GainsPart, HasTooLarge, at_section, at_section-keeps, both_keep};
 
 use crate::defaults::DefaultReencode;
 use reencode_hooks::{Error, ReencodeIndices};
@@ -58,8 +58,8 @@ impl<R: ReencodeIndices, S: SectionRule> ReencodeIndices for Adding<R, S> {
 
     ghost next = { λ s visit. record s { reencoder = R.next s.reencoder visit } };
 
-    ghost adds = { λ s after before.
-        R.adds s.reencoder after before ++ S.sections s.sections after before };
+    ghost adds = { λ s visit.
+        R.adds s.reencoder visit ++ at_section (S.sections s.sections) visit };
 
     ghost keeps_defaults = { true };
 
@@ -69,7 +69,8 @@ impl<R: ReencodeIndices, S: SectionRule> ReencodeIndices for Adding<R, S> {
 
     ghost answers_ok = { λ s visit h. R.answers_ok s.reencoder visit h };
 
-    ghost adds_ok = { λ never. absurd (false≢true never) };
+    ghost adds_ok = { both_keep (λ never. absurd (false≢true never))
+        (λ s. R.adds_ok s.reencoder) (at_section-keeps (λ s. S.sections s.sections)) };
 
     fn data_index(&mut self, index: u32) -> Result<u32, Error<R::Error>> {
         self.reencoder.data_index(index)

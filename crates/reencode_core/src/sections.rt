@@ -4,6 +4,7 @@ ghost use Rattle.wasm_leb.specs.Leb.{IsUnsigned};
 ghost use Rattle.wasm_shapes.specs.Tree.{normal};
 ghost use Rattle.wasm_shapes.specs.Types.{vector_tree};
 ghost use Rattle.wasm_write.specs.Sections.{AllFit, section_row};
+ghost use Rattle.wasm_shapes.specs.declared.Visit.TheVariants as visit;
 ghost use Rattle.reencode_hooks.specs.Hooks.{RepliesSection};
 ghost use Rattle.reencode_hooks.specs.Run.{NeverWants};
 ghost use Rattle.reencode_core.specs.Sections.{AddsMapped, HasBody, NoBody, NoItem};
@@ -119,9 +120,10 @@ pub(crate) fn intersperse_section_hook<R: ReencodeIndices>(
     before: Option<SectionId>,
 ) -> Result<(), Error<R::Error>>
     ensures answer { RepliesSection R.reply R.next R.adds reencoder.old reencoder.new
-        «module».old «module».new after before result }
+        «module».old «module».new (visit.Section after before) result }
     ensures sure { NeverWants R.sure result }
-    ensures fits { OnOk result (AllFit «module».old.ceiling (R.adds reencoder.old after before)) }
+    ensures fits { OnOk result
+        (AllFit «module».old.ceiling (R.adds reencoder.old (visit.Section after before))) }
 {
     match reencoder.intersperse_section_hook(module, after, before) {
         Ok(()) => {

@@ -1,9 +1,7 @@
 -- The section hook of a chain where one of the two refuses.
-use Rattle.std.specs.Prelude.{◌≡◌, ◌++◌, ◌∷◌, ℕ, List, Option, Result, Ok, Err}
+use Rattle.std.specs.Prelude.{◌≡◌, ◌++◌, ◌∷◌, ℕ, List, Result, Ok, Err}
 use Rattle.std.proofs.Common.{refl, sym, ap, subst, ◌∙◌, append_assoc}
-use Rattle.wasm_shapes.specs.declared.SectionId.{SectionId}
 use Rattle.wasm_shapes.specs.declared.Visit.{Visit}
-use Rattle.wasm_shapes.specs.declared.Visit.TheVariants.{Section}
 use Rattle.wasm_write.specs.Sections.{SectionRow, Sections}
 use Rattle.reencode_hooks.specs.declared.error.Error.{Error}
 use Rattle.reencode_hooks.specs.declared.error.Error.TheVariants.{CanonicalizedHeapTypeReference, InvalidConstExpr, InvalidCodeSectionSize, UnexpectedNonCoreModuleSection, UnexpectedNonComponentSection, UnsupportedCoreTypeInComponent, ParseError, UserError, TooLarge, NoMemory}
@@ -15,23 +13,26 @@ use Rattle.reencode_hooks.specs.Chains.{reindexed, first_then, unless_err, chain
 
 -- ---- sections in front of others
 
-too_large_front : {c size : ℕ} {rows : List SectionRow} (more : List SectionRow) → HasTooLarge c rows size → HasTooLarge c (rows ++ more) size
+-- a section that is too large is one of more sections too
+pub too_large_front : {c size : ℕ} {rows : List SectionRow} (more : List SectionRow) → HasTooLarge c rows size → HasTooLarge c (rows ++ more) size
 too_large_front more h =
     record { front = h.front; row = h.row; rest = h.rest ++ more; parts = ap (λ z. z ++ more) h.parts ∙ append_assoc h.front (h.row ∷ h.rest) more; sized = h.sized; above = h.above }
 
-too_large_behind : {c size : ℕ} {more : List SectionRow} (rows : List SectionRow) → HasTooLarge c more size → HasTooLarge c (rows ++ more) size
+pub too_large_behind : {c size : ℕ} {more : List SectionRow} (rows : List SectionRow) → HasTooLarge c more size → HasTooLarge c (rows ++ more) size
 too_large_behind rows h =
     record { front = rows ++ h.front; row = h.row; rest = h.rest; parts = ap (λ z. rows ++ z) h.parts ∙ sym (append_assoc rows h.front (h.row ∷ h.rest)); sized = h.sized; above = h.above }
 
-part_front : {m n : Sections} {rows : List SectionRow} (more : List SectionRow) → GainsPart m n rows → GainsPart m n (rows ++ more)
+-- a front part of them is one of more sections too
+pub part_front : {m n : Sections} {rows : List SectionRow} (more : List SectionRow) → GainsPart m n rows → GainsPart m n (rows ++ more)
 part_front more h = record { part = h.part; rest = h.rest ++ more; parts = ap (λ z. z ++ more) h.parts ∙ append_assoc h.part h.rest more; gains = h.gains }
 
+-- what was added one behind the other was added at once
 pub gains_both : (m n o : Sections) (rows more : List SectionRow) → Gains m n rows → Gains n o more → Gains m o (rows ++ more)
 gains_both m n o rows more first second =
     let at_first : Gains (record m { sections = m.sections ++ rows }) o more = subst (λ z. Gains z o more) first second in
     at_first ∙ ap (λ z. record m { sections = z }) (append_assoc m.sections rows more)
 
-part_behind : {m n o : Sections} {more : List SectionRow} (rows : List SectionRow) → Gains m n rows → GainsPart n o more → GainsPart m o (rows ++ more)
+pub part_behind : {m n o : Sections} {more : List SectionRow} (rows : List SectionRow) → Gains m n rows → GainsPart n o more → GainsPart m o (rows ++ more)
 part_behind {m} {n} {o} rows gains h =
     record { part = rows ++ h.part; rest = h.rest; parts = ap (λ z. rows ++ z) h.parts ∙ sym (append_assoc rows h.part h.rest); gains = gains_both m n o rows h.part gains h.gains }
 
@@ -62,8 +63,8 @@ refused_second {A} {B} {X} {Y} (Ok j) k n s a b m next e h q =
         let same_state : t ≡ m = cc in
         rw (← same_error, ← same_state) refl
 
-module _ {A B X Y : Type 0} (f : A → Visit → Result ℕ X) (f' : A → Visit → A) (adds : A → Option SectionId → Option SectionId → List SectionRow)
-    (g : B → Visit → Result ℕ Y) (g' : B → Visit → B) (more : B → Option SectionId → Option SectionId → List SectionRow) where
+module _ {A B X Y : Type 0} (f : A → Visit → Result ℕ X) (f' : A → Visit → A) (adds : A → Visit → List SectionRow)
+    (g : B → Visit → Result ℕ Y) (g' : B → Visit → B) (more : B → Visit → List SectionRow) where
   abbrev Refuses : A → A → B → B → Visit → ℕ → List SectionRow → Error (ChainError X Y) → Type 0
   Refuses s a t b v c rows e = RefusesSection (chain_reply f g) (chain_next f f' g') (record { a = s; b = t }) (record { a = a; b = b }) v c rows e
 
@@ -93,22 +94,22 @@ module _ {A B X Y : Type 0} (f : A → Visit → Result ℕ X) (f' : A → Visit
   second_refuses (UserError x) s a t b v n c front rows p h = refused_second (f s v) _ n (f' s v) a t b _ (UserError x) p h
 
   -- the section hook of the chain
-  abbrev Hook : A → A → B → B → Sections → Sections → Option SectionId → Option SectionId → Error (ChainError X Y) → Type 0
-  Hook s a t b old new after before e =
-      RepliesSection (chain_reply f g) (chain_next f f' g') (chain_adds adds more) (record { a = s; b = t }) (record { a = a; b = b }) old new after before (Err e)
+  abbrev Hook : A → A → B → B → Sections → Sections → Visit → Error (ChainError X Y) → Type 0
+  Hook s a t b old new v e =
+      RepliesSection (chain_reply f g) (chain_next f f' g') (chain_adds adds more) (record { a = s; b = t }) (record { a = a; b = b }) old new v (Err e)
 
   -- the first one's hook refused
-  pub first_error : (s a : A) (t : B) (old new : Sections) (after before : Option SectionId) (e : Error X)
-      → RepliesSection f f' adds s a old new after before (Err e) → Hook s a t t old new after before (as_first e)
-  first_error s a t old new after before e h =
-      (first_refuses e s a t (Section after before) old.ceiling (adds s after before) (more t after before) h.0, part_front (more t after before) h.1)
+  pub first_error : (s a : A) (t : B) (old new : Sections) (v : Visit) (e : Error X)
+      → RepliesSection f f' adds s a old new v (Err e) → Hook s a t t old new v (as_first e)
+  first_error s a t old new v e h =
+      (first_refuses e s a t v old.ceiling (adds s v) (more t v) h.0, part_front (more t v) h.1)
 
   -- the second one's hook refused, where the first one's accepted
-  pub second_error : (s a : A) (t b : B) (old mid new : Sections) (after before : Option SectionId) (e : Error Y)
-      → (ask f f' s (Section after before) ≡ accepted 0 a) × Gains old mid (adds s after before)
-      → RepliesSection g g' more t b mid new after before (Err e) → Hook s a t b old new after before (as_second e)
-  second_error s a t b old mid new after before e p h =
+  pub second_error : (s a : A) (t b : B) (old mid new : Sections) (v : Visit) (e : Error Y) → reindexed v 0 ≡ v
+      → (ask f f' s v ≡ accepted 0 a) × Gains old mid (adds s v)
+      → RepliesSection g g' more t b mid new v (Err e) → Hook s a t b old new v (as_second e)
+  second_error s a t b old mid new v e asks_none p h =
       let same : mid.ceiling ≡ old.ceiling = ap (λ z. z.ceiling) p.1 in
-      let own : RefusesSection g g' t b (Section after before) old.ceiling (more t after before) e =
-      subst (λ z. RefusesSection g g' t b (Section after before) z (more t after before) e) same h.0 in
-      (second_refuses e s a t b (Section after before) 0 old.ceiling (adds s after before) (more t after before) p.0 own, part_behind (adds s after before) p.1 h.1)
+      let own : RefusesSection g g' t b (reindexed v 0) old.ceiling (more t v) e =
+      subst (λ w. RefusesSection g g' t b w old.ceiling (more t v) e) (sym asks_none) (subst (λ z. RefusesSection g g' t b v z (more t v) e) same h.0) in
+      (second_refuses e s a t b v 0 old.ceiling (adds s v) (more t v) p.0 own, part_behind (adds s v) p.1 h.1)

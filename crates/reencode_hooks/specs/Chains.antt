@@ -1,7 +1,6 @@
 -- What two reencoders mean, one after the other.
 use Rattle.std.specs.Fmt.{◌++?◌}
-use Rattle.std.specs.Prelude.{◌++◌, ◌&&◌, ℕ, Bool, true, false, List, Option, Some, Result, Ok, Err, codes, refl}
-use Rattle.wasm_shapes.specs.declared.SectionId.{SectionId}
+use Rattle.std.specs.Prelude.{◌++◌, ◌&&◌, ℕ, Bool, true, false, List, Option, Some, Result, Ok, Err, IsTrue, codes, refl}
 use Rattle.wasm_shapes.specs.declared.Visit.{Visit}
 use Rattle.wasm_shapes.specs.declared.Visit.TheVariants.{Index, Outer, Section, Push, Pop}
 use Rattle.wasm_write.specs.Sections.{SectionRow}
@@ -10,7 +9,7 @@ use Rattle.reencode_hooks.specs.declared.error.Error.TheVariants.{CanonicalizedH
 use Rattle.reencode_hooks.specs.declared.chain.Chain.{Chain}
 use Rattle.reencode_hooks.specs.declared.chain.ChainError.{ChainError}
 use Rattle.reencode_hooks.specs.declared.chain.ChainError.TheVariants.{First, Second}
-use Rattle.reencode_hooks.specs.Hooks.{IsInRange, IsGiven, IsAnswer, KeepsAnswers, KeepsAdds}
+use Rattle.reencode_hooks.specs.Hooks.{IsInRange, IsGiven, IsAnswer, KeepsAnswers, KeepsAdds, both_keep}
 
 -- the same visit, asked with another index
 abbrev pub reindexed : Visit → ℕ → Visit
@@ -42,9 +41,8 @@ abbrev pub chain_next : {A B X : Type 0} → (A → Visit → Result ℕ X) → 
 chain_next f a_next b_next c v = record { a = a_next c.a v; b = unless_err (f c.a v) c.b (λ n. b_next c.b (reindexed v n)) }
 
 -- what the first adds, and then what the second does
-abbrev pub chain_adds : {A B : Type 0} → (A → Option SectionId → Option SectionId → List SectionRow) → (B → Option SectionId → Option SectionId → List SectionRow)
-    → Chain A B → Option SectionId → Option SectionId → List SectionRow
-chain_adds f g c after before = f c.a after before ++ g c.b after before
+abbrev pub chain_adds : {A B : Type 0} → (A → Visit → List SectionRow) → (B → Visit → List SectionRow) → Chain A B → Visit → List SectionRow
+chain_adds f g c v = f c.a v ++ g c.b v
 
 -- ---- texts
 
@@ -108,8 +106,10 @@ answers_both v (Err e) second h is more = is
 pub chain_answers : {A B X Y : Type 0} (f : A → Visit → Result ℕ X) (g : B → Visit → Result ℕ Y) → KeepsAnswers f → KeepsAnswers g → KeepsAnswers (chain_reply f g)
 chain_answers f g p q c v h = answers_both v (f c.a v) (λ n. g c.b (reindexed v n)) h (p c.a v h) (λ n i. q c.b (reindexed v n) i)
 
-pub chain_adds_ok : {A B : Type 0} (f : A → Option SectionId → Option SectionId → List SectionRow) (g : B → Option SectionId → Option SectionId → List SectionRow)
-    (p q : Bool) → KeepsAdds f p → KeepsAdds g q → KeepsAdds (chain_adds f g) (p && q)
-chain_adds_ok f g true true h k = λ e c after before. rw (h e c.a after before, k e c.b after before) refl
-chain_adds_ok f g true false h k = λ e. absurd (cc)
-chain_adds_ok f g false q h k = λ e. absurd (cc)
+both_true : (p q : Bool) → IsTrue (p && q) → IsTrue p × IsTrue q
+both_true true q h = (refl, h)
+both_true false q h = absurd cc
+
+pub chain_adds_ok : {A B : Type 0} (f : A → Visit → List SectionRow) (g : B → Visit → List SectionRow) (p q : Bool) → KeepsAdds f p → KeepsAdds g q →
+    KeepsAdds (chain_adds f g) (p && q)
+chain_adds_ok f g p q h k = both_keep (both_true p q) (λ c. h c.a) (λ c. k c.b)

@@ -1,5 +1,6 @@
 -- What a hook answers to one visit, in terms of a reencoder's meaning: `reply`, `next` and `adds`.
 use Rattle.std.specs.Prelude.{◌≡◌, ◌<◌, ◌^◌, ◌++◌, ℕ, Bool, true, false, List, [], ◌∷◌, length, Option, Result, Ok, Err, IsTrue, refl}
+use mathlib.Core.Bool.{false≢true}
 use Rattle.wasm_shapes.specs.declared.SectionId.{SectionId}
 use Rattle.wasm_shapes.specs.declared.Space.{Space}
 use Rattle.wasm_shapes.specs.declared.Space.TheVariants as space
@@ -52,14 +53,11 @@ RefusesSection reply next old new v ceiling rows NoMemory = Unit {0}
 RefusesSection reply next old new v ceiling rows e = ask reply next old v ≡ refused e new
 
 -- the section hook appended what `adds` says, or with an error a front part of it
-abbrev pub RepliesSection : {S E : Type 0} → (S → Visit → Result ℕ E) → (S → Visit → S)
-    → (S → Option SectionId → Option SectionId → List SectionRow)
-    → S → S → Sections → Sections → Option SectionId → Option SectionId → Result (Unit {0}) (Error E) → Type 0
-RepliesSection reply next adds old new m n after before (Ok _) =
-    (ask reply next old (Section after before) ≡ accepted 0 new) × Gains m n (adds old after before)
-RepliesSection reply next adds old new m n after before (Err e) =
-    RefusesSection reply next old new (Section after before) m.ceiling (adds old after before) e
-    × GainsPart m n (adds old after before)
+abbrev pub RepliesSection : {S E : Type 0} → (S → Visit → Result ℕ E) → (S → Visit → S) → (S → Visit → List SectionRow)
+    → S → S → Sections → Sections → Visit → Result (Unit {0}) (Error E) → Type 0
+RepliesSection reply next adds old new m n v (Ok _) = (ask reply next old v ≡ accepted 0 new) × Gains m n (adds old v)
+RepliesSection reply next adds old new m n v (Err e) =
+    RefusesSection reply next old new v m.ceiling (adds old v) e × GainsPart m n (adds old v)
 
 -- ---- laws
 
@@ -101,9 +99,29 @@ IsAnswer v (Err e) = MayRefuse v
 abbrev pub KeepsAnswers : {S E : Type 0} → (S → Visit → Result ℕ E) → Type 0
 KeepsAnswers {S} reply = (s : S) (v : Visit) → IsInRange v → IsAnswer v (reply s v)
 
--- where the type says that it adds nothing, it does not
-abbrev pub KeepsAdds : {S : Type 0} → (S → Option SectionId → Option SectionId → List SectionRow) → Bool → Type 0
-KeepsAdds {S} adds nothing = IsTrue nothing → (s : S) (after before : Option SectionId) → adds s after before ≡ []
+-- a visit at which sections may be added: one of the section hook
+abbrev pub MayAdd : Visit → Type 0
+MayAdd (Section after before) = Unit {0}
+MayAdd _ = ⊥
+
+-- Nothing is added at a visit at which none may be, and where the type says that it adds nothing, at no visit.
+abbrev pub KeepsAdds : {S : Type 0} → (S → Visit → List SectionRow) → Bool → Type 0
+KeepsAdds {S} adds nothing = (s : S) (v : Visit) → (MayAdd v → IsTrue nothing) → adds s v ≡ []
+
+-- this between two sections, where the section hook is told of them, and nothing at another visit
+abbrev pub at_section : {A : Type 0} → (Option SectionId → Option SectionId → List A) → Visit → List A
+at_section between (Section after before) = between after before
+at_section between _ = []
+
+-- such sections are added as they may be
+pub at_section-keeps : {S : Type 0} (between : S → Option SectionId → Option SectionId → List SectionRow) → KeepsAdds (λ s. at_section (between s)) false
+at_section-keeps between s (Section after before) h = absurd (false≢true (h tt))
+at_section-keeps between s _ h = refl
+
+-- and so are sections behind others
+pub both_keep : {S : Type 0} {f g : S → Visit → List SectionRow} {p q both : Bool} → (IsTrue both → IsTrue p × IsTrue q) → KeepsAdds f p → KeepsAdds g q
+    → KeepsAdds (λ s v. f s v ++ g s v) both
+both_keep parts h k s v none = rw (h s v (λ may. (parts (none may)).0), k s v (λ may. (parts (none may)).1)) refl
 
 -- the index itself is such an answer
 pub index_of-given : (v : Visit) → IsInRange v → IsGiven v (index_of v)

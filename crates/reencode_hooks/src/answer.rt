@@ -53,7 +53,7 @@ impl<T: AnswerVisits> ReencodeIndices for T {
 
     ghost next = { T.AnswerVisits.next };
 
-    ghost adds = { λ _ _ _. [] };
+    ghost adds = { λ _ _. [] };
 
     ghost keeps_defaults = { T.AnswerVisits.keeps_defaults };
 
@@ -63,7 +63,7 @@ impl<T: AnswerVisits> ReencodeIndices for T {
 
     ghost answers_ok = { T.AnswerVisits.answers_ok };
 
-    ghost adds_ok = { λ _ _ _ _. refl };
+    ghost adds_ok = { λ _ _ _. refl };
 
     fn data_index(&mut self, index: u32) -> Result<u32, Error<<T as AnswerVisits>::Error>> {
         ask!(self, Space::Data, index)

@@ -1,9 +1,8 @@
 //! The hooks of a re-encoder.
-ghost use Rattle.std.specs.Prelude.{ℕ, List, Option, Result, Bool};
-ghost use Rattle.wasm_shapes.specs.declared.SectionId.{SectionId};
+ghost use Rattle.std.specs.Prelude.{ℕ, List, Result, Bool};
 ghost use Rattle.wasm_shapes.specs.declared.Space.TheVariants as space;
 ghost use Rattle.wasm_shapes.specs.declared.Visit.{Visit};
-ghost use Rattle.wasm_shapes.specs.declared.Visit.TheVariants.{Index};
+ghost use Rattle.wasm_shapes.specs.declared.Visit.TheVariants.{Index, Section};
 ghost use Rattle.wasm_write.specs.Sections.{SectionRow};
 ghost use Rattle.reencode_hooks.specs.Hooks.{Replies, RepliesSection, KeepsAnswers, KeepsAdds};
 ghost use Rattle.reencode_hooks.specs.Run.{NeverWants};
@@ -29,8 +28,8 @@ pub trait ReencodeIndices {
     // The state after a visit, refused or not.
     ghost next: { Self → Visit → Self };
 
-    // The sections that the section hook appends between these two sections.
-    ghost adds: { Self → Option SectionId → Option SectionId → List SectionRow };
+    // The sections that the section hook appends at a visit.
+    ghost adds: { Self → Visit → List SectionRow };
 
     // Whether each structural method of the traits above meets the clause of its default body.
     ghost keeps_defaults: { Bool };
@@ -97,12 +96,12 @@ pub trait ReencodeIndices {
         before: Option<SectionId>,
     ) -> Result<(), Error<Self::Error>>
         ensures answer { RepliesSection reply next adds self.old self.new
-            «module».old «module».new after before result }
+            «module».old «module».new (Section after before) result }
         ensures sure { NeverWants sure result };
 
     // An answer is an index, and a component's index is never refused.
     ghost answers_ok: { KeepsAnswers reply };
 
-    // Where the type says so, no section is ever added.
+    // Sections are added at visits of the section hook alone, and where the type says so, never.
     ghost adds_ok: { KeepsAdds adds adds_nothing };
 }

@@ -261,11 +261,11 @@ fn add_between<R: Reencode>(
     before: Option<SectionId>,
 ) -> Result<(), Error<R::Error>>
     ensures answer { RepliesSection R.reply R.next R.adds reencoder.old reencoder.new
-        sink.old.sections sink.new.sections after before result }
+        sink.old.sections sink.new.sections (Section after before) result }
     ensures leaves { LeavesHook R.sure R.adds_nothing (ask R.reply R.next) reencoder.old reencoder.new
         (Section after before) result }
     ensures fits { OnOk result
-        (AllFit sink.old.sections.ceiling (R.adds reencoder.old after before)) }
+        (AllFit sink.old.sections.ceiling (R.adds reencoder.old (Section after before))) }
     ensures input { sink.new.input ≡ sink.old.input }
     ensures ranges { OnOk result (sink.new.kept ≡ sink.old.kept) }
 {

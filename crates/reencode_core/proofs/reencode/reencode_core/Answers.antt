@@ -1,7 +1,7 @@
 use Rattle.std.proofs.Common.{rules}
 use Rattle.std.proofs.lemmas.Result.{err_from_is_err_and}
 use Rattle.reencode_core.specs.Clauses.{asks}
-use Rattle.reencode_core.proofs.AddsNothing.{bytes_nothing}
+use Rattle.reencode_core.proofs.AddsNothing.{added_none, bytes_nothing}
 use Rattle.reencode_core.proofs.WholeBytes.{bytes_given, bytes_refused, bytes_wanting}
 use Rattle.reencode_core.proofs.BytesMade.{bytes_leave, bytes_leave_none}
 use Rattle.reencode_core.proofs.reencode.reencode_core.Goals as goal
@@ -21,7 +21,7 @@ returns-in_err-parse_core_module g c =
     let p = err_from_is_err_and c.from_residual-in_err-parse_core_module.result c.from_residual-in_err-parse_core_module.ensures.1 in
     let gone = c.in_err-parse_core_module.ensures in
     rw (p.1, p.2) (record {
-      default = λ k n. bytes_nothing _ _ (g.met.R.ReencodeIndices.adds_ok n) _ _ _ _ _ _
+      default = λ k n. bytes_nothing _ _ (added_none g.met.R.ReencodeIndices.adds_ok n) _ _ _ _ _ _
           (bytes_refused _ _ _ _ _ _ _ _ _ _ c.in_ok-module.ensures (gone.woven k));
       woven = λ k. bytes_refused _ _ _ _ _ _ _ _ _ _ c.in_ok-module.ensures (gone.woven k);
       after_error = λ k told size. bytes_leave (asks g.R.ReencodeIndices) _ (gone.after_error k told size);
@@ -32,7 +32,7 @@ pub returns : goal.returns
 returns g c =
     let given = c.in_ok-parse_core_module.ensures in
     record {
-      default = λ k n. bytes_nothing _ _ (g.met.R.ReencodeIndices.adds_ok n) _ _ _ _ _ _
+      default = λ k n. bytes_nothing _ _ (added_none g.met.R.ReencodeIndices.adds_ok n) _ _ _ _ _ _
           (bytes_given _ _ _ _ _ _ _ _ _ c.in_ok-module.ensures (given.woven k) _ _ c.finish.ensures);
       woven = λ k. bytes_given _ _ _ _ _ _ _ _ _ c.in_ok-module.ensures (given.woven k) _ _ c.finish.ensures;
       after_error = λ k. tt;

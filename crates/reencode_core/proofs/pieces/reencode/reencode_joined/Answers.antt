@@ -1,7 +1,7 @@
 use Rattle.std.proofs.Common.{ap}
 use Rattle.std.proofs.lemmas.Result.{err_from_is_err_and}
 use Rattle.reencode_core.specs.Weave.{added}
-use Rattle.reencode_core.proofs.AddsNothing.{bytes_nothing}
+use Rattle.reencode_core.proofs.AddsNothing.{added_none, bytes_nothing}
 use Rattle.reencode_core.proofs.BytesMade.{bytes_leave}
 use Rattle.reencode_core.proofs.Weaves.{weave_is_run}
 use Rattle.reencode_core.proofs.WholeBytes.{bytes_given, bytes_refused}
@@ -23,7 +23,7 @@ returns-in_err-walk-clause-woven g c =
 pub returns-in_err-walk-clause-default : goal.returns-in_err-walk-clause-default
 returns-in_err-walk-clause-default g c =
     let p = err_from_is_err_and c.from_residual-in_err-walk.result c.from_residual-in_err-walk.ensures.1 in
-    rw (p.1, p.2) (λ k n. bytes_nothing _ _ (g.met.R.ReencodeIndices.adds_ok n) _ _ _ _ _ _
+    rw (p.1, p.2) (λ k n. bytes_nothing _ _ (added_none g.met.R.ReencodeIndices.adds_ok n) _ _ _ _ _ _
     (bytes_refused _ _ _ _ _ _ _ _ _ _ (ap ModuleGrown.sections c.in_ok-sink.ensures) (c.in_err-walk.ensures.woven k)))
 
 pub returns-in_err-walk-clause-after_error : goal.returns-in_err-walk-clause-after_error
@@ -46,5 +46,5 @@ returns-clause-woven g c =
 
 pub returns-clause-default : goal.returns-clause-default
 returns-clause-default g c =
-    λ k n. bytes_nothing _ _ (g.met.R.ReencodeIndices.adds_ok n) _ _ _ _ _ _
+    λ k n. bytes_nothing _ _ (added_none g.met.R.ReencodeIndices.adds_ok n) _ _ _ _ _ _
     (bytes_given _ _ _ _ _ _ _ _ _ (ap ModuleGrown.sections c.in_ok-sink.ensures) (c.in_ok-walk.ensures.woven k) _ _ c.in_ok-join.ensures)

@@ -1,4 +1,5 @@
 use Rattle.std.proofs.Common.{◌≡◌, ◌+◌, ◌-◌, ◌++◌, ℕ, List, Some, inr, length, refl, sym, ap, ◌∙◌, append_assoc, subst, arith}
+use Rattle.wasm_shapes.specs.declared.Visit.TheVariants.{Section}
 use Rattle.wasm_shapes.specs.Module.{core_header}
 use Rattle.reencode_core.proofs.EachSection.{core_headless, core_more, core_section_refused, core_unframed, custom_called, kind_called, sections_begun, unknown_called}
 use Rattle.reencode_core.proofs.Known.{frame_id}
@@ -122,10 +123,10 @@ sections-preserved-in-Ok g c =
     let stands = section_stands c.args.bytes.now inv.stands.0 _ c.in-Some-Section.body.now _ _ inv.stands.1 frame in
     let within = text_within stands in
     let end : length c.args.bytes.now - length c.next.new.self.rest ≡ c.saturating_sub-start.result + length c.in-Some-Section.body.now = omega (arith, within, c.place.ensures, c.saturating_sub-start.ensures, c.in_ok-id.ensures.len, inv.done.len, header.len) in
-    let call = kind_called g.R.ReencodeIndices keeps header inv.done c.in-Some-Section.id frame (hook_answered g.R.ReencodeIndices c.sections.reencoder c.add_between.new.reencoder c.sections.sink.sections c.add_between.new.sink.sections c.sections.last (Some c.in-Some-Section.id) c.in_ok-add_between-in-Some-Section.ensures.answer c.in_ok-add_between-in-Some-Section.ensures.fits) (record { kept = e.kept; default = e.default; after_error = e.after_error }) in
+    let call = kind_called g.R.ReencodeIndices keeps header inv.done c.in-Some-Section.id frame (hook_answered g.R.ReencodeIndices c.sections.reencoder c.add_between.new.reencoder c.sections.sink.sections c.add_between.new.sink.sections (Section c.sections.last (Some c.in-Some-Section.id)) c.in_ok-add_between-in-Some-Section.ensures.answer c.in_ok-add_between-in-Some-Section.ensures.fits) (record { kept = e.kept; default = e.default; after_error = e.after_error }) in
     let same_kept = c.in_ok-add_between-in-Some-Section.ensures.ranges in
     record {
-      done = core_more g.R.ReencodeIndices keeps header inv.done refl c.in_ok-id.ensures.len (kind_called g.R.ReencodeIndices keeps header inv.done c.in-Some-Section.id frame (hook_answered g.R.ReencodeIndices c.sections.reencoder c.add_between.new.reencoder c.sections.sink.sections c.add_between.new.sink.sections c.sections.last (Some c.in-Some-Section.id) c.in_ok-add_between-in-Some-Section.ensures.answer c.in_ok-add_between-in-Some-Section.ensures.fits) (record { kept = e.kept; default = e.default; after_error = e.after_error }));
+      done = core_more g.R.ReencodeIndices keeps header inv.done refl c.in_ok-id.ensures.len (kind_called g.R.ReencodeIndices keeps header inv.done c.in-Some-Section.id frame (hook_answered g.R.ReencodeIndices c.sections.reencoder c.add_between.new.reencoder c.sections.sink.sections c.add_between.new.sink.sections (Section c.sections.last (Some c.in-Some-Section.id)) c.in_ok-add_between-in-Some-Section.ensures.answer c.in_ok-add_between-in-Some-Section.ensures.fits) (record { kept = e.kept; default = e.default; after_error = e.after_error }));
       same = e.input ∙ c.in_ok-add_between-in-Some-Section.ensures.input ∙ inv.same;
       stands = (inv.stands.0 ++ frame.text, behind c.args.bytes.now inv.stands.0 _ frame.text _ inv.stands.1 frame.reads);
       ranges = λ d.
@@ -143,7 +144,7 @@ returns-in-Err-clause-default g c =
     let frame = rw (c.in-Some-Section.is, c.in-Some-Section.field-0-is) at c.in_ok-id.ensures.some in
     let at = rw (c.in-Some-Section.is, c.in-Some-Section.field-0-is) at c.in_ok-id.ensures.at in
     let e = c.in-Err.ensures in
-    (core_section_refused g.R.ReencodeIndices keeps header inv.done c.in-Err.e c.in-Some-Section.at (kind_called g.R.ReencodeIndices keeps header inv.done c.in-Some-Section.id frame (hook_answered g.R.ReencodeIndices c.sections.reencoder c.add_between.new.reencoder c.sections.sink.sections c.add_between.new.sink.sections c.sections.last (Some c.in-Some-Section.id) c.in_ok-add_between-in-Some-Section.ensures.answer c.in_ok-add_between-in-Some-Section.ensures.fits) (record { kept = e.kept; default = e.default; after_error = e.after_error })) at _ c.placed.ensures).default
+    (core_section_refused g.R.ReencodeIndices keeps header inv.done c.in-Err.e c.in-Some-Section.at (kind_called g.R.ReencodeIndices keeps header inv.done c.in-Some-Section.id frame (hook_answered g.R.ReencodeIndices c.sections.reencoder c.add_between.new.reencoder c.sections.sink.sections c.add_between.new.sink.sections (Section c.sections.last (Some c.in-Some-Section.id)) c.in_ok-add_between-in-Some-Section.ensures.answer c.in_ok-add_between-in-Some-Section.ensures.fits) (record { kept = e.kept; default = e.default; after_error = e.after_error })) at _ c.placed.ensures).default
 
 pub returns-in-Err-clause-woven : goal.returns-in-Err-clause-woven
 returns-in-Err-clause-woven g c =
@@ -153,7 +154,7 @@ returns-in-Err-clause-woven g c =
     let frame = rw (c.in-Some-Section.is, c.in-Some-Section.field-0-is) at c.in_ok-id.ensures.some in
     let at = rw (c.in-Some-Section.is, c.in-Some-Section.field-0-is) at c.in_ok-id.ensures.at in
     let e = c.in-Err.ensures in
-    (core_section_refused g.R.ReencodeIndices keeps header inv.done c.in-Err.e c.in-Some-Section.at (kind_called g.R.ReencodeIndices keeps header inv.done c.in-Some-Section.id frame (hook_answered g.R.ReencodeIndices c.sections.reencoder c.add_between.new.reencoder c.sections.sink.sections c.add_between.new.sink.sections c.sections.last (Some c.in-Some-Section.id) c.in_ok-add_between-in-Some-Section.ensures.answer c.in_ok-add_between-in-Some-Section.ensures.fits) (record { kept = e.kept; default = e.default; after_error = e.after_error })) at _ c.placed.ensures).woven
+    (core_section_refused g.R.ReencodeIndices keeps header inv.done c.in-Err.e c.in-Some-Section.at (kind_called g.R.ReencodeIndices keeps header inv.done c.in-Some-Section.id frame (hook_answered g.R.ReencodeIndices c.sections.reencoder c.add_between.new.reencoder c.sections.sink.sections c.add_between.new.sink.sections (Section c.sections.last (Some c.in-Some-Section.id)) c.in_ok-add_between-in-Some-Section.ensures.answer c.in_ok-add_between-in-Some-Section.ensures.fits) (record { kept = e.kept; default = e.default; after_error = e.after_error })) at _ c.placed.ensures).woven
 
 pub returns-in-Err-clause-after_error : goal.returns-in-Err-clause-after_error
 returns-in-Err-clause-after_error g c =
@@ -163,7 +164,7 @@ returns-in-Err-clause-after_error g c =
     let frame = rw (c.in-Some-Section.is, c.in-Some-Section.field-0-is) at c.in_ok-id.ensures.some in
     let at = rw (c.in-Some-Section.is, c.in-Some-Section.field-0-is) at c.in_ok-id.ensures.at in
     let e = c.in-Err.ensures in
-    (core_section_refused g.R.ReencodeIndices keeps header inv.done c.in-Err.e c.in-Some-Section.at (kind_called g.R.ReencodeIndices keeps header inv.done c.in-Some-Section.id frame (hook_answered g.R.ReencodeIndices c.sections.reencoder c.add_between.new.reencoder c.sections.sink.sections c.add_between.new.sink.sections c.sections.last (Some c.in-Some-Section.id) c.in_ok-add_between-in-Some-Section.ensures.answer c.in_ok-add_between-in-Some-Section.ensures.fits) (record { kept = e.kept; default = e.default; after_error = e.after_error })) at _ c.placed.ensures).after_error
+    (core_section_refused g.R.ReencodeIndices keeps header inv.done c.in-Err.e c.in-Some-Section.at (kind_called g.R.ReencodeIndices keeps header inv.done c.in-Some-Section.id frame (hook_answered g.R.ReencodeIndices c.sections.reencoder c.add_between.new.reencoder c.sections.sink.sections c.add_between.new.sink.sections (Section c.sections.last (Some c.in-Some-Section.id)) c.in_ok-add_between-in-Some-Section.ensures.answer c.in_ok-add_between-in-Some-Section.ensures.fits) (record { kept = e.kept; default = e.default; after_error = e.after_error })) at _ c.placed.ensures).after_error
 
 pub returns-in-Err-clause-headless : goal.returns-in-Err-clause-headless
 returns-in-Err-clause-headless g c =
@@ -173,7 +174,7 @@ returns-in-Err-clause-headless g c =
     let frame = rw (c.in-Some-Section.is, c.in-Some-Section.field-0-is) at c.in_ok-id.ensures.some in
     let at = rw (c.in-Some-Section.is, c.in-Some-Section.field-0-is) at c.in_ok-id.ensures.at in
     let e = c.in-Err.ensures in
-    (core_section_refused g.R.ReencodeIndices keeps header inv.done c.in-Err.e c.in-Some-Section.at (kind_called g.R.ReencodeIndices keeps header inv.done c.in-Some-Section.id frame (hook_answered g.R.ReencodeIndices c.sections.reencoder c.add_between.new.reencoder c.sections.sink.sections c.add_between.new.sink.sections c.sections.last (Some c.in-Some-Section.id) c.in_ok-add_between-in-Some-Section.ensures.answer c.in_ok-add_between-in-Some-Section.ensures.fits) (record { kept = e.kept; default = e.default; after_error = e.after_error })) at _ c.placed.ensures).headless
+    (core_section_refused g.R.ReencodeIndices keeps header inv.done c.in-Err.e c.in-Some-Section.at (kind_called g.R.ReencodeIndices keeps header inv.done c.in-Some-Section.id frame (hook_answered g.R.ReencodeIndices c.sections.reencoder c.add_between.new.reencoder c.sections.sink.sections c.add_between.new.sink.sections (Section c.sections.last (Some c.in-Some-Section.id)) c.in_ok-add_between-in-Some-Section.ensures.answer c.in_ok-add_between-in-Some-Section.ensures.fits) (record { kept = e.kept; default = e.default; after_error = e.after_error })) at _ c.placed.ensures).headless
 
 pub sections-preserved-in-Ok-add_custom : goal.sections-preserved-in-Ok-add_custom
 sections-preserved-in-Ok-add_custom g c =

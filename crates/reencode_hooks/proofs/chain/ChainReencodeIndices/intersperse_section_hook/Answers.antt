@@ -1,3 +1,4 @@
+use Rattle.std.proofs.Common.{refl}
 use Rattle.reencode_hooks.proofs.Chained.{first_error, second_error}
 use Rattle.reencode_hooks.proofs.chain.ChainReencodeIndices.intersperse_section_hook.Goals as goal
 
@@ -5,7 +6,7 @@ pub returns-in-Err-clause-answer : goal.returns-in-Err-clause-answer
 returns-in-Err-clause-answer g c =
     let a = g.A.ReencodeIndices in
     let b = g.B.ReencodeIndices in
-    rw c.first.ensures (first_error a.reply a.next a.adds b.reply b.next b.adds _ _ _ _ _ _ _ c.in-Err.e c.in-Err.ensures.answer)
+    rw c.first.ensures (first_error a.reply a.next a.adds b.reply b.next b.adds _ _ _ _ _ _ c.in-Err.e c.in-Err.ensures.answer)
 
 pub returns-in-Err-intersperse_section_hook-clause-answer :
     goal.returns-in-Err-intersperse_section_hook-clause-answer
@@ -13,4 +14,4 @@ returns-in-Err-intersperse_section_hook-clause-answer g c =
     let a = g.A.ReencodeIndices in
     let b = g.B.ReencodeIndices in
     rw c.second.ensures
-    (second_error a.reply a.next a.adds b.reply b.next b.adds _ _ _ _ _ _ _ _ _ c.in-Err-intersperse_section_hook.e c.in-Ok.ensures.answer c.in-Err-intersperse_section_hook.ensures.answer)
+    (second_error a.reply a.next a.adds b.reply b.next b.adds _ _ _ _ _ _ _ _ c.in-Err-intersperse_section_hook.e refl c.in-Ok.ensures.answer c.in-Err-intersperse_section_hook.ensures.answer)
