@@ -8,6 +8,7 @@ ghost use Rattle.wasm_write.specs.Instructions.{imm_kind, operator_tree};
 ghost use Rattle.wasm_write.specs.declared.fault.WriteFault.TheVariants as write;
 ghost use Rattle.reencode_hooks.specs.Run.{ask};
 ghost use Rattle.reencode_core.specs.Bodies.{GivesBody, KeepsCode};
+ghost use Rattle.reencode_core.specs.Clauses.{BodyClauses};
 ghost use Rattle.reencode_items.specs.Direct.{imm_of};
 ghost use Rattle.reencode_core.specs.Direct.{DealsWith, MapsFront};
 ghost use Rattle.reencode_core.specs.Leaves.{LeavesMade, body_in};
@@ -88,12 +89,8 @@ pub fn parse_function_body<R: ReencodeItems>(
     code: &mut w::CodeSection,
     func: r::FunctionBody<'_>,
 ) -> Result<(), Error<R::Error>>
-    ensures kept { KeepsCode code.old code.new }
-    ensures default { IsTrue R.keeps_defaults
-        → GivesBody (ask R.reply R.next) func.entry.bytes.now (reencoder.old, code.old)
-        (reencoder.new, code.new) result }
-    ensures after_error { IsTrue R.keeps_defaults → LeavesMade R.sure (ask R.reply R.next) (body_in func.entry.bytes.now)
-        reencoder.old reencoder.new result }
+    ensures { BodyClauses R.ReencodeIndices func.entry.bytes.now
+        reencoder.old code.old reencoder.new code.new result }
 {
     let bytes = func.bytes;
     let Some(operators) = skip_locals(bytes) else {

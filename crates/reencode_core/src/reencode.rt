@@ -1,16 +1,13 @@
 //! What a re-encoder does with each section.
-ghost use Rattle.std.specs.Prelude.{◌≤◌, IsTrue};
+ghost use Rattle.std.specs.Prelude.{◌≤◌};
 ghost use Rattle.wasm_shapes.specs.declared.SectionId.TheVariants as kinds;
 ghost use Rattle.wasm_shapes.specs.Module.{row_of};
-ghost use Rattle.wasm_shapes.specs.Tree.{visits};
 ghost use Rattle.wasm_read.specs.declared.types.Imports.TheVariants as imported;
 ghost use Rattle.wasm_read.specs.Subsections.{IsRaw};
 ghost use Rattle.wasm_read.specs.Types as read;
-ghost use Rattle.wasm_write.specs.Rows.{start_tree};
-ghost use Rattle.wasm_write.specs.Rows.{elements_tree};
+ghost use Rattle.wasm_write.specs.Rows.{elements_tree, start_tree};
 ghost use Rattle.wasm_write.specs.Types as write;
-ghost use Rattle.reencode_hooks.specs.Run.{LeavesVisited, NeverWants, ask};
-ghost use Rattle.reencode_items.specs.Maps.{Maps};
+ghost use Rattle.reencode_items.specs.Clauses.{ItemClauses, ListClauses};
 ghost use Rattle.reencode_core.specs.Clauses.{BodyClauses, BytesClauses, CodeSectionClauses, CustomClauses, LocalsClauses, ModuleClauses, NamesClauses, RowClauses, RowsClauses, SectionClauses, SubsectionClauses, UnknownClauses};
 
 use crate::errors::placed;
@@ -56,12 +53,8 @@ pub trait Reencode: ReencodeItems {
         alloc: Global,
         rec_group: r::RecGroup,
     ) -> Result<w::RecGroup, Error<Self::Error>>
-        ensures default { IsTrue Self.keeps_defaults
-            → Maps Self.reply Self.next self.old (read.group_tree rec_group) write.group_tree
-            self.new result }
-        ensures after_error { IsTrue Self.keeps_defaults → IsTrue Self.sure
-            → LeavesVisited (ask Self.reply Self.next) self.old (visits (read.group_tree rec_group))
-            self.new result }
+        ensures { ListClauses Self.ReencodeIndices (read.group_tree rec_group) write.group_tree
+            self.old self.new result }
     {
         rows::parse_recursive_type_group(self, alloc, rec_group)
     }
@@ -224,9 +217,8 @@ pub trait Reencode: ReencodeItems {
     /// The index of the function that starts the module, by `function_index` (WebAssembly Core Specification 3.0, section
     /// 5.5.11).
     fn start_section(&mut self, start: u32) -> Result<u32, Error<Self::Error>>
-        ensures default { IsTrue Self.keeps_defaults
-            → Maps Self.reply Self.next self.old (start_tree start) start_tree self.new result }
-        ensures sure { IsTrue Self.keeps_defaults → NeverWants Self.sure result }
+        ensures { ItemClauses Self.ReencodeIndices (start_tree start) start_tree
+            self.old self.new result }
     {
         self.function_index(start)
     }
@@ -266,12 +258,8 @@ pub trait Reencode: ReencodeItems {
         alloc: Global,
         items: r::ElementItems<'_>,
     ) -> Result<w::Elements, Error<Self::Error>>
-        ensures default { IsTrue Self.keeps_defaults
-            → Maps Self.reply Self.next self.old (read.element_items_tree items.entry)
-            elements_tree self.new result }
-        ensures after_error { IsTrue Self.keeps_defaults → IsTrue Self.sure
-            → LeavesVisited (ask Self.reply Self.next) self.old
-            (visits (read.element_items_tree items.entry)) self.new result }
+        ensures { ListClauses Self.ReencodeIndices (read.element_items_tree items.entry) elements_tree
+            self.old self.new result }
     {
         rows::element_items(self, alloc, items)
     }
@@ -367,10 +355,8 @@ pub trait Reencode: ReencodeItems {
         &mut self,
         section: r::CustomSection<'a>,
     ) -> Result<w::CustomSection<'a>, Error<Self::Error>>
-        ensures default { IsTrue Self.keeps_defaults
-            → Maps Self.reply Self.next self.old (read.custom_tree section.entry)
-            write.custom_section_tree self.new result }
-        ensures sure { IsTrue Self.keeps_defaults → NeverWants Self.sure result }
+        ensures { ItemClauses Self.ReencodeIndices (read.custom_tree section.entry)
+            write.custom_section_tree self.old self.new result }
     {
         Ok(rows::custom_section(self, section))
     }

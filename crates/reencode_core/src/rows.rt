@@ -1,11 +1,9 @@
 //! The bodies that call methods of the traits below alone, each once: `utils` has them, and the methods call them.
-ghost use Rattle.std.specs.Prelude.{◌≡◌, ◌≤◌, IsTrue};
-ghost use Rattle.wasm_shapes.specs.Tree.{visits};
+ghost use Rattle.std.specs.Prelude.{◌≡◌, ◌≤◌};
 ghost use Rattle.wasm_read.specs.Types as read;
 ghost use Rattle.wasm_write.specs.Rows.{elements_tree};
 ghost use Rattle.wasm_write.specs.Types as write;
-ghost use Rattle.reencode_hooks.specs.Run.{LeavesVisited, ask};
-ghost use Rattle.reencode_items.specs.Maps.{Maps};
+ghost use Rattle.reencode_items.specs.Clauses.{ListClauses};
 ghost use Rattle.reencode_core.specs.Elements.{answered_table, asked_table};
 ghost use Rattle.reencode_core.specs.Clauses.{BodyClauses, LocalsClauses, RowClauses, UnknownClauses};
 
@@ -26,12 +24,8 @@ pub fn parse_recursive_type_group<T: ReencodeItems>(
     alloc: Global,
     rec_group: r::RecGroup,
 ) -> Result<w::RecGroup, Error<T::Error>>
-    ensures default { IsTrue T.keeps_defaults
-        → Maps T.reply T.next reencoder.old (read.group_tree rec_group) write.group_tree
-        reencoder.new result }
-    ensures after_error { IsTrue T.keeps_defaults → IsTrue T.sure
-        → LeavesVisited (ask T.reply T.next) reencoder.old (visits (read.group_tree rec_group))
-        reencoder.new result }
+    ensures { ListClauses T.ReencodeIndices (read.group_tree rec_group) write.group_tree
+        reencoder.old reencoder.new result }
 {
     let mut types = List::with_capacity(alloc, rec_group.types.len())?;
     for ty in rec_group.types.into_vec() {
@@ -156,12 +150,8 @@ pub fn element_items<T: ReencodeItems>(
     alloc: Global,
     items: r::ElementItems<'_>,
 ) -> Result<w::Elements, Error<T::Error>>
-    ensures default { IsTrue T.keeps_defaults
-        → Maps T.reply T.next reencoder.old (read.element_items_tree items.entry) elements_tree
-        reencoder.new result }
-    ensures after_error { IsTrue T.keeps_defaults → IsTrue T.sure
-        → LeavesVisited (ask T.reply T.next) reencoder.old
-        (visits (read.element_items_tree items.entry)) reencoder.new result }
+    ensures { ListClauses T.ReencodeIndices (read.element_items_tree items.entry) elements_tree
+        reencoder.old reencoder.new result }
 {
     match items {
         r::ElementItems::Functions(functions) => {

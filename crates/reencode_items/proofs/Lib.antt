@@ -1,6 +1,7 @@
 pub mod Leaving
 pub mod Rows
 pub mod Loops
+pub mod Clauses
 pub mod Parts
 pub mod Composites
 pub mod Immediates

@@ -7,6 +7,7 @@ ghost use Rattle.wasm_shapes.specs.Tree.{Tree};
 ghost use Rattle.wasm_shapes.specs.Types.{is_core};
 ghost use Rattle.wasm_write.specs.Instructions as instructions;
 ghost use Rattle.wasm_write.specs.Types as write;
+ghost use Rattle.reencode_items.specs.Clauses.{IndexClauses};
 ghost use Rattle.reencode_items.specs.Maps.{Maps};
 
 use reencode_hooks::{Error, ReencodeIndices};
@@ -19,9 +20,8 @@ pub fn type_index_unpacked<T: ReencodeIndices>(
     reencoder: &mut T,
     ty: r::UnpackedIndex,
 ) -> Result<u32, Error<T::Error>>
-    ensures default { Maps T.reply T.next reencoder.old (read.type_index ty)
-        write.type_index reencoder.new result }
-    ensures sure { NeverWants T.sure result }
+    ensures { IndexClauses T.ReencodeIndices (read.type_index ty) write.type_index
+        reencoder.old reencoder.new result }
 {
     match ty {
         r::UnpackedIndex::Module(index) => reencoder.type_index(index),
@@ -35,9 +35,8 @@ pub fn external_index<T: ReencodeIndices>(
     kind: r::ExternalKind,
     index: u32,
 ) -> Result<u32, Error<T::Error>>
-    ensures default { Maps T.reply T.next reencoder.old
-        (read.item_tree kind index) (read.item_tree kind) reencoder.new result }
-    ensures sure { NeverWants T.sure result }
+    ensures { IndexClauses T.ReencodeIndices (read.item_tree kind index) (read.item_tree kind)
+        reencoder.old reencoder.new result }
 {
     match kind {
         r::ExternalKind::Func | r::ExternalKind::FuncExact => reencoder.function_index(index),
@@ -78,10 +77,8 @@ pub fn mem_arg<T: ReencodeIndices>(
     reencoder: &mut T,
     arg: r::MemArg,
 ) -> Result<w::MemArg, Error<T::Error>>
-    ensures default { Maps T.reply T.next reencoder.old
-        (Tree.mem arg.align arg.memory arg.offset)
-        (λ made. Tree.mem made.align made.memory made.offset) reencoder.new result }
-    ensures sure { NeverWants T.sure result }
+    ensures { IndexClauses T.ReencodeIndices (Tree.mem arg.align arg.memory arg.offset)
+        (λ made. Tree.mem made.align made.memory made.offset) reencoder.old reencoder.new result }
 {
     Ok(w::MemArg {
         align: arg.align,
@@ -95,9 +92,8 @@ pub fn catch<T: ReencodeIndices>(
     reencoder: &mut T,
     arg: r::Catch,
 ) -> Result<w::Catch, Error<T::Error>>
-    ensures default { Maps T.reply T.next reencoder.old
-        (immediates.catch_tree arg) instructions.catch_tree reencoder.new result }
-    ensures sure { NeverWants T.sure result }
+    ensures { IndexClauses T.ReencodeIndices (immediates.catch_tree arg) instructions.catch_tree
+        reencoder.old reencoder.new result }
 {
     match arg {
         r::Catch::One { tag, label } => Ok(w::Catch::One {
@@ -118,9 +114,8 @@ pub fn handle<T: ReencodeIndices>(
     reencoder: &mut T,
     on: r::Handle,
 ) -> Result<w::Handle, Error<T::Error>>
-    ensures default { Maps T.reply T.next reencoder.old
-        (immediates.handle_tree on) instructions.handle_tree reencoder.new result }
-    ensures sure { NeverWants T.sure result }
+    ensures { IndexClauses T.ReencodeIndices (immediates.handle_tree on) instructions.handle_tree
+        reencoder.old reencoder.new result }
 {
     match on {
         r::Handle::OnLabel { tag, label } => Ok(w::Handle::OnLabel {

@@ -1,15 +1,15 @@
 //! The items of a core module, re-encoded through a reencoder's hooks.
-ghost use Rattle.std.specs.Prelude.{◌≡◌, ℕ, IsTrue, IsSome, IfOk, length, map};
-ghost use Rattle.reencode_hooks.specs.Run.{Gives, LeavesVisited, NeverWants, accepted, ask};
+ghost use Rattle.std.specs.Prelude.{ℕ, IsTrue, IsSome, map};
+ghost use Rattle.reencode_hooks.specs.Run.{Gives, NeverWants, accepted};
 ghost use Rattle.wasm_read.specs.Expressions.{expr_tree};
 ghost use Rattle.wasm_read.specs.Immediates as immediates;
 ghost use Rattle.wasm_read.specs.Types as read;
-ghost use Rattle.wasm_shapes.specs.Tree.{Tree, visits};
+ghost use Rattle.wasm_shapes.specs.Tree.{Tree};
 ghost use Rattle.wasm_shapes.specs.Types.{expression_of, vector_tree};
 ghost use Rattle.wasm_write.specs.Instructions as instructions;
 ghost use Rattle.wasm_write.specs.Rows as rows;
 ghost use Rattle.wasm_write.specs.Types as write;
-ghost use Rattle.reencode_items.specs.Maps.{LeavesOperator, Maps, MovesOn, ParsesOperator};
+ghost use Rattle.reencode_items.specs.Clauses.{ImmediateClauses, ItemClauses, ListClauses, OperatorClauses, ValTypesClauses};
 
 use crate::{default_bodies, indices, kinds};
 use reencode_hooks::{Error, ReencodeIndices};
@@ -23,16 +23,16 @@ use wasm_write as w;
 /// visits, and answers the item with each index replaced by its hook's answer; the first refusal ends it and is the
 /// answer. A part of an item that has a method of its own is mapped by that method.
 ///
+/// The clauses of a method are the fields of the record that it cites (`specs/Clauses.antt`).
+///
 /// The clause `default` of each method, and `sure` or `after_error`, hold where the reencoder keeps the defaults. `sure`
 /// says that memory never runs out where no hook wants any, and `after_error` that every error then leaves the state
 /// after a front part of the item's visits, out of memory too.
 pub trait ReencodeItems: ReencodeIndices {
     /// The index of a type. `CanonicalizedHeapTypeReference` comes for one inside a recursion group.
     fn type_index_unpacked(&mut self, ty: r::UnpackedIndex) -> Result<u32, Error<Self::Error>>
-        ensures default { IsTrue Self.keeps_defaults
-            → Maps Self.reply Self.next self.old (read.type_index ty)
-            write.type_index self.new result }
-        ensures sure { IsTrue Self.keeps_defaults → NeverWants Self.sure result }
+        ensures { ItemClauses Self.ReencodeIndices (read.type_index ty) write.type_index
+            self.old self.new result }
     {
         indices::type_index_unpacked(self, ty)
     }
@@ -43,10 +43,8 @@ pub trait ReencodeItems: ReencodeIndices {
         kind: r::ExternalKind,
         index: u32,
     ) -> Result<u32, Error<Self::Error>>
-        ensures default { IsTrue Self.keeps_defaults
-            → Maps Self.reply Self.next self.old (read.item_tree kind index)
-            (read.item_tree kind) self.new result }
-        ensures sure { IsTrue Self.keeps_defaults → NeverWants Self.sure result }
+        ensures { ItemClauses Self.ReencodeIndices (read.item_tree kind index) (read.item_tree kind)
+            self.old self.new result }
     {
         indices::external_index(self, kind, index)
     }
@@ -56,20 +54,16 @@ pub trait ReencodeItems: ReencodeIndices {
         &mut self,
         value: r::AbstractHeapType,
     ) -> Result<w::AbstractHeapType, Error<Self::Error>>
-        ensures default { IsTrue Self.keeps_defaults
-            → Maps Self.reply Self.next self.old (read.abstract_tree value)
-            write.abstract_tree self.new result }
-        ensures sure { IsTrue Self.keeps_defaults → NeverWants Self.sure result }
+        ensures { ItemClauses Self.ReencodeIndices (read.abstract_tree value) write.abstract_tree
+            self.old self.new result }
     {
         Ok(kinds::abstract_heap_type(self, value))
     }
 
     /// An array by the type of its elements (section 5.3.8).
     fn array_type(&mut self, array_ty: r::ArrayType) -> Result<w::ArrayType, Error<Self::Error>>
-        ensures default { IsTrue Self.keeps_defaults
-            → Maps Self.reply Self.next self.old (read.field_type_tree array_ty.0)
-            (λ ty. write.field_type_tree ty.0) self.new result }
-        ensures sure { IsTrue Self.keeps_defaults → NeverWants Self.sure result }
+        ensures { ItemClauses Self.ReencodeIndices (read.field_type_tree array_ty.0)
+            (λ ty. write.field_type_tree ty.0) self.old self.new result }
     {
         default_bodies::array_type!(self, array_ty)
     }
@@ -77,10 +71,8 @@ pub trait ReencodeItems: ReencodeIndices {
     /// A continuation by the type of its function.
     #[tactic(auto, using(crate::proofs::Parts::walk_signed))]
     fn cont_type(&mut self, cont_ty: r::ContType) -> Result<w::ContType, Error<Self::Error>>
-        ensures default { IsTrue Self.keeps_defaults
-            → Maps Self.reply Self.next self.old (read.signed_index cont_ty.0)
-            (λ ty. write.signed_index ty.0) self.new result }
-        ensures sure { IsTrue Self.keeps_defaults → NeverWants Self.sure result }
+        ensures { ItemClauses Self.ReencodeIndices (read.signed_index cont_ty.0)
+            (λ ty. write.signed_index ty.0) self.old self.new result }
     {
         default_bodies::cont_type!(self, cont_ty)
     }
@@ -101,10 +93,8 @@ pub trait ReencodeItems: ReencodeIndices {
 
     /// A field of a structure or of an array (section 5.3.8).
     fn field_type(&mut self, field_ty: r::FieldType) -> Result<w::FieldType, Error<Self::Error>>
-        ensures default { IsTrue Self.keeps_defaults
-            → Maps Self.reply Self.next self.old (read.field_type_tree field_ty)
-            write.field_type_tree self.new result }
-        ensures sure { IsTrue Self.keeps_defaults → NeverWants Self.sure result }
+        ensures { ItemClauses Self.ReencodeIndices (read.field_type_tree field_ty) write.field_type_tree
+            self.old self.new result }
     {
         default_bodies::field_type!(self, field_ty)
     }
@@ -112,10 +102,8 @@ pub trait ReencodeItems: ReencodeIndices {
     /// What a reference points to (section 5.3.3).
     #[tactic(auto, using(crate::proofs::Parts::walk_signed))]
     fn heap_type(&mut self, heap_type: r::HeapType) -> Result<w::HeapType, Error<Self::Error>>
-        ensures default { IsTrue Self.keeps_defaults
-            → Maps Self.reply Self.next self.old (read.heap_type_tree heap_type)
-            write.heap_type_tree self.new result }
-        ensures sure { IsTrue Self.keeps_defaults → NeverWants Self.sure result }
+        ensures { ItemClauses Self.ReencodeIndices (read.heap_type_tree heap_type) write.heap_type_tree
+            self.old self.new result }
     {
         default_bodies::heap_type!(self, heap_type)
     }
@@ -123,10 +111,8 @@ pub trait ReencodeItems: ReencodeIndices {
     /// A reference type (section 5.3.4).
     #[tactic(auto, using(crate::proofs::Parts::references))]
     fn ref_type(&mut self, ref_type: r::RefType) -> Result<w::RefType, Error<Self::Error>>
-        ensures default { IsTrue Self.keeps_defaults
-            → Maps Self.reply Self.next self.old (read.ref_type_tree ref_type)
-            write.ref_type_tree self.new result }
-        ensures sure { IsTrue Self.keeps_defaults → NeverWants Self.sure result }
+        ensures { ItemClauses Self.ReencodeIndices (read.ref_type_tree ref_type) write.ref_type_tree
+            self.old self.new result }
     {
         default_bodies::ref_type!(self, ref_type)
     }
@@ -136,20 +122,16 @@ pub trait ReencodeItems: ReencodeIndices {
         &mut self,
         storage_ty: r::StorageType,
     ) -> Result<w::StorageType, Error<Self::Error>>
-        ensures default { IsTrue Self.keeps_defaults
-            → Maps Self.reply Self.next self.old (read.storage_type_tree storage_ty)
-            write.storage_type_tree self.new result }
-        ensures sure { IsTrue Self.keeps_defaults → NeverWants Self.sure result }
+        ensures { ItemClauses Self.ReencodeIndices (read.storage_type_tree storage_ty)
+            write.storage_type_tree self.old self.new result }
     {
         default_bodies::storage_type!(self, storage_ty)
     }
 
     /// A value type (section 5.3.5).
     fn val_type(&mut self, val_ty: r::ValType) -> Result<w::ValType, Error<Self::Error>>
-        ensures default { IsTrue Self.keeps_defaults
-            → Maps Self.reply Self.next self.old (read.val_type_tree val_ty)
-            write.val_type_tree self.new result }
-        ensures sure { IsTrue Self.keeps_defaults → NeverWants Self.sure result }
+        ensures { ItemClauses Self.ReencodeIndices (read.val_type_tree val_ty) write.val_type_tree
+            self.old self.new result }
     {
         default_bodies::val_type!(self, val_ty)
     }
@@ -162,12 +144,8 @@ pub trait ReencodeItems: ReencodeIndices {
         alloc: Global,
         composite_ty: r::CompositeType,
     ) -> Result<w::CompositeType, Error<Self::Error>>
-        ensures default { IsTrue Self.keeps_defaults
-            → Maps Self.reply Self.next self.old (read.composite_tree composite_ty)
-            write.composite_tree self.new result }
-        ensures after_error { IsTrue Self.keeps_defaults → IsTrue Self.sure
-            → LeavesVisited (ask Self.reply Self.next) self.old
-            (visits (read.composite_tree composite_ty)) self.new result }
+        ensures { ListClauses Self.ReencodeIndices (read.composite_tree composite_ty)
+            write.composite_tree self.old self.new result }
     {
         default_bodies::composite_type!(self, alloc, composite_ty)
     }
@@ -178,12 +156,8 @@ pub trait ReencodeItems: ReencodeIndices {
         alloc: Global,
         func_ty: r::FuncType,
     ) -> Result<w::FuncType, Error<Self::Error>>
-        ensures default { IsTrue Self.keeps_defaults
-            → Maps Self.reply Self.next self.old (read.func_type_tree func_ty)
-            write.func_type_tree self.new result }
-        ensures after_error { IsTrue Self.keeps_defaults → IsTrue Self.sure
-            → LeavesVisited (ask Self.reply Self.next) self.old
-            (visits (read.func_type_tree func_ty)) self.new result }
+        ensures { ListClauses Self.ReencodeIndices (read.func_type_tree func_ty) write.func_type_tree
+            self.old self.new result }
     {
         default_bodies::func_type!(self, alloc, func_ty)
     }
@@ -194,12 +168,8 @@ pub trait ReencodeItems: ReencodeIndices {
         alloc: Global,
         struct_ty: r::StructType,
     ) -> Result<w::StructType, Error<Self::Error>>
-        ensures default { IsTrue Self.keeps_defaults
-            → Maps Self.reply Self.next self.old (read.fields_tree struct_ty.fields)
-            (λ ty. vector_tree (map write.field_type_tree ty.fields)) self.new result }
-        ensures after_error { IsTrue Self.keeps_defaults → IsTrue Self.sure
-            → LeavesVisited (ask Self.reply Self.next) self.old
-            (visits (read.fields_tree struct_ty.fields)) self.new result }
+        ensures { ListClauses Self.ReencodeIndices (read.fields_tree struct_ty.fields)
+            (λ ty. vector_tree (map write.field_type_tree ty.fields)) self.old self.new result }
     {
         default_bodies::struct_type!(self, alloc, struct_ty)
     }
@@ -210,12 +180,8 @@ pub trait ReencodeItems: ReencodeIndices {
         alloc: Global,
         sub_ty: r::SubType,
     ) -> Result<w::SubType, Error<Self::Error>>
-        ensures default { IsTrue Self.keeps_defaults
-            → Maps Self.reply Self.next self.old (read.sub_type_tree sub_ty)
-            write.sub_type_tree self.new result }
-        ensures after_error { IsTrue Self.keeps_defaults → IsTrue Self.sure
-            → LeavesVisited (ask Self.reply Self.next) self.old
-            (visits (read.sub_type_tree sub_ty)) self.new result }
+        ensures { ListClauses Self.ReencodeIndices (read.sub_type_tree sub_ty) write.sub_type_tree
+            self.old self.new result }
     {
         default_bodies::sub_type!(self, alloc, sub_ty)
     }
@@ -226,43 +192,31 @@ pub trait ReencodeItems: ReencodeIndices {
         alloc: Global,
         val_tys: List<r::ValType>,
     ) -> Result<List<w::ValType>, Error<Self::Error>>
-        ensures counted { IfOk result (λ types. length types ≡ length val_tys) }
-        ensures default { IsTrue Self.keeps_defaults
-            → Maps Self.reply Self.next self.old (read.val_types_tree val_tys)
-            write.val_types_tree self.new result }
-        ensures after_error { IsTrue Self.keeps_defaults → IsTrue Self.sure
-            → LeavesVisited (ask Self.reply Self.next) self.old
-            (visits (read.val_types_tree val_tys)) self.new result }
+        ensures { ValTypesClauses Self.ReencodeIndices val_tys self.old self.new result }
     {
         default_bodies::val_types!(self, alloc, val_tys)
     }
 
     /// A table: its elements, by the method `ref_type`, and its limits (section 5.3.11).
     fn table_type(&mut self, table_ty: r::TableType) -> Result<w::TableType, Error<Self::Error>>
-        ensures default { IsTrue Self.keeps_defaults
-            → Maps Self.reply Self.next self.old (read.table_type_tree table_ty)
-            write.table_type_tree self.new result }
-        ensures sure { IsTrue Self.keeps_defaults → NeverWants Self.sure result }
+        ensures { ItemClauses Self.ReencodeIndices (read.table_type_tree table_ty) write.table_type_tree
+            self.old self.new result }
     {
         default_bodies::table_type!(self, table_ty)
     }
 
     /// A memory by its limits (section 5.3.12).
     fn memory_type(&mut self, memory_ty: r::MemoryType) -> Result<w::MemoryType, Error<Self::Error>>
-        ensures default { IsTrue Self.keeps_defaults
-            → Maps Self.reply Self.next self.old (read.memory_type_tree memory_ty)
-            write.memory_type_tree self.new result }
-        ensures sure { IsTrue Self.keeps_defaults → NeverWants Self.sure result }
+        ensures { ItemClauses Self.ReencodeIndices (read.memory_type_tree memory_ty)
+            write.memory_type_tree self.old self.new result }
     {
         Ok(kinds::memory_type(self, memory_ty))
     }
 
     /// A global: its type, by the method `val_type`, and whether it may change (section 5.3.13).
     fn global_type(&mut self, global_ty: r::GlobalType) -> Result<w::GlobalType, Error<Self::Error>>
-        ensures default { IsTrue Self.keeps_defaults
-            → Maps Self.reply Self.next self.old (read.global_type_tree global_ty)
-            write.global_type_tree self.new result }
-        ensures sure { IsTrue Self.keeps_defaults → NeverWants Self.sure result }
+        ensures { ItemClauses Self.ReencodeIndices (read.global_type_tree global_ty)
+            write.global_type_tree self.old self.new result }
     {
         default_bodies::global_type!(self, global_ty)
     }
@@ -281,30 +235,24 @@ pub trait ReencodeItems: ReencodeIndices {
 
     /// A tag, by the index of its function type (section 5.3.14).
     fn tag_type(&mut self, tag_ty: r::TagType) -> Result<w::TagType, Error<Self::Error>>
-        ensures default { IsTrue Self.keeps_defaults
-            → Maps Self.reply Self.next self.old (read.tag_type_tree tag_ty)
-            write.tag_type_tree self.new result }
-        ensures sure { IsTrue Self.keeps_defaults → NeverWants Self.sure result }
+        ensures { ItemClauses Self.ReencodeIndices (read.tag_type_tree tag_ty) write.tag_type_tree
+            self.old self.new result }
     {
         default_bodies::tag_type!(self, tag_ty)
     }
 
     /// The type of what is imported (section 5.3.15).
     fn entity_type(&mut self, type_ref: r::TypeRef) -> Result<w::EntityType, Error<Self::Error>>
-        ensures default { IsTrue Self.keeps_defaults
-            → Maps Self.reply Self.next self.old (read.entity_tree type_ref)
-            write.entity_tree self.new result }
-        ensures sure { IsTrue Self.keeps_defaults → NeverWants Self.sure result }
+        ensures { ItemClauses Self.ReencodeIndices (read.entity_tree type_ref) write.entity_tree
+            self.old self.new result }
     {
         default_bodies::entity_type!(self, type_ref)
     }
 
     /// The type of a block (section 5.4.1).
     fn block_type(&mut self, arg: r::BlockType) -> Result<w::BlockType, Error<Self::Error>>
-        ensures default { IsTrue Self.keeps_defaults
-            → Maps Self.reply Self.next self.old (immediates.block_type_tree arg)
-            instructions.block_type_tree self.new result }
-        ensures sure { IsTrue Self.keeps_defaults → NeverWants Self.sure result }
+        ensures { ItemClauses Self.ReencodeIndices (immediates.block_type_tree arg)
+            instructions.block_type_tree self.old self.new result }
     {
         default_bodies::block_type!(self, arg)
     }
@@ -312,30 +260,24 @@ pub trait ReencodeItems: ReencodeIndices {
     /// Where a memory access goes (section 5.4.6): its memory, also where it was left out. The alignment and the offset
     /// stay.
     fn mem_arg(&mut self, arg: r::MemArg) -> Result<w::MemArg, Error<Self::Error>>
-        ensures default { IsTrue Self.keeps_defaults
-            → Maps Self.reply Self.next self.old (Tree.mem arg.align arg.memory arg.offset)
-            (λ made. Tree.mem made.align made.memory made.offset) self.new result }
-        ensures sure { IsTrue Self.keeps_defaults → NeverWants Self.sure result }
+        ensures { ItemClauses Self.ReencodeIndices (Tree.mem arg.align arg.memory arg.offset)
+            (λ made. Tree.mem made.align made.memory made.offset) self.old self.new result }
     {
         indices::mem_arg(self, arg)
     }
 
     /// What a block catches (section 5.4.1): its tag, where it has one. The label stays.
     fn catch(&mut self, arg: r::Catch) -> Result<w::Catch, Error<Self::Error>>
-        ensures default { IsTrue Self.keeps_defaults
-            → Maps Self.reply Self.next self.old (immediates.catch_tree arg)
-            instructions.catch_tree self.new result }
-        ensures sure { IsTrue Self.keeps_defaults → NeverWants Self.sure result }
+        ensures { ItemClauses Self.ReencodeIndices (immediates.catch_tree arg) instructions.catch_tree
+            self.old self.new result }
     {
         indices::catch(self, arg)
     }
 
     /// How a resumed continuation's tag is handled: the tag. The label stays.
     fn handle(&mut self, on: r::Handle) -> Result<w::Handle, Error<Self::Error>>
-        ensures default { IsTrue Self.keeps_defaults
-            → Maps Self.reply Self.next self.old (immediates.handle_tree on)
-            instructions.handle_tree self.new result }
-        ensures sure { IsTrue Self.keeps_defaults → NeverWants Self.sure result }
+        ensures { ItemClauses Self.ReencodeIndices (immediates.handle_tree on) instructions.handle_tree
+            self.old self.new result }
     {
         indices::handle(self, on)
     }
@@ -376,14 +318,7 @@ pub trait ReencodeItems: ReencodeIndices {
         imm: r::Imm<'a>,
     ) -> Result<w::Imm<'a>, Error<Self::Error>>
         requires { IsSome (immediates.imm_kind imm) }
-        ensures kind { IfOk result
-            (λ made. instructions.imm_kind made ≡ immediates.imm_kind imm.entry) }
-        ensures default { IsTrue Self.keeps_defaults
-            → Maps Self.reply Self.next self.old (immediates.imm_tree imm.entry)
-            instructions.imm_tree self.new result }
-        ensures after_error { IsTrue Self.keeps_defaults → IsTrue Self.sure
-            → LeavesVisited (ask Self.reply Self.next) self.old
-            (visits (immediates.imm_tree imm.entry)) self.new result }
+        ensures { ImmediateClauses Self.ReencodeIndices imm.entry self.old self.new result }
     {
         default_bodies::immediate!(self, alloc, imm)
     }
@@ -394,12 +329,8 @@ pub trait ReencodeItems: ReencodeIndices {
         alloc: Global,
         arg: r::Operator<'a>,
     ) -> Result<w::Instruction<'a>, Error<Self::Error>>
-        ensures default { IsTrue Self.keeps_defaults
-            → Maps Self.reply Self.next self.old (immediates.operator_tree arg.entry)
-            instructions.instruction_tree self.new result }
-        ensures after_error { IsTrue Self.keeps_defaults → IsTrue Self.sure
-            → LeavesVisited (ask Self.reply Self.next) self.old
-            (visits (immediates.operator_tree arg.entry)) self.new result }
+        ensures { ListClauses Self.ReencodeIndices (immediates.operator_tree arg.entry)
+            instructions.instruction_tree self.old self.new result }
     {
         default_bodies::instruction!(self, alloc, arg)
     }
@@ -414,12 +345,8 @@ pub trait ReencodeItems: ReencodeIndices {
         alloc: Global,
         reader: &mut r::OperatorsReader<'a>,
     ) -> Result<w::Instruction<'a>, Error<Self::Error>>
-        ensures taken { IfOk result (λ _. MovesOn reader.old reader.new) }
-        ensures default { IsTrue Self.keeps_defaults
-            → ParsesOperator Self.reply Self.next self.old reader.old
-            instructions.instruction_tree self.new reader.new result }
-        ensures after_error { IsTrue Self.keeps_defaults → IsTrue Self.sure
-            → LeavesOperator (ask Self.reply Self.next) self.old reader.old self.new result }
+        ensures { OperatorClauses Self.ReencodeIndices instructions.instruction_tree
+            self.old reader.old self.new reader.new result }
     {
         default_bodies::parse_instruction!(self, alloc, reader)
     }
@@ -433,12 +360,8 @@ pub trait ReencodeItems: ReencodeIndices {
         alloc: Global,
         const_expr: r::ConstExpr<'_>,
     ) -> Result<w::ConstExpr, Error<Self::Error>>
-        ensures default { IsTrue Self.keeps_defaults
-            → Maps Self.reply Self.next self.old (expr_tree const_expr.entry) expression_of
-            self.new result }
-        ensures after_error { IsTrue Self.keeps_defaults → IsTrue Self.sure
-            → LeavesVisited (ask Self.reply Self.next) self.old
-            (visits (expr_tree const_expr.entry)) self.new result }
+        ensures { ListClauses Self.ReencodeIndices (expr_tree const_expr.entry) expression_of
+            self.old self.new result }
     {
         default_bodies::const_expr!(self, alloc, const_expr)
     }

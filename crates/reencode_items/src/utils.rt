@@ -2,16 +2,14 @@
 //!
 //! Those whose bodies call no method of `ReencodeItems` are bounded by `ReencodeIndices` alone, so that an override can call
 //! them.
-ghost use Rattle.std.specs.Prelude.{◌≡◌, IsTrue, IsSome, IfOk, length, map};
-ghost use Rattle.reencode_hooks.specs.Run.{LeavesVisited, NeverWants, ask};
+ghost use Rattle.std.specs.Prelude.{IsSome, map};
 ghost use Rattle.wasm_read.specs.Expressions.{expr_tree};
 ghost use Rattle.wasm_read.specs.Immediates as immediates;
 ghost use Rattle.wasm_read.specs.Types as read;
-ghost use Rattle.wasm_shapes.specs.Tree.{visits};
 ghost use Rattle.wasm_shapes.specs.Types.{expression_of, vector_tree};
 ghost use Rattle.wasm_write.specs.Instructions as instructions;
 ghost use Rattle.wasm_write.specs.Types as write;
-ghost use Rattle.reencode_items.specs.Maps.{LeavesOperator, Maps, MovesOn, ParsesOperator};
+ghost use Rattle.reencode_items.specs.Clauses.{ImmediateClauses, ItemClauses, ListClauses, OperatorClauses, ValTypesClauses};
 
 pub use crate::indices::{catch, external_index, handle, mem_arg, type_index_unpacked};
 use crate::items::ReencodeItems;
@@ -31,10 +29,8 @@ pub fn array_type<T: ReencodeItems>(
     reencoder: &mut T,
     array_ty: r::ArrayType,
 ) -> Result<w::ArrayType, Error<T::Error>>
-    ensures default { IsTrue T.keeps_defaults
-        → Maps T.reply T.next reencoder.old (read.field_type_tree array_ty.0)
-        (λ ty. write.field_type_tree ty.0) reencoder.new result }
-    ensures sure { IsTrue T.keeps_defaults → NeverWants T.sure result }
+    ensures { ItemClauses T.ReencodeIndices (read.field_type_tree array_ty.0)
+        (λ ty. write.field_type_tree ty.0) reencoder.old reencoder.new result }
 {
     default_bodies::array_type!(reencoder, array_ty)
 }
@@ -45,10 +41,8 @@ pub fn cont_type<T: ReencodeItems>(
     reencoder: &mut T,
     cont_ty: r::ContType,
 ) -> Result<w::ContType, Error<T::Error>>
-    ensures default { IsTrue T.keeps_defaults
-        → Maps T.reply T.next reencoder.old (read.signed_index cont_ty.0)
-        (λ ty. write.signed_index ty.0) reencoder.new result }
-    ensures sure { IsTrue T.keeps_defaults → NeverWants T.sure result }
+    ensures { ItemClauses T.ReencodeIndices (read.signed_index cont_ty.0)
+        (λ ty. write.signed_index ty.0) reencoder.old reencoder.new result }
 {
     default_bodies::cont_type!(reencoder, cont_ty)
 }
@@ -58,10 +52,8 @@ pub fn field_type<T: ReencodeItems>(
     reencoder: &mut T,
     field_ty: r::FieldType,
 ) -> Result<w::FieldType, Error<T::Error>>
-    ensures default { IsTrue T.keeps_defaults
-        → Maps T.reply T.next reencoder.old (read.field_type_tree field_ty)
-        write.field_type_tree reencoder.new result }
-    ensures sure { IsTrue T.keeps_defaults → NeverWants T.sure result }
+    ensures { ItemClauses T.ReencodeIndices (read.field_type_tree field_ty) write.field_type_tree
+        reencoder.old reencoder.new result }
 {
     default_bodies::field_type!(reencoder, field_ty)
 }
@@ -72,10 +64,8 @@ pub fn heap_type<T: ReencodeItems>(
     reencoder: &mut T,
     heap_type: r::HeapType,
 ) -> Result<w::HeapType, Error<T::Error>>
-    ensures default { IsTrue T.keeps_defaults
-        → Maps T.reply T.next reencoder.old (read.heap_type_tree heap_type)
-        write.heap_type_tree reencoder.new result }
-    ensures sure { IsTrue T.keeps_defaults → NeverWants T.sure result }
+    ensures { ItemClauses T.ReencodeIndices (read.heap_type_tree heap_type) write.heap_type_tree
+        reencoder.old reencoder.new result }
 {
     default_bodies::heap_type!(reencoder, heap_type)
 }
@@ -86,10 +76,8 @@ pub fn ref_type<T: ReencodeItems>(
     reencoder: &mut T,
     ref_type: r::RefType,
 ) -> Result<w::RefType, Error<T::Error>>
-    ensures default { IsTrue T.keeps_defaults
-        → Maps T.reply T.next reencoder.old (read.ref_type_tree ref_type)
-        write.ref_type_tree reencoder.new result }
-    ensures sure { IsTrue T.keeps_defaults → NeverWants T.sure result }
+    ensures { ItemClauses T.ReencodeIndices (read.ref_type_tree ref_type) write.ref_type_tree
+        reencoder.old reencoder.new result }
 {
     default_bodies::ref_type!(reencoder, ref_type)
 }
@@ -99,10 +87,8 @@ pub fn storage_type<T: ReencodeItems>(
     reencoder: &mut T,
     storage_ty: r::StorageType,
 ) -> Result<w::StorageType, Error<T::Error>>
-    ensures default { IsTrue T.keeps_defaults
-        → Maps T.reply T.next reencoder.old (read.storage_type_tree storage_ty)
-        write.storage_type_tree reencoder.new result }
-    ensures sure { IsTrue T.keeps_defaults → NeverWants T.sure result }
+    ensures { ItemClauses T.ReencodeIndices (read.storage_type_tree storage_ty) write.storage_type_tree
+        reencoder.old reencoder.new result }
 {
     default_bodies::storage_type!(reencoder, storage_ty)
 }
@@ -112,10 +98,8 @@ pub fn val_type<T: ReencodeItems>(
     reencoder: &mut T,
     val_ty: r::ValType,
 ) -> Result<w::ValType, Error<T::Error>>
-    ensures default { IsTrue T.keeps_defaults
-        → Maps T.reply T.next reencoder.old (read.val_type_tree val_ty)
-        write.val_type_tree reencoder.new result }
-    ensures sure { IsTrue T.keeps_defaults → NeverWants T.sure result }
+    ensures { ItemClauses T.ReencodeIndices (read.val_type_tree val_ty) write.val_type_tree
+        reencoder.old reencoder.new result }
 {
     default_bodies::val_type!(reencoder, val_ty)
 }
@@ -128,12 +112,8 @@ pub fn composite_type<T: ReencodeItems>(
     alloc: Global,
     composite_ty: r::CompositeType,
 ) -> Result<w::CompositeType, Error<T::Error>>
-    ensures default { IsTrue T.keeps_defaults
-        → Maps T.reply T.next reencoder.old (read.composite_tree composite_ty)
-        write.composite_tree reencoder.new result }
-    ensures after_error { IsTrue T.keeps_defaults → IsTrue T.sure
-        → LeavesVisited (ask T.reply T.next) reencoder.old
-        (visits (read.composite_tree composite_ty)) reencoder.new result }
+    ensures { ListClauses T.ReencodeIndices (read.composite_tree composite_ty) write.composite_tree
+        reencoder.old reencoder.new result }
 {
     default_bodies::composite_type!(reencoder, alloc, composite_ty)
 }
@@ -144,12 +124,8 @@ pub fn func_type<T: ReencodeItems>(
     alloc: Global,
     func_ty: r::FuncType,
 ) -> Result<w::FuncType, Error<T::Error>>
-    ensures default { IsTrue T.keeps_defaults
-        → Maps T.reply T.next reencoder.old (read.func_type_tree func_ty)
-        write.func_type_tree reencoder.new result }
-    ensures after_error { IsTrue T.keeps_defaults → IsTrue T.sure
-        → LeavesVisited (ask T.reply T.next) reencoder.old
-        (visits (read.func_type_tree func_ty)) reencoder.new result }
+    ensures { ListClauses T.ReencodeIndices (read.func_type_tree func_ty) write.func_type_tree
+        reencoder.old reencoder.new result }
 {
     default_bodies::func_type!(reencoder, alloc, func_ty)
 }
@@ -160,12 +136,8 @@ pub fn struct_type<T: ReencodeItems>(
     alloc: Global,
     struct_ty: r::StructType,
 ) -> Result<w::StructType, Error<T::Error>>
-    ensures default { IsTrue T.keeps_defaults
-        → Maps T.reply T.next reencoder.old (read.fields_tree struct_ty.fields)
-        (λ ty. vector_tree (map write.field_type_tree ty.fields)) reencoder.new result }
-    ensures after_error { IsTrue T.keeps_defaults → IsTrue T.sure
-        → LeavesVisited (ask T.reply T.next) reencoder.old
-        (visits (read.fields_tree struct_ty.fields)) reencoder.new result }
+    ensures { ListClauses T.ReencodeIndices (read.fields_tree struct_ty.fields)
+        (λ ty. vector_tree (map write.field_type_tree ty.fields)) reencoder.old reencoder.new result }
 {
     default_bodies::struct_type!(reencoder, alloc, struct_ty)
 }
@@ -176,12 +148,8 @@ pub fn sub_type<T: ReencodeItems>(
     alloc: Global,
     sub_ty: r::SubType,
 ) -> Result<w::SubType, Error<T::Error>>
-    ensures default { IsTrue T.keeps_defaults
-        → Maps T.reply T.next reencoder.old (read.sub_type_tree sub_ty)
-        write.sub_type_tree reencoder.new result }
-    ensures after_error { IsTrue T.keeps_defaults → IsTrue T.sure
-        → LeavesVisited (ask T.reply T.next) reencoder.old
-        (visits (read.sub_type_tree sub_ty)) reencoder.new result }
+    ensures { ListClauses T.ReencodeIndices (read.sub_type_tree sub_ty) write.sub_type_tree
+        reencoder.old reencoder.new result }
 {
     default_bodies::sub_type!(reencoder, alloc, sub_ty)
 }
@@ -192,13 +160,7 @@ pub fn val_types<T: ReencodeItems>(
     alloc: Global,
     val_tys: List<r::ValType>,
 ) -> Result<List<w::ValType>, Error<T::Error>>
-    ensures counted { IfOk result (λ types. length types ≡ length val_tys) }
-    ensures default { IsTrue T.keeps_defaults
-        → Maps T.reply T.next reencoder.old (read.val_types_tree val_tys)
-        write.val_types_tree reencoder.new result }
-    ensures after_error { IsTrue T.keeps_defaults → IsTrue T.sure
-        → LeavesVisited (ask T.reply T.next) reencoder.old
-        (visits (read.val_types_tree val_tys)) reencoder.new result }
+    ensures { ValTypesClauses T.ReencodeIndices val_tys reencoder.old reencoder.new result }
 {
     default_bodies::val_types!(reencoder, alloc, val_tys)
 }
@@ -208,10 +170,8 @@ pub fn table_type<T: ReencodeItems>(
     reencoder: &mut T,
     table_ty: r::TableType,
 ) -> Result<w::TableType, Error<T::Error>>
-    ensures default { IsTrue T.keeps_defaults
-        → Maps T.reply T.next reencoder.old (read.table_type_tree table_ty)
-        write.table_type_tree reencoder.new result }
-    ensures sure { IsTrue T.keeps_defaults → NeverWants T.sure result }
+    ensures { ItemClauses T.ReencodeIndices (read.table_type_tree table_ty) write.table_type_tree
+        reencoder.old reencoder.new result }
 {
     default_bodies::table_type!(reencoder, table_ty)
 }
@@ -221,10 +181,8 @@ pub fn global_type<T: ReencodeItems>(
     reencoder: &mut T,
     global_ty: r::GlobalType,
 ) -> Result<w::GlobalType, Error<T::Error>>
-    ensures default { IsTrue T.keeps_defaults
-        → Maps T.reply T.next reencoder.old (read.global_type_tree global_ty)
-        write.global_type_tree reencoder.new result }
-    ensures sure { IsTrue T.keeps_defaults → NeverWants T.sure result }
+    ensures { ItemClauses T.ReencodeIndices (read.global_type_tree global_ty) write.global_type_tree
+        reencoder.old reencoder.new result }
 {
     default_bodies::global_type!(reencoder, global_ty)
 }
@@ -234,10 +192,8 @@ pub fn tag_type<T: ReencodeItems>(
     reencoder: &mut T,
     tag_ty: r::TagType,
 ) -> Result<w::TagType, Error<T::Error>>
-    ensures default { IsTrue T.keeps_defaults
-        → Maps T.reply T.next reencoder.old (read.tag_type_tree tag_ty)
-        write.tag_type_tree reencoder.new result }
-    ensures sure { IsTrue T.keeps_defaults → NeverWants T.sure result }
+    ensures { ItemClauses T.ReencodeIndices (read.tag_type_tree tag_ty) write.tag_type_tree
+        reencoder.old reencoder.new result }
 {
     default_bodies::tag_type!(reencoder, tag_ty)
 }
@@ -247,10 +203,8 @@ pub fn entity_type<T: ReencodeItems>(
     reencoder: &mut T,
     type_ref: r::TypeRef,
 ) -> Result<w::EntityType, Error<T::Error>>
-    ensures default { IsTrue T.keeps_defaults
-        → Maps T.reply T.next reencoder.old (read.entity_tree type_ref)
-        write.entity_tree reencoder.new result }
-    ensures sure { IsTrue T.keeps_defaults → NeverWants T.sure result }
+    ensures { ItemClauses T.ReencodeIndices (read.entity_tree type_ref) write.entity_tree
+        reencoder.old reencoder.new result }
 {
     default_bodies::entity_type!(reencoder, type_ref)
 }
@@ -260,10 +214,8 @@ pub fn block_type<T: ReencodeItems>(
     reencoder: &mut T,
     arg: r::BlockType,
 ) -> Result<w::BlockType, Error<T::Error>>
-    ensures default { IsTrue T.keeps_defaults
-        → Maps T.reply T.next reencoder.old (immediates.block_type_tree arg)
-        instructions.block_type_tree reencoder.new result }
-    ensures sure { IsTrue T.keeps_defaults → NeverWants T.sure result }
+    ensures { ItemClauses T.ReencodeIndices (immediates.block_type_tree arg)
+        instructions.block_type_tree reencoder.old reencoder.new result }
 {
     default_bodies::block_type!(reencoder, arg)
 }
@@ -277,14 +229,7 @@ pub fn immediate<'a, T: ReencodeItems>(
     imm: r::Imm<'a>,
 ) -> Result<w::Imm<'a>, Error<T::Error>>
     requires { IsSome (immediates.imm_kind imm) }
-    ensures kind { IfOk result
-        (λ made. instructions.imm_kind made ≡ immediates.imm_kind imm.entry) }
-    ensures default { IsTrue T.keeps_defaults
-        → Maps T.reply T.next reencoder.old (immediates.imm_tree imm.entry)
-        instructions.imm_tree reencoder.new result }
-    ensures after_error { IsTrue T.keeps_defaults → IsTrue T.sure
-        → LeavesVisited (ask T.reply T.next) reencoder.old
-        (visits (immediates.imm_tree imm.entry)) reencoder.new result }
+    ensures { ImmediateClauses T.ReencodeIndices imm.entry reencoder.old reencoder.new result }
 {
     default_bodies::immediate!(reencoder, alloc, imm)
 }
@@ -295,12 +240,8 @@ pub fn instruction<'a, T: ReencodeItems>(
     alloc: Global,
     arg: r::Operator<'a>,
 ) -> Result<w::Instruction<'a>, Error<T::Error>>
-    ensures default { IsTrue T.keeps_defaults
-        → Maps T.reply T.next reencoder.old (immediates.operator_tree arg.entry)
-        instructions.instruction_tree reencoder.new result }
-    ensures after_error { IsTrue T.keeps_defaults → IsTrue T.sure
-        → LeavesVisited (ask T.reply T.next) reencoder.old
-        (visits (immediates.operator_tree arg.entry)) reencoder.new result }
+    ensures { ListClauses T.ReencodeIndices (immediates.operator_tree arg.entry)
+        instructions.instruction_tree reencoder.old reencoder.new result }
 {
     default_bodies::instruction!(reencoder, alloc, arg)
 }
@@ -315,12 +256,8 @@ pub fn parse_instruction<'a, T: ReencodeItems>(
     alloc: Global,
     reader: &mut r::OperatorsReader<'a>,
 ) -> Result<w::Instruction<'a>, Error<T::Error>>
-    ensures taken { IfOk result (λ _. MovesOn reader.old reader.new) }
-    ensures default { IsTrue T.keeps_defaults
-        → ParsesOperator T.reply T.next reencoder.old reader.old
-        instructions.instruction_tree reencoder.new reader.new result }
-    ensures after_error { IsTrue T.keeps_defaults → IsTrue T.sure
-        → LeavesOperator (ask T.reply T.next) reencoder.old reader.old reencoder.new result }
+    ensures { OperatorClauses T.ReencodeIndices instructions.instruction_tree
+        reencoder.old reader.old reencoder.new reader.new result }
 {
     default_bodies::parse_instruction!(reencoder, alloc, reader)
 }
@@ -334,12 +271,8 @@ pub fn const_expr<T: ReencodeItems>(
     alloc: Global,
     const_expr: r::ConstExpr<'_>,
 ) -> Result<w::ConstExpr, Error<T::Error>>
-    ensures default { IsTrue T.keeps_defaults
-        → Maps T.reply T.next reencoder.old (expr_tree const_expr.entry) expression_of
-        reencoder.new result }
-    ensures after_error { IsTrue T.keeps_defaults → IsTrue T.sure
-        → LeavesVisited (ask T.reply T.next) reencoder.old (visits (expr_tree const_expr.entry))
-        reencoder.new result }
+    ensures { ListClauses T.ReencodeIndices (expr_tree const_expr.entry) expression_of
+        reencoder.old reencoder.new result }
 {
     default_bodies::const_expr!(reencoder, alloc, const_expr)
 }

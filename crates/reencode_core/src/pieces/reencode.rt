@@ -12,6 +12,7 @@ ghost use Rattle.reencode_hooks.specs.Hooks.{RepliesSection};
 ghost use Rattle.reencode_hooks.specs.Run.{LeavesVisited, accepted, ask, run};
 ghost use Rattle.reencode_core.specs.Bodies.{GivesBody, KeepsCode};
 ghost use Rattle.reencode_core.specs.Core.{GivesBytes, GivesCore};
+ghost use Rattle.reencode_core.specs.Clauses.{BytesClauses};
 ghost use Rattle.reencode_core.specs.Errors.{IfParse};
 ghost use Rattle.reencode_core.specs.Leaves.{LeavesCore, LeavesMade, NoCoreHeading, body_in, core_in, custom_in, module_in, rows_in, section_in};
 ghost use Rattle.reencode_core.specs.Names.{GivesCustom};
@@ -400,15 +401,7 @@ pub fn reencode_joined<R: Reencode>(
     bytes: &[u8],
     ceiling: u32,
 ) -> Result<Vec<u8>, Error<R::Error>>
-    ensures default { IsTrue R.keeps_defaults → IsTrue R.adds_nothing
-        → GivesBytes (ask R.reply R.next) ceiling bytes.now r.old r.new result (λ v. v.items) }
-    ensures woven { IsTrue R.keeps_defaults
-        → GivesWovenBytes (ask R.reply R.next) R.adds ceiling bytes.now r.old r.new result
-        (λ v. v.items) }
-    ensures after_error { IsTrue R.keeps_defaults
-        → LeavesCore R.sure R.adds_nothing (ask R.reply R.next) (core_in bytes.now)
-        r.old r.new result }
-    ensures headless { IsTrue R.keeps_defaults → NoCoreHeading bytes.now → r.new ≡ r.old }
+    ensures { BytesClauses R.ReencodeIndices ceiling bytes.now r.old r.new result (λ v. v.items) }
 {
     let mut sink = ModulePieces::new(alloc, bytes, ceiling)?;
     walk(r, alloc, &mut sink, bytes)?;

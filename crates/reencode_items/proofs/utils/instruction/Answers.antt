@@ -1,4 +1,4 @@
-use Rattle.std.proofs.Common.{ap, ◌∙◌, length, arith}
+use Rattle.std.proofs.Common.{ap, ◌∙◌, length, arith, rules}
 use Rattle.wasm_read.specs.Immediates as read
 use Rattle.wasm_shapes.specs.Operators.{code_of}
 use Rattle.reencode_hooks.proofs.Leaving.{accepted_visited, handed, visited_left}
@@ -14,17 +14,17 @@ loop-imm-init g c =
 pub immediate-requires : goal.immediate-requires
 immediate-requires g c = next_has c.in-Some.imm c.loop-imm.invariant c.in-Some.ensures.steps.0
 
-pub returns-in_err-imm-clause-default : goal.returns-in_err-imm-clause-default
-returns-in_err-imm-clause-default g c = rw (handed _ c.from_residual-in_err-imm.ensures.1) (λ k ceiling other.
-    operator_refused c.in-Some.imm c.loop-imm.invariant c.in-Some.ensures.steps.0 (code_of c.args.arg.opcode) ceiling k (c.in_err-imm.ensures.default k ceiling other))
+pub returns-in_err-imm : goal.returns-in_err-imm
+returns-in_err-imm g c =
+    record {
+      default = rw (handed _ c.from_residual-in_err-imm.ensures.1) (λ k ceiling other.
+          operator_refused c.in-Some.imm c.loop-imm.invariant c.in-Some.ensures.steps.0 (code_of c.args.arg.opcode) ceiling k (c.in_err-imm.ensures.default k ceiling other));
+      after_error = λ k sure. visited_left _ (imms_leave c.in-Some.imm c.loop-imm.invariant c.in-Some.ensures.steps.0 k (c.in_err-imm.ensures.after_error k sure));
+    }
 
-pub returns-in_err-imm-clause-after_error : goal.returns-in_err-imm-clause-after_error
-returns-in_err-imm-clause-after_error g c = λ k sure.
-    visited_left _ (imms_leave c.in-Some.imm c.loop-imm.invariant c.in-Some.ensures.steps.0 k (c.in_err-imm.ensures.after_error k sure))
-
-pub returns-in_err-push-clause-after_error : goal.returns-in_err-push-clause-after_error
-returns-in_err-push-clause-after_error g c = λ k sure.
-    visited_left _ (imms_leave c.in-Some.imm c.loop-imm.invariant c.in-Some.ensures.steps.0 k (accepted_visited 0 (read.imm_tree c.in-Some.imm) (c.in_ok-imm.ensures.default k 0)))
+pub returns-in_err-push : goal.returns-in_err-push
+returns-in_err-push g c =
+    record { default = search rules; after_error = λ k sure. visited_left _ (imms_leave c.in-Some.imm c.loop-imm.invariant c.in-Some.ensures.steps.0 k (accepted_visited 0 (read.imm_tree c.in-Some.imm) (c.in_ok-imm.ensures.default k 0))) }
 
 pub loop-imm-preserved : goal.loop-imm-preserved
 loop-imm-preserved g c =
@@ -33,5 +33,6 @@ loop-imm-preserved g c =
 pub of_kinds-requires : goal.of_kinds-requires
 of_kinds-requires g c = rw c.opcode-opcode.ensures (all_kinds c.loop-imm.invariant c.in-None.ensures.steps.0 c.args.arg.opcode c.into_imms-imms.ensures.fit)
 
-pub returns-clause-default : goal.returns-clause-default
-returns-clause-default g c = λ k ceiling. rw (c.of_kinds.ensures, c.opcode-opcode.ensures) (operator_accepted c.loop-imm.invariant c.in-None.ensures.steps.0 (code_of c.args.arg.opcode) ceiling k)
+pub returns : goal.returns
+returns g c =
+    record { default = λ k ceiling. rw (c.of_kinds.ensures, c.opcode-opcode.ensures) (operator_accepted c.loop-imm.invariant c.in-None.ensures.steps.0 (code_of c.args.arg.opcode) ceiling k); after_error = search rules }

@@ -1,17 +1,18 @@
+use Rattle.std.proofs.Common.{rules}
+use Rattle.wasm_read.specs.Types as read
 use Rattle.reencode_hooks.proofs.Leaving.{handed, visited_left}
-use Rattle.reencode_items.proofs.Loops.{items_accepted, items_more, items_refuse, items_refused}
+use Rattle.reencode_items.proofs.Clauses.{item_left, item_stops}
+use Rattle.reencode_items.proofs.Loops.{items_accepted, items_more}
 use Rattle.reencode_items.proofs.utils.struct_type.Goals as goal
 
 pub loop-field-preserved : goal.loop-field-preserved
 loop-field-preserved g c = items_more _ c.loop-field.invariant c.as_slice-field-items.ensures c.loop-field-test.true c.in_ok-field.ensures.default c.in_ok-push.ensures.ok
 
-pub returns-in_err-field-clause-default : goal.returns-in_err-field-clause-default
-returns-in_err-field-clause-default g c = rw (handed _ c.from_residual-in_err-field.ensures.1) (λ k ceiling other.
-    items_refuse _ ceiling c.loop-field.invariant c.as_slice-field-items.ensures c.loop-field-test.true k (c.in_err-field.ensures.default k ceiling other))
+pub returns-in_err-field : goal.returns-in_err-field
+returns-in_err-field g c =
+    let stops = item_stops g.T.ReencodeIndices _ c.loop-field.invariant c.as_slice-field-items.ensures c.loop-field-test.true c.in_err-field.ensures in
+    rw (handed _ c.from_residual-in_err-field.ensures.1) (record { default = stops.default; after_error = item_left g.T.ReencodeIndices (read.fields_tree c.args.struct_ty.fields) _ stops })
 
-pub returns-in_err-field-clause-after_error : goal.returns-in_err-field-clause-after_error
-returns-in_err-field-clause-after_error g c = λ k sure.
-    visited_left _ (items_refused _ c.loop-field.invariant c.as_slice-field-items.ensures c.loop-field-test.true k sure (c.in_err-field.ensures.default k 0) (c.in_err-field.ensures.sure k))
-
-pub returns-in_err-push-clause-after_error : goal.returns-in_err-push-clause-after_error
-returns-in_err-push-clause-after_error g c = λ k sure. visited_left _ (items_accepted _ c.loop-field.invariant c.as_slice-field-items.ensures c.loop-field-test.true k (c.in_ok-field.ensures.default k 0))
+pub returns-in_err-push : goal.returns-in_err-push
+returns-in_err-push g c =
+    record { default = search rules; after_error = λ k sure. visited_left _ (items_accepted _ c.loop-field.invariant c.as_slice-field-items.ensures c.loop-field-test.true k (c.in_ok-field.ensures.default k 0)) }

@@ -1,50 +1,53 @@
-use Rattle.std.proofs.Common.{ap}
+use Rattle.std.proofs.Common.{ap, rules}
 use Rattle.std.proofs.lemmas.Result.{err_from_is_err_and}
 use Rattle.reencode_core.specs.Weave.{added}
 use Rattle.reencode_core.proofs.AddsNothing.{added_none, bytes_nothing}
 use Rattle.reencode_core.proofs.BytesMade.{bytes_leave}
 use Rattle.reencode_core.proofs.Weaves.{weave_is_run}
-use Rattle.reencode_core.proofs.WholeBytes.{bytes_given, bytes_refused}
+use Rattle.reencode_core.proofs.WholeBytes.{bytes_given, bytes_refused, bytes_wanting}
 use Rattle.reencode_core.specs.Sinks.{ModuleGrown}
 use Rattle.reencode_core.specs.Clauses.{asks}
 use Rattle.reencode_core.proofs.Left.{left_core, left_none}
 use Rattle.reencode_core.proofs.pieces.reencode.reencode_joined.Goals as goal
 
-pub returns-in_err-sink-clause-after_error : goal.returns-in_err-sink-clause-after_error
-returns-in_err-sink-clause-after_error g c =
+pub returns-in_err-sink : goal.returns-in_err-sink
+returns-in_err-sink g c =
     let p = err_from_is_err_and c.from_residual.result c.from_residual.ensures.1 in
-    rw (p.1, p.2) (λ k told size. left_none (asks g.R.ReencodeIndices) _)
+    rw (p.1, p.2) (record { default = search rules; woven = λ k. bytes_wanting _ _ _ _ _ _ _; after_error = λ k told size. left_none (asks g.R.ReencodeIndices) _; headless = search rules })
 
-pub returns-in_err-walk-clause-woven : goal.returns-in_err-walk-clause-woven
-returns-in_err-walk-clause-woven g c =
+pub returns-in_err-walk : goal.returns-in_err-walk
+returns-in_err-walk g c =
     let p = err_from_is_err_and c.from_residual-in_err-walk.result c.from_residual-in_err-walk.ensures.1 in
-    rw (p.1, p.2) (λ k. bytes_refused _ _ _ _ _ _ _ _ _ _ (ap ModuleGrown.sections c.in_ok-sink.ensures) (c.in_err-walk.ensures.woven k))
+    let gone = c.in_err-walk.ensures in
+    let same = ap ModuleGrown.sections c.in_ok-sink.ensures in
+    rw (p.1, p.2) (record {
+      default = λ k n. bytes_nothing _ _ (added_none g.met.R.ReencodeIndices.adds_ok n) _ _ _ _ _ _ (bytes_refused _ _ _ _ _ _ _ _ _ _ same (gone.woven k));
+      woven = λ k. bytes_refused _ _ _ _ _ _ _ _ _ _ same (gone.woven k);
+      after_error = λ k told size. bytes_leave (asks g.R.ReencodeIndices) _ (gone.after_error k told size);
+      headless = gone.headless;
+    })
 
-pub returns-in_err-walk-clause-default : goal.returns-in_err-walk-clause-default
-returns-in_err-walk-clause-default g c =
-    let p = err_from_is_err_and c.from_residual-in_err-walk.result c.from_residual-in_err-walk.ensures.1 in
-    rw (p.1, p.2) (λ k n. bytes_nothing _ _ (added_none g.met.R.ReencodeIndices.adds_ok n) _ _ _ _ _ _
-    (bytes_refused _ _ _ _ _ _ _ _ _ _ (ap ModuleGrown.sections c.in_ok-sink.ensures) (c.in_err-walk.ensures.woven k)))
-
-pub returns-in_err-walk-clause-after_error : goal.returns-in_err-walk-clause-after_error
-returns-in_err-walk-clause-after_error g c =
-    let p = err_from_is_err_and c.from_residual-in_err-walk.result c.from_residual-in_err-walk.ensures.1 in
-    rw (p.1, p.2) (λ k told size. bytes_leave (asks g.R.ReencodeIndices) _ (c.in_err-walk.ensures.after_error k told size))
-
-pub returns-in_err-join-clause-after_error : goal.returns-in_err-join-clause-after_error
-returns-in_err-join-clause-after_error g c =
+pub returns-in_err-join : goal.returns-in_err-join
+returns-in_err-join g c =
     let p = err_from_is_err_and c.from_residual-in_err-join.result c.from_residual-in_err-join.ensures.1 in
     let i = g.R.ReencodeIndices in
-    rw (p.1, p.2) (λ k told size.
-    let w = c.in_ok-walk.ensures.woven k in
-    let r = w.readable in
-    left_core (asks i) r.0 r.1 ((weave_is_run (asks i)).forth (added i.adds) _ _ _ r.0 _ (w.reading r.0 r.1).2).ran)
+    rw (p.1, p.2) (record {
+      default = search rules;
+      woven = λ k. bytes_wanting _ _ _ _ _ _ _;
+      after_error = λ k told size.
+          let w = c.in_ok-walk.ensures.woven k in
+          let r = w.readable in
+          left_core (asks i) r.0 r.1 ((weave_is_run (asks i)).forth (added i.adds) _ _ _ r.0 _ (w.reading r.0 r.1).2).ran;
+      headless = c.in_ok-walk.ensures.headless;
+    })
 
-pub returns-clause-woven : goal.returns-clause-woven
-returns-clause-woven g c =
-    λ k. bytes_given _ _ _ _ _ _ _ _ _ (ap ModuleGrown.sections c.in_ok-sink.ensures) (c.in_ok-walk.ensures.woven k) _ _ c.in_ok-join.ensures
-
-pub returns-clause-default : goal.returns-clause-default
-returns-clause-default g c =
-    λ k n. bytes_nothing _ _ (added_none g.met.R.ReencodeIndices.adds_ok n) _ _ _ _ _ _
-    (bytes_given _ _ _ _ _ _ _ _ _ (ap ModuleGrown.sections c.in_ok-sink.ensures) (c.in_ok-walk.ensures.woven k) _ _ c.in_ok-join.ensures)
+pub returns : goal.returns
+returns g c =
+    let given = c.in_ok-walk.ensures in
+    let same = ap ModuleGrown.sections c.in_ok-sink.ensures in
+    record {
+      default = λ k n. bytes_nothing _ _ (added_none g.met.R.ReencodeIndices.adds_ok n) _ _ _ _ _ _ (bytes_given _ _ _ _ _ _ _ _ _ same (given.woven k) _ _ c.in_ok-join.ensures);
+      woven = λ k. bytes_given _ _ _ _ _ _ _ _ _ same (given.woven k) _ _ c.in_ok-join.ensures;
+      after_error = λ k. tt;
+      headless = given.headless;
+    }

@@ -1,17 +1,18 @@
+use Rattle.std.proofs.Common.{rules}
+use Rattle.wasm_read.specs.Types as read
 use Rattle.reencode_hooks.proofs.Leaving.{handed, visited_left}
-use Rattle.reencode_items.proofs.Loops.{items_accepted, items_more, items_refuse, items_refused}
+use Rattle.reencode_items.proofs.Clauses.{item_left, item_stops}
+use Rattle.reencode_items.proofs.Loops.{items_accepted, items_more}
 use Rattle.reencode_items.proofs.items.ReencodeItems.val_types.Goals as goal
 
 pub loop-ty-preserved : goal.loop-ty-preserved
 loop-ty-preserved g c = items_more _ c.loop-ty.invariant c.as_slice-ty-items.ensures c.loop-ty-test.true c.in_ok-ty.ensures.default c.in_ok-push.ensures.ok
 
-pub returns-in_err-ty-clause-default : goal.returns-in_err-ty-clause-default
-returns-in_err-ty-clause-default g c = rw (handed _ c.from_residual-in_err-ty.ensures.1) (λ k ceiling other.
-    items_refuse _ ceiling c.loop-ty.invariant c.as_slice-ty-items.ensures c.loop-ty-test.true k (c.in_err-ty.ensures.default k ceiling other))
+pub returns-in_err-ty : goal.returns-in_err-ty
+returns-in_err-ty g c =
+    let stops = item_stops g.Self.ReencodeIndices _ c.loop-ty.invariant c.as_slice-ty-items.ensures c.loop-ty-test.true c.in_err-ty.ensures in
+    rw (handed _ c.from_residual-in_err-ty.ensures.1) (record { counted = tt; default = stops.default; after_error = item_left g.Self.ReencodeIndices (read.val_types_tree c.args.val_tys) _ stops })
 
-pub returns-in_err-ty-clause-after_error : goal.returns-in_err-ty-clause-after_error
-returns-in_err-ty-clause-after_error g c = λ k sure.
-    visited_left _ (items_refused _ c.loop-ty.invariant c.as_slice-ty-items.ensures c.loop-ty-test.true k sure (c.in_err-ty.ensures.default k 0) (c.in_err-ty.ensures.sure k))
-
-pub returns-in_err-push-clause-after_error : goal.returns-in_err-push-clause-after_error
-returns-in_err-push-clause-after_error g c = λ k sure. visited_left _ (items_accepted _ c.loop-ty.invariant c.as_slice-ty-items.ensures c.loop-ty-test.true k (c.in_ok-ty.ensures.default k 0))
+pub returns-in_err-push : goal.returns-in_err-push
+returns-in_err-push g c =
+    record { counted = search rules; default = search rules; after_error = λ k sure. visited_left _ (items_accepted _ c.loop-ty.invariant c.as_slice-ty-items.ensures c.loop-ty-test.true k (c.in_ok-ty.ensures.default k 0)) }
