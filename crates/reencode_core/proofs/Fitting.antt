@@ -1,5 +1,5 @@
 -- What the section hook adds fits, where a module holds it.
-use Rattle.std.proofs.Common.{◌≡◌, ℕ, ◌+◌, ◌<◌, ◌≤◌, List, [], ◌∷◌, ◌++◌, length, length-append, Option, Some, refl, sym, ap, ◌∙◌, subst, ◌⊎◌, inl, inr, append-nil, arith, get_or}
+use Rattle.std.proofs.Common.{◌≡◌, ℕ, ◌+◌, ◌≤◌, List, [], ◌∷◌, ◌++◌, length, length-append, Option, Some, refl, sym, ap, ◌∙◌, subst, ◌⊎◌, inl, inr, append-nil, arith}
 use Rattle.std.proofs.lemmas.List.{get_or-append-add}
 use Rattle.std.proofs.lemmas.List.Elements.{All-get_or, All-from_get_or, All-nil}
 use Rattle.std.proofs.Math.Seq.{get_or-append_seam}

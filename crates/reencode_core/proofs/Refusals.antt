@@ -2,7 +2,6 @@
 use Rattle.std.proofs.Common.{◌≡◌, ℕ, Bool, IfOk, IfErr, IsTrue, List, Result, Ok, Err, [], ◌∷◌, ◌++◌, refl, sym, ap, ◌∙◌, subst, ◌⊎◌, inl, inr}
 use Rattle.wasm_shapes.specs.declared.Visit.{Visit}
 use Rattle.wasm_shapes.specs.Tree.{Tree}
-use Rattle.wasm_shapes.specs.CodeSize.{InvalidCodeSize}
 use Rattle.wasm_shapes.specs.Module.{FaultAt, alsos}
 use Rattle.wasm_write.specs.Sections.{SectionRow}
 use Rattle.wasm_shapes.proofs.Laws.{module_headed}
