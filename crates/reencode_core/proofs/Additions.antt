@@ -1,6 +1,6 @@
 -- The section hook of a reencoder that adds the sections of a rule behind those of another.
-use Rattle.std.specs.Prelude.{◌≡◌, ◌++◌, ◌∷◌, ℕ, List, Result, Ok, Err, IsErrAnd}
-use Rattle.std.proofs.Common.{sym, ap, subst, ◌∙◌, append_assoc}
+use Rattle.std.specs.Prelude.{◌≡◌, ◌++◌, ℕ, List, Result, Ok, Err, IsErrAnd}
+use Rattle.std.proofs.Common.{ap, subst}
 use Rattle.wasm_shapes.specs.declared.Visit.{Visit}
 use Rattle.wasm_write.specs.declared.fault.WriteFault.{WriteFault}
 use Rattle.wasm_write.specs.declared.fault.WriteFault.TheVariants as write

@@ -1,5 +1,5 @@
 -- Sections by their kind.
-use Rattle.std.proofs.Common.{◌≡◌, ◌≢◌, ℕ, ◌≤◌, ◌<◌, List, [], ◌++◌, length, Bool, true, false, nat_le, if◌then◌else◌, Option, Some, Result, Ok, Err, refl, sym, ap, ◌∙◌, append_assoc, append-nil, arith, subst}
+use Rattle.std.proofs.Common.{◌≡◌, ◌≢◌, ℕ, ◌≤◌, ◌<◌, List, [], ◌++◌, length, Bool, true, false, nat_le, if◌then◌else◌, Option, Some, Result, Ok, Err, refl, sym, ap, ◌∙◌, append-nil, arith, subst}
 use Rattle.std.proofs.lemmas.Bool.{le-leb, leb-true}
 use Rattle.std.proofs.lemmas.List.{append_cancel_left}
 use Rattle.wasm_leb.specs.Place.{BeginsNumber}
