@@ -1,3 +1,4 @@
 pub mod Aliases
 pub mod ComponentRows
 pub mod Scoped
+pub mod TypeRows

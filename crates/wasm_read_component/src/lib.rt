@@ -3,22 +3,35 @@
 
 mod aliases;
 mod canonical;
+mod core_types;
+mod declarations;
+mod defined_types;
 mod items;
+mod nested;
 mod rows;
 mod scoped_reader;
 mod sections;
+mod type_rows;
+mod type_sections;
 mod types;
+mod value_items;
 mod value_types;
 
+pub use declarations::{
+    ComponentDeclarations, ComponentType, ComponentTypeDeclaration, CoreType, InstanceDeclarations,
+    InstanceTypeDeclaration, ModuleDeclarations, ModuleTypeDeclaration,
+};
 pub use scoped_reader::{ReadRowAt, ScopedReader};
 pub use sections::{
     ComponentAliasSectionReader, ComponentCanonicalSectionReader, ComponentExportSectionReader,
     ComponentImportSectionReader, ComponentInstanceSectionReader, InstanceSectionReader, Of,
     read_start,
 };
+pub use type_sections::{ComponentTypeSectionReader, CoreTypeSectionReader};
 pub use types::{
-    CanonicalFunction, CanonicalOption, ComponentAlias, ComponentArg, ComponentExport,
-    ComponentExternalKind, ComponentImport, ComponentInstance, ComponentOuterAliasKind,
-    ComponentStartFunction, ComponentTypeRef, ComponentValType, Instance, InstantiationArg,
-    InstantiationArgKind, Operands, PrimitiveValType, TypeBounds,
+    CanonicalFunction, CanonicalOption, ComponentAlias, ComponentArg, ComponentDefinedType,
+    ComponentExport, ComponentExternalKind, ComponentFuncType, ComponentImport, ComponentInstance,
+    ComponentOuterAliasKind, ComponentStartFunction, ComponentTypeRef, ComponentValType, Instance,
+    InstantiationArg, InstantiationArgKind, Operands, OuterAliasKind, PrimitiveValType, TypeBounds,
+    VariantCase,
 };

@@ -2,9 +2,10 @@
 use wasm_leb::List;
 use wasm_read::{Export, ExternalKind, UnpackedIndex};
 pub use wasm_types::{
-    CanonicalOption, ComponentArg, ComponentExport, ComponentExternalKind, ComponentImport,
-    ComponentInstance, ComponentOuterAliasKind, ComponentTypeRef, ComponentValType,
-    InstantiationArg, InstantiationArgKind, PrimitiveValType, TypeBounds,
+    CanonicalOption, ComponentArg, ComponentDefinedType, ComponentExport, ComponentExternalKind,
+    ComponentFuncType, ComponentImport, ComponentInstance, ComponentOuterAliasKind,
+    ComponentTypeRef, ComponentValType, InstantiationArg, InstantiationArgKind, OuterAliasKind,
+    PrimitiveValType, TypeBounds, VariantCase,
 };
 
 /// An alias.
