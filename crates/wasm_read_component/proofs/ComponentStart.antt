@@ -1,5 +1,5 @@
 -- A start that is the whole of some bytes.
-use Rattle.std.proofs.Common.{◌≡◌, ◌≢◌, ℕ, List, [], refl, sym, append-nil}
+use Rattle.std.proofs.Common.{◌≢◌, ℕ, List, [], refl, sym, append-nil}
 use Rattle.wasm_shapes.specs.Tree.{Tree}
 use Rattle.wasm_shapes.specs.Place.{Begins, BeginsNone}
 use Rattle.wasm_shapes.specs.Spells.{Spells}

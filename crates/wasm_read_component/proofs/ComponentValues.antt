@@ -1,7 +1,6 @@
 -- Types of values, sorts and names at the front of some bytes.
 use Rattle.std.proofs.Common.{◌≡◌, ◌≢◌, ℕ, ◌≤◌, zero, suc, List, [], ◌∷◌, ◌++◌, Bool, true, false, nat_eq, refl, ap, arith}
 use Rattle.std.proofs.lemmas.Bool.{eqb-true, eqb-false}
-use Rattle.wasm_leb.specs.Place.{BeginsNumber, BeginsNoNumber}
 use Rattle.wasm_shapes.specs.Tree.{Tree}
 use Rattle.wasm_shapes.specs.Shape.{Shape, choice, lead}
 use Rattle.wasm_shapes.specs.Place.{Begins, BeginsNone}

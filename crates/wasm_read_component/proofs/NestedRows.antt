@@ -1,15 +1,15 @@
 -- Rows that stand in a scope: the reader of the bytes of their vector has them left.
-use Rattle.std.proofs.Common.{◌≡◌, ℕ, ◌+◌, ◌-◌, ◌<◌, ◌≤◌, List, [], ◌∷◌, ◌++◌, refl, sym, ap, ◌∙◌, take, length, length-append, arith, subst}
+use Rattle.std.proofs.Common.{◌≡◌, ℕ, ◌+◌, ◌-◌, List, ◌++◌, refl, sym, ap, ◌∙◌, take, length, length-append, arith, subst}
 use Rattle.std.proofs.Math.Seq.{take-append_seam}
 use Rattle.std.proofs.lemmas.List.{append_cancel_left}
-use Rattle.wasm_leb.specs.Place.{BeginsNumber, BeginsNoNumber}
+use Rattle.wasm_leb.specs.Place.{BeginsNoNumber}
 use Rattle.wasm_leb.proofs.Unique.{unsigned_unique}
 use Rattle.wasm_leb.specs.declared.fault.Fault.{Fault}
 use Rattle.wasm_leb.specs.declared.fault.Fault.TheVariants as fault
 use Rattle.wasm_shapes.specs.Tree.{Tree, count}
 use Rattle.wasm_shapes.specs.Shape.{Shape}
 use Rattle.wasm_shapes.specs.Spells.{Is, Spelled}
-use Rattle.wasm_shapes.specs.Place.{Begins, BeginsNone}
+use Rattle.wasm_shapes.specs.Place.{Begins}
 use Rattle.wasm_shapes.specs.Rows.{RowsLeft}
 use Rattle.wasm_read.specs.Reading.{Standing, CountRead, ReadsNone}
 use Rattle.wasm_read_component.specs.Scoped.{ScopedStanding}

@@ -1,5 +1,4 @@
 -- The trees that the rows of a component stand for, beside those of `wasm_types`.
-use Rattle.std.specs.Prelude.{ℕ}
 use Rattle.wasm_shapes.specs.Tree.{Tree}
 use Rattle.wasm_types.specs.declared.components.CanonicalFunction.{CanonicalFunction}
 use Rattle.wasm_types.specs.declared.components.Operands.{Operands}
