@@ -21,7 +21,7 @@ mod value_types;
 mod vector_items;
 
 pub use expressions::ConstExpr;
-pub use externals::{front_import, front_type_ref, read_type_ref};
+pub use externals::{front_type_ref, read_type_ref};
 pub use fields::{front_export, front_name, read_item, read_name};
 pub use groups::{front_group, read_group};
 pub use name_section::NameSectionReader;

@@ -2,5 +2,9 @@ pub mod AliasSorts
 pub mod ComponentCanonical
 pub mod ComponentStart
 pub mod ComponentValues
+pub mod CoreTypeRows
+pub mod NestedRows
+pub mod ScopeRows
 pub mod ScopedRows
 pub mod PayloadFrames
+pub mod TypeDepth

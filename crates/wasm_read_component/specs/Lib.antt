@@ -2,3 +2,4 @@ pub mod Aliases
 pub mod ComponentPayloads
 pub mod ComponentRows
 pub mod Scoped
+pub mod TypeRows

@@ -3,14 +3,25 @@
 
 mod aliases;
 mod canonical;
+mod core_types;
+mod declarations;
+mod defined_types;
 mod items;
+mod nested;
 mod payloads;
 mod rows;
 mod scoped_reader;
 mod sections;
+mod type_rows;
+mod type_sections;
 mod types;
+mod value_items;
 mod value_types;
 
+pub use declarations::{
+    ComponentDeclarations, ComponentType, ComponentTypeDeclaration, CoreType, InstanceDeclarations,
+    InstanceTypeDeclaration, ModuleDeclarations, ModuleTypeDeclaration,
+};
 pub use payloads::ComponentPayloads;
 pub use scoped_reader::{ReadRowAt, ScopedReader};
 pub use sections::{
@@ -18,9 +29,11 @@ pub use sections::{
     ComponentImportSectionReader, ComponentInstanceSectionReader, InstanceSectionReader, Of,
     read_start,
 };
+pub use type_sections::{ComponentTypeSectionReader, CoreTypeSectionReader};
 pub use types::{
-    CanonicalFunction, CanonicalOption, ComponentAlias, ComponentArg, ComponentExport,
-    ComponentExternalKind, ComponentImport, ComponentInstance, ComponentOuterAliasKind,
-    ComponentPayload, ComponentStartFunction, ComponentTypeRef, ComponentValType, Instance,
-    InstantiationArg, InstantiationArgKind, Operands, PrimitiveValType, TypeBounds,
+    CanonicalFunction, CanonicalOption, ComponentAlias, ComponentArg, ComponentDefinedType,
+    ComponentExport, ComponentExternalKind, ComponentFuncType, ComponentImport, ComponentInstance,
+    ComponentOuterAliasKind, ComponentPayload, ComponentStartFunction, ComponentTypeRef,
+    ComponentValType, Instance, InstantiationArg, InstantiationArgKind, Operands, OuterAliasKind,
+    PrimitiveValType, TypeBounds, VariantCase,
 };

@@ -17,8 +17,9 @@ pub trait ReadRowAt<'a>: RowKind {
     /// A row.
     type Row;
 
-    // The trees that a row stands for: none or one, since a row may hold bytes that are not read yet.
-    ghost stands: { Self.Row → Tree → Type 0 };
+    // The trees that a row stands for with so many scopes open round it: none or one, since it may hold bytes that are not
+    // read yet.
+    ghost stands: { ℕ → Self.Row → Tree → Type 0 };
 
     // Whether memory is taken for a row.
     ghost takes_memory: { Bool } = { false };
@@ -31,7 +32,7 @@ pub trait ReadRowAt<'a>: RowKind {
     ) -> Result<Option<(Self::Row, &'a [u8])>, NoMemory>
         requires { depth ≤ 200 }
         ensures some { IfOk result (λ o. IfSome o (λ r.
-            ReadsAt Self.shape depth (stands r.0) bytes.now r.1.now)) }
+            ReadsAt Self.shape depth (stands depth r.0) bytes.now r.1.now)) }
         ensures none { IfOk result (λ o. IfNone o (BeginsNoneAt Self.shape depth bytes.now)) }
         ensures wants { IfErr result (λ _. IsTrue takes_memory) };
 }
@@ -94,7 +95,7 @@ impl<'a, K: ReadRowAt<'a>> ScopedReader<'a, K> {
     /// with that place, or memory runs out, for a kind whose rows take any. It leaves the reader where it stood.
     pub fn next_row(&mut self, alloc: Global) -> Result<Option<K::Row>, Fault>
         ensures row { IfOk result (λ o. IfSome o (λ row.
-            ScopedRead K.shape (K.stands row) self.old self.new)) }
+            ScopedRead K.shape (K.stands self.old.depth row) self.old self.new)) }
         ensures ended { IfOk result (λ o. IfNone o
             (RowsEnded self.old.rows self.new.rows × (self.new ≡ self.old))) }
         ensures err { IfErr result (λ e.

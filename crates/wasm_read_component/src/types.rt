@@ -3,9 +3,10 @@ use wasm_leb::List;
 use wasm_read::{CustomSection, Export, ExternalKind, UnpackedIndex};
 use wasm_shapes::SectionId;
 pub use wasm_types::{
-    CanonicalOption, ComponentArg, ComponentExport, ComponentExternalKind, ComponentImport,
-    ComponentInstance, ComponentOuterAliasKind, ComponentTypeRef, ComponentValType,
-    InstantiationArg, InstantiationArgKind, PrimitiveValType, TypeBounds,
+    CanonicalOption, ComponentArg, ComponentDefinedType, ComponentExport, ComponentExternalKind,
+    ComponentFuncType, ComponentImport, ComponentInstance, ComponentOuterAliasKind,
+    ComponentTypeRef, ComponentValType, InstantiationArg, InstantiationArgKind, OuterAliasKind,
+    PrimitiveValType, TypeBounds, VariantCase,
 };
 
 /// An alias.

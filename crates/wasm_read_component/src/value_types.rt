@@ -14,7 +14,7 @@ use wasm_leb::{front_byte, front_index, front_u32};
 use wasm_read::front_name;
 
 /// The primitive type that a byte spells.
-fn primitive_of(byte: u8) -> Option<PrimitiveValType>
+pub fn primitive_of(byte: u8) -> Option<PrimitiveValType>
     ensures some { IfSome result (λ ty. byte ≡ primitive_byte ty) }
     ensures none { IfNone result ((ty : PrimitiveValType) → byte ≢ primitive_byte ty) }
 {
