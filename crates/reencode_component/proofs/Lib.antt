@@ -1,0 +1,3 @@
+pub mod Canonical
+pub mod SortKept
+pub mod EachItem
