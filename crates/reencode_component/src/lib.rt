@@ -3,7 +3,19 @@
 
 mod answer;
 mod chain;
+mod component;
+pub mod component_utils;
+mod default_bodies;
+mod defaults;
+mod hooked;
 mod indices;
+mod items;
+mod kinds;
+mod mapped;
+mod rows;
 
 pub use answer::AnswerComponentVisits;
+pub use component::ReencodeComponent;
+pub use defaults::{DefaultComponent, DefaultComponentItems};
 pub use indices::ReencodeComponentIndices;
+pub use items::ReencodeComponentItems;

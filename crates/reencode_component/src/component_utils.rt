@@ -1,0 +1,51 @@
+//! The default bodies of `ReencodeComponentItems` and `ReencodeComponent`, as functions of any reencoder.
+//!
+//! Those whose bodies call no method of the trait are bounded by a trait below, so that an override can call them.
+ghost use Rattle.wasm_types.specs.ComponentTrees.{component_val_type_tree, type_ref_tree};
+ghost use Rattle.wasm_read_component.specs.Aliases as read;
+ghost use Rattle.wasm_write_component.specs.Aliases as write;
+ghost use Rattle.reencode_component.specs.Clauses.{ItemClauses, ValueClauses};
+
+pub use crate::hooked::{canonical_option, type_bounds};
+use crate::items::ReencodeComponentItems;
+pub use crate::kinds::{
+    component_export_kind, component_outer_alias_kind, component_primitive_val_type,
+};
+pub use crate::rows::parse_component_export;
+use crate::{default_bodies, hooked};
+use reencode_hooks::Error;
+use wasm_read_component as r;
+use wasm_write_component as w;
+
+/// A type of values (Component Model, Binary Format: `valtype`).
+pub fn component_val_type<T: ReencodeComponentItems>(
+    reencoder: &mut T,
+    ty: r::ComponentValType,
+) -> w::ComponentValType
+    ensures { ValueClauses T.ReencodeIndices
+        (component_val_type_tree ty) component_val_type_tree reencoder.old reencoder.new result }
+{
+    default_bodies::component_val_type!(reencoder, ty)
+}
+
+/// The type of what is imported or exported (`externdesc`).
+pub fn component_type_ref<T: ReencodeComponentItems>(
+    reencoder: &mut T,
+    ty: r::ComponentTypeRef,
+) -> Result<w::ComponentTypeRef, Error<T::Error>>
+    ensures { ItemClauses T.ReencodeIndices
+        (type_ref_tree ty) type_ref_tree reencoder.old reencoder.new result }
+{
+    default_bodies::component_type_ref!(reencoder, ty)
+}
+
+/// An alias (`alias`). An outer one asks the outer hook of its sort, and its count stays.
+pub fn component_alias<'a, T: ReencodeComponentItems>(
+    reencoder: &mut T,
+    alias: r::ComponentAlias<'a>,
+) -> Result<w::Alias<'a>, Error<T::Error>>
+    ensures { ItemClauses T.ReencodeIndices
+        (read.alias_tree alias.entry) write.alias_tree reencoder.old reencoder.new result }
+{
+    default_bodies::component_alias!(reencoder, alias)
+}

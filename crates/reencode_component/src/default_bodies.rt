@@ -1,0 +1,77 @@
+//! The default bodies, which the trait and `component_utils` share: a body of a trait cannot pass its receiver to a function
+//! that is bounded by that trait.
+
+macro_rules! component_val_type {
+    ($reencoder:ident, $ty:ident) => {
+        match $ty {
+            r::ComponentValType::Primitive(ty) => {
+                w::ComponentValType::Primitive($reencoder.component_primitive_val_type(ty))
+            }
+            r::ComponentValType::Type_(index) => {
+                w::ComponentValType::Type_($reencoder.component_type_index(index))
+            }
+        }
+    };
+}
+
+macro_rules! component_type_ref {
+    ($reencoder:ident, $ty:ident) => {
+        match $ty {
+            r::ComponentTypeRef::Module(index) => {
+                Ok(w::ComponentTypeRef::Module($reencoder.type_index(index)?))
+            }
+            r::ComponentTypeRef::Func(index) => {
+                Ok(w::ComponentTypeRef::Func($reencoder.component_type_index(index)))
+            }
+            r::ComponentTypeRef::Value(ty) => {
+                Ok(w::ComponentTypeRef::Value($reencoder.component_val_type(ty)))
+            }
+            r::ComponentTypeRef::Type_(bounds) => {
+                Ok(w::ComponentTypeRef::Type_($reencoder.type_bounds(bounds)))
+            }
+            r::ComponentTypeRef::Instance(index) => {
+                Ok(w::ComponentTypeRef::Instance($reencoder.component_type_index(index)))
+            }
+            r::ComponentTypeRef::Component(index) => {
+                Ok(w::ComponentTypeRef::Component($reencoder.component_type_index(index)))
+            }
+        }
+    };
+}
+
+macro_rules! component_alias {
+    ($reencoder:ident, $alias:ident) => {
+        match $alias {
+            r::ComponentAlias::InstanceExport {
+                kind,
+                instance_index,
+                name,
+            } => Ok(w::Alias::InstanceExport {
+                kind: $reencoder.component_export_kind(kind),
+                instance_index: $reencoder.component_instance_index(instance_index),
+                name,
+            }),
+            r::ComponentAlias::CoreInstanceExport {
+                kind,
+                instance_index,
+                name,
+            } => Ok(w::Alias::CoreInstanceExport {
+                kind: $reencoder.export_kind(kind)?,
+                instance_index: $reencoder.instance_index(instance_index),
+                name,
+            }),
+            r::ComponentAlias::Outer { kind, count, index } => {
+                let index = hooked::outer_index($reencoder, kind, count, index)?;
+                Ok(w::Alias::Outer {
+                    kind: $reencoder.component_outer_alias_kind(kind),
+                    count,
+                    index,
+                })
+            }
+        }
+    };
+}
+
+pub(crate) use component_alias;
+pub(crate) use component_type_ref;
+pub(crate) use component_val_type;
