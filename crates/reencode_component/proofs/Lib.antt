@@ -1,3 +1,1 @@
-pub mod Canonical
 pub mod SortKept
-pub mod EachItem

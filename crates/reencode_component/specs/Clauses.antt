@@ -1,10 +1,10 @@
 -- What a call that maps an item promises, whole: one record for each kind of call, which the method, its function and its body cite.
 -- `i` are the meanings of the reencoder, `s` is its state before the call, and `m` the one after it.
 use Rattle.std.specs.Prelude.{◌≡◌, ℕ, Result, Ok, IsTrue}
-use Rattle.wasm_shapes.specs.Tree.{Tree, visits}
+use Rattle.wasm_shapes.specs.Tree.{Tree}
 use Rattle.reencode_hooks.specs.declared.error.Error.{Error}
 use Rattle.reencode_hooks.specs.declared.indices.ReencodeIndices.{Ghosts}
-use Rattle.reencode_hooks.specs.Run.{LeavesVisited, NeverWants, ask}
+use Rattle.reencode_hooks.specs.Run.{NeverWants}
 use Rattle.reencode_items.specs.Maps.{Maps}
 
 -- ---- by hooks alone
@@ -35,13 +35,4 @@ ItemClauses i t view s m result =
     record {
       default : IsTrue i.keeps_defaults → Maps i.reply i.next s t view m result;
       sure : IsTrue i.keeps_defaults → NeverWants i.sure result;
-    }
-
--- An item that takes memory is mapped. An error leaves the state after a front part of its visits, out of memory too where no hook
--- wants any.
-abbrev pub ListClauses : {S E B : Type 0} → Ghosts S E → Tree → (B → Tree) → S → S → Result B (Error E) → Type 0
-ListClauses i t view s m result =
-    record {
-      default : IsTrue i.keeps_defaults → Maps i.reply i.next s t view m result;
-      after_error : IsTrue i.keeps_defaults → IsTrue i.sure → LeavesVisited (ask i.reply i.next) s (visits t) m result;
     }

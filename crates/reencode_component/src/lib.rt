@@ -11,7 +11,6 @@ mod hooked;
 mod indices;
 mod items;
 mod kinds;
-mod lists;
 mod mapped;
 mod rows;
 
