@@ -2,15 +2,13 @@
 use crate::write_tests::list_of;
 use reencode_hooks::Error;
 use std::convert::Infallible;
-use wasm_leb::List;
-use wasm_write::{Module, Section, WriteFault};
+use wasm_write::{Module, WriteFault};
 use wasm_write_component::{
-    Alias, CanonicalFunction, CanonicalFunctionSection, CanonicalOption, Component,
-    ComponentAliasSection, ComponentArg, ComponentExport, ComponentExportKind,
-    ComponentExportSection, ComponentImport, ComponentImportSection, ComponentInstance,
-    ComponentInstanceSection, ComponentStartSection, ComponentTypeRef, ComponentValType, Export,
-    ExportKind, Instance, InstanceSection, InstantiationArg, InstantiationArgKind, ModuleSection,
-    NestedComponentSection, PrimitiveValType, ValType,
+    Alias, CanonicalFunction, CanonicalFunctionSection, Component, ComponentAliasSection,
+    ComponentArg, ComponentExport, ComponentExportKind, ComponentExportSection, ComponentImport,
+    ComponentImportSection, ComponentInstance, ComponentInstanceSection, ComponentStartSection,
+    ComponentTypeRef, Export, ExportKind, Instance, InstanceSection, InstantiationArg,
+    InstantiationArgKind, ModuleSection, NestedComponentSection,
 };
 
 #[test]
