@@ -2,7 +2,7 @@
 use crate::write_tests::list_of;
 use reencode_hooks::Error;
 use std::convert::Infallible;
-use wasm_write::{Module, WriteFault};
+use wasm_write::{Module, Section, WriteFault};
 use wasm_write_component::{
     Alias, CanonicalFunction, CanonicalFunctionSection, Component, ComponentAliasSection,
     ComponentArg, ComponentExport, ComponentExportKind, ComponentExportSection, ComponentImport,
