@@ -12,40 +12,40 @@ use wasm_leb::List;
 use wasm_read as r;
 use wasm_write as w;
 
-/// An item with a method that maps it.
-pub(crate) trait MapItem<B> {
-    ghost read: { Self → Tree };
+/// A way to map an item, as a marker.
+pub trait MapItem<T: ReencodeItems, A, B> {
+    ghost read: { A → Tree };
 
     ghost made: { B → Tree };
 
-    /// What it becomes.
-    fn map<T: ReencodeItems>(self, reencoder: &mut T, alloc: Global) -> Result<B, Error<T::Error>>
+    /// What an item becomes.
+    fn map(reencoder: &mut T, alloc: Global, item: A) -> Result<B, Error<T::Error>>
         ensures default { IsTrue T.keeps_defaults
-            → Maps T.reply T.next reencoder.old (read self) made reencoder.new result }
+            → Maps T.reply T.next reencoder.old (read item) made reencoder.new result }
         ensures after_error { IsTrue T.keeps_defaults → IsTrue T.sure
-            → LeavesVisited (ask T.reply T.next) reencoder.old (visits (read self))
+            → LeavesVisited (ask T.reply T.next) reencoder.old (visits (read item))
             reencoder.new result };
 }
 
-/// A function of an element segment.
-impl MapItem<u32> for u32 {
+/// The functions of an element segment.
+pub(crate) struct FunctionItems;
+
+impl<T: ReencodeItems> MapItem<T, u32, u32> for FunctionItems {
     ghost use Rattle.wasm_shapes.specs.Types.{function_index_tree};
 
     ghost read = { function_index_tree };
 
     ghost made = { function_index_tree };
 
-    fn map<T: ReencodeItems>(
-        self,
-        reencoder: &mut T,
-        _alloc: Global,
-    ) -> Result<u32, Error<T::Error>> {
-        reencoder.function_index(self)
+    fn map(reencoder: &mut T, _alloc: Global, item: u32) -> Result<u32, Error<T::Error>> {
+        reencoder.function_index(item)
     }
 }
 
-/// An expression of an element segment.
-impl<'a> MapItem<w::ConstExpr> for r::ConstExpr<'a> {
+/// The expressions of an element segment.
+pub(crate) struct ExpressionItems;
+
+impl<'a, T: ReencodeItems> MapItem<T, r::ConstExpr<'a>, w::ConstExpr> for ExpressionItems {
     ghost use Rattle.wasm_shapes.specs.Types.{expression_of};
     ghost use Rattle.wasm_read.specs.Expressions.{expr_tree};
 
@@ -53,35 +53,36 @@ impl<'a> MapItem<w::ConstExpr> for r::ConstExpr<'a> {
 
     ghost made = { expression_of };
 
-    fn map<T: ReencodeItems>(
-        self,
+    fn map(
         reencoder: &mut T,
         alloc: Global,
+        item: r::ConstExpr<'a>,
     ) -> Result<w::ConstExpr, Error<T::Error>> {
-        reencoder.const_expr(alloc, self)
+        reencoder.const_expr(alloc, item)
     }
 }
 
-/// Maps each item of a list.
-pub(crate) fn map_items<T, A, B>(
+/// Maps each item of a list, in the way of the marker.
+pub fn map_items<T, M, A, B>(
     reencoder: &mut T,
     alloc: Global,
     items: List<A>,
 ) -> Result<List<B>, Error<T::Error>>
 where
     T: ReencodeItems,
-    A: MapItem<B> + Drop,
+    M: MapItem<T, A, B>,
+    A: Drop,
     B: Drop,
     ensures default { IsTrue T.keeps_defaults
-        → Maps T.reply T.next reencoder.old (vector_tree (map A.read items))
-        (λ made. vector_tree (map A.made made)) reencoder.new result }
+        → Maps T.reply T.next reencoder.old (vector_tree (map M.read items))
+        (λ made. vector_tree (map M.made made)) reencoder.new result }
     ensures after_error { IsTrue T.keeps_defaults → IsTrue T.sure
-        → LeavesVisited (ask T.reply T.next) reencoder.old (visits (vector_tree (map A.read items)))
+        → LeavesVisited (ask T.reply T.next) reencoder.old (visits (vector_tree (map M.read items)))
         reencoder.new result }
 {
     let mut mapped = List::with_capacity(alloc, items.len())?;
     for item in items.into_vec() {
-        let item = item.map(reencoder, alloc)?;
+        let item = M::map(reencoder, alloc, item)?;
         mapped.push(item)?;
     }
     Ok(mapped)

@@ -22,6 +22,7 @@ pub mod utils;
 
 pub use adding::{Adding, SectionRule};
 pub use defaults::{DefaultReencode, DefaultSections};
+pub use item_lists::{MapItem, map_items};
 pub use laws::{
     accepted_is_answered, fault_gains, fault_is_answered, fault_tells, front_is_one,
     output_is_read, refusal_tells, weave_ends, weave_is_run, weave_of_nothing,
@@ -32,4 +33,5 @@ pub use pieces::{
     spelling_is_kept,
 };
 pub use reencode::{Reencode, reencode_core};
+pub use row_sections::{MapRow, map_section};
 pub use rule::{check_by_rule, reencode_by_rule};

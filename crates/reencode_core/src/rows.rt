@@ -9,7 +9,7 @@ ghost use Rattle.reencode_core.specs.Clauses.{BodyClauses, LocalsClauses, RowCla
 
 use crate::default_bodies;
 use crate::imports::single;
-use crate::item_lists::map_items;
+use crate::item_lists::{ExpressionItems, FunctionItems, map_items};
 use crate::sections::add_section;
 use reencode_hooks::{Error, ReencodeIndices};
 use reencode_items::ReencodeItems;
@@ -155,11 +155,12 @@ pub fn element_items<T: ReencodeItems>(
 {
     match items {
         r::ElementItems::Functions(functions) => {
-            let functions = map_items(reencoder, alloc, functions)?;
+            let functions = map_items::<T, FunctionItems, u32, u32>(reencoder, alloc, functions)?;
             Ok(w::Elements::Functions(functions))
         }
         r::ElementItems::Expressions(ty, expressions) => {
-            let expressions = map_items(reencoder, alloc, expressions)?;
+            let expressions =
+                map_items::<T, ExpressionItems, r::ConstExpr, w::ConstExpr>(reencoder, alloc, expressions)?;
             let ty = reencoder.ref_type(ty)?;
             Ok(w::Elements::Expressions(ty, expressions))
         }

@@ -7,16 +7,24 @@ use Rattle.wasm_shapes.specs.declared.Visit.TheVariants.{Index, Outer}
 use Rattle.wasm_shapes.specs.Tree.{Tree, visits}
 use Rattle.wasm_shapes.specs.Shape.{Shape}
 use Rattle.wasm_shapes.specs.Spells.{Spells}
-use Rattle.wasm_shapes.specs.Module.{body_of, row_of, local_row, name_rows, subsection}
+use Rattle.wasm_shapes.specs.Module.{body_of, row_of, local_row, name_rows, naming_row, subsection}
+use Rattle.wasm_shapes.specs.Component as table
 
 -- The items of which indices are asked: a row of a section, the one item of a section that has no rows, an entry of the map in a
--- name subsection, a local, an operator.
+-- name subsection, a local, an operator; of a component a row of a section by its id, that of a start section, a row of a list of
+-- declarations, and an entry of the names of a sort.
 pub data IsItem : Shape → Type 0 where
   row : (k : SectionId) → IsItem (row_of k)
   one : (k : SectionId) (s : Space) → body_of k ≡ Shape.ix s → IsItem (Shape.ix s)
   entry : (id : ℕ) (s : Shape) → get_or name_rows id Shape.none ≡ subsection id (Shape.vec s) → IsItem s
   local : IsItem local_row
   operator : IsItem (Shape.op true)
+  component_row : (id : ℕ) (s : Shape) → table.component_body_of id ≡ Shape.vec s → IsItem s
+  component_start : IsItem table.component_start
+  module_declaration : IsItem table.module_declaration
+  instance_declaration : IsItem table.instance_declaration
+  component_declaration : IsItem table.component_declaration
+  sort_entry : (s : Space) → IsItem (naming_row s)
 
 -- some stretch of the bytes spells an item, and this is one of its visits
 pub record OfItem (bytes : List ℕ) (v : Visit) : Type 0 where

@@ -12,7 +12,7 @@ loop-item-init g c =
     let i = g.T.ReencodeIndices in
     rw c.in_ok-mapped.ensures (record {
       left = c.into_iter-item-iterator.ensures.into_iter_gives.0 ∙ c.into_vec-item-items.ensures;
-      default = λ k. items_begin (ask i.reply i.next) g.A.MapItem.read g.A.MapItem.made _;
+      default = λ k. items_begin (ask i.reply i.next) g.M.MapItem.read g.M.MapItem.made _;
     })
 
 pub loop-item-preserved : goal.loop-item-preserved
@@ -22,7 +22,7 @@ loop-item-preserved g c =
     let x = c.in-Some.item in
     record {
       left = append_assoc c.loop-item.yielded (x ∷ []) c.next.new.self.rest.items ∙ ap (λ (z : List _). c.loop-item.yielded ++ z) (sym c.in-Some.ensures.steps.0) ∙ inv.left;
-      default = λ k. items_more (ask i.reply i.next) g.A.MapItem.read g.A.MapItem.made x c.in_ok-item.item (inv.default k) (c.in_ok-item.ensures.default k) c.in_ok-push.ensures.ok;
+      default = λ k. items_more (ask i.reply i.next) g.M.MapItem.read g.M.MapItem.made x c.in_ok-item.item (inv.default k) (c.in_ok-item.ensures.default k) c.in_ok-push.ensures.ok;
     }
 
 pub returns-in_err-item-clause-default : goal.returns-in_err-item-clause-default
@@ -31,14 +31,14 @@ returns-in_err-item-clause-default g c =
     let i = g.T.ReencodeIndices in
     let inv = c.loop-item.invariant in
     let parts = ap (λ (z : List _). c.loop-item.yielded ++ z) (sym c.in-Some.ensures.steps.0) ∙ inv.left in
-    rw (p.1, p.2) (λ k ceiling other. vector_refused (ask i.reply i.next) g.A.MapItem.read g.A.MapItem.made _ _ _ c.in-Some.item _ (inv.default k) parts ceiling (c.in_err-item.ensures.default k ceiling other))
+    rw (p.1, p.2) (λ k ceiling other. vector_refused (ask i.reply i.next) g.M.MapItem.read g.M.MapItem.made _ _ _ c.in-Some.item _ (inv.default k) parts ceiling (c.in_err-item.ensures.default k ceiling other))
 
 pub returns-clause-default : goal.returns-clause-default
 returns-clause-default g c =
     let i = g.T.ReencodeIndices in
     let inv = c.loop-item.invariant in
     let whole = all_yielded _ _ _ _ inv.left c.loop-item.item-iterator.rest.ok.0 c.in-None.ensures.steps.0 in
-    λ k ceiling. vector_accepted (ask i.reply i.next) g.A.MapItem.read g.A.MapItem.made _ _ (inv.default k) whole ceiling
+    λ k ceiling. vector_accepted (ask i.reply i.next) g.M.MapItem.read g.M.MapItem.made _ _ (inv.default k) whole ceiling
 
 pub returns-in_err-item-clause-after_error : goal.returns-in_err-item-clause-after_error
 returns-in_err-item-clause-after_error g c =
@@ -50,4 +50,4 @@ pub returns-in_err-push-clause-after_error : goal.returns-in_err-push-clause-aft
 returns-in_err-push-clause-after_error g c =
     let inv = c.loop-item.invariant in
     let parts = ap (λ (z : List _). c.loop-item.yielded ++ z) (sym c.in-Some.ensures.steps.0) ∙ inv.left in
-    λ k sure. visited_left _ (items_leave _ _ _ c.in-Some.item (inv.default k) parts (accepted_visited 0 (g.A.MapItem.read c.in-Some.item) (c.in_ok-item.ensures.default k 0)))
+    λ k sure. visited_left _ (items_leave _ _ _ c.in-Some.item (inv.default k) parts (accepted_visited 0 (g.M.MapItem.read c.in-Some.item) (c.in_ok-item.ensures.default k 0)))

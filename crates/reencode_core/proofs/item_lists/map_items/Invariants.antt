@@ -9,6 +9,6 @@ invariant-loop-item g l =
     record {
       left : l.yielded ++ l.item-iterator.rest.items ≡ l.fn.items;
       default : IsTrue g.T.ReencodeIndices.keeps_defaults
-          → ItemsDone (ask g.T.ReencodeIndices.reply g.T.ReencodeIndices.next) g.A.MapItem.read g.A.MapItem.made
+          → ItemsDone (ask g.T.ReencodeIndices.reply g.T.ReencodeIndices.next) g.M.MapItem.read g.M.MapItem.made
           l.initial.reencoder l.yielded l.reencoder l.mapped;
     }
