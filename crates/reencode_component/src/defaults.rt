@@ -2,7 +2,7 @@
 use crate::component::ReencodeComponent;
 use crate::indices::ReencodeComponentIndices;
 use crate::items::ReencodeComponentItems;
-use reencode_core::Reencode;
+use reencode_core::{Adding, Reencode, SectionRule};
 use reencode_hooks::{ByRule, Chain, IndexRule, Renamer, RoundtripReencoder};
 use reencode_items::ReencodeItems;
 
@@ -38,3 +38,7 @@ impl<A: ReencodeComponentIndices, B: ReencodeComponentIndices> DefaultComponentI
     for Chain<A, B> {}
 
 impl<A: ReencodeComponentIndices, B: ReencodeComponentIndices> DefaultComponent for Chain<A, B> {}
+
+impl<R: ReencodeComponentIndices, S: SectionRule> DefaultComponentItems for Adding<R, S> {}
+
+impl<R: ReencodeComponentIndices, S: SectionRule> DefaultComponent for Adding<R, S> {}

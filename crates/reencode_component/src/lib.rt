@@ -1,6 +1,7 @@
 //! The re-encoding of a component (Component Model, Binary Format).
 #![tactic(auto)]
 
+mod adding;
 mod answer;
 mod chain;
 mod component;

@@ -159,8 +159,11 @@ pub fn element_items<T: ReencodeItems>(
             Ok(w::Elements::Functions(functions))
         }
         r::ElementItems::Expressions(ty, expressions) => {
-            let expressions =
-                map_items::<T, ExpressionItems, r::ConstExpr, w::ConstExpr>(reencoder, alloc, expressions)?;
+            let expressions = map_items::<T, ExpressionItems, r::ConstExpr, w::ConstExpr>(
+                reencoder,
+                alloc,
+                expressions,
+            )?;
             let ty = reencoder.ref_type(ty)?;
             Ok(w::Elements::Expressions(ty, expressions))
         }

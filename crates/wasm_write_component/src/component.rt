@@ -1,5 +1,5 @@
 //! A component under construction.
-ghost use Rattle.std.specs.Prelude.{◌≡◌, ◌++◌, ◌<◌, ◌≤◌, [], length, take, vec_len, OnOk, OnErr, IfOk, IfErr};
+ghost use Rattle.std.specs.Prelude.{◌≡◌, ◌<◌, ◌≤◌, [], length, OnOk, OnErr, IfOk, IfErr};
 ghost use Rattle.std.proofs.Common.{lit≤};
 ghost use Rattle.wasm_write.specs.Faults.{IfTooLarge};
 ghost use Rattle.wasm_write.specs.Sections.{AllFit, module_bytes, section_row, with_section};
@@ -154,6 +154,12 @@ impl<'a> Section for NestedComponentSection<'a> {
             Ok(()) => Ok(()),
             Err(_) => Err(NoMemory),
         }
+    }
+
+    // The header of a module is as long.
+    fn known_len(&self) -> Option<usize> {
+        let component = self.0;
+        Some(component.sections.as_slice().len())
     }
 }
 
