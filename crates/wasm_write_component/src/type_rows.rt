@@ -2,7 +2,7 @@
 ghost use Rattle.std.specs.Prelude.{◌≡◌, ◌++◌, take, vec_len, OnOk, OnErr, IfErr};
 ghost use Rattle.wasm_shapes.specs.Tree.{Tree, normal};
 ghost use Rattle.wasm_shapes.specs.Types.{led};
-ghost use Rattle.wasm_shapes.specs.Shape.{Shape, lead};
+ghost use Rattle.wasm_shapes.specs.Shape.{Shape};
 ghost use Rattle.wasm_shapes.specs.Spells.{Spells};
 ghost use Rattle.wasm_shapes.specs.Fits.{InRange};
 ghost use Rattle.wasm_types.specs.ComponentTrees.{core_group_tree};
