@@ -12,7 +12,7 @@ use wasm_write::{
 };
 
 /// A final type without supertypes, that is not shared and has no descriptor.
-fn alone(alloc: Global, inner: CompositeInnerType) -> SubType {
+pub(crate) fn alone(alloc: Global, inner: CompositeInnerType) -> SubType {
     SubType {
         is_final: true,
         supertype_idxs: List::new(alloc),
@@ -34,7 +34,7 @@ pub(crate) fn list_of<T: Copy + Drop>(alloc: Global, items: &[T]) -> Result<List
 }
 
 /// The group that is one type alone.
-fn bare(alloc: Global, ty: SubType) -> Result<RecGroup, NoMemory> {
+pub(crate) fn bare(alloc: Global, ty: SubType) -> Result<RecGroup, NoMemory> {
     let mut types = List::new(alloc);
     types.push(ty)?;
     Ok(RecGroup {
@@ -55,7 +55,7 @@ fn with_imm(
 }
 
 /// The group of a function that takes two numbers and gives one.
-fn binary_type(alloc: Global) -> Result<RecGroup, NoMemory> {
+pub(crate) fn binary_type(alloc: Global) -> Result<RecGroup, NoMemory> {
     let params = list_of(alloc, &[ValType::I32, ValType::I32])?;
     let results = list_of(alloc, &[ValType::I32])?;
     let inner = CompositeInnerType::Func(FuncType { params, results });

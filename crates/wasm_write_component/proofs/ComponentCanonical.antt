@@ -40,7 +40,7 @@ async_is : (a : Bool) → Is asynchronous (async_tree a)
 async_is false = row_is asynchronous 0 Is.fixed
 async_is true = row_is asynchronous 1 Is.fixed
 
-result_is : (r : Option ComponentValType) → Is function_result (result_tree r)
+pub result_is : (r : Option ComponentValType) → Is function_result (result_tree r)
 result_is (Some ty) = row_is function_result 0 (Is.seq Is.fixed (extern.value_is ty))
 result_is None = row_is function_result 1 (Is.seq Is.fixed Is.fixed)
 

@@ -24,7 +24,7 @@ use Rattle.wasm_types.specs.ComponentTrees.{component_export_tree, component_imp
 abbrev pub SpelledAs : Shape → Tree → Type 0
 SpelledAs s t = ∥ Spells s (normal t) t ∥₁
 
-primitive_is : (t : PrimitiveValType) → Is primitive (primitive_tree t)
+pub primitive_is : (t : PrimitiveValType) → Is primitive (primitive_tree t)
 primitive_is ty.Bool = row_is primitive 0 Is.fixed
 primitive_is _ = row_is primitive _ Is.fixed
 

@@ -2,3 +2,4 @@ pub mod AliasRows
 pub mod ExternRows
 pub mod InstanceRows
 pub mod ComponentCanonical
+pub mod TypeSpelling

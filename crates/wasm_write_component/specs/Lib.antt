@@ -1,3 +1,4 @@
 pub mod Aliases
 pub mod ComponentBytes
 pub mod ComponentRows
+pub mod TypeRows

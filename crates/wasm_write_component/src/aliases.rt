@@ -77,7 +77,7 @@ fn write_export(
 }
 
 /// Appends two numbers behind some bytes, or a part of that where memory runs out.
-fn write_outer(out: &mut Vec<u8>, front: &[u8], count: u32, index: u32) -> Result<(), NoMemory>
+pub fn write_outer(out: &mut Vec<u8>, front: &[u8], count: u32, index: u32) -> Result<(), NoMemory>
     ensures ok { OnOk result (out.new.items
         ≡ out.old.items ++ (front.now ++ (leb count ++ leb index))) }
     ensures err { OnErr result (take (vec_len out.old) out.new.items ≡ out.old.items) }

@@ -42,7 +42,7 @@ fn write_async(out: &mut Vec<u8>, async_: bool) -> Result<(), NoMemory>
 }
 
 /// Appends the type of one result, or that there is none, or a part of it where memory runs out.
-fn write_result(out: &mut Vec<u8>, ty: Option<ComponentValType>) -> Result<(), NoMemory>
+pub fn write_result(out: &mut Vec<u8>, ty: Option<ComponentValType>) -> Result<(), NoMemory>
     ensures ok { OnOk result (out.new.items ≡ out.old.items ++ normal (result_tree ty)) }
     ensures in_range { OnOk result (InRange (result_tree ty)) }
     ensures err { OnErr result (take (vec_len out.old) out.new.items ≡ out.old.items) }

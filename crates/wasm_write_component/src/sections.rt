@@ -53,6 +53,12 @@ pub type ComponentInstanceSection = RowSection<Of<component_kinds::ComponentInst
 /// A section of canonical functions. `add` takes a `CanonicalFunction`.
 pub type CanonicalFunctionSection = RowSection<Of<component_kinds::CanonicalFunctions>>;
 
+/// A section of core types. `add` takes a `CoreType`.
+pub type CoreTypeSection = RowSection<Of<component_kinds::CoreTypes>>;
+
+/// A type section of a component. `add` takes a `ComponentTypeRow`.
+pub type ComponentTypeSection = RowSection<Of<component_kinds::ComponentTypes>>;
+
 /// A start section of a component: the function that starts it, its arguments, and how many results it has.
 #[derive(Drop)]
 pub struct ComponentStartSection {

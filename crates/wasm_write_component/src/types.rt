@@ -1,9 +1,11 @@
 //! What the writers take.
 use wasm_leb::List;
 pub use wasm_types::{
-    CanonicalOption, ComponentArg, ComponentExport, ComponentExternalKind as ComponentExportKind,
-    ComponentImport, ComponentInstance, ComponentOuterAliasKind, ComponentTypeRef,
-    ComponentValType, InstantiationArg, InstantiationArgKind, PrimitiveValType, TypeBounds,
+    CanonicalOption, ComponentArg, ComponentDefinedType, ComponentExport,
+    ComponentExternalKind as ComponentExportKind, ComponentFuncType, ComponentImport,
+    ComponentInstance, ComponentOuterAliasKind, ComponentTypeRef, ComponentValType,
+    InstantiationArg, InstantiationArgKind, OuterAliasKind, PrimitiveValType, TypeBounds,
+    VariantCase,
 };
 pub use wasm_write::{Export, ExportKind, ValType};
 

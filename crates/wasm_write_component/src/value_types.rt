@@ -13,7 +13,7 @@ use wasm_leb::{NoMemory, write_index, write_u32};
 use wasm_write::{WriteFault, write_name};
 
 /// The byte of a primitive type.
-fn byte_of(ty: PrimitiveValType) -> u8
+pub fn byte_of(ty: PrimitiveValType) -> u8
     ensures { result ≡ primitive_byte ty }
 {
     match ty {
