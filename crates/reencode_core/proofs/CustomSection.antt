@@ -43,7 +43,7 @@ keeps_added row old new (Err e) adds = keeps_none adds.0
 module _ {S E : Type 0} (asked : Asks S E) (k id : ℕ) (head : Tree) (first : normal head ≡ id ∷ []) (c : ℕ) (s m : S) (t u : Tree) (still : walk asked c s head ≡ accepted head s)
     (walked : walk asked c s t ≡ accepted u m) where
   -- its body was accepted: it is added, or it is too large
-  framed_added : (old new : Sections) (r : Result (Unit {0}) (Error E)) → old.ceiling ≡ c → AddsMapped {E = E} (section_row id (normal u)) old (Ok tt) new r →
+  pub framed_added : (old new : Sections) (r : Result (Unit {0}) (Error E)) → old.ceiling ≡ c → AddsMapped {E = E} (section_row id (normal u)) old (Ok tt) new r →
       GivesAdded asked id (s, old) (framed k head t) (m, new) r
   framed_added old new (Ok v) ceiling adds =
       let fits : length (normal u) ≤ old.ceiling = adds.1 in
