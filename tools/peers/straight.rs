@@ -750,6 +750,40 @@ fn print_digits(out: &mut impl Write, bytes: &[u8]) -> std::io::Result<()> {
     Ok(())
 }
 
+/// The same a digit at a time, with a test of each place, as the crate `hex` writes them.
+fn print_each(out: &mut impl Write, bytes: &[u8]) -> std::io::Result<()> {
+    let digits = b"0123456789abcdef";
+    let mut text = vec![0; 1 << 16];
+    for piece in bytes.chunks(1 << 15) {
+        let len = 2 * piece.len();
+        let places = (0..len).step_by(2).zip((0..len).skip(1).step_by(2));
+        for (byte, (high, low)) in piece.iter().zip(places) {
+            text[high] = digits[usize::from(byte >> 4)];
+            text[low] = digits[usize::from(byte & 15)];
+        }
+        out.write_all(&text[..len])?;
+    }
+    Ok(())
+}
+
+fn value(digit: u8, place: usize) -> Result<u8, (char, usize)> {
+    match digit {
+        b'A'..=b'F' => Ok(digit - b'A' + 10),
+        b'a'..=b'f' => Ok(digit - b'a' + 10),
+        b'0'..=b'9' => Ok(digit - b'0'),
+        _ => Err((digit as char, place)),
+    }
+}
+
+/// Blanks are taken out in place, and digits read two at a time, as the crate `hex` reads them.
+fn decode_each(mut text: Vec<u8>) -> Option<Vec<u8>> {
+    text.retain(|byte| !b" \t\r\n".contains(byte));
+    if text.len() % 2 != 0 {
+        return None;
+    }
+    text.chunks(2).enumerate().map(|(i, pair)| Ok(value(pair[0], 2 * i)? << 4 | value(pair[1], 2 * i + 1)?)).collect::<Result<_, (char, usize)>>().ok()
+}
+
 const DIGITS: [u8; 256] = {
     let mut digits = [255; 256];
     let mut n = 0;
@@ -801,6 +835,10 @@ fn tables(text: &str) -> Option<[Vec<u32>; 9]> {
 
 fn main() {
     let mut words: Vec<String> = std::env::args().skip(1).collect();
+    let each = words.first().is_some_and(|word| word == "-d");
+    if each {
+        words.remove(0);
+    }
     let hexadecimal = words.first().is_some_and(|word| word == "-x");
     if hexadecimal {
         words.remove(0);
@@ -813,7 +851,7 @@ fn main() {
             Some(tables)
         }
         _ => {
-            eprintln!("usage: [-x] plain | rename FILE");
+            eprintln!("usage: [-d] [-x] plain | rename FILE");
             exit(2)
         }
     };
@@ -822,7 +860,7 @@ fn main() {
         exit(3);
     }
     if hexadecimal {
-        let Some(made) = decode(&bytes) else { exit(14) };
+        let Some(made) = (if each { decode_each(bytes) } else { decode(&bytes) }) else { exit(14) };
         bytes = made;
     }
     let (made, counts) = match renaming {
@@ -848,7 +886,8 @@ fn main() {
     }
     let _ = writeln!(said, " section_hook {}", counts.sections);
     let mut out = std::io::stdout().lock();
-    if print_digits(&mut out, &made).and_then(|()| out.write_all(said.as_bytes())).and_then(|()| out.flush()).is_err() {
+    let printed = if each { print_each(&mut out, &made) } else { print_digits(&mut out, &made) };
+    if printed.and_then(|()| out.write_all(said.as_bytes())).and_then(|()| out.flush()).is_err() {
         exit(4);
     }
 }
