@@ -2,6 +2,7 @@
 #![tactic(auto)]
 
 mod answer;
+mod canonical;
 mod chain;
 mod component;
 pub mod component_utils;
@@ -9,9 +10,11 @@ mod default_bodies;
 mod defaults;
 mod hooked;
 mod indices;
+mod item_lists;
 mod items;
 mod kinds;
 mod mapped;
+mod row_sections;
 mod rows;
 
 pub use answer::AnswerComponentVisits;
