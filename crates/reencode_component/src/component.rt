@@ -1,12 +1,14 @@
 //! What a re-encoder does with each row and section of a component.
-ghost use Rattle.wasm_shapes.specs.Component.{alias, canonical_function, component_export_row, component_instance_row, extern_row, instance_row};
+ghost use Rattle.std.specs.Prelude.{◌≤◌};
+ghost use Rattle.wasm_shapes.specs.Component.{alias, canonical_function, component_export_row, component_instance_row, component_section_tree, extern_row, instance_row, unknown_component_tree};
 ghost use Rattle.wasm_types.specs.ComponentTrees.{component_export_tree, component_instance_tree, instance_tree};
 ghost use Rattle.wasm_read.specs.Types.{export_tree};
 ghost use Rattle.wasm_read_component.specs.ComponentRows as read;
 ghost use Rattle.reencode_core.specs.Clauses.{RowClauses, RowsClauses};
+ghost use Rattle.reencode_component.specs.Clauses.{AddedClauses};
 
 use crate::items::ReencodeComponentItems;
-use crate::{default_bodies, row_sections, rows};
+use crate::{default_bodies, row_sections, rows, sections};
 use reencode_core::Reencode;
 use reencode_hooks::Error;
 use std::alloc::Global;
@@ -150,5 +152,33 @@ pub trait ReencodeComponent: Reencode + ReencodeComponentItems {
             self.old instances.old self.new instances.new result }
     {
         rows::parse_instance(self, alloc, instances, instance)
+    }
+
+    /// Maps the function that starts a component by `component_func_index`, and then its arguments by `component_value_index`,
+    /// and adds the section.
+    fn parse_component_start_section(
+        &mut self,
+        alloc: Global,
+        component: &mut w::Component,
+        func: r::ComponentStartFunction,
+    ) -> Result<(), Error<Self::Error>>
+        ensures { AddedClauses Self.ReencodeIndices 9 (component_section_tree 9 (read.start_tree func))
+            self.old component.old self.new component.new result }
+    {
+        sections::parse_component_start_section(self, alloc, component, func)
+    }
+
+    /// Adds a section of an id that no table knows, by its bytes.
+    fn parse_unknown_component_section(
+        &mut self,
+        component: &mut w::Component,
+        id: u8,
+        contents: &[u8],
+    ) -> Result<(), Error<Self::Error>>
+        requires { id ≤ 127 }
+        ensures { AddedClauses Self.ReencodeIndices id (unknown_component_tree id contents.now)
+            self.old component.old self.new component.new result }
+    {
+        sections::parse_unknown_component_section(self, component, id, contents)
     }
 }

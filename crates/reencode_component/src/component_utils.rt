@@ -18,6 +18,7 @@ pub use crate::row_sections::{parse_component_alias_section, parse_component_imp
 pub use crate::rows::{
     parse_component_canonical, parse_component_export, parse_component_instance, parse_instance,
 };
+pub use crate::sections::{parse_component_start_section, parse_unknown_component_section};
 use crate::{default_bodies, hooked};
 use reencode_hooks::Error;
 use std::alloc::Global;

@@ -117,3 +117,18 @@ impl<'a, T: ReencodeComponentItems> MapItem<T, r::ComponentArg<'a>, w::Component
         Ok(component_arg(reencoder, item))
     }
 }
+
+/// The values that the function takes that starts a component.
+pub(crate) struct ComponentValues;
+
+impl<T: ReencodeComponentItems> MapItem<T, u32, u32> for ComponentValues {
+    ghost use Rattle.wasm_write_component.specs.ComponentRows.{value_index_tree};
+
+    ghost read = { value_index_tree };
+
+    ghost made = { value_index_tree };
+
+    fn map(reencoder: &mut T, _alloc: Global, item: u32) -> Result<u32, Error<T::Error>> {
+        Ok(reencoder.component_value_index(item))
+    }
+}

@@ -16,6 +16,7 @@ mod kinds;
 mod mapped;
 mod row_sections;
 mod rows;
+mod sections;
 
 pub use answer::AnswerComponentVisits;
 pub use component::ReencodeComponent;

@@ -1,11 +1,15 @@
 //! Rows of a component's sections as methods of items map them, each once.
-ghost use Rattle.wasm_types.specs.ComponentTrees.{component_export_tree, component_import_tree, component_instance_tree, instance_tree};
+ghost use Rattle.wasm_types.specs.ComponentTrees.{component_export_tree, component_import_tree, component_instance_tree, component_start_tree, instance_tree};
 ghost use Rattle.wasm_read.specs.Types.{export_tree};
+ghost use Rattle.wasm_read_component.specs.ComponentRows.{start_tree};
 ghost use Rattle.wasm_write_component.specs.ComponentRows as write;
+ghost use Rattle.wasm_write_component.specs.declared.sections.ComponentStartSection.{ComponentStartSection};
 ghost use Rattle.reencode_items.specs.Clauses.{ListClauses};
 ghost use Rattle.reencode_component.specs.Clauses.{ItemClauses};
 
-use crate::item_lists::{ComponentArgs, CoreExports, InlineExports, InstantiationArgs};
+use crate::item_lists::{
+    ComponentArgs, ComponentValues, CoreExports, InlineExports, InstantiationArgs,
+};
 use crate::items::ReencodeComponentItems;
 use reencode_core::map_items;
 use reencode_hooks::Error;
@@ -110,4 +114,23 @@ pub(crate) fn component_instance<'a, T: ReencodeComponentItems>(
             Ok(w::ComponentInstance::FromExports(exports))
         }
     }
+}
+
+/// The function that starts a component, by `component_func_index`, and then each of its arguments by `component_value_index`.
+pub(crate) fn start<T: ReencodeComponentItems>(
+    reencoder: &mut T,
+    alloc: Global,
+    func: r::ComponentStartFunction,
+) -> Result<w::ComponentStartSection, Error<T::Error>>
+    ensures { ListClauses T.ReencodeIndices (start_tree func)
+        (λ (made : ComponentStartSection). component_start_tree made.function_index made.args made.results)
+        reencoder.old reencoder.new result }
+{
+    let function_index = reencoder.component_func_index(func.func_index);
+    let args = map_items::<T, ComponentValues, u32, u32>(reencoder, alloc, func.arguments)?;
+    Ok(w::ComponentStartSection {
+        function_index,
+        args,
+        results: func.results,
+    })
 }
