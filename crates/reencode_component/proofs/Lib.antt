@@ -1,1 +1,4 @@
 pub mod SortKept
+pub mod Walked
+pub mod OperandsWalked
+pub mod Added

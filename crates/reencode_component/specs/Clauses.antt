@@ -1,11 +1,21 @@
 -- What a call that maps an item promises, whole: one record for each kind of call, which the method, its function and its body cite.
 -- `i` are the meanings of the reencoder, `s` is its state before the call, and `m` the one after it.
-use Rattle.std.specs.Prelude.{◌≡◌, ℕ, Result, Ok, IsTrue}
-use Rattle.wasm_shapes.specs.Tree.{Tree}
+use Rattle.std.specs.Prelude.{◌≡◌, ℕ, List, Result, Ok, IfErr, IfOk, IsTrue}
+use Rattle.wasm_shapes.specs.Tree.{Tree, visits}
+use Rattle.wasm_types.specs.declared.components.CanonicalOption.{CanonicalOption}
+use Rattle.wasm_types.specs.declared.components.Operands.{Operands}
+use Rattle.wasm_types.specs.ComponentTrees.{operands_form}
+use Rattle.wasm_read.specs.declared.types.UnpackedIndex.{UnpackedIndex}
+use Rattle.wasm_read_component.specs.ComponentRows as read
+use Rattle.wasm_write_component.specs.ComponentRows as write
+use Rattle.wasm_write.specs.Sections.{Sections}
 use Rattle.reencode_hooks.specs.declared.error.Error.{Error}
 use Rattle.reencode_hooks.specs.declared.indices.ReencodeIndices.{Ghosts}
-use Rattle.reencode_hooks.specs.Run.{NeverWants}
+use Rattle.reencode_hooks.specs.Run.{LeavesVisited, NeverWants, ask}
 use Rattle.reencode_items.specs.Maps.{Maps}
+use Rattle.reencode_core.specs.Clauses.{asks}
+use Rattle.reencode_core.specs.Errors.{IfParse}
+use Rattle.reencode_core.specs.Sections.{GivesAdded, KeepsModule}
 
 -- ---- by hooks alone
 
@@ -35,4 +45,27 @@ ItemClauses i t view s m result =
     record {
       default : IsTrue i.keeps_defaults → Maps i.reply i.next s t view m result;
       sure : IsTrue i.keeps_defaults → NeverWants i.sure result;
+    }
+
+-- What stands behind the byte of a canonical function is mapped, and keeps its form.
+abbrev pub OperandsClauses : {S E : Type 0} → Ghosts S E → Operands UnpackedIndex (List CanonicalOption) → S → S
+    → Result (Operands ℕ (List CanonicalOption)) (Error E) → Type 0
+OperandsClauses i o s m result =
+    record {
+      form : IfOk result (λ made. operands_form made ≡ operands_form o);
+      default : IsTrue i.keeps_defaults → Maps i.reply i.next s (read.operands_tree o) write.operands_tree m result;
+      after_error : IsTrue i.keeps_defaults → IsTrue i.sure → LeavesVisited (ask i.reply i.next) s (visits (read.operands_tree o)) m result;
+    }
+
+-- ---- sections
+
+-- A section is mapped whole and added under an id; `t` is its tree, and `old` and `new` are what the component holds. A fault of
+-- the bytes is no error of it.
+abbrev pub AddedClauses : {S E : Type 0} → Ghosts S E → ℕ → Tree → S → Sections → S → Sections → Result (Unit {0}) (Error E) → Type 0
+AddedClauses i id t s old m new result =
+    record {
+      kept : KeepsModule old new;
+      default : IsTrue i.keeps_defaults → GivesAdded (asks i) id (s, old) t (m, new) result;
+      after_error : IsTrue i.keeps_defaults → IsTrue i.sure → LeavesVisited (asks i) s (visits t) m result;
+      usual : IsTrue i.keeps_defaults → IfErr result (λ e. IfParse e (λ _. ⊥));
     }

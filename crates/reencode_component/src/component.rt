@@ -1,11 +1,17 @@
 //! What a re-encoder does with each row and section of a component.
-ghost use Rattle.wasm_types.specs.ComponentTrees.{component_export_tree};
-ghost use Rattle.reencode_core.specs.Clauses.{RowClauses};
+ghost use Rattle.std.specs.Prelude.{◌≤◌};
+ghost use Rattle.wasm_shapes.specs.Component.{alias, canonical_function, component_export_row, component_instance_row, component_section_tree, extern_row, instance_row, unknown_component_tree};
+ghost use Rattle.wasm_types.specs.ComponentTrees.{component_export_tree, component_instance_tree, instance_tree};
+ghost use Rattle.wasm_read.specs.Types.{export_tree};
+ghost use Rattle.wasm_read_component.specs.ComponentRows as read;
+ghost use Rattle.reencode_core.specs.Clauses.{RowClauses, RowsClauses};
+ghost use Rattle.reencode_component.specs.Clauses.{AddedClauses};
 
 use crate::items::ReencodeComponentItems;
-use crate::rows;
+use crate::{default_bodies, row_sections, rows, sections};
 use reencode_core::Reencode;
 use reencode_hooks::Error;
+use std::alloc::Global;
 use wasm_read_component as r;
 use wasm_write_component as w;
 
@@ -13,6 +19,45 @@ use wasm_write_component as w;
 ///
 /// The clauses of a method are the fields of the record that it cites (`specs/Clauses.antt` of `reencode_core`).
 pub trait ReencodeComponent: Reencode + ReencodeComponentItems {
+    /// Maps the rows that the reader still has, each type by `component_type_ref`, and adds each row once it is mapped.
+    fn parse_component_import_section(
+        &mut self,
+        alloc: Global,
+        imports: &mut w::ComponentImportSection,
+        section: r::ComponentImportSectionReader<'_>,
+    ) -> Result<(), Error<Self::Error>>
+        ensures { RowsClauses Self.ReencodeIndices extern_row section.entry
+            self.old imports.old self.new imports.new result }
+    {
+        row_sections::parse_component_import_section(self, alloc, imports, section)
+    }
+
+    /// Maps the rows that the reader still has, each by `component_alias`, and adds each row once it is mapped.
+    fn parse_component_alias_section(
+        &mut self,
+        alloc: Global,
+        aliases: &mut w::ComponentAliasSection,
+        section: r::ComponentAliasSectionReader<'_>,
+    ) -> Result<(), Error<Self::Error>>
+        ensures { RowsClauses Self.ReencodeIndices alias section.entry
+            self.old aliases.old self.new aliases.new result }
+    {
+        row_sections::parse_component_alias_section(self, alloc, aliases, section)
+    }
+
+    /// Maps the rows that the reader still has, each by `parse_component_export`.
+    fn parse_component_export_section(
+        &mut self,
+        alloc: Global,
+        exports: &mut w::ComponentExportSection,
+        section: r::ComponentExportSectionReader<'_>,
+    ) -> Result<(), Error<Self::Error>>
+        ensures { RowsClauses Self.ReencodeIndices component_export_row section.entry
+            self.old exports.old self.new exports.new result }
+    {
+        default_bodies::each_row!(section, alloc, row => self.parse_component_export(exports, row))
+    }
+
     /// Maps an export by `component_export_kind`, `component_external_index` and, where it has a type, `component_type_ref`,
     /// and adds it.
     fn parse_component_export(
@@ -24,5 +69,116 @@ pub trait ReencodeComponent: Reencode + ReencodeComponentItems {
             self.old exports.old self.new exports.new result }
     {
         rows::parse_component_export(self, exports, export)
+    }
+
+    /// Maps the rows that the reader still has, each by `parse_component_canonical`.
+    fn parse_component_canonical_section(
+        &mut self,
+        alloc: Global,
+        canonical: &mut w::CanonicalFunctionSection,
+        section: r::ComponentCanonicalSectionReader<'_>,
+    ) -> Result<(), Error<Self::Error>>
+        ensures { RowsClauses Self.ReencodeIndices canonical_function section.entry
+            self.old canonical.old self.new canonical.new result }
+    {
+        default_bodies::each_row!(section, alloc, row => self.parse_component_canonical(alloc, canonical, row))
+    }
+
+    /// Maps a canonical function and adds it. Indices are asked in the order of the bytes, but that the options of a lifted
+    /// function are asked after its type, and the options of `task.return` and of the reads and writes of streams and futures
+    /// before the type. Options are mapped by `canonical_option`, results by `component_val_type`, and the type of a slot by
+    /// `val_type`.
+    fn parse_component_canonical(
+        &mut self,
+        alloc: Global,
+        section: &mut w::CanonicalFunctionSection,
+        func: r::CanonicalFunction,
+    ) -> Result<(), Error<Self::Error>>
+        ensures { RowClauses Self.ReencodeIndices (read.canonical_tree func)
+            self.old section.old self.new section.new result }
+    {
+        rows::parse_component_canonical(self, alloc, section, func)
+    }
+
+    /// Maps the rows that the reader still has, each by `parse_component_instance`.
+    fn parse_component_instance_section(
+        &mut self,
+        alloc: Global,
+        instances: &mut w::ComponentInstanceSection,
+        section: r::ComponentInstanceSectionReader<'_>,
+    ) -> Result<(), Error<Self::Error>>
+        ensures { RowsClauses Self.ReencodeIndices component_instance_row section.entry
+            self.old instances.old self.new instances.new result }
+    {
+        default_bodies::each_row!(section, alloc, row => self.parse_component_instance(alloc, instances, row))
+    }
+
+    /// Maps an instance and adds it: its component by `component_index` and then what is handed to it, or what it exports, by
+    /// `component_export_kind` and `component_external_index`.
+    fn parse_component_instance(
+        &mut self,
+        alloc: Global,
+        instances: &mut w::ComponentInstanceSection,
+        instance: r::ComponentInstance<'_>,
+    ) -> Result<(), Error<Self::Error>>
+        ensures { RowClauses Self.ReencodeIndices (component_instance_tree instance.entry)
+            self.old instances.old self.new instances.new result }
+    {
+        rows::parse_component_instance(self, alloc, instances, instance)
+    }
+
+    /// Maps the rows that the reader still has, each by `parse_instance`.
+    fn parse_instance_section(
+        &mut self,
+        alloc: Global,
+        instances: &mut w::InstanceSection,
+        section: r::InstanceSectionReader<'_>,
+    ) -> Result<(), Error<Self::Error>>
+        ensures { RowsClauses Self.ReencodeIndices instance_row section.entry
+            self.old instances.old self.new instances.new result }
+    {
+        default_bodies::each_row!(section, alloc, row => self.parse_instance(alloc, instances, row))
+    }
+
+    /// Maps a core instance and adds it: its module by `module_index` and then what is handed to it by `instance_index`, or
+    /// what it exports, by `export_kind` and `external_index`.
+    fn parse_instance(
+        &mut self,
+        alloc: Global,
+        instances: &mut w::InstanceSection,
+        instance: r::Instance<'_>,
+    ) -> Result<(), Error<Self::Error>>
+        ensures { RowClauses Self.ReencodeIndices (instance_tree export_tree instance.entry)
+            self.old instances.old self.new instances.new result }
+    {
+        rows::parse_instance(self, alloc, instances, instance)
+    }
+
+    /// Maps the function that starts a component by `component_func_index`, and then its arguments by `component_value_index`,
+    /// and adds the section.
+    fn parse_component_start_section(
+        &mut self,
+        alloc: Global,
+        component: &mut w::Component,
+        func: r::ComponentStartFunction,
+    ) -> Result<(), Error<Self::Error>>
+        ensures { AddedClauses Self.ReencodeIndices 9 (component_section_tree 9 (read.start_tree func))
+            self.old component.old self.new component.new result }
+    {
+        sections::parse_component_start_section(self, alloc, component, func)
+    }
+
+    /// Adds a section of an id that no table knows, by its bytes.
+    fn parse_unknown_component_section(
+        &mut self,
+        component: &mut w::Component,
+        id: u8,
+        contents: &[u8],
+    ) -> Result<(), Error<Self::Error>>
+        requires { id ≤ 127 }
+        ensures { AddedClauses Self.ReencodeIndices id (unknown_component_tree id contents.now)
+            self.old component.old self.new component.new result }
+    {
+        sections::parse_unknown_component_section(self, component, id, contents)
     }
 }

@@ -3,6 +3,7 @@
 
 mod adding;
 mod answer;
+mod canonical;
 mod chain;
 mod component;
 pub mod component_utils;
@@ -10,10 +11,13 @@ mod default_bodies;
 mod defaults;
 mod hooked;
 mod indices;
+mod item_lists;
 mod items;
 mod kinds;
 mod mapped;
+mod row_sections;
 mod rows;
+mod sections;
 
 pub use answer::AnswerComponentVisits;
 pub use component::ReencodeComponent;

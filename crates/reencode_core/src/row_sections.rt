@@ -14,12 +14,11 @@ use std::alloc::Global;
 use wasm_read as r;
 use wasm_read::{ReadRow, SectionReader};
 use wasm_shapes::kinds;
-use wasm_shapes::kinds::RowKind;
 use wasm_write as w;
 use wasm_write::{RowOf, RowSection};
 
-/// A kind of section whose rows a reencoder maps by one call, to rows that a writer holds under a kind `W` of its own.
-pub trait MapRow<'a, T: ReencodeItems, W: RowKind, B: RowOf<W>>: ReadRow<'a> {
+/// A kind of section whose rows a reencoder maps by one call.
+pub trait MapRow<'a, T: ReencodeItems, B: RowOf<Self>>: ReadRow<'a> {
     /// What a row becomes.
     fn map(reencoder: &mut T, row: Self::Row) -> Result<B, Error<T::Error>>
         ensures default { IsTrue T.keeps_defaults
@@ -27,36 +26,35 @@ pub trait MapRow<'a, T: ReencodeItems, W: RowKind, B: RowOf<W>>: ReadRow<'a> {
         ensures sure { IsTrue T.keeps_defaults → NeverWants T.sure result };
 }
 
-impl<'a, T: ReencodeItems> MapRow<'a, T, kinds::Functions, u32> for kinds::Functions {
+impl<'a, T: ReencodeItems> MapRow<'a, T, u32> for kinds::Functions {
     fn map(reencoder: &mut T, row: u32) -> Result<u32, Error<T::Error>> {
         reencoder.type_index(row)
     }
 }
 
-impl<'a, T: ReencodeItems> MapRow<'a, T, kinds::Memories, w::MemoryType> for kinds::Memories {
+impl<'a, T: ReencodeItems> MapRow<'a, T, w::MemoryType> for kinds::Memories {
     fn map(reencoder: &mut T, row: r::MemoryType) -> Result<w::MemoryType, Error<T::Error>> {
         reencoder.memory_type(row)
     }
 }
 
-impl<'a, T: ReencodeItems> MapRow<'a, T, kinds::Tags, w::TagType> for kinds::Tags {
+impl<'a, T: ReencodeItems> MapRow<'a, T, w::TagType> for kinds::Tags {
     fn map(reencoder: &mut T, row: r::TagType) -> Result<w::TagType, Error<T::Error>> {
         reencoder.tag_type(row)
     }
 }
 
 /// Maps the rows that the reader still has, and adds each row once it is mapped.
-pub fn map_section<'a, T, K, W, B>(
+pub fn map_section<'a, T, K, B>(
     reencoder: &mut T,
     alloc: Global,
-    sink: &mut RowSection<W>,
+    sink: &mut RowSection<K>,
     section: SectionReader<'a, K>,
 ) -> Result<(), Error<T::Error>>
 where
     T: ReencodeItems,
-    K: MapRow<'a, T, W, B>,
-    W: RowKind,
-    B: RowOf<W> + Drop,
+    K: MapRow<'a, T, B>,
+    B: RowOf<K> + Drop,
     requires { IsItem K.shape }
     ensures { RowsClauses T.ReencodeIndices K.shape section.entry
         reencoder.old sink.old reencoder.new sink.new result }

@@ -1,0 +1,10 @@
+use Rattle.wasm_types.specs.declared.components.Operands.TheVariants as operands
+use Rattle.wasm_types.specs.ComponentTrees.{canonical_options_tree, type_tree}
+use Rattle.reencode_component.proofs.OperandsWalked.{hands_on_operands}
+use Rattle.reencode_component.proofs.Walked.{early_ended, list_ended}
+use Rattle.reencode_component.proofs.canonical.type_and_options.Goals as goal
+
+pub returns-in_err-options : goal.returns-in_err-options
+returns-in_err-options g c =
+    hands_on_operands g.T.ReencodeIndices (operands.TypeAndOptions c.args.ty c.args.options.now) _
+    (early_ended (type_tree c.args.ty) (list_ended (canonical_options_tree c.args.options.now) canonical_options_tree c.in_err-options.ensures)) _ c.from_residual.ensures.1

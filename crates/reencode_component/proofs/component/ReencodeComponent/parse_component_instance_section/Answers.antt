@@ -1,0 +1,24 @@
+use Rattle.std.proofs.Common.{refl}
+use Rattle.wasm_shapes.specs.Component.{component_instance_row}
+use Rattle.wasm_shapes.specs.Drawn.{IsItem}
+use Rattle.reencode_core.proofs.EachRow.{rows_begun, rows_ended, rows_stuck, rows_added, rows_refused_at}
+use Rattle.reencode_component.proofs.component.ReencodeComponent.parse_component_instance_section.Goals as goal
+
+pub rows-init : goal.rows-init
+rows-init g c = rows_begun g.Self.ReencodeIndices (IsItem.component_row 5 component_instance_row refl) refl refl
+
+pub rows-preserved : goal.rows-preserved
+rows-preserved g c =
+    let row = rw c.in-Some.is at c.in_ok-row.ensures.row in
+    rows_added g.Self.ReencodeIndices c.rows.invariant row c.in_ok-parse_component_instance.ensures
+
+pub returns-in_err-row : goal.returns-in_err-row
+returns-in_err-row g c = rows_stuck g.Self.ReencodeIndices c.rows.invariant _ c.in_err-row.ensures.err _ c.from_residual.ensures.1
+
+pub returns-in_err-parse_component_instance : goal.returns-in_err-parse_component_instance
+returns-in_err-parse_component_instance g c =
+    let row = rw c.in-Some.is at c.in_ok-row.ensures.row in
+    rows_refused_at g.Self.ReencodeIndices c.rows.invariant row _ c.in_err-parse_component_instance.ensures _ c.from_residual-in_err-parse_component_instance.ensures.1
+
+pub returns : goal.returns
+returns g c = rows_ended g.Self.ReencodeIndices c.rows.invariant (rw c.in_default.is at c.in_ok-row.ensures.ended)
