@@ -7,7 +7,7 @@ ghost use Rattle.wasm_shapes.specs.Sound.{sound};
 ghost use Rattle.wasm_shapes.specs.Tree.{Tree};
 ghost use Rattle.wasm_shapes.specs.Types.{vector_tree, tagged_label, tagged_label_tree, catch_row, handle_row};
 ghost use Rattle.wasm_read.specs.Types.{val_type_tree, field_type_tree};
-ghost use Rattle.wasm_read.specs.VectorRows.{items_closed, items_sound};
+ghost use Rattle.wasm_read.specs.VectorRows.{VectorBeside, items_closed, items_sound};
 ghost use Rattle.wasm_read.specs.Immediates.{local_tree, catch_tree, handle_tree};
 
 use crate::section_reader::ReadRow;
@@ -364,6 +364,8 @@ where
     K::Row: Drop,
     ensures some { IfOk result (λ o. IfSome o (λ r.
         Begins (Shape.vec K.shape) bytes.now (vector_tree (map K.tree r.0)) r.1.now)) }
+    ensures beside { IfOk result (λ o. IfSome o (λ r.
+        VectorBeside K.shape K.tree K.beside bytes.now r.0 r.1.now)) }
     ensures counted { IfOk result (λ o. IfSome o (λ r. length r.0 < 2 ^ 32)) }
     ensures none { IfOk result (λ o. IfNone o (BeginsNone (Shape.vec K.shape) bytes.now)) }
 {

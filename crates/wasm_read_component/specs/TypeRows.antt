@@ -11,7 +11,7 @@ use Rattle.wasm_shapes.specs.Component.{component_declaration, instance_declarat
 use Rattle.wasm_types.specs.ComponentTrees.{component_defined_type_tree, component_func_type_tree, core_group_tree, extern_name_tree, resource_tree, type_ref_tree, component_import_tree}
 use Rattle.wasm_read.specs.Reading.{Standing, CountRead}
 use Rattle.wasm_read.specs.Types.{entity_tree, group_tree, val_type_tree}
-use Rattle.wasm_read_component.specs.Aliases.{alias_tree}
+use Rattle.wasm_read_component.specs.Aliases.{ComponentAlias, alias_tree, NotExact}
 use Rattle.wasm_read_component.specs.Scoped.{ScopedStanding}
 use Rattle.wasm_read_component.specs.declared.declarations.ComponentType.{ComponentType}
 use Rattle.wasm_read_component.specs.declared.declarations.ComponentType.TheVariants as component
@@ -106,15 +106,19 @@ declaration_of scope.Instance = instance_declaration
 abbrev pub extern_tree : List ℕ → Tree → Tree
 extern_tree name t = Tree.pair (extern_name_tree name) t
 
+-- an alias that is declared
+abbrev pub AliasStands : ComponentAlias → Tree → Type 0
+AliasStands a t = NotExact a × Exactly (Tree.row 2 (led 0x02 (alias_tree a))) t
+
 abbrev pub InstanceDeclarationStands : ℕ → InstanceTypeDeclaration → Tree → Type 0
 InstanceDeclarationStands depth (in_instance.CoreType ty) = Behind 0 0x00 (CoreTypeStands ty)
 InstanceDeclarationStands depth (in_instance.Type_ ty) = Behind 1 0x01 (TypeStands depth ty)
-InstanceDeclarationStands depth (in_instance.Alias alias) = Exactly (Tree.row 2 (led 0x02 (alias_tree alias)))
+InstanceDeclarationStands depth (in_instance.Alias alias) = AliasStands alias
 InstanceDeclarationStands depth (in_instance.Export name ty) = Exactly (Tree.row 3 (led 0x04 (extern_tree name.now (type_ref_tree ty))))
 
 abbrev pub ComponentDeclarationStands : ℕ → ComponentTypeDeclaration → Tree → Type 0
 ComponentDeclarationStands depth (in_component.CoreType ty) = Behind 0 0x00 (CoreTypeStands ty)
 ComponentDeclarationStands depth (in_component.Type_ ty) = Behind 1 0x01 (TypeStands depth ty)
-ComponentDeclarationStands depth (in_component.Alias alias) = Exactly (Tree.row 2 (led 0x02 (alias_tree alias)))
+ComponentDeclarationStands depth (in_component.Alias alias) = AliasStands alias
 ComponentDeclarationStands depth (in_component.Export name ty) = Exactly (Tree.row 4 (led 0x04 (extern_tree name.now (type_ref_tree ty))))
 ComponentDeclarationStands depth (in_component.Import row) = Exactly (Tree.row 3 (led 0x03 (component_import_tree row)))

@@ -1,5 +1,5 @@
 //! A reader of rows in which scopes may be opened.
-ghost use Rattle.std.specs.Prelude.{◌≡◌, ◌≤◌, ℕ, Bool, false, IfOk, IfErr, IfSome, IfNone, IsTrue, List};
+ghost use Rattle.std.specs.Prelude.{◌≡◌, ◌≤◌, ℕ, Bool, false, IfOk, IfErr, IfSome, IfNone, IsTrue};
 ghost use Rattle.wasm_leb.specs.Place.{BeginsNoNumber};
 ghost use Rattle.wasm_shapes.specs.Tree.{Tree};
 ghost use Rattle.wasm_shapes.specs.Depth.{BeginsNoneAt};

@@ -6,8 +6,8 @@ ghost use Rattle.wasm_shapes.specs.Component.{component_start};
 ghost use Rattle.wasm_types.specs.ComponentTrees.{component_export_tree, component_import_tree, component_instance_tree, instance_tree};
 ghost use Rattle.wasm_read.specs.Reading.{ReadsNoneOrWants};
 ghost use Rattle.wasm_read.specs.Types.{export_tree};
-ghost use Rattle.wasm_read_component.specs.Aliases.{alias_tree};
-ghost use Rattle.wasm_read_component.specs.ComponentRows.{canonical_tree, start_tree};
+ghost use Rattle.wasm_read_component.specs.Aliases.{alias_tree, NotExact};
+ghost use Rattle.wasm_read_component.specs.ComponentRows.{InstanceKinds, canonical_tree, start_tree};
 
 use crate::aliases::front_alias;
 use crate::canonical::front_canonical;
@@ -41,13 +41,15 @@ impl<K: RowKind> RowKind for Of<K> {
     ghost rows_sound = { K.rows_sound };
 }
 
-/// A reader of the rows of an alias section.
+/// A reader of the rows of an alias section. The sort of a function that a core instance exports is read as `Func`.
 pub type ComponentAliasSectionReader<'a> = SectionReader<'a, Of<component_kinds::Aliases>>;
 
 impl<'a> ReadRow<'a> for Of<component_kinds::Aliases> {
     type Row = ComponentAlias<'a>;
 
     ghost tree = { alias_tree };
+
+    ghost beside = { λ _ a. NotExact a };
 
     #[inline]
     fn front(
@@ -58,13 +60,16 @@ impl<'a> ReadRow<'a> for Of<component_kinds::Aliases> {
     }
 }
 
-/// A reader of the rows of a section of core instances. A row takes memory.
+/// A reader of the rows of a section of core instances. The byte behind the name of an export is that of its kind. A row takes
+/// memory.
 pub type InstanceSectionReader<'a> = SectionReader<'a, Of<component_kinds::Instances>>;
 
 impl<'a> ReadRow<'a> for Of<component_kinds::Instances> {
     type Row = Instance<'a>;
 
     ghost tree = { instance_tree export_tree };
+
+    ghost beside = { InstanceKinds };
 
     ghost takes_memory = { true };
 

@@ -74,7 +74,7 @@ pub front_instance_declaration-returns-in-Ok-None-front_component_type-clause-no
 front_instance_declaration-returns-in-Ok-None-front_component_type-clause-none t c = at_here (at_byte c.in-Some.ensures.some c.in-1.is) (at_choice instance_declaration 1 _ _ refl (at_lead refl (rw c.in-Ok-None-front_component_type.field-0-is at c.in-Ok-None-front_component_type.ensures.none), tt))
 
 pub front_instance_declaration-returns-in-Some-front_alias-clause-some : goal.front_instance_declaration-returns-in-Some-front_alias-clause-some
-front_instance_declaration-returns-in-Some-front_alias-clause-some t c = flat_row instance_declaration 2 refl refl c.requires refl (begins_seq (begins_byte (at_byte c.in-Some.ensures.some c.in-2.is)) c.in-Some-front_alias.ensures.some)
+front_instance_declaration-returns-in-Some-front_alias-clause-some t c = flat_row instance_declaration 2 refl refl c.requires (c.in-Some-front_alias.ensures.kind, refl) (begins_seq (begins_byte (at_byte c.in-Some.ensures.some c.in-2.is)) c.in-Some-front_alias.ensures.some)
 
 pub front_instance_declaration-returns-in-None-clause-none : goal.front_instance_declaration-returns-in-None-clause-none
 front_instance_declaration-returns-in-None-clause-none t c = at_here (at_byte c.in-Some.ensures.some c.in-2.is) (at_choice instance_declaration 2 _ _ refl (at_none (none_lead refl c.in-None.ensures.none), tt))
@@ -106,7 +106,7 @@ pub front_component_declaration-returns-in-Ok-None-front_component_type-clause-n
 front_component_declaration-returns-in-Ok-None-front_component_type-clause-none t c = at_here (at_byte c.in-Some.ensures.some c.in-1.is) (at_choice component_declaration 1 _ _ refl (at_lead refl (rw c.in-Ok-None-front_component_type.field-0-is at c.in-Ok-None-front_component_type.ensures.none), tt))
 
 pub front_component_declaration-returns-in-Some-front_alias-clause-some : goal.front_component_declaration-returns-in-Some-front_alias-clause-some
-front_component_declaration-returns-in-Some-front_alias-clause-some t c = flat_row component_declaration 2 refl refl c.requires refl (begins_seq (begins_byte (at_byte c.in-Some.ensures.some c.in-2.is)) c.in-Some-front_alias.ensures.some)
+front_component_declaration-returns-in-Some-front_alias-clause-some t c = flat_row component_declaration 2 refl refl c.requires (c.in-Some-front_alias.ensures.kind, refl) (begins_seq (begins_byte (at_byte c.in-Some.ensures.some c.in-2.is)) c.in-Some-front_alias.ensures.some)
 
 pub front_component_declaration-returns-in-None-clause-none : goal.front_component_declaration-returns-in-None-clause-none
 front_component_declaration-returns-in-None-clause-none t c = at_here (at_byte c.in-Some.ensures.some c.in-2.is) (at_choice component_declaration 2 _ _ refl (at_none (none_lead refl c.in-None.ensures.none), tt))
