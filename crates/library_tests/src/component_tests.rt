@@ -263,7 +263,7 @@ fn starts(rt: HostRuntime) -> Result<(), Fault> {
         Ok(_) => None,
         Err(fault) => Some(fault),
     };
-    assert_eq!(rt; refused, Some(Fault::Read(ReadError { at: 0 })));
+    assert_eq!(rt; refused, Some(Fault::Read(ReadError { at: 5 })));
     Ok(())
 }
 

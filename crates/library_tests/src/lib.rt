@@ -11,6 +11,8 @@ mod chain_tests;
 #[cfg(test)]
 mod component_tests;
 #[cfg(test)]
+mod component_type_tests;
+#[cfg(test)]
 mod component_type_write_tests;
 #[cfg(test)]
 mod component_write_tests;

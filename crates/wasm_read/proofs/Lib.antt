@@ -7,6 +7,7 @@ pub mod Framed
 pub mod Items
 pub mod OfKinds
 pub mod Placed
+pub mod RowsBeside
 pub mod Vectors
 pub mod Missing
 pub mod HeapTypes

@@ -1,5 +1,5 @@
 //! Constant expressions.
-ghost use Rattle.std.specs.Prelude.{◌≡◌, ◌++◌, IfOk, IfErr, IfSome, IfNone};
+ghost use Rattle.std.specs.Prelude.{◌≡◌, ◌≤◌, ◌++◌, IfOk, IfErr, IfSome, IfNone};
 ghost use Rattle.wasm_shapes.specs.Place.{Begins, BeginsNone};
 ghost use Rattle.wasm_shapes.specs.Shape.{Shape, Named};
 ghost use Rattle.wasm_read.specs.Expressions.{HeldExpression, HeldExpression-prop, SpellsExpression, NoExpression, expr_tree};
@@ -89,7 +89,9 @@ impl<'a> Entry for ConstExpr<'a> {
 
     ghost rows_sound = { refl };
 
-    fn most(bytes: usize) -> usize {
+    fn most(bytes: usize) -> usize
+        ensures { result ≤ bytes }
+    {
         bytes
     }
 }

@@ -1,5 +1,5 @@
 //! Maps from indices to names (WebAssembly Core Specification 3.0, section 7.4.1).
-ghost use Rattle.std.specs.Prelude.{◌≡◌, ◌+◌, ◌^◌, ◌<◌, List, refl, IfOk, IfErr, IfSome, IfNone};
+ghost use Rattle.std.specs.Prelude.{◌≡◌, ◌≤◌, ◌+◌, ◌^◌, ◌<◌, List, refl, IfOk, IfErr, IfSome, IfNone};
 ghost use Rattle.wasm_leb.specs.Place.{BeginsNumber, BeginsNoNumber};
 ghost use Rattle.wasm_shapes.specs.Module.{plain_naming};
 ghost use Rattle.wasm_shapes.specs.Namings.{Entry, entry_tree, outer_tree, plain_indirect};
@@ -114,7 +114,9 @@ impl<'a> Entry for Naming<'a> {
 
     ghost rows_sound = { refl };
 
-    fn most(bytes: usize) -> usize {
+    fn most(bytes: usize) -> usize
+        ensures { result ≤ bytes }
+    {
         bytes / 2
     }
 }

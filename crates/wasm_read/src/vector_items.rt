@@ -1,5 +1,5 @@
 //! Vectors at the front of some bytes.
-ghost use Rattle.std.specs.Prelude.{◌≡◌, ◌^◌, ◌<◌, List, true, refl, map, length, IfOk, IfSome, IfNone};
+ghost use Rattle.std.specs.Prelude.{◌≡◌, ◌^◌, ◌<◌, ◌≤◌, List, true, refl, map, length, IfOk, IfErr, IfSome, IfNone, IsTrue};
 ghost use Rattle.wasm_shapes.specs.Module.{local_row};
 ghost use Rattle.wasm_shapes.specs.Place.{Begins, BeginsNone};
 ghost use Rattle.wasm_shapes.specs.Shape.{Shape, Named, field};
@@ -7,7 +7,7 @@ ghost use Rattle.wasm_shapes.specs.Sound.{sound};
 ghost use Rattle.wasm_shapes.specs.Tree.{Tree};
 ghost use Rattle.wasm_shapes.specs.Types.{vector_tree, tagged_label, tagged_label_tree, catch_row, handle_row};
 ghost use Rattle.wasm_read.specs.Types.{val_type_tree, field_type_tree};
-ghost use Rattle.wasm_read.specs.VectorRows.{items_closed, items_sound};
+ghost use Rattle.wasm_read.specs.VectorRows.{VectorBeside, items_closed, items_sound};
 ghost use Rattle.wasm_read.specs.Immediates.{local_tree, catch_tree, handle_tree};
 
 use crate::section_reader::ReadRow;
@@ -26,8 +26,10 @@ pub trait Entry {
 
     ghost rows_sound: { sound (Shape.many shape) ≡ true };
 
-    /// How many entries can stand in so many bytes.
-    fn most(bytes: usize) -> usize;
+    /// How many entries can stand in so many bytes. It guides how much memory is taken before they are read, and nothing else
+    /// rests on it.
+    fn most(bytes: usize) -> usize
+        ensures { result ≤ bytes };
 }
 
 /// What stands in a vector and can be read.
@@ -316,8 +318,10 @@ fn front_tag_and_label(bytes: &[u8]) -> Option<(u32, u32, &[u8])>
 
 /// Rows that stand in a vector.
 pub trait VectorRow: RowKind {
-    /// How many of them can stand in so many bytes.
-    fn most(bytes: usize) -> usize;
+    /// How many of them can stand in so many bytes. It guides how much memory is taken before they are read, and nothing else
+    /// rests on it.
+    fn most(bytes: usize) -> usize
+        ensures { result ≤ bytes };
 }
 
 /// Entries, as a kind of rows.
@@ -364,6 +368,8 @@ where
     K::Row: Drop,
     ensures some { IfOk result (λ o. IfSome o (λ r.
         Begins (Shape.vec K.shape) bytes.now (vector_tree (map K.tree r.0)) r.1.now)) }
+    ensures beside { IfOk result (λ o. IfSome o (λ r.
+        VectorBeside K.shape K.tree K.beside bytes.now r.0 r.1.now)) }
     ensures counted { IfOk result (λ o. IfSome o (λ r. length r.0 < 2 ^ 32)) }
     ensures none { IfOk result (λ o. IfNone o (BeginsNone (Shape.vec K.shape) bytes.now)) }
 {
@@ -392,6 +398,36 @@ where
         }
     }
     Ok(Some((entries, rest)))
+}
+
+/// The bytes behind the vector of rows at the front of some bytes. No row is kept, so memory is taken for one row at a time.
+pub fn behind_rows<'a, K: ReadRow<'a>>(
+    alloc: Global,
+    bytes: &'a [u8],
+) -> Result<Option<&'a [u8]>, NoMemory>
+where
+    K::Row: Drop,
+    ensures some { IfOk result (λ o. IfSome o (λ r.
+        (rows : Tree) × Begins (Shape.vec K.shape) bytes.now (Tree.vec rows) r.now)) }
+    ensures none { IfOk result (λ o. IfNone o (BeginsNone (Shape.vec K.shape) bytes.now)) }
+    ensures wants { IfErr result (λ _. IsTrue K.takes_memory) }
+{
+    let Some((count, start)) = front_u32(bytes) else {
+        return Ok(None);
+    };
+    let mut rest = start;
+    let mut left = count;
+    'rows: while left > 0 {
+        match K::front(alloc, rest) {
+            Ok(Some((_, behind))) => {
+                rest = behind;
+                left -= 1;
+            }
+            Ok(None) => return Ok(None),
+            Err(NoMemory) => return Err(NoMemory),
+        }
+    }
+    Ok(Some(rest))
 }
 
 /// The vector of entries at the front of some bytes, and the bytes behind it.

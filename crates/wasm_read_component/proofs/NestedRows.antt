@@ -13,7 +13,7 @@ use Rattle.wasm_shapes.specs.Place.{Begins}
 use Rattle.wasm_shapes.specs.Rows.{RowsLeft}
 use Rattle.wasm_read.specs.Reading.{Standing, CountRead, ReadsNone}
 use Rattle.wasm_read_component.specs.Scoped.{ScopedStanding}
-use Rattle.wasm_read_component.specs.TypeRows.{Declares, DeclaresAt}
+use Rattle.wasm_read_component.specs.TypeRows.{Declares, DeclaresAt, Fresh}
 
 -- the bytes before those that are left
 pub taken : (bytes text behind : List ℕ) → bytes ≡ text ++ behind → take (length bytes - length behind) bytes ≡ text
@@ -50,17 +50,12 @@ no_count {rows = rows} before none p =
 
 pub declared : {s : Shape} {bytes behind body : List ℕ} {rows : Tree} (new : Standing) → IsBefore bytes behind body → CountRead body new →
     Begins (Shape.vec s) bytes (Tree.vec rows) behind → Declares s new (Tree.scope (Tree.vec rows))
-declared {body = body} {rows = rows} new before read p =
-    let whole : body ≡ p.text = before p.text p.reads in
-    let P : List ℕ → Type 0 = λ z. Spelled (Tree.vec rows) z in
-    record {
-      rows = rows;
-      is = refl;
-      body = body;
-      spells = record { shaped = p.spells.shaped; spelled = subst P (sym whole) p.spells.spelled };
-      read = read;
-      left = rows_left new before read p;
-    }
+declared {rows = rows} new before read p = record { rows = rows; is = refl; left = rows_left new before read p }
+
+pub fresh : {s : Shape} {t : Tree} {bytes behind body : List ℕ} (new : Standing) → IsBefore bytes behind body → CountRead body new → Begins s bytes t behind → Fresh new bytes
+fresh {bytes = bytes} {behind = behind} {body = body} new before read p =
+    let P : List ℕ → Type 0 = λ z. bytes ≡ z ++ behind in
+    record { body = body; left = behind; is = subst P (sym (before p.text p.reads)) p.reads; read = read }
 
 pub declared_at : {s : Shape} {depth : ℕ} {bytes behind body : List ℕ} {rows : Tree} (new : ScopedStanding) → IsBefore bytes behind body → CountRead body new.rows →
     new.depth ≡ depth + 1 → Begins (Shape.vec s) bytes (Tree.vec rows) behind → DeclaresAt s depth new (Tree.scope (Tree.vec rows))

@@ -14,8 +14,9 @@ use Rattle.wasm_shapes.proofs.ComponentParts.{begins_scope}
 use Rattle.wasm_shapes.proofs.Depth.{SoFar, at_here, at_none, at_ref, at_scope, at_vec, begins_vec, none_count, none_stuck, so_far_end}
 use Rattle.wasm_read_component.specs.declared.type_rows.Scope.{Scope}
 use Rattle.wasm_read_component.specs.declared.type_rows.Scope.TheVariants as scope
+use Rattle.wasm_read.specs.Reading.{Standing}
 use Rattle.wasm_read_component.specs.Scoped.{ReadsAt, ScopedStanding}
-use Rattle.wasm_read_component.specs.TypeRows.{Behind, DeclaresAt, declaration_of}
+use Rattle.wasm_read_component.specs.TypeRows.{Behind, BehindFirst, DeclaresAt, Fresh, declaration_of}
 use Rattle.wasm_read_component.proofs.TypeDepth.{NoneOfAt, at_choice, behind_at, named_reads}
 use Rattle.wasm_types.specs.declared.components.ComponentFuncType.{ComponentFuncType}
 use Rattle.wasm_types.specs.ComponentTrees.{component_func_type_tree, component_signature_tree, func_row}
@@ -62,6 +63,10 @@ pub scope_reads : {k b depth : ℕ} {s : Shape} {bytes xs left : List ℕ} (read
     ScopeBegins s depth xs left → Holds s depth xs left reader → ReadsAt component_type depth (Behind k b (DeclaresAt s depth reader)) bytes left
 scope_reads reader row e p held =
     named_reads (behind_at component_type_rows row e (record { tree = Tree.scope (Tree.vec p.0); is = held p.0 (in_scope p.1.begins); begins = p.1 }))
+
+pub scope_fresh : {b depth : ℕ} {s : Shape} {bytes xs left : List ℕ} (reader : Standing) → bytes ≡ b ∷ xs → ScopeBegins s depth xs left →
+    ((rows : Tree) → Begins (Shape.vec s) xs (Tree.vec rows) left → Fresh reader xs) → BehindFirst (Fresh reader) bytes
+scope_fresh reader e p held = record { first = _; rest = _; is = e; says_so = held p.0 (in_scope p.1.begins) }
 
 -- there is such a reader
 pub scope_held : {s : Shape} {depth : ℕ} {bytes left : List ℕ} → ScopeBegins s depth bytes left → ((rows : Tree) → Begins (Shape.vec s) bytes (Tree.vec rows) left → ⊥) → ⊥

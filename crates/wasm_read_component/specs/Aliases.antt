@@ -1,5 +1,5 @@
 -- The trees that aliases stand for.
-use Rattle.std.specs.Prelude.{◌≡◌, ◌⊎◌, ℕ, List}
+use Rattle.std.specs.Prelude.{◌≡◌, ◌≢◌, ◌⊎◌, ℕ, List}
 use Rattle.wasm_shapes.specs.declared.Space.{Space}
 use Rattle.wasm_shapes.specs.Tree.{Tree}
 use Rattle.wasm_shapes.specs.Place.{Begins}
@@ -8,6 +8,7 @@ use Rattle.wasm_shapes.specs.ComponentTypes.{core_alias_of, instance_export_tree
 use Rattle.wasm_read.specs.declared.types.ExternalKind.{ExternalKind}
 use Rattle.wasm_read.specs.declared.types.ExternalKind.TheVariants as external
 use Rattle.wasm_types.specs.declared.components.Alias.{Alias}
+use Rattle.wasm_types.specs.declared.components.Alias.TheVariants as alias
 use Rattle.wasm_types.specs.declared.components.ComponentExternalKind.{ComponentExternalKind}
 use Rattle.wasm_types.specs.declared.components.ComponentOuterAliasKind.{ComponentOuterAliasKind}
 use Rattle.wasm_types.specs.ComponentTrees as component
@@ -29,6 +30,11 @@ core_sort_byte external.Tag = 0x04
 
 abbrev pub alias_tree : ComponentAlias → Tree
 alias_tree a = component.alias_tree core_sort_byte a
+
+-- what an alias is read as: the sort of a function is never read as that of a function of exactly its type
+abbrev pub NotExact : ComponentAlias → Type 0
+NotExact (alias.CoreInstanceExport kind i name) = kind ≢ external.FuncExact
+NotExact _ = Unit {0}
 
 -- what an alias of a sort names
 abbrev pub target_tree : Space → Target → Tree

@@ -30,26 +30,26 @@ component_payload_at (payload.Custom at section) = at
 component_payload_at (payload.Unknown at id contents) = at
 
 -- whether a section may have this id: 2, 5, 6, or 8 to 127
-abbrev pub in_force : ℕ → Bool
-in_force id = nat_eq id 2 || (nat_eq id 5 || (nat_eq id 6 || (nat_le 8 id && nat_le id 127)))
+abbrev pub has_frame : ℕ → Bool
+has_frame id = nat_eq id 2 || (nat_eq id 5 || (nat_eq id 6 || (nat_le 8 id && nat_le id 127)))
 
 -- a payload that a reader gives: of a kind below 12, or of an id that no table knows
 abbrev pub IsGiven : ComponentPayload → Type 0
-IsGiven (payload.Section id at body) = (in_force id ≡ true) × (id < 12)
-IsGiven (payload.Unknown at id contents) = (in_force id ≡ true) × (12 ≤ id)
+IsGiven (payload.Section id at body) = (has_frame id ≡ true) × (id < 12)
+IsGiven (payload.Unknown at id contents) = (has_frame id ≡ true) × (12 ≤ id)
 IsGiven _ = ⊥
 
--- no frame of an id begins there that is in force
-pub record NoneInForce (bytes : List ℕ) : Type 0 where
-  pub none : (id : ℕ) (body left : List ℕ) → in_force id ≡ true → Begins frame bytes (numbered_frame id body) left → ⊥
+-- no frame of such an id begins there
+pub record BeginsNoFrame (bytes : List ℕ) : Type 0 where
+  pub none : (id : ℕ) (body left : List ℕ) → has_frame id ≡ true → Begins frame bytes (numbered_frame id body) left → ⊥
 
 -- what a frame holds is of no such id
-abbrev pub IsNotInForce : Payload → Type 0
-IsNotInForce p = (id : ℕ) (body : List ℕ) → in_force id ≡ true → frame_tree p ≢ numbered_frame id body
+abbrev pub HasNoFrame : Payload → Type 0
+HasNoFrame p = (id : ℕ) (body : List ℕ) → has_frame id ≡ true → frame_tree p ≢ numbered_frame id body
 
 -- none begins where bytes are left, and the error holds the place
 abbrev pub NoComponentFrame : Fault → List ℕ → ℕ → Type 0
-NoComponentFrame (fault.Read e) bytes at = (e.at ≡ at) × NoneInForce bytes × (bytes ≢ [])
+NoComponentFrame (fault.Read e) bytes at = (e.at ≡ at) × BeginsNoFrame bytes × (bytes ≢ [])
 NoComponentFrame _ bytes at = ⊥
 
 -- The header was read, and the sections are left behind it.

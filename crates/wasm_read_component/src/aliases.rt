@@ -1,10 +1,11 @@
 //! Aliases at the front of some bytes.
-ghost use Rattle.std.specs.Prelude.{◌≡◌, ◌<◌, IfSome, IfNone};
+ghost use Rattle.std.specs.Prelude.{◌≡◌, ◌≢◌, ◌<◌, IfSome, IfNone};
 ghost use Rattle.wasm_shapes.specs.declared.Space.{Space};
 ghost use Rattle.wasm_shapes.specs.Place.{Begins, BeginsNone};
 ghost use Rattle.wasm_shapes.specs.Component.{alias, core_alias, instance_export, core_instance_export, outer_of, export_or_outer};
 ghost use Rattle.wasm_shapes.specs.ComponentTypes.{instance_export_tree, core_instance_export_tree, outer_tree};
-ghost use Rattle.wasm_read_component.specs.Aliases.{alias_tree, target_tree, core_sort_byte, CoreBegins, ExportBegins, TargetBegins};
+ghost use Rattle.wasm_read.specs.declared.types.ExternalKind.TheVariants as external;
+ghost use Rattle.wasm_read_component.specs.Aliases.{alias_tree, target_tree, core_sort_byte, NotExact, CoreBegins, ExportBegins, TargetBegins};
 
 use crate::types::{ComponentAlias, ComponentExternalKind, ComponentOuterAliasKind};
 use wasm_leb::{front_byte, front_u32};
@@ -97,6 +98,7 @@ fn front_target(bytes: &[u8]) -> Option<(Target<'_>, &[u8])>
 /// The sort of what a core instance exports that a byte spells.
 fn core_sort_of(byte: u8) -> Option<ExternalKind>
     ensures some { IfSome result (λ kind. byte ≡ core_sort_byte kind) }
+    ensures kind { IfSome result (λ kind. kind ≢ external.FuncExact) }
     ensures none { IfNone result (0x04 < byte) }
 {
     match byte {
@@ -112,6 +114,7 @@ fn core_sort_of(byte: u8) -> Option<ExternalKind>
 /// An alias of a core sort at the front of some bytes, of which the first is the second of the alias, and the bytes behind it.
 fn front_core_alias(bytes: &[u8]) -> Option<(ComponentAlias<'_>, &[u8])>
     ensures some { IfSome result (λ r. CoreBegins bytes.now (alias_tree r.0) r.1.now) }
+    ensures kind { IfSome result (λ r. NotExact r.0) }
     ensures none { IfNone result (BeginsNone core_alias bytes.now) }
 {
     let Some((sort, rest)) = front_byte(bytes) else {
@@ -173,6 +176,7 @@ fn front_export_alias(
     kind: ComponentExternalKind,
 ) -> Option<(ComponentAlias<'_>, &[u8])>
     ensures some { IfSome result (λ r. ExportBegins bytes.now kind r.0 r.1.now) }
+    ensures kind { IfSome result (λ r. NotExact r.0) }
     ensures none { IfNone result (BeginsNone instance_export bytes.now) }
 {
     match front_instance_export(bytes) {
@@ -195,6 +199,7 @@ fn front_target_alias(
     outer: ComponentOuterAliasKind,
 ) -> Option<(ComponentAlias<'_>, &[u8])>
     ensures some { IfSome result (λ r. TargetBegins bytes.now kind outer r.0 r.1.now) }
+    ensures kind { IfSome result (λ r. NotExact r.0) }
     ensures none { IfNone result ((s : Space) → BeginsNone (export_or_outer s) bytes.now) }
 {
     match front_target(bytes) {
@@ -221,6 +226,7 @@ fn front_target_alias(
 /// An alias at the front of some bytes, and the bytes behind it.
 pub fn front_alias(bytes: &[u8]) -> Option<(ComponentAlias<'_>, &[u8])>
     ensures some { IfSome result (λ r. Begins alias bytes.now (alias_tree r.0) r.1.now) }
+    ensures kind { IfSome result (λ r. NotExact r.0) }
     ensures none { IfNone result (BeginsNone alias bytes.now) }
 {
     let Some((sort, rest)) = front_byte(bytes) else {

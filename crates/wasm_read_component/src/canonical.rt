@@ -2,7 +2,6 @@
 ghost use Rattle.std.specs.Prelude.{◌≡◌, IfOk, IfSome, IfNone};
 ghost use Rattle.wasm_shapes.specs.declared.canonical.CanonicalForm.TheVariants as form;
 ghost use Rattle.wasm_shapes.specs.Place.{Begins, BeginsNone};
-ghost use Rattle.wasm_shapes.specs.Shape.{Shape};
 ghost use Rattle.wasm_shapes.specs.Component.{asynchronous, canonical_function, canonical_option, canonical_options, operands};
 ghost use Rattle.wasm_types.specs.ComponentTrees.{async_tree, canonical_option_tree, canonical_options_tree, operands_form};
 ghost use Rattle.wasm_read_component.specs.ComponentRows.{canonical_tree, operands_tree};

@@ -7,7 +7,7 @@ ghost use Rattle.wasm_shapes.specs.Depth.{BeginsNoneAt};
 ghost use Rattle.wasm_shapes.specs.Component.{core_type, module_declaration};
 ghost use Rattle.wasm_read.specs.Types.{entity_tree, group_tree};
 ghost use Rattle.wasm_read_component.specs.Scoped.{ReadsAt};
-ghost use Rattle.wasm_read_component.specs.TypeRows.{named_entity, named_entity_tree, outer_type, outer_type_tree, module_declaration_tree, CoreTypeStands, Declares};
+ghost use Rattle.wasm_read_component.specs.TypeRows.{named_entity, named_entity_tree, outer_type, outer_type_tree, module_declaration_tree, CoreTypeBeside, CoreTypeStands, Declares, Fresh};
 
 use crate::declarations::{CoreType, ModuleDeclarations, ModuleTypeDeclaration};
 use crate::nested::{DEPTH, bytes_before};
@@ -15,7 +15,7 @@ use crate::sections::Of;
 use crate::types::OuterAliasKind;
 use std::alloc::Global;
 use wasm_leb::{NoMemory, front_byte, front_u32};
-use wasm_read::{Import, RecGroup, TypeRef, front_group, front_name, front_rows, front_type_ref};
+use wasm_read::{Import, RecGroup, TypeRef, behind_rows, front_group, front_name, front_type_ref};
 use wasm_shapes::component_kinds;
 
 /// A name and the type of what is imported or exported under it, at the front of some bytes, and the bytes behind both.
@@ -118,11 +118,12 @@ fn front_module_declarations<'a>(
     ensures some { IfOk result (λ o. IfSome o (λ r. (t : Tree)
         × Declares module_declaration r.0 t
         × Begins (Shape.scope (Shape.vec module_declaration)) bytes.now t r.1.now)) }
+    ensures fresh { IfOk result (λ o. IfSome o (λ r. Fresh r.0 bytes.now)) }
     ensures none { IfOk result (λ o. IfNone o
         (BeginsNone (Shape.vec module_declaration) bytes.now)) }
 {
-    match front_rows::<Of<component_kinds::ModuleDeclarations>>(alloc, bytes) {
-        Ok(Some((_, behind))) => match ModuleDeclarations::new(bytes_before(bytes, behind)) {
+    match behind_rows::<Of<component_kinds::ModuleDeclarations>>(alloc, bytes) {
+        Ok(Some(behind)) => match ModuleDeclarations::new(bytes_before(bytes, behind)) {
             Ok(reader) => Ok(Some((reader, behind))),
             Err(_) => Ok(None),
         },
@@ -159,6 +160,7 @@ pub fn front_core_type<'a>(
     requires { depth ≤ 200 }
     ensures some { IfOk result (λ o. IfSome o (λ r.
         ReadsAt core_type depth (CoreTypeStands r.0) bytes.now r.1.now)) }
+    ensures beside { IfOk result (λ o. IfSome o (λ r. CoreTypeBeside bytes.now r.0)) }
     ensures none { IfOk result (λ o. IfNone o (BeginsNoneAt core_type depth bytes.now)) }
 {
     let Some((first, rest)) = front_byte(bytes) else {

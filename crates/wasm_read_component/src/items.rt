@@ -6,7 +6,7 @@ ghost use Rattle.wasm_shapes.specs.Tree.{Tree};
 ghost use Rattle.wasm_shapes.specs.Sections.{export_row};
 ghost use Rattle.wasm_shapes.specs.Component.{canonical_option, component_arg, inline_export, instantiation_arg};
 ghost use Rattle.wasm_types.specs.ComponentTrees.{canonical_option_tree, component_arg_tree, inline_export_tree, instantiation_arg_tree};
-ghost use Rattle.wasm_read.specs.Types.{export_tree};
+ghost use Rattle.wasm_read.specs.Types.{ExportKind, export_tree};
 
 use crate::canonical::front_canonical_option;
 use crate::rows::{front_component_arg, front_inline_export, front_instantiation_arg};
@@ -72,6 +72,8 @@ impl<'a> ReadRow<'a> for CoreExports {
     type Row = Export<'a>;
 
     ghost tree = { export_tree };
+
+    ghost beside = { ExportKind };
 
     #[inline]
     fn front(_alloc: Global, bytes: &'a [u8]) -> Result<Option<(Export<'a>, &'a [u8])>, NoMemory> {

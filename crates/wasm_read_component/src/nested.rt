@@ -3,7 +3,7 @@ ghost use Rattle.std.specs.Prelude.{◌≡◌, ◌++◌, ◌<◌, List, ℕ, IfS
 ghost use Rattle.wasm_shapes.specs.Tree.{Tree};
 ghost use Rattle.wasm_shapes.specs.Shape.{Shape};
 ghost use Rattle.wasm_shapes.specs.Place.{Begins};
-ghost use Rattle.wasm_read_component.specs.TypeRows.{DeclaresAt};
+ghost use Rattle.wasm_read_component.specs.TypeRows.{DeclaresAt, Fresh};
 
 use crate::scoped_reader::ScopedReader;
 use wasm_shapes::kinds::RowKind;
@@ -29,6 +29,9 @@ pub fn reader_before<'a, K: RowKind>(
     ensures some { IfSome result (λ reader. (rows : Tree)
         → Begins (Shape.vec K.shape) bytes.now (Tree.vec rows) behind.now
         → DeclaresAt K.shape depth reader (Tree.scope (Tree.vec rows))) }
+    ensures fresh { IfSome result (λ reader. (rows : Tree)
+        → Begins (Shape.vec K.shape) bytes.now (Tree.vec rows) behind.now
+        → Fresh reader.rows bytes.now) }
     ensures none { IfNone result ((rows : Tree)
         → Begins (Shape.vec K.shape) bytes.now (Tree.vec rows) behind.now → ⊥) }
 {

@@ -3,7 +3,7 @@ ghost use Rattle.std.specs.Prelude.{◌≡◌, [], false, IfOk, IfErr, IfSome, I
 ghost use Rattle.wasm_shapes.specs.Module.{frame, numbered_frame};
 ghost use Rattle.wasm_shapes.specs.Place.{Begins};
 ghost use Rattle.wasm_read.specs.Frames.{frame_tree, payload_at, section_number, sections_place};
-ghost use Rattle.wasm_read_component.specs.ComponentPayloads.{component_frame_tree, component_payload_at, in_force, ComponentHeaderRead, IsGiven, IsNotInForce, NoComponentFrame, NoComponentHeader, NoneInForce};
+ghost use Rattle.wasm_read_component.specs.ComponentPayloads.{component_frame_tree, component_payload_at, has_frame, BeginsNoFrame, ComponentHeaderRead, HasNoFrame, IsGiven, NoComponentFrame, NoComponentHeader};
 
 use crate::types::ComponentPayload;
 use std::marker::Model;
@@ -93,8 +93,8 @@ fn id_of_kind(kind: SectionId) -> u8
 }
 
 /// Whether a section may have this id.
-fn is_in_force(id: u8) -> bool
-    ensures { result ≡ in_force id }
+fn has_frame(id: u8) -> bool
+    ensures { result ≡ has_frame id }
 {
     id == 2 || id == 5 || id == 6 || (8 <= id && id <= 127)
 }
@@ -104,9 +104,9 @@ fn of_id(id: u8, at: usize, body: &[u8]) -> Option<ComponentPayload<'_>>
     ensures tree { IfSome result (λ p. component_frame_tree p ≡ numbered_frame id body.now) }
     ensures at { IfSome result (λ p. component_payload_at p ≡ at) }
     ensures given { IfSome result (λ p. IsGiven p) }
-    ensures none { IfNone result (in_force id ≡ false) }
+    ensures none { IfNone result (has_frame id ≡ false) }
 {
-    if !is_in_force(id) {
+    if !has_frame(id) {
         return None;
     }
     if id < 12 {
@@ -121,7 +121,7 @@ fn of_frame(payload: Payload<'_>) -> Option<ComponentPayload<'_>>
     ensures tree { IfSome result (λ p. component_frame_tree p ≡ frame_tree payload.entry) }
     ensures at { IfSome result (λ p. component_payload_at p ≡ payload_at payload.entry) }
     ensures given { IfSome result (λ p. IsGiven p) }
-    ensures none { IfNone result (IsNotInForce payload.entry) }
+    ensures none { IfNone result (HasNoFrame payload.entry) }
 {
     match payload {
         Payload::Section { id, at, body } => match of_id(id_of_kind(id), at, body) {
@@ -141,7 +141,7 @@ fn front_payload(bytes: &[u8], at: usize) -> Option<(ComponentPayload<'_>, &[u8]
     ensures some { IfSome result (λ r. Begins frame bytes.now (component_frame_tree r.0) r.1.now) }
     ensures at { IfSome result (λ r. component_payload_at r.0 ≡ at) }
     ensures given { IfSome result (λ r. IsGiven r.0) }
-    ensures none { IfNone result (NoneInForce bytes.now) }
+    ensures none { IfNone result (BeginsNoFrame bytes.now) }
 {
     let Some((payload, rest)) = front_frame(bytes, at) else {
         return None;

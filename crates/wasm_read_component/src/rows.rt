@@ -1,10 +1,10 @@
 //! Imports, exports, instances and the start of a component at the front of some bytes.
-ghost use Rattle.std.specs.Prelude.{IfOk, IfSome, IfNone, map};
+ghost use Rattle.std.specs.Prelude.{IfOk, IfSome, IfNone};
 ghost use Rattle.wasm_shapes.specs.Place.{Begins, BeginsNone};
 ghost use Rattle.wasm_shapes.specs.Component.{component_arg, component_export_row, component_instance_row, component_start, extern_row, inline_export, instance_row, instantiation_arg};
 ghost use Rattle.wasm_types.specs.ComponentTrees.{component_arg_tree, component_export_tree, component_import_tree, component_instance_tree, inline_export_tree, instance_tree, instantiation_arg_tree};
 ghost use Rattle.wasm_read.specs.Types.{export_tree};
-ghost use Rattle.wasm_read_component.specs.ComponentRows.{start_tree};
+ghost use Rattle.wasm_read_component.specs.ComponentRows.{InstanceKinds, start_tree};
 
 use crate::items::{ComponentArgs, ComponentValues, CoreExports, InlineExports, InstantiationArgs};
 use crate::types::{
@@ -124,6 +124,7 @@ pub fn front_instance<'a>(
 ) -> Result<Option<(Instance<'a>, &'a [u8])>, NoMemory>
     ensures some { IfOk result (λ o. IfSome o (λ r.
         Begins instance_row bytes.now (instance_tree export_tree r.0) r.1.now)) }
+    ensures kinds { IfOk result (λ o. IfSome o (λ r. InstanceKinds bytes.now r.0)) }
     ensures none { IfOk result (λ o. IfNone o (BeginsNone instance_row bytes.now)) }
 {
     let Some((first, rest)) = front_byte(bytes) else {

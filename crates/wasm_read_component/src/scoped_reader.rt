@@ -21,6 +21,9 @@ pub trait ReadRowAt<'a>: RowKind {
     // read yet.
     ghost stands: { ℕ → Self.Row → Tree → Type 0 };
 
+    // What the bytes where a row begins say of it beside its tree.
+    ghost beside: { List ℕ → Self.Row → Type 0 } = { λ _ _. Unit {0} };
+
     // Whether memory is taken for a row.
     ghost takes_memory: { Bool } = { false };
 
@@ -33,6 +36,7 @@ pub trait ReadRowAt<'a>: RowKind {
         requires { depth ≤ 200 }
         ensures some { IfOk result (λ o. IfSome o (λ r.
             ReadsAt Self.shape depth (stands depth r.0) bytes.now r.1.now)) }
+        ensures beside { IfOk result (λ o. IfSome o (λ r. beside bytes.now r.0)) }
         ensures none { IfOk result (λ o. IfNone o (BeginsNoneAt Self.shape depth bytes.now)) }
         ensures wants { IfErr result (λ _. IsTrue takes_memory) };
 }
@@ -96,6 +100,7 @@ impl<'a, K: ReadRowAt<'a>> ScopedReader<'a, K> {
     pub fn next_row(&mut self, alloc: Global) -> Result<Option<K::Row>, Fault>
         ensures row { IfOk result (λ o. IfSome o (λ row.
             ScopedRead K.shape (K.stands self.old.depth row) self.old self.new)) }
+        ensures beside { IfOk result (λ o. IfSome o (λ row. K.beside self.old.rows.rest row)) }
         ensures ended { IfOk result (λ o. IfNone o
             (RowsEnded self.old.rows self.new.rows × (self.new ≡ self.old))) }
         ensures err { IfErr result (λ e.

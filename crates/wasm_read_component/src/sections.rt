@@ -1,13 +1,11 @@
 //! The readers of the sections of rows.
 ghost use Rattle.std.specs.Prelude.{true, IfOk, IfErr};
-ghost use Rattle.wasm_shapes.specs.Tree.{Tree};
 ghost use Rattle.wasm_shapes.specs.Spells.{Spells};
 ghost use Rattle.wasm_shapes.specs.Component.{component_start};
 ghost use Rattle.wasm_types.specs.ComponentTrees.{component_export_tree, component_import_tree, component_instance_tree, instance_tree};
-ghost use Rattle.wasm_read.specs.Reading.{ReadsNoneOrWants};
 ghost use Rattle.wasm_read.specs.Types.{export_tree};
-ghost use Rattle.wasm_read_component.specs.Aliases.{alias_tree};
-ghost use Rattle.wasm_read_component.specs.ComponentRows.{canonical_tree, start_tree};
+ghost use Rattle.wasm_read_component.specs.Aliases.{alias_tree, NotExact};
+ghost use Rattle.wasm_read_component.specs.ComponentRows.{InstanceKinds, StartRefused, canonical_tree, start_tree};
 
 use crate::aliases::front_alias;
 use crate::canonical::front_canonical;
@@ -41,13 +39,15 @@ impl<K: RowKind> RowKind for Of<K> {
     ghost rows_sound = { K.rows_sound };
 }
 
-/// A reader of the rows of an alias section.
+/// A reader of the rows of an alias section. The sort of a function that a core instance exports is read as `Func`.
 pub type ComponentAliasSectionReader<'a> = SectionReader<'a, Of<component_kinds::Aliases>>;
 
 impl<'a> ReadRow<'a> for Of<component_kinds::Aliases> {
     type Row = ComponentAlias<'a>;
 
     ghost tree = { alias_tree };
+
+    ghost beside = { λ _ a. NotExact a };
 
     #[inline]
     fn front(
@@ -58,13 +58,16 @@ impl<'a> ReadRow<'a> for Of<component_kinds::Aliases> {
     }
 }
 
-/// A reader of the rows of a section of core instances. A row takes memory.
+/// A reader of the rows of a section of core instances. The byte behind the name of an export is that of its kind. A row takes
+/// memory.
 pub type InstanceSectionReader<'a> = SectionReader<'a, Of<component_kinds::Instances>>;
 
 impl<'a> ReadRow<'a> for Of<component_kinds::Instances> {
     type Row = Instance<'a>;
 
     ghost tree = { instance_tree export_tree };
+
+    ghost beside = { InstanceKinds };
 
     ghost takes_memory = { true };
 
@@ -158,18 +161,20 @@ impl<'a> ReadRow<'a> for Of<component_kinds::ComponentExports> {
     }
 }
 
-/// The start that a section holds. The error is `Read` with the place 0 exactly where the body is no start, or `NoMemory`.
+/// The start that a section holds. The error is `Read` exactly where the body is no start, with the place 0 where none begins, or
+/// where bytes are left behind it with their place; or memory runs out.
 pub fn read_start(alloc: Global, body: &[u8]) -> Result<ComponentStartFunction, Fault>
     ensures ok { IfOk result (λ start. Spells component_start body.now (start_tree start)) }
-    ensures err { IfErr result (λ e.
-        ReadsNoneOrWants e 0 ((t : Tree) → ¬ (Spells component_start body.now t))) }
+    ensures err { IfErr result (λ e. StartRefused e body.now) }
 {
     match front_start(alloc, body) {
         Ok(Some((start, rest))) => {
             if rest.is_empty() {
                 Ok(start)
             } else {
-                Err(Fault::Read(ReadError { at: 0 }))
+                Err(Fault::Read(ReadError {
+                    at: body.len().saturating_sub(rest.len()),
+                }))
             }
         }
         Ok(None) => Err(Fault::Read(ReadError { at: 0 })),

@@ -5,7 +5,7 @@ ghost use Rattle.wasm_shapes.specs.Shape.{Shape};
 ghost use Rattle.wasm_shapes.specs.Depth.{BeginsAt, BeginsNoneAt};
 ghost use Rattle.wasm_shapes.specs.Component.{component_declaration, component_type, instance_declaration};
 ghost use Rattle.wasm_read_component.specs.Scoped.{ReadsAt};
-ghost use Rattle.wasm_read_component.specs.TypeRows.{ComponentDeclarationStands, InstanceDeclarationStands, TypeStands, declaration_of};
+ghost use Rattle.wasm_read_component.specs.TypeRows.{ComponentDeclarationBeside, ComponentDeclarationStands, InstanceDeclarationBeside, InstanceDeclarationStands, TypeBeside, TypeStands, declaration_of};
 
 use crate::aliases::front_alias;
 use crate::core_types::front_core_type;
@@ -33,6 +33,7 @@ pub fn front_component_type<'a>(
     requires { depth ≤ 200 }
     ensures some { IfOk result (λ o. IfSome o (λ r.
         ReadsAt component_type depth (TypeStands depth r.0) bytes.now r.1.now)) }
+    ensures beside { IfOk result (λ o. IfSome o (λ r. TypeBeside bytes.now r.0)) }
     ensures none { IfOk result (λ o. IfNone o (BeginsNoneAt component_type depth bytes.now)) }
 {
     let Some((first, rest)) = front_byte(bytes) else {
@@ -87,6 +88,7 @@ pub fn front_instance_declaration<'a>(
     requires { depth ≤ 200 }
     ensures some { IfOk result (λ o. IfSome o (λ r. ReadsAt
         instance_declaration depth (InstanceDeclarationStands depth r.0) bytes.now r.1.now)) }
+    ensures beside { IfOk result (λ o. IfSome o (λ r. InstanceDeclarationBeside bytes.now r.0)) }
     ensures none { IfOk result (λ o. IfNone o
         (BeginsNoneAt instance_declaration depth bytes.now)) }
 {
@@ -132,6 +134,7 @@ pub fn front_component_declaration<'a>(
     requires { depth ≤ 200 }
     ensures some { IfOk result (λ o. IfSome o (λ r. ReadsAt
         component_declaration depth (ComponentDeclarationStands depth r.0) bytes.now r.1.now)) }
+    ensures beside { IfOk result (λ o. IfSome o (λ r. ComponentDeclarationBeside bytes.now r.0)) }
     ensures none { IfOk result (λ o. IfNone o
         (BeginsNoneAt component_declaration depth bytes.now)) }
 {

@@ -1,6 +1,6 @@
 //! The readers of the sections of types, and of what types declare.
 ghost use Rattle.std.specs.Prelude.{true};
-ghost use Rattle.wasm_read_component.specs.TypeRows.{ComponentDeclarationStands, CoreTypeStands, InstanceDeclarationStands, TypeStands, module_declaration_tree};
+ghost use Rattle.wasm_read_component.specs.TypeRows.{ComponentDeclarationBeside, ComponentDeclarationStands, CoreTypeBeside, CoreTypeStands, InstanceDeclarationBeside, InstanceDeclarationStands, TypeBeside, TypeStands, module_declaration_tree};
 
 use crate::core_types::{front_core_type, front_module_declaration};
 use crate::declarations::{
@@ -14,7 +14,7 @@ use crate::type_rows::{
 };
 use std::alloc::Global;
 use wasm_leb::NoMemory;
-use wasm_read::{ReadRow, VectorRow};
+use wasm_read::ReadRow;
 use wasm_shapes::component_kinds;
 
 /// A reader of the rows of a type section of a component. A row takes memory.
@@ -24,6 +24,8 @@ impl<'a> ReadRowAt<'a> for Of<component_kinds::ComponentTypes> {
     type Row = ComponentType<'a>;
 
     ghost stands = { TypeStands };
+
+    ghost beside = { TypeBeside };
 
     ghost takes_memory = { true };
 
@@ -45,6 +47,8 @@ impl<'a> ReadRowAt<'a> for Of<component_kinds::CoreTypes> {
 
     ghost stands = { λ depth ty. CoreTypeStands ty };
 
+    ghost beside = { CoreTypeBeside };
+
     ghost takes_memory = { true };
 
     #[inline]
@@ -61,6 +65,8 @@ impl<'a> ReadRowAt<'a> for Of<component_kinds::ComponentDeclarations> {
     type Row = ComponentTypeDeclaration<'a>;
 
     ghost stands = { ComponentDeclarationStands };
+
+    ghost beside = { ComponentDeclarationBeside };
 
     ghost takes_memory = { true };
 
@@ -79,6 +85,8 @@ impl<'a> ReadRowAt<'a> for Of<component_kinds::InstanceDeclarations> {
 
     ghost stands = { InstanceDeclarationStands };
 
+    ghost beside = { InstanceDeclarationBeside };
+
     ghost takes_memory = { true };
 
     #[inline]
@@ -88,12 +96,6 @@ impl<'a> ReadRowAt<'a> for Of<component_kinds::InstanceDeclarations> {
         depth: u32,
     ) -> Result<Option<(InstanceTypeDeclaration<'a>, &'a [u8])>, NoMemory> {
         front_instance_declaration(alloc, bytes, depth)
-    }
-}
-
-impl VectorRow for Of<component_kinds::ModuleDeclarations> {
-    fn most(bytes: usize) -> usize {
-        bytes / 3
     }
 }
 

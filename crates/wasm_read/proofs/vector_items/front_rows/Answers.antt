@@ -1,6 +1,7 @@
-use Rattle.std.proofs.Common.{◌≡◌, suc, ◌-◌, [], ◌∷◌, ◌++◌, map, arith, length-append}
+use Rattle.std.proofs.Common.{◌≡◌, suc, ◌-◌, [], ◌∷◌, ◌++◌, map, length, arith, length-append}
 use Rattle.std.proofs.lemmas.List.{map-append}
 use Rattle.wasm_read.proofs.Vectors.{items_more, items_stuck, vec_read, none_vec}
+use Rattle.wasm_read.proofs.RowsBeside.{beside_more}
 use Rattle.wasm_read.proofs.vector_items.front_rows.Goals as goal
 
 pub entries-preserved : goal.entries-preserved
@@ -13,7 +14,9 @@ entries-preserved g c =
     items_more (map g.K.ReadRow.tree before) g.K.RowKind.is_sound g.K.RowKind.is_closed more some c.entries.invariant.0 in
     let counted = c.entries.invariant.1 in
     let long = length-append before (c.in-Ok-Some.entry ∷ []) in
-    rw (pushed, map-append g.K.ReadRow.tree before (c.in-Ok-Some.entry ∷ [])) (so_far, omega arith)
+    let said = rw c.in-Ok-Some.field-0-is at c.in-Ok-Some.ensures.beside in
+    let behind = beside_more g.K.RowKind.shape g.K.ReadRow.tree g.K.ReadRow.beside _ before c.in-Ok-Some.entry c.entries.invariant.2 some said in
+    rw (pushed, map-append g.K.ReadRow.tree before (c.in-Ok-Some.entry ∷ [])) (so_far, omega arith, behind)
 
 pub returns-in-Ok-None-clause-none : goal.returns-in-Ok-None-clause-none
 returns-in-Ok-None-clause-none g c =
@@ -25,3 +28,10 @@ pub returns-clause-some : goal.returns-clause-some
 returns-clause-some g c =
     let ended : c.entries.left ≡ 0 = omega arith in
     vec_read c.in-Some.ensures.some ended c.entries.invariant.0
+
+pub returns-clause-beside : goal.returns-clause-beside
+returns-clause-beside g c =
+    let ended : c.entries.left ≡ 0 = omega arith in
+    let counted = c.entries.invariant.1 in
+    let all : length c.entries.entries ≡ c.in-Some.count = omega arith in
+    (_, rw all c.in-Some.ensures.some, c.entries.invariant.2)

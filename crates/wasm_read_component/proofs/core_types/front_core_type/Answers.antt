@@ -39,3 +39,7 @@ returns-in-Ok-None-front_group-clause-none c =
     let no_scope : c.in-Some.first ≢ 0x50 = λ e. omega arith in
     let open_one : c.in-Some.first ≢ 0x00 = λ e. omega arith in
     no_closed c.in-Some.ensures.some no_scope open_one (rw c.in-Ok-None-front_group.field-0-is at c.in-Ok-None-front_group.ensures.none)
+
+pub returns-in-Ok-Some-clause-beside : goal.returns-in-Ok-Some-clause-beside
+returns-in-Ok-Some-clause-beside c =
+    record { first = _; rest = _; is = c.in-Some.ensures.some; says_so = rw c.in-Ok-Some.field-0-is at c.in-Ok-Some.ensures.fresh }

@@ -34,3 +34,7 @@ pub returns-in_default-first-clause-none : goal.returns-in_default-first-clause-
 returns-in_default-first-clause-none c =
     let other : contains (first_bytes instance_row) c.in-Some.first ≡ false = grind (arith, nat_tests) in
     none_here c.in-Some.ensures.some (none_by_front refl other)
+
+pub returns-in-Ok-Some-front_rows-clause-kinds : goal.returns-in-Ok-Some-front_rows-clause-kinds
+returns-in-Ok-Some-front_rows-clause-kinds c =
+    (_, _, at_byte c.in-Some.ensures.some c.in-1.is, rw c.in-Ok-Some-front_rows.field-0-is at c.in-Ok-Some-front_rows.ensures.beside)

@@ -7,7 +7,7 @@ use Rattle.wasm_shapes.specs.Sound.{contains, first_bytes}
 use Rattle.wasm_shapes.proofs.Begins.{at_byte, begins_byte, begins_seq, none_at_end, none_by_front, none_here, none_lead, none_or, none_ref}
 use Rattle.wasm_shapes.proofs.Depth.{at_full, at_here, at_lead, at_none, so_far_more, so_far_none}
 use Rattle.wasm_read_component.specs.TypeRows.{declaration_of}
-use Rattle.wasm_read_component.proofs.ScopeRows.{behind_first, declarations_closed, declarations_sound, func_is, no_type, scope_held, scope_read, scope_reads, scope_stuck, scope_uncounted}
+use Rattle.wasm_read_component.proofs.ScopeRows.{behind_first, declarations_closed, declarations_sound, func_is, no_type, scope_fresh, scope_held, scope_read, scope_reads, scope_stuck, scope_uncounted}
 use Rattle.wasm_read_component.proofs.TypeDepth.{at_choice, behind_at, flat_row, named_reads}
 use Rattle.wasm_read_component.proofs.type_rows.+types.Goals as goal
 
@@ -28,6 +28,12 @@ front_component_type-returns-in-Ok-None-front_func_type-clause-none t c = no_typ
 
 pub front_component_type-returns-in-Some-reader_before-clause-some : goal.front_component_type-returns-in-Some-reader_before-clause-some
 front_component_type-returns-in-Some-reader_before-clause-some t c = scope_reads {k = 3} _ refl (at_byte c.in-Some.ensures.some c.in-65.is) (rw c.in-Ok-Some-behind_scope.field-0-is at c.in-Ok-Some-behind_scope.ensures.some) c.in-Some-reader_before.ensures.some
+
+pub front_component_type-returns-in-Some-reader_before-clause-beside : goal.front_component_type-returns-in-Some-reader_before-clause-beside
+front_component_type-returns-in-Some-reader_before-clause-beside t c = scope_fresh _ c.in-Some.ensures.some (rw c.in-Ok-Some-behind_scope.field-0-is at c.in-Ok-Some-behind_scope.ensures.some) c.in-Some-reader_before.ensures.fresh
+
+pub front_component_type-returns-in-Some-reader_before-2-clause-beside : goal.front_component_type-returns-in-Some-reader_before-2-clause-beside
+front_component_type-returns-in-Some-reader_before-2-clause-beside t c = scope_fresh _ c.in-Some.ensures.some (rw c.in-Ok-Some-behind_scope-2.field-0-is at c.in-Ok-Some-behind_scope-2.ensures.some) c.in-Some-reader_before-2.ensures.fresh
 
 pub front_component_type-returns-in-None-clause-none : goal.front_component_type-returns-in-None-clause-none
 front_component_type-returns-in-None-clause-none t c = absurd (scope_held (rw c.in-Ok-Some-behind_scope.field-0-is at c.in-Ok-Some-behind_scope.ensures.some) c.in-None.ensures.none)
