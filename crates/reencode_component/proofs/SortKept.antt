@@ -16,7 +16,7 @@ use Rattle.reencode_hooks.specs.Run.{NeverWants, Step, accepted, refused}
 use Rattle.reencode_items.proofs.Leaving.{never_wants}
 use Rattle.reencode_core.proofs.Leaving.{never_refused}
 use Rattle.reencode_core.proofs.OneRow.{answers}
-use Rattle.reencode_component.specs.Clauses.{ItemClauses}
+use Rattle.reencode_items.specs.Clauses.{ItemClauses}
 
 abbrev row_number : Tree → ℕ
 row_number (Tree.row k t) = k

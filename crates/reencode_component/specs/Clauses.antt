@@ -11,7 +11,7 @@ use Rattle.wasm_write_component.specs.ComponentRows as write
 use Rattle.wasm_write.specs.Sections.{Sections}
 use Rattle.reencode_hooks.specs.declared.error.Error.{Error}
 use Rattle.reencode_hooks.specs.declared.indices.ReencodeIndices.{Ghosts}
-use Rattle.reencode_hooks.specs.Run.{LeavesVisited, NeverWants, ask}
+use Rattle.reencode_hooks.specs.Run.{LeavesVisited, ask}
 use Rattle.reencode_items.specs.Maps.{Maps}
 use Rattle.reencode_core.specs.Clauses.{asks}
 use Rattle.reencode_core.specs.Errors.{IfParse}
@@ -19,17 +19,9 @@ use Rattle.reencode_core.specs.Sections.{GivesAdded, KeepsModule}
 
 -- ---- by hooks alone
 
--- An item whose indices are never refused is mapped.
+-- An item whose indices are never refused is mapped by hooks alone.
 abbrev pub HookedValue : {S E B : Type 0} → Ghosts S E → Tree → (B → Tree) → S → S → B → Type 0
 HookedValue i t view s m value = Maps i.reply i.next s t view m (Ok value)
-
--- An item is mapped, and memory never runs out where no hook wants any.
-abbrev pub HookedItem : {S E B : Type 0} → Ghosts S E → Tree → (B → Tree) → S → S → Result B (Error E) → Type 0
-HookedItem i t view s m result =
-    record {
-      default : Maps i.reply i.next s t view m result;
-      sure : NeverWants i.sure result;
-    }
 
 -- ---- by methods, where the reencoder keeps the defaults
 
@@ -37,15 +29,9 @@ HookedItem i t view s m result =
 abbrev pub KindClauses : {S E B : Type 0} → Ghosts S E → B → S → S → B → Type 0
 KindClauses i kind s m value = IsTrue i.keeps_defaults → (value ≡ kind) × (m ≡ s)
 
+-- An item whose indices are never refused is mapped.
 abbrev pub ValueClauses : {S E B : Type 0} → Ghosts S E → Tree → (B → Tree) → S → S → B → Type 0
 ValueClauses i t view s m value = IsTrue i.keeps_defaults → HookedValue i t view s m value
-
-abbrev pub ItemClauses : {S E B : Type 0} → Ghosts S E → Tree → (B → Tree) → S → S → Result B (Error E) → Type 0
-ItemClauses i t view s m result =
-    record {
-      default : IsTrue i.keeps_defaults → Maps i.reply i.next s t view m result;
-      sure : IsTrue i.keeps_defaults → NeverWants i.sure result;
-    }
 
 -- What stands behind the byte of a canonical function is mapped, and keeps its form.
 abbrev pub OperandsClauses : {S E : Type 0} → Ghosts S E → Operands UnpackedIndex (List CanonicalOption) → S → S

@@ -6,7 +6,8 @@ ghost use Rattle.wasm_types.specs.ComponentTrees.{component_val_type_tree, type_
 ghost use Rattle.wasm_read_component.specs.Aliases as read;
 ghost use Rattle.wasm_write_component.specs.Aliases as write;
 ghost use Rattle.reencode_core.specs.Clauses.{RowsClauses};
-ghost use Rattle.reencode_component.specs.Clauses.{ItemClauses, ValueClauses};
+ghost use Rattle.reencode_items.specs.Clauses.{ItemClauses};
+ghost use Rattle.reencode_component.specs.Clauses.{ValueClauses};
 
 use crate::component::ReencodeComponent;
 pub use crate::hooked::{canonical_option, type_bounds};

@@ -1,6 +1,7 @@
 //! What the hooks of a reencoder map by themselves.
 ghost use Rattle.wasm_types.specs.ComponentTrees.{canonical_option_tree, outer_alias, sorted_tree, type_bounds_tree};
-ghost use Rattle.reencode_component.specs.Clauses.{HookedItem, HookedValue};
+ghost use Rattle.reencode_items.specs.Clauses.{IndexClauses};
+ghost use Rattle.reencode_component.specs.Clauses.{HookedValue};
 
 use crate::indices::ReencodeComponentIndices;
 use reencode_hooks::{Error, ReencodeIndices};
@@ -34,7 +35,7 @@ pub(crate) fn outer_index<T: ReencodeComponentIndices>(
     count: u32,
     index: u32,
 ) -> Result<u32, Error<T::Error>>
-    ensures { HookedItem T.ReencodeIndices (outer_alias kind count index) (outer_alias kind count)
+    ensures { IndexClauses T.ReencodeIndices (outer_alias kind count index) (outer_alias kind count)
         reencoder.old reencoder.new result }
 {
     match kind {
@@ -66,7 +67,7 @@ pub fn canonical_option<T: ReencodeIndices>(
     reencoder: &mut T,
     ty: CanonicalOption,
 ) -> Result<CanonicalOption, Error<T::Error>>
-    ensures { HookedItem T.ReencodeIndices (canonical_option_tree ty) canonical_option_tree
+    ensures { IndexClauses T.ReencodeIndices (canonical_option_tree ty) canonical_option_tree
         reencoder.old reencoder.new result }
 {
     match ty {

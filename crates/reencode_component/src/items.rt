@@ -2,7 +2,8 @@
 ghost use Rattle.wasm_types.specs.ComponentTrees.{canonical_option_tree, component_val_type_tree, sorted_tree, type_bounds_tree, type_ref_tree};
 ghost use Rattle.wasm_read_component.specs.Aliases as read;
 ghost use Rattle.wasm_write_component.specs.Aliases as write;
-ghost use Rattle.reencode_component.specs.Clauses.{ItemClauses, KindClauses, ValueClauses};
+ghost use Rattle.reencode_items.specs.Clauses.{ItemClauses};
+ghost use Rattle.reencode_component.specs.Clauses.{KindClauses, ValueClauses};
 
 use crate::indices::ReencodeComponentIndices;
 use crate::{default_bodies, hooked, kinds};

@@ -4,8 +4,7 @@ ghost use Rattle.wasm_read.specs.Types.{export_tree};
 ghost use Rattle.wasm_read_component.specs.ComponentRows.{start_tree};
 ghost use Rattle.wasm_write_component.specs.ComponentRows as write;
 ghost use Rattle.wasm_write_component.specs.declared.sections.ComponentStartSection.{ComponentStartSection};
-ghost use Rattle.reencode_items.specs.Clauses.{ListClauses};
-ghost use Rattle.reencode_component.specs.Clauses.{ItemClauses};
+ghost use Rattle.reencode_items.specs.Clauses.{ItemClauses, ListClauses};
 
 use crate::item_lists::{
     ComponentArgs, ComponentValues, CoreExports, InlineExports, InstantiationArgs,
