@@ -3,9 +3,10 @@ use std::alloc::Global;
 use wasm_leb::{Fault, List, NoMemory, ReadError};
 use wasm_read::TypeRef;
 use wasm_read_component::{
-    ComponentAlias, ComponentDefinedType, ComponentImport, ComponentOuterAliasKind, ComponentType,
-    ComponentTypeDeclaration, ComponentTypeRef, ComponentTypeSectionReader, ComponentValType,
-    CoreType, CoreTypeSectionReader, InstanceTypeDeclaration, ModuleTypeDeclaration,
+    ComponentAlias, ComponentDeclarations, ComponentDefinedType, ComponentImport,
+    ComponentOuterAliasKind, ComponentType, ComponentTypeDeclaration, ComponentTypeRef,
+    ComponentTypeSectionReader, ComponentValType, CoreType, CoreTypeSectionReader,
+    InstanceDeclarations, InstanceTypeDeclaration, ModuleDeclarations, ModuleTypeDeclaration,
     PrimitiveValType, TypeBounds,
 };
 
@@ -42,33 +43,91 @@ fn functions(rt: HostRuntime) -> Result<(), Fault> {
     Ok(())
 }
 
+fn of_instance(ty: ComponentType<'_>) -> Option<InstanceDeclarations<'_>> {
+    match ty {
+        ComponentType::Instance(declarations) => Some(declarations),
+        _other => None,
+    }
+}
+
+fn of_component(ty: ComponentType<'_>) -> Option<ComponentDeclarations<'_>> {
+    match ty {
+        ComponentType::Component(declarations) => Some(declarations),
+        _other => None,
+    }
+}
+
+/// The type in the first row.
+fn first_type<'a>(alloc: Global, body: &'a [u8]) -> Result<Option<ComponentType<'a>>, Fault> {
+    let mut rows = ComponentTypeSectionReader::new(body, 0)?;
+    rows.next_row(alloc)
+}
+
+fn declared_type(declaration: InstanceTypeDeclaration<'_>) -> Option<ComponentType<'_>> {
+    match declaration {
+        InstanceTypeDeclaration::Type_(ty) => Some(ty),
+        _other => None,
+    }
+}
+
+fn declared_export(declaration: InstanceTypeDeclaration<'_>) -> Option<(&str, ComponentTypeRef)> {
+    match declaration {
+        InstanceTypeDeclaration::Export { name, ty } => Some((name, ty)),
+        _other => None,
+    }
+}
+
+fn is_function(ty: ComponentType<'_>) -> bool {
+    match ty {
+        ComponentType::Func(_ty) => true,
+        _other => false,
+    }
+}
+
 /// A type and an export of an instance.
 #[test]
 fn instance_types(rt: HostRuntime) -> Result<(), Fault> {
     let body = &[
         1u8, 0x42, 2, 0x01, 0x40, 0, 0x01, 0x00, 0x04, 0, 1, 0x66, 0x01, 0,
     ];
-    let mut rows = ComponentTypeSectionReader::new(body, 0)?;
-    let Some(ComponentType::Instance(mut declarations)) = rows.next_row(rt.alloc())? else {
+    let Some(row) = first_type(rt.alloc(), body)? else {
         assert!(rt; false);
         return Ok(());
     };
-    assert_eq!(rt; declarations.count(), 2);
-    let Some(InstanceTypeDeclaration::Type_(ComponentType::Func(ty))) = declarations.next_row(
-        rt.alloc(),
-    )?
-    else {
+    let Some(mut declarations) = of_instance(row) else {
         assert!(rt; false);
         return Ok(());
     };
-    assert_eq!(rt; ty.result, None);
-    let Some(InstanceTypeDeclaration::Export { name, ty }) = declarations.next_row(rt.alloc())?
-    else {
+    let Some(first) = declarations.next_row(rt.alloc())? else {
         assert!(rt; false);
         return Ok(());
     };
-    assert_eq!(rt; (name, ty), ("f", ComponentTypeRef::Func(0)));
+    if let Some(ty) = declared_type(first) {
+        assert!(rt; is_function(ty));
+    } else {
+        assert!(rt; false);
+    }
+    let Some(second) = declarations.next_row(rt.alloc())? else {
+        assert!(rt; false);
+        return Ok(());
+    };
+    let export = ("f", ComponentTypeRef::Func(0));
+    assert_eq!(rt; declared_export(second), Some(export));
     Ok(())
+}
+
+fn declared_import(declaration: ComponentTypeDeclaration<'_>) -> Option<ComponentImport<'_>> {
+    match declaration {
+        ComponentTypeDeclaration::Import(import) => Some(import),
+        _other => None,
+    }
+}
+
+fn declared_alias(declaration: ComponentTypeDeclaration<'_>) -> Option<ComponentAlias<'_>> {
+    match declaration {
+        ComponentTypeDeclaration::Alias(alias) => Some(alias),
+        _other => None,
+    }
 }
 
 /// A resource that is imported, and an alias of a type one scope further out.
@@ -77,12 +136,15 @@ fn component_types(rt: HostRuntime) -> Result<(), Fault> {
     let body = &[
         1u8, 0x41, 2, 0x03, 0, 1, 0x72, 0x03, 0x01, 0x02, 0x03, 0x02, 1, 7,
     ];
-    let mut rows = ComponentTypeSectionReader::new(body, 0)?;
-    let Some(ComponentType::Component(mut declarations)) = rows.next_row(rt.alloc())? else {
+    let Some(row) = first_type(rt.alloc(), body)? else {
         assert!(rt; false);
         return Ok(());
     };
-    let Some(ComponentTypeDeclaration::Import(import)) = declarations.next_row(rt.alloc())? else {
+    let Some(mut declarations) = of_component(row) else {
+        assert!(rt; false);
+        return Ok(());
+    };
+    let Some(first) = declarations.next_row(rt.alloc())? else {
         assert!(rt; false);
         return Ok(());
     };
@@ -90,8 +152,8 @@ fn component_types(rt: HostRuntime) -> Result<(), Fault> {
         name: "r",
         ty: ComponentTypeRef::Type_(TypeBounds::SubResource),
     };
-    assert_eq!(rt; import, resource);
-    let Some(ComponentTypeDeclaration::Alias(alias)) = declarations.next_row(rt.alloc())? else {
+    assert_eq!(rt; declared_import(first), Some(resource));
+    let Some(second) = declarations.next_row(rt.alloc())? else {
         assert!(rt; false);
         return Ok(());
     };
@@ -100,7 +162,7 @@ fn component_types(rt: HostRuntime) -> Result<(), Fault> {
         count: 1,
         index: 7,
     };
-    assert_eq!(rt; alias, outer);
+    assert_eq!(rt; declared_alias(second), Some(outer));
     Ok(())
 }
 
@@ -117,7 +179,33 @@ fn groups(rt: HostRuntime) -> Result<(), Fault> {
     Ok(())
 }
 
-/// A function that is imported, an alias, and a tag that is exported.
+fn of_module(ty: CoreType<'_>) -> Option<ModuleDeclarations<'_>> {
+    match ty {
+        CoreType::Module(declarations) => Some(declarations),
+        _other => None,
+    }
+}
+
+/// What a declaration of a module type says: the names and the index of a function, or how far out a type is and its index.
+fn said(declaration: ModuleTypeDeclaration<'_>) -> (&str, &str, u32, u32) {
+    match declaration {
+        ModuleTypeDeclaration::Import(import) => {
+            (import.module, import.name, function_of(import.ty), 0)
+        }
+        ModuleTypeDeclaration::Export { name, ty } => (name, "", function_of(ty), 0),
+        ModuleTypeDeclaration::OuterAlias { count, index, .. } => ("", "", count, index),
+        ModuleTypeDeclaration::Type_(_group) => ("", "", 0, 0),
+    }
+}
+
+fn function_of(ty: TypeRef) -> u32 {
+    match ty {
+        TypeRef::Func(index) => index,
+        _ => 0,
+    }
+}
+
+/// A function that is imported, an alias, and a function that is exported.
 #[test]
 fn module_types(rt: HostRuntime) -> Result<(), Fault> {
     let body = &[
@@ -125,31 +213,21 @@ fn module_types(rt: HostRuntime) -> Result<(), Fault> {
         3,
     ];
     let mut rows = CoreTypeSectionReader::new(body, 0)?;
-    let Some(CoreType::Module(mut declarations)) = rows.next_row(rt.alloc())? else {
+    let Some(row) = rows.next_row(rt.alloc())? else {
         assert!(rt; false);
         return Ok(());
     };
-    let Some(ModuleTypeDeclaration::Import(import)) = declarations.next_row(rt.alloc())? else {
+    let Some(mut declarations) = of_module(row) else {
         assert!(rt; false);
         return Ok(());
     };
-    assert_eq!(rt;
-        (import.module, import.name, import.ty),
-        ("m", "f", TypeRef::Func(2))
-    );
-    let Some(ModuleTypeDeclaration::OuterAlias { count, index, .. }) = declarations.next_row(
-        rt.alloc(),
-    )?
-    else {
-        assert!(rt; false);
-        return Ok(());
-    };
-    assert_eq!(rt; (count, index), (1, 7));
-    let Some(ModuleTypeDeclaration::Export { name, ty }) = declarations.next_row(rt.alloc())? else {
-        assert!(rt; false);
-        return Ok(());
-    };
-    assert_eq!(rt; (name, ty), ("e", TypeRef::Func(3)));
+    for words in [("m", "f", 2, 0), ("", "", 1, 7), ("e", "", 3, 0)] {
+        if let Some(declaration) = declarations.next_row(rt.alloc())? {
+            assert_eq!(rt; said(declaration), words);
+        } else {
+            assert!(rt; false);
+        }
+    }
     Ok(())
 }
 
@@ -167,12 +245,18 @@ fn nested(alloc: Global, more: u32) -> Result<List<u8>, NoMemory> {
     Ok(body)
 }
 
+fn declares(ty: ComponentType<'_>) -> u32 {
+    match of_component(ty) {
+        Some(declarations) => declarations.count(),
+        None => 0,
+    }
+}
+
 #[test]
 fn depth(rt: HostRuntime) -> Result<(), Fault> {
     let body = nested(rt.alloc(), 199)?;
-    let mut rows = ComponentTypeSectionReader::new(body.as_slice(), 0)?;
-    if let Some(ComponentType::Component(declarations)) = rows.next_row(rt.alloc())? {
-        assert_eq!(rt; declarations.count(), 1);
+    if let Some(ty) = first_type(rt.alloc(), body.as_slice())? {
+        assert_eq!(rt; declares(ty), 1);
     } else {
         assert!(rt; false);
     }

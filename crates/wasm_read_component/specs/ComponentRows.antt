@@ -30,12 +30,14 @@ pub record BehindStart (body : List ℕ) (at : ℕ) : Type 0 where
   pub some : rest ≢ []
   pub place : at ≡ length body - length rest
 
--- At the front a start is due and none begins; or it stands there, and bytes are left behind it. Either way the body is no start.
+-- At the front a start is due and none begins; or it stands there, and bytes are left behind it. Either way it does not fill the
+-- body.
 pub record NoStart (body : List ℕ) (at : ℕ) : Type 0 where
   pub here : ((at ≡ 0) × BeginsNone component_start body) ⊎ BehindStart body at
   pub none : (t : Tree) → Spells component_start body t → ⊥
 
--- the error holds that place, or memory runs out
+-- no start fills the body: the error holds the place where it is due and none begins, or of the bytes left behind it; or memory runs
+-- out
 abbrev pub StartRefused : Fault → List ℕ → Type 0
 StartRefused (fault.Read e) body = NoStart body e.at
 StartRefused fault.NoMemory body = Unit {0}

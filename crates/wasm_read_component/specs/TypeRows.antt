@@ -78,7 +78,7 @@ pub record BehindFirst (says : List ℕ → Type 0) (bytes : List ℕ) : Type 0 
 abbrev pub named_entity : Shape
 named_entity = Shape.seq Shape.name entity
 
--- the same of a type by its tree
+-- this name and the type for which this tree stands
 abbrev pub named_entity_tree : List ℕ → Tree → Tree
 named_entity_tree name t = Tree.pair (Tree.name name) t
 
@@ -86,7 +86,7 @@ named_entity_tree name t = Tree.pair (Tree.name name) t
 abbrev pub outer_type : Shape
 outer_type = lead 0x10 (lead 0x01 (Shape.outer space.Type_))
 
--- the same of an index, so many scopes further out
+-- an alias of this type so many scopes further out
 abbrev pub outer_type_tree : ℕ → ℕ → Tree
 outer_type_tree c i = led 0x10 (led 0x01 (Tree.outer space.Type_ c i))
 
@@ -113,12 +113,12 @@ TypeStands depth (component.Component reader) = Behind 3 0x41 (DeclaresAt compon
 TypeStands depth (component.Instance reader) = Behind 4 0x42 (DeclaresAt instance_declaration depth reader)
 TypeStands depth (component.Resource rep dtor) = Exactly (resource_tree (val_type_tree rep) dtor)
 
--- the reader that a row has stands at the first of its declarations
+-- the reader that a module type has stands at the first of its declarations
 abbrev pub CoreTypeBeside : List ℕ → CoreType → Type 0
 CoreTypeBeside bytes (core.Module reader) = BehindFirst (Fresh reader) bytes
 CoreTypeBeside bytes _ = Unit {0}
 
--- the same of the type of a component or an instance
+-- the reader that the type of a component or an instance has stands at the first of its declarations
 abbrev pub TypeBeside : List ℕ → ComponentType → Type 0
 TypeBeside bytes (component.Component reader) = BehindFirst (Fresh reader.rows) bytes
 TypeBeside bytes (component.Instance reader) = BehindFirst (Fresh reader.rows) bytes
@@ -140,8 +140,8 @@ InstanceDeclarationStands depth (in_instance.Type_ ty) = Behind 1 0x01 (TypeStan
 InstanceDeclarationStands depth (in_instance.Alias alias) = Exactly (Tree.row 2 (led 0x02 (alias_tree alias)))
 InstanceDeclarationStands depth (in_instance.Export name ty) = Exactly (Tree.row 3 (led 0x04 (extern_tree name.now (type_ref_tree ty))))
 
--- what the bytes of a declaration say beside its tree: of a reader that it stands at the first row, of an alias that no function
--- is read as one of exactly its type
+-- what the bytes of a declaration of an instance type say beside its tree: of a reader that it stands at the first row, of an alias
+-- that no function is read as one of exactly its type
 abbrev pub InstanceDeclarationBeside : List ℕ → InstanceTypeDeclaration → Type 0
 InstanceDeclarationBeside bytes (in_instance.CoreType ty) = BehindFirst (λ rest. CoreTypeBeside rest ty) bytes
 InstanceDeclarationBeside bytes (in_instance.Type_ ty) = BehindFirst (λ rest. TypeBeside rest ty) bytes

@@ -1,36 +1,18 @@
 //! Types of values that are defined, and types of functions and resources, at the front of some bytes.
 ghost use Rattle.std.specs.Prelude.{◌≡◌, IfOk, IfSome, IfNone};
 ghost use Rattle.wasm_shapes.specs.Place.{Begins, BeginsNone};
-ghost use Rattle.wasm_shapes.specs.Component.{defined_type, function_type, maybe_value, named_value, variant_case};
-ghost use Rattle.wasm_types.specs.ComponentTrees.{component_defined_type_tree, component_signature_tree, maybe_function, maybe_value_tree, named_value_tree, resource_parts, variant_case_tree};
+ghost use Rattle.wasm_shapes.specs.Component.{defined_type, function_type, named_value, variant_case};
+ghost use Rattle.wasm_types.specs.ComponentTrees.{component_defined_type_tree, component_signature_tree, named_value_tree, resource_parts, variant_case_tree};
 ghost use Rattle.wasm_read.specs.Types.{val_type_tree};
-ghost use Rattle.wasm_read_component.specs.TypeRows.{destructor, resource};
+ghost use Rattle.wasm_read_component.specs.TypeRows.{resource};
 
+use crate::optional::front_optional;
 use crate::types::{ComponentDefinedType, ComponentFuncType, ComponentValType, VariantCase};
 use crate::value_items::{Labels, NamedValues, ValueTypes, VariantCases};
 use crate::value_types::{front_component_val_type, front_result, primitive_of};
 use std::alloc::Global;
 use wasm_leb::{NoMemory, front_byte, front_u32};
 use wasm_read::{ValType, front_name, front_rows, front_val_type};
-
-/// A type of values that may be left out, at the front of some bytes, and the bytes behind it.
-fn front_maybe_value(bytes: &[u8]) -> Option<(Option<ComponentValType>, &[u8])>
-    ensures some { IfSome result (λ r.
-        Begins maybe_value bytes.now (maybe_value_tree r.0) r.1.now) }
-    ensures none { IfNone result (BeginsNone maybe_value bytes.now) }
-{
-    let Some((first, rest)) = front_byte(bytes) else {
-        return None;
-    };
-    match first {
-        0x00 => Some((None, rest)),
-        0x01 => match front_component_val_type(rest) {
-            Some((ty, rest)) => Some((Some(ty), rest)),
-            None => None,
-        },
-        _ => None,
-    }
-}
 
 /// A name and a type at the front of some bytes, and the bytes behind them.
 pub fn front_named_value(bytes: &[u8]) -> Option<((&str, ComponentValType), &[u8])>
@@ -56,7 +38,7 @@ pub fn front_variant_case(bytes: &[u8]) -> Option<(VariantCase<'_>, &[u8])>
     let Some((name, rest)) = front_name(bytes) else {
         return None;
     };
-    let Some((ty, rest)) = front_maybe_value(rest) else {
+    let Some((ty, rest)) = front_optional::<ComponentValType>(rest) else {
         return None;
     };
     let Some((last, rest)) = front_byte(rest) else {
@@ -115,10 +97,10 @@ pub fn front_defined_type<'a>(
             None => Ok(None),
         },
         0x6a => {
-            let Some((ok, rest)) = front_maybe_value(rest) else {
+            let Some((ok, rest)) = front_optional::<ComponentValType>(rest) else {
                 return Ok(None);
             };
-            match front_maybe_value(rest) {
+            match front_optional::<ComponentValType>(rest) {
                 Some((err, rest)) => Ok(Some((ComponentDefinedType::Result { ok, err }, rest))),
                 None => Ok(None),
             }
@@ -142,11 +124,11 @@ pub fn front_defined_type<'a>(
                 None => Ok(None),
             }
         }
-        0x66 => match front_maybe_value(rest) {
+        0x66 => match front_optional::<ComponentValType>(rest) {
             Some((ty, rest)) => Ok(Some((ComponentDefinedType::Stream(ty), rest))),
             None => Ok(None),
         },
-        0x65 => match front_maybe_value(rest) {
+        0x65 => match front_optional::<ComponentValType>(rest) {
             Some((ty, rest)) => Ok(Some((ComponentDefinedType::Future(ty), rest))),
             None => Ok(None),
         },
@@ -196,25 +178,6 @@ pub fn front_func_type<'a>(
     }
 }
 
-/// A function that is called with a resource, which may be left out, at the front of some bytes, and the bytes behind it.
-fn front_maybe_function(bytes: &[u8]) -> Option<(Option<u32>, &[u8])>
-    ensures some { IfSome result (λ r.
-        Begins destructor bytes.now (maybe_function r.0) r.1.now) }
-    ensures none { IfNone result (BeginsNone destructor bytes.now) }
-{
-    let Some((first, rest)) = front_byte(bytes) else {
-        return None;
-    };
-    match first {
-        0x00 => Some((None, rest)),
-        0x01 => match front_u32(rest) {
-            Some((index, rest)) => Some((Some(index), rest)),
-            None => None,
-        },
-        _ => None,
-    }
-}
-
 /// The type of a resource at the front of some bytes, behind its byte: what stands for it, and the function that is called
 /// where it is dropped; and the bytes behind it.
 pub fn front_resource(bytes: &[u8]) -> Option<(ValType, Option<u32>, &[u8])>
@@ -225,7 +188,7 @@ pub fn front_resource(bytes: &[u8]) -> Option<(ValType, Option<u32>, &[u8])>
     let Some((rep, rest)) = front_val_type(bytes) else {
         return None;
     };
-    match front_maybe_function(rest) {
+    match front_optional::<u32>(rest) {
         Some((dtor, rest)) => Some((rep, dtor, rest)),
         None => None,
     }

@@ -8,6 +8,7 @@ mod declarations;
 mod defined_types;
 mod items;
 mod nested;
+mod optional;
 mod payloads;
 mod rows;
 mod scoped_reader;

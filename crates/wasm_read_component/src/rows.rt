@@ -7,13 +7,12 @@ ghost use Rattle.wasm_read.specs.Types.{export_tree};
 ghost use Rattle.wasm_read_component.specs.ComponentRows.{InstanceKinds, start_tree};
 
 use crate::items::{ComponentArgs, ComponentValues, CoreExports, InlineExports, InstantiationArgs};
+use crate::optional::front_optional;
 use crate::types::{
     ComponentArg, ComponentExport, ComponentImport, ComponentInstance, ComponentStartFunction,
-    Instance, InstantiationArg, InstantiationArgKind,
+    ComponentTypeRef, Instance, InstantiationArg, InstantiationArgKind,
 };
-use crate::value_types::{
-    front_component_type_ref, front_extern_name, front_maybe_type_ref, front_sorted,
-};
+use crate::value_types::{front_component_type_ref, front_extern_name, front_sorted};
 use std::alloc::Global;
 use wasm_leb::{NoMemory, front_byte, front_u32};
 use wasm_read::{front_name, front_rows};
@@ -45,7 +44,7 @@ pub fn front_component_export(bytes: &[u8]) -> Option<(ComponentExport<'_>, &[u8
     let Some((kind, index, rest)) = front_sorted(rest) else {
         return None;
     };
-    match front_maybe_type_ref(rest) {
+    match front_optional::<ComponentTypeRef>(rest) {
         Some((ty, rest)) => Some((
             ComponentExport {
                 name,

@@ -78,6 +78,49 @@ pub fn front_component_type<'a>(
     }
 }
 
+// The declaration at the front of some bytes, and the bytes behind it: of what instance types and component types both declare, and
+// of what one of them has beside.
+macro_rules! front_declaration {
+    ($of:ident, $alloc:ident, $bytes:ident, $depth:ident $(, $byte:literal => $import:ident)?) => {{
+        let Some((first, rest)) = front_byte($bytes) else {
+            return Ok(None);
+        };
+        match first {
+            0x00 => match front_core_type($alloc, rest, $depth) {
+                Ok(Some((ty, rest))) => Ok(Some(($of::CoreType(ty), rest))),
+                Ok(None) => Ok(None),
+                Err(NoMemory) => Err(NoMemory),
+            },
+            0x01 => match front_component_type($alloc, rest, $depth) {
+                Ok(Some((ty, rest))) => Ok(Some(($of::Type_(ty), rest))),
+                Ok(None) => Ok(None),
+                Err(NoMemory) => Err(NoMemory),
+            },
+            0x02 => match front_alias(rest) {
+                Some((alias, rest)) => Ok(Some(($of::Alias(alias), rest))),
+                None => Ok(None),
+            },
+            $(
+                $byte => match front_component_import(rest) {
+                    Some((import, rest)) => Ok(Some(($of::$import(import), rest))),
+                    None => Ok(None),
+                },
+            )?
+            0x04 => match front_component_import(rest) {
+                Some((export, rest)) => Ok(Some((
+                    $of::Export {
+                        name: export.name,
+                        ty: export.ty,
+                    },
+                    rest,
+                ))),
+                None => Ok(None),
+            },
+            _ => Ok(None),
+        }
+    }};
+}
+
 /// The declaration of an instance type at the front of some bytes, and the bytes behind it.
 #[cycle(types)]
 pub fn front_instance_declaration<'a>(
@@ -92,36 +135,7 @@ pub fn front_instance_declaration<'a>(
     ensures none { IfOk result (λ o. IfNone o
         (BeginsNoneAt instance_declaration depth bytes.now)) }
 {
-    let Some((first, rest)) = front_byte(bytes) else {
-        return Ok(None);
-    };
-    match first {
-        0x00 => match front_core_type(alloc, rest, depth) {
-            Ok(Some((ty, rest))) => Ok(Some((InstanceTypeDeclaration::CoreType(ty), rest))),
-            Ok(None) => Ok(None),
-            Err(NoMemory) => Err(NoMemory),
-        },
-        0x01 => match front_component_type(alloc, rest, depth) {
-            Ok(Some((ty, rest))) => Ok(Some((InstanceTypeDeclaration::Type_(ty), rest))),
-            Ok(None) => Ok(None),
-            Err(NoMemory) => Err(NoMemory),
-        },
-        0x02 => match front_alias(rest) {
-            Some((alias, rest)) => Ok(Some((InstanceTypeDeclaration::Alias(alias), rest))),
-            None => Ok(None),
-        },
-        0x04 => match front_component_import(rest) {
-            Some((export, rest)) => Ok(Some((
-                InstanceTypeDeclaration::Export {
-                    name: export.name,
-                    ty: export.ty,
-                },
-                rest,
-            ))),
-            None => Ok(None),
-        },
-        _ => Ok(None),
-    }
+    front_declaration!(InstanceTypeDeclaration, alloc, bytes, depth)
 }
 
 /// The declaration of a component type at the front of some bytes, and the bytes behind it.
@@ -138,40 +152,7 @@ pub fn front_component_declaration<'a>(
     ensures none { IfOk result (λ o. IfNone o
         (BeginsNoneAt component_declaration depth bytes.now)) }
 {
-    let Some((first, rest)) = front_byte(bytes) else {
-        return Ok(None);
-    };
-    match first {
-        0x00 => match front_core_type(alloc, rest, depth) {
-            Ok(Some((ty, rest))) => Ok(Some((ComponentTypeDeclaration::CoreType(ty), rest))),
-            Ok(None) => Ok(None),
-            Err(NoMemory) => Err(NoMemory),
-        },
-        0x01 => match front_component_type(alloc, rest, depth) {
-            Ok(Some((ty, rest))) => Ok(Some((ComponentTypeDeclaration::Type_(ty), rest))),
-            Ok(None) => Ok(None),
-            Err(NoMemory) => Err(NoMemory),
-        },
-        0x02 => match front_alias(rest) {
-            Some((alias, rest)) => Ok(Some((ComponentTypeDeclaration::Alias(alias), rest))),
-            None => Ok(None),
-        },
-        0x03 => match front_component_import(rest) {
-            Some((import, rest)) => Ok(Some((ComponentTypeDeclaration::Import(import), rest))),
-            None => Ok(None),
-        },
-        0x04 => match front_component_import(rest) {
-            Some((export, rest)) => Ok(Some((
-                ComponentTypeDeclaration::Export {
-                    name: export.name,
-                    ty: export.ty,
-                },
-                rest,
-            ))),
-            None => Ok(None),
-        },
-        _ => Ok(None),
-    }
+    front_declaration!(ComponentTypeDeclaration, alloc, bytes, depth, 0x03 => Import)
 }
 
 /// The bytes behind the declaration of a scope that they begin with.

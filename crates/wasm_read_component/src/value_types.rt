@@ -1,11 +1,10 @@
 //! Types of values, and of what is imported and exported, at the front of some bytes.
 ghost use Rattle.std.specs.Prelude.{◌≡◌, ◌≢◌, ◌++◌, ℕ, List, IfSome, IfNone};
 ghost use Rattle.wasm_shapes.specs.Place.{Begins, BeginsNone};
-ghost use Rattle.wasm_shapes.specs.Shape.{Shape};
 ghost use Rattle.wasm_shapes.specs.Component.{component_value, extern_name, function_result, sorted_item, type_bounds, type_ref};
 ghost use Rattle.wasm_types.specs.declared.components.ComponentExternalKind.{ComponentExternalKind};
 ghost use Rattle.wasm_types.specs.declared.components.PrimitiveValType.{PrimitiveValType};
-ghost use Rattle.wasm_types.specs.ComponentTrees.{component_val_type_tree, extern_name_tree, maybe_type_ref, primitive_byte, result_tree, sort_bytes, sorted_tree, type_bounds_tree, type_ref_tree};
+ghost use Rattle.wasm_types.specs.ComponentTrees.{component_val_type_tree, extern_name_tree, primitive_byte, result_tree, sort_bytes, sorted_tree, type_bounds_tree, type_ref_tree};
 
 use crate::types::{
     ComponentExternalKind, ComponentTypeRef, ComponentValType, PrimitiveValType, TypeBounds,
@@ -163,25 +162,6 @@ pub fn front_extern_name(bytes: &[u8]) -> Option<(&str, &[u8])>
     match front_name(rest) {
         Some((name, rest)) => Some((name, rest)),
         None => None,
-    }
-}
-
-/// A type of what is exported, which may be left out, at the front of some bytes, and the bytes behind it.
-pub fn front_maybe_type_ref(bytes: &[u8]) -> Option<(Option<ComponentTypeRef>, &[u8])>
-    ensures some { IfSome result (λ r.
-        Begins (Shape.opt type_ref) bytes.now (maybe_type_ref r.0) r.1.now) }
-    ensures none { IfNone result (BeginsNone (Shape.opt type_ref) bytes.now) }
-{
-    let Some((first, rest)) = front_byte(bytes) else {
-        return None;
-    };
-    match first {
-        0x00 => Some((None, rest)),
-        0x01 => match front_component_type_ref(rest) {
-            Some((ty, rest)) => Some((Some(ty), rest)),
-            None => None,
-        },
-        _ => None,
     }
 }
 

@@ -90,10 +90,13 @@ abbrev pub component_val_type_tree : ComponentValType → Tree
 component_val_type_tree (value.Primitive ty) = Tree.row 0 (primitive_tree ty)
 component_val_type_tree (value.Type_ i) = Tree.row 1 (Tree.sx space.ComponentType i)
 
--- one that may be left out
+-- what may be left out, by what it stands for where it is not
+abbrev pub maybe_tree : {A : Type 0} → (A → Tree) → Option A → Tree
+maybe_tree tree None = Tree.absent
+maybe_tree tree (Some x) = Tree.present (tree x)
+
 abbrev pub maybe_value_tree : Option ComponentValType → Tree
-maybe_value_tree None = Tree.absent
-maybe_value_tree (Some ty) = Tree.present (component_val_type_tree ty)
+maybe_value_tree ty = maybe_tree component_val_type_tree ty
 
 -- a name and a type, of a field or a parameter
 abbrev pub named_value_tree : Bor (List ℕ) × ComponentValType → Tree
@@ -170,8 +173,7 @@ type_ref_tree (ref.Component i) = sort_tree kind.Component (type_tree i)
 type_ref_tree (ref.Instance i) = sort_tree kind.Instance (type_tree i)
 
 abbrev pub maybe_type_ref : Option ComponentTypeRef → Tree
-maybe_type_ref None = Tree.absent
-maybe_type_ref (Some ty) = Tree.present (type_ref_tree ty)
+maybe_type_ref ty = maybe_tree type_ref_tree ty
 
 -- a name of what is imported or exported
 abbrev pub extern_name_tree : List ℕ → Tree
@@ -345,10 +347,8 @@ func_row true t = Tree.row 2 (led 0x43 t)
 abbrev pub component_func_type_tree : ComponentFuncType → Tree
 component_func_type_tree f = func_row f.async_ (component_signature_tree f)
 
--- an index of a function, which may be left out
 abbrev pub maybe_function : Option ℕ → Tree
-maybe_function None = Tree.absent
-maybe_function (Some i) = Tree.present (Tree.ix space.Function i)
+maybe_function i = maybe_tree (Tree.ix space.Function) i
 
 -- a resource behind its byte, by the tree of the type that stands for it
 abbrev pub resource_parts : Tree → Option ℕ → Tree

@@ -57,14 +57,14 @@ returns-in-Some-front_component_val_type-2-clause-some c = begins_row {k = 7} (b
 pub returns-in-None-front_component_val_type-clause-none : goal.returns-in-None-front_component_val_type-clause-none
 returns-in-None-front_component_val_type-clause-none c = none_here (at_byte c.in-Some.ensures.some c.in-107.is) (none_choice defined_type 107 _ refl (none_lead refl c.in-None-front_component_val_type.ensures.none, tt))
 
-pub returns-in-Some-front_maybe_value-2-clause-some : goal.returns-in-Some-front_maybe_value-2-clause-some
-returns-in-Some-front_maybe_value-2-clause-some c = begins_row {k = 8} (begins_seq (begins_byte (at_byte c.in-Some.ensures.some c.in-106.is)) (begins_seq c.in-Some-front_maybe_value.ensures.some c.in-Some-front_maybe_value-2.ensures.some))
+pub returns-in-Some-front_optional-2-clause-some : goal.returns-in-Some-front_optional-2-clause-some
+returns-in-Some-front_optional-2-clause-some c = begins_row {k = 8} (begins_seq (begins_byte (at_byte c.in-Some.ensures.some c.in-106.is)) (begins_seq c.in-Some-front_optional.ensures.some c.in-Some-front_optional-2.ensures.some))
 
-pub returns-in_default-front_maybe_value-clause-none : goal.returns-in_default-front_maybe_value-clause-none
-returns-in_default-front_maybe_value-clause-none c = none_here (at_byte c.in-Some.ensures.some c.in-106.is) (none_choice defined_type 106 _ refl (none_lead refl (none_seq_first c.in_default-front_maybe_value.ensures.none), tt))
+pub returns-in_default-front_optional-clause-none : goal.returns-in_default-front_optional-clause-none
+returns-in_default-front_optional-clause-none c = none_here (at_byte c.in-Some.ensures.some c.in-106.is) (none_choice defined_type 106 _ refl (none_lead refl (none_seq_first c.in_default-front_optional.ensures.none), tt))
 
-pub returns-in-None-front_maybe_value-clause-none : goal.returns-in-None-front_maybe_value-clause-none
-returns-in-None-front_maybe_value-clause-none c = none_here (at_byte c.in-Some.ensures.some c.in-106.is) (none_choice defined_type 106 _ refl (none_lead refl (none_seq_second refl refl c.in-Some-front_maybe_value.ensures.some c.in-None-front_maybe_value.ensures.none), tt))
+pub returns-in-None-front_optional-clause-none : goal.returns-in-None-front_optional-clause-none
+returns-in-None-front_optional-clause-none c = none_here (at_byte c.in-Some.ensures.some c.in-106.is) (none_choice defined_type 106 _ refl (none_lead refl (none_seq_second refl refl c.in-Some-front_optional.ensures.some c.in-None-front_optional.ensures.none), tt))
 
 pub returns-in-Some-front_u32-clause-some : goal.returns-in-Some-front_u32-clause-some
 returns-in-Some-front_u32-clause-some c = begins_row {k = 9} (begins_seq (begins_byte (at_byte c.in-Some.ensures.some c.in-105.is)) (begins_ix c.in-Some-front_u32.ensures.some))
@@ -87,17 +87,17 @@ returns-in_default-front_component_val_type-clause-none c = none_here (at_byte c
 pub returns-in-None-front_u32-3-clause-none : goal.returns-in-None-front_u32-3-clause-none
 returns-in-None-front_u32-3-clause-none c = none_here (at_byte c.in-Some.ensures.some c.in-103.is) (none_choice defined_type 103 _ refl (none_lead refl (none_seq_second refl refl c.in-Some-front_component_val_type-3.ensures.some (none_u32 c.in-None-front_u32-3.ensures.none)), tt))
 
-pub returns-in-Some-front_maybe_value-3-clause-some : goal.returns-in-Some-front_maybe_value-3-clause-some
-returns-in-Some-front_maybe_value-3-clause-some c = begins_row {k = 12} (begins_seq (begins_byte (at_byte c.in-Some.ensures.some c.in-102.is)) c.in-Some-front_maybe_value-3.ensures.some)
+pub returns-in-Some-front_optional-3-clause-some : goal.returns-in-Some-front_optional-3-clause-some
+returns-in-Some-front_optional-3-clause-some c = begins_row {k = 12} (begins_seq (begins_byte (at_byte c.in-Some.ensures.some c.in-102.is)) c.in-Some-front_optional-3.ensures.some)
 
-pub returns-in-None-front_maybe_value-2-clause-none : goal.returns-in-None-front_maybe_value-2-clause-none
-returns-in-None-front_maybe_value-2-clause-none c = none_here (at_byte c.in-Some.ensures.some c.in-102.is) (none_choice defined_type 102 _ refl (none_lead refl c.in-None-front_maybe_value-2.ensures.none, tt))
+pub returns-in-None-front_optional-2-clause-none : goal.returns-in-None-front_optional-2-clause-none
+returns-in-None-front_optional-2-clause-none c = none_here (at_byte c.in-Some.ensures.some c.in-102.is) (none_choice defined_type 102 _ refl (none_lead refl c.in-None-front_optional-2.ensures.none, tt))
 
-pub returns-in-Some-front_maybe_value-4-clause-some : goal.returns-in-Some-front_maybe_value-4-clause-some
-returns-in-Some-front_maybe_value-4-clause-some c = begins_row {k = 13} (begins_seq (begins_byte (at_byte c.in-Some.ensures.some c.in-101.is)) c.in-Some-front_maybe_value-4.ensures.some)
+pub returns-in-Some-front_optional-4-clause-some : goal.returns-in-Some-front_optional-4-clause-some
+returns-in-Some-front_optional-4-clause-some c = begins_row {k = 13} (begins_seq (begins_byte (at_byte c.in-Some.ensures.some c.in-101.is)) c.in-Some-front_optional-4.ensures.some)
 
-pub returns-in-None-front_maybe_value-3-clause-none : goal.returns-in-None-front_maybe_value-3-clause-none
-returns-in-None-front_maybe_value-3-clause-none c = none_here (at_byte c.in-Some.ensures.some c.in-101.is) (none_choice defined_type 101 _ refl (none_lead refl c.in-None-front_maybe_value-3.ensures.none, tt))
+pub returns-in-None-front_optional-3-clause-none : goal.returns-in-None-front_optional-3-clause-none
+returns-in-None-front_optional-3-clause-none c = none_here (at_byte c.in-Some.ensures.some c.in-101.is) (none_choice defined_type 101 _ refl (none_lead refl c.in-None-front_optional-3.ensures.none, tt))
 
 pub returns-in-Some-front_component_val_type-5-clause-some : goal.returns-in-Some-front_component_val_type-5-clause-some
 returns-in-Some-front_component_val_type-5-clause-some c = begins_row {k = 14} (begins_seq (begins_byte (at_byte c.in-Some.ensures.some c.in-99.is)) (begins_seq c.in-Some-front_component_val_type-4.ensures.some c.in-Some-front_component_val_type-5.ensures.some))

@@ -2,8 +2,8 @@ use Rattle.std.proofs.Common.{refl}
 use Rattle.wasm_shapes.proofs.Begins.{begins_seq, none_seq_second}
 use Rattle.wasm_read_component.proofs.defined_types.front_resource.Goals as goal
 
-pub returns-in-Some-front_maybe_function-clause-some : goal.returns-in-Some-front_maybe_function-clause-some
-returns-in-Some-front_maybe_function-clause-some c = begins_seq c.in-Some.ensures.some c.in-Some-front_maybe_function.ensures.some
+pub returns-in-Some-front_optional-clause-some : goal.returns-in-Some-front_optional-clause-some
+returns-in-Some-front_optional-clause-some c = begins_seq c.in-Some.ensures.some c.in-Some-front_optional.ensures.some
 
 pub returns-in-None-clause-none : goal.returns-in-None-clause-none
 returns-in-None-clause-none c = none_seq_second refl refl c.in-Some.ensures.some c.in-None.ensures.none
