@@ -9,6 +9,10 @@ mod calls_tests;
 #[cfg(test)]
 mod chain_tests;
 #[cfg(test)]
+mod component_calls_tests;
+#[cfg(test)]
+mod component_items_tests;
+#[cfg(test)]
 mod component_tests;
 #[cfg(test)]
 mod component_type_tests;
