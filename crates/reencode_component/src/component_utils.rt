@@ -9,6 +9,7 @@ ghost use Rattle.reencode_core.specs.Clauses.{RowsClauses};
 ghost use Rattle.reencode_component.specs.Clauses.{ItemClauses, ValueClauses};
 
 use crate::component::ReencodeComponent;
+pub use crate::components::{parse_component, parse_component_payload};
 pub use crate::hooked::{canonical_option, type_bounds};
 use crate::items::ReencodeComponentItems;
 pub use crate::kinds::{
