@@ -1,5 +1,5 @@
 -- The loop over the sections of a component, whatever the call that maps one gives of it.
-use Rattle.std.proofs.Common.{◌≡◌, ◌≢◌, ◌-◌, ◌≤◌, ◌&&◌, nat_eq, nat_le, true, arith, zero, suc, ℕ, List, [], ◌∷◌, ◌++◌, length, Result, Ok, Err, refl, sym, ap, ◌∙◌, subst, append_assoc, append-nil, ◌⊎◌, inl, inr}
+use Rattle.std.proofs.Common.{◌≡◌, ◌≢◌, ◌-◌, ◌≤◌, ◌&&◌, nat_eq, nat_le, true, arith, zero, suc, ℕ, List, [], ◌∷◌, ◌++◌, length, Ok, Err, refl, sym, ap, ◌∙◌, subst, append_assoc, append-nil, ◌⊎◌, inl, inr}
 use Rattle.std.proofs.lemmas.Bool.{le-leb, or_right}
 use Rattle.wasm_leb.specs.declared.fault.Fault.{Fault}
 use Rattle.wasm_leb.specs.declared.fault.Fault.TheVariants as fault
@@ -33,7 +33,7 @@ use Rattle.reencode_core.proofs.Made.{ended_all, ended_behind, front_first, fron
 use Rattle.reencode_core.proofs.RowsMade.{visits_more}
 use Rattle.reencode_component.specs.Components.{BeginsNoSection, BeginsSection, ComponentFault, FaultAt, Framed, IsInForce, NestedFault, ReadsComponent, ReadsSection, SectionsFirst}
 use Rattle.reencode_component.specs.WeaveIn.{weave_in, AcceptsAll, RefusesAmong}
-use Rattle.reencode_component.specs.Causes.{AcceptedFront, BeforeFault, BehindFront, CauseBy, IfFault, IsFault, Stops, room}
+use Rattle.reencode_component.specs.Causes.{AcceptedFront, BeforeFault, BehindFront, CauseBy, IsFault, Stops, room}
 use Rattle.reencode_component.specs.Gives.{FaultIn, GainsBefore, GivesBy, GivesSectionBy, GivesSections, RefusedOr}
 use Rattle.reencode_component.specs.ComponentLeaves.{ComponentUpTo, bytes_in, HoldsFront, component_in, section_in}
 use Rattle.reencode_component.proofs.SectionsAhead.{SectionsAhead, none_at_nil, none_first, none_framed, one_more, section_of, section_there, sections_ahead, sections_of, whole_read}

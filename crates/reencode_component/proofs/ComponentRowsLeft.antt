@@ -1,23 +1,21 @@
 -- The visits that were made when a section of rows of a component is at fault, or refused.
-use Rattle.std.proofs.Common.{◌≡◌, ◌≢◌, ◌≤◌, ◌<◌, ℕ, List, [], ◌++◌, length, true, refl, sym, ap, ◌∙◌, subst, ◌⊎◌, inl, inr}
+use Rattle.std.proofs.Common.{◌≡◌, ◌≢◌, ◌≤◌, ◌<◌, ℕ, List, [], ◌++◌, length, refl, sym, ap, ◌∙◌, subst, ◌⊎◌, inl, inr}
 use Rattle.std.proofs.lemmas.List.{append_cancel_left}
 use Rattle.wasm_leb.specs.Place.{BeginsNoNumber}
 use Rattle.wasm_leb.proofs.Unique.{unsigned_unique}
-use Rattle.wasm_shapes.specs.declared.Visit.{Visit}
 use Rattle.wasm_shapes.specs.Component.{component_body_of, component_section_tree}
-use Rattle.wasm_shapes.specs.Drawn.{Drawn, IsItem}
+use Rattle.wasm_shapes.specs.Drawn.{IsItem}
 use Rattle.wasm_shapes.specs.Module.{numbered_frame}
 use Rattle.wasm_shapes.specs.Place.{BeginsNone}
 use Rattle.wasm_shapes.specs.Rows.{RowsLeft}
 use Rattle.wasm_shapes.specs.Shape.{Shape}
 use Rattle.wasm_shapes.specs.Tree.{Tree, visits}
-use Rattle.wasm_shapes.specs.Types.{rows_tree}
 use Rattle.wasm_shapes.proofs.Drawn.{drawn_behind, drawn_none}
 use Rattle.wasm_shapes.proofs.Laws.{one_tree}
 use Rattle.wasm_shapes.proofs.Rows.{vec_spelled}
 use Rattle.wasm_read.specs.Reading.{Standing, CountRead}
 use Rattle.reencode_hooks.specs.declared.error.Error.{Error}
-use Rattle.reencode_hooks.specs.Run.{accepted, run}
+use Rattle.reencode_hooks.specs.Run.{accepted}
 use Rattle.reencode_hooks.specs.Walk.{walk}
 use Rattle.reencode_hooks.proofs.Walks.{walk_is_run}
 use Rattle.reencode_core.specs.Leaves.{Leaves, MadeUpTo, RowsUpTo, rows_in}

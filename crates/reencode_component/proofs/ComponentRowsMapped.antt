@@ -1,23 +1,21 @@
 -- A section of a component whose rows open no scope, as its rows are mapped and it is added.
-use Rattle.std.proofs.Common.{◌≡◌, ◌≢◌, ◌+◌, ◌-◌, ◌^◌, ◌≤◌, ◌<◌, ℕ, suc, max, zero, List, [], ◌∷◌, ◌++◌, length, true, Result, Ok, Err, IsTrue, IfErr, refl, sym, ap, ◌∙◌, subst, arith, ◌⊎◌, inl, inr}
-use Rattle.std.proofs.lemmas.List.{append_cancel_left}
+use Rattle.std.proofs.Common.{◌≡◌, ◌≢◌, ◌+◌, ◌-◌, ◌^◌, ◌≤◌, ◌<◌, ℕ, suc, zero, List, [], ◌∷◌, ◌++◌, length, true, Ok, Err, refl, sym, ap, ◌∙◌, subst, arith, ◌⊎◌, inl, inr}
 use Rattle.wasm_leb.specs.declared.fault.Fault.{Fault}
 use Rattle.wasm_leb.specs.declared.fault.Fault.TheVariants as fault
 use Rattle.wasm_leb.specs.Place.{BeginsNoNumber}
-use Rattle.wasm_leb.proofs.Unique.{unsigned_unique}
 use Rattle.wasm_shapes.specs.Component.{component_body_of, component_section_tree}
 use Rattle.wasm_shapes.specs.ComponentReadings.{InComponentFrame}
-use Rattle.wasm_shapes.specs.Depth.{opens, Shallow}
+use Rattle.wasm_shapes.specs.Depth.{opens}
 use Rattle.wasm_shapes.specs.Module.{numbered_frame}
 use Rattle.wasm_shapes.specs.Rows.{RowsLeft, rows_then}
 use Rattle.wasm_shapes.specs.Shape.{Shape}
 use Rattle.wasm_shapes.specs.Sound.{sound}
-use Rattle.wasm_shapes.specs.Spells.{Is, Spells}
-use Rattle.wasm_shapes.specs.Tree.{Tree, count, normal, visits}
+use Rattle.wasm_shapes.specs.Spells.{Spells}
+use Rattle.wasm_shapes.specs.Tree.{Tree, count, normal}
 use Rattle.wasm_shapes.specs.Types.{rows_tree, vector_tree}
 use Rattle.wasm_shapes.proofs.Rows.{vec_counted, vec_spelled}
 use Rattle.wasm_shapes.proofs.Unscoped.{unscoped, unscoped_is}
-use Rattle.wasm_read.specs.Reading.{Standing, CountRead, ReadsNone}
+use Rattle.wasm_read.specs.Reading.{Standing, CountRead}
 use Rattle.wasm_read_component.specs.ComponentPayloads.{in_force}
 use Rattle.wasm_write.specs.declared.fault.WriteFault.{WriteFault}
 use Rattle.wasm_write.specs.declared.fault.WriteFault.TheVariants as write
@@ -25,10 +23,10 @@ use Rattle.wasm_write.specs.Faults.{IfTooLarge}
 use Rattle.wasm_write.specs.Sections.{Sections, SectionRow, section_row, with_section}
 use Rattle.reencode_hooks.specs.declared.error.Error.{Error}
 use Rattle.reencode_hooks.specs.declared.error.Error.TheVariants.{CanonicalizedHeapTypeReference, InvalidConstExpr, InvalidCodeSectionSize, UnexpectedNonCoreModuleSection, UnexpectedNonComponentSection, UnsupportedCoreTypeInComponent, ParseError, UserError, TooLarge, NoMemory}
-use Rattle.reencode_hooks.specs.Errors.{error_of_fault, error_of_write}
+use Rattle.reencode_hooks.specs.Errors.{error_of_write}
 use Rattle.reencode_hooks.specs.Run.{Step, accepted, refused}
 use Rattle.reencode_hooks.specs.Walk.{walk}
-use Rattle.reencode_core.specs.Errors.{IfParse, placed_at}
+use Rattle.reencode_core.specs.Errors.{placed_at}
 use Rattle.reencode_core.specs.Rows.{AcceptedHooks, Asks, GivesRows, RefusesFirst, RefusesInside, RefusesRow, RefusesWhole, StopsAtRow, StopsDue, StopsRows, TooMany, onto_rows}
 use Rattle.reencode_core.specs.Weave.{Puts, added}
 use Rattle.reencode_core.proofs.Known.{closed_fits, closed_large, vec_is}

@@ -1,27 +1,25 @@
 -- Sections of a component that are read, and others from the same start.
-use Rattle.std.proofs.Common.{◌≡◌, ◌<◌, ◌≤◌, ◌+◌, ℕ, zero, List, [], ◌∷◌, ◌++◌, length, length-append, true, refl, sym, ap, ◌∙◌, append-nil, arith, subst}
+use Rattle.std.proofs.Common.{◌≡◌, ◌<◌, ◌≤◌, ◌+◌, ℕ, zero, List, [], ◌∷◌, ◌++◌, length, refl, sym, ap, ◌∙◌, append-nil, arith, subst}
 use Rattle.std.proofs.lemmas.List.{append_cancel_left}
 use Rattle.wasm_shapes.specs.Component.{component_section}
 use Rattle.wasm_shapes.specs.ComponentReadings.{InComponentFrame}
-use Rattle.wasm_shapes.specs.Depth.{BeginsAt, Shallow, opens}
+use Rattle.wasm_shapes.specs.Depth.{Shallow, opens}
 use Rattle.wasm_shapes.specs.Module.{component_header, frame}
 use Rattle.wasm_shapes.specs.Place.{Begins, BeginsNone}
 use Rattle.wasm_shapes.specs.Rows.{rows_then}
 use Rattle.wasm_shapes.specs.Shape.{Shape}
-use Rattle.wasm_shapes.specs.Sound.{nullable}
-use Rattle.wasm_shapes.specs.Spells.{Is, Spelled, Spells}
+use Rattle.wasm_shapes.specs.Spells.{Is, Spelled}
 use Rattle.wasm_shapes.specs.Tree.{Tree}
 use Rattle.wasm_shapes.specs.Types.{rows_tree}
 use Rattle.wasm_shapes.proofs.Begins.{none_at_end}
 use Rattle.wasm_shapes.proofs.ComponentFrames.{in_component_frame, of_component_frame}
-use Rattle.wasm_shapes.proofs.ComponentLaws.{components_sound}
 use Rattle.wasm_shapes.proofs.Depth.{begins_unique, shallow_behind, shallow_cons, shallow_first, shallow_then}
 use Rattle.wasm_shapes.proofs.Rows.{rows_then-append}
 use Rattle.reencode_core.specs.Rows.{RowsBefore}
 use Rattle.reencode_core.proofs.Group.{rows_then-both}
 use Rattle.reencode_core.proofs.RowLoop.{before_more}
 use Rattle.reencode_core.proofs.RowsMade.{RowsAhead, rows_ahead}
-use Rattle.reencode_component.specs.Components.{AreInForce, BeginsNoSection, BeginsSection, FaultAt, IsInForce, ReadsComponent, ReadsSection, SectionsFirst}
+use Rattle.reencode_component.specs.Components.{AreInForce, BeginsNoSection, BeginsSection, IsInForce, ReadsComponent, ReadsSection, SectionsFirst}
 
 -- ---- ids in force
 
