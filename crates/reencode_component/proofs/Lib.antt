@@ -9,3 +9,4 @@ pub mod ComponentRowsMapped
 pub mod ComponentRowsLeft
 pub mod EachComponentSection
 pub mod EachComponent
+pub mod FaultLaws

@@ -6,3 +6,4 @@ pub mod Causes
 pub mod Gives
 pub mod ComponentLeaves
 pub mod ComponentClauses
+pub mod ComponentFaults
