@@ -7,7 +7,6 @@ use Rattle.wasm_leb.specs.declared.fault.Kind.TheVariants as kinds
 use Rattle.wasm_shapes.specs.CodeSize.{InvalidCodeSize}
 use Rattle.wasm_shapes.specs.Module as core
 use Rattle.wasm_shapes.specs.Module.{core_header, component_header, alsos, frame, numbered_frame}
-use Rattle.wasm_shapes.specs.Place.{Begins}
 use Rattle.wasm_shapes.specs.Tree.{Tree}
 use Rattle.wasm_shapes.proofs.Depth.{begins_unique}
 use Rattle.reencode_core.specs.Core.{NoHeader}

@@ -14,8 +14,8 @@ use Rattle.reencode_core.specs.Rows.{Asks, onto_rows}
 use Rattle.reencode_core.specs.Weave.{Puts}
 use Rattle.reencode_core.proofs.Counts.{run_then}
 use Rattle.reencode_core.proofs.RowLoop.{one_onto, onto_nothing}
-use Rattle.reencode_core.proofs.Weaves.{weave_is_run}
-use Rattle.reencode_component.specs.WeaveIn.{weave_in, AcceptsAll}
+use Rattle.reencode_core.proofs.Weaves.{weave_is_run, weave_of_nothing}
+use Rattle.reencode_component.specs.WeaveIn.{weave_in, AcceptsAll, WeaveInOfNothing}
 
 -- the run over these visits is accepted
 abbrev pub Ran : {S E : Type 0} → Asks S E → S → List Visit → S → Type 0
@@ -77,3 +77,24 @@ module _ {S E : Type 0} (asked : Asks S E) where
   all_refused put c s0 s m read made e t others a h =
       let step : weave_in asked put c s (Tree.cons t others) ≡ refused e m = rw h refl in
       a (Tree.cons t others) ∙ ap (λ (r : Step S (Error E) Tree). onto_rows made r) step
+
+-- ---- where nothing is put
+
+then_same : {S E A B : Type 0} (r : Step S E A) (f g : A → S → Step S E B) → ((a : A) (m : S) → f a m ≡ g a m) → and_then r f ≡ and_then r g
+then_same (accepted a m) f g h = h a m
+then_same (refused e m) f g h = refl
+
+-- two steps that are the same, and what follows the first
+both_same : {S E A B : Type 0} {r q : Step S E A} (f g : A → S → Step S E B) → r ≡ q → ((a : A) (m : S) → f a m ≡ g a m) → and_then r f ≡ and_then q g
+both_same {q = q} f g e h = ap (λ z. and_then z f) e ∙ then_same q f g h
+
+pub weave_in_of_nothing : {S E : Type 0} (asked : Asks S E) → WeaveInOfNothing asked
+weave_in_of_nothing asked put none c s (Tree.cons t u) =
+    both_same _ _ (weave_in_of_nothing asked put none c s t) (λ v m. both_same _ _ (weave_in_of_nothing asked put none c m u) (λ w n. refl))
+weave_in_of_nothing asked put none c s (Tree.pair t u) =
+    both_same _ _ (weave_in_of_nothing asked put none c s t) (λ v m. both_same _ _ (weave_in_of_nothing asked put none c m u) (λ w n. refl))
+weave_in_of_nothing asked put none c s (Tree.row k t) = both_same _ _ (weave_in_of_nothing asked put none c s t) (λ v m. refl)
+weave_in_of_nothing asked put none c s (Tree.sized t) = both_same _ _ (weave_in_of_nothing asked put none c s t) (λ v m. refl)
+weave_in_of_nothing asked put none c s (Tree.scope t) =
+    then_same (asked s Push) _ _ (λ a m. both_same _ _ (weave_in_of_nothing asked put none c m t) (λ v n. refl))
+weave_in_of_nothing asked put none c s t = weave_of_nothing asked put none c s t

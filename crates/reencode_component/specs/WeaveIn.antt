@@ -1,11 +1,13 @@
 -- The walk over the sections of a component: what the section hook adds to a nested module stands in its place.
-use Rattle.std.specs.Prelude.{◌≡◌, ℕ, List}
+use Rattle.std.specs.Prelude.{◌≡◌, ℕ, List, []}
+use Rattle.wasm_shapes.specs.declared.Visit.{Visit}
 use Rattle.wasm_shapes.specs.declared.Visit.TheVariants.{Push, Pop}
 use Rattle.wasm_shapes.specs.Tree.{Tree}
 use Rattle.wasm_shapes.specs.Rows.{rows_then}
 use Rattle.reencode_hooks.specs.declared.error.Error.{Error}
+use Rattle.reencode_hooks.specs.Hooks.{MayAdd}
 use Rattle.reencode_hooks.specs.Run.{Step, accepted, refused, and_then}
-use Rattle.reencode_hooks.specs.Walk.{closed}
+use Rattle.reencode_hooks.specs.Walk.{closed, walk}
 use Rattle.reencode_core.specs.Rows.{Asks, onto_rows}
 use Rattle.reencode_core.specs.Weave.{Puts, weave}
 
@@ -29,3 +31,8 @@ AcceptsAll asked put c s read made m =
 -- they are refused, whatever stands behind them
 abbrev pub RefusesAmong : {S E : Type 0} → Asks S E → Puts S Tree → ℕ → S → List Tree → Error E → S → Type 0
 RefusesAmong asked put c s read e m = (others : Tree) → weave_in asked put c s (rows_then read others) ≡ refused e m
+
+-- Where nothing is put, it is the walk.
+abbrev pub WeaveInOfNothing : {S E : Type 0} → Asks S E → Type 0
+WeaveInOfNothing {S} asked = (put : Puts S Tree) → ((s : S) (v : Visit) → MayAdd v → put s v ≡ []) →
+    (c : ℕ) (s : S) (t : Tree) → weave_in asked put c s t ≡ walk asked c s t

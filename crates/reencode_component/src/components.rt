@@ -12,8 +12,9 @@ use wasm_write_component as w;
 
 /// Reads a component, with so many scopes open round it, and adds what its sections become, each by `parse_component_payload`.
 ///
-/// No section hook is called before a section of a component. A `ParseError` holds the place of the section in fault, counted
-/// from the first byte of the header.
+/// No section hook is called before a section of a component. A section is read where its id is in force, as
+/// `ComponentPayloads::next` says. A `ParseError` holds the place of the section in fault, counted from the first byte of the
+/// header. Depths that were pushed stay pushed after an error.
 pub fn parse_component<T: ReencodeComponent>(
     reencoder: &mut T,
     alloc: Global,
@@ -41,7 +42,8 @@ pub fn parse_component<T: ReencodeComponent>(
 
 /// Maps a section of a component by the method of its kind, with so many scopes open round it, and adds it.
 ///
-/// A `ParseError` holds the place of the payload. `UnexpectedNonComponentSection` comes for a section of a core module.
+/// A `ParseError` holds the place of the payload; it also comes for a section that is not read yet: a core module, a component, a
+/// custom section, and types. `UnexpectedNonComponentSection` comes for a section of a core module.
 pub fn parse_component_payload<T: ReencodeComponent>(
     reencoder: &mut T,
     alloc: Global,

@@ -26,4 +26,4 @@ pub use component::ReencodeComponent;
 pub use defaults::{DefaultComponent, DefaultComponentItems};
 pub use indices::ReencodeComponentIndices;
 pub use items::ReencodeComponentItems;
-pub use laws::component_fault_is_one;
+pub use laws::{component_fault_is_one, weave_in_of_nothing};
