@@ -2,3 +2,11 @@ pub mod SortKept
 pub mod Walked
 pub mod OperandsWalked
 pub mod Added
+pub mod SectionsAhead
+pub mod WeavesIn
+pub mod ComponentLoop
+pub mod ComponentRowsMapped
+pub mod ComponentRowsLeft
+pub mod EachComponentSection
+pub mod EachComponent
+pub mod FaultLaws

@@ -10,6 +10,7 @@ ghost use Rattle.reencode_items.specs.Clauses.{ItemClauses};
 ghost use Rattle.reencode_component.specs.Clauses.{ValueClauses};
 
 use crate::component::ReencodeComponent;
+pub use crate::components::{parse_component, parse_component_payload};
 pub use crate::hooked::{canonical_option, type_bounds};
 use crate::items::ReencodeComponentItems;
 pub use crate::kinds::{

@@ -1,0 +1,195 @@
+-- The loop over the sections of a component, and what the call gives at each of its ends.
+use Rattle.std.proofs.Common.{◌≡◌, ◌≢◌, ◌-◌, ◌≤◌, zero, suc, ℕ, List, [], length, true, Result, Ok, Err, IsErrAnd, IsTrue, refl, sym, ap, ◌∙◌, subst, arith}
+use Rattle.wasm_leb.specs.declared.fault.Fault.{Fault}
+use Rattle.wasm_leb.specs.declared.fault.Fault.TheVariants as fault
+use Rattle.wasm_leb.specs.declared.fault.Kind.TheVariants as kinds
+use Rattle.wasm_shapes.specs.Component as table
+use Rattle.wasm_shapes.specs.ComponentReadings.{InComponentFrame}
+use Rattle.wasm_shapes.specs.Drawn.{Drawn, IsItem}
+use Rattle.wasm_shapes.specs.Module.{frame}
+use Rattle.wasm_shapes.specs.Place.{Begins}
+use Rattle.wasm_shapes.specs.Shape.{Shape}
+use Rattle.wasm_shapes.specs.Spells.{Is, Spelled}
+use Rattle.wasm_shapes.specs.Tree.{Tree, visits}
+use Rattle.wasm_shapes.proofs.Drawn.{drawn_behind, drawn_item, drawn_none}
+use Rattle.wasm_read.specs.Frames as read
+use Rattle.wasm_read.specs.Frames.{sections_place}
+use Rattle.wasm_read_component.specs.declared.types.ComponentPayload.{ComponentPayload}
+use Rattle.wasm_read_component.specs.declared.types.ComponentPayload.TheVariants as payload
+use Rattle.wasm_read_component.specs.ComponentPayloads.{component_frame_tree, component_payload_at, in_force, ComponentHeaderRead, IsGiven, NoComponentFrame, NoComponentHeader}
+use Rattle.wasm_write.specs.Sections.{Sections}
+use Rattle.reencode_hooks.specs.declared.error.Error.{Error}
+use Rattle.reencode_hooks.specs.declared.error.Error.TheVariants.{ParseError, InvalidCodeSectionSize, NoMemory}
+use Rattle.reencode_hooks.specs.declared.indices.ReencodeIndices.{Ghosts}
+use Rattle.reencode_hooks.specs.Errors.{error_of_fault}
+use Rattle.reencode_core.specs.Clauses.{asks}
+use Rattle.reencode_core.specs.Leaves.{IsSize, Leaves, TellsFault}
+use Rattle.reencode_core.specs.Sections.{KeepsModule}
+use Rattle.reencode_core.proofs.Known.{keeps_more, keeps_same}
+use Rattle.reencode_core.proofs.Made.{ended_all, fault_unasked, front_none}
+use Rattle.reencode_core.proofs.OneRow.{answers}
+use Rattle.reencode_core.proofs.RowsMade.{drawn_rows}
+use Rattle.reencode_core.proofs.SectionMade.{numbered_drawn}
+use Rattle.reencode_component.specs.Components.{IsInForce, ReadsSection}
+use Rattle.reencode_component.specs.Causes.{IfFault, inside, own_inside}
+use Rattle.reencode_component.specs.Gives.{GivesSectionBy}
+use Rattle.reencode_component.specs.ComponentLeaves.{ComponentUpTo, NoComponentHeading, section_in}
+use Rattle.reencode_component.specs.ComponentClauses.{ComponentClauses, FrameClauses, PayloadClauses}
+use Rattle.reencode_component.proofs.ComponentLoop.{ComponentDone, component_begin, component_end, component_held, component_more, component_refused, component_refused_leaves, component_unframed, component_unframed_leaves, header_wrong, no_header}
+
+-- ---- what a section asks is drawn from its frame
+
+rows_drawn : (id : ℕ) (row : Shape) → table.component_body_of id ≡ Shape.vec row → (u : Tree) (x : List ℕ) → Is (Shape.vec row) u → Spelled u x → Drawn x (visits u)
+rows_drawn id row e u x (Is.vec {t = v} d) s = drawn_behind s.0 s.1 s.2 (drawn_rows (IsItem.component_row id row e) v s.1 d s.4)
+
+body_drawn : (id : ℕ) → id ≤ 11 → in_force id ≡ true → (u : Tree) (x : List ℕ) → Is (table.component_body_of id) u → Spelled u x → Drawn x (visits u)
+body_drawn zero h k u x d s = absurd cc
+body_drawn (suc zero) h k u x d s = absurd cc
+body_drawn (suc (suc zero)) h k u x d s = rows_drawn 2 table.instance_row refl u x d s
+body_drawn (suc (suc (suc zero))) h k u x d s = rows_drawn 3 table.core_type refl u x d s
+body_drawn (suc (suc (suc (suc zero)))) h k u x d s = absurd cc
+body_drawn (suc (suc (suc (suc (suc zero))))) h k u x d s = rows_drawn 5 table.component_instance_row refl u x d s
+body_drawn (suc (suc (suc (suc (suc (suc zero)))))) h k u x d s = rows_drawn 6 table.alias refl u x d s
+body_drawn (suc (suc (suc (suc (suc (suc (suc zero))))))) h k u x d s = rows_drawn 7 table.component_type refl u x d s
+body_drawn (suc (suc (suc (suc (suc (suc (suc (suc zero)))))))) h k u x d s = rows_drawn 8 table.canonical_function refl u x d s
+body_drawn (suc (suc (suc (suc (suc (suc (suc (suc (suc zero))))))))) h k u x d s = drawn_item IsItem.component_start (record { shaped = d; spelled = s })
+body_drawn (suc (suc (suc (suc (suc (suc (suc (suc (suc (suc zero)))))))))) h k u x d s = rows_drawn 10 table.extern_row refl u x d s
+body_drawn (suc (suc (suc (suc (suc (suc (suc (suc (suc (suc (suc zero))))))))))) h k u x d s = rows_drawn 11 table.component_export_row refl u x d s
+body_drawn (suc (suc (suc (suc (suc (suc (suc (suc (suc (suc (suc (suc n)))))))))))) h k u x d s = absurd (omega (arith, h))
+
+section_drawn : {depth : ℕ} {f t : Tree} {bytes left : List ℕ} → Begins frame bytes f left → ReadsSection depth f t → Drawn bytes (visits t)
+section_drawn {f = f} {t = t} {bytes = bytes} {left = left} there r = go t f r.framed r.in_force there
+  where
+    go : (t f : Tree) → InComponentFrame t f → IsInForce t → Begins frame bytes f left → Drawn bytes (visits t)
+    go t f (InComponentFrame.of_id id u body low high p) k there = numbered_drawn there (body_drawn id high k u body p.shaped p.spelled)
+    go t f (InComponentFrame.of_custom name contents u p) k there = absurd cc
+    go t f (InComponentFrame.of_unknown id contents low high) k there = drawn_none
+
+-- ---- the loop
+
+-- the sections so far are walked and added
+pub record ComponentKept {S E : Type 0} (i : Ghosts S E) (depth : ℕ) (bytes : List ℕ) (start : read.Sections) (s0 : S) (old : Sections) (reader : read.Sections) (s : S) (new : Sections) : Type 0 where
+  pub kept : KeepsModule old new
+  pub len : reader.len ≡ start.len
+  pub done : IsTrue i.keeps_defaults → ComponentDone (asks i) i.adds depth bytes s0 old reader.rest s new
+
+-- a payload that the reader gives is a section in its frame
+given_framed : {S E : Type 0} (i : Ghosts S E) (depth : ℕ) (p : ComponentPayload) {s m : S} {old new : Sections} {r : Result (Unit {0}) (Error E)} → IsGiven p → PayloadClauses i depth p s old m new r →
+    FrameClauses i depth (component_frame_tree p) (component_payload_at p) s old m new r
+given_framed i depth (payload.Section id at body) g c = c
+given_framed i depth (payload.Unknown at id contents) g c = c
+given_framed i depth (payload.Core id) g c = absurd g
+given_framed i depth (payload.Module at bytes) g c = absurd g
+given_framed i depth (payload.Component at bytes) g c = absurd g
+given_framed i depth (payload.Custom at section) g c = absurd g
+
+-- an error of the bytes leaves no reading of the section
+tells_none_read : {E : Type 0} (P : Fault → Type 0) {none : Type 0} (e : Error E) → IfFault e (λ x. none × P x) → TellsFault e → none
+tells_none_read P (ParseError x) h q = h.0
+tells_none_read P InvalidCodeSectionSize h q = h.0
+tells_none_read P _ h q = absurd q
+
+module _ {S E : Type 0} (i : Ghosts S E) (depth : ℕ) where
+  pub component_headless : {bytes : List ℕ} {s : S} {old : Sections} (x : Fault) → NoComponentHeader x bytes → (r : Result (Unit {0}) (Error E)) → IsErrAnd r (λ y. y ≡ error_of_fault x) →
+      ComponentClauses i depth bytes s old s old r
+  component_headless {bytes = bytes} {s = s} {old = old} x wrong r q =
+      let P : Result (Unit {0}) (Error E) → Type 0 = λ z. ComponentClauses i depth bytes s old s old z in
+      subst P (answers r q) (record {
+        kept = keeps_same old;
+        default = λ k. header_wrong (asks i) i.adds depth s old x wrong;
+        after_error = λ k told size. record {
+          made = [];
+          ended = ended_all {a = []} (error_of_fault x) (fault_unasked E x) refl;
+          drawn = drawn_none;
+          reading = λ t r. front_none (visits t);
+          fault = λ none t rest up. absurd (by t rest up);
+        };
+        headless = λ k none. refl;
+        wants = λ k sure h. absurd (known x wrong h);
+      })
+    where
+      by : (t : Tree) (rest : List ℕ) → ComponentUpTo depth bytes t rest → ⊥
+      by t rest (ComponentUpTo.sections before left f) = no_header x wrong f.front.start f.front.stands
+
+      known : (x : Fault) → NoComponentHeader x bytes → error_of_fault {E = E} x ≢ NoMemory
+      known (fault.Read x) h = λ q. cc
+      known (fault.Header kinds.Module) h = λ q. cc
+      known (fault.Header kinds.Component) h = absurd h
+      known fault.CodeSize h = absurd h
+      known fault.NoMemory h = absurd h
+
+  pub component_begun : (bytes : List ℕ) (start : read.Sections) → ComponentHeaderRead bytes start → depth ≤ 200 → (s : S) (old : Sections) → ComponentKept i depth bytes start s old start s old
+  component_begun bytes start header deep s old = record { kept = keeps_same old; len = refl; done = λ k. component_begin (asks i) i.adds depth bytes start.rest header.stands deep s old }
+
+  module _ {bytes : List ℕ} {start : read.Sections} (header : ComponentHeaderRead bytes start) {s0 : S} {old : Sections} {reader : read.Sections} {s : S} {new : Sections}
+      (inv : ComponentKept i depth bytes start s0 old reader s new) where
+    headed : {m : S} → NoComponentHeading bytes → m ≡ s0
+    headed none = absurd (none start.rest header.stands)
+
+    counted : {at : ℕ} → at ≡ sections_place reader → at ≡ length bytes - length reader.rest
+    counted e = e ∙ ap (λ (n : ℕ). n - length reader.rest) (inv.len ∙ header.len)
+
+    -- no frame begins
+    pub kept_unframed : (x : Fault) → NoComponentFrame x reader.rest (sections_place reader) → (r : Result (Unit {0}) (Error E)) → IsErrAnd r (λ y. y ≡ error_of_fault x) →
+        ComponentClauses i depth bytes s0 old s new r
+    kept_unframed x none r q =
+        let P : Result (Unit {0}) (Error E) → Type 0 = λ z. ComponentClauses i depth bytes s0 old s new z in
+        subst P (answers r q) (record {
+          kept = inv.kept;
+          default = λ k. component_unframed (asks i) i.adds depth (inv.done k) x (sections_place reader) none (counted refl);
+          after_error = λ k told size. component_unframed_leaves (asks i) i.adds depth (inv.done k) x (sections_place reader) none;
+          headless = λ k. headed;
+          wants = λ k sure h. absurd (known x none h);
+        })
+      where
+        known : (x : Fault) → NoComponentFrame x reader.rest (sections_place reader) → error_of_fault {E = E} x ≢ NoMemory
+        known (fault.Read x) h = λ q. cc
+        known fault.CodeSize h = absurd h
+        known (fault.Header k) h = absurd h
+        known fault.NoMemory h = absurd h
+
+    module _ (p : ComponentPayload) (given : IsGiven p) {left : List ℕ} (there : Begins frame reader.rest (component_frame_tree p) left) {m : S} {new' : Sections} where
+      -- the section was mapped
+      pub kept_more : {reader' : read.Sections} → reader'.rest ≡ left → reader'.len ≡ reader.len → PayloadClauses i depth p s new m new' (Ok tt) → ComponentKept i depth bytes start s0 old reader' m new'
+      kept_more behind len clauses =
+          let call = given_framed i depth p given clauses in
+          let P : List ℕ → Type 0 = λ z. ComponentDone (asks i) i.adds depth bytes s0 old z m new' in record {
+            kept = keeps_more old new new' inv.kept call.kept;
+            len = len ∙ inv.len;
+            done = λ k. subst P (sym behind) (component_more (asks i) i.adds depth (inv.done k) there (λ t r. section_drawn there r) (call.default k));
+          }
+
+      -- it is refused, or has no reading
+      pub kept_refused : (e : Error E) → component_payload_at p ≡ sections_place reader → PayloadClauses i depth p s new m new' (Err e) → ComponentClauses i depth bytes s0 old m new' (Err e)
+      kept_refused e place clauses = record {
+        kept = keeps_more old new new' inv.kept call.kept;
+        default = λ k.
+            let d = inv.done k in
+            let ceiling : new.ceiling ≡ old.ceiling = ap Sections.ceiling d.gains in
+            let Q : ℕ → Type 0 = λ c.
+            GivesSectionBy (asks i) i.adds depth (inside (asks i) i.adds c depth) (own_inside (asks i) i.adds c depth) (component_frame_tree p) (component_payload_at p) (s, new) (m, new') (Err e) in
+            component_refused (asks i) i.adds depth d (inside (asks i) i.adds old.ceiling depth) (own_inside (asks i) i.adds old.ceiling depth) (component_frame_tree p) (component_payload_at p) left there m new' e
+            (subst Q ceiling (call.default k)) (counted place);
+        after_error = λ k told size.
+            component_refused_leaves (asks i) i.adds depth (inv.done k) e there (λ t r q. tells_none_read _ e (call.default k).unreadable q t r) (call.after_error k told size);
+        headless = λ k. headed;
+        wants = λ k sure h.
+            let L : Error E → Type 0 = λ z. Leaves (asks i) (section_in depth (component_frame_tree p)) s z m in
+            component_held (asks i) i.adds depth (inv.done k) there (call.default k).unchanged (subst L h (call.after_error k (λ q. sure) (λ z. absurd (not_size h z))));
+      }
+        where
+          call : FrameClauses i depth (component_frame_tree p) (component_payload_at p) s new m new' (Err e)
+          call = given_framed i depth p given clauses
+
+          not_size : e ≡ NoMemory → IsSize e → ⊥
+          not_size h z = let P : Error E → Type 0 = λ w. IsSize w in subst P h z
+
+    -- the end
+    pub kept_ended : reader.rest ≡ [] → ComponentClauses i depth bytes s0 old s new (Ok tt)
+    kept_ended empty = record {
+      kept = inv.kept;
+      default = λ k. component_end (asks i) i.adds depth (inv.done k) empty;
+      after_error = λ k. tt;
+      headless = λ k. headed;
+      wants = λ k sure. tt;
+    }

@@ -1,0 +1,375 @@
+-- A section of a component whose rows were mapped, as it is added.
+use Rattle.std.proofs.Common.{◌≡◌, ◌+◌, ◌≢◌, ◌<◌, ◌≤◌, lit≤, zero, suc, ℕ, List, [], ◌∷◌, true, nat_eq, nat_le, ◌&&◌, ◌||◌, Result, Ok, Err, IfErr, IsTrue, refl, sym, ap, ◌∙◌, subst, arith, ◌⊎◌, inl, inr}
+use Rattle.std.proofs.lemmas.Bool.{eqb-true, leb-true}
+use Rattle.wasm_shapes.proofs.Lists.{both, either}
+use Rattle.wasm_leb.specs.declared.fault.Fault.{Fault}
+use Rattle.wasm_leb.specs.declared.fault.Fault.TheVariants as fault
+use Rattle.wasm_leb.specs.Place.{BeginsNoNumber}
+use Rattle.wasm_shapes.specs.Component as table
+use Rattle.wasm_shapes.specs.ComponentReadings.{InComponentFrame}
+use Rattle.wasm_shapes.specs.Depth.{opens}
+use Rattle.wasm_shapes.specs.Drawn.{Drawn, IsItem}
+use Rattle.wasm_shapes.specs.Module.{custom_frame, numbered_frame}
+use Rattle.wasm_shapes.specs.Shape.{Shape}
+use Rattle.wasm_shapes.specs.declared.Visit.{Visit}
+use Rattle.wasm_shapes.specs.Tree.{Tree, normal, visits}
+use Rattle.wasm_shapes.specs.Types.{rows_tree, vector_tree}
+use Rattle.wasm_shapes.specs.Spells.{Spells}
+use Rattle.wasm_shapes.proofs.Drawn.{drawn_item, drawn_none}
+use Rattle.wasm_shapes.proofs.Laws.{one_tree}
+use Rattle.wasm_shapes.proofs.Unscoped.{unscoped_is}
+use Rattle.wasm_read_component.specs.declared.types.ComponentStartFunction.{ComponentStartFunction}
+use Rattle.wasm_read_component.specs.ComponentRows.{start_tree}
+use Rattle.wasm_read_component.specs.ComponentPayloads.{in_force}
+use Rattle.wasm_read.specs.Reading.{Standing, CountRead, ReadsNone}
+use Rattle.wasm_write.specs.Sections.{Sections, SectionRow, section_row}
+use Rattle.reencode_hooks.specs.declared.error.Error.{Error}
+use Rattle.reencode_hooks.specs.declared.error.Error.TheVariants.{CanonicalizedHeapTypeReference, InvalidConstExpr, InvalidCodeSectionSize, UnexpectedNonCoreModuleSection, UnexpectedNonComponentSection, UnsupportedCoreTypeInComponent, ParseError, UserError, TooLarge, NoMemory}
+use Rattle.reencode_hooks.specs.declared.indices.ReencodeIndices.{Ghosts}
+use Rattle.reencode_hooks.specs.Errors.{error_of_write}
+use Rattle.reencode_core.specs.Clauses.{RowsClauses, asks}
+use Rattle.reencode_core.specs.Errors.{IfParse, placed_at}
+use Rattle.reencode_core.specs.Leaves.{Leaves, LeavesCore, MadeUpTo, Text}
+use Rattle.reencode_core.specs.Rows.{Asks}
+use Rattle.reencode_core.specs.Sections.{AddsMapped, GivesAdded, KeepsModule}
+use Rattle.reencode_core.specs.Weave.{Puts, added}
+use Rattle.reencode_hooks.specs.Run.{LeavesVisited, refused}
+use Rattle.reencode_hooks.specs.Walk.{walk}
+use Rattle.reencode_core.proofs.Known.{keeps_same}
+use Rattle.reencode_core.proofs.Usual.{unless_wanting}
+use Rattle.reencode_core.proofs.Made.{drawn_made, either_made, ended_all, ended_placed, front_none, front_same, tells_placed, wants_placed, write_unasked}
+use Rattle.reencode_component.specs.Causes.{IfFault, StopsInside, StopsInRows, inside, own_inside, room}
+use Rattle.reencode_component.specs.Components.{IsInForce, NestedFault, ReadsSection}
+use Rattle.reencode_component.specs.Gives.{GivesAddedIn, GivesSection}
+use Rattle.reencode_component.specs.WeaveIn.{weave_in}
+use Rattle.reencode_component.specs.Clauses.{AddedClauses}
+use Rattle.reencode_component.specs.ComponentClauses.{FrameClauses, placed_in}
+use Rattle.reencode_component.specs.ComponentLeaves.{SectionUpTo, bytes_in, section_in}
+use Rattle.reencode_component.proofs.ComponentLoop.{unknown_in_force}
+use Rattle.reencode_component.proofs.ComponentRowsMapped.{FlatRows, in_numbered, section_added, section_not_added, section_stops, section_uncounted}
+use Rattle.reencode_component.proofs.ComponentRowsLeft.{section_leaves, section_leaves_all, section_untouched}
+
+-- ---- the kinds whose rows open no scope
+
+pub instance_rows : FlatRows 2 table.instance_row
+instance_rows = record { are_rows = refl; known = refl; low = lit≤ tt; high = lit≤ tt; flat = refl; is_sound = refl }
+
+pub component_instance_rows : FlatRows 5 table.component_instance_row
+component_instance_rows = record { are_rows = refl; known = refl; low = lit≤ tt; high = lit≤ tt; flat = refl; is_sound = refl }
+
+pub alias_rows : FlatRows 6 table.alias
+alias_rows = record { are_rows = refl; known = refl; low = lit≤ tt; high = lit≤ tt; flat = refl; is_sound = refl }
+
+pub canonical_rows : FlatRows 8 table.canonical_function
+canonical_rows = record { are_rows = refl; known = refl; low = lit≤ tt; high = lit≤ tt; flat = refl; is_sound = refl }
+
+pub import_rows : FlatRows 10 table.extern_row
+import_rows = record { are_rows = refl; known = refl; low = lit≤ tt; high = lit≤ tt; flat = refl; is_sound = refl }
+
+pub export_rows : FlatRows 11 table.component_export_row
+export_rows = record { are_rows = refl; known = refl; low = lit≤ tt; high = lit≤ tt; flat = refl; is_sound = refl }
+
+-- ---- the same error at another place
+
+leaves_placed : {S E : Type 0} {asked : Asks S E} (text : Text) {s m : S} (e : Error E) (at : ℕ) → Leaves asked text s e m → Leaves asked text s (placed_at e at) m
+leaves_placed {E = E} text e at l = record {
+  made = l.made;
+  ended = ended_placed e at l.ended;
+  drawn = l.drawn;
+  reading = l.reading;
+  fault = λ none t rest f. go (visits t) rest (l.fault none t rest f);
+}
+  where
+    go : (all : List Visit) (rest : List ℕ) → MadeUpTo e l.made all rest → MadeUpTo (placed_at e at) l.made all rest
+    go all rest (inl h) = inl ((λ q. h.0 (tells_placed e at q)), h.1)
+    go all rest (inr h) = inr h
+
+stops_inside : {S E : Type 0} (asked : Asks S E) (adds : Puts S SectionRow) (c depth room id : ℕ) (body : List ℕ) (s m : S) (e : Error E) → StopsInRows asked c id body s m e →
+    StopsInside asked adds c depth room (numbered_frame id body) s m e
+stops_inside asked adds c depth zero id body s m e h = (id, body, refl, h)
+stops_inside asked adds c depth (suc room) id body s m e h = inl (id, body, refl, h)
+
+module _ {S E : Type 0} (i : Ghosts S E) (depth : ℕ) (deep : depth ≤ 200) {id : ℕ} {row : Shape} (kind : FlatRows id row) (body : List ℕ) (at : ℕ) {s : S} {old : Sections} where
+  -- the count of the rows is missing
+  pub section_unread : (f : Fault) → ReadsNone f 0 (BeginsNoNumber 128 32 32 body) → FrameClauses i depth (numbered_frame id body) at s old s old (Err (ParseError (record { at = at })))
+  section_unread f none = record {
+    kept = keeps_same old;
+    default = λ k.
+        section_uncounted (asks i) i.adds depth deep kind body at (own_inside (asks i) i.adds old.ceiling depth) (inside (asks i) i.adds old.ceiling depth) s s old
+        (λ e h. stops_inside (asks i) i.adds old.ceiling depth (room depth) id body s s e h) (uncounted f none);
+    after_error = λ k told size. section_untouched (asks i) depth deep kind body s s (ParseError (record { at = at })) tt refl (uncounted f none);
+  }
+    where
+      uncounted : (f : Fault) → ReadsNone f 0 (BeginsNoNumber 128 32 32 body) → BeginsNoNumber 128 32 32 body
+      uncounted (fault.Read x) h = h.1
+      uncounted fault.CodeSize h = absurd h
+      uncounted (fault.Header k) h = absurd h
+      uncounted fault.NoMemory h = absurd h
+
+  -- its rows were mapped, or refused
+  pub section_mapped : {reader : Standing} {start made : List Tree} {m : S} {new : Sections} (mapped r : Result (Unit {0}) (Error E)) → start ≡ [] → CountRead body reader → RowsClauses i row reader s start m made mapped →
+      AddsMapped (section_row id (normal (vector_tree made))) old (placed_in mapped at) new r → FrameClauses i depth (numbered_frame id body) at s old m new r
+  section_mapped {reader = reader} {m = m} {new = new} (Err e) r empty there rows adds =
+      let P : Result (Unit {0}) (Error E) → Type 0 = λ z. FrameClauses i depth (numbered_frame id body) at s old m new z in
+      let Q : Sections → Type 0 = λ z. FrameClauses i depth (numbered_frame id body) at s old m z (Err (placed_at e at)) in
+      subst P (sym adds.0) (subst Q (sym adds.1) (record {
+        kept = keeps_same old;
+        default = λ k.
+            section_stops (asks i) i.adds depth deep kind body at (own_inside (asks i) i.adds old.ceiling depth) (inside (asks i) i.adds old.ceiling depth) s m old
+            (λ x h. stops_inside (asks i) i.adds old.ceiling depth (room depth) id body s m x h) e empty there (rows.default k old.ceiling);
+        after_error = λ k told size.
+            leaves_placed (section_in depth (numbered_frame id body)) e at (section_leaves (asks i) depth deep kind body s m e there (rows.after_error k (λ h. told (wants_placed e at h))));
+      }))
+  section_mapped {reader = reader} {made = made} {m = m} {new = new} (Ok u) (Ok v) empty there rows adds = record {
+    kept = (section_row id (normal (vector_tree made)) ∷ [], adds.0);
+    default = λ k.
+        section_added (asks i) i.adds depth deep kind body at (own_inside (asks i) i.adds old.ceiling depth) (inside (asks i) i.adds old.ceiling depth) s m old
+        (λ x h. stops_inside (asks i) i.adds old.ceiling depth (room depth) id body s m x h) empty there (rows.default k old.ceiling) adds.0 adds.1;
+    after_error = λ k. tt;
+  }
+  section_mapped {reader = reader} {made = made} {m = m} {new = new} (Ok u) (Err e) empty there rows adds =
+      let P : Error E → Type 0 = λ z. FrameClauses i depth (numbered_frame id body) at s old m new (Err z) in
+      let Q : Sections → Type 0 = λ z. FrameClauses i depth (numbered_frame id body) at s old m z (Err (error_of_write adds.1)) in
+      subst P (sym adds.2) (subst Q (sym adds.0) (record {
+        kept = keeps_same old;
+        default = λ k.
+            section_not_added (asks i) i.adds depth deep kind body at (own_inside (asks i) i.adds old.ceiling depth) (inside (asks i) i.adds old.ceiling depth) s m old
+            (λ x h. stops_inside (asks i) i.adds old.ceiling depth (room depth) id body s m x h) empty there (rows.default k old.ceiling) adds.1 adds.3;
+        after_error = λ k told size.
+            let g = rows.default k old.ceiling in
+            let q = g.reading g.readable.0 g.readable.1 in
+            section_leaves_all (asks i) depth deep kind body s m old.ceiling (rows_tree q.0) (error_of_write adds.1) (write_unasked E adds.1) there g.readable.0 g.readable.1 q.1;
+      }))
+
+-- ---- a section of which there is one reading
+
+-- an error that tells nothing of the bytes tells no fault of them
+tells_no_fault : {E : Type 0} (P : Fault → Type 0) (e : Error E) → IfParse e (λ at. ⊥) → IfFault e P
+tells_no_fault P (ParseError x) h = absurd h
+tells_no_fault P (UserError x) h = tt
+tells_no_fault P (TooLarge x) h = tt
+tells_no_fault P NoMemory h = tt
+tells_no_fault P InvalidCodeSectionSize h = absurd h
+tells_no_fault P UnexpectedNonCoreModuleSection h = absurd h
+tells_no_fault P UnexpectedNonComponentSection h = absurd h
+tells_no_fault P CanonicalizedHeapTypeReference h = absurd h
+tells_no_fault P InvalidConstExpr h = absurd h
+tells_no_fault P UnsupportedCoreTypeInComponent h = absurd h
+
+module _ {S E : Type 0} (i : Ghosts S E) (depth : ℕ) {f t : Tree} (reads : ReadsSection depth f t) (one : (u : Tree) → ReadsSection depth f u → u ≡ t)
+    (same : (put : Puts S Tree) (c : ℕ) (s : S) → weave_in (asks i) put c s t ≡ walk (asks i) c s t) (drawn : Drawn (bytes_in f) (visits t)) (at id : ℕ) {s m : S} {old new : Sections} where
+  -- it was mapped and added, or refused
+  one_gives : (r : Result (Unit {0}) (Error E)) → GivesAdded (asks i) id (s, old) t (m, new) r → IfErr r (λ e. IfParse e (λ _. ⊥)) → GivesSection (asks i) i.adds depth f at (s, old) (m, new) r
+  one_gives (Ok v) g usual = record {
+    reading = λ u q.
+        let P : Tree → Type 0 = λ z. GivesAddedIn (asks i) i.adds (own_inside (asks i) i.adds old.ceiling depth f s m) (s, old) z (m, new) (Ok v) in
+        subst P (sym (one u q)) (g.0, section_row id g.1, same (added i.adds) old.ceiling s ∙ g.2, g.3, g.4);
+    readable = (t, reads);
+    unreadable = tt;
+    refusal = tt;
+    unchanged = tt;
+  }
+  one_gives (Err e) g usual = record {
+    reading = λ u q other.
+        let P : Tree → Type 0 = λ z. weave_in (asks i) (added i.adds) old.ceiling s z ≡ refused e m in
+        inr (subst P (sym (one u q)) (same (added i.adds) old.ceiling s ∙ g.1 other));
+    readable = tt;
+    unreadable = tells_no_fault _ e usual;
+    refusal = unless_wanting e (λ other. inl (t, reads));
+    unchanged = g.0;
+  }
+
+  pub one_added : (r : Result (Unit {0}) (Error E)) → KeepsModule old new → (IsTrue i.keeps_defaults → GivesAdded (asks i) id (s, old) t (m, new) r) →
+      (IsTrue i.keeps_defaults → IsTrue i.sure → LeavesVisited (asks i) s (visits t) m r) → (IsTrue i.keeps_defaults → IfErr r (λ e. IfParse e (λ _. ⊥))) →
+      FrameClauses i depth f at s old m new r
+  one_added r kept gives leaves usual = record { kept = kept; default = λ k. one_gives r (gives k) (usual k); after_error = λ k. left r (gives k) (leaves k) }
+    where
+      left : (r : Result (Unit {0}) (Error E)) → GivesAdded (asks i) id (s, old) t (m, new) r → (IsTrue i.sure → LeavesVisited (asks i) s (visits t) m r) →
+          LeavesCore i.sure i.adds_nothing (asks i) (section_in depth f) s m r
+      left (Ok v) g l = tt
+      left (Err e) g l = λ told size.
+          let p = either_made i.reply i.next old.ceiling t e g.1 (λ h. l (told h)) in
+          record {
+            made = p.part;
+            ended = p.ended;
+            drawn = drawn_made p.front drawn;
+            reading = λ u q. front_same (sym (ap visits (one u q))) p.front;
+            fault = λ none u rest x. absurd (none t reads);
+          }
+
+-- ---- a section of an id that no table knows
+
+module _ {S E : Type 0} (i : Ghosts S E) (depth : ℕ) (deep : depth ≤ 200) (id : ℕ) (contents : List ℕ) (low : 12 ≤ id) (high : id ≤ 127) (at : ℕ) {s m : S} {old new : Sections} where
+  pub raw_added : (r : Result (Unit {0}) (Error E)) → KeepsModule old new → (IsTrue i.keeps_defaults → GivesAdded (asks i) id (s, old) (table.unknown_component_tree id contents) (m, new) r) →
+      (IsTrue i.keeps_defaults → IsTrue i.sure → LeavesVisited (asks i) s [] m r) → (IsTrue i.keeps_defaults → IfErr r (λ e. IfParse e (λ _. ⊥))) →
+      FrameClauses i depth (numbered_frame id contents) at s old m new r
+  raw_added r kept gives leaves usual =
+      one_added i depth reads one (λ put c s. refl) drawn_none at id r kept gives leaves usual
+    where
+      reads : ReadsSection depth (numbered_frame id contents) (table.unknown_component_tree id contents)
+      reads = record {
+        framed = InComponentFrame.of_unknown id contents low high;
+        shallow = let most : opens (table.unknown_component_tree id contents) + depth ≤ 200 = omega (arith, deep) in record { most = most };
+        in_force = refl;
+      }
+
+      is : (u f : Tree) → InComponentFrame u f → f ≡ numbered_frame id contents → u ≡ table.unknown_component_tree id contents
+      is u f (InComponentFrame.of_id id' v body' low' high' q) e = let number : id' ≡ id = cc in absurd (omega (arith, number, high', low))
+      is u f (InComponentFrame.of_custom name contents' v q) e = absurd cc
+      is u f (InComponentFrame.of_unknown id' contents' low' high') e = cc
+
+      one : (u : Tree) → ReadsSection depth (numbered_frame id contents) u → u ≡ table.unknown_component_tree id contents
+      one u q = is u (numbered_frame id contents) q.framed refl
+
+-- ---- a section that is not read
+
+module _ {S E : Type 0} (i : Ghosts S E) (depth : ℕ) (f : Tree) (none : (t : Tree) → ReadsSection depth f t → ⊥) (unnested : (room : ℕ) (x : Fault) → NestedFault depth room f x → ⊥)
+    (unknown : (t : Tree) (rest : List ℕ) → SectionUpTo f t rest → ⊥) (at : ℕ) (s : S) (old : Sections) where
+  pub not_read : FrameClauses i depth f at s old s old (Err (ParseError (record { at = at })))
+  not_read = record {
+    kept = keeps_same old;
+    default = λ k. record {
+      reading = λ t r. absurd (none t r);
+      readable = tt;
+      unreadable = (none, (refl, λ y handed q. unnested (room depth) y q));
+      refusal = tt;
+      unchanged = refl;
+    };
+    after_error = λ k told size. record {
+      made = [];
+      ended = ended_all {a = []} (ParseError (record { at = at })) tt refl;
+      drawn = drawn_none;
+      reading = λ t r. front_none (visits t);
+      fault = λ never t rest x. absurd (unknown t rest x);
+    };
+  }
+
+module _ {S E : Type 0} (i : Ghosts S E) (depth : ℕ) (at : ℕ) (s : S) (old : Sections) where
+  -- of an id that is not in force
+  pub number_not_read : (id : ℕ) (body : List ℕ) → (in_force id ≡ true → ⊥) → FrameClauses i depth (numbered_frame id body) at s old s old (Err (ParseError (record { at = at })))
+  number_not_read id body off =
+      not_read i depth (numbered_frame id body) (λ t r. none t (numbered_frame id body) r.framed r.in_force refl) unnested (λ t rest x. up_to (numbered_frame id body) t rest x refl) at s old
+    where
+      never : {n : ℕ} → n ≡ id → in_force n ≡ true → ⊥
+      never {n = n} e k = let P : ℕ → Type 0 = λ z. in_force z ≡ true in off (subst P e k)
+
+      none : (t f : Tree) → InComponentFrame t f → IsInForce t → f ≡ numbered_frame id body → ⊥
+      none t f (InComponentFrame.of_id id' v body' low' high' q) k e = let number : id' ≡ id = cc in never number k
+      none t f (InComponentFrame.of_custom name contents v q) k e = cc
+      none t f (InComponentFrame.of_unknown id' contents' low' high') k e = let number : id' ≡ id = cc in never number (unknown_in_force id' low' high')
+
+      unnested : (room : ℕ) (x : Fault) → NestedFault depth room (numbered_frame id body) x → ⊥
+      unnested zero x h = h
+      unnested (suc room) x h = let e : numbered_frame id body ≡ numbered_frame h.0 h.1 = h.2 in let number : h.0 ≡ id = cc in never number h.3
+
+      up_to : (f t : Tree) (rest : List ℕ) → SectionUpTo f t rest → f ≡ numbered_frame id body → ⊥
+      up_to f t rest (SectionUpTo.uncounted id' body' row e n) q = let number : id' ≡ id = cc in never number e.in_force
+      up_to f t rest (SectionUpTo.rows id' body' row reader u rest' e there r) q = let number : id' ≡ id = cc in never number e.in_force
+
+  -- a custom one
+  pub custom_not_read : (name contents : List ℕ) → FrameClauses i depth (custom_frame name contents) at s old s old (Err (ParseError (record { at = at })))
+  custom_not_read name contents =
+      not_read i depth (custom_frame name contents) (λ t r. none t (custom_frame name contents) r.framed r.in_force refl) unnested (λ t rest x. up_to (custom_frame name contents) t rest x refl) at s old
+    where
+      none : (t f : Tree) → InComponentFrame t f → IsInForce t → f ≡ custom_frame name contents → ⊥
+      none t f (InComponentFrame.of_id id' v body' low' high' q) k e = cc
+      none t f (InComponentFrame.of_custom name' contents' v q) k e = cc
+      none t f (InComponentFrame.of_unknown id' contents' low' high') k e = cc
+
+      unnested : (room : ℕ) (x : Fault) → NestedFault depth room (custom_frame name contents) x → ⊥
+      unnested zero x h = h
+      unnested (suc room) x h = let e : custom_frame name contents ≡ numbered_frame h.0 h.1 = h.2 in cc
+
+      up_to : (f t : Tree) (rest : List ℕ) → SectionUpTo f t rest → f ≡ custom_frame name contents → ⊥
+      up_to f t rest (SectionUpTo.uncounted id' body' row e n) q = cc
+      up_to f t rest (SectionUpTo.rows id' body' row reader u rest' e there r) q = cc
+
+-- ---- the start
+
+not_nested : {id : ℕ} {A B : Type 0} → id ≡ 9 → ((id ≡ 1) × A) ⊎ ((id ≡ 4) × B) → ⊥
+not_nested {id = id} q (inl p) = let one : id ≡ 1 = p.0 in omega (arith, one, q)
+not_nested {id = id} q (inr p) = let four : id ≡ 4 = p.0 in omega (arith, four, q)
+
+start_is : (depth : ℕ) (body : List ℕ) (t : Tree) → ReadsSection depth (numbered_frame 9 body) t → (u : Tree) × (t ≡ table.component_section_tree 9 u) × Spells table.component_start body u
+start_is depth body t r = in_numbered 9 body t (lit≤ tt) r.framed
+
+module _ {S E : Type 0} (i : Ghosts S E) (depth : ℕ) (deep : depth ≤ 200) (body : List ℕ) (at : ℕ) {s : S} {old : Sections} where
+  -- none is there
+  pub start_unread : ((t : Tree) → Spells table.component_start body t → ⊥) → FrameClauses i depth (numbered_frame 9 body) at s old s old (Err (ParseError (record { at = at })))
+  start_unread none =
+      not_read i depth (numbered_frame 9 body) (λ t r. let u = start_is depth body t r in none u.0 u.2) unnested (λ t rest x. up_to (numbered_frame 9 body) t rest x refl) at s old
+    where
+      unnested : (room : ℕ) (x : Fault) → NestedFault depth room (numbered_frame 9 body) x → ⊥
+      unnested zero x h = h
+      unnested (suc room) x h = let e : numbered_frame 9 body ≡ numbered_frame h.0 h.1 = h.2 in let number : h.0 ≡ 9 = cc in not_nested number h.4
+
+      up_to : (f t : Tree) (rest : List ℕ) → SectionUpTo f t rest → f ≡ numbered_frame 9 body → ⊥
+      up_to f t rest (SectionUpTo.uncounted id' body' row e n) q =
+          let number : id' ≡ 9 = cc in let start : table.component_start ≡ Shape.vec row = sym (ap table.component_body_of number) ∙ e.body in cc
+      up_to f t rest (SectionUpTo.rows id' body' row reader u rest' e there r) q =
+          let number : id' ≡ 9 = cc in let start : table.component_start ≡ Shape.vec row = sym (ap table.component_body_of number) ∙ e.body in cc
+
+  -- memory ran out while it was read
+  pub start_wanted : FrameClauses i depth (numbered_frame 9 body) at s old s old (Err NoMemory)
+  start_wanted = record {
+    kept = keeps_same old;
+    default = λ k. record { reading = λ t r other. absurd (other refl); readable = tt; unreadable = tt; refusal = tt; unchanged = refl };
+    after_error = λ k told size. record {
+      made = [];
+      ended = ended_all {a = []} NoMemory tt refl;
+      drawn = drawn_none;
+      reading = λ t r. front_none (visits t);
+      fault = λ never t rest x. inl ((λ h. h), front_none (visits t));
+    };
+  }
+
+  -- it was mapped
+  pub start_added : (f : ComponentStartFunction) → Spells table.component_start body (start_tree f) → {m : S} {new : Sections} (r : Result (Unit {0}) (Error E)) →
+      AddedClauses i 9 (table.component_section_tree 9 (start_tree f)) s old m new r → FrameClauses i depth (numbered_frame 9 body) at s old m new r
+  start_added f p r c = one_added i depth reads one (λ put c s. refl) (drawn_item IsItem.component_start p) at 9 r c.kept c.default c.after_error c.usual
+    where
+      reads : ReadsSection depth (numbered_frame 9 body) (table.component_section_tree 9 (start_tree f))
+      reads = record {
+        framed = InComponentFrame.of_id 9 (start_tree f) body (lit≤ tt) (lit≤ tt) p;
+        shallow = let none : opens (start_tree f) ≡ 0 = (unscoped_is p.shaped refl).opens in record { most = omega (arith, none, deep) };
+        in_force = refl;
+      }
+
+      one : (u : Tree) → ReadsSection depth (numbered_frame 9 body) u → u ≡ table.component_section_tree 9 (start_tree f)
+      one u q =
+          let v = start_is depth body u q in v.1 ∙ ap (table.component_section_tree 9) (one_tree table.component_start refl body v.0 (start_tree f) v.2 p)
+
+-- ---- ids that are not in force
+
+pub low_off : (id : ℕ) → id < 12 → id ≢ 2 → id ≢ 5 → id ≢ 6 → id ≢ 8 → id ≢ 9 → id ≢ 10 → id ≢ 11 → in_force id ≡ true → ⊥
+low_off zero h a b c d e f g k = cc
+low_off (suc zero) h a b c d e f g k = cc
+low_off (suc (suc zero)) h a b c d e f g k = a refl
+low_off (suc (suc (suc zero))) h a b c d e f g k = cc
+low_off (suc (suc (suc (suc zero)))) h a b c d e f g k = cc
+low_off (suc (suc (suc (suc (suc zero))))) h a b c d e f g k = b refl
+low_off (suc (suc (suc (suc (suc (suc zero)))))) h a b c d e f g k = c refl
+low_off (suc (suc (suc (suc (suc (suc (suc zero))))))) h a b c d e f g k = cc
+low_off (suc (suc (suc (suc (suc (suc (suc (suc zero)))))))) h a b c d e f g k = d refl
+low_off (suc (suc (suc (suc (suc (suc (suc (suc (suc zero))))))))) h a b c d e f g k = e refl
+low_off (suc (suc (suc (suc (suc (suc (suc (suc (suc (suc zero)))))))))) h a b c d e f g k = f refl
+low_off (suc (suc (suc (suc (suc (suc (suc (suc (suc (suc (suc zero))))))))))) h a b c d e f g k = g refl
+low_off (suc (suc (suc (suc (suc (suc (suc (suc (suc (suc (suc (suc n)))))))))))) h a b c d e f g k = omega (arith, h)
+
+pub high_off : (id : ℕ) → 127 < id → in_force id ≡ true → ⊥
+high_off id h k = first (either (nat_eq id 2) _ k)
+  where
+    last : (nat_le 8 id && nat_le id 127) ≡ true → ⊥
+    last q = let most : id ≤ 127 = leb-true _ _ (both (nat_le 8 id) (nat_le id 127) q).1 in omega (arith, h, most)
+
+    third : (nat_eq id 6 ≡ true) ⊎ ((nat_le 8 id && nat_le id 127) ≡ true) → ⊥
+    third (inl q) = let is : id ≡ 6 = eqb-true id 6 q in omega (arith, h, is)
+    third (inr q) = last q
+
+    second : (nat_eq id 5 ≡ true) ⊎ ((nat_eq id 6 || (nat_le 8 id && nat_le id 127)) ≡ true) → ⊥
+    second (inl q) = let is : id ≡ 5 = eqb-true id 5 q in omega (arith, h, is)
+    second (inr q) = third (either (nat_eq id 6) _ q)
+
+    first : (nat_eq id 2 ≡ true) ⊎ ((nat_eq id 5 || (nat_eq id 6 || (nat_le 8 id && nat_le id 127))) ≡ true) → ⊥
+    first (inl q) = let is : id ≡ 2 = eqb-true id 2 q in omega (arith, h, is)
+    first (inr q) = second (either (nat_eq id 5) _ q)

@@ -1,0 +1,122 @@
+-- Why an error of a component comes, and what was asked by then.
+use Rattle.std.specs.Prelude.{◌≡◌, ◌⊎◌, ◌+◌, ◌-◌, ℕ, zero, suc, List, ◌++◌, true}
+use Rattle.wasm_leb.specs.declared.fault.Fault.{Fault}
+use Rattle.wasm_leb.specs.declared.fault.Fault.TheVariants as fault
+use Rattle.wasm_leb.specs.declared.fault.Kind.TheVariants as kind
+use Rattle.wasm_shapes.specs.declared.Visit.TheVariants.{Push}
+use Rattle.wasm_shapes.specs.Component.{component_body_of}
+use Rattle.wasm_shapes.specs.Module.{component_header, numbered_frame}
+use Rattle.wasm_shapes.specs.Shape.{Shape}
+use Rattle.wasm_shapes.specs.Tree.{Tree}
+use Rattle.wasm_read.specs.Reading.{Standing, CountRead}
+use Rattle.wasm_read_component.specs.ComponentPayloads.{in_force}
+use Rattle.wasm_write.specs.Sections.{SectionRow}
+use Rattle.reencode_hooks.specs.declared.error.Error.{Error}
+use Rattle.reencode_hooks.specs.declared.error.Error.TheVariants.{InvalidCodeSectionSize, UnexpectedNonCoreModuleSection, UnexpectedNonComponentSection, ParseError, UserError, TooLarge, NoMemory}
+use Rattle.reencode_hooks.specs.Run.{accepted}
+use Rattle.reencode_core.specs.Core.{IsCause}
+use Rattle.reencode_core.specs.Rows.{Asks, StopsDue}
+use Rattle.reencode_core.specs.Weave.{Puts, added}
+use Rattle.reencode_core.specs.Woven.{OwnTooLarge}
+use Rattle.reencode_component.specs.Components.{ComponentFault, FaultAt, Framed, SectionsFirst}
+use Rattle.reencode_component.specs.WeaveIn.{AcceptsAll, RefusesAmong}
+
+-- what is said of a section in its frame: the state before, the state after, and the error
+abbrev pub Stops : Type 0 → Type 0 → Type 1
+Stops S E = Tree → S → S → Error E → Type 0
+
+-- ---- the sections in front
+
+-- Some sections stand behind the header, were accepted and became those; what stands behind them is walked from here.
+pub record AcceptedFront {S E : Type 0} (asked : Asks S E) (put : Puts S Tree) (c depth : ℕ) (bytes : List ℕ) (s : S) : Type 0 where
+  pub read : List Tree
+  pub rest : List ℕ
+  pub made : List Tree
+  pub at : S
+  pub first : SectionsFirst depth bytes read rest
+  pub accepts : AcceptsAll asked put c s read made at
+
+-- behind some sections that were accepted stands one of which this holds
+abbrev pub BehindFront : {S E : Type 0} → Asks S E → Puts S Tree → ℕ → ℕ → Stops S E → List ℕ → S → S → Error E → Type 0
+BehindFront asked put c depth stops bytes s m e =
+    (f : AcceptedFront asked put c depth bytes s) × Framed (λ x. stops x f.at m e) f.rest
+
+-- ---- errors of the bytes
+
+-- The error tells this fault of the bytes. A refusal, a size and `NoMemory` tell none, and no other error comes.
+abbrev pub IfFault : {E : Type 0} → Error E → (Fault → Type 0) → Type 0
+IfFault (ParseError e) P = P (fault.Read e)
+IfFault InvalidCodeSectionSize P = P fault.CodeSize
+IfFault UnexpectedNonCoreModuleSection P = P (fault.Header kind.Component)
+IfFault UnexpectedNonComponentSection P = P (fault.Header kind.Module)
+IfFault (UserError _) P = Unit {0}
+IfFault (TooLarge _) P = Unit {0}
+IfFault NoMemory P = Unit {0}
+IfFault _ P = ⊥
+
+-- The bytes have this fault; and where it stands behind their header, all sections before it were accepted.
+pub record IsFault {S E : Type 0} (asked : Asks S E) (put : Puts S Tree) (c depth : ℕ) (bytes : List ℕ) (s : S) (x : Fault) : Type 0 where
+  pub fault : ComponentFault depth bytes x
+  pub accepted : (before : List Tree) (rest : List ℕ) → FaultAt depth bytes before rest → (made : List Tree) × (n : S) × AcceptsAll asked put c s before made n
+
+-- ---- refusals
+
+-- A refusal, or a size that is too large. Where the bytes have a fault, it comes of the sections before it; or all of these were
+-- accepted, and it comes of what stands whole, before the fault, in the section there; or a section hook in a nested module was to
+-- add a section above the ceiling.
+pub record BeforeFault {S E : Type 0} (asked : Asks S E) (put : Puts S Tree) (c depth : ℕ) (inner own : Stops S E) (bytes : List ℕ) (s m : S) (e : Error E) : Type 0 where
+  pub rest : List ℕ
+  pub stands : bytes ≡ component_header ++ rest
+  pub fault : (before : List Tree) (rest : List ℕ) → FaultAt depth bytes before rest → RefusesAmong asked put c s before e m
+      ⊎ ((made : List Tree) × (n : S) × AcceptsAll asked put c s before made n × Framed (λ f. inner f n m e) rest)
+      ⊎ BehindFront asked put c depth own bytes s m e
+
+-- why an error comes, by what is said of one section where it has no reading, and where a section hook's own is too large
+abbrev pub CauseBy : {S E : Type 0} → Asks S E → Puts S Tree → ℕ → ℕ → (inner own : Stops S E) → List ℕ → S → S → Error E → Type 0
+CauseBy asked put c depth inner own bytes s m (UserError e) = BeforeFault asked put c depth inner own bytes s m (UserError e)
+CauseBy asked put c depth inner own bytes s m (TooLarge size) = BeforeFault asked put c depth inner own bytes s m (TooLarge size)
+CauseBy asked put c depth inner own bytes s m e = IfFault e (λ x. IsFault asked put c depth bytes s x)
+
+-- ---- inside a section
+
+-- The count of the rows stands there, rows behind it were accepted, and the next one is refused.
+pub record StopsInRows {S E : Type 0} (asked : Asks S E) (c id : ℕ) (body : List ℕ) (s m : S) (e : Error E) : Type 0 where
+  pub row : Shape
+  pub are_rows : component_body_of id ≡ Shape.vec row
+  pub reader : Standing
+  pub counted : CountRead body reader
+  pub stops : StopsDue asked c row reader s e m
+
+-- A nested section stands in the frame, its push is accepted, and from there this holds of its body: of a core module the first, of
+-- a component the second. No pop follows.
+abbrev pub Pushed : {S E : Type 0} → Asks S E → (module_by component_by : List ℕ → S → S → Error E → Type 0) → Stops S E
+Pushed {S} asked module_by component_by f s m e =
+    (id : ℕ) × (body : List ℕ) × (f ≡ numbered_frame id body) × (in_force id ≡ true) × (k : S) × (asked s Push ≡ accepted 0 k)
+    × (((id ≡ 1) × module_by body k m e) ⊎ ((id ≡ 4) × component_by body k m e))
+
+-- A section hook in a nested module was to add a section above the ceiling; so many scopes may still be opened.
+abbrev pub OwnInside : {S E : Type 0} → Asks S E → Puts S SectionRow → ℕ → ℕ → ℕ → Stops S E
+OwnInside asked adds c depth zero f s m e = ⊥
+OwnInside asked adds c depth (suc room) f s m e =
+    Pushed asked (λ b k n x. OwnTooLarge asked adds c b k x)
+    (λ b k n x. BehindFront asked (added adds) c (depth + 1) (OwnInside asked adds c (depth + 1) room) b k n x) f s m e
+
+-- What was refused inside a section that has no reading: a row of it; or what stands inside a nested one.
+abbrev pub StopsInside : {S E : Type 0} → Asks S E → Puts S SectionRow → ℕ → ℕ → ℕ → Stops S E
+StopsInside asked adds c depth zero f s m e = (id : ℕ) × (body : List ℕ) × (f ≡ numbered_frame id body) × StopsInRows asked c id body s m e
+StopsInside asked adds c depth (suc room) f s m e =
+    ((id : ℕ) × (body : List ℕ) × (f ≡ numbered_frame id body) × StopsInRows asked c id body s m e)
+    ⊎ Pushed asked (λ b k n x. IsCause asked c b k n x)
+    (λ b k n x. CauseBy asked (added adds) c (depth + 1) (StopsInside asked adds c (depth + 1) room) (OwnInside asked adds c (depth + 1) room) b k n x) f s m e
+
+-- ---- with so many scopes open round it
+
+-- the scopes that may still be opened
+abbrev pub room : ℕ → ℕ
+room depth = 200 - depth
+
+abbrev pub inside : {S E : Type 0} → Asks S E → Puts S SectionRow → ℕ → ℕ → Stops S E
+inside asked adds c depth = StopsInside asked adds c depth (room depth)
+
+abbrev pub own_inside : {S E : Type 0} → Asks S E → Puts S SectionRow → ℕ → ℕ → Stops S E
+own_inside asked adds c depth = OwnInside asked adds c depth (room depth)

@@ -1,0 +1,75 @@
+-- What a component, or a section of one, is read as and where it is at fault, for what an error leaves.
+use Rattle.std.specs.Prelude.{◌≡◌, ◌≢◌, ℕ, List, [], ◌++◌, true, Result}
+use Rattle.wasm_leb.specs.Place.{BeginsNoNumber}
+use Rattle.wasm_shapes.specs.Component.{component_body_of}
+use Rattle.wasm_shapes.specs.Module.{component_header, frame, numbered_frame}
+use Rattle.wasm_shapes.specs.Place.{Begins}
+use Rattle.wasm_shapes.specs.Rows.{rows_then}
+use Rattle.wasm_shapes.specs.Shape.{Shape}
+use Rattle.wasm_shapes.specs.Tree.{Tree, normal}
+use Rattle.wasm_shapes.specs.Types.{rows_tree}
+use Rattle.wasm_read.specs.Reading.{Standing, CountRead}
+use Rattle.wasm_read_component.specs.ComponentPayloads.{in_force}
+use Rattle.wasm_write.specs.Sections.{Sections, SectionRow, sections_bytes}
+use Rattle.reencode_hooks.specs.declared.error.Error.{Error}
+use Rattle.reencode_hooks.specs.declared.error.Error.TheVariants.{NoMemory}
+use Rattle.reencode_hooks.specs.Hooks.{Gains}
+use Rattle.reencode_core.specs.Holds.{IfWants}
+use Rattle.reencode_core.specs.Leaves.{Leaves, RowsUpTo, Text}
+use Rattle.reencode_core.specs.Rows.{Asks}
+use Rattle.reencode_core.specs.Weave.{Puts, added}
+use Rattle.reencode_component.specs.Components.{FaultAt, ReadsComponent, ReadsSection}
+use Rattle.reencode_component.specs.Causes.{AcceptedFront}
+
+-- sections of the id are read, and have these rows
+pub record HasRows (id : ℕ) (row : Shape) : Type 0 where
+  pub in_force : in_force id ≡ true
+  pub body : component_body_of id ≡ Shape.vec row
+
+-- the bytes in a frame
+abbrev pub bytes_in : Tree → List ℕ
+bytes_in (Tree.row k (Tree.pair b (Tree.sized (Tree.raw body)))) = body
+bytes_in (Tree.row k (Tree.pair b (Tree.sized (Tree.pair n (Tree.raw contents))))) = contents
+bytes_in _ = []
+
+-- The count of the rows is due and none begins; or rows stand behind their count up to where one is missing. Of sections that have no
+-- rows nothing is said.
+pub data SectionUpTo : Tree → Tree → List ℕ → Type 0 where
+  uncounted : (id : ℕ) (body : List ℕ) (row : Shape) → HasRows id row → BeginsNoNumber 128 32 32 body → SectionUpTo (numbered_frame id body) Tree.nil body
+  rows : (id : ℕ) (body : List ℕ) (row : Shape) (reader : Standing) (t : Tree) (rest : List ℕ) → HasRows id row → CountRead body reader → RowsUpTo row reader t rest →
+      SectionUpTo (numbered_frame id body) t rest
+
+-- a section in its frame
+abbrev pub section_in : ℕ → Tree → Text
+section_in depth f = record { bytes = bytes_in f; reads = ReadsSection depth f; faulty = SectionUpTo f }
+
+-- sections stand behind the header up to the first place where none begins that is read
+pub data ComponentUpTo (depth : ℕ) (bytes : List ℕ) : Tree → List ℕ → Type 0 where
+  sections : (before : List Tree) (rest : List ℕ) → FaultAt depth bytes before rest → ComponentUpTo depth bytes (rows_tree before) rest
+
+-- the bytes of a component, read as its sections behind the header
+abbrev pub component_in : ℕ → List ℕ → Text
+component_in depth bytes = record { bytes = bytes; reads = ReadsComponent depth bytes; faulty = ComponentUpTo depth bytes }
+
+-- the header of a component does not stand there
+abbrev pub NoComponentHeading : List ℕ → Type 0
+NoComponentHeading bytes = (rest : List ℕ) → bytes ≢ component_header ++ rest
+
+-- ---- what a component holds where memory ran out
+
+-- Sections stand behind the header and were accepted, and what they became was added, and no more; the next one stands in its frame and
+-- was asked in part. Of a reading they are the first sections.
+pub record HoldsFront {S E : Type 0} (asked : Asks S E) (adds : Puts S SectionRow) (depth : ℕ) (bytes : List ℕ) (before after : S × Sections) : Type 0 where
+  pub front : AcceptedFront asked (added adds) before.1.ceiling depth bytes before.0
+  pub parts : (t : Tree) → ReadsComponent depth bytes t → (others : Tree) × (t ≡ rows_then front.read others)
+  pub rows : List SectionRow
+  pub next : Tree
+  pub left : List ℕ
+  pub framed : Begins frame front.rest next left
+  pub spelled : sections_bytes rows ≡ normal (rows_tree front.made)
+  pub gains : Gains before.1 after.1 rows
+  pub leaves : Leaves asked (section_in depth next) front.at NoMemory after.0
+
+-- the same after a call in which memory ran out
+abbrev pub HoldsComponent : {S E : Type 0} → Asks S E → Puts S SectionRow → ℕ → List ℕ → S × Sections → S × Sections → Result (Unit {0}) (Error E) → Type 0
+HoldsComponent asked adds depth bytes before after result = IfWants result (HoldsFront asked adds depth bytes before after)
