@@ -1,5 +1,5 @@
 use Rattle.reencode_core.proofs.EachItem.{hook_leaves}
-use Rattle.reencode_core.proofs.item_lists.FunctionItemsMapItem.map.Goals as goal
+use Rattle.reencode_core.proofs.item_lists.FunctionItemsMapItemU32U32.map.Goals as goal
 
 pub returns-clause-after_error : goal.returns-clause-after_error
 returns-clause-after_error g c =
