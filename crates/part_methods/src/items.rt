@@ -1,124 +1,106 @@
 //! What the methods of items ask.
+ghost use Rattle.std.specs.Prelude.{IsSome};
+ghost use Rattle.wasm_read.specs.Immediates.{imm_kind};
+
 use crate::noter::{Notes, both};
 use crate::third::{Way, Ways};
 use crate::values as v;
 use reencode_hooks::Error;
 use reencode_items::{ReencodeItems, utils};
 use std::alloc::Global;
+use wasm_leb::List;
 use wasm_read as r;
-use wasm_read::{CompositeInnerType, HeapType, Imm, TypeRef};
-use wasm_shapes::Space;
+use wasm_read::{HeapType, Imm, TypeRef};
 use wasm_write as w;
 
-/// A type with its supertypes.
-pub fn sub_type<N: ReencodeItems + Notes>(
+/// A type with its supertypes, which is given twice.
+fn sub_type<N: ReencodeItems + Notes>(
     of: &mut N,
     alloc: Global,
+    ty: r::SubType,
+    again: r::SubType,
 ) -> Result<(), Error<N::Error>> {
-    both!(of, sub_type(alloc, v::sub_type(alloc)?))
+    both!(of, sub_type(alloc, ty), (alloc, again))
 }
 
-/// A function type.
-pub fn function<N: ReencodeItems + Notes>(
+/// A function type, which is given twice.
+fn function<N: ReencodeItems + Notes>(
     of: &mut N,
     alloc: Global,
+    ty: r::FuncType,
+    again: r::FuncType,
 ) -> Result<(), Error<N::Error>> {
-    both!(of, func_type(alloc, v::function(alloc)?))
+    both!(of, func_type(alloc, ty), (alloc, again))
 }
 
-/// A structure type.
-pub fn structure<N: ReencodeItems + Notes>(
+/// A structure type, which is given twice.
+fn structure<N: ReencodeItems + Notes>(
     of: &mut N,
     alloc: Global,
+    ty: r::StructType,
+    again: r::StructType,
 ) -> Result<(), Error<N::Error>> {
-    both!(of, struct_type(alloc, v::structure(alloc)?))
+    both!(of, struct_type(alloc, ty), (alloc, again))
 }
 
 /// An array type.
-pub fn array<N: ReencodeItems + Notes>(of: &mut N) -> Result<(), Error<N::Error>> {
-    both!(of, array_type(v::ARRAY))
+fn array<N: ReencodeItems + Notes>(of: &mut N, ty: r::ArrayType) -> Result<(), Error<N::Error>> {
+    both!(of, array_type(ty), (ty))
 }
 
 /// A continuation type.
-pub fn continuation<N: ReencodeItems + Notes>(of: &mut N) -> Result<(), Error<N::Error>> {
-    both!(of, cont_type(v::CONTINUATION))
+fn continuation<N: ReencodeItems + Notes>(
+    of: &mut N,
+    ty: r::ContType,
+) -> Result<(), Error<N::Error>> {
+    both!(of, cont_type(ty), (ty))
 }
 
 /// A type that is stored.
-pub fn storage<N: ReencodeItems + Notes>(of: &mut N) -> Result<(), Error<N::Error>> {
-    both!(of, storage_type(r::StorageType::Val(v::VALUE)))
+fn storage<N: ReencodeItems + Notes>(
+    of: &mut N,
+    ty: r::StorageType,
+) -> Result<(), Error<N::Error>> {
+    both!(of, storage_type(ty), (ty))
 }
 
 /// A table type.
-pub fn table<N: ReencodeItems + Notes>(of: &mut N) -> Result<(), Error<N::Error>> {
-    both!(of, table_type(v::TABLE))
+fn table<N: ReencodeItems + Notes>(of: &mut N, ty: r::TableType) -> Result<(), Error<N::Error>> {
+    both!(of, table_type(ty), (ty))
 }
 
 /// A global type.
-pub fn global<N: ReencodeItems + Notes>(of: &mut N) -> Result<(), Error<N::Error>> {
-    both!(of, global_type(v::GLOBAL))
+fn global<N: ReencodeItems + Notes>(of: &mut N, ty: r::GlobalType) -> Result<(), Error<N::Error>> {
+    both!(of, global_type(ty), (ty))
 }
 
-/// The type of a block, as an immediate.
-fn block_immediate<N: ReencodeItems + Notes>(
+/// Types with lists.
+pub fn lists<N: ReencodeItems + Notes>(of: &mut N, alloc: Global) -> Result<(), Error<N::Error>> {
+    sub_type(of, alloc, v::sub_type(alloc)?, v::sub_type(alloc)?)?;
+    function(of, alloc, v::function(alloc)?, v::function(alloc)?)?;
+    structure(of, alloc, v::structure(alloc)?, v::structure(alloc)?)
+}
+
+/// Types without lists.
+pub fn types<N: ReencodeItems + Notes>(of: &mut N) -> Result<(), Error<N::Error>> {
+    array(of, v::ARRAY)?;
+    continuation(of, v::CONTINUATION)?;
+    storage(of, r::StorageType::Val(v::VALUE))?;
+    table(of, v::TABLE)?;
+    global(of, v::GLOBAL)
+}
+
+/// An immediate, which is given twice.
+fn immediate<N: ReencodeItems + Notes>(
     of: &mut N,
     alloc: Global,
-) -> Result<(), Error<N::Error>> {
-    both!(of, immediate(alloc, Imm::Block(r::BlockType::Empty)))
-}
-
-/// A list of types.
-fn types_immediate<N: ReencodeItems + Notes>(
-    of: &mut N,
-    alloc: Global,
-) -> Result<(), Error<N::Error>> {
-    both!(of, immediate(alloc, Imm::Types(v::one(alloc, v::VALUE)?)))
-}
-
-/// An access.
-fn access<N: ReencodeItems + Notes>(of: &mut N, alloc: Global) -> Result<(), Error<N::Error>> {
-    both!(of, immediate(alloc, Imm::Mem(v::ACCESS)))
-}
-
-/// A number of 32 bits.
-fn four<N: ReencodeItems + Notes>(of: &mut N, alloc: Global) -> Result<(), Error<N::Error>> {
-    both!(of, immediate(alloc, Imm::Four(r::Ieee32(0))))
-}
-
-/// A number of 64 bits.
-fn eight<N: ReencodeItems + Notes>(of: &mut N, alloc: Global) -> Result<(), Error<N::Error>> {
-    both!(of, immediate(alloc, Imm::Eight(r::Ieee64(0))))
-}
-
-/// A heap type, as an immediate.
-fn heap_immediate<N: ReencodeItems + Notes>(
-    of: &mut N,
-    alloc: Global,
-) -> Result<(), Error<N::Error>> {
-    both!(of, immediate(alloc, Imm::Heap(v::HEAP)))
-}
-
-/// A clause that catches.
-fn catches<N: ReencodeItems + Notes>(of: &mut N, alloc: Global) -> Result<(), Error<N::Error>> {
-    both!(of, immediate(alloc, Imm::Catches(v::one(alloc, v::CATCH)?)))
-}
-
-/// A cast.
-fn cast<N: ReencodeItems + Notes>(of: &mut N, alloc: Global) -> Result<(), Error<N::Error>> {
-    both!(of, immediate(alloc, v::CAST))
-}
-
-/// A handler.
-fn handlers<N: ReencodeItems + Notes>(of: &mut N, alloc: Global) -> Result<(), Error<N::Error>> {
-    both!(
-        of,
-        immediate(alloc, Imm::Handlers(v::one(alloc, v::HANDLE)?))
-    )
-}
-
-/// An index.
-fn index<N: ReencodeItems + Notes>(of: &mut N, alloc: Global) -> Result<(), Error<N::Error>> {
-    both!(of, immediate(alloc, Imm::Index(Space::Function, 0)))
+    imm: Imm<'_>,
+    again: Imm<'_>,
+) -> Result<(), Error<N::Error>>
+    requires first { IsSome (imm_kind imm) }
+    requires again { IsSome (imm_kind again) }
+{
+    both!(of, immediate(alloc, imm), (alloc, again))
 }
 
 /// Immediates.
@@ -126,24 +108,33 @@ pub fn immediates<N: ReencodeItems + Notes>(
     of: &mut N,
     alloc: Global,
 ) -> Result<(), Error<N::Error>> {
-    block_immediate(of, alloc)?;
-    types_immediate(of, alloc)?;
-    access(of, alloc)?;
-    four(of, alloc)?;
-    eight(of, alloc)?;
-    heap_immediate(of, alloc)?;
-    catches(of, alloc)?;
-    cast(of, alloc)?;
-    handlers(of, alloc)?;
-    index(of, alloc)
+    for number in 0..10 {
+        immediate(
+            of,
+            alloc,
+            v::immediate(alloc, number)?,
+            v::immediate(alloc, number)?,
+        )?;
+    }
+    Ok(())
 }
 
-/// The operator at the front of a body.
+/// The operator at the front of a body, which is given twice.
+fn operator_read<N: ReencodeItems + Notes>(
+    of: &mut N,
+    alloc: Global,
+    reader: &mut r::OperatorsReader<'_>,
+    again: &mut r::OperatorsReader<'_>,
+) -> Result<(), Error<N::Error>> {
+    both!(of, parse_instruction(alloc, reader), (alloc, again))
+}
+
+/// Operators.
 pub fn operators<N: ReencodeItems + Notes>(
     of: &mut N,
     alloc: Global,
 ) -> Result<(), Error<N::Error>> {
-    both!(of, parse_instruction(alloc, &mut v::BODY.operators()?))
+    operator_read(of, alloc, &mut v::operators()?, &mut v::operators()?)
 }
 
 /// A composite type, which is given twice.
@@ -153,23 +144,7 @@ fn composite<N: ReencodeItems + Notes>(
     ty: r::CompositeType,
     again: r::CompositeType,
 ) -> Result<(), Error<N::Error>> {
-    of.begin("composite_type");
-    of.composite_type(alloc, ty)?;
-    of.note("|");
-    utils::composite_type(of, alloc, again)?;
-    Ok(())
-}
-
-/// The line of a composite type.
-macro_rules! composed {
-    ($noter:ident, $alloc:ident, $inner:expr) => {
-        composite(
-            $noter,
-            $alloc,
-            v::composite($inner),
-            v::composite($inner),
-        )?
-    };
+    both!(of, composite_type(alloc, ty), (alloc, again))
 }
 
 /// Composite types.
@@ -177,51 +152,68 @@ pub fn composites<N: ReencodeItems + Notes>(
     of: &mut N,
     alloc: Global,
 ) -> Result<(), Error<N::Error>> {
-    composed!(of, alloc, CompositeInnerType::Func(v::function(alloc)?));
-    composed!(of, alloc, CompositeInnerType::Array(v::ARRAY));
-    composed!(of, alloc, CompositeInnerType::Struct(v::structure(alloc)?));
-    composed!(of, alloc, CompositeInnerType::Cont(v::CONTINUATION));
+    for number in 0..4 {
+        composite(
+            of,
+            alloc,
+            v::composite_of(alloc, number)?,
+            v::composite_of(alloc, number)?,
+        )?;
+    }
     Ok(())
 }
 
 /// A field.
-pub fn field<N: ReencodeItems + Notes>(of: &mut N) -> Result<(), Error<N::Error>> {
-    both!(of, field_type(v::FIELD))
+fn field<N: ReencodeItems + Notes>(of: &mut N, ty: r::FieldType) -> Result<(), Error<N::Error>> {
+    both!(of, field_type(ty), (ty))
 }
 
 /// A type of values.
-pub fn value<N: ReencodeItems + Notes>(of: &mut N) -> Result<(), Error<N::Error>> {
-    both!(of, val_type(v::VALUE))
+fn value<N: ReencodeItems + Notes>(of: &mut N, ty: r::ValType) -> Result<(), Error<N::Error>> {
+    both!(of, val_type(ty), (ty))
 }
 
-/// An operator.
-pub fn operator<N: ReencodeItems + Notes>(
+/// An operator, which is given twice.
+fn operator<N: ReencodeItems + Notes>(
     of: &mut N,
     alloc: Global,
+    ty: r::Operator<'_>,
+    again: r::Operator<'_>,
 ) -> Result<(), Error<N::Error>> {
-    both!(of, instruction(alloc, v::call(alloc)?))
+    both!(of, instruction(alloc, ty), (alloc, again))
 }
 
 /// A heap type.
 fn heap_type<N: ReencodeItems + Notes>(of: &mut N, ty: HeapType) -> Result<(), Error<N::Error>> {
-    both!(of, heap_type(ty))
-}
-
-/// Heap types.
-pub fn heap_types<N: ReencodeItems + Notes>(of: &mut N) -> Result<(), Error<N::Error>> {
-    heap_type(of, v::HEAP)?;
-    heap_type(of, HeapType::Concrete(v::INDEX))?;
-    heap_type(of, HeapType::Exact(v::INDEX))
+    both!(of, heap_type(ty), (ty))
 }
 
 /// A tag.
-pub fn tag<N: ReencodeItems + Notes>(of: &mut N) -> Result<(), Error<N::Error>> {
-    both!(of, tag_type(v::TAG))
+fn tag<N: ReencodeItems + Notes>(of: &mut N, ty: r::TagType) -> Result<(), Error<N::Error>> {
+    both!(of, tag_type(ty), (ty))
+}
+
+/// Fields, values and operators.
+pub fn operator_and_types<N: ReencodeItems + Notes>(
+    of: &mut N,
+    alloc: Global,
+) -> Result<(), Error<N::Error>> {
+    field(of, v::FIELD)?;
+    value(of, v::VALUE)?;
+    operator(of, alloc, v::call(alloc)?, v::call(alloc)?)
+}
+
+/// Heap types, and a tag.
+pub fn heap_types<N: ReencodeItems + Notes>(of: &mut N) -> Result<(), Error<N::Error>> {
+    heap_type(of, v::HEAP)?;
+    heap_type(of, HeapType::Concrete(v::INDEX))?;
+    heap_type(of, HeapType::Exact(v::INDEX))?;
+    tag(of, v::TAG)
 }
 
 /// The type of what is imported.
 fn entity<N: ReencodeItems + Notes>(of: &mut N, ty: TypeRef) -> Result<(), Error<N::Error>> {
-    both!(of, entity_type(ty))
+    both!(of, entity_type(ty), (ty))
 }
 
 /// What is imported.
@@ -240,21 +232,38 @@ pub fn entities<N: ReencodeItems + Notes>(of: &mut N) -> Result<(), Error<N::Err
 }
 
 /// A reference type.
-pub fn reference<N: ReencodeItems + Notes>(of: &mut N) -> Result<(), Error<N::Error>> {
-    both!(of, ref_type(v::REFERENCE))
+fn reference<N: ReencodeItems + Notes>(of: &mut N, ty: r::RefType) -> Result<(), Error<N::Error>> {
+    both!(of, ref_type(ty), (ty))
 }
 
 /// The type of a block.
-pub fn block<N: ReencodeItems + Notes>(of: &mut N) -> Result<(), Error<N::Error>> {
-    both!(of, block_type(r::BlockType::Type_(v::VALUE)))
+fn block<N: ReencodeItems + Notes>(of: &mut N, ty: r::BlockType) -> Result<(), Error<N::Error>> {
+    both!(of, block_type(ty), (ty))
 }
 
-/// A list of types of values.
-pub fn value_types<N: ReencodeItems + Notes>(
+/// A list of types of values, which is given twice.
+fn value_types<N: ReencodeItems + Notes>(
+    of: &mut N,
+    alloc: Global,
+    ty: List<r::ValType>,
+    again: List<r::ValType>,
+) -> Result<(), Error<N::Error>> {
+    both!(of, val_types(alloc, ty), (alloc, again))
+}
+
+/// References, blocks, and lists of types.
+pub fn references<N: ReencodeItems + Notes>(
     of: &mut N,
     alloc: Global,
 ) -> Result<(), Error<N::Error>> {
-    both!(of, val_types(alloc, v::one(alloc, v::VALUE)?))
+    reference(of, v::REFERENCE)?;
+    block(of, r::BlockType::Type_(v::VALUE))?;
+    value_types(
+        of,
+        alloc,
+        v::one(alloc, v::VALUE)?,
+        v::one(alloc, v::VALUE)?,
+    )
 }
 
 /// What comes of an expression.
@@ -266,21 +275,26 @@ fn told<E: Drop>(made: Result<w::ConstExpr, Error<E>>) -> &'static str {
     }
 }
 
-/// The expression `i32.const 0`.
-fn expression<N: ReencodeItems + Notes>(of: &mut N, alloc: Global) -> Result<(), Error<N::Error>>
+/// A constant expression, which is given twice.
+fn expression<N: ReencodeItems + Notes>(
+    of: &mut N,
+    alloc: Global,
+    expression: r::ConstExpr<'_>,
+    again: r::ConstExpr<'_>,
+) -> Result<(), Error<N::Error>>
 where
     N::Error: Drop,
 {
     of.begin("const_expr");
-    let made = of.const_expr(alloc, v::expression()?);
+    let made = of.const_expr(alloc, expression);
     of.note(told(made));
     of.note("|");
-    let made = utils::const_expr(of, alloc, v::expression()?);
+    let made = utils::const_expr(of, alloc, again);
     of.note(told(made));
     Ok(())
 }
 
-/// The same by each way to map its operators.
+/// One by each way to map its operators.
 pub fn expressions<N: ReencodeItems + Notes + Ways>(
     of: &mut N,
     alloc: Global,
@@ -290,7 +304,7 @@ where
 {
     for way in [Way::Maps, Way::Ends, Way::PassesBy, Way::Refuses] {
         of.turn(way);
-        expression(of, alloc)?;
+        expression(of, alloc, v::expression()?, v::expression()?)?;
     }
     Ok(())
 }

@@ -13,7 +13,7 @@ mod third;
 mod values;
 
 use crate::first::First;
-use crate::noter::{Noter, Notes};
+use crate::noter::{Made, Noter, Notes};
 use crate::second::Second;
 use crate::third::{Third, Way, Ways};
 use reencode_core::Reencode;
@@ -26,73 +26,34 @@ use std::io;
 fn by_rows<N: Reencode + Notes>(of: &mut N, alloc: Global) -> Result<(), Error<N::Error>> {
     rows::modules(of, alloc)?;
     rows::sections(of, alloc)?;
-    rows::import(of, alloc)?;
-    rows::code(of, alloc)?;
+    rows::more_sections(of, alloc)?;
+    rows::import_and_code(of, alloc)?;
     names::sections(of, alloc)
-}
-
-/// Types, where their parts are overridden.
-fn types_by_parts<N: Reencode + Notes>(of: &mut N, alloc: Global) -> Result<(), Error<N::Error>> {
-    items::sub_type(of, alloc)?;
-    items::function(of, alloc)?;
-    items::structure(of, alloc)?;
-    items::array(of)?;
-    items::continuation(of)?;
-    items::storage(of)?;
-    items::table(of)?;
-    items::global(of)
 }
 
 /// What is asked where parts are overridden.
 fn by_parts<N: Reencode + Notes>(of: &mut N, alloc: Global) -> Result<(), Error<N::Error>> {
     by_rows(of, alloc)?;
-    rows::locals(of, alloc)?;
+    rows::locals(of, alloc, values::BODY)?;
     rows::start(of)?;
     rows::items(of, alloc)?;
-    types_by_parts(of, alloc)?;
+    items::lists(of, alloc)?;
+    items::types(of)?;
     items::immediates(of, alloc)?;
     items::operators(of, alloc)
 }
 
-/// The rows of sections, where what they hold is overridden.
-fn by_items<N: Reencode + Notes>(of: &mut N, alloc: Global) -> Result<(), Error<N::Error>> {
-    rows::bodies(of, alloc)?;
-    rows::group(of, alloc)?;
-    rows::imported(of, alloc)?;
-    rows::tables(of, alloc)?;
-    rows::global(of, alloc)?;
-    rows::export(of, alloc)?;
-    rows::element(of, alloc)?;
-    rows::segment(of, alloc)?;
-    rows::body(of, alloc)?;
-    rows::imports(of, alloc)
-}
-
-/// Types and operators, where wholes are overridden.
-fn items_by_wholes<N: Reencode + Notes>(of: &mut N, alloc: Global) -> Result<(), Error<N::Error>> {
-    items::composites(of, alloc)?;
-    items::field(of)?;
-    items::value(of)?;
-    items::operator(of, alloc)?;
-    items::heap_types(of)?;
-    items::tag(of)
-}
-
-/// Custom sections and names, where wholes are overridden.
-fn names_by_wholes<N: Reencode + Notes>(of: &mut N, alloc: Global) -> Result<(), Error<N::Error>> {
-    names::custom(of, alloc, "name")?;
-    names::custom(of, alloc, "x")?;
-    names::unknown(of, alloc)?;
-    names::maps(of, alloc)?;
-    names::more_maps(of, alloc)?;
-    names::indirect_maps(of, alloc)
-}
-
 /// What is asked where wholes are overridden.
 fn by_wholes<N: Reencode + Notes>(of: &mut N, alloc: Global) -> Result<(), Error<N::Error>> {
-    by_items(of, alloc)?;
-    items_by_wholes(of, alloc)?;
-    names_by_wholes(of, alloc)
+    rows::bodies(of, alloc)?;
+    rows::rows(of, alloc)?;
+    rows::more_rows(of, alloc)?;
+    rows::body_and_imports(of, alloc)?;
+    items::composites(of, alloc)?;
+    items::operator_and_types(of, alloc)?;
+    items::heap_types(of)?;
+    names::customs(of, alloc)?;
+    names::maps(of, alloc)
 }
 
 /// What is asked where others are overridden.
@@ -104,17 +65,30 @@ where
     N::Error: Drop,
 {
     items::entities(of)?;
-    items::reference(of)?;
-    items::block(of)?;
-    items::value_types(of, alloc)?;
+    items::references(of, alloc)?;
     items::expressions(of, alloc)
+}
+
+/// What the first kind is asked. To hand a kind over is dear, and to hand over two in one function more than twice as much.
+fn of_first(alloc: Global, of: &mut Noter<First>) -> Made<()> {
+    by_parts(of, alloc)
+}
+
+/// What the second kind is asked.
+fn of_second(alloc: Global, of: &mut Noter<Second>) -> Made<()> {
+    by_wholes(of, alloc)
+}
+
+/// What the third kind is asked.
+fn of_third(alloc: Global, of: &mut Noter<Third>) -> Made<()> {
+    by_others(of, alloc)
 }
 
 /// The lines of calls, and why they end where they do.
 macro_rules! tell {
     ($rt:ident, $asked:ident, $kind:expr) => {
         let mut of = Noter::new($rt.alloc(), $kind);
-        let made = $asked(&mut of, $rt.alloc());
+        let made = $asked($rt.alloc(), &mut of);
         println!($rt; "{}", of.lines())?;
         if let Err(e) = made {
             println!($rt; "{e}")?;
@@ -123,8 +97,8 @@ macro_rules! tell {
 }
 
 fn main(rt: HostRuntime) -> io::Result<()> {
-    tell!(rt, by_parts, First);
-    tell!(rt, by_wholes, Second);
-    tell!(rt, by_others, Third(Way::Maps));
+    tell!(rt, of_first, First);
+    tell!(rt, of_second, Second);
+    tell!(rt, of_third, Third(Way::Maps));
     Ok(())
 }

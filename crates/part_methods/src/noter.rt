@@ -95,19 +95,31 @@ macro_rules! answered {
 
 pub(crate) use answered;
 
-/// The line of a call: what the method asks, and what its function asks. Two lines in one function cost its check more than
-/// each in one of its own.
+/// The line of a call: what the method asks, and what its function asks. What is mapped is given twice, by parameters: a
+/// function that makes what it hands over costs its check more than twice as much. So does one with two lines.
 macro_rules! both {
-    ($noter:ident, $method:ident($($arg:expr),*)) => {{
+    ($noter:ident, $method:ident($($arg:expr),*), ($($again:expr),*)) => {{
         $noter.begin(stringify!($method));
         $noter.$method($($arg),*)?;
         $noter.note("|");
-        utils::$method($noter, $($arg),*)?;
+        utils::$method($noter, $($again),*)?;
         Ok(())
     }};
 }
 
 pub(crate) use both;
+
+/// The same, where what is mapped is added to something.
+macro_rules! added {
+    ($noter:ident, $method:ident($($arg:expr),*), ($($again:expr),*)) => {{
+        $noter.begin(stringify!($method));
+        $noter.$method($($arg),*)?;
+        $noter.note("|");
+        utils::$method($noter, $($again),*)
+    }};
+}
+
+pub(crate) use added;
 
 impl<K> ReencodeIndices for Noter<K> {
     ghost use Rattle.std.specs.Prelude.{true, false, Ok, refl, []};

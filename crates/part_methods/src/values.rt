@@ -1,10 +1,13 @@
 //! The values that are mapped, one of each composite kind.
-ghost use Rattle.std.specs.Prelude.{◌≡◌, ◌∷◌, [], IfOk};
+ghost use Rattle.std.specs.Prelude.{◌≡◌, ◌∷◌, [], IfOk, IsSome};
+ghost use Rattle.wasm_read.specs.Immediates.{imm_kind};
+ghost use Rattle.wasm_read.specs.Subsections.{IsRaw};
 
 use reencode_hooks::Error;
 use std::alloc::Global;
-use wasm_leb::{List, NoMemory, ReadError};
+use wasm_leb::{Fault, List, NoMemory, ReadError};
 use wasm_read as r;
+use wasm_read::SectionReader;
 use wasm_shapes::{CALL, Space};
 
 pub const INDEX: r::UnpackedIndex = r::UnpackedIndex::Module(0);
@@ -124,6 +127,34 @@ pub const CAST: r::Imm<'_> = r::Imm::Cast {
     to: REFERENCE,
 };
 
+/// The immediates of each kind that a method maps, by their number.
+pub fn immediate<'a>(alloc: Global, number: u32) -> Result<r::Imm<'a>, NoMemory>
+    ensures { IfOk result (λ imm. IsSome (imm_kind imm)) }
+{
+    match number {
+        0 => Ok(r::Imm::Block(r::BlockType::Empty)),
+        1 => Ok(r::Imm::Types(one(alloc, VALUE)?)),
+        2 => Ok(r::Imm::Mem(ACCESS)),
+        3 => Ok(r::Imm::Four(r::Ieee32(0))),
+        4 => Ok(r::Imm::Eight(r::Ieee64(0))),
+        5 => Ok(r::Imm::Heap(HEAP)),
+        6 => Ok(r::Imm::Catches(one(alloc, CATCH)?)),
+        7 => Ok(CAST),
+        8 => Ok(r::Imm::Handlers(one(alloc, HANDLE)?)),
+        _ => Ok(r::Imm::Index(Space::Function, 0)),
+    }
+}
+
+/// The composite types, by the number of what they hold.
+pub fn composite_of(alloc: Global, number: u32) -> Result<r::CompositeType, NoMemory> {
+    Ok(composite(match number {
+        0 => r::CompositeInnerType::Func(function(alloc)?),
+        1 => r::CompositeInnerType::Array(ARRAY),
+        2 => r::CompositeInnerType::Struct(structure(alloc)?),
+        _ => r::CompositeInnerType::Cont(CONTINUATION),
+    }))
+}
+
 pub const IMPORT: r::Import<'_> = r::Import {
     module: "a",
     name: "b",
@@ -136,10 +167,66 @@ pub const EXPORT: r::Export<'_> = r::Export {
     index: 0,
 };
 
+/// A custom section.
+pub fn custom<'a>(name: &'a str, contents: &'a [u8]) -> r::CustomSection<'a> {
+    r::CustomSection { name, contents }
+}
+
+/// The rows of a section's body.
+pub fn rows<'a, K>(body: &'a [u8]) -> Result<SectionReader<'a, K>, Fault> {
+    SectionReader::new(body)
+}
+
+/// The subsections of a name section.
+pub fn name_rows<'a>(contents: &'a [u8]) -> Result<r::NameSectionReader<'a>, Fault> {
+    r::NameSectionReader::new(contents)
+}
+
+/// A name of the index 0.
+fn map<'a>() -> r::NameMap<'a> {
+    r::NameMap::new(&[0x01, 0x00, 0x01, 0x66])
+}
+
+/// A name of the index 0 inside the index 0.
+fn indirect<'a>() -> r::IndirectNameMap<'a> {
+    r::IndirectNameMap::new(&[0x01, 0x00, 0x01, 0x00, 0x01, 0x66])
+}
+
+/// The subsections of each space, by their number.
+pub fn names<'a>(number: u32) -> r::Name<'a>
+    ensures { IsRaw result }
+{
+    match number {
+        0 => r::Name::Function(map()),
+        1 => r::Name::Type_(map()),
+        2 => r::Name::Table(map()),
+        3 => r::Name::Memory(map()),
+        4 => r::Name::Global(map()),
+        5 => r::Name::Element(map()),
+        6 => r::Name::Data(map()),
+        7 => r::Name::Tag(map()),
+        8 => r::Name::Local(indirect()),
+        9 => r::Name::Label(indirect()),
+        _ => r::Name::Field(indirect()),
+    }
+}
+
+/// A recursive group of two.
+pub fn group(alloc: Global) -> Result<r::RecGroup, Fault> {
+    let bytes = [0x4e, 0x02, 0x60, 0x00, 0x00, 0x60, 0x00, 0x00];
+    let (group, _) = r::read_group(alloc, &bytes, 0)?;
+    Ok(group)
+}
+
 /// A body with a local and the operators `call 0` and `end`.
 pub const BODY: r::FunctionBody<'_> = r::FunctionBody {
     bytes: &[0x01, 0x01, 0x7f, 0x10, 0x00, 0x0b],
 };
+
+/// The operators of the body.
+pub fn operators<'a>() -> Result<r::OperatorsReader<'a>, Fault> {
+    BODY.operators()
+}
 
 /// A table that starts with null references.
 pub fn table<'a>() -> r::Table<'a> {
