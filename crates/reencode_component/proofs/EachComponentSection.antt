@@ -22,7 +22,7 @@ use Rattle.wasm_read_component.specs.declared.types.ComponentStartFunction.{Comp
 use Rattle.wasm_read_component.specs.ComponentRows.{start_tree}
 use Rattle.wasm_read_component.specs.ComponentPayloads.{in_force}
 use Rattle.wasm_read.specs.Reading.{Standing, CountRead, ReadsNone}
-use Rattle.wasm_write.specs.Sections.{Sections, SectionRow, section_row}
+use Rattle.wasm_write.specs.Sections.{Sections, section_row}
 use Rattle.reencode_hooks.specs.declared.error.Error.{Error}
 use Rattle.reencode_hooks.specs.declared.error.Error.TheVariants.{CanonicalizedHeapTypeReference, InvalidConstExpr, InvalidCodeSectionSize, UnexpectedNonCoreModuleSection, UnexpectedNonComponentSection, UnsupportedCoreTypeInComponent, ParseError, UserError, TooLarge, NoMemory}
 use Rattle.reencode_hooks.specs.declared.indices.ReencodeIndices.{Ghosts}
@@ -38,7 +38,7 @@ use Rattle.reencode_hooks.specs.Walk.{walk}
 use Rattle.reencode_core.proofs.Known.{keeps_same}
 use Rattle.reencode_core.proofs.Usual.{unless_wanting}
 use Rattle.reencode_core.proofs.Made.{drawn_made, either_made, ended_all, ended_placed, front_none, front_same, tells_placed, wants_placed, write_unasked}
-use Rattle.reencode_component.specs.Causes.{IfFault, StopsInside, StopsInRows, inside, own_inside, room}
+use Rattle.reencode_component.specs.Causes.{IfFault, inside, own_inside, room}
 use Rattle.reencode_component.specs.Components.{IsInForce, NestedFault, ReadsSection}
 use Rattle.reencode_component.specs.Gives.{GivesAddedIn, GivesSection}
 use Rattle.reencode_component.specs.WeaveIn.{weave_in}
@@ -84,11 +84,6 @@ leaves_placed {E = E} text e at l = record {
     go all rest (inl h) = inl ((λ q. h.0 (tells_placed e at q)), h.1)
     go all rest (inr h) = inr h
 
-stops_inside : {S E : Type 0} (asked : Asks S E) (adds : Puts S SectionRow) (c depth room id : ℕ) (body : List ℕ) (s m : S) (e : Error E) → StopsInRows asked c id body s m e →
-    StopsInside asked adds c depth room (numbered_frame id body) s m e
-stops_inside asked adds c depth zero id body s m e h = (id, body, refl, h)
-stops_inside asked adds c depth (suc room) id body s m e h = inl (id, body, refl, h)
-
 module _ {S E : Type 0} (i : Ghosts S E) (depth : ℕ) (deep : depth ≤ 200) {id : ℕ} {row : Shape} (kind : FlatRows id row) (body : List ℕ) (at : ℕ) {s : S} {old : Sections} where
   -- the count of the rows is missing
   pub section_unread : (f : Fault) → ReadsNone f 0 (BeginsNoNumber 128 32 32 body) → FrameClauses i depth (numbered_frame id body) at s old s old (Err (ParseError (record { at = at })))
@@ -96,7 +91,7 @@ module _ {S E : Type 0} (i : Ghosts S E) (depth : ℕ) (deep : depth ≤ 200) {i
     kept = keeps_same old;
     default = λ k.
         section_uncounted (asks i) i.adds depth deep kind body at (own_inside (asks i) i.adds old.ceiling depth) (inside (asks i) i.adds old.ceiling depth) s s old
-        (λ e h. stops_inside (asks i) i.adds old.ceiling depth (room depth) id body s s e h) (uncounted f none);
+        (λ e h. inl (id, body, refl, h)) (uncounted f none);
     after_error = λ k told size. section_untouched (asks i) depth deep kind body s s (ParseError (record { at = at })) tt refl (uncounted f none);
   }
     where
@@ -116,7 +111,7 @@ module _ {S E : Type 0} (i : Ghosts S E) (depth : ℕ) (deep : depth ≤ 200) {i
         kept = keeps_same old;
         default = λ k.
             section_stops (asks i) i.adds depth deep kind body at (own_inside (asks i) i.adds old.ceiling depth) (inside (asks i) i.adds old.ceiling depth) s m old
-            (λ x h. stops_inside (asks i) i.adds old.ceiling depth (room depth) id body s m x h) e empty there (rows.default k old.ceiling);
+            (λ x h. inl (id, body, refl, h)) e empty there (rows.default k old.ceiling);
         after_error = λ k told size.
             leaves_placed (section_in depth (numbered_frame id body)) e at (section_leaves (asks i) depth deep kind body s m e there (rows.after_error k (λ h. told (wants_placed e at h))));
       }))
@@ -124,7 +119,7 @@ module _ {S E : Type 0} (i : Ghosts S E) (depth : ℕ) (deep : depth ≤ 200) {i
     kept = (section_row id (normal (vector_tree made)) ∷ [], adds.0);
     default = λ k.
         section_added (asks i) i.adds depth deep kind body at (own_inside (asks i) i.adds old.ceiling depth) (inside (asks i) i.adds old.ceiling depth) s m old
-        (λ x h. stops_inside (asks i) i.adds old.ceiling depth (room depth) id body s m x h) empty there (rows.default k old.ceiling) adds.0 adds.1;
+        (λ x h. inl (id, body, refl, h)) empty there (rows.default k old.ceiling) adds.0 adds.1;
     after_error = λ k. tt;
   }
   section_mapped {reader = reader} {made = made} {m = m} {new = new} (Ok u) (Err e) empty there rows adds =
@@ -134,7 +129,7 @@ module _ {S E : Type 0} (i : Ghosts S E) (depth : ℕ) (deep : depth ≤ 200) {i
         kept = keeps_same old;
         default = λ k.
             section_not_added (asks i) i.adds depth deep kind body at (own_inside (asks i) i.adds old.ceiling depth) (inside (asks i) i.adds old.ceiling depth) s m old
-            (λ x h. stops_inside (asks i) i.adds old.ceiling depth (room depth) id body s m x h) empty there (rows.default k old.ceiling) adds.1 adds.3;
+            (λ x h. inl (id, body, refl, h)) empty there (rows.default k old.ceiling) adds.1 adds.3;
         after_error = λ k told size.
             let g = rows.default k old.ceiling in
             let q = g.reading g.readable.0 g.readable.1 in

@@ -101,13 +101,16 @@ OwnInside asked adds c depth (suc room) f s m e =
     Pushed asked (λ b k n x. OwnTooLarge asked adds c b k x)
     (λ b k n x. BehindFront asked (added adds) c (depth + 1) (OwnInside asked adds c (depth + 1) room) b k n x) f s m e
 
--- What was refused inside a section that has no reading: a row of it; or what stands inside a nested one.
-abbrev pub StopsInside : {S E : Type 0} → Asks S E → Puts S SectionRow → ℕ → ℕ → ℕ → Stops S E
-StopsInside asked adds c depth zero f s m e = (id : ℕ) × (body : List ℕ) × (f ≡ numbered_frame id body) × StopsInRows asked c id body s m e
-StopsInside asked adds c depth (suc room) f s m e =
-    ((id : ℕ) × (body : List ℕ) × (f ≡ numbered_frame id body) × StopsInRows asked c id body s m e)
-    ⊎ Pushed asked (λ b k n x. IsCause asked c b k n x)
-    (λ b k n x. CauseBy asked (added adds) c (depth + 1) (StopsInside asked adds c (depth + 1) room) (OwnInside asked adds c (depth + 1) room) b k n x) f s m e
+-- What was refused inside a section that has no reading: a row of it; or what stands inside a nested one, by what is said of that.
+abbrev pub StopsBy : {S E : Type 0} → Asks S E → ℕ → Stops S E → Stops S E
+StopsBy asked c nested f s m e = ((id : ℕ) × (body : List ℕ) × (f ≡ numbered_frame id body) × StopsInRows asked c id body s m e) ⊎ nested f s m e
+
+-- A nested section stands in the frame, and a part of it was refused; so many scopes may still be opened.
+abbrev pub StopsNested : {S E : Type 0} → Asks S E → Puts S SectionRow → ℕ → ℕ → ℕ → Stops S E
+StopsNested asked adds c depth zero f s m e = ⊥
+StopsNested asked adds c depth (suc room) f s m e =
+    Pushed asked (λ b k n x. IsCause asked c b k n x)
+    (λ b k n x. CauseBy asked (added adds) c (depth + 1) (StopsBy asked c (StopsNested asked adds c (depth + 1) room)) (OwnInside asked adds c (depth + 1) room) b k n x) f s m e
 
 -- ---- with so many scopes open round it
 
@@ -116,7 +119,7 @@ abbrev pub room : ℕ → ℕ
 room depth = 200 - depth
 
 abbrev pub inside : {S E : Type 0} → Asks S E → Puts S SectionRow → ℕ → ℕ → Stops S E
-inside asked adds c depth = StopsInside asked adds c depth (room depth)
+inside asked adds c depth = StopsBy asked c (StopsNested asked adds c depth (room depth))
 
 abbrev pub own_inside : {S E : Type 0} → Asks S E → Puts S SectionRow → ℕ → ℕ → Stops S E
 own_inside asked adds c depth = OwnInside asked adds c depth (room depth)
