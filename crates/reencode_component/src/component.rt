@@ -17,7 +17,9 @@ use wasm_write_component as w;
 
 /// What a re-encoder does with each row and section of a component.
 ///
-/// The clauses of a method are the fields of the record that it cites (`specs/Clauses.antt` of `reencode_core`).
+/// The clauses of a method are the fields of the record that it cites (`specs/Clauses.antt`, of `reencode_core` for rows and
+/// sections of rows). `default`, `after_error` and `usual` hold where the reencoder keeps the defaults; `wants` and, of a row or
+/// of a section that is added whole, `after_error` where it is sure.
 pub trait ReencodeComponent: Reencode + ReencodeComponentItems {
     /// Maps the rows that the reader still has, each type by `component_type_ref`, and adds each row once it is mapped.
     fn parse_component_import_section(
