@@ -16,6 +16,7 @@ use Rattle.wasm_types.specs.ComponentTrees.{export_alias, outer_alias}
 use Rattle.wasm_read_component.specs.declared.aliases.Target.{Target}
 use Rattle.wasm_read_component.specs.declared.aliases.Target.TheVariants as target
 
+-- an alias as it is read
 abbrev pub ComponentAlias : Type 0
 ComponentAlias = Alias ExternalKind
 
@@ -28,6 +29,7 @@ core_sort_byte external.Memory = 0x02
 core_sort_byte external.Global = 0x03
 core_sort_byte external.Tag = 0x04
 
+-- the tree that an alias stands for, behind the bytes of its sort
 abbrev pub alias_tree : ComponentAlias → Tree
 alias_tree a = component.alias_tree core_sort_byte a
 
@@ -68,5 +70,6 @@ pub record OuterBegins (bytes : List ℕ) (kind : ComponentOuterAliasKind) (a : 
   pub is : alias_tree a ≡ outer_alias kind count index
   pub begins : (s : Space) → Begins (export_or_outer s) bytes (Tree.row 1 (outer_tree s count index)) left
 
+-- an alias of a sort of which there are both begins there
 abbrev pub TargetBegins : List ℕ → ComponentExternalKind → ComponentOuterAliasKind → ComponentAlias → List ℕ → Type 0
 TargetBegins bytes kind outer a left = EitherBegins bytes kind a left ⊎ OuterBegins bytes outer a left

@@ -19,6 +19,7 @@ use Rattle.wasm_read.specs.Types.{ExportKind, export_tree, indices}
 use Rattle.wasm_read.specs.VectorRows.{VectorBeside}
 use Rattle.wasm_read_component.specs.declared.types.ComponentStartFunction.{ComponentStartFunction}
 
+-- the function that starts a component, its arguments and the number of its results
 abbrev pub start_tree : ComponentStartFunction → Tree
 start_tree f = component.component_start_tree f.func_index f.arguments f.results
 
@@ -43,9 +44,11 @@ StartRefused (fault.Read e) body = NoStart body e.at
 StartRefused fault.NoMemory body = Unit {0}
 StartRefused _ body = ⊥
 
+-- what stands behind the byte of a canonical function
 abbrev pub operands_tree : Operands UnpackedIndex (List CanonicalOption) → Tree
 operands_tree o = component.operands_tree indices o
 
+-- a canonical function by its byte
 abbrev pub canonical_tree : CanonicalFunction UnpackedIndex → Tree
 canonical_tree f = component.canonical_tree indices f
 
