@@ -33,5 +33,4 @@ pub use pieces::{
     spelling_is_kept,
 };
 pub use reencode::{Reencode, reencode_core};
-pub use row_sections::{MapRow, map_section};
 pub use rule::{check_by_rule, reencode_by_rule};

@@ -17,35 +17,41 @@ use wasm_shapes::kinds;
 use wasm_write as w;
 use wasm_write::{RowOf, RowSection};
 
-/// A kind of section whose rows a reencoder maps by one call.
-pub trait MapRow<'a, T: ReencodeItems, B: RowOf<Self>>: ReadRow<'a> {
+/// A kind of section with a method that maps its rows.
+pub(crate) trait MapRow<'a, B: RowOf<Self>>: ReadRow<'a> {
     /// What a row becomes.
-    fn map(reencoder: &mut T, row: Self::Row) -> Result<B, Error<T::Error>>
+    fn map<T: ReencodeItems>(reencoder: &mut T, row: Self::Row) -> Result<B, Error<T::Error>>
         ensures default { IsTrue T.keeps_defaults
             → Maps T.reply T.next reencoder.old (Self.tree row) B.tree reencoder.new result }
         ensures sure { IsTrue T.keeps_defaults → NeverWants T.sure result };
 }
 
-impl<'a, T: ReencodeItems> MapRow<'a, T, u32> for kinds::Functions {
-    fn map(reencoder: &mut T, row: u32) -> Result<u32, Error<T::Error>> {
+impl<'a> MapRow<'a, u32> for kinds::Functions {
+    fn map<T: ReencodeItems>(reencoder: &mut T, row: u32) -> Result<u32, Error<T::Error>> {
         reencoder.type_index(row)
     }
 }
 
-impl<'a, T: ReencodeItems> MapRow<'a, T, w::MemoryType> for kinds::Memories {
-    fn map(reencoder: &mut T, row: r::MemoryType) -> Result<w::MemoryType, Error<T::Error>> {
+impl<'a> MapRow<'a, w::MemoryType> for kinds::Memories {
+    fn map<T: ReencodeItems>(
+        reencoder: &mut T,
+        row: r::MemoryType,
+    ) -> Result<w::MemoryType, Error<T::Error>> {
         reencoder.memory_type(row)
     }
 }
 
-impl<'a, T: ReencodeItems> MapRow<'a, T, w::TagType> for kinds::Tags {
-    fn map(reencoder: &mut T, row: r::TagType) -> Result<w::TagType, Error<T::Error>> {
+impl<'a> MapRow<'a, w::TagType> for kinds::Tags {
+    fn map<T: ReencodeItems>(
+        reencoder: &mut T,
+        row: r::TagType,
+    ) -> Result<w::TagType, Error<T::Error>> {
         reencoder.tag_type(row)
     }
 }
 
 /// Maps the rows that the reader still has, and adds each row once it is mapped.
-pub fn map_section<'a, T, K, B>(
+pub(crate) fn map_section<'a, T, K, B>(
     reencoder: &mut T,
     alloc: Global,
     sink: &mut RowSection<K>,
@@ -53,7 +59,7 @@ pub fn map_section<'a, T, K, B>(
 ) -> Result<(), Error<T::Error>>
 where
     T: ReencodeItems,
-    K: MapRow<'a, T, B>,
+    K: MapRow<'a, B>,
     B: RowOf<K> + Drop,
     requires { IsItem K.shape }
     ensures { RowsClauses T.ReencodeIndices K.shape section.entry
