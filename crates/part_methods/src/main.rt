@@ -69,7 +69,7 @@ where
     items::expressions(of, alloc)
 }
 
-/// What the first kind is asked. To hand a kind over is dear, and to hand over two in one function more than twice as much.
+/// What the first kind is asked.
 fn of_first(alloc: Global, of: &mut Noter<First>) -> Made<()> {
     by_parts(of, alloc)
 }

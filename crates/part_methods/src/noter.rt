@@ -96,7 +96,8 @@ macro_rules! answered {
 pub(crate) use answered;
 
 /// The line of a call: what the method asks, and what its function asks. What is mapped is given twice, by parameters: a
-/// function that makes what it hands over costs its check more than twice as much. So does one with two lines.
+/// function that makes what it hands over costs its check more than twice as much. Two lines in one function cost more than each
+/// in one of its own.
 macro_rules! both {
     ($noter:ident, $method:ident($($arg:expr),*), ($($again:expr),*)) => {{
         $noter.begin(stringify!($method));
