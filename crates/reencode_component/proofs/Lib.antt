@@ -1,1 +1,3 @@
 pub mod SortKept
+pub mod Walked
+pub mod TypeParts

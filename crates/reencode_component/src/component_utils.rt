@@ -12,6 +12,7 @@ pub use crate::kinds::{
     component_export_kind, component_outer_alias_kind, component_primitive_val_type,
 };
 pub use crate::rows::parse_component_export;
+pub use crate::types::{parse_component_defined_type, parse_component_func_type};
 use crate::{default_bodies, hooked};
 use reencode_hooks::Error;
 use wasm_read_component as r;

@@ -14,6 +14,7 @@ mod items;
 mod kinds;
 mod mapped;
 mod rows;
+mod types;
 
 pub use answer::AnswerComponentVisits;
 pub use component::ReencodeComponent;
