@@ -1,2 +1,3 @@
 pub mod Hooks
 pub mod Clauses
+pub mod TypeClauses

@@ -6,6 +6,7 @@ mod answer;
 mod chain;
 mod component;
 pub mod component_utils;
+mod core_types;
 mod default_bodies;
 mod defaults;
 mod hooked;
@@ -14,6 +15,7 @@ mod items;
 mod kinds;
 mod mapped;
 mod rows;
+mod type_bodies;
 mod types;
 
 pub use answer::AnswerComponentVisits;
