@@ -1,3 +1,5 @@
 pub mod SortKept
 pub mod Walked
 pub mod TypeParts
+pub mod ScopeCalls
+pub mod CoreGroups

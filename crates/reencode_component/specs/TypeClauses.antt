@@ -5,13 +5,13 @@ use Rattle.wasm_shapes.specs.declared.Visit.TheVariants.{Push}
 use Rattle.wasm_shapes.specs.Tree.{Tree}
 use Rattle.wasm_shapes.specs.Types.{led}
 use Rattle.wasm_shapes.specs.Shape.{Shape}
+use Rattle.wasm_shapes.specs.Rows.{RowsLeft}
 use Rattle.wasm_shapes.specs.Component.{module_declaration}
 use Rattle.wasm_types.specs.ComponentTrees.{core_group_tree}
 use Rattle.wasm_read.specs.Reading.{Standing}
 use Rattle.wasm_read.specs.Types.{group_tree}
 use Rattle.wasm_read_component.specs.declared.declarations.CoreType as read
 use Rattle.wasm_read_component.specs.declared.declarations.CoreType.TheVariants as core
-use Rattle.wasm_read_component.specs.TypeRows.{Declares}
 use Rattle.wasm_write_component.specs.declared.declarations.CoreType as made
 use Rattle.wasm_write_component.specs.TypeRows.{core_type_tree}
 use Rattle.reencode_hooks.specs.declared.error.Error.{Error}
@@ -43,8 +43,8 @@ LeavesOpen sure asked text s m result = IfErr result (λ e. (e ≡ NoMemory → 
 abbrev pub ScopeClauses : {S E A : Type 0} → Ghosts S E → Shape → Standing → (Tree → Tree) → (A → Tree) → S → S → Result A (Error E) → Type 0
 ScopeClauses i row reader within view s m result =
     record {
-      default : IsTrue i.keeps_defaults → reader.left < 2 ^ 32 → (t : Tree) → Declares row reader t → Maps i.reply i.next s (within t) view m result;
-      readable : IsTrue i.keeps_defaults → IfOk result (λ _. (t : Tree) × Declares row reader t);
+      default : IsTrue i.keeps_defaults → reader.left < 2 ^ 32 → (rows : Tree) → RowsLeft row reader.left reader.rest rows → Maps i.reply i.next s (within (Tree.scope (Tree.vec rows))) view m result;
+      readable : IsTrue i.keeps_defaults → IfOk result (λ _. (rows : Tree) × RowsLeft row reader.left reader.rest rows);
       unreadable : IsTrue i.keeps_defaults → (c : ℕ) → IfErr result (λ e. IfParse e (λ at. Opened (asks i) s (λ n. (made : List Tree) × RowsFault (asks i) c row reader (n, []) (m, made) at)));
       refusal : IsTrue i.keeps_defaults → (c : ℕ) → IfErr result (λ e. IfRefused e (Opened (asks i) s (λ n. (made : List Tree) × StopsAtRow (asks i) c row reader (n, []) e (m, made))));
       after_error : IsTrue i.keeps_defaults → LeavesOpen i.sure (asks i) (rows_in row reader) s m result;

@@ -1,10 +1,14 @@
 //! What a re-encoder does with each row and section of a component.
 ghost use Rattle.wasm_types.specs.ComponentTrees.{component_defined_type_tree, component_export_tree, component_func_type_tree};
+ghost use Rattle.wasm_shapes.specs.Component.{module_declaration};
+ghost use Rattle.wasm_read_component.specs.TypeRows.{module_declaration_tree};
+ghost use Rattle.wasm_write_component.specs.TypeRows.{scope_tree};
 ghost use Rattle.reencode_items.specs.Clauses.{ListClauses};
 ghost use Rattle.reencode_core.specs.Clauses.{RowClauses};
+ghost use Rattle.reencode_component.specs.TypeClauses.{CoreTypeClauses, ScopeClauses};
 
 use crate::items::ReencodeComponentItems;
-use crate::{rows, types};
+use crate::{core_types, rows, type_bodies, types};
 use reencode_core::Reencode;
 use reencode_hooks::Error;
 use std::alloc::Global;
@@ -51,5 +55,43 @@ pub trait ReencodeComponent: Reencode + ReencodeComponentItems {
             component_defined_type_tree self.old self.new result }
     {
         types::parse_component_defined_type(self, alloc, ty)
+    }
+
+    /// A core type (`core:deftype`): types by `parse_recursive_type_group`, or a module type by `component_module_type`.
+    fn parse_component_core_type(
+        &mut self,
+        alloc: Global,
+        core: r::CoreType<'_>,
+    ) -> Result<w::CoreType, Error<Self::Error>>
+        ensures { CoreTypeClauses Self.ReencodeIndices core.entry self.old self.new result }
+    {
+        type_bodies::parse_component_core_type!(self, alloc, core)
+    }
+
+    /// A module type (`core:moduletype`), which is a scope: `push_depth`, then each declaration that the reader still has by
+    /// `parse_component_module_type_declaration`, then `pop_depth`, which is not called where one of these is refused.
+    fn component_module_type(
+        &mut self,
+        alloc: Global,
+        ty: r::ModuleDeclarations<'_>,
+    ) -> Result<w::ModuleType, Error<Self::Error>>
+        ensures { ScopeClauses Self.ReencodeIndices module_declaration ty.entry (λ t. t) scope_tree
+            self.old self.new result }
+    {
+        type_bodies::component_module_type!(self, alloc, ty)
+    }
+
+    /// Maps what a module type declares (`core:moduledecl`) and adds it: types by `parse_recursive_type_group`, what is imported
+    /// or exported by `entity_type`, and an alias by `outer_type_index`, its count as it is.
+    fn parse_component_module_type_declaration(
+        &mut self,
+        alloc: Global,
+        module: &mut w::ModuleType,
+        decl: r::ModuleTypeDeclaration<'_>,
+    ) -> Result<(), Error<Self::Error>>
+        ensures { RowClauses Self.ReencodeIndices (module_declaration_tree decl.entry)
+            self.old «module».old self.new «module».new result }
+    {
+        core_types::parse_component_module_type_declaration(self, alloc, module, decl)
     }
 }

@@ -6,12 +6,14 @@ ghost use Rattle.wasm_read_component.specs.Aliases as read;
 ghost use Rattle.wasm_write_component.specs.Aliases as write;
 ghost use Rattle.reencode_component.specs.Clauses.{ItemClauses, ValueClauses};
 
+pub use crate::core_types::parse_component_module_type_declaration;
 pub use crate::hooked::{canonical_option, type_bounds};
 use crate::items::ReencodeComponentItems;
 pub use crate::kinds::{
     component_export_kind, component_outer_alias_kind, component_primitive_val_type,
 };
 pub use crate::rows::parse_component_export;
+pub use crate::type_utils::{component_module_type, parse_component_core_type};
 pub use crate::types::{parse_component_defined_type, parse_component_func_type};
 use crate::{default_bodies, hooked};
 use reencode_hooks::Error;

@@ -16,6 +16,7 @@ mod kinds;
 mod mapped;
 mod rows;
 mod type_bodies;
+mod type_utils;
 mod types;
 
 pub use answer::AnswerComponentVisits;
