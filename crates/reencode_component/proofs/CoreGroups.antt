@@ -94,7 +94,7 @@ core_visits _ (IsRow.row k t) = go k
     go (suc zero) = refl
     go (suc (suc k)) = refl
 
-module _ {S E : Type 0} (i : Ghosts S E) {s m : S} where
+module _ {S E : Type 0} (i : Ghosts S E) (s m : S) where
   pub group_mapped : (group : read_group.RecGroup) (made : write_group.RecGroup) → ListClauses i (read.group_tree group) write.group_tree s m (Ok made) →
       CoreTypeClauses i (read_core.Rec group) s m (Ok (core.Rec made))
   group_mapped group made given = record {
@@ -121,7 +121,7 @@ module _ {S E : Type 0} (asked : Asks S E) (c : ℕ) (s m : S) (j b : ℕ) where
   behind_refused : (t : Tree) {e : Error E} → walk asked c s t ≡ refused e m → walk asked c s (Tree.row j (led b t)) ≡ refused e m
   behind_refused t h = rw h refl
 
-module _ {S E A B : Type 0} (i : Ghosts S E) (row : Shape) (reader : Standing) (j b : ℕ) {s m : S} (view : A → List Tree) (whole : B → Tree) where
+module _ {S E A B : Type 0} (i : Ghosts S E) (row : Shape) (reader : Standing) (j b : ℕ) (s m : S) (view : A → List Tree) (whole : B → Tree) where
   -- a scope that was mapped, behind a byte
   pub scope_behind : (a : A) (made : B) → whole made ≡ Tree.row j (led b (scope_tree (view a))) → ScopeClauses i row reader (λ t. t) (λ z. scope_tree (view z)) s m (Ok a) →
       ScopeClauses i row reader (λ t. Tree.row j (led b t)) whole s m (Ok made)
