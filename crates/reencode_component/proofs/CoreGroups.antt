@@ -1,10 +1,9 @@
 -- Core types: a group of types behind another byte where it is one open subtype, and a module type behind its byte.
-use Rattle.std.proofs.Common.{◌≡◌, ◌≢◌, ◌++◌, ℕ, zero, suc, Bool, true, false, List, [], ◌∷◌, map, Result, Ok, Err, IsErrAnd, IsTrue, refl, subst}
+use Rattle.std.proofs.Common.{◌≡◌, ℕ, zero, suc, Bool, true, false, List, [], ◌∷◌, Result, Ok, Err, IsErrAnd, refl, subst}
 use Rattle.wasm_shapes.specs.declared.Visit.{Visit}
 use Rattle.wasm_shapes.specs.Shape.{Shape}
 use Rattle.wasm_shapes.specs.Tree.{Tree, visits}
-use Rattle.wasm_shapes.specs.Types.{led, sub_type_of, group_of}
-use Rattle.wasm_shapes.specs.Component.{module_declaration}
+use Rattle.wasm_shapes.specs.Types.{led, sub_type_of}
 use Rattle.wasm_types.specs.ComponentTrees.{core_group_tree}
 use Rattle.wasm_read.specs.declared.types.RecGroup as read_group
 use Rattle.wasm_read.specs.declared.types.SubType.{SubType}
@@ -15,13 +14,12 @@ use Rattle.wasm_write.specs.Types as write
 use Rattle.wasm_read_component.specs.declared.declarations.CoreType.TheVariants as read_core
 use Rattle.wasm_write_component.specs.declared.declarations.CoreType.{CoreType}
 use Rattle.wasm_write_component.specs.declared.declarations.CoreType.TheVariants as core
-use Rattle.wasm_write_component.specs.TypeRows.{core_type_tree, scope_tree}
+use Rattle.wasm_write_component.specs.TypeRows.{scope_tree}
 use Rattle.reencode_hooks.specs.declared.error.Error.{Error}
-use Rattle.reencode_hooks.specs.declared.error.Error.TheVariants.{NoMemory}
 use Rattle.reencode_hooks.specs.declared.indices.ReencodeIndices.{Ghosts}
-use Rattle.reencode_hooks.specs.Run.{LeavesVisited, Step, Visited, accepted, and_then, ask, refused}
+use Rattle.reencode_hooks.specs.Run.{Step, Visited, accepted, and_then, ask, refused}
 use Rattle.reencode_hooks.specs.Walk.{walk}
-use Rattle.reencode_hooks.proofs.Leaving.{handed, visited_left}
+use Rattle.reencode_hooks.proofs.Leaving.{handed}
 use Rattle.reencode_items.specs.Clauses.{ListClauses}
 use Rattle.reencode_core.specs.Rows.{Asks}
 use Rattle.reencode_component.specs.TypeClauses.{CoreTypeClauses, ScopeClauses}

@@ -1,16 +1,15 @@
 -- What a call gives that opens a scope, maps the rows in it and closes it.
-use Rattle.std.proofs.Common.{◌≡◌, ◌≢◌, ◌+◌, ◌-◌, ◌^◌, ◌<◌, ◌⊎◌, ℕ, suc, List, [], ◌∷◌, ◌++◌, length, Result, Ok, Err, IsErrAnd, IsTrue, refl, sym, ap, ◌∙◌, subst, arith, inl, inr}
-use Rattle.wasm_shapes.specs.declared.Visit.{Visit}
+use Rattle.std.proofs.Common.{◌≡◌, ◌≢◌, ◌+◌, ◌-◌, ◌^◌, ◌<◌, ◌⊎◌, ℕ, suc, List, [], ◌∷◌, ◌++◌, length, Result, Ok, Err, IsErrAnd, refl, sym, ap, ◌∙◌, subst, arith, inl, inr}
 use Rattle.wasm_shapes.specs.declared.Visit.TheVariants.{Push, Pop}
 use Rattle.wasm_shapes.specs.Shape.{Shape}
 use Rattle.wasm_shapes.specs.Tree.{Tree, count}
-use Rattle.wasm_shapes.specs.Rows.{RowsLeft, rows_then}
+use Rattle.wasm_shapes.specs.Rows.{rows_then}
 use Rattle.wasm_read.specs.Reading.{Standing}
 use Rattle.wasm_write_component.specs.TypeRows.{scope_tree}
 use Rattle.reencode_hooks.specs.declared.error.Error.{Error}
 use Rattle.reencode_hooks.specs.declared.error.Error.TheVariants.{CanonicalizedHeapTypeReference, InvalidConstExpr, InvalidCodeSectionSize, UnexpectedNonCoreModuleSection, UnexpectedNonComponentSection, UnsupportedCoreTypeInComponent, ParseError, UserError, TooLarge, NoMemory}
 use Rattle.reencode_hooks.specs.declared.indices.ReencodeIndices.{Ghosts}
-use Rattle.reencode_hooks.specs.Run.{NeverWants, Step, accepted, ask, refused}
+use Rattle.reencode_hooks.specs.Run.{NeverWants, Step, accepted, refused}
 use Rattle.reencode_hooks.specs.Walk.{walk}
 use Rattle.reencode_core.specs.Clauses.{RowsClauses, asks}
 use Rattle.reencode_core.specs.Errors.{IfParse, IfRefused}
@@ -19,7 +18,7 @@ use Rattle.reencode_core.proofs.Made.{not_wanting}
 use Rattle.reencode_core.proofs.OneRow.{answers}
 use Rattle.reencode_core.proofs.Usual.{IfParse-map, IfRefused-map}
 use Rattle.reencode_component.specs.Hooks.{Answers, RepliesPush}
-use Rattle.reencode_component.specs.TypeClauses.{Opened, ScopeClauses}
+use Rattle.reencode_component.specs.TypeClauses.{ScopeClauses}
 
 -- of an error that says that memory ran out nothing is asked
 parse_wanting : {E : Type 0} (P : ℕ → Type 0) (e : Error E) → e ≡ NoMemory → IfParse e P

@@ -1,6 +1,6 @@
 -- Parts of types: names hold no index and stay as they are, a function stands behind a byte of two, and an index may be one further
 -- out.
-use Rattle.std.proofs.Common.{◌≡◌, ℕ, Bool, true, false, List, [], ◌∷◌, map, Result, Err, refl}
+use Rattle.std.proofs.Common.{◌≡◌, ℕ, Bool, true, false, List, [], ◌∷◌, map, Err, refl}
 use Rattle.std.specs.Borrow.{Bor}
 use Rattle.wasm_shapes.specs.declared.Space.TheVariants as space
 use Rattle.wasm_shapes.specs.declared.Visit.{Visit}

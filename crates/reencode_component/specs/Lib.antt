@@ -1,3 +1,4 @@
 pub mod Hooks
 pub mod Clauses
 pub mod TypeClauses
+pub mod ScopedRows

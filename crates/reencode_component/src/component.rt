@@ -1,10 +1,11 @@
 //! What a re-encoder does with each row and section of a component.
 ghost use Rattle.wasm_types.specs.ComponentTrees.{component_defined_type_tree, component_export_tree, component_func_type_tree};
-ghost use Rattle.wasm_shapes.specs.Component.{module_declaration};
+ghost use Rattle.wasm_shapes.specs.Component.{core_type, module_declaration};
 ghost use Rattle.wasm_read_component.specs.TypeRows.{module_declaration_tree};
 ghost use Rattle.wasm_write_component.specs.TypeRows.{scope_tree};
 ghost use Rattle.reencode_items.specs.Clauses.{ListClauses};
 ghost use Rattle.reencode_core.specs.Clauses.{RowClauses};
+ghost use Rattle.reencode_component.specs.ScopedRows.{ShallowRowsClauses};
 ghost use Rattle.reencode_component.specs.TypeClauses.{CoreTypeClauses, ScopeClauses};
 
 use crate::items::ReencodeComponentItems;
@@ -55,6 +56,19 @@ pub trait ReencodeComponent: Reencode + ReencodeComponentItems {
             component_defined_type_tree self.old self.new result }
     {
         types::parse_component_defined_type(self, alloc, ty)
+    }
+
+    /// Maps the rows that the reader still has, each by `parse_component_core_type`, and adds each row once it is mapped.
+    fn parse_core_type_section(
+        &mut self,
+        alloc: Global,
+        types: &mut w::CoreTypeSection,
+        section: r::CoreTypeSectionReader<'_>,
+    ) -> Result<(), Error<Self::Error>>
+        ensures { ShallowRowsClauses Self.ReencodeIndices core_type section.entry
+            self.old types.old self.new types.new result }
+    {
+        type_bodies::parse_core_type_section!(self, alloc, types, section)
     }
 
     /// A core type (`core:deftype`): types by `parse_recursive_type_group`, or a module type by `component_module_type`.

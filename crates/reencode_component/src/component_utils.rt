@@ -13,7 +13,9 @@ pub use crate::kinds::{
     component_export_kind, component_outer_alias_kind, component_primitive_val_type,
 };
 pub use crate::rows::parse_component_export;
-pub use crate::type_utils::{component_module_type, parse_component_core_type};
+pub use crate::type_utils::{
+    component_module_type, parse_component_core_type, parse_core_type_section,
+};
 pub use crate::types::{parse_component_defined_type, parse_component_func_type};
 use crate::{default_bodies, hooked};
 use reencode_hooks::Error;

@@ -1,6 +1,7 @@
 //! The default bodies of the calls that map types with others inside, as functions of any reencoder.
-ghost use Rattle.wasm_shapes.specs.Component.{module_declaration};
+ghost use Rattle.wasm_shapes.specs.Component.{core_type, module_declaration};
 ghost use Rattle.wasm_write_component.specs.TypeRows.{scope_tree};
+ghost use Rattle.reencode_component.specs.ScopedRows.{ShallowRowsClauses};
 ghost use Rattle.reencode_component.specs.TypeClauses.{CoreTypeClauses, ScopeClauses};
 
 use crate::component::ReencodeComponent;
@@ -33,4 +34,17 @@ pub fn component_module_type<T: ReencodeComponent>(
         reencoder.old reencoder.new result }
 {
     type_bodies::component_module_type!(reencoder, alloc, ty)
+}
+
+/// Maps the rows that the reader still has, each by `parse_component_core_type`, and adds each row once it is mapped.
+pub fn parse_core_type_section<T: ReencodeComponent>(
+    reencoder: &mut T,
+    alloc: Global,
+    types: &mut w::CoreTypeSection,
+    section: r::CoreTypeSectionReader<'_>,
+) -> Result<(), Error<T::Error>>
+    ensures { ShallowRowsClauses T.ReencodeIndices core_type section.entry
+        reencoder.old types.old reencoder.new types.new result }
+{
+    type_bodies::parse_core_type_section!(reencoder, alloc, types, section)
 }
