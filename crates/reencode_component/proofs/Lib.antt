@@ -10,3 +10,8 @@ pub mod ComponentRowsLeft
 pub mod EachComponentSection
 pub mod EachComponent
 pub mod FaultLaws
+pub mod TypeParts
+pub mod ScopeCalls
+pub mod CoreGroups
+pub mod EachShallowRow
+pub mod CoreTypeCalls

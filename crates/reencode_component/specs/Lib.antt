@@ -7,3 +7,5 @@ pub mod Gives
 pub mod ComponentLeaves
 pub mod ComponentClauses
 pub mod ComponentFaults
+pub mod TypeClauses
+pub mod ScopedRows

@@ -1,14 +1,19 @@
 //! What a re-encoder does with each row and section of a component.
 ghost use Rattle.std.specs.Prelude.{◌≤◌};
-ghost use Rattle.wasm_shapes.specs.Component.{alias, canonical_function, component_export_row, component_instance_row, component_section_tree, extern_row, instance_row, unknown_component_tree};
-ghost use Rattle.wasm_types.specs.ComponentTrees.{component_export_tree, component_instance_tree, instance_tree};
+ghost use Rattle.wasm_shapes.specs.Component.{alias, canonical_function, component_export_row, component_instance_row, component_section_tree, core_type, extern_row, instance_row, module_declaration, unknown_component_tree};
+ghost use Rattle.wasm_types.specs.ComponentTrees.{component_defined_type_tree, component_export_tree, component_func_type_tree, component_instance_tree, instance_tree};
 ghost use Rattle.wasm_read.specs.Types.{export_tree};
 ghost use Rattle.wasm_read_component.specs.ComponentRows as read;
+ghost use Rattle.wasm_read_component.specs.TypeRows.{module_declaration_tree};
+ghost use Rattle.wasm_write_component.specs.TypeRows.{scope_tree};
+ghost use Rattle.reencode_items.specs.Clauses.{ListClauses};
 ghost use Rattle.reencode_core.specs.Clauses.{RowClauses, RowsClauses};
 ghost use Rattle.reencode_component.specs.Clauses.{AddedClauses};
+ghost use Rattle.reencode_component.specs.ScopedRows.{ShallowRowsClauses};
+ghost use Rattle.reencode_component.specs.TypeClauses.{CoreTypeClauses, ScopeClauses};
 
 use crate::items::ReencodeComponentItems;
-use crate::{default_bodies, row_sections, rows, sections};
+use crate::{core_types, default_bodies, row_sections, rows, sections, type_bodies, types};
 use reencode_core::Reencode;
 use reencode_hooks::Error;
 use std::alloc::Global;
@@ -182,5 +187,81 @@ pub trait ReencodeComponent: Reencode + ReencodeComponentItems {
             self.old component.old self.new component.new result }
     {
         sections::parse_unknown_component_section(self, component, id, contents)
+    }
+
+    /// A function type (Component Model, Binary Format: `functype`), its parameters and then its result by `component_val_type`.
+    fn parse_component_func_type<'a>(
+        &mut self,
+        alloc: Global,
+        ty: r::ComponentFuncType<'a>,
+    ) -> Result<w::ComponentFuncType<'a>, Error<Self::Error>>
+        ensures { ListClauses Self.ReencodeIndices (component_func_type_tree ty.entry)
+            component_func_type_tree self.old self.new result }
+    {
+        types::parse_component_func_type(self, alloc, ty)
+    }
+
+    /// A type of values that is defined (`defvaltype`). A primitive one is mapped by `component_primitive_val_type`, each type
+    /// inside by `component_val_type`, and a resource by `component_type_index`.
+    fn parse_component_defined_type<'a>(
+        &mut self,
+        alloc: Global,
+        ty: r::ComponentDefinedType<'a>,
+    ) -> Result<w::ComponentDefinedType<'a>, Error<Self::Error>>
+        ensures { ListClauses Self.ReencodeIndices (component_defined_type_tree ty.entry)
+            component_defined_type_tree self.old self.new result }
+    {
+        types::parse_component_defined_type(self, alloc, ty)
+    }
+
+    /// Maps the rows that the reader still has, each by `parse_component_core_type`, and adds each row once it is mapped.
+    fn parse_core_type_section(
+        &mut self,
+        alloc: Global,
+        types: &mut w::CoreTypeSection,
+        section: r::CoreTypeSectionReader<'_>,
+    ) -> Result<(), Error<Self::Error>>
+        ensures { ShallowRowsClauses Self.ReencodeIndices core_type section.entry
+            self.old types.old self.new types.new result }
+    {
+        type_bodies::parse_core_type_section!(self, alloc, types, section)
+    }
+
+    /// A core type (`core:deftype`): types by `parse_recursive_type_group`, or a module type by `component_module_type`.
+    fn parse_component_core_type(
+        &mut self,
+        alloc: Global,
+        core: r::CoreType<'_>,
+    ) -> Result<w::CoreType, Error<Self::Error>>
+        ensures { CoreTypeClauses Self.ReencodeIndices core.entry self.old self.new result }
+    {
+        type_bodies::parse_component_core_type!(self, alloc, core)
+    }
+
+    /// A module type (`core:moduletype`), which is a scope: `push_depth`, then each declaration that the reader still has by
+    /// `parse_component_module_type_declaration`, then `pop_depth`, which is not called where one of these is refused.
+    fn component_module_type(
+        &mut self,
+        alloc: Global,
+        ty: r::ModuleDeclarations<'_>,
+    ) -> Result<w::ModuleType, Error<Self::Error>>
+        ensures { ScopeClauses Self.ReencodeIndices module_declaration ty.entry (λ t. t) scope_tree
+            self.old self.new result }
+    {
+        type_bodies::component_module_type!(self, alloc, ty)
+    }
+
+    /// Maps what a module type declares (`core:moduledecl`) and adds it: types by `parse_recursive_type_group`, what is imported
+    /// or exported by `entity_type`, and an alias by `outer_type_index`, its count as it is.
+    fn parse_component_module_type_declaration(
+        &mut self,
+        alloc: Global,
+        module: &mut w::ModuleType,
+        decl: r::ModuleTypeDeclaration<'_>,
+    ) -> Result<(), Error<Self::Error>>
+        ensures { RowClauses Self.ReencodeIndices (module_declaration_tree decl.entry)
+            self.old «module».old self.new «module».new result }
+    {
+        core_types::parse_component_module_type_declaration(self, alloc, module, decl)
     }
 }

@@ -11,6 +11,7 @@ ghost use Rattle.reencode_component.specs.Clauses.{ValueClauses};
 
 use crate::component::ReencodeComponent;
 pub use crate::components::{parse_component, parse_component_payload};
+pub use crate::core_types::parse_component_module_type_declaration;
 pub use crate::hooked::{canonical_option, type_bounds};
 use crate::items::ReencodeComponentItems;
 pub use crate::kinds::{
@@ -21,6 +22,10 @@ pub use crate::rows::{
     parse_component_canonical, parse_component_export, parse_component_instance, parse_instance,
 };
 pub use crate::sections::{parse_component_start_section, parse_unknown_component_section};
+pub use crate::type_utils::{
+    component_module_type, parse_component_core_type, parse_core_type_section,
+};
+pub use crate::types::{parse_component_defined_type, parse_component_func_type};
 use crate::{default_bodies, hooked};
 use reencode_hooks::Error;
 use std::alloc::Global;

@@ -9,6 +9,7 @@ mod component;
 mod component_sections;
 pub mod component_utils;
 mod components;
+mod core_types;
 mod default_bodies;
 mod defaults;
 mod hooked;
@@ -21,6 +22,9 @@ mod mapped;
 mod row_sections;
 mod rows;
 mod sections;
+mod type_bodies;
+mod type_utils;
+mod types;
 
 pub use answer::AnswerComponentVisits;
 pub use component::ReencodeComponent;

@@ -1,0 +1,86 @@
+-- Core types as rows: by the tree that one stands for, and what a refusal leaves.
+use Rattle.std.proofs.Common.{◌≡◌, ◌<◌, ◌^◌, ◌++◌, ℕ, List, [], ◌∷◌, Result, Err, IsTrue, refl, sym, ap, ◌∙◌, append_assoc, subst, arith}
+use Rattle.wasm_shapes.specs.declared.Visit.{Visit}
+use Rattle.wasm_shapes.specs.declared.Visit.TheVariants.{Push, Pop}
+use Rattle.wasm_shapes.specs.Tree.{Tree, count, visits}
+use Rattle.wasm_shapes.specs.Types.{led}
+use Rattle.wasm_shapes.specs.Fits.{InRange}
+use Rattle.wasm_shapes.specs.Spells.{Spelled}
+use Rattle.wasm_shapes.specs.Component.{module_declaration}
+use Rattle.wasm_shapes.proofs.ReadBack.{spelled_in_range}
+use Rattle.wasm_types.specs.ComponentTrees.{core_group_tree}
+use Rattle.wasm_read.specs.Types.{group_tree}
+use Rattle.wasm_read_component.specs.declared.declarations.CoreType as read
+use Rattle.wasm_read_component.specs.declared.declarations.CoreType.TheVariants as core
+use Rattle.wasm_read_component.specs.TypeRows.{CoreTypeStands}
+use Rattle.wasm_write_component.specs.declared.declarations.CoreType as made
+use Rattle.wasm_write_component.specs.TypeRows.{core_type_tree}
+use Rattle.reencode_hooks.specs.declared.error.Error.{Error}
+use Rattle.reencode_hooks.specs.declared.error.Error.TheVariants.{CanonicalizedHeapTypeReference, InvalidConstExpr, InvalidCodeSectionSize, UnexpectedNonCoreModuleSection, UnexpectedNonComponentSection, UnsupportedCoreTypeInComponent, ParseError, UserError, TooLarge, NoMemory}
+use Rattle.reencode_hooks.specs.declared.indices.ReencodeIndices.{Ghosts}
+use Rattle.reencode_hooks.specs.Run.{Step, Visited, accepted, and_then, refused, run, state_after}
+use Rattle.reencode_items.specs.Maps.{Maps}
+use Rattle.reencode_core.specs.Clauses.{asks}
+use Rattle.reencode_core.specs.Leaves.{Ended, Leaves, Text, rows_in}
+use Rattle.reencode_core.specs.Rows.{Asks}
+use Rattle.reencode_component.specs.TypeClauses.{CoreTypeClauses, Opened}
+
+-- ---- what an error leaves of a scope
+
+-- the state after the visits that were made
+ended_state : {S E A : Type 0} (e : Error E) (step : Step S (Error E) A) (m : S) → Ended e step m → state_after step ≡ m
+ended_state (UserError x) step m h = rw h refl
+ended_state NoMemory step m h = h
+ended_state (ParseError x) step m h = rw h.1 refl
+ended_state (TooLarge x) step m h = rw h.1 refl
+ended_state CanonicalizedHeapTypeReference step m h = rw h.1 refl
+ended_state InvalidConstExpr step m h = rw h.1 refl
+ended_state InvalidCodeSectionSize step m h = rw h.1 refl
+ended_state UnexpectedNonCoreModuleSection step m h = rw h.1 refl
+ended_state UnexpectedNonComponentSection step m h = rw h.1 refl
+ended_state UnsupportedCoreTypeInComponent step m h = rw h.1 refl
+
+more_state : {S E : Type 0} (n : ℕ) (step : Step S (Error E) (List ℕ)) → state_after (and_then step (λ ns k. accepted (n ∷ ns) k)) ≡ state_after step
+more_state n (accepted ns k) = refl
+more_state n (refused e k) = refl
+
+-- the scope was opened, and a front part of what is in it was asked
+pub open_visited : {S E : Type 0} (asked : Asks S E) {s m : S} (text : Text) (e : Error E) (rows : Tree) → text.reads rows → Opened asked s (λ n. Leaves asked text n e m) →
+    Visited asked s (visits (Tree.scope (Tree.vec rows))) m
+open_visited asked {s = s} {m = m} text e rows reads opened =
+    let inside = opened.inside in
+    let f = inside.reading rows reads in record {
+      front = Push ∷ inside.made;
+      rest = f.rest ++ Pop ∷ [];
+      parts = ap (λ (z : List Visit). Push ∷ z) (ap (λ (z : List Visit). z ++ Pop ∷ []) f.parts ∙ append_assoc inside.made f.rest (Pop ∷ []));
+      state = rw opened.push (more_state 0 (run asked opened.at inside.made) ∙ ended_state e (run asked opened.at inside.made) m inside.ended.by);
+    }
+
+-- ---- a core type that stands for a tree
+
+module _ {S E : Type 0} (i : Ghosts S E) (s m : S) where
+  pub core_maps : (ty : read.CoreType) (t : Tree) (x : List ℕ) → CoreTypeStands ty t → Spelled t x → (r : Result made.CoreType (Error E)) → CoreTypeClauses i ty s m r →
+      IsTrue i.keeps_defaults → Maps i.reply i.next s t core_type_tree m r
+  core_maps (core.Rec group) t x is spelled r given k =
+      let P : Tree → Type 0 = λ z. Maps i.reply i.next s z core_type_tree m r in
+      let same : t ≡ core_group_tree (group_tree group) = is in
+      subst P (sym same) (given.default k)
+  core_maps (core.Module reader) t x stands spelled r given k =
+      let scope = stands.stands in
+      let P : Tree → Type 0 = λ z. Maps i.reply i.next s z core_type_tree m r in
+      let same : t ≡ Tree.row 0 (led 0x50 (Tree.scope (Tree.vec scope.rows))) = stands.is ∙ ap (λ (z : Tree). Tree.row 0 (led 0x50 z)) scope.is in
+      let Q : Tree → Type 0 = InRange in
+      let few : count scope.rows < 2 ^ 32 = (subst Q same (spelled_in_range t x spelled)).1.0 in
+      let all : count scope.rows ≡ reader.left = scope.left.counted in
+      subst P (sym same) (given.default k (omega arith) scope.rows scope.left)
+
+  pub core_left : (ty : read.CoreType) (t : Tree) → CoreTypeStands ty t → (e : Error E) → CoreTypeClauses i ty s m (Err e) → IsTrue i.keeps_defaults → IsTrue i.sure → Visited (asks i) s (visits t) m
+  core_left (core.Rec group) t is e given k sure =
+      let P : Tree → Type 0 = λ z. Visited (asks i) s (visits z) m in
+      let same : t ≡ core_group_tree (group_tree group) = is in
+      subst P (sym same) (given.after_error k sure)
+  core_left (core.Module reader) t stands e given k sure =
+      let scope = stands.stands in
+      let P : Tree → Type 0 = λ z. Visited (asks i) s (visits z) m in
+      let same : t ≡ Tree.row 0 (led 0x50 (Tree.scope (Tree.vec scope.rows))) = stands.is ∙ ap (λ (z : Tree). Tree.row 0 (led 0x50 z)) scope.is in
+      subst P (sym same) (open_visited (asks i) (rows_in module_declaration reader) e scope.rows scope.left (given.after_error k (λ h. sure)))

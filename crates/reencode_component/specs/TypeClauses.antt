@@ -1,0 +1,58 @@
+-- What a call that maps what a scope declares promises, whole: one record for each kind of call. `i` are the meanings of the
+-- reencoder, `s` is its state before the call, and `m` the one after it.
+use Rattle.std.specs.Prelude.{◌≡◌, ◌<◌, ◌^◌, ℕ, Bool, List, [], Result, IfOk, IfErr, IsTrue}
+use Rattle.wasm_shapes.specs.declared.Visit.TheVariants.{Push}
+use Rattle.wasm_shapes.specs.Tree.{Tree}
+use Rattle.wasm_shapes.specs.Types.{led}
+use Rattle.wasm_shapes.specs.Shape.{Shape}
+use Rattle.wasm_shapes.specs.Rows.{RowsLeft}
+use Rattle.wasm_shapes.specs.Component.{module_declaration}
+use Rattle.wasm_types.specs.ComponentTrees.{core_group_tree}
+use Rattle.wasm_read.specs.Reading.{Standing}
+use Rattle.wasm_read.specs.Types.{group_tree}
+use Rattle.wasm_read_component.specs.declared.declarations.CoreType as read
+use Rattle.wasm_read_component.specs.declared.declarations.CoreType.TheVariants as core
+use Rattle.wasm_write_component.specs.declared.declarations.CoreType as made
+use Rattle.wasm_write_component.specs.TypeRows.{core_type_tree}
+use Rattle.reencode_hooks.specs.declared.error.Error.{Error}
+use Rattle.reencode_hooks.specs.declared.error.Error.TheVariants.{NoMemory}
+use Rattle.reencode_hooks.specs.declared.indices.ReencodeIndices.{Ghosts}
+use Rattle.reencode_hooks.specs.Run.{accepted}
+use Rattle.reencode_items.specs.Clauses.{ListClauses}
+use Rattle.reencode_items.specs.Maps.{Maps}
+use Rattle.reencode_core.specs.Clauses.{asks}
+use Rattle.reencode_core.specs.Errors.{IfParse, IfRefused}
+use Rattle.reencode_core.specs.Leaves.{Leaves, Text, rows_in}
+use Rattle.reencode_core.specs.Rows.{Asks, RowsFault, StopsAtRow}
+
+-- ---- a scope
+
+-- A scope was opened, and the fact holds from the state then on.
+pub record Opened {S E : Type 0} (asked : Asks S E) (s : S) (says : S → Type 0) : Type 0 where
+  pub at : S
+  pub push : asked s Push ≡ accepted 0 at
+  pub inside : says at
+
+-- What an error leaves of what was to be read in a scope: the scope stays open, and behind `Push` these visits were made. Of `NoMemory`
+-- nothing is said unless the reencoder is sure.
+abbrev pub LeavesOpen : {S E A : Type 0} → Bool → Asks S E → Text → S → S → Result A (Error E) → Type 0
+LeavesOpen sure asked text s m result = IfErr result (λ e. (e ≡ NoMemory → IsTrue sure) → Opened asked s (λ n. Leaves asked text n e m))
+
+-- A scope is opened, the rows that a reader still has are mapped, and it is closed; `within` says where the scope stands. Where the
+-- bytes hold no such rows the scope stays open, and the error holds the place in them. No reader has more rows than a count can say.
+abbrev pub ScopeClauses : {S E A : Type 0} → Ghosts S E → Shape → Standing → (Tree → Tree) → (A → Tree) → S → S → Result A (Error E) → Type 0
+ScopeClauses i row reader within view s m result =
+    record {
+      default : IsTrue i.keeps_defaults → reader.left < 2 ^ 32 → (rows : Tree) → RowsLeft row reader.left reader.rest rows → Maps i.reply i.next s (within (Tree.scope (Tree.vec rows))) view m result;
+      readable : IsTrue i.keeps_defaults → IfOk result (λ _. (rows : Tree) × RowsLeft row reader.left reader.rest rows);
+      unreadable : IsTrue i.keeps_defaults → (c : ℕ) → IfErr result (λ e. IfParse e (λ at. Opened (asks i) s (λ n. (made : List Tree) × RowsFault (asks i) c row reader (n, []) (m, made) at)));
+      refusal : IsTrue i.keeps_defaults → (c : ℕ) → IfErr result (λ e. IfRefused e (Opened (asks i) s (λ n. (made : List Tree) × StopsAtRow (asks i) c row reader (n, []) e (m, made))));
+      after_error : IsTrue i.keeps_defaults → LeavesOpen i.sure (asks i) (rows_in row reader) s m result;
+    }
+
+-- ---- core types
+
+-- a core type: types of a core module, or what a module type declares
+abbrev pub CoreTypeClauses : {S E : Type 0} → Ghosts S E → read.CoreType → S → S → Result made.CoreType (Error E) → Type 0
+CoreTypeClauses i (core.Rec group) s m result = ListClauses i (core_group_tree (group_tree group)) core_type_tree s m result
+CoreTypeClauses i (core.Module reader) s m result = ScopeClauses i module_declaration reader (λ t. Tree.row 0 (led 0x50 t)) core_type_tree s m result

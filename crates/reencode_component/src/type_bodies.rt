@@ -1,0 +1,44 @@
+//! The default bodies of the calls that map types with others inside, which the trait and `component_utils` share.
+
+macro_rules! component_module_type {
+    ($reencoder:ident, $alloc:ident, $ty:ident) => {{
+        let mut rows = $ty;
+        let mut module = w::ModuleType::new($alloc);
+        $reencoder.push_depth()?;
+        'rows: while let Some(row) = rows.next_row($alloc)? {
+            $reencoder.parse_component_module_type_declaration($alloc, &mut module, row)?;
+        }
+        $reencoder.pop_depth();
+        Ok(module)
+    }};
+}
+
+macro_rules! parse_component_core_type {
+    ($reencoder:ident, $alloc:ident, $core:ident) => {
+        match $core {
+            r::CoreType::Rec(group) => {
+                let group = $reencoder.parse_recursive_type_group($alloc, group)?;
+                Ok(w::CoreType::Rec(group))
+            }
+            r::CoreType::Module(declarations) => {
+                let declarations = $reencoder.component_module_type($alloc, declarations)?;
+                Ok(w::CoreType::Module(declarations))
+            }
+        }
+    };
+}
+
+macro_rules! parse_core_type_section {
+    ($reencoder:ident, $alloc:ident, $types:ident, $section:ident) => {{
+        let mut rows = $section;
+        'rows: while let Some(row) = rows.next_row($alloc)? {
+            let ty = $reencoder.parse_component_core_type($alloc, row)?;
+            $types.add(&ty)?;
+        }
+        Ok(())
+    }};
+}
+
+pub(crate) use component_module_type;
+pub(crate) use parse_component_core_type;
+pub(crate) use parse_core_type_section;
