@@ -10,3 +10,4 @@ pub mod ComponentRowsLeft
 pub mod EachComponentSection
 pub mod EachComponent
 pub mod FaultLaws
+pub mod ComponentLaws

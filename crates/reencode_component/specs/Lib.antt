@@ -7,3 +7,4 @@ pub mod Gives
 pub mod ComponentLeaves
 pub mod ComponentClauses
 pub mod ComponentFaults
+pub mod ComponentLaws
