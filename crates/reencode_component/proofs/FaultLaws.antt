@@ -145,6 +145,14 @@ nested_one depth (suc room) f x y p q = go (nested_one (depth + 1) room) p.4 q.4
         seen_one (depth + 1) (NestedFault (depth + 1) room) again p.1 x y (seen (depth + 1) (NestedFault (depth + 1) room) p.1 x h.1)
         (seen (depth + 1) (NestedFault (depth + 1) room) p.1 y (subst P bodies k.1))
 
+-- bytes with a fault behind their header have no reading
+pub at_fault : (depth : ℕ) (bytes : List ℕ) (before : List Tree) (rest : List ℕ) → FaultAt depth bytes before rest → (t : Tree) → ReadsComponent depth bytes t → ⊥
+at_fault depth bytes before rest f t r = let l = sections_of r in go l.0 (sections_ahead f.front l.2 (none_at_nil depth))
+  where
+    go : (read : List Tree) → SectionsAhead depth before rest read [] → ⊥
+    go read (SectionsAhead.same e empty) = f.some (sym empty)
+    go read (SectionsAhead.more u others left e b) = f.none.none u left b
+
 pub fault_is_one : statements.FaultIsOne
 fault_is_one = record {
   one = λ depth bytes x y p q.
@@ -153,13 +161,6 @@ fault_is_one = record {
   none = λ depth bytes x p t r. no_reading depth bytes x (seen depth (NestedFault depth (200 - depth)) bytes x p) t r;
 }
   where
-    at_fault : (depth : ℕ) (bytes : List ℕ) (before : List Tree) (rest : List ℕ) → FaultAt depth bytes before rest → (t : Tree) → ReadsComponent depth bytes t → ⊥
-    at_fault depth bytes before rest f t r = let l = sections_of r in go l.0 (sections_ahead f.front l.2 (none_at_nil depth))
-      where
-        go : (read : List Tree) → SectionsAhead depth before rest read [] → ⊥
-        go read (SectionsAhead.same e empty) = f.some (sym empty)
-        go read (SectionsAhead.more u others left e b) = f.none.none u left b
-
     no_reading : (depth : ℕ) (bytes : List ℕ) (x : Fault) → Seen depth (NestedFault depth (200 - depth)) bytes x → (t : Tree) → ReadsComponent depth bytes t → ⊥
     no_reading depth bytes x (bare h e) t r = no_component h r.reading.stands
     no_reading depth bytes x (of_core rest p e) t r = clash p r.reading.stands

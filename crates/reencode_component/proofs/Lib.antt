@@ -15,3 +15,4 @@ pub mod ScopeCalls
 pub mod CoreGroups
 pub mod EachShallowRow
 pub mod CoreTypeCalls
+pub mod ComponentLaws

@@ -9,3 +9,4 @@ pub mod ComponentClauses
 pub mod ComponentFaults
 pub mod TypeClauses
 pub mod ScopedRows
+pub mod ComponentLaws

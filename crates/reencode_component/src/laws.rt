@@ -1,6 +1,13 @@
 //! Laws of the definitions.
 ghost use Rattle.reencode_hooks.specs.Run.{ask};
 ghost use Rattle.reencode_component.specs.ComponentFaults.{FaultIsOne};
+ghost use Rattle.reencode_component.specs.ComponentLaws.{
+  ComponentFaultGains,
+  ComponentRefusalTells,
+  OkIsReencoded,
+  ReencodedIsAnswered,
+  UnreadIsAnswered,
+};
 ghost use Rattle.reencode_component.specs.WeaveIn.{WeaveInOfNothing};
 
 use reencode_hooks::ReencodeIndices;
@@ -15,4 +22,43 @@ pub fn component_fault_is_one()
 #[tactic(auto, using(crate::proofs::WeavesIn::weave_in_of_nothing))]
 pub fn weave_in_of_nothing<T: ReencodeIndices>(_reencoder: &T)
     ensures { WeaveInOfNothing (ask T.reply T.next) }
+{}
+
+/// What is added by a call with the clauses of `parse_component` is the component that the bytes are read as, reencoded.
+///
+/// Where the reencoder keeps the defaults and its section hook adds nothing, Ok comes only where the bytes are read as a component
+/// whose visits the hooks accept and whose filled frames fit under the ceiling. What was added is then the normal spelling of the
+/// filled sections, and the state is the one that the run over the visits leaves.
+pub fn component_is_reencoded<T: ReencodeIndices>(_reencoder: &T)
+    ensures { OkIsReencoded T.ReencodeIndices }
+{}
+
+/// A call with the clauses of `parse_component` is complete.
+///
+/// Where the reencoder keeps the defaults and its section hook adds nothing, bytes that are read as a component whose visits are
+/// accepted and whose filled frames fit give Ok with that output and that state, or out of memory.
+pub fn component_is_answered<T: ReencodeIndices>(_reencoder: &T)
+    ensures { ReencodedIsAnswered T.ReencodeIndices }
+{}
+
+/// Bytes that are read as no component give the error of their fault, or a size that is too large, or out of memory, of a reencoder
+/// that keeps the defaults and refuses no visit.
+pub fn component_fault_is_answered<T: ReencodeIndices>(_reencoder: &T)
+    ensures { UnreadIsAnswered T.ReencodeIndices }
+{}
+
+/// With a refusal of the reencoder the run of its hooks over the visits of the reading ends; or where the bytes have none, the run
+/// over the visits of the sections before the fault, or over further ones behind these, which are drawn from the bytes from the fault
+/// on. None comes of a reencoder that refuses no visit.
+///
+/// Where its section hook adds nothing, no frame above the ceiling closes before the visit that was refused; and with a size that is
+/// too large the first frame above the ceiling closes, behind visits that were all accepted.
+pub fn component_refusal_tells<T: ReencodeIndices>(_reencoder: &T)
+    ensures { ComponentRefusalTells T.ReencodeIndices }
+{}
+
+/// With an error of the bytes whose fault stands behind their header, the component has gained what all the sections before the fault
+/// became, and no more, where the section hook adds nothing.
+pub fn component_fault_gains<T: ReencodeIndices>(_reencoder: &T)
+    ensures { ComponentFaultGains T.ReencodeIndices }
 {}

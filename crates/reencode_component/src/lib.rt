@@ -31,4 +31,7 @@ pub use component::ReencodeComponent;
 pub use defaults::{DefaultComponent, DefaultComponentItems};
 pub use indices::ReencodeComponentIndices;
 pub use items::ReencodeComponentItems;
-pub use laws::{component_fault_is_one, weave_in_of_nothing};
+pub use laws::{
+    component_fault_gains, component_fault_is_answered, component_fault_is_one,
+    component_is_answered, component_is_reencoded, component_refusal_tells, weave_in_of_nothing,
+};

@@ -79,7 +79,7 @@ module _ {S E : Type 0} (asked : Asks S E) (adds : Puts S SectionRow) (none : (s
       by (inr step) = step
   next_refused c last s m _ part e h = absurd h
 
-  no_own : {c : ℕ} {bytes : List ℕ} {s : S} {e : Error E} → OwnTooLarge asked adds c bytes s e → ⊥
+  pub no_own : {c : ℕ} {bytes : List ℕ} {s : S} {e : Error E} → OwnTooLarge asked adds c bytes s e → ⊥
   no_own {c = c} o =
       nothing_large o (λ v may size. let P : List SectionRow → Type 0 = λ rows. ¬ HasTooLarge c rows size in subst P (sym (none o.front.at v may)) (none_large c size))
 

@@ -65,10 +65,10 @@ module _ {S E : Type 0} (asked : Asks S E) where
       go (refused d k) is q = let x : d ≡ e = cc in let y : k ≡ m = cc in inl (is ∙ rw (x, y) refl)
       go (accepted a n) is q = inr (a, n, is, second a (run asked n ys) q)
 
-  front_refused : {m : S} {e : Error E} {made all : List Visit} (s : S) → IsFront made all → run asked s made ≡ refused e m → run asked s all ≡ refused e m
+  pub front_refused : {m : S} {e : Error E} {made all : List Visit} (s : S) → IsFront made all → run asked s made ≡ refused e m → run asked s all ≡ refused e m
   front_refused {m = m} {e = e} {made = made} s f h = let P : List Visit → Type 0 = λ z. run asked s z ≡ refused e m in subst P (sym f.parts) (refused_first s made f.rest h)
 
-  up_to : {m : S} {e : Error E} {made all : List Visit} {rest : List ℕ} (s : S) → MadeUpTo e made all rest → run asked s made ≡ refused e m → RefusedUpTo asked s all rest e m
+  pub up_to : {m : S} {e : Error E} {made all : List Visit} {rest : List ℕ} (s : S) → MadeUpTo e made all rest → run asked s made ≡ refused e m → RefusedUpTo asked s all rest e m
   up_to s (inl p) h = inl (front_refused s p.1 h)
   up_to {m = m} {e = e} {all = all} {rest = rest} s (inr p) h =
       let P : List Visit → Type 0 = λ z. run asked s z ≡ refused e m in by (refused_either s all p.0 (subst P p.1 h))
@@ -85,7 +85,7 @@ module _ {S E : Type 0} (asked : Asks S E) where
       let others = all_accepted none one.1 vs in
       (one.0 ∷ others.0, others.1, rw (one.2, others.2) refl)
 
-  never_refused : RefusesNone asked → (text : Text) (s m : S) (x : E) → Leaves asked text s (UserError x) m → ⊥
+  pub never_refused : RefusesNone asked → (text : Text) (s m : S) (x : E) → Leaves asked text s (UserError x) m → ⊥
   never_refused none text s m x l =
       let all = all_accepted none s l.made in
       let apart : ◌≡◌ {A = Step S (Error E) (List ℕ)} (accepted all.0 all.1) (refused (UserError x) m) = sym all.2 ∙ l.ended.by in absurd cc

@@ -1,0 +1,5 @@
+use Rattle.reencode_component.proofs.ComponentLaws as laws
+use Rattle.reencode_component.proofs.laws.component_is_answered.Goals as goal
+
+pub returns : goal.returns
+returns g c = laws.reencoded_is_answered g.T.ReencodeIndices g.met.T.ReencodeIndices.adds_ok

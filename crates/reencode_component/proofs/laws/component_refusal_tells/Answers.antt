@@ -1,0 +1,5 @@
+use Rattle.reencode_component.proofs.ComponentLaws as laws
+use Rattle.reencode_component.proofs.laws.component_refusal_tells.Goals as goal
+
+pub returns : goal.returns
+returns g c = laws.refusal_tells g.T.ReencodeIndices g.met.T.ReencodeIndices.adds_ok
