@@ -9,14 +9,6 @@ mod calls_tests;
 #[cfg(test)]
 mod chain_tests;
 #[cfg(test)]
-mod component_calls_tests;
-#[cfg(test)]
-mod component_items_tests;
-#[cfg(test)]
-mod component_tests;
-#[cfg(test)]
-mod component_type_tests;
-#[cfg(test)]
 mod component_type_write_tests;
 #[cfg(test)]
 mod component_write_tests;

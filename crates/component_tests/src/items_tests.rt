@@ -1,6 +1,6 @@
 //! The calls that map the items of a component, each as the method and as its function, at a renamer that makes index 1 of each
 //! space index 11.
-use crate::component_calls_tests::component_renamer;
+use crate::calls_tests::component_renamer;
 use reencode_component::{
     ReencodeComponentIndices, ReencodeComponentItems, component_utils as utils,
 };

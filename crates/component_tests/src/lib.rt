@@ -1,0 +1,11 @@
+//! Tests of the libraries of components over their public names.
+#![tactic(auto)]
+
+#[cfg(test)]
+mod calls_tests;
+#[cfg(test)]
+mod items_tests;
+#[cfg(test)]
+mod reader_tests;
+#[cfg(test)]
+mod type_tests;
