@@ -16,7 +16,7 @@ use Rattle.wasm_shapes.specs.Types.{rows_tree}
 use Rattle.wasm_shapes.proofs.ComponentFrames.{in_component_frame}
 use Rattle.wasm_shapes.proofs.Depth.{begins_unique}
 use Rattle.wasm_shapes.proofs.Drawn.{drawn_behind, drawn_front, drawn_joined, drawn_none}
-use Rattle.wasm_read_component.specs.ComponentPayloads.{in_force, NoComponentFrame, NoComponentHeader, NoneInForce}
+use Rattle.wasm_read_component.specs.ComponentPayloads.{has_frame, NoComponentFrame, NoComponentHeader, BeginsNoFrame}
 use Rattle.wasm_write.specs.Sections.{Sections, SectionRow, section_bytes, sections_bytes}
 use Rattle.reencode_hooks.specs.declared.error.Error.{Error}
 use Rattle.reencode_hooks.specs.declared.error.Error.TheVariants.{CanonicalizedHeapTypeReference, InvalidConstExpr, InvalidCodeSectionSize, UnexpectedNonCoreModuleSection, UnexpectedNonComponentSection, UnsupportedCoreTypeInComponent, ParseError, UserError, TooLarge, NoMemory}
@@ -72,13 +72,13 @@ frame_drawn {f = f} {bytes = bytes} {left = left} {vs = vs} there p = go f there
 -- ---- no frame of an id in force
 
 -- ids from 12 on are in force
-pub unknown_in_force : (id : ℕ) → 12 ≤ id → id ≤ 127 → in_force id ≡ true
+pub unknown_in_force : (id : ℕ) → 12 ≤ id → id ≤ 127 → has_frame id ≡ true
 unknown_in_force id low high =
     let from : nat_le 8 id ≡ true = le-leb 8 id (omega (arith, low)) in
     let both : (nat_le 8 id && nat_le id 127) ≡ true = rw (from, le-leb id 127 high) refl in
     or_right (nat_eq id 2) _ (or_right (nat_eq id 5) _ (or_right (nat_eq id 6) _ both))
 
-unframed : (depth : ℕ) {bytes : List ℕ} → NoneInForce bytes → BeginsNoSection depth bytes
+unframed : (depth : ℕ) {bytes : List ℕ} → BeginsNoFrame bytes → BeginsNoSection depth bytes
 unframed depth {bytes = bytes} n = record { none = λ t left b. go t left b (in_component_frame t b.there.begins.text b.there.begins.spells.shaped b.there.begins.spells.spelled) }
   where
     by : (t f : Tree) (text left : List ℕ) → InComponentFrame t f → IsInForce t → Spells frame text f → bytes ≡ text ++ left → ⊥
@@ -89,7 +89,7 @@ unframed depth {bytes = bytes} n = record { none = λ t left b. go t left b (in_
     go : (t : Tree) (left : List ℕ) (b : BeginsSection depth bytes t left) → (f : Tree) × InComponentFrame t f × Spells frame b.there.begins.text f → ⊥
     go t left b g = by t g.0 b.there.begins.text left g.1 b.in_force g.2 b.there.begins.reads
 
-unnested : (depth room : ℕ) {bytes : List ℕ} (x : Fault) → NoneInForce bytes → Framed (λ f. NestedFault depth room f x) bytes → ⊥
+unnested : (depth room : ℕ) {bytes : List ℕ} (x : Fault) → BeginsNoFrame bytes → Framed (λ f. NestedFault depth room f x) bytes → ⊥
 unnested depth zero x n q = q.3
 unnested depth (suc room) {bytes = bytes} x n q =
     let h = q.3 in

@@ -16,7 +16,7 @@ use Rattle.wasm_shapes.specs.Types.{rows_tree, vector_tree}
 use Rattle.wasm_shapes.proofs.Rows.{vec_counted, vec_spelled}
 use Rattle.wasm_shapes.proofs.Unscoped.{unscoped, unscoped_is}
 use Rattle.wasm_read.specs.Reading.{Standing, CountRead}
-use Rattle.wasm_read_component.specs.ComponentPayloads.{in_force}
+use Rattle.wasm_read_component.specs.ComponentPayloads.{has_frame}
 use Rattle.wasm_write.specs.declared.fault.WriteFault.{WriteFault}
 use Rattle.wasm_write.specs.declared.fault.WriteFault.TheVariants as write
 use Rattle.wasm_write.specs.Faults.{IfTooLarge}
@@ -136,7 +136,7 @@ module _ {S E : Type 0} (asked : Asks S E) where
 -- Sections of the id are read, and have these rows, which open no scope.
 pub record FlatRows (id : ℕ) (row : Shape) : Type 0 where
   pub are_rows : component_body_of id ≡ Shape.vec row
-  pub known : in_force id ≡ true
+  pub known : has_frame id ≡ true
   pub low : 1 ≤ id
   pub high : id ≤ 11
   pub flat : unscoped row ≡ true

@@ -16,7 +16,7 @@ use Rattle.wasm_read.specs.Frames as read
 use Rattle.wasm_read.specs.Frames.{sections_place}
 use Rattle.wasm_read_component.specs.declared.types.ComponentPayload.{ComponentPayload}
 use Rattle.wasm_read_component.specs.declared.types.ComponentPayload.TheVariants as payload
-use Rattle.wasm_read_component.specs.ComponentPayloads.{component_frame_tree, component_payload_at, in_force, ComponentHeaderRead, IsGiven, NoComponentFrame, NoComponentHeader}
+use Rattle.wasm_read_component.specs.ComponentPayloads.{component_frame_tree, component_payload_at, has_frame, ComponentHeaderRead, IsGiven, NoComponentFrame, NoComponentHeader}
 use Rattle.wasm_write.specs.Sections.{Sections}
 use Rattle.reencode_hooks.specs.declared.error.Error.{Error}
 use Rattle.reencode_hooks.specs.declared.error.Error.TheVariants.{ParseError, InvalidCodeSectionSize, NoMemory}
@@ -42,7 +42,7 @@ use Rattle.reencode_component.proofs.ComponentLoop.{ComponentDone, component_beg
 rows_drawn : (id : ℕ) (row : Shape) → table.component_body_of id ≡ Shape.vec row → (u : Tree) (x : List ℕ) → Is (Shape.vec row) u → Spelled u x → Drawn x (visits u)
 rows_drawn id row e u x (Is.vec {t = v} d) s = drawn_behind s.0 s.1 s.2 (drawn_rows (IsItem.component_row id row e) v s.1 d s.4)
 
-body_drawn : (id : ℕ) → id ≤ 11 → in_force id ≡ true → (u : Tree) (x : List ℕ) → Is (table.component_body_of id) u → Spelled u x → Drawn x (visits u)
+body_drawn : (id : ℕ) → id ≤ 11 → has_frame id ≡ true → (u : Tree) (x : List ℕ) → Is (table.component_body_of id) u → Spelled u x → Drawn x (visits u)
 body_drawn zero h k u x d s = absurd cc
 body_drawn (suc zero) h k u x d s = absurd cc
 body_drawn (suc (suc zero)) h k u x d s = rows_drawn 2 table.instance_row refl u x d s

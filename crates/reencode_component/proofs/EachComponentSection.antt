@@ -20,7 +20,7 @@ use Rattle.wasm_shapes.proofs.Laws.{one_tree}
 use Rattle.wasm_shapes.proofs.Unscoped.{unscoped_is}
 use Rattle.wasm_read_component.specs.declared.types.ComponentStartFunction.{ComponentStartFunction}
 use Rattle.wasm_read_component.specs.ComponentRows.{start_tree}
-use Rattle.wasm_read_component.specs.ComponentPayloads.{in_force}
+use Rattle.wasm_read_component.specs.ComponentPayloads.{has_frame}
 use Rattle.wasm_read.specs.Reading.{Standing, CountRead, ReadsNone}
 use Rattle.wasm_write.specs.Sections.{Sections, section_row}
 use Rattle.reencode_hooks.specs.declared.error.Error.{Error}
@@ -241,12 +241,12 @@ module _ {S E : Type 0} (i : Ghosts S E) (depth : ℕ) (f : Tree) (none : (t : T
 
 module _ {S E : Type 0} (i : Ghosts S E) (depth : ℕ) (at : ℕ) (s : S) (old : Sections) where
   -- of an id that is not in force
-  pub number_not_read : (id : ℕ) (body : List ℕ) → (in_force id ≡ true → ⊥) → FrameClauses i depth (numbered_frame id body) at s old s old (Err (ParseError (record { at = at })))
+  pub number_not_read : (id : ℕ) (body : List ℕ) → (has_frame id ≡ true → ⊥) → FrameClauses i depth (numbered_frame id body) at s old s old (Err (ParseError (record { at = at })))
   number_not_read id body off =
       not_read i depth (numbered_frame id body) (λ t r. none t (numbered_frame id body) r.framed r.in_force refl) unnested (λ t rest x. up_to (numbered_frame id body) t rest x refl) at s old
     where
-      never : {n : ℕ} → n ≡ id → in_force n ≡ true → ⊥
-      never {n = n} e k = let P : ℕ → Type 0 = λ z. in_force z ≡ true in off (subst P e k)
+      never : {n : ℕ} → n ≡ id → has_frame n ≡ true → ⊥
+      never {n = n} e k = let P : ℕ → Type 0 = λ z. has_frame z ≡ true in off (subst P e k)
 
       none : (t f : Tree) → InComponentFrame t f → IsInForce t → f ≡ numbered_frame id body → ⊥
       none t f (InComponentFrame.of_id id' v body' low' high' q) k e = let number : id' ≡ id = cc in never number k
@@ -336,7 +336,7 @@ module _ {S E : Type 0} (i : Ghosts S E) (depth : ℕ) (deep : depth ≤ 200) (b
 
 -- ---- ids that are not in force
 
-pub low_off : (id : ℕ) → id < 12 → id ≢ 2 → id ≢ 5 → id ≢ 6 → id ≢ 8 → id ≢ 9 → id ≢ 10 → id ≢ 11 → in_force id ≡ true → ⊥
+pub low_off : (id : ℕ) → id < 12 → id ≢ 2 → id ≢ 5 → id ≢ 6 → id ≢ 8 → id ≢ 9 → id ≢ 10 → id ≢ 11 → has_frame id ≡ true → ⊥
 low_off zero h a b c d e f g k = cc
 low_off (suc zero) h a b c d e f g k = cc
 low_off (suc (suc zero)) h a b c d e f g k = a refl
@@ -351,7 +351,7 @@ low_off (suc (suc (suc (suc (suc (suc (suc (suc (suc (suc zero)))))))))) h a b c
 low_off (suc (suc (suc (suc (suc (suc (suc (suc (suc (suc (suc zero))))))))))) h a b c d e f g k = g refl
 low_off (suc (suc (suc (suc (suc (suc (suc (suc (suc (suc (suc (suc n)))))))))))) h a b c d e f g k = omega (arith, h)
 
-pub high_off : (id : ℕ) → 127 < id → in_force id ≡ true → ⊥
+pub high_off : (id : ℕ) → 127 < id → has_frame id ≡ true → ⊥
 high_off id h k = first (either (nat_eq id 2) _ k)
   where
     last : (nat_le 8 id && nat_le id 127) ≡ true → ⊥

@@ -9,7 +9,7 @@ use Rattle.wasm_shapes.specs.Shape.{Shape}
 use Rattle.wasm_shapes.specs.Tree.{Tree, normal}
 use Rattle.wasm_shapes.specs.Types.{rows_tree}
 use Rattle.wasm_read.specs.Reading.{Standing, CountRead}
-use Rattle.wasm_read_component.specs.ComponentPayloads.{in_force}
+use Rattle.wasm_read_component.specs.ComponentPayloads.{has_frame}
 use Rattle.wasm_write.specs.Sections.{Sections, SectionRow, sections_bytes}
 use Rattle.reencode_hooks.specs.declared.error.Error.{Error}
 use Rattle.reencode_hooks.specs.declared.error.Error.TheVariants.{NoMemory}
@@ -23,7 +23,7 @@ use Rattle.reencode_component.specs.Causes.{AcceptedFront}
 
 -- sections of the id are read, and have these rows
 pub record HasRows (id : ℕ) (row : Shape) : Type 0 where
-  pub in_force : in_force id ≡ true
+  pub in_force : has_frame id ≡ true
   pub body : component_body_of id ≡ Shape.vec row
 
 -- the bytes in a frame

@@ -12,7 +12,7 @@ use Rattle.wasm_shapes.specs.Module.{core_header, component_header, frame, numbe
 use Rattle.wasm_shapes.specs.Place.{Begins}
 use Rattle.wasm_shapes.specs.Tree.{Tree}
 use Rattle.wasm_shapes.specs.Types.{rows_tree}
-use Rattle.wasm_read_component.specs.ComponentPayloads.{in_force}
+use Rattle.wasm_read_component.specs.ComponentPayloads.{has_frame}
 use Rattle.reencode_core.specs.Core.{NoHeader}
 use Rattle.reencode_core.specs.Rows.{RowsBefore}
 
@@ -20,7 +20,7 @@ use Rattle.reencode_core.specs.Rows.{RowsBefore}
 
 -- sections of this one's id are read
 abbrev pub IsInForce : Tree → Type 0
-IsInForce (Tree.row id t) = in_force id ≡ true
+IsInForce (Tree.row id t) = has_frame id ≡ true
 IsInForce _ = ⊥
 
 abbrev pub AreInForce : Tree → Type 0
@@ -102,7 +102,7 @@ FaultBy depth nested bytes x = FaultHere depth nested bytes x
 abbrev pub NestedFault : ℕ → ℕ → Tree → Fault → Type 0
 NestedFault depth zero f x = ⊥
 NestedFault depth (suc room) f x =
-    (id : ℕ) × (body : List ℕ) × (f ≡ numbered_frame id body) × (in_force id ≡ true)
+    (id : ℕ) × (body : List ℕ) × (f ≡ numbered_frame id body) × (has_frame id ≡ true)
     × (((id ≡ 1) × ModuleFault body x) ⊎ ((id ≡ 4) × FaultBy (depth + 1) (NestedFault (depth + 1) room) body x))
 
 -- of bytes that are read as a component
