@@ -13,6 +13,8 @@ mod component_calls_tests;
 #[cfg(test)]
 mod component_items_tests;
 #[cfg(test)]
+mod component_payload_tests;
+#[cfg(test)]
 mod component_tests;
 #[cfg(test)]
 mod component_type_tests;
