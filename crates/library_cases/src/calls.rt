@@ -1,7 +1,7 @@
 //! The calls by their names.
 use crate::case::Case;
 use crate::stop::Stop;
-use crate::{modules, numbers, pieces, readers, sections, written};
+use crate::{components, modules, numbers, pieces, readers, sections, written};
 use std::alloc::{AllocError, Global};
 
 /// What a reader at a place gives, where there is one of this name.
@@ -36,6 +36,9 @@ fn of_bytes(alloc: Global, case: &Case<'_>) -> Result<Option<String>, Stop> {
         return Ok(Some(given));
     }
     if let Some(given) = pieces::answer(alloc, case.call, case.words, bytes)? {
+        return Ok(Some(given));
+    }
+    if let Some(given) = components::answer(alloc, case.call, case.words, bytes)? {
         return Ok(Some(given));
     }
     of_reader(alloc, case, bytes)

@@ -4,6 +4,7 @@
 mod bodies;
 mod calls;
 mod case;
+mod components;
 mod groups;
 mod modules;
 mod numbers;
