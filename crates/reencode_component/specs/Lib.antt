@@ -8,3 +8,4 @@ pub mod ComponentLeaves
 pub mod ComponentClauses
 pub mod ComponentFaults
 pub mod ComponentLaws
+pub mod WovenIn
