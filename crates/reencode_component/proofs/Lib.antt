@@ -3,6 +3,7 @@ pub mod Walked
 pub mod OperandsWalked
 pub mod Added
 pub mod SectionsAhead
+pub mod WovenIn
 pub mod WeavesIn
 pub mod ComponentLoop
 pub mod ComponentRowsMapped

@@ -10,3 +10,4 @@ pub mod ComponentFaults
 pub mod TypeClauses
 pub mod ScopedRows
 pub mod ComponentLaws
+pub mod WovenIn

@@ -9,6 +9,7 @@ ghost use Rattle.reencode_component.specs.ComponentLaws.{
   UnreadIsAnswered,
 };
 ghost use Rattle.reencode_component.specs.WeaveIn.{WeaveInOfNothing};
+ghost use Rattle.reencode_component.specs.WovenIn.{OkIsWoven, WeaveInIsRun};
 
 use reencode_hooks::ReencodeIndices;
 
@@ -61,4 +62,21 @@ pub fn component_refusal_tells<T: ReencodeIndices>(_reencoder: &T)
 /// became, and no more, where the section hook adds nothing.
 pub fn component_fault_gains<T: ReencodeIndices>(_reencoder: &T)
     ensures { ComponentFaultGains T.ReencodeIndices }
+{}
+
+/// The walk over the sections of a component is accepted exactly where the fold of the hooks over its visits is, and no frame round
+/// what a section becomes is above the ceiling; it gives the filled tree with what the section hook adds to nested modules where it is.
+#[tactic(auto, using(crate::proofs::WovenIn::weave_in_is_run))]
+pub fn weave_in_is_run<T: ReencodeIndices>(_reencoder: &T)
+    ensures { WeaveInIsRun (ask T.reply T.next) }
+{}
+
+/// What is added by a call with the clauses of `parse_component` is the component that the bytes are read as, reencoded, with what the
+/// section hook adds to nested modules where it is.
+///
+/// Where the reencoder keeps the defaults, Ok comes only where the bytes are read as a component whose visits the hooks accept and
+/// whose frames fit under the ceiling, the added sections counted. What was added is then the normal spelling of that, and the state is
+/// the one that the run over the visits leaves.
+pub fn component_is_woven<T: ReencodeIndices>(_reencoder: &T)
+    ensures { OkIsWoven T.ReencodeIndices }
 {}

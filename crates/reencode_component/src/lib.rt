@@ -33,5 +33,6 @@ pub use indices::ReencodeComponentIndices;
 pub use items::ReencodeComponentItems;
 pub use laws::{
     component_fault_gains, component_fault_is_answered, component_fault_is_one,
-    component_is_answered, component_is_reencoded, component_refusal_tells, weave_in_of_nothing,
+    component_is_answered, component_is_reencoded, component_is_woven, component_refusal_tells,
+    weave_in_is_run, weave_in_of_nothing,
 };
