@@ -7,7 +7,7 @@ use Rattle.reencode_tool.specs.declared.answer.ReencodingFault.{ReencodingFault}
 use Rattle.reencode_tool.specs.declared.answer.ReencodingFault.TheVariants as reencoding_fault
 use Rattle.reencode_tool.specs.declared.renamers.Renamers.{Renamers}
 use Rattle.reencode_tool.specs.declared.answer.Answer.TheVariants.{Reencoding}
-use Rattle.reencode_tool.specs.Answer.{AtFile, Ends, EndsFor, FileSays, FilesSay, HasBytes, HasNoDigits, HasRenamings, IsDecided, IsDecidedByBytes, IsDecidedByFile, IsDecidedByFiles, IsDecidedByForm, IsDecidedByInput, IsDecidedByJob, IsDecidedByLeft, IsDecidedForFile, IsMaking, IsTooLong, IsUnread, MadeFor, Outside, SaysNone, StopsFor, TakesFrom, Texts, Uses, Work, most_bytes, most_renaming, status_of, told_text}
+use Rattle.reencode_tool.specs.Answer.{AtFile, Ends, EndsFor, FileSays, FilesSay, HasBytes, IsDecided, IsDecidedByBytes, IsDecidedByFile, IsDecidedByFiles, IsDecidedByForm, IsDecidedByInput, IsDecidedByJob, IsDecidedByLeft, IsMaking, IsTooLong, MadeFor, Outside, SaysNone, StopsFor, TakesFrom, Texts, Uses, Work, most_bytes, most_renaming, status_of, told_text}
 use Rattle.reencode_tool.specs.Generated.{generated}
 use Rattle.reencode_tool.specs.Hexadecimal.{binary, bytes_of}
 use Rattle.reencode_tool.specs.Outside.{GaveAll, HasText, IsLonger, Rose, TookMore, WhereTold}

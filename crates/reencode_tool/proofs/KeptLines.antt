@@ -1,11 +1,11 @@
 -- The lines of what is kept, piece by piece.
-use Rattle.std.proofs.Common.{◌≡◌, ℕ, ◌+◌, ◌-◌, ◌<◌, ◌≤◌, List, [], ◌∷◌, ◌++◌, length, drop, get_or, refl, subst, sym, ap, ◌∙◌, append_assoc, arith}
+use Rattle.std.proofs.Common.{◌≡◌, ℕ, ◌+◌, ◌<◌, ◌≤◌, List, [], ◌∷◌, ◌++◌, length, drop, get_or, refl, subst, sym, ap, ◌∙◌, append_assoc, arith}
 use Rattle.std.proofs.lemmas.List.{append-nil, drop_all, drop_more}
 use Rattle.std.specs.Prelude.{zero, suc, Some, slice_get}
 use Rattle.std.proofs.lemmas.Option.{get_or_from_slice_get, slice_get_within}
 use Rattle.reencode_core.specs.declared.pieces.piece.Piece.{Piece}
 use Rattle.reencode_core.specs.declared.pieces.piece.Piece.TheVariants as piece
-use Rattle.reencode_core.specs.Pieces.{AreWithin, IsWithin, kept_ranges, piece_len, total}
+use Rattle.reencode_core.specs.Pieces.{AreWithin, IsWithin, kept_ranges, total}
 use Rattle.reencode_tool.specs.Kept.{kept_len, kept_line, kept_lines, kept_total}
 
 -- the lines and the bytes of the first piece, and of those behind it

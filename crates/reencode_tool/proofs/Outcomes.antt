@@ -6,15 +6,14 @@ use Rattle.wasm_shapes.specs.declared.Visit.{Visit}
 use Rattle.wasm_shapes.specs.declared.Visit.TheVariants.{Section}
 use Rattle.wasm_shapes.specs.Tree.{Tree, fill, normal, visits}
 use Rattle.wasm_shapes.specs.Fits.{Fits}
-use Rattle.wasm_shapes.specs.Spells.{Spells}
-use Rattle.wasm_shapes.specs.Module.{core_header, component_header, alsos, core_module, core_tree, CoreReading}
+use Rattle.wasm_shapes.specs.Module.{core_header, component_header, alsos, core_tree, CoreReading}
 use Rattle.wasm_shapes.proofs.Laws.{module_headed}
 use Rattle.wasm_shapes.proofs.OwnAnswers.{fill_own}
 use Rattle.reencode_hooks.specs.declared.asked.Unmapped.{Unmapped}
 use Rattle.reencode_hooks.specs.declared.error.Error.{Error}
 use Rattle.reencode_hooks.specs.declared.error.Error.TheVariants as error
-use Rattle.reencode_hooks.specs.Renamings.{Renaming, no_renaming, renamer_next}
-use Rattle.reencode_hooks.specs.Run.{accepted, answered, refused, run}
+use Rattle.reencode_hooks.specs.Renamings.{no_renaming, renamer_next}
+use Rattle.reencode_hooks.specs.Run.{accepted, answered, refused}
 use Rattle.reencode_core.specs.Leaves.{Leaves, core_in}
 use Rattle.reencode_core.specs.Refusals.{RefusedUpTo}
 use Rattle.reencode_core.proofs.Refusals.{refusal_tells}
@@ -26,7 +25,7 @@ use Rattle.reencode_tool.specs.declared.answer.ReencodingFault.{ReencodingFault}
 use Rattle.reencode_tool.specs.declared.renamers.Renamers.{Renamers}
 use Rattle.reencode_tool.specs.declared.renamers.Renamers.TheVariants.{Alone, Both}
 use Rattle.reencode_tool.specs.Plain.{IsPlain}
-use Rattle.reencode_tool.specs.Renamers.{AreCounts, IsLacking, Lack, State, all_counted, asks_of, begun, counts_in, next_of, reply_of, rule_of, told_lack}
+use Rattle.reencode_tool.specs.Renamers.{AreCounts, Lack, State, all_counted, asks_of, begun, counts_in, next_of, reply_of, rule_of, told_lack}
 use Rattle.reencode_tool.specs.Reencoded.{IsReencoded, IsMakingFault, IsRefused, IsRefusedAt, IsCodeSize, IsComponent, IsFirstUpTo, IsUserRefusal, IsOutputTooLarge}
 use Rattle.reencode_tool.specs.Answer.{EndsAs, HasStatus}
 use Rattle.reencode_tool.proofs.Blank.{Blank, Large, blank_new, blank_next, run_is, walk_blank, only_large}

@@ -1,4 +1,4 @@
-use Rattle.std.proofs.Common.{ℕ, refl, ap, ◌∙◌, subst, List, [], ◌∷◌}
+use Rattle.std.proofs.Common.{ℕ, refl, ap, ◌∙◌, subst, [], ◌∷◌}
 use Rattle.reencode_core.specs.Pieces.{joined, kept_ranges}
 use Rattle.reencode_hooks.specs.Renamings.{Renaming}
 use Rattle.reencode_tool.specs.declared.renamers.Renamers.TheVariants as renamers
