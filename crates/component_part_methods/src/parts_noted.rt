@@ -1,0 +1,139 @@
+//! The kind in which components, rows, aliases and types with others inside ask.
+use crate::noter::{Made, Noter, Notes, answered, given};
+use reencode_component::{ReencodeComponent, ReencodeComponentItems};
+use std::alloc::Global;
+use wasm_read_component as r;
+use wasm_write::RowSection;
+use wasm_write_component as w;
+
+/// Overrides sections, module types, and the parts of rows and items.
+#[derive(Drop)]
+pub struct PartsNoted;
+
+impl ReencodeComponentItems for Noter<PartsNoted> {
+    fn component_external_index(&mut self, _kind: r::ComponentExternalKind, index: u32) -> u32 {
+        given!(self, component_external_index, index)
+    }
+
+    fn component_primitive_val_type(&mut self, ty: r::PrimitiveValType) -> w::PrimitiveValType {
+        given!(self, component_primitive_val_type, ty)
+    }
+
+    fn component_export_kind(&mut self, ty: r::ComponentExternalKind) -> w::ComponentExportKind {
+        given!(self, component_export_kind, ty)
+    }
+
+    fn component_outer_alias_kind(
+        &mut self,
+        kind: r::ComponentOuterAliasKind,
+    ) -> w::ComponentOuterAliasKind {
+        given!(self, component_outer_alias_kind, kind)
+    }
+
+    fn component_val_type(&mut self, ty: r::ComponentValType) -> w::ComponentValType {
+        given!(self, component_val_type, ty)
+    }
+
+    fn type_bounds(&mut self, ty: r::TypeBounds) -> w::TypeBounds {
+        ty
+    }
+
+    fn component_type_ref(&mut self, ty: r::ComponentTypeRef) -> Made<w::ComponentTypeRef> {
+        answered!(self, component_type_ref, ty)
+    }
+
+    fn canonical_option(&mut self, ty: r::CanonicalOption) -> Made<w::CanonicalOption> {
+        answered!(self, canonical_option, ty)
+    }
+}
+
+impl ReencodeComponent for Noter<PartsNoted> {
+    fn parse_component_import_section(
+        &mut self,
+        _alloc: Global,
+        _imports: &mut w::ComponentImportSection,
+        _section: r::ComponentImportSectionReader<'_>,
+    ) -> Made<()> {
+        answered!(self, parse_component_import_section, ())
+    }
+
+    fn parse_component_alias_section(
+        &mut self,
+        _alloc: Global,
+        _aliases: &mut w::ComponentAliasSection,
+        _section: r::ComponentAliasSectionReader<'_>,
+    ) -> Made<()> {
+        answered!(self, parse_component_alias_section, ())
+    }
+
+    fn parse_component_export_section(
+        &mut self,
+        _alloc: Global,
+        _exports: &mut w::ComponentExportSection,
+        _section: r::ComponentExportSectionReader<'_>,
+    ) -> Made<()> {
+        answered!(self, parse_component_export_section, ())
+    }
+
+    fn parse_component_canonical_section(
+        &mut self,
+        _alloc: Global,
+        _canonical: &mut w::CanonicalFunctionSection,
+        _section: r::ComponentCanonicalSectionReader<'_>,
+    ) -> Made<()> {
+        answered!(self, parse_component_canonical_section, ())
+    }
+
+    fn parse_component_instance_section(
+        &mut self,
+        _alloc: Global,
+        _instances: &mut w::ComponentInstanceSection,
+        _section: r::ComponentInstanceSectionReader<'_>,
+    ) -> Made<()> {
+        answered!(self, parse_component_instance_section, ())
+    }
+
+    fn parse_instance_section(
+        &mut self,
+        _alloc: Global,
+        _instances: &mut w::InstanceSection,
+        _section: r::InstanceSectionReader<'_>,
+    ) -> Made<()> {
+        answered!(self, parse_instance_section, ())
+    }
+
+    fn parse_core_type_section(
+        &mut self,
+        _alloc: Global,
+        _types: &mut w::CoreTypeSection,
+        _section: r::CoreTypeSectionReader<'_>,
+    ) -> Made<()> {
+        answered!(self, parse_core_type_section, ())
+    }
+
+    fn parse_component_start_section(
+        &mut self,
+        _alloc: Global,
+        _component: &mut w::Component,
+        _func: r::ComponentStartFunction,
+    ) -> Made<()> {
+        answered!(self, parse_component_start_section, ())
+    }
+
+    fn parse_unknown_component_section(
+        &mut self,
+        _component: &mut w::Component,
+        _id: u8,
+        _contents: &[u8],
+    ) -> Made<()> {
+        answered!(self, parse_unknown_component_section, ())
+    }
+
+    fn component_module_type(
+        &mut self,
+        alloc: Global,
+        _ty: r::ModuleDeclarations<'_>,
+    ) -> Made<w::ModuleType> {
+        answered!(self, component_module_type, RowSection::new(alloc))
+    }
+}

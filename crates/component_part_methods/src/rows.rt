@@ -1,0 +1,398 @@
+//! What rows and types ask.
+use crate::noter::{Notes, both};
+use crate::values as v;
+use reencode_component::{ReencodeComponent, component_utils};
+use reencode_hooks::Error;
+use std::alloc::Global;
+use wasm_read_component as r;
+use wasm_write::RowSection;
+use wasm_write_component as w;
+
+/// A function as `a`, without its type and with it.
+const EXPORTS: [(&str, r::ComponentExport<'_>); 2] = [
+    (
+        "without a type",
+        r::ComponentExport {
+            name: "a",
+            kind: r::ComponentExternalKind::Func,
+            index: 0,
+            ty: None,
+        },
+    ),
+    (
+        "with a type",
+        r::ComponentExport {
+            name: "a",
+            kind: r::ComponentExternalKind::Func,
+            index: 0,
+            ty: Some(r::ComponentTypeRef::Func(0)),
+        },
+    ),
+];
+
+/// An instance of component 0, to which a function and an instance are handed, and one that exports a function.
+const COMPONENT_INSTANCES: [(&str, &[u8]); 2] = [
+    (
+        "of a component",
+        &[
+            0x01, 0x00, 0x00, 0x02, 0x01, 0x61, 0x01, 0x00, 0x01, 0x62, 0x05, 0x00,
+        ],
+    ),
+    (
+        "of exports",
+        &[0x01, 0x01, 0x01, 0x00, 0x01, 0x61, 0x01, 0x00],
+    ),
+];
+
+/// A core instance of module 0, to which two instances are handed, and one that exports a function.
+const INSTANCES: [(&str, &[u8]); 2] = [
+    (
+        "of a module",
+        &[
+            0x01, 0x00, 0x00, 0x02, 0x01, 0x61, 0x12, 0x00, 0x01, 0x62, 0x12, 0x00,
+        ],
+    ),
+    ("of exports", &[0x01, 0x01, 0x01, 0x01, 0x61, 0x00, 0x00]),
+];
+
+/// Canonical functions, by their byte; options are a memory, and where there are two a function that allocates.
+const CANONICAL_FUNCTIONS: [(&str, &[u8]); 38] = [
+    (
+        "lift",
+        &[0x01, 0x00, 0x00, 0x00, 0x02, 0x03, 0x00, 0x04, 0x00, 0x00],
+    ),
+    (
+        "lower",
+        &[0x01, 0x01, 0x00, 0x00, 0x02, 0x03, 0x00, 0x04, 0x00],
+    ),
+    ("resource.new", &[0x01, 0x02, 0x00]),
+    ("resource.drop", &[0x01, 0x03, 0x00]),
+    ("resource.rep", &[0x01, 0x04, 0x00]),
+    ("task.cancel", &[0x01, 0x05]),
+    ("subtask.cancel", &[0x01, 0x06, 0x00]),
+    ("task.return", &[0x01, 0x09, 0x00, 0x7f, 0x01, 0x03, 0x00]),
+    (
+        "task.return of nothing",
+        &[0x01, 0x09, 0x01, 0x00, 0x01, 0x03, 0x00],
+    ),
+    ("context.get", &[0x01, 0x0a, 0x7f, 0x00]),
+    ("context.set", &[0x01, 0x0b, 0x7f, 0x00]),
+    ("subtask.drop", &[0x01, 0x0d]),
+    ("stream.new", &[0x01, 0x0e, 0x00]),
+    ("stream.read", &[0x01, 0x0f, 0x00, 0x01, 0x03, 0x00]),
+    ("stream.write", &[0x01, 0x10, 0x00, 0x01, 0x03, 0x00]),
+    ("stream.cancel-read", &[0x01, 0x11, 0x00, 0x00]),
+    ("stream.cancel-write", &[0x01, 0x12, 0x00, 0x00]),
+    ("stream.drop-readable", &[0x01, 0x13, 0x00]),
+    ("stream.drop-writable", &[0x01, 0x14, 0x00]),
+    ("future.new", &[0x01, 0x15, 0x00]),
+    ("future.read", &[0x01, 0x16, 0x00, 0x01, 0x03, 0x00]),
+    ("future.write", &[0x01, 0x17, 0x00, 0x01, 0x03, 0x00]),
+    ("future.cancel-read", &[0x01, 0x18, 0x00, 0x00]),
+    ("future.cancel-write", &[0x01, 0x19, 0x00, 0x00]),
+    ("future.drop-readable", &[0x01, 0x1a, 0x00]),
+    ("future.drop-writable", &[0x01, 0x1b, 0x00]),
+    ("error-context.new", &[0x01, 0x1c, 0x01, 0x03, 0x00]),
+    (
+        "error-context.debug-message",
+        &[0x01, 0x1d, 0x01, 0x03, 0x00],
+    ),
+    ("error-context.drop", &[0x01, 0x1e]),
+    ("waitable-set.new", &[0x01, 0x1f]),
+    ("waitable-set.drop", &[0x01, 0x22]),
+    ("waitable.join", &[0x01, 0x23]),
+    ("backpressure.inc", &[0x01, 0x24]),
+    ("backpressure.dec", &[0x01, 0x25]),
+    ("thread.spawn-ref", &[0x01, 0x40, 0x00]),
+    ("thread.spawn-indirect", &[0x01, 0x41, 0x00, 0x00]),
+    ("thread.available-parallelism", &[0x01, 0x42]),
+    (
+        "lift without options",
+        &[0x01, 0x00, 0x00, 0x00, 0x00, 0x00],
+    ),
+];
+
+/// Function types with a parameter: with a result, and without one.
+const FUNCTIONS: [(&str, &[u8]); 2] = [
+    (
+        "with a result",
+        &[0x01, 0x40, 0x01, 0x01, 0x61, 0x7f, 0x00, 0x7f],
+    ),
+    (
+        "without a result",
+        &[0x01, 0x43, 0x01, 0x01, 0x61, 0x7f, 0x01, 0x00],
+    ),
+];
+
+/// Types of values, by their byte.
+const DEFINED: [(&str, &[u8]); 19] = [
+    ("bool", &[0x01, 0x7f]),
+    (
+        "record",
+        &[0x01, 0x72, 0x02, 0x01, 0x61, 0x7f, 0x01, 0x62, 0x00],
+    ),
+    (
+        "variant",
+        &[
+            0x01, 0x71, 0x02, 0x01, 0x61, 0x01, 0x7f, 0x00, 0x01, 0x62, 0x00, 0x00,
+        ],
+    ),
+    ("list", &[0x01, 0x70, 0x7f]),
+    ("tuple", &[0x01, 0x6f, 0x02, 0x7f, 0x00]),
+    ("flags", &[0x01, 0x6e, 0x01, 0x01, 0x61]),
+    ("enum", &[0x01, 0x6d, 0x01, 0x01, 0x61]),
+    ("option", &[0x01, 0x6b, 0x7f]),
+    ("result", &[0x01, 0x6a, 0x01, 0x7f, 0x01, 0x7f]),
+    ("result of nothing", &[0x01, 0x6a, 0x00, 0x00]),
+    ("own", &[0x01, 0x69, 0x00]),
+    ("borrow", &[0x01, 0x68, 0x00]),
+    ("list of a length", &[0x01, 0x67, 0x7f, 0x02]),
+    ("stream", &[0x01, 0x66, 0x01, 0x7f]),
+    ("stream of nothing", &[0x01, 0x66, 0x00]),
+    ("future", &[0x01, 0x65, 0x01, 0x7f]),
+    ("future of nothing", &[0x01, 0x65, 0x00]),
+    ("error-context", &[0x01, 0x64]),
+    ("map", &[0x01, 0x63, 0x7f, 0x7f]),
+];
+
+/// Core types: a function type, and a module type.
+const CORE_TYPES: [(&str, &[u8]); 2] = [
+    ("types", &[0x01, 0x60, 0x00, 0x00]),
+    ("module type", &[0x01, 0x50, 0x00]),
+];
+
+/// What a module type declares: a function that is imported, a type, a type further out, and a function that is exported.
+const DECLARATIONS: [(&str, &[u8]); 4] = [
+    ("import", &[0x01, 0x00, 0x01, 0x61, 0x01, 0x62, 0x00, 0x00]),
+    ("types", &[0x01, 0x01, 0x60, 0x00, 0x00]),
+    ("alias", &[0x01, 0x02, 0x10, 0x01, 0x01, 0x00]),
+    ("export", &[0x01, 0x03, 0x01, 0x61, 0x00, 0x00]),
+];
+
+/// An export.
+fn export<N: ReencodeComponent + Notes>(
+    of: &mut N,
+    case: &str,
+    row: r::ComponentExport<'_>,
+    sink: &mut w::ComponentExportSection,
+) -> Result<(), Error<N::Error>> {
+    both!(of, case, parse_component_export(sink, row), (sink, row))
+}
+
+/// An instance, which is given twice.
+fn component_instance<N: ReencodeComponent + Notes>(
+    of: &mut N,
+    case: &str,
+    alloc: Global,
+    row: r::ComponentInstance<'_>,
+    again: r::ComponentInstance<'_>,
+    sink: &mut w::ComponentInstanceSection,
+) -> Result<(), Error<N::Error>> {
+    both!(
+        of,
+        case,
+        parse_component_instance(alloc, sink, row),
+        (alloc, sink, again)
+    )
+}
+
+/// A core instance, which is given twice.
+fn instance<N: ReencodeComponent + Notes>(
+    of: &mut N,
+    case: &str,
+    alloc: Global,
+    row: r::Instance<'_>,
+    again: r::Instance<'_>,
+    sink: &mut w::InstanceSection,
+) -> Result<(), Error<N::Error>> {
+    both!(
+        of,
+        case,
+        parse_instance(alloc, sink, row),
+        (alloc, sink, again)
+    )
+}
+
+/// A canonical function, which is given twice.
+fn canonical_function<N: ReencodeComponent + Notes>(
+    of: &mut N,
+    case: &str,
+    alloc: Global,
+    row: r::CanonicalFunction,
+    again: r::CanonicalFunction,
+    sink: &mut w::CanonicalFunctionSection,
+) -> Result<(), Error<N::Error>> {
+    both!(
+        of,
+        case,
+        parse_component_canonical(alloc, sink, row),
+        (alloc, sink, again)
+    )
+}
+
+/// Rows of sections.
+pub fn rows<N: ReencodeComponent + Notes>(
+    of: &mut N,
+    alloc: Global,
+) -> Result<(), Error<N::Error>> {
+    for (case, row) in EXPORTS {
+        export(of, case, row, &mut RowSection::new(alloc))?;
+    }
+    for (case, body) in COMPONENT_INSTANCES {
+        component_instance(
+            of,
+            case,
+            alloc,
+            v::row(alloc, r::ComponentInstanceSectionReader::new(body)?)?,
+            v::row(alloc, r::ComponentInstanceSectionReader::new(body)?)?,
+            &mut RowSection::new(alloc),
+        )?;
+    }
+    for (case, body) in INSTANCES {
+        instance(
+            of,
+            case,
+            alloc,
+            v::row(alloc, r::InstanceSectionReader::new(body)?)?,
+            v::row(alloc, r::InstanceSectionReader::new(body)?)?,
+            &mut RowSection::new(alloc),
+        )?;
+    }
+    Ok(())
+}
+
+/// Canonical functions.
+pub fn canonical_functions<N: ReencodeComponent + Notes>(
+    of: &mut N,
+    alloc: Global,
+) -> Result<(), Error<N::Error>> {
+    for (case, body) in CANONICAL_FUNCTIONS {
+        canonical_function(
+            of,
+            case,
+            alloc,
+            v::row(alloc, r::ComponentCanonicalSectionReader::new(body)?)?,
+            v::row(alloc, r::ComponentCanonicalSectionReader::new(body)?)?,
+            &mut RowSection::new(alloc),
+        )?;
+    }
+    Ok(())
+}
+
+/// A function type, which is given twice.
+fn function<N: ReencodeComponent + Notes>(
+    of: &mut N,
+    case: &str,
+    alloc: Global,
+    ty: r::ComponentFuncType<'_>,
+    again: r::ComponentFuncType<'_>,
+) -> Result<(), Error<N::Error>> {
+    both!(
+        of,
+        case,
+        parse_component_func_type(alloc, ty),
+        (alloc, again)
+    )
+}
+
+/// A type of values, which is given twice.
+fn defined<N: ReencodeComponent + Notes>(
+    of: &mut N,
+    case: &str,
+    alloc: Global,
+    ty: r::ComponentDefinedType<'_>,
+    again: r::ComponentDefinedType<'_>,
+) -> Result<(), Error<N::Error>> {
+    both!(
+        of,
+        case,
+        parse_component_defined_type(alloc, ty),
+        (alloc, again)
+    )
+}
+
+/// A core type, which is given twice.
+fn core_type<N: ReencodeComponent + Notes>(
+    of: &mut N,
+    case: &str,
+    alloc: Global,
+    ty: r::CoreType<'_>,
+    again: r::CoreType<'_>,
+) -> Result<(), Error<N::Error>> {
+    both!(
+        of,
+        case,
+        parse_component_core_type(alloc, ty),
+        (alloc, again)
+    )
+}
+
+/// What a module type declares, which is given twice.
+fn module_declaration<N: ReencodeComponent + Notes>(
+    of: &mut N,
+    case: &str,
+    alloc: Global,
+    row: r::ModuleTypeDeclaration<'_>,
+    again: r::ModuleTypeDeclaration<'_>,
+    sink: &mut w::ModuleType,
+) -> Result<(), Error<N::Error>> {
+    both!(
+        of,
+        case,
+        parse_component_module_type_declaration(alloc, sink, row),
+        (alloc, sink, again)
+    )
+}
+
+/// Types of functions and of values.
+pub fn types<N: ReencodeComponent + Notes>(
+    of: &mut N,
+    alloc: Global,
+) -> Result<(), Error<N::Error>> {
+    for (case, body) in FUNCTIONS {
+        function(
+            of,
+            case,
+            alloc,
+            v::function(alloc, body)?,
+            v::function(alloc, body)?,
+        )?;
+    }
+    for (case, body) in DEFINED {
+        defined(
+            of,
+            case,
+            alloc,
+            v::defined(alloc, body)?,
+            v::defined(alloc, body)?,
+        )?;
+    }
+    Ok(())
+}
+
+/// Core types, and what module types declare.
+pub fn core_types<N: ReencodeComponent + Notes>(
+    of: &mut N,
+    alloc: Global,
+) -> Result<(), Error<N::Error>> {
+    for (case, body) in CORE_TYPES {
+        core_type(
+            of,
+            case,
+            alloc,
+            v::core_type(alloc, body)?,
+            v::core_type(alloc, body)?,
+        )?;
+    }
+    for (case, body) in DECLARATIONS {
+        module_declaration(
+            of,
+            case,
+            alloc,
+            v::row(alloc, r::ModuleDeclarations::new(body)?)?,
+            v::row(alloc, r::ModuleDeclarations::new(body)?)?,
+            &mut RowSection::new(alloc),
+        )?;
+    }
+    Ok(())
+}

@@ -1,0 +1,157 @@
+//! The kind in which sections, module types, types of values and what a type may be ask.
+use crate::core_methods::group;
+use crate::noter::{Made, Noter, Notes, UNASKED, answered, given};
+use reencode_component::{ReencodeComponent, ReencodeComponentItems};
+use std::alloc::Global;
+use wasm_leb::List;
+use wasm_read_component as r;
+use wasm_write_component as w;
+
+/// Overrides rows, what a module type declares, and primitive types.
+#[derive(Drop)]
+pub struct RowsNoted;
+
+impl ReencodeComponentItems for Noter<RowsNoted> {
+    fn component_primitive_val_type(&mut self, ty: r::PrimitiveValType) -> w::PrimitiveValType {
+        given!(self, component_primitive_val_type, ty)
+    }
+
+    fn component_type_ref(&mut self, ty: r::ComponentTypeRef) -> Made<w::ComponentTypeRef> {
+        answered!(self, component_type_ref, ty)
+    }
+
+    fn component_alias<'a>(&mut self, _alias: r::ComponentAlias<'a>) -> Made<w::Alias<'a>> {
+        answered!(
+            self,
+            component_alias,
+            w::Alias::Outer {
+                kind: w::ComponentOuterAliasKind::Type_,
+                count: 0,
+                index: 0,
+            }
+        )
+    }
+
+    fn component_external_index(&mut self, _kind: r::ComponentExternalKind, index: u32) -> u32 {
+        index
+    }
+
+    fn component_export_kind(&mut self, ty: r::ComponentExternalKind) -> w::ComponentExportKind {
+        ty
+    }
+
+    fn component_outer_alias_kind(
+        &mut self,
+        kind: r::ComponentOuterAliasKind,
+    ) -> w::ComponentOuterAliasKind {
+        kind
+    }
+
+    fn canonical_option(&mut self, _ty: r::CanonicalOption) -> Made<w::CanonicalOption> {
+        Err(UNASKED)
+    }
+}
+
+impl ReencodeComponent for Noter<RowsNoted> {
+    fn parse_component_export(
+        &mut self,
+        _exports: &mut w::ComponentExportSection,
+        _export: r::ComponentExport<'_>,
+    ) -> Made<()> {
+        answered!(self, parse_component_export, ())
+    }
+
+    fn parse_component_canonical(
+        &mut self,
+        _alloc: Global,
+        _section: &mut w::CanonicalFunctionSection,
+        _func: r::CanonicalFunction,
+    ) -> Made<()> {
+        answered!(self, parse_component_canonical, ())
+    }
+
+    fn parse_component_instance(
+        &mut self,
+        _alloc: Global,
+        _instances: &mut w::ComponentInstanceSection,
+        _instance: r::ComponentInstance<'_>,
+    ) -> Made<()> {
+        answered!(self, parse_component_instance, ())
+    }
+
+    fn parse_instance(
+        &mut self,
+        _alloc: Global,
+        _instances: &mut w::InstanceSection,
+        _instance: r::Instance<'_>,
+    ) -> Made<()> {
+        answered!(self, parse_instance, ())
+    }
+
+    fn parse_component_core_type(
+        &mut self,
+        alloc: Global,
+        core: r::CoreType<'_>,
+    ) -> Made<w::CoreType> {
+        self.note("parse_component_core_type");
+        match core {
+            r::CoreType::Rec(_group) => Ok(w::CoreType::Rec(group(alloc))),
+            r::CoreType::Module(_declarations) => Ok(w::CoreType::Rec(group(alloc))),
+        }
+    }
+
+    fn parse_component_module_type_declaration(
+        &mut self,
+        _alloc: Global,
+        _module: &mut w::ModuleType,
+        _decl: r::ModuleTypeDeclaration<'_>,
+    ) -> Made<()> {
+        answered!(self, parse_component_module_type_declaration, ())
+    }
+
+    fn parse_component_func_type<'a>(
+        &mut self,
+        alloc: Global,
+        _ty: r::ComponentFuncType<'a>,
+    ) -> Made<w::ComponentFuncType<'a>> {
+        answered!(
+            self,
+            parse_component_func_type,
+            w::ComponentFuncType {
+                async_: false,
+                params: List::new(alloc),
+                result: None,
+            }
+        )
+    }
+
+    fn parse_component_defined_type<'a>(
+        &mut self,
+        alloc: Global,
+        _ty: r::ComponentDefinedType<'a>,
+    ) -> Made<w::ComponentDefinedType<'a>> {
+        answered!(
+            self,
+            parse_component_defined_type,
+            w::ComponentDefinedType::Flags(List::new(alloc))
+        )
+    }
+
+    fn parse_component_start_section(
+        &mut self,
+        _alloc: Global,
+        _component: &mut w::Component,
+        _func: r::ComponentStartFunction,
+    ) -> Made<()> {
+        Err(UNASKED)
+    }
+
+    fn parse_unknown_component_section(
+        &mut self,
+        _component: &mut w::Component,
+        _id: u8,
+        _contents: &[u8],
+    ) -> Made<()> {
+        Err(UNASKED)
+    }
+}

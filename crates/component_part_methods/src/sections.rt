@@ -1,0 +1,349 @@
+//! What components, sections and module types ask.
+use crate::noter::{Notes, both};
+use crate::values as v;
+use reencode_component::{ReencodeComponent, component_utils};
+use reencode_hooks::Error;
+use std::alloc::Global;
+use wasm_read_component as r;
+use wasm_read_component::ComponentPayload;
+use wasm_write::RowSection;
+use wasm_write_component as w;
+
+/// A component with a section of each kind, which hold no rows, in another order than that of their ids.
+const COMPONENT: [u8; 38] = [
+    0x00, 0x61, 0x73, 0x6d, 0x0d, 0x00, 0x01, 0x00, 0x7f, 0x00, 0x0c, 0x01, 0x00, 0x0b, 0x01, 0x00,
+    0x0a, 0x01, 0x00, 0x09, 0x03, 0x00, 0x00, 0x00, 0x08, 0x01, 0x00, 0x06, 0x01, 0x00, 0x05, 0x01,
+    0x00, 0x02, 0x01, 0x00, 0x0c, 0x00,
+];
+
+/// What a component holds: sections without rows, a start, and a section of an id that no table knows.
+const PAYLOADS: [(&str, ComponentPayload<'_>); 8] = [
+    (
+        "instances",
+        ComponentPayload::Section {
+            id: 2,
+            at: 0,
+            body: &[0x00],
+        },
+    ),
+    (
+        "component instances",
+        ComponentPayload::Section {
+            id: 5,
+            at: 0,
+            body: &[0x00],
+        },
+    ),
+    (
+        "aliases",
+        ComponentPayload::Section {
+            id: 6,
+            at: 0,
+            body: &[0x00],
+        },
+    ),
+    (
+        "canonical functions",
+        ComponentPayload::Section {
+            id: 8,
+            at: 0,
+            body: &[0x00],
+        },
+    ),
+    (
+        "start",
+        ComponentPayload::Section {
+            id: 9,
+            at: 0,
+            body: &[0x00, 0x00, 0x00],
+        },
+    ),
+    (
+        "imports",
+        ComponentPayload::Section {
+            id: 10,
+            at: 0,
+            body: &[0x00],
+        },
+    ),
+    (
+        "exports",
+        ComponentPayload::Section {
+            id: 11,
+            at: 0,
+            body: &[0x00],
+        },
+    ),
+    (
+        "unknown",
+        ComponentPayload::Unknown {
+            at: 0,
+            id: 12,
+            contents: &[],
+        },
+    ),
+];
+
+/// A function and an instance that are imported.
+const IMPORTS: [u8; 11] = [
+    0x02, 0x00, 0x01, 0x61, 0x01, 0x00, 0x00, 0x01, 0x62, 0x05, 0x00,
+];
+
+/// Aliases of a function that instance 0 exports as `a`, and of a type further out.
+const ALIASES: [u8; 10] = [0x02, 0x01, 0x00, 0x00, 0x01, 0x61, 0x03, 0x02, 0x01, 0x00];
+
+/// Function 0 as `a`, and type 0 as `b`.
+const EXPORTS: [u8; 13] = [
+    0x02, 0x00, 0x01, 0x61, 0x01, 0x00, 0x00, 0x00, 0x01, 0x62, 0x03, 0x00, 0x00,
+];
+
+/// A resource that is dropped, and a task that is cancelled.
+const CANONICAL_FUNCTIONS: [u8; 4] = [0x02, 0x03, 0x00, 0x05];
+
+/// Instances, of component 0 and of no exports.
+const COMPONENT_INSTANCES: [u8; 6] = [0x02, 0x00, 0x00, 0x00, 0x01, 0x00];
+
+/// Core instances, of module 0 and of no exports.
+const INSTANCES: [u8; 6] = [0x02, 0x00, 0x00, 0x00, 0x01, 0x00];
+
+/// A core function type, and a module type that declares nothing.
+const CORE_TYPES: [u8; 6] = [0x02, 0x60, 0x00, 0x00, 0x50, 0x00];
+
+/// What a module type declares: a function type and a function that is exported as `a`.
+const DECLARATIONS: [u8; 10] = [0x02, 0x01, 0x60, 0x00, 0x00, 0x03, 0x01, 0x61, 0x00, 0x00];
+
+/// A component, by its function alone.
+fn component<N: ReencodeComponent + Notes>(
+    of: &mut N,
+    alloc: Global,
+    component: &mut w::Component,
+    bytes: &[u8],
+) -> Result<(), Error<N::Error>> {
+    of.begin("parse_component", "");
+    of.note("|");
+    component_utils::parse_component(of, alloc, component, bytes, 0)
+}
+
+/// A section, by its function alone.
+fn payload<N: ReencodeComponent + Notes>(
+    of: &mut N,
+    case: &str,
+    alloc: Global,
+    component: &mut w::Component,
+    payload: ComponentPayload<'_>,
+) -> Result<(), Error<N::Error>> {
+    of.begin("parse_component_payload", case);
+    of.note("|");
+    component_utils::parse_component_payload(of, alloc, component, payload, 0)
+}
+
+/// Components, and what they hold.
+pub fn components<N: ReencodeComponent + Notes>(
+    of: &mut N,
+    alloc: Global,
+) -> Result<(), Error<N::Error>> {
+    let mut made = w::Component::new(alloc, u32::MAX)?;
+    component(of, alloc, &mut made, &COMPONENT)?;
+    for (case, held) in PAYLOADS {
+        payload(of, case, alloc, &mut made, held)?;
+    }
+    Ok(())
+}
+
+/// A section of imports.
+fn imports<N: ReencodeComponent + Notes>(
+    of: &mut N,
+    alloc: Global,
+    rows: r::ComponentImportSectionReader<'_>,
+    again: r::ComponentImportSectionReader<'_>,
+    sink: &mut w::ComponentImportSection,
+) -> Result<(), Error<N::Error>> {
+    both!(
+        of,
+        "",
+        parse_component_import_section(alloc, sink, rows),
+        (alloc, sink, again)
+    )
+}
+
+/// A section of aliases.
+fn aliases<N: ReencodeComponent + Notes>(
+    of: &mut N,
+    alloc: Global,
+    rows: r::ComponentAliasSectionReader<'_>,
+    again: r::ComponentAliasSectionReader<'_>,
+    sink: &mut w::ComponentAliasSection,
+) -> Result<(), Error<N::Error>> {
+    both!(
+        of,
+        "",
+        parse_component_alias_section(alloc, sink, rows),
+        (alloc, sink, again)
+    )
+}
+
+/// A section of exports.
+fn exports<N: ReencodeComponent + Notes>(
+    of: &mut N,
+    alloc: Global,
+    rows: r::ComponentExportSectionReader<'_>,
+    again: r::ComponentExportSectionReader<'_>,
+    sink: &mut w::ComponentExportSection,
+) -> Result<(), Error<N::Error>> {
+    both!(
+        of,
+        "",
+        parse_component_export_section(alloc, sink, rows),
+        (alloc, sink, again)
+    )
+}
+
+/// A section of canonical functions.
+fn canonical_functions<N: ReencodeComponent + Notes>(
+    of: &mut N,
+    alloc: Global,
+    rows: r::ComponentCanonicalSectionReader<'_>,
+    again: r::ComponentCanonicalSectionReader<'_>,
+    sink: &mut w::CanonicalFunctionSection,
+) -> Result<(), Error<N::Error>> {
+    both!(
+        of,
+        "",
+        parse_component_canonical_section(alloc, sink, rows),
+        (alloc, sink, again)
+    )
+}
+
+/// A section of instances.
+fn component_instances<N: ReencodeComponent + Notes>(
+    of: &mut N,
+    alloc: Global,
+    rows: r::ComponentInstanceSectionReader<'_>,
+    again: r::ComponentInstanceSectionReader<'_>,
+    sink: &mut w::ComponentInstanceSection,
+) -> Result<(), Error<N::Error>> {
+    both!(
+        of,
+        "",
+        parse_component_instance_section(alloc, sink, rows),
+        (alloc, sink, again)
+    )
+}
+
+/// A section of core instances.
+fn instances<N: ReencodeComponent + Notes>(
+    of: &mut N,
+    alloc: Global,
+    rows: r::InstanceSectionReader<'_>,
+    again: r::InstanceSectionReader<'_>,
+    sink: &mut w::InstanceSection,
+) -> Result<(), Error<N::Error>> {
+    both!(
+        of,
+        "",
+        parse_instance_section(alloc, sink, rows),
+        (alloc, sink, again)
+    )
+}
+
+/// A section of core types.
+fn core_types<N: ReencodeComponent + Notes>(
+    of: &mut N,
+    alloc: Global,
+    rows: r::CoreTypeSectionReader<'_>,
+    again: r::CoreTypeSectionReader<'_>,
+    sink: &mut w::CoreTypeSection,
+) -> Result<(), Error<N::Error>> {
+    both!(
+        of,
+        "",
+        parse_core_type_section(alloc, sink, rows),
+        (alloc, sink, again)
+    )
+}
+
+/// Sections whose rows hold no lists.
+pub fn sections<N: ReencodeComponent + Notes>(
+    of: &mut N,
+    alloc: Global,
+) -> Result<(), Error<N::Error>> {
+    imports(
+        of,
+        alloc,
+        v::rows(&IMPORTS)?,
+        v::rows(&IMPORTS)?,
+        &mut RowSection::new(alloc),
+    )?;
+    aliases(
+        of,
+        alloc,
+        v::rows(&ALIASES)?,
+        v::rows(&ALIASES)?,
+        &mut RowSection::new(alloc),
+    )?;
+    exports(
+        of,
+        alloc,
+        v::rows(&EXPORTS)?,
+        v::rows(&EXPORTS)?,
+        &mut RowSection::new(alloc),
+    )
+}
+
+/// Sections whose rows hold lists.
+pub fn more_sections<N: ReencodeComponent + Notes>(
+    of: &mut N,
+    alloc: Global,
+) -> Result<(), Error<N::Error>> {
+    canonical_functions(
+        of,
+        alloc,
+        v::rows(&CANONICAL_FUNCTIONS)?,
+        v::rows(&CANONICAL_FUNCTIONS)?,
+        &mut RowSection::new(alloc),
+    )?;
+    component_instances(
+        of,
+        alloc,
+        v::rows(&COMPONENT_INSTANCES)?,
+        v::rows(&COMPONENT_INSTANCES)?,
+        &mut RowSection::new(alloc),
+    )?;
+    instances(
+        of,
+        alloc,
+        v::rows(&INSTANCES)?,
+        v::rows(&INSTANCES)?,
+        &mut RowSection::new(alloc),
+    )?;
+    core_types(
+        of,
+        alloc,
+        v::types(&CORE_TYPES)?,
+        v::types(&CORE_TYPES)?,
+        &mut RowSection::new(alloc),
+    )
+}
+
+/// A module type.
+fn module_type<N: ReencodeComponent + Notes>(
+    of: &mut N,
+    alloc: Global,
+    declarations: r::ModuleDeclarations<'_>,
+    again: r::ModuleDeclarations<'_>,
+) -> Result<(), Error<N::Error>> {
+    both!(
+        of,
+        "",
+        component_module_type(alloc, declarations),
+        (alloc, again)
+    )
+}
+
+/// Module types.
+pub fn scopes<N: ReencodeComponent + Notes>(
+    of: &mut N,
+    alloc: Global,
+) -> Result<(), Error<N::Error>> {
+    module_type(of, alloc, v::rows(&DECLARATIONS)?, v::rows(&DECLARATIONS)?)
+}
