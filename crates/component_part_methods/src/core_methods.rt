@@ -1,5 +1,5 @@
 //! The methods of core modules: those that methods of components ask are noted.
-use crate::noter::{Made, Noter, Notes, UNASKED, answered};
+use crate::noter::{Made, Noter, Notes, UNASKED, noted};
 use reencode_core::Reencode;
 use reencode_hooks::RoundtripReencoder;
 use reencode_items::ReencodeItems;
@@ -23,7 +23,7 @@ impl<K> ReencodeItems for Noter<K> {
     }
 
     fn external_index(&mut self, _kind: r::ExternalKind, _index: u32) -> Made<u32> {
-        answered!(self, external_index, 0)
+        noted!(self, external_index, Ok(0))
     }
 
     fn abstract_heap_type(&mut self, _value: r::AbstractHeapType) -> Made<w::AbstractHeapType> {
@@ -39,7 +39,7 @@ impl<K> ReencodeItems for Noter<K> {
     }
 
     fn export_kind(&mut self, _external_kind: r::ExternalKind) -> Made<w::ExportKind> {
-        answered!(self, export_kind, w::ExportKind::Func)
+        noted!(self, export_kind, Ok(w::ExportKind::Func))
     }
 
     fn field_type(&mut self, _field_ty: r::FieldType) -> Made<w::FieldType> {
@@ -59,7 +59,7 @@ impl<K> ReencodeItems for Noter<K> {
     }
 
     fn val_type(&mut self, _val_ty: r::ValType) -> Made<w::ValType> {
-        answered!(self, val_type, w::ValType::I32)
+        noted!(self, val_type, Ok(w::ValType::I32))
     }
 
     fn composite_type(
@@ -107,7 +107,7 @@ impl<K> ReencodeItems for Noter<K> {
     }
 
     fn entity_type(&mut self, _type_ref: r::TypeRef) -> Made<w::EntityType> {
-        answered!(self, entity_type, w::EntityType::Function(0))
+        noted!(self, entity_type, Ok(w::EntityType::Function(0)))
     }
 
     fn block_type(&mut self, _arg: r::BlockType) -> Made<w::BlockType> {
@@ -178,7 +178,7 @@ impl<K> Reencode for Noter<K> {
         alloc: Global,
         _rec_group: r::RecGroup,
     ) -> Made<w::RecGroup> {
-        answered!(self, parse_recursive_type_group, group(alloc))
+        noted!(self, parse_recursive_type_group, Ok(group(alloc)))
     }
 
     fn parse_function_section(
@@ -415,6 +415,6 @@ impl<K> Reencode for Noter<K> {
         _module: &mut w::Module,
         _bytes: &[u8],
     ) -> Made<()> {
-        answered!(self, parse_core_module, ())
+        noted!(self, parse_core_module, Ok(()))
     }
 }

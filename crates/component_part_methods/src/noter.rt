@@ -109,24 +109,14 @@ impl<K> AnswerVisits for Noter<K> {
 impl<K> AnswerComponentVisits for Noter<K> {}
 
 /// Notes a method, and answers with this.
-macro_rules! answered {
-    ($noter:ident, $method:ident, $answer:expr) => {{
-        $noter.note(stringify!($method));
-        Ok($answer)
-    }};
-}
-
-pub(crate) use answered;
-
-/// Notes a method that refuses nothing, and answers with this.
-macro_rules! given {
+macro_rules! noted {
     ($noter:ident, $method:ident, $answer:expr) => {{
         $noter.note(stringify!($method));
         $answer
     }};
 }
 
-pub(crate) use given;
+pub(crate) use noted;
 
 /// The line of a call: what the method asks, and what its function asks. What is mapped is given twice, by parameters: a
 /// function that makes what it hands over costs its check more than twice as much.

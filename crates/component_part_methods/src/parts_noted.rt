@@ -1,5 +1,5 @@
 //! The kind in which components, rows, aliases and types with others inside ask.
-use crate::noter::{Made, Noter, Notes, answered, given};
+use crate::noter::{Made, Noter, Notes, noted};
 use reencode_component::{ReencodeComponent, ReencodeComponentItems};
 use std::alloc::Global;
 use wasm_read_component as r;
@@ -12,26 +12,26 @@ pub struct PartsNoted;
 
 impl ReencodeComponentItems for Noter<PartsNoted> {
     fn component_external_index(&mut self, _kind: r::ComponentExternalKind, index: u32) -> u32 {
-        given!(self, component_external_index, index)
+        noted!(self, component_external_index, index)
     }
 
     fn component_primitive_val_type(&mut self, ty: r::PrimitiveValType) -> w::PrimitiveValType {
-        given!(self, component_primitive_val_type, ty)
+        noted!(self, component_primitive_val_type, ty)
     }
 
     fn component_export_kind(&mut self, ty: r::ComponentExternalKind) -> w::ComponentExportKind {
-        given!(self, component_export_kind, ty)
+        noted!(self, component_export_kind, ty)
     }
 
     fn component_outer_alias_kind(
         &mut self,
         kind: r::ComponentOuterAliasKind,
     ) -> w::ComponentOuterAliasKind {
-        given!(self, component_outer_alias_kind, kind)
+        noted!(self, component_outer_alias_kind, kind)
     }
 
     fn component_val_type(&mut self, ty: r::ComponentValType) -> w::ComponentValType {
-        given!(self, component_val_type, ty)
+        noted!(self, component_val_type, ty)
     }
 
     fn type_bounds(&mut self, ty: r::TypeBounds) -> w::TypeBounds {
@@ -39,11 +39,11 @@ impl ReencodeComponentItems for Noter<PartsNoted> {
     }
 
     fn component_type_ref(&mut self, ty: r::ComponentTypeRef) -> Made<w::ComponentTypeRef> {
-        answered!(self, component_type_ref, ty)
+        noted!(self, component_type_ref, Ok(ty))
     }
 
     fn canonical_option(&mut self, ty: r::CanonicalOption) -> Made<w::CanonicalOption> {
-        answered!(self, canonical_option, ty)
+        noted!(self, canonical_option, Ok(ty))
     }
 }
 
@@ -54,7 +54,7 @@ impl ReencodeComponent for Noter<PartsNoted> {
         _imports: &mut w::ComponentImportSection,
         _section: r::ComponentImportSectionReader<'_>,
     ) -> Made<()> {
-        answered!(self, parse_component_import_section, ())
+        noted!(self, parse_component_import_section, Ok(()))
     }
 
     fn parse_component_alias_section(
@@ -63,7 +63,7 @@ impl ReencodeComponent for Noter<PartsNoted> {
         _aliases: &mut w::ComponentAliasSection,
         _section: r::ComponentAliasSectionReader<'_>,
     ) -> Made<()> {
-        answered!(self, parse_component_alias_section, ())
+        noted!(self, parse_component_alias_section, Ok(()))
     }
 
     fn parse_component_export_section(
@@ -72,7 +72,7 @@ impl ReencodeComponent for Noter<PartsNoted> {
         _exports: &mut w::ComponentExportSection,
         _section: r::ComponentExportSectionReader<'_>,
     ) -> Made<()> {
-        answered!(self, parse_component_export_section, ())
+        noted!(self, parse_component_export_section, Ok(()))
     }
 
     fn parse_component_canonical_section(
@@ -81,7 +81,7 @@ impl ReencodeComponent for Noter<PartsNoted> {
         _canonical: &mut w::CanonicalFunctionSection,
         _section: r::ComponentCanonicalSectionReader<'_>,
     ) -> Made<()> {
-        answered!(self, parse_component_canonical_section, ())
+        noted!(self, parse_component_canonical_section, Ok(()))
     }
 
     fn parse_component_instance_section(
@@ -90,7 +90,7 @@ impl ReencodeComponent for Noter<PartsNoted> {
         _instances: &mut w::ComponentInstanceSection,
         _section: r::ComponentInstanceSectionReader<'_>,
     ) -> Made<()> {
-        answered!(self, parse_component_instance_section, ())
+        noted!(self, parse_component_instance_section, Ok(()))
     }
 
     fn parse_instance_section(
@@ -99,7 +99,7 @@ impl ReencodeComponent for Noter<PartsNoted> {
         _instances: &mut w::InstanceSection,
         _section: r::InstanceSectionReader<'_>,
     ) -> Made<()> {
-        answered!(self, parse_instance_section, ())
+        noted!(self, parse_instance_section, Ok(()))
     }
 
     fn parse_core_type_section(
@@ -108,7 +108,7 @@ impl ReencodeComponent for Noter<PartsNoted> {
         _types: &mut w::CoreTypeSection,
         _section: r::CoreTypeSectionReader<'_>,
     ) -> Made<()> {
-        answered!(self, parse_core_type_section, ())
+        noted!(self, parse_core_type_section, Ok(()))
     }
 
     fn parse_component_start_section(
@@ -117,7 +117,7 @@ impl ReencodeComponent for Noter<PartsNoted> {
         _component: &mut w::Component,
         _func: r::ComponentStartFunction,
     ) -> Made<()> {
-        answered!(self, parse_component_start_section, ())
+        noted!(self, parse_component_start_section, Ok(()))
     }
 
     fn parse_unknown_component_section(
@@ -126,7 +126,7 @@ impl ReencodeComponent for Noter<PartsNoted> {
         _id: u8,
         _contents: &[u8],
     ) -> Made<()> {
-        answered!(self, parse_unknown_component_section, ())
+        noted!(self, parse_unknown_component_section, Ok(()))
     }
 
     fn component_module_type(
@@ -134,6 +134,6 @@ impl ReencodeComponent for Noter<PartsNoted> {
         alloc: Global,
         _ty: r::ModuleDeclarations<'_>,
     ) -> Made<w::ModuleType> {
-        answered!(self, component_module_type, RowSection::new(alloc))
+        noted!(self, component_module_type, Ok(RowSection::new(alloc)))
     }
 }

@@ -1,6 +1,6 @@
 //! The kind in which sections, module types, types of values and what a type may be ask.
 use crate::core_methods::group;
-use crate::noter::{Made, Noter, Notes, UNASKED, answered, given};
+use crate::noter::{Made, Noter, Notes, UNASKED, noted};
 use reencode_component::{ReencodeComponent, ReencodeComponentItems};
 use std::alloc::Global;
 use wasm_leb::List;
@@ -13,22 +13,22 @@ pub struct RowsNoted;
 
 impl ReencodeComponentItems for Noter<RowsNoted> {
     fn component_primitive_val_type(&mut self, ty: r::PrimitiveValType) -> w::PrimitiveValType {
-        given!(self, component_primitive_val_type, ty)
+        noted!(self, component_primitive_val_type, ty)
     }
 
     fn component_type_ref(&mut self, ty: r::ComponentTypeRef) -> Made<w::ComponentTypeRef> {
-        answered!(self, component_type_ref, ty)
+        noted!(self, component_type_ref, Ok(ty))
     }
 
     fn component_alias<'a>(&mut self, _alias: r::ComponentAlias<'a>) -> Made<w::Alias<'a>> {
-        answered!(
+        noted!(
             self,
             component_alias,
-            w::Alias::Outer {
+            Ok(w::Alias::Outer {
                 kind: w::ComponentOuterAliasKind::Type_,
                 count: 0,
                 index: 0,
-            }
+            })
         )
     }
 
@@ -58,7 +58,7 @@ impl ReencodeComponent for Noter<RowsNoted> {
         _exports: &mut w::ComponentExportSection,
         _export: r::ComponentExport<'_>,
     ) -> Made<()> {
-        answered!(self, parse_component_export, ())
+        noted!(self, parse_component_export, Ok(()))
     }
 
     fn parse_component_canonical(
@@ -67,7 +67,7 @@ impl ReencodeComponent for Noter<RowsNoted> {
         _section: &mut w::CanonicalFunctionSection,
         _func: r::CanonicalFunction,
     ) -> Made<()> {
-        answered!(self, parse_component_canonical, ())
+        noted!(self, parse_component_canonical, Ok(()))
     }
 
     fn parse_component_instance(
@@ -76,7 +76,7 @@ impl ReencodeComponent for Noter<RowsNoted> {
         _instances: &mut w::ComponentInstanceSection,
         _instance: r::ComponentInstance<'_>,
     ) -> Made<()> {
-        answered!(self, parse_component_instance, ())
+        noted!(self, parse_component_instance, Ok(()))
     }
 
     fn parse_instance(
@@ -85,7 +85,7 @@ impl ReencodeComponent for Noter<RowsNoted> {
         _instances: &mut w::InstanceSection,
         _instance: r::Instance<'_>,
     ) -> Made<()> {
-        answered!(self, parse_instance, ())
+        noted!(self, parse_instance, Ok(()))
     }
 
     fn parse_component_core_type(
@@ -106,7 +106,7 @@ impl ReencodeComponent for Noter<RowsNoted> {
         _module: &mut w::ModuleType,
         _decl: r::ModuleTypeDeclaration<'_>,
     ) -> Made<()> {
-        answered!(self, parse_component_module_type_declaration, ())
+        noted!(self, parse_component_module_type_declaration, Ok(()))
     }
 
     fn parse_component_func_type<'a>(
@@ -114,14 +114,14 @@ impl ReencodeComponent for Noter<RowsNoted> {
         alloc: Global,
         _ty: r::ComponentFuncType<'a>,
     ) -> Made<w::ComponentFuncType<'a>> {
-        answered!(
+        noted!(
             self,
             parse_component_func_type,
-            w::ComponentFuncType {
+            Ok(w::ComponentFuncType {
                 async_: false,
                 params: List::new(alloc),
                 result: None,
-            }
+            })
         )
     }
 
@@ -130,10 +130,10 @@ impl ReencodeComponent for Noter<RowsNoted> {
         alloc: Global,
         _ty: r::ComponentDefinedType<'a>,
     ) -> Made<w::ComponentDefinedType<'a>> {
-        answered!(
+        noted!(
             self,
             parse_component_defined_type,
-            w::ComponentDefinedType::Flags(List::new(alloc))
+            Ok(w::ComponentDefinedType::Flags(List::new(alloc)))
         )
     }
 

@@ -1,5 +1,5 @@
 //! The kind in which types of what is imported or exported ask, and all that asks hooks alone.
-use crate::noter::{Made, Noter, Notes, UNASKED, given};
+use crate::noter::{Made, Noter, Notes, UNASKED, noted};
 use reencode_component::{DefaultComponent, ReencodeComponentItems};
 use wasm_read_component as r;
 use wasm_write_component as w;
@@ -10,11 +10,11 @@ pub struct ValuesNoted;
 
 impl ReencodeComponentItems for Noter<ValuesNoted> {
     fn component_val_type(&mut self, ty: r::ComponentValType) -> w::ComponentValType {
-        given!(self, component_val_type, ty)
+        noted!(self, component_val_type, ty)
     }
 
     fn type_bounds(&mut self, ty: r::TypeBounds) -> w::TypeBounds {
-        given!(self, type_bounds, ty)
+        noted!(self, type_bounds, ty)
     }
 
     fn component_alias<'a>(&mut self, _alias: r::ComponentAlias<'a>) -> Made<w::Alias<'a>> {
