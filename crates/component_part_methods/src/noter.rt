@@ -15,9 +15,6 @@ use wasm_shapes::{Space, Visit};
 
 pub type Made<T> = Result<T, Error<Infallible>>;
 
-/// What a method answers that nothing here asks.
-pub const UNASKED: Error<Infallible> = Error::UnsupportedCoreTypeInComponent;
-
 /// Notes each hook that is asked, and each method that its kind overrides. Hooks answer as the reencoder that changes nothing,
 /// and methods with something of their type.
 #[derive(Drop)]

@@ -34,10 +34,6 @@ impl ReencodeComponentItems for Noter<PartsNoted> {
         noted!(self, component_val_type, ty)
     }
 
-    fn type_bounds(&mut self, ty: r::TypeBounds) -> w::TypeBounds {
-        ty
-    }
-
     fn component_type_ref(&mut self, ty: r::ComponentTypeRef) -> Made<w::ComponentTypeRef> {
         noted!(self, component_type_ref, Ok(ty))
     }

@@ -1,6 +1,6 @@
 //! The kind in which sections, module types, types of values and what a type may be ask.
 use crate::core_methods::group;
-use crate::noter::{Made, Noter, Notes, UNASKED, noted};
+use crate::noter::{Made, Noter, Notes, noted};
 use reencode_component::{ReencodeComponent, ReencodeComponentItems};
 use std::alloc::Global;
 use wasm_leb::List;
@@ -30,25 +30,6 @@ impl ReencodeComponentItems for Noter<RowsNoted> {
                 index: 0,
             })
         )
-    }
-
-    fn component_external_index(&mut self, _kind: r::ComponentExternalKind, index: u32) -> u32 {
-        index
-    }
-
-    fn component_export_kind(&mut self, ty: r::ComponentExternalKind) -> w::ComponentExportKind {
-        ty
-    }
-
-    fn component_outer_alias_kind(
-        &mut self,
-        kind: r::ComponentOuterAliasKind,
-    ) -> w::ComponentOuterAliasKind {
-        kind
-    }
-
-    fn canonical_option(&mut self, _ty: r::CanonicalOption) -> Made<w::CanonicalOption> {
-        Err(UNASKED)
     }
 }
 
@@ -135,23 +116,5 @@ impl ReencodeComponent for Noter<RowsNoted> {
             parse_component_defined_type,
             Ok(w::ComponentDefinedType::Flags(List::new(alloc)))
         )
-    }
-
-    fn parse_component_start_section(
-        &mut self,
-        _alloc: Global,
-        _component: &mut w::Component,
-        _func: r::ComponentStartFunction,
-    ) -> Made<()> {
-        Err(UNASKED)
-    }
-
-    fn parse_unknown_component_section(
-        &mut self,
-        _component: &mut w::Component,
-        _id: u8,
-        _contents: &[u8],
-    ) -> Made<()> {
-        Err(UNASKED)
     }
 }

@@ -1,5 +1,5 @@
 //! The kind in which types of what is imported or exported ask, and all that asks hooks alone.
-use crate::noter::{Made, Noter, Notes, UNASKED, noted};
+use crate::noter::{Noter, Notes, noted};
 use reencode_component::{DefaultComponent, ReencodeComponentItems};
 use wasm_read_component as r;
 use wasm_write_component as w;
@@ -15,10 +15,6 @@ impl ReencodeComponentItems for Noter<ValuesNoted> {
 
     fn type_bounds(&mut self, ty: r::TypeBounds) -> w::TypeBounds {
         noted!(self, type_bounds, ty)
-    }
-
-    fn component_alias<'a>(&mut self, _alias: r::ComponentAlias<'a>) -> Made<w::Alias<'a>> {
-        Err(UNASKED)
     }
 }
 
