@@ -21,13 +21,13 @@ CALLS = ["section_hook", "push", "pop"]
 
 def leb(value, signed, more):
     """A number by its shortest spelling and so many bytes more, of five at most."""
-    out = []
+    out, filler = [], 0x7F if value < 0 else 0
     while True:
         byte, value = value & 0x7F, value >> 7
         out.append(byte)
-        if value == 0 and not (signed and byte & 0x40):
+        if value == 0 and not (signed and byte & 0x40) or signed and value == -1 and byte & 0x40:
             break
-    out += [0] * min(more, 5 - len(out))
+    out += [filler] * min(more, 5 - len(out))
     return bytes([b | 0x80 for b in out[:-1]] + out[-1:])
 
 
