@@ -137,10 +137,9 @@ def real_module(data):
             return super().ask(space, index)
     made = Asked(data, None)
     made.module()
-    spaces = {}
 
     def spell(s):
-        spaces.clear()
+        spaces = {}
         for (space, index), to in s.renames.items():
             spaces.setdefault(space, {})[index] = to
         return data if s.other else reader.normal(data, spaces)[0]
