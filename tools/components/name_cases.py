@@ -43,17 +43,22 @@ def tries(whole):
     return [spelled(whole)] + ([renamed(whole)] if indices_of(whole.asks) else []) + refused(whole)
 
 
-def faults():
+def faults(wrap):
     lines = ["# Names that have no reading: a subsection that ends nowhere or is not filled, fewer or more names than counted, a name that is no text; "
-             "behind other sections, and in a component."]
+             "also behind other sections."]
     front = component(ALIAS, named(MINE, EACH[8]), RAW).spell(Spelling(other=True))
     for contents in ("00", "0080", "0002 01", "0001 01", "0002 00 00", "0000", "0002 01 ff", "0004 03 61 62", "01", "0105 01 01 00 01", "0104 01 01 00 01",
                      "0102 01 01", "0103 01 01 00", "0105 01 02 00 01 66", "0105 01 00 00 01 66", "0106 01 01 00 01 66 00", "0101 01", "0102 0000",
                      "0103 0010 01", "0105 01 01 00 01 ff", "010a 01 01 808080808000 01 66", "0109 01 01 ffffffff1f 01 66", "0105 05 01 00 02 66",
                      "02", "0202 00", "0000 02", "02ffffffff0f"):
-        for section in (custom("component-name", fixed(contents)), nested_component(component(RAW, custom("component-name", fixed(contents))))):
-            lines.append(case([], component(section).spell(Spelling()), "nothing at 8"))
-            lines.append(case([], front + section.spell(Spelling()), f"nothing at {len(front)}"))
+        wrong = wrap(custom("component-name", fixed(contents)))
+        lines += [case([], component(wrong).spell(Spelling()), "nothing at 8"), case([], front + wrong.spell(Spelling()), f"nothing at {len(front)}")]
+    return lines
+
+
+def unnamed():
+    front = component(ALIAS, named(MINE, EACH[8]), RAW).spell(Spelling(other=True))
+    lines = []
     lines.append("# A section with a name that has no name, or one that is no text.")
     lines += [nothing(8, [], framed(0, bytes.fromhex(body))) for body in
               ("", "01", "80", "02 61", "01 ff", "02 c328", "0e 636f6d706f6e656e742d6e616d", "ffffffff0f", "808080808000", "ffffffff1f 61")]
@@ -74,15 +79,24 @@ def cases():
     lines += [spelled(component(named(of_sort(digits)))) for digits, _ in SORTS]
     lines.append("# Subsections that are copied: only their sizes are spelled anew.")
     lines += [spelled(component(named(part))) for part in COPIED]
-    lines.append("# All of these, in any order, repeated; between other sections, and in a component; under a ceiling.")
+    lines.append("# All of these, in any order, repeated; between other sections; under a ceiling.")
     every = [MINE, *EACH, *COPIED]
-    lines += [both(component(named(*every))), both(component(named(*every[::-1], *every))), both(component(ALIAS, named(MINE, EACH[0]), RAW, named(EACH[5], MINE), ALIAS)),
-              both(component(nested_component(component(named(*EACH), ALIAS)), named(MINE, *EACH[::-1]))), both(component(nested_module(core_module(CORE_NAMES)), named(EACH[0])))]
+    lines += [both(component(named(*every))), both(component(named(*every[::-1], *every))), both(component(ALIAS, named(MINE, EACH[0]), RAW, named(EACH[5], MINE), ALIAS))]
     lines += ceilings(component(named(MINE, EACH[8], EACH[0], *COPIED[:3])))
-    lines += refused(component(ALIAS, named(*EACH[:6]), nested_component(component(named(EACH[1])))))
-    lines.append("# Other names: as they are, that of a core module's names too; and in a core module those of a component.")
+    lines += refused(component(ALIAS, named(*EACH[:6])))
+    lines.append("# Other names: as they are, that of a core module's names too.")
     lines += [spelled(component(custom(text, fixed(contents)))) for text in ("", "name", "producers", "component-names", "component-nam", "Component-name", "\u00e9")
               for contents in ("", "0001", "0105 01 01 00 01 66")]
-    lines += [spelled(component(nested_module(core_module(custom("component-name", fixed(contents)))))) for contents in ("", "0001", "0105 01 01 00 01 66")]
     lines += [case(["under=9", "counted"], component(custom("producers", fixed("00"))).spell(Spelling()), "size 11 is too large asked")]
-    return lines + faults()
+    return lines + faults(lambda section: section) + unnamed()
+
+
+def cases_nested():
+    """Those in a component that is nested, and beside core modules."""
+    lines = ["# Names in a component in a component, by tools/component_cases; beside those of a core module; and those of a component in a core "
+             "module, which stay as they are."]
+    lines += [both(component(nested_component(component(named(*EACH), ALIAS)), named(MINE, *EACH[::-1]))),
+              both(component(nested_module(core_module(CORE_NAMES)), named(EACH[0])))]
+    lines += refused(component(ALIAS, nested_component(component(named(EACH[1]))), named(EACH[0])))
+    lines += [spelled(component(nested_module(core_module(custom("component-name", fixed(contents)))))) for contents in ("", "0001", "0105 01 01 00 01 66")]
+    return lines + faults(lambda section: nested_component(component(RAW, section)))

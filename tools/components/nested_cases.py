@@ -39,9 +39,11 @@ CORE_TYPE = section(3, vec(CLOSED_GROUPS[0]))
 RAW = raw(77, "00ff")
 COMPONENTS = [("the header alone", component()),
               ("sections that open no scope", component(ALIAS, LIFT, NAMED, RAW)),
-              ("types, with scopes of their own", component(CORE_TYPE, TYPE)),
               ("core modules and components", component(nested_module(MODULES[1][1]), ALIAS, nested_component(component(nested_module(MODULES[0][1]), LIFT)),
                                                         nested_component(component())))]
+WITH_TYPES = [("types, with scopes of their own", component(CORE_TYPE, TYPE)),
+              ("types in components in it, beside core modules",
+               component(nested_component(component(TYPE, nested_module(MODULES[1][1]), nested_component(component(CORE_TYPE, ALIAS)))), CORE_TYPE))]
 # Written by hand.
 WORKED = """# A core module's header, and a component's, in a component: each with scopes round it, and of the other kind.
 component counted : HEADER 0108 MODULE -> HEADER0108MODULE asked section_hook 1 push 1 pop 1
@@ -68,14 +70,18 @@ def tries(whole):
     return [spelled(whole)] + ([renamed(whole)] if indices_of(whole.asks) else []) + refused(whole) + ceilings(whole)
 
 
-def each():
+def each_of(kind, found):
     lines = []
-    for kind, found in (("A core module", MODULES), ("A component", COMPONENTS)):
-        for text, inner in found:
-            lines.append(f"# {kind} in a component, alone, between other sections, and inside two components more: {text}")
-            lines += tries(component(nested(inner)))
-            lines += [both(component(ALIAS, RAW, nested(inner), LIFT, nested(inner))),
-                      both(component(TYPE, nested_component(component(LIFT, nested_component(component(nested(inner), ALIAS)), RAW))))]
+    for text, inner in found:
+        lines.append(f"# {kind} in a component, alone, between other sections, and inside two components more: {text}")
+        lines += tries(component(nested(inner)))
+        lines += [both(component(ALIAS, RAW, nested(inner), LIFT, nested(inner))),
+                  both(component(NAMED, nested_component(component(LIFT, nested_component(component(nested(inner), ALIAS)), RAW))))]
+    return lines
+
+
+def each():
+    lines = each_of("A core module", MODULES) + each_of("A component", COMPONENTS)
     lines.append("# In any order, repeated.")
     every = [nested(inner) for _, inner in MODULES + COMPONENTS]
     return lines + [both(component(*every, *every[::-1])), both(component(NAMED, *every[::-1], ALIAS))]
@@ -89,15 +95,17 @@ def in_components(depth, row):
     return component(*row)
 
 
+def deepest(text, section_, scopes):
+    """A section that opens so many scopes, as deep as it is read, and one deeper."""
+    return [f"# Behind other sections, in the last of them: {text}", both(in_components(200 - scopes, [ALIAS, section_, LIFT])),
+            nothing_of(in_components(201 - scopes, [ALIAS, section_, LIFT]))]
+
+
 def depths():
-    lines = ["# 200 components within each other in one, and 201. At such a depth: sections that open no scope are read, and no core "
-             "module, component or type with a scope."]
+    lines = ["# 200 components within each other in one, and 201. At such a depth sections that open no scope are read, and no others."]
     lines += [spelled(in_components(200, [])), nothing_of(in_components(201, []))]
-    for text, row in (("a core module", nested_module(MODULES[1][1])), ("a component type", TYPE), ("a module type", section(3, vec(module_type())))):
-        lines.append(f"# Behind other sections, in the last of them: {text}")
-        scopes = sum(what == "push" for what, _ in row.asks) if row is not TYPE else 2
-        lines += [both(in_components(200 - scopes, [ALIAS, row, LIFT])), nothing_of(in_components(201 - scopes, [ALIAS, row, LIFT]))]
-    lines += [both(in_components(200, [ALIAS, CORE_TYPE, section(7, vec(*DEFINED[1][1])), LIFT, RAW]))] + refused(in_components(200, [CORE_TYPE, ALIAS]))
+    lines += deepest("a core module", nested_module(MODULES[1][1]), 1)
+    lines += [both(in_components(200, [ALIAS, LIFT, RAW]))] + refused(in_components(200, [ALIAS]))
     lines.append("# A core module and a component of the other kind, and a size past the end, at the last depth that is read, and one deeper.")
     for number, inner, text in ((1, COMPONENT, NON_CORE), (4, MODULE, NON_COMPONENT), (1, MODULE + bytes.fromhex("0a0901"), CODE_SIZE)):
         for depth, wanted in ((0, text), (1, text), (199, text), (200, "nothing at 8")):
@@ -175,3 +183,13 @@ def cases():
     """The lines."""
     return ["# Core modules and components in a component, by tools/component_cases. The hooks of a core module are called, too; scopes "
             "that are open where one refuses stay open."] + worked(WORKED) + each() + depths() + faults()
+
+
+def cases_with_types():
+    """Those that hold types, too."""
+    lines = ["# Types in components in a component, by tools/component_cases. The scopes of types count with those of components."]
+    lines += each_of("A component", WITH_TYPES) + deepest("a component type with a module type in it", TYPE, 2)
+    lines += deepest("a module type", section(3, vec(module_type())), 1)
+    flat = [CORE_TYPE, section(7, vec(*DEFINED[1][1]))]
+    lines.append("# Types that open no scope, in the last of 200 components.")
+    return lines + [both(in_components(200, [ALIAS, *flat, LIFT, RAW]))] + refused(in_components(200, [*flat, ALIAS]))
