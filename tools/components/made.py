@@ -2,9 +2,12 @@
 aliases of their exports, functions lowered and lifted with a memory and a function for memory, types with instances in them, a
 component for the exports, and names; and one round two of these that gives the one what the other exports. By a random number
 generator they differ from each other. What each part is, is told as fields (fields.py)."""
+import json
 import os
+import random
 import sys
 
+from case_lines import case, words_of
 from fields import *
 
 HERE = os.path.dirname(os.path.abspath(__file__))
@@ -75,20 +78,20 @@ def producers(*tools):
     return custom("producers", fixed(contents.hex()))
 
 
-def main_module(random, imported, exported):
+def main_module(chance, imported, exported):
     """A module that calls each of the functions that it imports, with a memory, and gives functions by these names."""
-    pairs = [random.choice([([I32] * n, [I32] * m) for n in range(4) for m in range(2)]) for _ in range(random.randrange(2, 6))]
+    pairs = [chance.choice([([I32] * n, [I32] * m) for n in range(4) for m in range(2)]) for _ in range(chance.randrange(2, 6))]
     types = [([I32] * 4, [I32]), ([I32], [])] + pairs
     def kind():
-        return random.randrange(len(types))
+        return chance.randrange(len(types))
     functions = [kind() for _ in exported] + [0, 1]
     first = len(imported)
     realloc, post = first + len(exported), first + len(exported) + 1
     bodies = []
     for _ in exported:
-        operators = [core_call(random.randrange(first + len(functions))) for _ in range(random.randrange(1, 4))] if first else []
-        operators += [constant(random.randrange(-70, 9000)), load(0x28, 0, 2, random.randrange(300)), fixed("1a")]
-        bodies.append(body([seq(num(random.randrange(1, 200)), random.choice([I32, I64, F64]))] * random.randrange(3), *operators, fixed("00")))
+        operators = [core_call(chance.randrange(first + len(functions))) for _ in range(chance.randrange(1, 4))] if first else []
+        operators += [constant(chance.randrange(-70, 9000)), load(0x28, 0, 2, chance.randrange(300)), fixed("1a")]
+        bodies.append(body([seq(num(chance.randrange(1, 200)), chance.choice([I32, I64, F64]))] * chance.randrange(3), *operators, fixed("00")))
     bodies += [body([], seq(fixed("23"), ix("global", 0)), fixed("00")), body([])]
     exports = [seq(name("memory"), fixed("02"), ix("memory", 0)), seq(name("cabi_realloc"), fixed("00", "20"), ix("function", realloc))]
     exports += [seq(name(text), fixed("00"), ix("function", first + i)) for i, text in enumerate(exported)]
@@ -104,7 +107,7 @@ def main_module(random, imported, exported):
         core_section(7, vec(*exports)),
         core_section(9, vec(elements(every))),
         core_section(10, vec(*bodies)),
-        core_section(11, vec(segment(0, 1 << 20, bytes(random.randrange(256) for _ in range(random.randrange(40)))))),
+        core_section(11, vec(segment(0, 1 << 20, bytes(chance.randrange(256) for _ in range(chance.randrange(40)))))),
         core_names("main", [(i, text) for i, text in enumerate([text for _, text in imported] + exported)]),
         producers("a-compiler", "a-linker"))
 
@@ -250,19 +253,19 @@ def options(memory, realloc, more):
     return vec(fixed("00"), seq(fixed("03"), ix("memory", memory)), *([seq(fixed("04"), ix("function", realloc))] if realloc is not None else []), *more)
 
 
-def values(random, defined):
+def values(chance, defined):
     """A value type: a primitive one, or one of those defined."""
-    return of_type(random.choice(defined)) if defined and random.random() < 0.5 else fixed(random.choice(PRIMITIVES))
+    return of_type(chance.choice(defined)) if defined and chance.random() < 0.5 else fixed(chance.choice(PRIMITIVES))
 
 
-def defined_type(random, defined):
+def defined_type(chance, defined):
     def some():
-        return values(random, defined)
+        return values(chance, defined)
     def maybe():
-        return seq(fixed("01"), some()) if random.random() < 0.6 else fixed("00")
+        return seq(fixed("01"), some()) if chance.random() < 0.6 else fixed("00")
     def texts():
-        return random.sample(WORDS, random.randrange(1, 6))
-    return random.choice([
+        return chance.sample(WORDS, chance.randrange(1, 6))
+    return chance.choice([
         lambda: seq(fixed("72"), vec(*[seq(name(text), some()) for text in texts()])),
         lambda: seq(fixed("71"), vec(*[seq(name(text), maybe(), fixed("00")) for text in texts()])),
         lambda: seq(fixed("70"), some()),
@@ -274,36 +277,36 @@ def defined_type(random, defined):
         lambda: seq(fixed("66"), maybe())])()
 
 
-def signature(random, defined):
-    result = seq(fixed("00"), values(random, defined)) if random.random() < 0.7 else fixed("0100")
-    return seq(fixed(random.choice(["40", "40", "40", "43"])), vec(*[seq(name(text), values(random, defined)) for text in random.sample(WORDS, random.randrange(4))]), result)
+def signature(chance, defined):
+    result = seq(fixed("00"), values(chance, defined)) if chance.random() < 0.7 else fixed("0100")
+    return seq(fixed(chance.choice(["40", "40", "40", "43"])), vec(*[seq(name(text), values(chance, defined)) for text in chance.sample(WORDS, chance.randrange(4))]), result)
 
 
-def interface(random, functions):
+def interface(chance, functions):
     """The type of an instance: types, each exported by a name as equal to what was defined, a resource, and functions over these."""
     rows, defined, count = [], [], 0
-    for text in random.sample(WORDS, random.randrange(1, 5)):
-        rows += [seq(fixed("01"), defined_type(random, defined)), seq(fixed("04"), extern(text), fixed("0300"), ix("component_type", count))]
+    for text in chance.sample(WORDS, chance.randrange(1, 5)):
+        rows += [seq(fixed("01"), defined_type(chance, defined)), seq(fixed("04"), extern(text), fixed("0300"), ix("component_type", count))]
         defined.append(count + 1)
         count += 2
     resource = count
     rows += [seq(fixed("04"), extern("handle"), fixed("0301")), seq(fixed("01"), fixed("69"), ix("component_type", resource)),
              seq(fixed("01"), fixed("68"), ix("component_type", resource))]
     count += 3
-    if random.random() < 0.5:
+    if chance.random() < 0.5:
         rows += [seq(fixed("02"), fixed("0302"), num(1), ix("component_type", 0)), seq(fixed("04"), extern("outside"), fixed("0300"), ix("component_type", count))]
         count += 2
     for text in functions:
-        rows += [seq(fixed("01"), signature(random, defined + [count - 1])), seq(fixed("04"), extern(text), fixed("01"), ix("component_type", count))]
+        rows += [seq(fixed("01"), signature(chance, defined + [count - 1])), seq(fixed("04"), extern(text), fixed("01"), ix("component_type", count))]
         count += 1
     return seq(fixed("42"), scope(vec(*rows)))
 
 
-def for_exports(random, functions):
+def for_exports(chance, functions):
     """A component that takes functions and exports them by their names, with types."""
     made = Builder()
-    defined = [made.type(defined_type(random, [])) for _ in range(random.randrange(1, 3))]
-    kinds = [made.type(signature(random, defined)) for _ in functions]
+    defined = [made.type(defined_type(chance, [])) for _ in range(chance.randrange(1, 3))]
+    kinds = [made.type(signature(chance, defined)) for _ in functions]
     taken = [made.import_("import-func-" + text, "component_func", seq(fixed("01"), ix("component_type", kind))) for text, kind in zip(functions, kinds)]
     for text, kind, function in zip(functions, kinds, taken):
         made.export(text, 1, function, seq(fixed("01"), ix("component_type", kind)))
@@ -312,15 +315,15 @@ def for_exports(random, functions):
     return made.finish("exports")
 
 
-def single(random, taken, given, text, module=None):
+def single(chance, taken, given, text, module=None):
     """A component that takes an interface of this name and gives one of that name."""
     made = Builder()
-    lowered = random.sample(WORDS, random.randrange(1, 5))
-    exported = random.sample(WORDS, random.randrange(1, 5))
-    plain = made.type(defined_type(random, []))
-    instance = made.import_(taken, "component_instance", seq(fixed("05"), ix("component_type", made.type(interface(random, lowered), "taken"))))
+    lowered = chance.sample(WORDS, chance.randrange(1, 5))
+    exported = chance.sample(WORDS, chance.randrange(1, 5))
+    plain = made.type(defined_type(chance, []))
+    instance = made.import_(taken, "component_instance", seq(fixed("05"), ix("component_type", made.type(interface(chance, lowered), "taken"))))
     imported = [(taken, text) for text in lowered] + [("wasi_snapshot", "fd_write")]
-    main = made.module(module or main_module(random, imported, exported), "main")
+    main = made.module(module or main_module(chance, imported, exported), "main")
     shim, fixing = made.module(shim_module(len(lowered)), "shim"), made.module(fixing_module(len(lowered)), "fixups")
     of_shim = made.core_instance(shim, [], "shim-instance")
     through = [made.core_export(0, of_shim, str(i)) for i in range(len(lowered))]
@@ -329,7 +332,7 @@ def single(random, taken, given, text, module=None):
     memory, realloc = made.core_export(2, of_main, "memory"), made.core_export(0, of_main, "cabi_realloc")
     table = made.core_export(1, of_shim, "$imports")
     functions = [made.export_of_instance(1, instance, text) for text in lowered]
-    opts = [options(memory, realloc if random.random() < 0.7 else None, [fixed("06")] if random.random() < 0.2 else []) for _ in functions]
+    opts = [options(memory, realloc if chance.random() < 0.7 else None, [fixed("06")] if chance.random() < 0.2 else []) for _ in functions]
     direct = [made.lower(f, o) for f, o in zip(functions, opts)]
     handle = made.export_of_instance(3, instance, "handle")
     made.row(8, seq(fixed("03"), ix("component_type", handle)))
@@ -340,29 +343,29 @@ def single(random, taken, given, text, module=None):
     for word in exported:
         core = made.core_export(0, of_main, word)
         after = made.core_export(0, of_main, "cabi_post_" + word)
-        ty = made.type(signature(random, [plain]))
+        ty = made.type(signature(chance, [plain]))
         lifted.append((word, made.lift(core, options(memory, realloc, [seq(fixed("05"), ix("function", after))]), ty)))
-    inner = made.inner(for_exports(random, exported), "exports")
+    inner = made.inner(for_exports(chance, exported), "exports")
     of_inner = made.instance(inner, [("import-func-" + word, 1, f) for word, f in lifted] + [("import-type", 3, plain)], text + "-exports")
     made.export(given, 5, of_inner)
     return made.finish(text)
 
 
-def composed(random, modules=()):
+def composed(chance, modules=()):
     """A component round two others: what the first gives the second takes, and what the first takes is imported."""
-    modules = [random.choice(modules) if modules else None for _ in range(2)]
-    first, second, third = random.sample(PACKAGES, 3)
+    modules = [chance.choice(modules) if modules else None for _ in range(2)]
+    first, second, third = chance.sample(PACKAGES, 3)
     made = Builder()
-    base = made.type(defined_type(random, []))
-    host = made.import_(first, "component_instance", seq(fixed("05"), ix("component_type", made.type(interface(random, WORDS[:3])))))
-    made.import_("log", "component_func", seq(fixed("01"), ix("component_type", made.type(signature(random, [base])))))
-    wasm = [made.inner(single(random, taken, given, text, module), text)
+    base = made.type(defined_type(chance, []))
+    host = made.import_(first, "component_instance", seq(fixed("05"), ix("component_type", made.type(interface(chance, WORDS[:3])))))
+    made.import_("log", "component_func", seq(fixed("01"), ix("component_type", made.type(signature(chance, [base])))))
+    wasm = [made.inner(single(chance, taken, given, text, module), text)
             for taken, given, text, module in ((first, second, "provider", modules[0]), (second, third, "consumer", modules[1]))]
     provider = made.instance(wasm[0], [(first, 5, host)], "provider-instance")
     between = made.export_of_instance(5, provider, second)
     consumer = made.instance(wasm[1], [(second, 5, between), (first, 5, host)], "consumer-instance")
     out = made.export_of_instance(5, consumer, third)
-    made.export(third, 5, out, seq(fixed("05"), ix("component_type", base)) if random.random() < 0.3 else None)
+    made.export(third, 5, out, seq(fixed("05"), ix("component_type", base)) if chance.random() < 0.3 else None)
     made.custom(custom("linking-notes", fixed("00ff01")))
     return made.finish("composed")
 
@@ -370,17 +373,82 @@ def composed(random, modules=()):
 class Mixed(Spelling):
     """Some numbers are longer than they need to be, and some bytes are others that are read as the same."""
 
-    def __init__(self, random):
+    def __init__(self, chance):
         super().__init__(other=True)
-        self.random = random
+        self.chance = chance
 
     def number(self, value, signed=False):
-        return leb(value, signed, self.random.randrange(5) if self.random.random() < 0.3 else 0)
+        return leb(value, signed, self.chance.randrange(5) if self.chance.random() < 0.3 else 0)
 
     def fixed(self, written, read):
-        return read if self.random.random() < 0.5 else written
+        return read if self.chance.random() < 0.5 else written
 
 
-def renaming_of(random, asks):
+def renaming_of(chance, asks):
     """Other indices, shorter and longer ones, for most of what is asked for."""
-    return {ask: random.randrange(1 << random.choice([3, 7, 14, 32])) for ask in indices_of(asks) if random.random() < 0.8}
+    return {ask: chance.randrange(1 << chance.choice([3, 7, 14, 32])) for ask in indices_of(asks) if chance.random() < 0.8}
+
+
+def spaces_of(renames):
+    spaces = {}
+    for (space, index), to in renames.items():
+        spaces.setdefault(space, {})[index] = to
+    return spaces
+
+
+class Component:
+    """A made component with what should come of it."""
+
+    def __init__(self, seed, modules):
+        chance = random.Random(seed)
+        whole = composed(chance, modules)
+        self.name, self.renames, self.asks = f"made-{seed}", renaming_of(chance, whole.asks), whole.asks
+        spelling, renamed = Spelling(), Spelling(renames=self.renames)
+        self.given, self.normal, self.renamed = whole.spell(Mixed(chance)), whole.spell(spelling), whole.spell(renamed)
+        self.asked = counts_of(whole.asks)
+        # The order of what is asked, and the frames, are not known of a module that is read.
+        self.is_known, self.frames = not modules, spelling.frames
+        # What a second renaming makes of what the first answers.
+        self.again = renaming_of(chance, [(space, self.renames.get((space, index), index)) for space, index in indices_of(whole.asks)])
+        both = {ask: self.again.get((ask[0], self.renames.get(ask, ask[1])), self.renames.get(ask, ask[1])) for ask in indices_of(whole.asks)}
+        self.both = whole.spell(Spelling(renames=both))
+        core = [ask for ask in indices_of(whole.asks) if ask[0] in CORE]
+        self.known = core[:chance.randrange(len(core))]
+        self.refused = core[len(self.known)]
+        self.ceiling = chance.choice([size for size, _ in self.frames if size]) - 1
+        self.large, self.before = next(frame for frame in self.frames if frame[0] > self.ceiling)
+
+    def write(self, folder):
+        texts = {"": spaces_of(self.renames), ".strict": {**spaces_of({ask: ask[1] for ask in self.known}), "strict": True}, ".again": spaces_of(self.again)}
+        for ending, data in ((".wasm", self.given), (".normal.wasm", self.normal), (".renamed.wasm", self.renamed),
+                             (".asked", self.asked.encode() + b"\n"), *[(what + ".json", json.dumps(text).encode()) for what, text in texts.items()]):
+            with open(os.path.join(folder, self.name + ending), "wb") as sink:
+                sink.write(data)
+
+    def runs(self, twice):
+        """Words of runs, what is given, and the status, the bytes, the other lines and the message that should come."""
+        file = self.name + ".json"
+        for words, given, wanted in ((["plain"], self.given, self.normal), (["plain"], self.normal, self.normal), (["rename", file], self.given, self.renamed),
+                                     (["plain"], self.renamed, self.renamed)):
+            yield words, given, (0, wanted, [self.asked], "")
+        if self.is_known:
+            yield ["rename", self.name + ".strict.json"], self.given, (6, b"", [], "refused {} {}".format(*self.refused))
+            yield ["-m", str(self.ceiling), "plain"], self.given, (10, b"", [], f"too large: {self.large} over {self.ceiling}")
+        if twice:
+            yield ["twice", file, self.name + ".again.json"], self.given, (0, self.both, [self.asked] * 2, "")
+
+    def cases(self):
+        """Lines of cases."""
+        for renames, wanted in (({}, self.normal), (self.renames, self.renamed)):
+            yield case(words_of(renames) + ["counted"], self.given, f"{wanted.hex()} {self.asked}")
+        if self.is_known:
+            words = ["strict"] + words_of({ask: ask[1] for ask in self.known}) + ["counted"]
+            yield case(words, self.given, "refused {} {} ".format(*self.refused) + counts_of(self.asks[:self.asks.index(self.refused) + 1]))
+            yield case([f"under={self.ceiling}", "counted"], self.given, f"size {self.large} is too large {counts_of(self.asks[:self.before])}")
+
+
+def cases():
+    """The lines."""
+    lines = ["# Components as tools lay them out, by tools/component_cases: a component round two others, with core modules, their instances, lowered "
+             "and lifted functions, types and names."]
+    return lines + [line for seed in range(2) for line in Component(seed, []).cases()]
