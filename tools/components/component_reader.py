@@ -6,11 +6,11 @@ reading of core modules beside it (tools/real_modules/reader.py), which is as in
     component_reader.py COMPONENT...    says of each component whether it can be read, and how it is spelled normally
     component_reader.py --cases         reads each case on standard input, a line of crates/library_cases/stdin that begins with
                                         `component`, and says where what it wants is not what is read; the last line is
-                                        'N cases, M differ'. Of a case with a ceiling, and of one that refuses, what would be refused
-                                        is held alone against what is asked at all, since the order of what is asked is not known here
+                                        'N cases, M differ'
 
 `normal(data, renaming)` gives the component, or core module, in normal spelling, with each index replaced by the renaming, and how
 often what is asked. It raises Fault where there is no reading, with the place of the section and the kind of the fault.
+`outcome(data, renaming, strict, ceiling)` says what comes of it where a renaming is strict or a frame may be too large.
 """
 import os
 import sys
@@ -53,12 +53,87 @@ def is_code_past_its_end(data, place):
         return False
 
 
-class ComponentReader(Reader):
+class Ordered(Reader):
+    """A reader of core modules that keeps what is asked in its order, and the sizes of frames as they close, each with how much
+    was asked before."""
+
+    def __init__(self, data, renaming):
+        super().__init__(data, renaming)
+        self.log, self.frames = [], []
+        self.level, self.marks = 0, []
+
+    def ask(self, space, index):
+        self.log.append((space, index))
+        return super().ask(space, index)
+
+    def call(self, what):
+        self.log.append((what, None))
+        super().call(what)
+
+    def frame(self, read, what):
+        sizes = []
+
+        def kept():
+            out = read()
+            sizes.append(len(out))
+            return out
+        out = super().frame(kept, what)
+        self.frames.append((sizes[0], len(self.log)))
+        return out
+
+    def comp(self):
+        """The type itself is asked first, then the descriptor, then what it describes."""
+        start = len(self.log)
+        out = super().comp()
+        at = 1 if out[0] == 0x65 else 0
+        describes = out[at] == 0x4C
+        if describes:
+            at += 2
+            while out[at - 1] > 127:
+                at += 1
+        inner = start + describes + (out[at] == 0x4D)
+        self.log[start:] = self.log[inner:] + self.log[start + describes:inner] + self.log[start:start + describes]
+        return out
+
+    # The parts of an element segment are noted as they end.
+
+    def noted(self, read):
+        self.level += 1
+        out = read()
+        self.level -= 1
+        if self.level == 0:
+            self.marks.append(len(self.log))
+        return out
+
+    def expr(self):
+        return self.noted(super().expr)
+
+    def ref(self):
+        return self.noted(super().ref)
+
+    def vec(self, read):
+        return self.noted(lambda: super(Ordered, self).vec(read))
+
+    def element(self):
+        """The items are asked first, expressions before their type; then the table, then the place in it."""
+        outer, self.level, self.marks = (self.level, self.marks), 0, []
+        start, flag = len(self.log), self.data[self.at] & 127
+        out = super().element()
+        marks, (self.level, self.marks) = self.marks, outer
+        table = start + (not flag & 1)
+        place = marks.pop(0) if not flag & 1 else table
+        kind = marks.pop(0) if flag in (5, 6, 7) else place
+        self.log[start:] = self.log[kind:] + self.log[place:kind] + self.log[start:table] + self.log[table:place]
+        return out
+
+
+class ComponentReader(Ordered):
     """A reader of a component with so many scopes round it."""
 
     def __init__(self, data, renaming, scopes=0):
         super().__init__(data, renaming)
-        self.scopes = scopes
+        # How much was asked of the sections before the one that is read.
+        self.scopes, self.front = scopes, 0
 
     # Pieces.
 
@@ -86,9 +161,9 @@ class ComponentReader(Reader):
         if self.scopes >= MOST_SCOPES:
             raise Fault("a scope too many")
         self.scopes += 1
-        self.asked["push"] += 1
+        self.call("push")
         out = read()
-        self.asked["pop"] += 1
+        self.call("pop")
         self.scopes -= 1
         return out
 
@@ -186,6 +261,13 @@ class ComponentReader(Reader):
 
     # Functions.
 
+    def behind(self, start, read):
+        """What is read is asked before what was asked since the start."""
+        end = len(self.log)
+        out = read()
+        self.log[start:] = self.log[end:] + self.log[start:end]
+        return out
+
     def option(self):
         kind = self.take(OPTIONS)
         return kind + (self.index(OPTIONS[kind[0]]) if OPTIONS[kind[0]] else b"")
@@ -193,14 +275,19 @@ class ComponentReader(Reader):
     def function(self):
         kind = self.take((0, 1, *CANON))
         if kind == b"\0":
-            return kind + self.take((0,)) + self.index("function") + self.vec(self.option) + self.index(CT)
+            kind += self.take((0,)) + self.index("function")
+            start = len(self.log)
+            kind += self.vec(self.option)
+            return kind + self.behind(start, lambda: self.index(CT))
         if kind == b"\1":
             return kind + self.take((0,)) + self.index(CF) + self.vec(self.option)
+        start = len(self.log)
         for part in CANON[kind[0]]:
             if part == "f":
                 kind += self.take((0, 1))
             elif part == "o":
-                kind += self.vec(self.option)
+                # The options are asked before what stands before them.
+                kind += self.behind(start, lambda: self.vec(self.option))
             elif part == "k":
                 kind += self.val() + self.u()
             elif part == "r":
@@ -252,8 +339,8 @@ class ComponentReader(Reader):
     def nested(self, kind):
         """A core module or a component that fills the frame."""
         body = self.raw(self.end - self.at)
-        inner = Reader(body, self.maps) if kind == 1 else ComponentReader(body, self.maps, self.scopes + 1)
-        inner.asked = self.asked
+        inner = Ordered(body, self.maps) if kind == 1 else ComponentReader(body, self.maps, self.scopes + 1)
+        inner.asked, inner.log, inner.frames = self.asked, self.log, self.frames
 
         def read():
             try:
@@ -282,7 +369,7 @@ class ComponentReader(Reader):
         self.at = 8
         out = bytearray(COMPONENT)
         while self.at < len(self.data):
-            place, self.end = self.at, len(self.data)
+            place, self.end, self.front = self.at, len(self.data), len(self.log)
             try:
                 kind = self.byte()
                 if kind > 127:
@@ -316,6 +403,37 @@ def normal(data, renaming=None):
 
 ORDER = """data element function global memory table tag type data_count component_type component_instance component_func component
 module instance component_value section_hook push pop""".split()
+CORE = ORDER[:8]
+
+
+def counts_of(log):
+    asked = [what for what, _ in log]
+    return " ".join(["asked"] + [f"{what} {asked.count(what)}" for what in ORDER if what in asked])
+
+
+def refusal(reader, renaming, strict, ceiling):
+    """The first index that is refused, or frame that is too large: how much was asked until then, and what is said."""
+    found = [(at, f"refused {space} {index}", at + 1) for at, (space, index) in enumerate(reader.log)
+             if strict and space in CORE and index not in renaming.get(space, {})][:1]
+    found += [(asked - 0.5, f"size {size} is too large", asked) for size, asked in reader.frames if ceiling is not None and size > ceiling][:1]
+    return min(found) if found else None
+
+
+def outcome(data, renaming, strict=False, ceiling=None):
+    """What comes of a component: what is said and what was asked until then, each such pair that may come. Where a section has no
+    reading it is left open what is asked of it."""
+    reader = ComponentReader(data, renaming)
+    try:
+        said, fault = reader.component().hex(), None
+    except Fault as found:
+        fault = found
+        said = SAID.get(kind_of(fault, data, False), f"nothing at {fault.place}")
+    first = refusal(reader, renaming, strict, ceiling)
+    if first and (fault is None or first[0] < reader.front):
+        return [(first[1], reader.log[:first[2]])]
+    if fault is None:
+        return [(said, reader.log)]
+    return [(said, None)] + ([(first[1], reader.log[:first[2]])] if first else [])
 
 
 def wanted_of(line):
@@ -326,9 +444,9 @@ def wanted_of(line):
 
 
 def holds(line):
-    """Whether a case wants what is read, or what is wrong with it."""
+    """Whether a case wants what is read, or what would be."""
     words, data, wanted = wanted_of(line)
-    renaming, strict, ceiling = {}, "strict" in words, None
+    renaming, ceiling = {}, None
     for word in words:
         key, _, to = word.partition("=")
         space, _, index = key.partition(".")
@@ -336,20 +454,12 @@ def holds(line):
             renaming.setdefault(space, {})[int(index)] = int(to)
         elif key == "under":
             ceiling = int(to)
-    reader = ComponentReader(data, renaming)
-    try:
-        made = reader.component()
-    except Fault as fault:
-        fault.kind = kind_of(fault, data, False)
-        said = SAID.get(getattr(fault, "kind", None), f"nothing at {fault.place}")
-        fits = wanted == said or wanted.startswith(said + " asked") or strict and wanted.startswith("refused ") or ceiling is not None and wanted.startswith("size ")
-        return None if fits else said
-    if ceiling is not None and wanted.startswith("size ") or strict and wanted.startswith("refused "):
-        words = wanted.split()
-        return None if words[0] == "size" or reader.asked.get(words[1]) else "nothing of the kind"
-    asked = " ".join(["asked"] + [f"{what} {reader.asked[what]}" for what in ORDER if reader.asked[what]])
-    said = made.hex() + (" " + asked if "counted" in words else "")
-    return None if said == wanted else said
+    found = outcome(data, renaming, "strict" in words, ceiling)
+    for said, log in found:
+        if log is None and (wanted == said or wanted.startswith(said + " asked")) or log is not None and wanted == (f"{said} {counts_of(log)}" if "counted" in words else said):
+            return None
+    said, log = found[0]
+    return said if log is None else f"{said} {counts_of(log)}"
 
 
 def main():
