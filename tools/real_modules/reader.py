@@ -184,6 +184,10 @@ class Reader:
         self.asked[space] += 1
         return self.maps.get(space, {}).get(index, index)
 
+    def call(self, what):
+        """What is called without an index."""
+        self.asked[what] += 1
+
     def index(self, space):
         return leb(self.ask(space, self.number(what=space + " index")))
 
@@ -563,12 +567,12 @@ class Reader:
                 if kind > 127:
                     raise Fault("no section id")
                 if 0 < kind < 14:
-                    self.asked["section_hook"] += 1
+                    self.call("section_hook")
                 out += bytes([kind]) + self.frame(lambda: self.content(kind), f"section {kind}")
             except Fault as fault:
                 fault.place = place
                 raise
-        self.asked["section_hook"] += 1
+        self.call("section_hook")
         return bytes(out)
 
 
