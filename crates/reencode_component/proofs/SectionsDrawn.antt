@@ -42,7 +42,6 @@ body_drawn (suc (suc (suc (suc (suc (suc (suc (suc (suc (suc zero)))))))))) h k 
 body_drawn (suc (suc (suc (suc (suc (suc (suc (suc (suc (suc (suc zero))))))))))) h k u x d s nested = rows_drawn 11 table.component_export_row refl u x d s
 body_drawn (suc (suc (suc (suc (suc (suc (suc (suc (suc (suc (suc (suc n)))))))))))) h k u x d s nested = absurd (omega (arith, h))
 
-
 -- what stands in the scope of a nested section
 inner_drawn : {id : ℕ} {u : Tree} {x : List ℕ} (k : ℕ) (v : Tree) → component_section_tree id u ≡ nested_tree k v → Drawn x (visits v) → Drawn x (visits u)
 inner_drawn {id = id} {u = u} {x = x} k v e d =
