@@ -270,7 +270,7 @@ fn starts(rt: HostRuntime) -> Result<(), Fault> {
 #[test]
 fn payloads(rt: HostRuntime) -> Result<(), Fault> {
     let mut payloads = ComponentPayloads::new(&[
-        0x00, 0x61, 0x73, 0x6d, 0x0d, 0x00, 0x01, 0x00, 8, 2, 1, 0x05, 13, 1, 0x63,
+        0x00, 0x61, 0x73, 0x6d, 0x0d, 0x00, 0x01, 0x00, 8, 2, 1, 0x05, 13, 1, 0x63, 1, 1, 0x02, 4, 0,
     ])?;
     let section = ComponentPayload::Section {
         id: 8,
@@ -284,8 +284,15 @@ fn payloads(rt: HostRuntime) -> Result<(), Fault> {
         contents: &[0x63],
     };
     assert_eq!(rt; payloads.next(), Ok(Some(unknown)));
+    let module = ComponentPayload::Module {
+        at: 15,
+        bytes: &[0x02],
+    };
+    assert_eq!(rt; payloads.next(), Ok(Some(module)));
+    let component = ComponentPayload::Component { at: 18, bytes: &[] };
+    assert_eq!(rt; payloads.next(), Ok(Some(component)));
     assert_eq!(rt; payloads.next(), Ok(None));
-    for id in [0u8, 1, 3, 4, 7, 128] {
+    for id in [0u8, 3, 7, 128] {
         let bytes = [0x00, 0x61, 0x73, 0x6d, 0x0d, 0x00, 0x01, 0x00, id, 1, 0];
         let mut payloads = ComponentPayloads::new(&bytes)?;
         assert_eq!(rt;

@@ -163,8 +163,11 @@ module _ (depth : ℕ) {id : ℕ} {row : Shape} (kind : FlatRows id row) (body :
       record {
         framed = InComponentFrame.of_id id (Tree.vec rows) body kind.low kind.high (subst P (sym kind.are_rows) spelled);
         shallow = let none : opens rows ≡ 0 = (unscoped_is r.shaped kind.flat).opens in record { most = omega (arith, none, deep) };
-        in_force = kind.known;
+        in_force = (kind.known, λ q. absurd (no_component q));
       }
+    where
+      no_component : id ≡ 4 → ⊥
+      no_component q = let rows : component_body_of 4 ≡ Shape.vec row = sym (ap component_body_of q) ∙ kind.are_rows in cc
 
   -- no nested section stands there
   unnested_rows : (room : ℕ) (x : Fault) → NestedFault depth room (numbered_frame id body) x → ⊥

@@ -3,15 +3,10 @@ use Rattle.std.proofs.Common.{◌≡◌, ◌≢◌, ◌-◌, ◌≤◌, zero, su
 use Rattle.wasm_leb.specs.declared.fault.Fault.{Fault}
 use Rattle.wasm_leb.specs.declared.fault.Fault.TheVariants as fault
 use Rattle.wasm_leb.specs.declared.fault.Kind.TheVariants as kinds
-use Rattle.wasm_shapes.specs.Component as table
-use Rattle.wasm_shapes.specs.ComponentReadings.{InComponentFrame}
-use Rattle.wasm_shapes.specs.Drawn.{Drawn, IsItem}
 use Rattle.wasm_shapes.specs.Module.{frame}
 use Rattle.wasm_shapes.specs.Place.{Begins}
-use Rattle.wasm_shapes.specs.Shape.{Shape}
-use Rattle.wasm_shapes.specs.Spells.{Is, Spelled}
 use Rattle.wasm_shapes.specs.Tree.{Tree, visits}
-use Rattle.wasm_shapes.proofs.Drawn.{drawn_behind, drawn_item, drawn_none}
+use Rattle.wasm_shapes.proofs.Drawn.{drawn_none}
 use Rattle.wasm_read.specs.Frames as read
 use Rattle.wasm_read.specs.Frames.{sections_place}
 use Rattle.wasm_read_component.specs.declared.types.ComponentPayload.{ComponentPayload}
@@ -19,7 +14,7 @@ use Rattle.wasm_read_component.specs.declared.types.ComponentPayload.TheVariants
 use Rattle.wasm_read_component.specs.ComponentPayloads.{component_frame_tree, component_payload_at, has_frame, ComponentHeaderRead, IsGiven, NoComponentFrame, NoComponentHeader}
 use Rattle.wasm_write.specs.Sections.{Sections}
 use Rattle.reencode_hooks.specs.declared.error.Error.{Error}
-use Rattle.reencode_hooks.specs.declared.error.Error.TheVariants.{ParseError, InvalidCodeSectionSize, NoMemory}
+use Rattle.reencode_hooks.specs.declared.error.Error.TheVariants.{InvalidCodeSectionSize, UnexpectedNonCoreModuleSection, UnexpectedNonComponentSection, ParseError, NoMemory}
 use Rattle.reencode_hooks.specs.declared.indices.ReencodeIndices.{Ghosts}
 use Rattle.reencode_hooks.specs.Errors.{error_of_fault}
 use Rattle.reencode_core.specs.Clauses.{asks}
@@ -28,42 +23,13 @@ use Rattle.reencode_core.specs.Sections.{KeepsModule}
 use Rattle.reencode_core.proofs.Known.{keeps_more, keeps_same}
 use Rattle.reencode_core.proofs.Made.{ended_all, fault_unasked, front_none}
 use Rattle.reencode_core.proofs.OneRow.{answers}
-use Rattle.reencode_core.proofs.RowsMade.{drawn_rows}
-use Rattle.reencode_core.proofs.SectionMade.{numbered_drawn}
-use Rattle.reencode_component.specs.Components.{IsInForce, ReadsSection}
+use Rattle.reencode_component.specs.Components.{ReadsSection}
 use Rattle.reencode_component.specs.Causes.{IfFault, inside, own_inside}
 use Rattle.reencode_component.specs.Gives.{GivesSectionBy}
 use Rattle.reencode_component.specs.ComponentLeaves.{ComponentUpTo, NoComponentHeading, section_in}
 use Rattle.reencode_component.specs.ComponentClauses.{ComponentClauses, FrameClauses, PayloadClauses}
 use Rattle.reencode_component.proofs.ComponentLoop.{ComponentDone, component_begin, component_end, component_held, component_more, component_refused, component_refused_leaves, component_unframed, component_unframed_leaves, header_wrong, no_header}
-
--- ---- what a section asks is drawn from its frame
-
-rows_drawn : (id : ℕ) (row : Shape) → table.component_body_of id ≡ Shape.vec row → (u : Tree) (x : List ℕ) → Is (Shape.vec row) u → Spelled u x → Drawn x (visits u)
-rows_drawn id row e u x (Is.vec {t = v} d) s = drawn_behind s.0 s.1 s.2 (drawn_rows (IsItem.component_row id row e) v s.1 d s.4)
-
-body_drawn : (id : ℕ) → id ≤ 11 → has_frame id ≡ true → (u : Tree) (x : List ℕ) → Is (table.component_body_of id) u → Spelled u x → Drawn x (visits u)
-body_drawn zero h k u x d s = absurd cc
-body_drawn (suc zero) h k u x d s = absurd cc
-body_drawn (suc (suc zero)) h k u x d s = rows_drawn 2 table.instance_row refl u x d s
-body_drawn (suc (suc (suc zero))) h k u x d s = rows_drawn 3 table.core_type refl u x d s
-body_drawn (suc (suc (suc (suc zero)))) h k u x d s = absurd cc
-body_drawn (suc (suc (suc (suc (suc zero))))) h k u x d s = rows_drawn 5 table.component_instance_row refl u x d s
-body_drawn (suc (suc (suc (suc (suc (suc zero)))))) h k u x d s = rows_drawn 6 table.alias refl u x d s
-body_drawn (suc (suc (suc (suc (suc (suc (suc zero))))))) h k u x d s = rows_drawn 7 table.component_type refl u x d s
-body_drawn (suc (suc (suc (suc (suc (suc (suc (suc zero)))))))) h k u x d s = rows_drawn 8 table.canonical_function refl u x d s
-body_drawn (suc (suc (suc (suc (suc (suc (suc (suc (suc zero))))))))) h k u x d s = drawn_item IsItem.component_start (record { shaped = d; spelled = s })
-body_drawn (suc (suc (suc (suc (suc (suc (suc (suc (suc (suc zero)))))))))) h k u x d s = rows_drawn 10 table.extern_row refl u x d s
-body_drawn (suc (suc (suc (suc (suc (suc (suc (suc (suc (suc (suc zero))))))))))) h k u x d s = rows_drawn 11 table.component_export_row refl u x d s
-body_drawn (suc (suc (suc (suc (suc (suc (suc (suc (suc (suc (suc (suc n)))))))))))) h k u x d s = absurd (omega (arith, h))
-
-section_drawn : {depth : ℕ} {f t : Tree} {bytes left : List ℕ} → Begins frame bytes f left → ReadsSection depth f t → Drawn bytes (visits t)
-section_drawn {f = f} {t = t} {bytes = bytes} {left = left} there r = go t f r.framed r.in_force there
-  where
-    go : (t f : Tree) → InComponentFrame t f → IsInForce t → Begins frame bytes f left → Drawn bytes (visits t)
-    go t f (InComponentFrame.of_id id u body low high p) k there = numbered_drawn there (body_drawn id high k u body p.shaped p.spelled)
-    go t f (InComponentFrame.of_custom name contents u p) k there = absurd cc
-    go t f (InComponentFrame.of_unknown id contents low high) k there = drawn_none
+use Rattle.reencode_component.proofs.SectionsDrawn.{section_drawn}
 
 -- ---- the loop
 
@@ -79,14 +45,16 @@ given_framed : {S E : Type 0} (i : Ghosts S E) (depth : ℕ) (p : ComponentPaylo
 given_framed i depth (payload.Section id at body) g c = c
 given_framed i depth (payload.Unknown at id contents) g c = c
 given_framed i depth (payload.Core id) g c = absurd g
-given_framed i depth (payload.Module at bytes) g c = absurd g
-given_framed i depth (payload.Component at bytes) g c = absurd g
+given_framed i depth (payload.Module at bytes) g c = c
+given_framed i depth (payload.Component at bytes) g c = c
 given_framed i depth (payload.Custom at section) g c = absurd g
 
 -- an error of the bytes leaves no reading of the section
 tells_none_read : {E : Type 0} (P : Fault → Type 0) {none : Type 0} (e : Error E) → IfFault e (λ x. none × P x) → TellsFault e → none
 tells_none_read P (ParseError x) h q = h.0
 tells_none_read P InvalidCodeSectionSize h q = h.0
+tells_none_read P UnexpectedNonCoreModuleSection h q = h.0
+tells_none_read P UnexpectedNonComponentSection h q = h.0
 tells_none_read P _ h q = absurd q
 
 module _ {S E : Type 0} (i : Ghosts S E) (depth : ℕ) where

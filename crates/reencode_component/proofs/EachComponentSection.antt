@@ -71,7 +71,7 @@ export_rows = record { are_rows = refl; known = refl; low = lit≤ tt; high = li
 
 -- ---- the same error at another place
 
-leaves_placed : {S E : Type 0} {asked : Asks S E} (text : Text) {s m : S} (e : Error E) (at : ℕ) → Leaves asked text s e m → Leaves asked text s (placed_at e at) m
+pub leaves_placed : {S E : Type 0} {asked : Asks S E} (text : Text) {s m : S} (e : Error E) (at : ℕ) → Leaves asked text s e m → Leaves asked text s (placed_at e at) m
 leaves_placed {E = E} text e at l = record {
   made = l.made;
   ended = ended_placed e at l.ended;
@@ -205,7 +205,7 @@ module _ {S E : Type 0} (i : Ghosts S E) (depth : ℕ) (deep : depth ≤ 200) (i
       reads = record {
         framed = InComponentFrame.of_unknown id contents low high;
         shallow = let most : opens (table.unknown_component_tree id contents) + depth ≤ 200 = omega (arith, deep) in record { most = most };
-        in_force = refl;
+        in_force = (refl, λ q. absurd cc);
       }
 
       is : (u f : Tree) → InComponentFrame u f → f ≡ numbered_frame id contents → u ≡ table.unknown_component_tree id contents
@@ -218,7 +218,7 @@ module _ {S E : Type 0} (i : Ghosts S E) (depth : ℕ) (deep : depth ≤ 200) (i
 
 -- ---- a section that is not read
 
-module _ {S E : Type 0} (i : Ghosts S E) (depth : ℕ) (f : Tree) (none : (t : Tree) → ReadsSection depth f t → ⊥) (unnested : (room : ℕ) (x : Fault) → NestedFault depth room f x → ⊥)
+module _ {S E : Type 0} (i : Ghosts S E) (depth : ℕ) (f : Tree) (none : (t : Tree) → ReadsSection depth f t → ⊥) (unnested : (x : Fault) → NestedFault depth (room depth) f x → ⊥)
     (unknown : (t : Tree) (rest : List ℕ) → SectionUpTo f t rest → ⊥) (at : ℕ) (s : S) (old : Sections) where
   pub not_read : FrameClauses i depth f at s old s old (Err (ParseError (record { at = at })))
   not_read = record {
@@ -226,7 +226,7 @@ module _ {S E : Type 0} (i : Ghosts S E) (depth : ℕ) (f : Tree) (none : (t : T
     default = λ k. record {
       reading = λ t r. absurd (none t r);
       readable = tt;
-      unreadable = (none, (refl, λ y handed q. unnested (room depth) y q));
+      unreadable = (none, (refl, λ y handed q. unnested y q));
       refusal = tt;
       unchanged = refl;
     };
@@ -239,17 +239,31 @@ module _ {S E : Type 0} (i : Ghosts S E) (depth : ℕ) (f : Tree) (none : (t : T
     };
   }
 
+-- memory ran out before anything was asked
+pub frame_wanted : {S E : Type 0} (i : Ghosts S E) (depth : ℕ) (f : Tree) (at : ℕ) (s : S) (old : Sections) → FrameClauses i depth f at s old s old (Err NoMemory)
+frame_wanted i depth f at s old = record {
+  kept = keeps_same old;
+  default = λ k. record { reading = λ t r other. absurd (other refl); readable = tt; unreadable = tt; refusal = tt; unchanged = refl };
+  after_error = λ k told size. record {
+    made = [];
+    ended = ended_all {a = []} NoMemory tt refl;
+    drawn = drawn_none;
+    reading = λ t r. front_none (visits t);
+    fault = λ never t rest x. inl ((λ h. h), front_none (visits t));
+  };
+}
+
 module _ {S E : Type 0} (i : Ghosts S E) (depth : ℕ) (at : ℕ) (s : S) (old : Sections) where
   -- of an id that is not in force
   pub number_not_read : (id : ℕ) (body : List ℕ) → (has_frame id ≡ true → ⊥) → FrameClauses i depth (numbered_frame id body) at s old s old (Err (ParseError (record { at = at })))
   number_not_read id body off =
-      not_read i depth (numbered_frame id body) (λ t r. none t (numbered_frame id body) r.framed r.in_force refl) unnested (λ t rest x. up_to (numbered_frame id body) t rest x refl) at s old
+      not_read i depth (numbered_frame id body) (λ t r. none t (numbered_frame id body) r.framed r.in_force refl) (unnested (room depth)) (λ t rest x. up_to (numbered_frame id body) t rest x refl) at s old
     where
       never : {n : ℕ} → n ≡ id → has_frame n ≡ true → ⊥
       never {n = n} e k = let P : ℕ → Type 0 = λ z. has_frame z ≡ true in off (subst P e k)
 
       none : (t f : Tree) → InComponentFrame t f → IsInForce t → f ≡ numbered_frame id body → ⊥
-      none t f (InComponentFrame.of_id id' v body' low' high' q) k e = let number : id' ≡ id = cc in never number k
+      none t f (InComponentFrame.of_id id' v body' low' high' q) k e = let number : id' ≡ id = cc in never number k.0
       none t f (InComponentFrame.of_custom name contents v q) k e = cc
       none t f (InComponentFrame.of_unknown id' contents' low' high') k e = let number : id' ≡ id = cc in never number (unknown_in_force id' low' high')
 
@@ -264,7 +278,7 @@ module _ {S E : Type 0} (i : Ghosts S E) (depth : ℕ) (at : ℕ) (s : S) (old :
   -- a custom one
   pub custom_not_read : (name contents : List ℕ) → FrameClauses i depth (custom_frame name contents) at s old s old (Err (ParseError (record { at = at })))
   custom_not_read name contents =
-      not_read i depth (custom_frame name contents) (λ t r. none t (custom_frame name contents) r.framed r.in_force refl) unnested (λ t rest x. up_to (custom_frame name contents) t rest x refl) at s old
+      not_read i depth (custom_frame name contents) (λ t r. none t (custom_frame name contents) r.framed r.in_force refl) (unnested (room depth)) (λ t rest x. up_to (custom_frame name contents) t rest x refl) at s old
     where
       none : (t f : Tree) → InComponentFrame t f → IsInForce t → f ≡ custom_frame name contents → ⊥
       none t f (InComponentFrame.of_id id' v body' low' high' q) k e = cc
@@ -292,7 +306,7 @@ module _ {S E : Type 0} (i : Ghosts S E) (depth : ℕ) (deep : depth ≤ 200) (b
   -- none is there
   pub start_unread : ((t : Tree) → Spells table.component_start body t → ⊥) → FrameClauses i depth (numbered_frame 9 body) at s old s old (Err (ParseError (record { at = at })))
   start_unread none =
-      not_read i depth (numbered_frame 9 body) (λ t r. let u = start_is depth body t r in none u.0 u.2) unnested (λ t rest x. up_to (numbered_frame 9 body) t rest x refl) at s old
+      not_read i depth (numbered_frame 9 body) (λ t r. let u = start_is depth body t r in none u.0 u.2) (unnested (room depth)) (λ t rest x. up_to (numbered_frame 9 body) t rest x refl) at s old
     where
       unnested : (room : ℕ) (x : Fault) → NestedFault depth room (numbered_frame 9 body) x → ⊥
       unnested zero x h = h
@@ -304,20 +318,6 @@ module _ {S E : Type 0} (i : Ghosts S E) (depth : ℕ) (deep : depth ≤ 200) (b
       up_to f t rest (SectionUpTo.rows id' body' row reader u rest' e there r) q =
           let number : id' ≡ 9 = cc in let start : table.component_start ≡ Shape.vec row = sym (ap table.component_body_of number) ∙ e.body in cc
 
-  -- memory ran out while it was read
-  pub start_wanted : FrameClauses i depth (numbered_frame 9 body) at s old s old (Err NoMemory)
-  start_wanted = record {
-    kept = keeps_same old;
-    default = λ k. record { reading = λ t r other. absurd (other refl); readable = tt; unreadable = tt; refusal = tt; unchanged = refl };
-    after_error = λ k told size. record {
-      made = [];
-      ended = ended_all {a = []} NoMemory tt refl;
-      drawn = drawn_none;
-      reading = λ t r. front_none (visits t);
-      fault = λ never t rest x. inl ((λ h. h), front_none (visits t));
-    };
-  }
-
   -- it was mapped
   pub start_added : (f : ComponentStartFunction) → Spells table.component_start body (start_tree f) → {m : S} {new : Sections} (r : Result (Unit {0}) (Error E)) →
       AddedClauses i 9 (table.component_section_tree 9 (start_tree f)) s old m new r → FrameClauses i depth (numbered_frame 9 body) at s old m new r
@@ -327,7 +327,7 @@ module _ {S E : Type 0} (i : Ghosts S E) (depth : ℕ) (deep : depth ≤ 200) (b
       reads = record {
         framed = InComponentFrame.of_id 9 (start_tree f) body (lit≤ tt) (lit≤ tt) p;
         shallow = let none : opens (start_tree f) ≡ 0 = (unscoped_is p.shaped refl).opens in record { most = omega (arith, none, deep) };
-        in_force = refl;
+        in_force = (refl, λ q. absurd cc);
       }
 
       one : (u : Tree) → ReadsSection depth (numbered_frame 9 body) u → u ≡ table.component_section_tree 9 (start_tree f)
@@ -336,23 +336,23 @@ module _ {S E : Type 0} (i : Ghosts S E) (depth : ℕ) (deep : depth ≤ 200) (b
 
 -- ---- ids that are not in force
 
-pub low_off : (id : ℕ) → id < 12 → id ≢ 2 → id ≢ 5 → id ≢ 6 → id ≢ 8 → id ≢ 9 → id ≢ 10 → id ≢ 11 → has_frame id ≡ true → ⊥
-low_off zero h a b c d e f g k = cc
-low_off (suc zero) h a b c d e f g k = cc
-low_off (suc (suc zero)) h a b c d e f g k = a refl
-low_off (suc (suc (suc zero))) h a b c d e f g k = cc
-low_off (suc (suc (suc (suc zero)))) h a b c d e f g k = cc
-low_off (suc (suc (suc (suc (suc zero))))) h a b c d e f g k = b refl
-low_off (suc (suc (suc (suc (suc (suc zero)))))) h a b c d e f g k = c refl
-low_off (suc (suc (suc (suc (suc (suc (suc zero))))))) h a b c d e f g k = cc
-low_off (suc (suc (suc (suc (suc (suc (suc (suc zero)))))))) h a b c d e f g k = d refl
-low_off (suc (suc (suc (suc (suc (suc (suc (suc (suc zero))))))))) h a b c d e f g k = e refl
-low_off (suc (suc (suc (suc (suc (suc (suc (suc (suc (suc zero)))))))))) h a b c d e f g k = f refl
-low_off (suc (suc (suc (suc (suc (suc (suc (suc (suc (suc (suc zero))))))))))) h a b c d e f g k = g refl
-low_off (suc (suc (suc (suc (suc (suc (suc (suc (suc (suc (suc (suc n)))))))))))) h a b c d e f g k = omega (arith, h)
+pub low_off : (id : ℕ) → id < 12 → id ≢ 1 → id ≢ 4 → id ≢ 2 → id ≢ 5 → id ≢ 6 → id ≢ 8 → id ≢ 9 → id ≢ 10 → id ≢ 11 → has_frame id ≡ true → ⊥
+low_off zero h y z a b c d e f g k = cc
+low_off (suc zero) h y z a b c d e f g k = y refl
+low_off (suc (suc zero)) h y z a b c d e f g k = a refl
+low_off (suc (suc (suc zero))) h y z a b c d e f g k = cc
+low_off (suc (suc (suc (suc zero)))) h y z a b c d e f g k = z refl
+low_off (suc (suc (suc (suc (suc zero))))) h y z a b c d e f g k = b refl
+low_off (suc (suc (suc (suc (suc (suc zero)))))) h y z a b c d e f g k = c refl
+low_off (suc (suc (suc (suc (suc (suc (suc zero))))))) h y z a b c d e f g k = cc
+low_off (suc (suc (suc (suc (suc (suc (suc (suc zero)))))))) h y z a b c d e f g k = d refl
+low_off (suc (suc (suc (suc (suc (suc (suc (suc (suc zero))))))))) h y z a b c d e f g k = e refl
+low_off (suc (suc (suc (suc (suc (suc (suc (suc (suc (suc zero)))))))))) h y z a b c d e f g k = f refl
+low_off (suc (suc (suc (suc (suc (suc (suc (suc (suc (suc (suc zero))))))))))) h y z a b c d e f g k = g refl
+low_off (suc (suc (suc (suc (suc (suc (suc (suc (suc (suc (suc (suc n)))))))))))) h y z a b c d e f g k = omega (arith, h)
 
 pub high_off : (id : ℕ) → 127 < id → has_frame id ≡ true → ⊥
-high_off id h k = first (either (nat_eq id 2) _ k)
+high_off id h k = module_first (either (nat_eq id 1) _ k)
   where
     last : (nat_le 8 id && nat_le id 127) ≡ true → ⊥
     last q = let most : id ≤ 127 = leb-true _ _ (both (nat_le 8 id) (nat_le id 127) q).1 in omega (arith, h, most)
@@ -365,6 +365,14 @@ high_off id h k = first (either (nat_eq id 2) _ k)
     second (inl q) = let is : id ≡ 5 = eqb-true id 5 q in omega (arith, h, is)
     second (inr q) = third (either (nat_eq id 6) _ q)
 
-    first : (nat_eq id 2 ≡ true) ⊎ ((nat_eq id 5 || (nat_eq id 6 || (nat_le 8 id && nat_le id 127))) ≡ true) → ⊥
+    component_next : (nat_eq id 4 ≡ true) ⊎ ((nat_eq id 5 || (nat_eq id 6 || (nat_le 8 id && nat_le id 127))) ≡ true) → ⊥
+    component_next (inl q) = let is : id ≡ 4 = eqb-true id 4 q in omega (arith, h, is)
+    component_next (inr q) = second (either (nat_eq id 5) _ q)
+
+    first : (nat_eq id 2 ≡ true) ⊎ ((nat_eq id 4 || (nat_eq id 5 || (nat_eq id 6 || (nat_le 8 id && nat_le id 127)))) ≡ true) → ⊥
     first (inl q) = let is : id ≡ 2 = eqb-true id 2 q in omega (arith, h, is)
-    first (inr q) = second (either (nat_eq id 5) _ q)
+    first (inr q) = component_next (either (nat_eq id 4) _ q)
+
+    module_first : (nat_eq id 1 ≡ true) ⊎ ((nat_eq id 2 || (nat_eq id 4 || (nat_eq id 5 || (nat_eq id 6 || (nat_le 8 id && nat_le id 127))))) ≡ true) → ⊥
+    module_first (inl q) = let is : id ≡ 1 = eqb-true id 1 q in omega (arith, h, is)
+    module_first (inr q) = first (either (nat_eq id 2) _ q)

@@ -122,7 +122,7 @@ module _ (depth : ℕ) (nested : Tree → Fault → Type 0) (one : (f : Tree) (x
   seen_one bytes x y (within b r f o n) (within b' r' f' o' n') = let P : List ℕ → Type 0 = λ z. Framed (λ g. nested g y) z in framed_one x y n (subst P (same_place f f') n')
 
 -- in one frame stands one section
-nested_one : (depth room : ℕ) (f : Tree) (x y : Fault) → NestedFault depth room f x → NestedFault depth room f y → x ≡ y
+pub nested_one : (depth room : ℕ) (f : Tree) (x y : Fault) → NestedFault depth room f x → NestedFault depth room f y → x ≡ y
 nested_one depth zero f x y p q = absurd p
 nested_one depth (suc room) f x y p q = go (nested_one (depth + 1) room) p.4 q.4
   where

@@ -11,6 +11,12 @@ pub mod ComponentRowsLeft
 pub mod EachComponentSection
 pub mod EachComponent
 pub mod FaultLaws
+pub mod NestedSteps
+pub mod NestedReadings
+pub mod SectionsDrawn
+pub mod NestedSections
+pub mod NestedModule
+pub mod NestedComponent
 pub mod TypeParts
 pub mod ScopeCalls
 pub mod CoreGroups

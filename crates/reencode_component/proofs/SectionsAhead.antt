@@ -19,15 +19,15 @@ use Rattle.reencode_core.specs.Rows.{RowsBefore}
 use Rattle.reencode_core.proofs.Group.{rows_then-both}
 use Rattle.reencode_core.proofs.RowLoop.{before_more}
 use Rattle.reencode_core.proofs.RowsMade.{RowsAhead, rows_ahead}
-use Rattle.reencode_component.specs.Components.{AreInForce, BeginsNoSection, BeginsSection, IsInForce, ReadsComponent, ReadsSection, SectionsFirst}
+use Rattle.reencode_component.specs.Components.{BeginsNoSection, BeginsSection, IsInForce, ReadsComponent, ReadsSection, SectionsFirst}
 
 -- ---- ids in force
 
-force_behind : (ts : List Tree) (u : Tree) → AreInForce (rows_then ts u) → AreInForce u
+force_behind : (ts : List Tree) (u : Tree) → IsInForce (rows_then ts u) → IsInForce u
 force_behind [] u h = h
 force_behind (t ∷ ts) u h = force_behind ts u h.1
 
-force_then : (ts : List Tree) (u : Tree) → AreInForce (rows_tree ts) → AreInForce u → AreInForce (rows_then ts u)
+force_then : (ts : List Tree) (u : Tree) → IsInForce (rows_tree ts) → IsInForce u → IsInForce (rows_then ts u)
 force_then [] u h k = k
 force_then (t ∷ ts) u h k = (h.0, force_then ts u h.1 k)
 
@@ -85,11 +85,11 @@ one_more {depth = depth} {read = read} {t = t} d b = record {
     none_open s = let most : opens t + depth ≤ 200 = s.most in let none : zero + depth ≤ 200 = omega arith in record { most = none }
 
 -- one among them is read
-among : {depth : ℕ} (ts us : List Tree) (t : Tree) → Shallow depth (rows_tree (ts ++ t ∷ us)) → AreInForce (rows_tree (ts ++ t ∷ us)) → Shallow depth t × IsInForce t
+among : {depth : ℕ} (ts us : List Tree) (t : Tree) → Shallow depth (rows_tree (ts ++ t ∷ us)) → IsInForce (rows_tree (ts ++ t ∷ us)) → Shallow depth t × IsInForce t
 among {depth = depth} ts us t s h =
     let e : rows_tree (ts ++ t ∷ us) ≡ rows_then ts (Tree.cons t (rows_tree us)) = rows_then-both ts (t ∷ us) Tree.nil in
     let P : Tree → Type 0 = λ z. Shallow depth z in
-    let Q : Tree → Type 0 = λ z. AreInForce z in
+    let Q : Tree → Type 0 = λ z. IsInForce z in
     ((shallow_first (shallow_behind depth ts (Tree.cons t (rows_tree us)) (subst P e s))).0, (force_behind ts (Tree.cons t (rows_tree us)) (subst Q e h)).0)
 
 -- the second sections are the first; or the first and others behind them, of which one begins where these end
@@ -111,7 +111,7 @@ sections_ahead {depth = depth} {rest = rest} {rest' = rest'} {read = read} {read
     next (RowsAhead.same e r) fewer = let same : length read ≡ length read' = ap length e in omega arith
     next (RowsAhead.more t others left e begins) fewer =
         let P : List Tree → Type 0 = λ z. Shallow depth (rows_tree z) in
-        let Q : List Tree → Type 0 = λ z. AreInForce (rows_tree z) in
+        let Q : List Tree → Type 0 = λ z. IsInForce (rows_tree z) in
         let is = among read' others t (subst P e a.shallow) (subst Q e a.in_force) in
         none.none t left (record { there = record { begins = begins; shallow = is.0 }; in_force = is.1 })
 
@@ -125,7 +125,7 @@ sections_ahead {depth = depth} {rest = rest} {rest' = rest'} {read = read} {read
     go (RowsAhead.same e r) = same e r
     go (RowsAhead.more t others left e begins) =
         let P : List Tree → Type 0 = λ z. Shallow depth (rows_tree z) in
-        let Q : List Tree → Type 0 = λ z. AreInForce (rows_tree z) in
+        let Q : List Tree → Type 0 = λ z. IsInForce (rows_tree z) in
         let is = among read others t (subst P e b.shallow) (subst Q e b.in_force) in
         more t others left e (record { there = record { begins = begins; shallow = is.0 }; in_force = is.1 })
 
@@ -143,7 +143,7 @@ sections_of {depth = depth} {t = t} r =
     let P : Tree → Type 0 = λ z. Is (Shape.many component_section) z in
     let Q : Tree → Type 0 = λ z. Spelled z c.rest in
     let R : Tree → Type 0 = λ z. Shallow depth z in
-    let F : Tree → Type 0 = λ z. AreInForce z in (
+    let F : Tree → Type 0 = λ z. IsInForce z in (
       l.0,
       l.1,
       record {

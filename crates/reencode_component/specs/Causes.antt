@@ -14,10 +14,9 @@ use Rattle.wasm_write.specs.Sections.{SectionRow}
 use Rattle.reencode_hooks.specs.declared.error.Error.{Error}
 use Rattle.reencode_hooks.specs.declared.error.Error.TheVariants.{InvalidCodeSectionSize, UnexpectedNonCoreModuleSection, UnexpectedNonComponentSection, ParseError, UserError, TooLarge, NoMemory}
 use Rattle.reencode_hooks.specs.Run.{accepted}
-use Rattle.reencode_core.specs.Core.{IsCause}
 use Rattle.reencode_core.specs.Rows.{Asks, StopsDue}
 use Rattle.reencode_core.specs.Weave.{Puts, added}
-use Rattle.reencode_core.specs.Woven.{OwnTooLarge}
+use Rattle.reencode_core.specs.Woven.{IsWovenCause, OwnTooLarge}
 use Rattle.reencode_component.specs.Components.{ComponentFault, FaultAt, Framed, SectionsFirst}
 use Rattle.reencode_component.specs.WeaveIn.{AcceptsAll, RefusesAmong}
 
@@ -105,11 +104,11 @@ OwnInside asked adds c depth (suc room) f s m e =
 abbrev pub StopsBy : {S E : Type 0} → Asks S E → ℕ → Stops S E → Stops S E
 StopsBy asked c nested f s m e = ((id : ℕ) × (body : List ℕ) × (f ≡ numbered_frame id body) × StopsInRows asked c id body s m e) ⊎ nested f s m e
 
--- A nested section stands in the frame, and a part of it was refused; so many scopes may still be opened.
+-- A nested section stands in the frame, and this error comes of it; so many scopes may still be opened.
 abbrev pub StopsNested : {S E : Type 0} → Asks S E → Puts S SectionRow → ℕ → ℕ → ℕ → Stops S E
 StopsNested asked adds c depth zero f s m e = ⊥
 StopsNested asked adds c depth (suc room) f s m e =
-    Pushed asked (λ b k n x. IsCause asked c b k n x)
+    Pushed asked (λ b k n x. IsWovenCause asked adds c b k n x)
     (λ b k n x. CauseBy asked (added adds) c (depth + 1) (StopsBy asked c (StopsNested asked adds c (depth + 1) room)) (OwnInside asked adds c (depth + 1) room) b k n x) f s m e
 
 -- ---- with so many scopes open round it

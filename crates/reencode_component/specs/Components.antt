@@ -18,19 +18,20 @@ use Rattle.reencode_core.specs.Rows.{RowsBefore}
 
 -- ---- readings
 
--- sections of this one's id are read
+-- Sections of this one's id are read, and where it is a component, so are those in it: of sections one behind another each, and of
+-- what stands in a frame those behind the header.
 abbrev pub IsInForce : Tree → Type 0
-IsInForce (Tree.row id t) = has_frame id ≡ true
-IsInForce _ = ⊥
+IsInForce (Tree.row id t) = (has_frame id ≡ true) × (id ≡ 4 → IsInForce t)
+IsInForce (Tree.cons t u) = IsInForce t × IsInForce u
+IsInForce (Tree.pair b t) = IsInForce t
+IsInForce (Tree.sized t) = IsInForce t
+IsInForce (Tree.scope t) = IsInForce t
+IsInForce _ = Unit {0}
 
-abbrev pub AreInForce : Tree → Type 0
-AreInForce (Tree.cons t u) = IsInForce t × AreInForce u
-AreInForce _ = Unit {0}
-
--- the bytes are a component whose sections are of ids in force
+-- the bytes are a component whose sections are of ids in force, those of nested components too
 pub record ReadsComponent (depth : ℕ) (bytes : List ℕ) (t : Tree) : Type 0 where
   pub reading : ComponentReading depth bytes t
-  pub in_force : AreInForce t
+  pub in_force : IsInForce t
 
 -- the tree is what a section in this frame is read as
 pub record ReadsSection (depth : ℕ) (f t : Tree) : Type 0 where
@@ -54,7 +55,7 @@ pub record SectionsFirst (depth : ℕ) (bytes : List ℕ) (read : List Tree) (re
   pub stands : bytes ≡ component_header ++ start
   pub rows : RowsBefore component_section start read rest
   pub shallow : Shallow depth (rows_tree read)
-  pub in_force : AreInForce (rows_tree read)
+  pub in_force : IsInForce (rows_tree read)
 
 -- Bytes are left at the first place where no section begins that is read; these stand before it.
 pub record FaultAt (depth : ℕ) (bytes : List ℕ) (before : List Tree) (rest : List ℕ) : Type 0 where

@@ -1,5 +1,5 @@
 //! Sections of a component by their frames: each is mapped by the method of its kind, and added.
-ghost use Rattle.std.specs.Prelude.{◌≡◌, ◌≤◌};
+ghost use Rattle.std.specs.Prelude.{◌≡◌, ◌≢◌, ◌≤◌};
 ghost use Rattle.wasm_shapes.specs.Module.{numbered_frame};
 ghost use Rattle.wasm_shapes.specs.Tree.{normal};
 ghost use Rattle.wasm_shapes.specs.Types.{vector_tree};
@@ -18,7 +18,7 @@ use wasm_write::RowSection;
 use wasm_write_component as w;
 
 /// An answer of a call that maps a part which begins at a place: a fault of the bytes holds that place.
-fn placed<E>(mapped: Result<(), Error<E>>, at: usize) -> Result<(), Error<E>>
+pub(crate) fn placed<E>(mapped: Result<(), Error<E>>, at: usize) -> Result<(), Error<E>>
     ensures { result ≡ placed_in mapped at }
 {
     match mapped {
@@ -179,7 +179,7 @@ fn start<T: ReencodeComponent>(
     }
 }
 
-/// A section by its id and its body.
+/// A section by its id and its body. A core module and a component are none of these.
 pub(crate) fn numbered<T: ReencodeComponent>(
     reencoder: &mut T,
     alloc: Global,
@@ -189,7 +189,9 @@ pub(crate) fn numbered<T: ReencodeComponent>(
     body: &[u8],
     depth: u32,
 ) -> Result<(), Error<T::Error>>
-    requires { depth ≤ 200 }
+    requires deep { depth ≤ 200 }
+    requires module { id ≢ 1 }
+    requires component { id ≢ 4 }
     ensures { FrameClauses T.ReencodeIndices depth (numbered_frame id body.now) at
         reencoder.old «component».old reencoder.new «component».new result }
 {

@@ -10,13 +10,16 @@ ghost use Rattle.reencode_items.specs.Clauses.{ItemClauses};
 ghost use Rattle.reencode_component.specs.Clauses.{ValueClauses};
 
 use crate::component::ReencodeComponent;
-pub use crate::components::{parse_component, parse_component_payload};
+pub use crate::components::{
+    parse_component, parse_component_payload, parse_component_subcomponent,
+};
 pub use crate::core_types::parse_component_module_type_declaration;
 pub use crate::hooked::{canonical_option, type_bounds};
 use crate::items::ReencodeComponentItems;
 pub use crate::kinds::{
     component_export_kind, component_outer_alias_kind, component_primitive_val_type,
 };
+pub use crate::nested::parse_component_submodule;
 pub use crate::row_sections::{parse_component_alias_section, parse_component_import_section};
 pub use crate::rows::{
     parse_component_canonical, parse_component_export, parse_component_instance, parse_instance,

@@ -1,9 +1,12 @@
 //! Whole components.
 ghost use Rattle.std.specs.Prelude.{◌≤◌};
-ghost use Rattle.reencode_component.specs.ComponentClauses.{ComponentClauses, PayloadClauses};
+ghost use Rattle.wasm_shapes.specs.Module.{numbered_frame};
+ghost use Rattle.reencode_component.specs.ComponentClauses.{ComponentClauses, FrameClauses, PayloadClauses};
+ghost use Rattle.reencode_component.specs.NestedClauses.{SubcomponentClauses};
 
 use crate::component::ReencodeComponent;
-use crate::component_sections;
+use crate::component_sections::{numbered, placed};
+use crate::nested::{DEPTH, parse_component_submodule};
 use reencode_hooks::Error;
 use std::alloc::Global;
 use wasm_leb::ReadError;
@@ -15,6 +18,7 @@ use wasm_write_component as w;
 /// No section hook is called before a section of a component. A section is read where its id is in force, as
 /// `ComponentPayloads::next` says. A `ParseError` holds the place of the section in fault, counted from the first byte of the
 /// header. Depths that were pushed stay pushed after an error.
+#[cycle(components)]
 pub fn parse_component<T: ReencodeComponent>(
     reencoder: &mut T,
     alloc: Global,
@@ -40,10 +44,12 @@ pub fn parse_component<T: ReencodeComponent>(
     }
 }
 
-/// Maps a section of a component by the method of its kind, with so many scopes open round it, and adds it.
+/// Maps a section of a component by the method of its kind, with so many scopes open round it, and adds it: a core module by
+/// `parse_component_submodule`, and a component by `parse_component_subcomponent`.
 ///
-/// A `ParseError` holds the place of the payload; it also comes for a section that is not read yet: a core module, a component, a
-/// custom section, and types. `UnexpectedNonComponentSection` comes for a section of a core module.
+/// A `ParseError` holds the place of the payload; it also comes for a section that is not read yet: a custom section, and types.
+/// `UnexpectedNonComponentSection` also comes for a section of a core module.
+#[cycle(components)]
 pub fn parse_component_payload<T: ReencodeComponent>(
     reencoder: &mut T,
     alloc: Global,
@@ -58,17 +64,71 @@ pub fn parse_component_payload<T: ReencodeComponent>(
     match payload {
         r::ComponentPayload::Core(_) => Err(Error::UnexpectedNonComponentSection),
         r::ComponentPayload::Section { id, at, body } => {
-            component_sections::numbered(reencoder, alloc, component, id, at, body, depth)
+            section(reencoder, alloc, component, id, at, body, depth)
         }
         r::ComponentPayload::Module { at, bytes } => {
-            component_sections::numbered(reencoder, alloc, component, 1, at, bytes, depth)
+            section(reencoder, alloc, component, 1, at, bytes, depth)
         }
         r::ComponentPayload::Component { at, bytes } => {
-            component_sections::numbered(reencoder, alloc, component, 4, at, bytes, depth)
+            section(reencoder, alloc, component, 4, at, bytes, depth)
         }
         r::ComponentPayload::Custom { at, .. } => Err(Error::ParseError(ReadError { at })),
         r::ComponentPayload::Unknown { at, id, contents } => {
-            component_sections::numbered(reencoder, alloc, component, id, at, contents, depth)
+            section(reencoder, alloc, component, id, at, contents, depth)
         }
     }
+}
+
+/// A section by its id and what its frame holds.
+#[cycle(components)]
+fn section<T: ReencodeComponent>(
+    reencoder: &mut T,
+    alloc: Global,
+    component: &mut w::Component,
+    id: u8,
+    at: usize,
+    body: &[u8],
+    depth: u32,
+) -> Result<(), Error<T::Error>>
+    requires { depth ≤ 200 }
+    ensures { FrameClauses T.ReencodeIndices depth (numbered_frame id body.now) at
+        reencoder.old «component».old reencoder.new «component».new result }
+{
+    if id == 1 {
+        let mapped = parse_component_submodule(reencoder, alloc, component, body, depth);
+        return placed(mapped, at);
+    }
+    if id == 4 {
+        let mapped = parse_component_subcomponent(reencoder, alloc, component, body, depth);
+        return placed(mapped, at);
+    }
+    numbered(reencoder, alloc, component, id, at, body, depth)
+}
+
+/// Maps a component, with so many scopes open round it, and adds it as a section: `push_depth`, then `parse_component` one scope
+/// deeper, then `pop_depth`, which is not called where this is refused.
+///
+/// A `ParseError` holds the place in the nested component. With 200 scopes open it is the answer at once, with the place 0, and
+/// nothing is read or asked. `TooLarge` also comes where the new component is longer than the ceiling of the one round it.
+#[cycle(components)]
+pub fn parse_component_subcomponent<T: ReencodeComponent>(
+    reencoder: &mut T,
+    alloc: Global,
+    component: &mut w::Component,
+    bytes: &[u8],
+    depth: u32,
+) -> Result<(), Error<T::Error>>
+    requires { depth ≤ 200 }
+    ensures { SubcomponentClauses T.ReencodeIndices depth bytes.now
+        reencoder.old «component».old reencoder.new «component».new result }
+{
+    if depth >= DEPTH {
+        return Err(Error::ParseError(ReadError { at: 0 }));
+    }
+    let mut nested = w::Component::new(alloc, component.ceiling())?;
+    reencoder.push_depth()?;
+    parse_component(reencoder, alloc, &mut nested, bytes, depth + 1)?;
+    reencoder.pop_depth();
+    component.section(&w::NestedComponentSection(&nested))?;
+    Ok(())
 }

@@ -12,7 +12,7 @@ use Rattle.wasm_shapes.proofs.SectionTable.{frame_there, none_section}
 use Rattle.wasm_read.proofs.CodeSize.{code_size_other}
 use Rattle.wasm_write.specs.Sections.{Sections, SectionRow}
 use Rattle.reencode_hooks.specs.declared.error.Error.{Error}
-use Rattle.reencode_hooks.specs.declared.error.Error.TheVariants.{InvalidCodeSectionSize, UnexpectedNonCoreModuleSection, ParseError, UserError, TooLarge, NoMemory}
+use Rattle.reencode_hooks.specs.declared.error.Error.TheVariants.{InvalidCodeSectionSize, UnexpectedNonCoreModuleSection, UnexpectedNonComponentSection, ParseError, UserError, TooLarge, NoMemory}
 use Rattle.reencode_hooks.specs.Run.{Step, ask, refused}
 use Rattle.reencode_core.specs.Errors.{IfParse}
 use Rattle.reencode_core.specs.Rows.{Asks}
@@ -74,17 +74,23 @@ fault_tells asked = record {
 not_wanting : {E : Type 0} (e : Error E) → TellsFault e → e ≢ NoMemory
 not_wanting (ParseError x) tells = λ q. cc
 not_wanting InvalidCodeSectionSize tells = λ q. cc
+not_wanting UnexpectedNonCoreModuleSection tells = λ q. cc
+not_wanting UnexpectedNonComponentSection tells = λ q. cc
 not_wanting _ tells = absurd tells
 
 -- no refusal is such an error
 not_usual : {E : Type 0} (e : Error E) → TellsFault e → IfParse e (λ at. ⊥) → ⊥
 not_usual (ParseError x) tells h = h
 not_usual InvalidCodeSectionSize tells h = h
+not_usual UnexpectedNonCoreModuleSection tells h = h
+not_usual UnexpectedNonComponentSection tells h = h
 not_usual _ tells h = absurd tells
 
 not_own : {E : Type 0} (e : Error E) (c : ℕ) (own : List SectionRow) → TellsFault e → IsOwn c own e → ⊥
 not_own (ParseError x) c own tells h = h
 not_own InvalidCodeSectionSize c own tells h = h
+not_own UnexpectedNonCoreModuleSection c own tells h = h
+not_own UnexpectedNonComponentSection c own tells h = h
 not_own _ c own tells h = absurd tells
 
 module _ {S E : Type 0} (reply : S → Visit → Result ℕ E) (next : S → Visit → S) (adds : Puts S SectionRow) {c : ℕ} {bytes : List ℕ} {before after : S × Sections} {e : Error E}

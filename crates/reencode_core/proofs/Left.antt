@@ -32,7 +32,7 @@ body_drawn t x (Is.seq {t = l} {u = u} d e) s =
     (drawn_behind s.0 s.1 s.2 (drawn_rows IsItem.operator u s.1 e s.4))
 
 -- from sections
-sections_drawn : (last : Option SectionId) (t : Tree) (x : List ℕ) → Is sections t → Spelled t x → Drawn x (visits_from last t)
+pub sections_drawn : (last : Option SectionId) (t : Tree) (x : List ℕ) → Is sections t → Spelled t x → Drawn x (visits_from last t)
 sections_drawn last t x Is.finish s = drawn_hook
 sections_drawn last t x (Is.also {t = v} {u = u} d e) s =
     let f = in_frame v s.0 d s.3 in
@@ -41,7 +41,7 @@ sections_drawn last t x (Is.also {t = v} {u = u} d e) s =
     drawn_joined x (before last v) (visits v ++ visits_from (kind last v) u) (before_drawn last v)
     (drawn_joined x (visits v) (visits_from (kind last v) u) (drawn_front s.0 s.1 s.2 one) (drawn_behind s.0 s.1 s.2 (sections_drawn (kind last v) u s.1 e s.4)))
 
-module_drawn : (bytes : List ℕ) (t : Tree) → Spells core_module bytes t → Drawn bytes (visits t)
+pub module_drawn : (bytes : List ℕ) (t : Tree) → Spells core_module bytes t → Drawn bytes (visits t)
 module_drawn bytes t p =
     let r = module_headed.back bytes t p in
     let P : List Visit → Type 0 = λ z. Drawn bytes z in

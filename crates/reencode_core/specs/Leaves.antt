@@ -17,7 +17,7 @@ use Rattle.wasm_read.specs.Names.{NamesStanding}
 use Rattle.wasm_read.specs.Reading.{Standing, CountRead}
 use Rattle.wasm_read.specs.Subsections.{Content, ReadsName, content_of}
 use Rattle.reencode_hooks.specs.declared.error.Error.{Error}
-use Rattle.reencode_hooks.specs.declared.error.Error.TheVariants.{InvalidCodeSectionSize, ParseError, UserError, TooLarge, NoMemory}
+use Rattle.reencode_hooks.specs.declared.error.Error.TheVariants.{InvalidCodeSectionSize, UnexpectedNonCoreModuleSection, UnexpectedNonComponentSection, ParseError, UserError, TooLarge, NoMemory}
 use Rattle.reencode_hooks.specs.Run.{Step, accepted, refused, state_after, run}
 use Rattle.reencode_core.specs.Rows.{Asks, RowsBefore, locals}
 use Rattle.reencode_core.specs.Names.{SubsectionsLeft}
@@ -41,10 +41,12 @@ Ended {A = A} e step m = (a : A) × (step ≡ accepted a m)
 pub record EndsBy {S E : Type 0} (asked : Asks S E) (s : S) (made : List Visit) (e : Error E) (m : S) : Type 0 where
   pub by : Ended e (run asked s made) m
 
--- an error of the bytes: the place of a fault, or the size of a code section
+-- an error of the bytes: the place of a fault, the size of a code section, or a header of the other kind
 abbrev pub TellsFault : {E : Type 0} → Error E → Type 0
 TellsFault (ParseError _) = Unit {0}
 TellsFault InvalidCodeSectionSize = Unit {0}
+TellsFault UnexpectedNonCoreModuleSection = Unit {0}
+TellsFault UnexpectedNonComponentSection = Unit {0}
 TellsFault _ = ⊥
 
 -- the first list is a front part of the second

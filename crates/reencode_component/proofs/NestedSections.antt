@@ -1,0 +1,317 @@
+-- A nested section, whatever stands in it: what the call that maps it gives at each of its ends.
+use Rattle.std.proofs.Common.{◌≡◌, ◌≢◌, ◌+◌, ◌-◌, ◌<◌, ◌≤◌, ℕ, zero, suc, List, [], ◌∷◌, ◌++◌, length, Result, Ok, Err, IsErrAnd, IsTrue, refl, sym, ap, ◌∙◌, subst, arith, ◌⊎◌, inl, inr}
+use Rattle.wasm_leb.specs.declared.fault.Fault.{Fault}
+use Rattle.wasm_leb.specs.declared.fault.Fault.TheVariants as fault
+use Rattle.wasm_leb.specs.declared.fault.Kind.TheVariants as kinds
+use Rattle.wasm_shapes.specs.declared.Visit.{Visit}
+use Rattle.wasm_shapes.specs.declared.Visit.TheVariants.{Push, Pop}
+use Rattle.wasm_shapes.specs.Component.{component_body_of}
+use Rattle.wasm_shapes.specs.Drawn.{Drawn}
+use Rattle.wasm_shapes.specs.Module.{numbered_frame}
+use Rattle.wasm_shapes.specs.Shape.{Shape}
+use Rattle.wasm_shapes.specs.Tree.{Tree, normal, visits}
+use Rattle.wasm_shapes.proofs.Drawn.{drawn_joined}
+use Rattle.wasm_write.specs.declared.fault.WriteFault.{WriteFault}
+use Rattle.wasm_write.specs.declared.fault.WriteFault.TheVariants as write
+use Rattle.wasm_write.specs.Faults.{IfTooLarge}
+use Rattle.wasm_write.specs.Sections.{Sections, section_bytes, section_row, with_section}
+use Rattle.reencode_hooks.specs.declared.error.Error.{Error}
+use Rattle.reencode_hooks.specs.declared.error.Error.TheVariants.{CanonicalizedHeapTypeReference, InvalidConstExpr, InvalidCodeSectionSize, UnexpectedNonCoreModuleSection, UnexpectedNonComponentSection, UnsupportedCoreTypeInComponent, ParseError, UserError, TooLarge, NoMemory}
+use Rattle.reencode_hooks.specs.declared.indices.ReencodeIndices.{Ghosts}
+use Rattle.reencode_hooks.specs.Errors.{error_of_write}
+use Rattle.reencode_hooks.specs.Run.{NeverWants, accepted, refused, run}
+use Rattle.reencode_core.specs.Clauses.{asks}
+use Rattle.reencode_core.specs.Errors.{IfRefused, placed_at}
+use Rattle.reencode_core.specs.Leaves.{IsFront, IsSize, Leaves, LeavesCore, Text}
+use Rattle.reencode_core.specs.Weave.{added}
+use Rattle.reencode_core.proofs.Counts.{run_then}
+use Rattle.reencode_core.proofs.Known.{keeps_same}
+use Rattle.reencode_core.proofs.Made.{Unasked, ended_all, ended_behind, front_all, front_first, front_same, front_then, not_wanting, wants_placed, write_unasked}
+use Rattle.reencode_core.proofs.OneRow.{answers}
+use Rattle.reencode_component.specs.Causes.{IfFault, OwnInside, StopsNested, inside, own_inside, room}
+use Rattle.reencode_component.specs.ComponentClauses.{FrameClauses, placed_in}
+use Rattle.reencode_component.specs.ComponentLeaves.{SectionUpTo, section_in}
+use Rattle.reencode_component.specs.Components.{IsHandedOut, NestedFault, ReadsSection}
+use Rattle.reencode_component.specs.Gives.{FaultIn, GivesAddedIn, GivesSection, RefusedOr}
+use Rattle.reencode_component.specs.NestedClauses.{NestedClauses}
+use Rattle.reencode_component.specs.WeaveIn.{weave_in}
+use Rattle.reencode_component.proofs.EachComponentSection.{frame_wanted, leaves_placed, not_read}
+use Rattle.reencode_component.proofs.FaultLaws.{nested_one}
+use Rattle.reencode_component.proofs.NestedSteps.{drawn_push, drawn_scope, nested_tree, walk_fits, walk_large, walk_stopped}
+use Rattle.reencode_component.proofs.WeavesIn.{weave_in_ran}
+
+-- the scopes that may still be opened, with one more open
+pub next_room : (depth : ℕ) → depth < 200 → suc (room (depth + 1)) ≡ room depth
+next_room depth h = omega (arith, h)
+
+-- What stands in the frame of a nested section of an id: a scope, in it a header, and behind that what its bytes are read as.
+pub record IsNested (depth id : ℕ) (body : List ℕ) (head : Tree → Tree) (reads : Tree → Type 0) (broken : Fault → Type 0) : Type 0 where
+  pub forth : (t : Tree) → ReadsSection depth (numbered_frame id body) t → (u : Tree) × (t ≡ nested_tree id (head u)) × reads u
+  pub back : (u : Tree) → reads u → ReadsSection depth (numbered_frame id body) (nested_tree id (head u))
+  pub one : (u v : Tree) → reads u → reads v → u ≡ v
+  pub headed : (u : Tree) → visits (head u) ≡ visits u
+  pub drawn : (u : Tree) → reads u → Drawn body (visits u)
+  pub no_rows : (row : Shape) → component_body_of id ≡ Shape.vec row → ⊥
+  pub faults : (x : Fault) → broken x → NestedFault depth (room depth) (numbered_frame id body) x
+
+-- ---- errors
+
+fault_map : {E : Type 0} {P Q : Fault → Type 0} (e : Error E) → ((x : Fault) → P x → Q x) → IfFault e P → IfFault e Q
+fault_map (ParseError x) f h = f (fault.Read x) h
+fault_map InvalidCodeSectionSize f h = f fault.CodeSize h
+fault_map UnexpectedNonCoreModuleSection f h = f (fault.Header kinds.Component) h
+fault_map UnexpectedNonComponentSection f h = f (fault.Header kinds.Module) h
+fault_map (UserError x) f h = h
+fault_map (TooLarge x) f h = h
+fault_map NoMemory f h = h
+fault_map CanonicalizedHeapTypeReference f h = h
+fault_map InvalidConstExpr f h = h
+fault_map UnsupportedCoreTypeInComponent f h = h
+
+size_placed : {E : Type 0} (e : Error E) (at : ℕ) → IsSize e → IsSize (placed_at e at)
+size_placed (TooLarge x) at h = h
+size_placed _ at h = absurd h
+
+-- the section has no rows
+no_up_to : (id : ℕ) (body : List ℕ) → ((row : Shape) → component_body_of id ≡ Shape.vec row → ⊥) → (t : Tree) (rest : List ℕ) → SectionUpTo (numbered_frame id body) t rest → ⊥
+no_up_to id body none t rest x = go (numbered_frame id body) t rest x refl
+  where
+    go : (f t : Tree) (rest : List ℕ) → SectionUpTo f t rest → f ≡ numbered_frame id body → ⊥
+    go f t rest (SectionUpTo.uncounted id' body' row e n) q = let number : id' ≡ id = cc in none row (sym (ap component_body_of number) ∙ e.body)
+    go f t rest (SectionUpTo.rows id' body' row reader u rest' e there r) q = let number : id' ≡ id = cc in none row (sym (ap component_body_of number) ∙ e.body)
+
+module _ {S E : Type 0} (i : Ghosts S E) (depth id : ℕ) (body : List ℕ) (head : Tree → Tree) (reads : Tree → Type 0) (faulty : Tree → List ℕ → Type 0) (broken : Fault → Type 0) (headless : Type 0) where
+  abbrev frame_tree : Tree
+  frame_tree = numbered_frame id body
+
+  abbrev text : Text
+  text = record { bytes = body; reads = reads; faulty = faulty }
+
+  abbrev Clauses : S → Sections → S → Sections → Result (Unit {0}) (Error E) → Type 0
+  Clauses s old m new r = NestedClauses i depth id body broken text headless s old m new r
+
+  -- ---- before the push
+
+  -- no further scope may be opened
+  pub nested_deep : 200 ≤ depth → ((t : Tree) → ReadsSection depth frame_tree t → ⊥) → ((row : Shape) → component_body_of id ≡ Shape.vec row → ⊥) → (s : S) (old : Sections) →
+      Clauses s old s old (Err (ParseError (record { at = 0 })))
+  nested_deep deep none no_rows s old = record {
+    framed = λ at. not_read i depth frame_tree none unnested (no_up_to id body no_rows) at s old;
+    told = λ k low. absurd (omega (arith, deep, low));
+    inside = λ k low. absurd (omega (arith, deep, low));
+    deep = λ e. (refl, refl, refl);
+  }
+    where
+      unnested : (x : Fault) → NestedFault depth (room depth) frame_tree x → ⊥
+      unnested x h = let last : room depth ≡ 0 = omega (arith, deep) in let P : ℕ → Type 0 = λ z. NestedFault depth z frame_tree x in subst P last h
+
+  -- memory ran out before
+  pub nested_unmade : depth < 200 → (s : S) (old : Sections) (r : Result (Unit {0}) (Error E)) → IsErrAnd r (λ y. y ≡ NoMemory) → Clauses s old s old r
+  nested_unmade low s old r q = let P : Result (Unit {0}) (Error E) → Type 0 = λ z. Clauses s old s old z in subst P (answers r q) (record {
+    framed = λ at. frame_wanted i depth frame_tree at s old;
+    told = λ k low. tt;
+    inside = λ k low none told size. inl (refl, refl);
+    deep = λ e. absurd (omega (arith, low, e));
+  })
+
+  -- it was not opened
+  pub nested_unopened : depth < 200 → (s m : S) (old : Sections) (e : Error E) → e ≡ NoMemory → NeverWants {A = Unit {0}} i.sure (Err e) → (r : Result (Unit {0}) (Error E)) → IsErrAnd r (λ y. y ≡ e) → Clauses s old m old r
+  nested_unopened low s m old e wants never r q =
+      let P : Result (Unit {0}) (Error E) → Type 0 = λ z. Clauses s old m old z in
+      let Q : Error E → Type 0 = λ z. Clauses s old m old (Err z) in
+      subst P (answers r q) (subst Q (sym wants) (record {
+        framed = λ at. record {
+          kept = keeps_same old;
+          default = λ k. record { reading = λ t r other. absurd (other refl); readable = tt; unreadable = tt; refusal = tt; unchanged = refl };
+          after_error = λ k told size. absurd (not_wanting e never (λ h. told refl) wants);
+        };
+        told = λ k low. tt;
+        inside = λ k low none told size. absurd (not_wanting e never (λ h. told refl) wants);
+        deep = λ e. absurd (omega (arith, low, e));
+      }))
+
+  -- ---- behind the push
+
+  -- What is known where what stands in the scope was refused, or has no reading.
+  pub record Refuses (ceiling : ℕ) (s p m : S) (e : Error E) : Type 0 where
+    pub walks : (u : Tree) → reads u → e ≢ NoMemory → OwnInside (asks i) i.adds ceiling depth (room depth) frame_tree s m e ⊎ (weave_in (asks i) (added i.adds) ceiling p (head u) ≡ refused e m)
+    pub unread : IfFault e (λ x. ((u : Tree) → reads u → ⊥) × broken x)
+    pub why : StopsNested (asks i) i.adds ceiling depth (room depth) frame_tree s m e
+    pub left : (e ≡ NoMemory → IsTrue i.sure) → (IsSize e → IsTrue i.adds_nothing) → Leaves (asks i) text p e m
+    pub bare : headless → m ≡ p
+
+  -- What is known where all of it was mapped: the bytes of the new one.
+  pub record Accepts (ceiling : ℕ) (p m : S) (contents : List ℕ) : Type 0 where
+    pub walks : (u : Tree) → reads u → (v : Tree) × (weave_in (asks i) (added i.adds) ceiling p (head u) ≡ accepted v m) × (contents ≡ normal v)
+    pub some : (u : Tree) × reads u
+
+  module _ (low : depth < 200) (kind : IsNested depth id body head reads broken) (s p : S) (old : Sections) (pushed : asks i s Push ≡ accepted 0 p) where
+    push_ran : run (asks i) s (Push ∷ []) ≡ accepted (0 ∷ []) p
+    push_ran = rw pushed refl
+
+    no_reading : ((u : Tree) → reads u → ⊥) → (t : Tree) → ReadsSection depth frame_tree t → ⊥
+    no_reading none t r = let q = kind.forth t r in none q.0 q.2
+
+    -- the visits of a reading
+    visits_are : (t u : Tree) → t ≡ nested_tree id (head u) → Push ∷ visits u ++ Pop ∷ [] ≡ visits t
+    visits_are t u e = ap (λ (z : List Visit). Push ∷ z ++ Pop ∷ []) (sym (kind.headed u)) ∙ sym (ap visits e)
+
+    module _ {m : S} (e : Error E) (g : IsTrue i.keeps_defaults → Refuses old.ceiling s p m e) where
+      walk_refused : IsTrue i.keeps_defaults → (t : Tree) → ReadsSection depth frame_tree t →
+          RefusedOr (own_inside (asks i) i.adds old.ceiling depth frame_tree s m) (weave_in (asks i) (added i.adds) old.ceiling s t) e m
+      walk_refused k t r other = let q = kind.forth t r in by q.0 q.1 ((g k).walks q.0 q.2 other)
+        where
+          by : (u : Tree) → t ≡ nested_tree id (head u) →
+              OwnInside (asks i) i.adds old.ceiling depth (room depth) frame_tree s m e ⊎ (weave_in (asks i) (added i.adds) old.ceiling p (head u) ≡ refused e m) →
+              OwnInside (asks i) i.adds old.ceiling depth (room depth) frame_tree s m e ⊎ (weave_in (asks i) (added i.adds) old.ceiling s t ≡ refused e m)
+          by u is (inl x) = inl x
+          by u is (inr h) =
+              let W : Tree → Type 0 = λ z. weave_in (asks i) (added i.adds) old.ceiling s z ≡ refused e m in
+              inr (subst W (sym is) (walk_stopped (asks i) (added i.adds) old.ceiling s p m e id (head u) pushed h))
+
+      given : (at : ℕ) (w : Error E) → ((t : Tree) → ReadsSection depth frame_tree t → RefusedOr (own_inside (asks i) i.adds old.ceiling depth frame_tree s m) (weave_in (asks i) (added i.adds) old.ceiling s t) w m) →
+          IfFault w (λ x. ((t : Tree) → ReadsSection depth frame_tree t → ⊥) × FaultIn (NestedFault depth (room depth) frame_tree) at x) →
+          IfRefused w (((t : Tree) × ReadsSection depth frame_tree t) ⊎ inside (asks i) i.adds old.ceiling depth frame_tree s m w) → GivesSection (asks i) i.adds depth frame_tree at (s, old) (m, old) (Err w)
+      given at w reading unreadable refusal = record { reading = reading; readable = tt; unreadable = unreadable; refusal = refusal; unchanged = refl }
+
+    -- an error of the section at its place
+    gives_refused : {m : S} (e : Error E) → IsTrue i.keeps_defaults → Refuses old.ceiling s p m e → (at : ℕ) → GivesSection (asks i) i.adds depth frame_tree at (s, old) (m, old) (Err (placed_at e at))
+    gives_refused (ParseError x) k g at =
+        let none = no_reading g.unread.0 in
+        given (ParseError x) (λ _. g) at (ParseError (record { at = at })) (λ t r. absurd (none t r))
+        (none, (refl, λ y handed q. subst IsHandedOut (nested_one depth (room depth) frame_tree y (fault.Read x) q (kind.faults (fault.Read x) g.unread.1)) handed)) tt
+    gives_refused InvalidCodeSectionSize k g at =
+        given InvalidCodeSectionSize (λ _. g) at InvalidCodeSectionSize (walk_refused InvalidCodeSectionSize (λ _. g) k) (no_reading g.unread.0, (tt, kind.faults fault.CodeSize g.unread.1)) tt
+    gives_refused UnexpectedNonCoreModuleSection k g at =
+        given UnexpectedNonCoreModuleSection (λ _. g) at UnexpectedNonCoreModuleSection (walk_refused UnexpectedNonCoreModuleSection (λ _. g) k)
+        (no_reading g.unread.0, (tt, kind.faults (fault.Header kinds.Component) g.unread.1)) tt
+    gives_refused UnexpectedNonComponentSection k g at =
+        given UnexpectedNonComponentSection (λ _. g) at UnexpectedNonComponentSection (walk_refused UnexpectedNonComponentSection (λ _. g) k)
+        (no_reading g.unread.0, (tt, kind.faults (fault.Header kinds.Module) g.unread.1)) tt
+    gives_refused (UserError x) k g at = given (UserError x) (λ _. g) at (UserError x) (walk_refused (UserError x) (λ _. g) k) tt (inr (inr g.why))
+    gives_refused (TooLarge x) k g at = given (TooLarge x) (λ _. g) at (TooLarge x) (walk_refused (TooLarge x) (λ _. g) k) tt (inr (inr g.why))
+    gives_refused NoMemory k g at = given NoMemory (λ _. g) at NoMemory (walk_refused NoMemory (λ _. g) k) tt tt
+    gives_refused CanonicalizedHeapTypeReference k g at = absurd g.unread
+    gives_refused InvalidConstExpr k g at = absurd g.unread
+    gives_refused UnsupportedCoreTypeInComponent k g at = absurd g.unread
+
+    -- the push, and the visits behind it
+    pushed_leaves : {m : S} (e : Error E) → Leaves (asks i) text p e m → Leaves (asks i) (section_in depth frame_tree) s e m
+    pushed_leaves e l = record {
+      made = Push ∷ l.made;
+      ended = ended_behind (asks i) e (Push ∷ []) l.made push_ran l.ended;
+      drawn = drawn_joined body (Push ∷ []) l.made drawn_push l.drawn;
+      reading = λ t r. let q = kind.forth t r in front_same (visits_are t q.0 q.1) (front_then (Push ∷ []) (front_first (Pop ∷ []) (l.reading q.0 q.2)));
+      fault = λ none t rest x. absurd (no_up_to id body kind.no_rows t rest x);
+    }
+
+    pub nested_refused : {m : S} (e : Error E) → (IsTrue i.keeps_defaults → Refuses old.ceiling s p m e) → (r : Result (Unit {0}) (Error E)) → IsErrAnd r (λ y. y ≡ e) → Clauses s old m old r
+    nested_refused {m = m} e g r q = let P : Result (Unit {0}) (Error E) → Type 0 = λ z. Clauses s old m old z in subst P (answers r q) (record {
+      framed = λ at. record {
+        kept = keeps_same old;
+        default = λ k. gives_refused e k (g k) at;
+        after_error = λ k told size. leaves_placed (section_in depth frame_tree) e at (pushed_leaves e ((g k).left (λ h. told (wants_placed e at h)) (λ h. size (size_placed e at h))));
+      };
+      told = λ k low. fault_map e (λ x h. h.1) (g k).unread;
+      inside = λ k low none told size. inr (record { at = p; push = pushed; inside = ((g k).left told size, (g k).bare) });
+      deep = λ h. absurd (omega (arith, low, h));
+    })
+
+    module _ {m n : S} (contents : List ℕ) (g : IsTrue i.keeps_defaults → Accepts old.ceiling p m contents) (popped : asks i m Pop ≡ accepted 0 n) where
+      -- all its visits were made
+      all_ran : (u : Tree) (a : List ℕ) → run (asks i) p (visits u) ≡ accepted a m → run (asks i) s (Push ∷ visits u ++ Pop ∷ []) ≡ accepted ((0 ∷ []) ++ (a ++ 0 ∷ [])) n
+      all_ran u a h =
+          let pop_ran : run (asks i) m (Pop ∷ []) ≡ accepted (0 ∷ []) n = rw popped refl in
+          run_then (asks i) s p n (Push ∷ []) (visits u ++ Pop ∷ []) (0 ∷ []) (a ++ 0 ∷ []) push_ran (run_then (asks i) p m n (visits u) (Pop ∷ []) a (0 ∷ []) h pop_ran)
+
+      popped_leaves : IsTrue i.keeps_defaults → (e : Error E) → Unasked e → Leaves (asks i) (section_in depth frame_tree) s e n
+      popped_leaves k e unasked =
+          let t = (g k).some in
+          let w = (g k).walks t.0 t.1 in
+          let ran = weave_in_ran (asks i) (added i.adds) old.ceiling p m (head t.0) w.0 w.1 in
+          let R : List Visit → Type 0 = λ z. run (asks i) p z ≡ accepted ran.0 m in
+          record {
+            made = Push ∷ visits t.0 ++ Pop ∷ [];
+            ended = ended_all e unasked (all_ran t.0 ran.0 (subst R (kind.headed t.0) ran.1));
+            drawn = drawn_scope (visits t.0) (kind.drawn t.0 t.1);
+            reading = λ u r. front_same (visits_are (nested_tree id (head t.0)) t.0 refl ∙ ap visits (one u r)) (front_all (Push ∷ visits t.0 ++ Pop ∷ []));
+            fault = λ none u rest x. absurd (no_up_to id body kind.no_rows u rest x);
+          }
+        where
+          one : (u : Tree) → ReadsSection depth frame_tree u → nested_tree id (head (g k).some.0) ≡ u
+          one u r = let q = kind.forth u r in ap (λ (z : Tree). nested_tree id (head z)) (kind.one (g k).some.0 q.0 (g k).some.1 q.2) ∙ sym q.1
+
+      pub nested_added : {new : Sections} → new ≡ with_section old (section_row id contents) → length contents ≤ old.ceiling → Clauses s old n new (Ok tt)
+      nested_added {new = new} is fits = record {
+        framed = λ at. record {
+          kept = (section_row id contents ∷ [], is);
+          default = λ k. record {
+            reading = λ t r. let q = kind.forth t r in by k t q.0 q.1 q.2;
+            readable = (_, kind.back (g k).some.0 (g k).some.1);
+            unreadable = tt;
+            refusal = tt;
+            unchanged = tt;
+          };
+          after_error = λ k. tt;
+        };
+        told = λ k low. tt;
+        inside = λ k low none. tt;
+        deep = λ h. absurd (omega (arith, low, h));
+      }
+        where
+          by : IsTrue i.keeps_defaults → (t u : Tree) → t ≡ nested_tree id (head u) → reads u →
+              GivesAddedIn (asks i) i.adds (own_inside (asks i) i.adds old.ceiling depth frame_tree s n) (s, old) t (n, new) (Ok tt)
+          by k t u e r =
+              let w = (g k).walks u r in
+              let few : length (normal w.0) ≤ old.ceiling = let l = fits in rw (← w.2) l in
+              let W : Tree → Type 0 = λ z. weave_in (asks i) (added i.adds) old.ceiling s z ≡ accepted (nested_tree id w.0) n in (
+                nested_tree id w.0,
+                section_row id contents,
+                subst W (sym e) (walk_fits (asks i) (added i.adds) old.ceiling s p m n id (head u) w.0 pushed w.1 popped few),
+                is,
+                ap (λ (z : List ℕ). section_bytes (section_row id z)) w.2,
+              )
+
+      pub nested_large : {new : Sections} → new ≡ old → (w : WriteFault) → IfTooLarge w (λ size. (size ≡ length contents) × (old.ceiling < size)) → (r : Result (Unit {0}) (Error E)) →
+          IsErrAnd r (λ y. y ≡ error_of_write w) → Clauses s old n new r
+      nested_large {new = new} is w h r q =
+          let P : Result (Unit {0}) (Error E) → Type 0 = λ z. Clauses s old n new z in
+          let Q : Sections → Type 0 = λ z. Clauses s old n z (Err (error_of_write w)) in
+          subst P (answers r q) (subst Q (sym is) (of_fault w h))
+        where
+          by : IsTrue i.keeps_defaults → (size : ℕ) → size ≡ length contents → old.ceiling < size → (t u : Tree) → t ≡ nested_tree id (head u) → reads u →
+              weave_in (asks i) (added i.adds) old.ceiling s t ≡ refused (TooLarge size) n
+          by k size is above t u e r =
+              let w = (g k).walks u r in
+              let sized : size ≡ length (normal w.0) = is ∙ ap length w.2 in
+              let above : old.ceiling < length (normal w.0) = let l = above in rw (← sized) l in
+              let W : Tree → Type 0 = λ z. weave_in (asks i) (added i.adds) old.ceiling s z ≡ refused (TooLarge size) n in
+              subst W (sym e) (walk_large (asks i) (added i.adds) old.ceiling s p m n id (head u) w.0 pushed w.1 popped above ∙ ap (λ (z : ℕ). refused (TooLarge z) n) (sym sized))
+
+          of_fault : (w : WriteFault) → IfTooLarge w (λ size. (size ≡ length contents) × (old.ceiling < size)) → Clauses s old n old (Err (error_of_write w))
+          of_fault (write.TooLarge size) h = record {
+            framed = λ at. record {
+              kept = keeps_same old;
+              default = λ k. record {
+                reading = λ t r other. let q = kind.forth t r in inr (by k size h.0 h.1 t q.0 q.1 q.2);
+                readable = tt;
+                unreadable = tt;
+                refusal = inl (_, kind.back (g k).some.0 (g k).some.1);
+                unchanged = refl;
+              };
+              after_error = λ k told size. popped_leaves k _ tt;
+            };
+            told = λ k low. tt;
+            inside = λ k low none. absurd (none _ (kind.back (g k).some.0 (g k).some.1));
+            deep = λ h. absurd (omega (arith, low, h));
+          }
+          of_fault write.NoMemory h = record {
+            framed = λ at. record {
+              kept = keeps_same old;
+              default = λ k. record { reading = λ t r other. absurd (other refl); readable = tt; unreadable = tt; refusal = tt; unchanged = refl };
+              after_error = λ k told size. popped_leaves k NoMemory tt;
+            };
+            told = λ k low. tt;
+            inside = λ k low none. absurd (none _ (kind.back (g k).some.0 (g k).some.1));
+            deep = λ h. absurd (omega (arith, low, h));
+          }
