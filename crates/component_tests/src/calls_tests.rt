@@ -1,6 +1,6 @@
 //! The calls that map the rows and sections of a component, each once, at a renamer that makes index 1 of each space index 11;
 //! and the order in which a strict one is asked. Each call is made twice: as the method, and as its function.
-use reencode_component::{ReencodeComponent, component_utils};
+use reencode_component::{ReencodeComponent, ReencodeComponentRows, component_utils};
 use reencode_hooks::{Asked, Error, Renamer, Unmapped};
 use std::alloc::Global;
 use wasm_leb::{List, NoMemory};

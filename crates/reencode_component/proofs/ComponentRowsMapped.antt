@@ -3,12 +3,12 @@ use Rattle.std.proofs.Common.{◌≡◌, ◌≢◌, ◌+◌, ◌-◌, ◌^◌, �
 use Rattle.wasm_leb.specs.declared.fault.Fault.{Fault}
 use Rattle.wasm_leb.specs.declared.fault.Fault.TheVariants as fault
 use Rattle.wasm_leb.specs.Place.{BeginsNoNumber}
-use Rattle.wasm_shapes.specs.Component.{component_body_of, component_section_tree}
+use Rattle.wasm_shapes.specs.Component.{component_bodies, component_body_of, component_section_tree, row_at}
 use Rattle.wasm_shapes.specs.ComponentReadings.{InComponentFrame}
 use Rattle.wasm_shapes.specs.Depth.{opens}
 use Rattle.wasm_shapes.specs.Module.{numbered_frame}
 use Rattle.wasm_shapes.specs.Rows.{RowsLeft, rows_then}
-use Rattle.wasm_shapes.specs.Shape.{Shape}
+use Rattle.wasm_shapes.specs.Shape.{Shape, closed}
 use Rattle.wasm_shapes.specs.Sound.{sound}
 use Rattle.wasm_shapes.specs.Spells.{Spells}
 use Rattle.wasm_shapes.specs.Tree.{Tree, count, normal}
@@ -141,6 +141,25 @@ pub record FlatRows (id : ℕ) (row : Shape) : Type 0 where
   pub high : id ≤ 11
   pub flat : unscoped row ≡ true
   pub is_sound : sound (Shape.vec row) ≡ true
+
+at_row : (ss : List Shape) (k : ℕ) {row : Shape} → row_at ss k ≡ Shape.vec row → k < length ss
+at_row [] k e = absurd cc
+at_row (s ∷ ss) zero e = omega arith
+at_row (s ∷ ss) (suc k) e = let less : k < length ss = at_row ss k e in omega (arith, less)
+
+above_custom : (id : ℕ) {row : Shape} → component_body_of id ≡ Shape.vec row → 1 ≤ id
+above_custom zero e = absurd cc
+above_custom (suc n) e = omega arith
+
+pub flat_rows_of : {id : ℕ} {row : Shape} → component_body_of id ≡ Shape.vec row → has_frame id ≡ true → sound row ≡ true → closed row ≡ true → unscoped row ≡ true → FlatRows id row
+flat_rows_of {id = id} are known is_sound is_closed flat = record {
+  are_rows = are;
+  known = known;
+  low = above_custom id are;
+  high = let less : id < 12 = at_row component_bodies id are in omega (arith, less);
+  flat = flat;
+  is_sound = rw (is_closed, is_sound) refl;
+}
 
 module _ (depth : ℕ) {id : ℕ} {row : Shape} (kind : FlatRows id row) (body : List ℕ) where
   pub rows_read : {reader : Standing} → CountRead body reader → (t : Tree) → ReadsSection depth (numbered_frame id body) t →

@@ -1,5 +1,5 @@
 -- Core types as rows: by the tree that one stands for, and what a refusal leaves.
-use Rattle.std.proofs.Common.{◌≡◌, ◌<◌, ◌^◌, ◌++◌, ℕ, List, [], ◌∷◌, Result, Err, IsTrue, refl, sym, ap, ◌∙◌, append_assoc, subst, arith}
+use Rattle.std.proofs.Common.{◌≡◌, ◌<◌, ◌^◌, ◌++◌, ℕ, List, [], ◌∷◌, Result, Ok, Err, IsTrue, refl, sym, ap, ◌∙◌, append_assoc, subst, arith}
 use Rattle.wasm_shapes.specs.declared.Visit.{Visit}
 use Rattle.wasm_shapes.specs.declared.Visit.TheVariants.{Push, Pop}
 use Rattle.wasm_shapes.specs.Tree.{Tree, count, visits}
@@ -18,12 +18,14 @@ use Rattle.wasm_write_component.specs.TypeRows.{core_type_tree}
 use Rattle.reencode_hooks.specs.declared.error.Error.{Error}
 use Rattle.reencode_hooks.specs.declared.error.Error.TheVariants.{CanonicalizedHeapTypeReference, InvalidConstExpr, InvalidCodeSectionSize, UnexpectedNonCoreModuleSection, UnexpectedNonComponentSection, UnsupportedCoreTypeInComponent, ParseError, UserError, TooLarge, NoMemory}
 use Rattle.reencode_hooks.specs.declared.indices.ReencodeIndices.{Ghosts}
-use Rattle.reencode_hooks.specs.Run.{Step, Visited, accepted, and_then, refused, run, state_after}
+use Rattle.reencode_hooks.specs.Run.{LeavesVisited, Step, Visited, accepted, and_then, refused, run, state_after}
 use Rattle.reencode_items.specs.Maps.{Maps}
-use Rattle.reencode_core.specs.Clauses.{asks}
+use Rattle.reencode_core.specs.Clauses.{RowClauses, asks}
 use Rattle.reencode_core.specs.Leaves.{Ended, Leaves, Text, rows_in}
 use Rattle.reencode_core.specs.Rows.{Asks}
+use Rattle.reencode_component.specs.Clauses.{AddsRow}
 use Rattle.reencode_component.specs.TypeClauses.{CoreTypeClauses, Opened}
+use Rattle.reencode_component.proofs.RowAdded.{list_added}
 
 -- ---- what an error leaves of a scope
 
@@ -84,3 +86,13 @@ module _ {S E : Type 0} (i : Ghosts S E) (s m : S) where
       let P : Tree → Type 0 = λ z. Visited (asks i) s (visits z) m in
       let same : t ≡ Tree.row 0 (led 0x50 (Tree.scope (Tree.vec scope.rows))) = stands.is ∙ ap (λ (z : Tree). Tree.row 0 (led 0x50 z)) scope.is in
       subst P (sym same) (open_visited (asks i) (rows_in module_declaration reader) e scope.rows scope.left (given.after_error k (λ h. sure)))
+
+  -- it is added
+  pub core_row_added : (ty : read.CoreType) (mapped : Result made.CoreType (Error E)) → CoreTypeClauses i ty s m mapped → {old new : List Tree} (r : Result (Unit {0}) (Error E)) →
+      AddsRow core_type_tree mapped old new r → (depth : ℕ) (t : Tree) (x : List ℕ) → CoreTypeStands ty t → Spelled t x → RowClauses i t s old m new r
+  core_row_added ty mapped given r adds depth t x stands spelled =
+      list_added i t core_type_tree mapped (record { default = core_maps ty t x stands spelled mapped given; after_error = left mapped given }) r adds
+    where
+      left : (r : Result made.CoreType (Error E)) → CoreTypeClauses i ty s m r → IsTrue i.keeps_defaults → IsTrue i.sure → LeavesVisited (asks i) s (visits t) m r
+      left (Ok b) given k sure = tt
+      left (Err e) given k sure = core_left ty t stands e given k sure

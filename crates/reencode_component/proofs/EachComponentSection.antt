@@ -49,26 +49,6 @@ use Rattle.reencode_component.proofs.ComponentLoop.{unknown_in_force}
 use Rattle.reencode_component.proofs.ComponentRowsMapped.{FlatRows, in_numbered, section_added, section_not_added, section_stops, section_uncounted}
 use Rattle.reencode_component.proofs.ComponentRowsLeft.{section_leaves, section_leaves_all, section_untouched}
 
--- ---- the kinds whose rows open no scope
-
-pub instance_rows : FlatRows 2 table.instance_row
-instance_rows = record { are_rows = refl; known = refl; low = lit≤ tt; high = lit≤ tt; flat = refl; is_sound = refl }
-
-pub component_instance_rows : FlatRows 5 table.component_instance_row
-component_instance_rows = record { are_rows = refl; known = refl; low = lit≤ tt; high = lit≤ tt; flat = refl; is_sound = refl }
-
-pub alias_rows : FlatRows 6 table.alias
-alias_rows = record { are_rows = refl; known = refl; low = lit≤ tt; high = lit≤ tt; flat = refl; is_sound = refl }
-
-pub canonical_rows : FlatRows 8 table.canonical_function
-canonical_rows = record { are_rows = refl; known = refl; low = lit≤ tt; high = lit≤ tt; flat = refl; is_sound = refl }
-
-pub import_rows : FlatRows 10 table.extern_row
-import_rows = record { are_rows = refl; known = refl; low = lit≤ tt; high = lit≤ tt; flat = refl; is_sound = refl }
-
-pub export_rows : FlatRows 11 table.component_export_row
-export_rows = record { are_rows = refl; known = refl; low = lit≤ tt; high = lit≤ tt; flat = refl; is_sound = refl }
-
 -- ---- the same error at another place
 
 pub leaves_placed : {S E : Type 0} {asked : Asks S E} (text : Text) {s m : S} (e : Error E) (at : ℕ) → Leaves asked text s e m → Leaves asked text s (placed_at e at) m

@@ -2,6 +2,7 @@ pub mod SortKept
 pub mod Walked
 pub mod OperandsWalked
 pub mod Added
+pub mod RowAdded
 pub mod SectionsAhead
 pub mod WovenIn
 pub mod WeavesIn

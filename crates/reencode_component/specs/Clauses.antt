@@ -1,6 +1,6 @@
 -- What a call that maps an item promises, whole: one record for each kind of call, which the method, its function and its body cite.
 -- `i` are the meanings of the reencoder, `s` is its state before the call, and `m` the one after it.
-use Rattle.std.specs.Prelude.{◌≡◌, ℕ, List, Result, Ok, IfErr, IfOk, IsTrue}
+use Rattle.std.specs.Prelude.{◌≡◌, ◌+◌, ◌++◌, ◌∷◌, [], length, ℕ, List, Result, Ok, Err, IfErr, IfOk, IsTrue}
 use Rattle.wasm_shapes.specs.Tree.{Tree, visits}
 use Rattle.wasm_types.specs.declared.components.CanonicalOption.{CanonicalOption}
 use Rattle.wasm_types.specs.declared.components.Operands.{Operands}
@@ -8,9 +8,13 @@ use Rattle.wasm_types.specs.ComponentTrees.{operands_form}
 use Rattle.wasm_read.specs.declared.types.UnpackedIndex.{UnpackedIndex}
 use Rattle.wasm_read_component.specs.ComponentRows as read
 use Rattle.wasm_write_component.specs.ComponentRows as write
+use Rattle.wasm_write.specs.declared.fault.WriteFault.{WriteFault}
+use Rattle.wasm_write.specs.Counts.{IsTooLarge, counts}
+use Rattle.wasm_write.specs.Faults.{IfTooLarge}
 use Rattle.wasm_write.specs.Sections.{Sections}
 use Rattle.reencode_hooks.specs.declared.error.Error.{Error}
 use Rattle.reencode_hooks.specs.declared.indices.ReencodeIndices.{Ghosts}
+use Rattle.reencode_hooks.specs.Errors.{error_of_write}
 use Rattle.reencode_hooks.specs.Run.{LeavesVisited, ask}
 use Rattle.reencode_items.specs.Maps.{Maps}
 use Rattle.reencode_core.specs.Clauses.{asks}
@@ -42,6 +46,15 @@ OperandsClauses i o s m result =
       default : IsTrue i.keeps_defaults → Maps i.reply i.next s (read.operands_tree o) write.operands_tree m result;
       after_error : IsTrue i.keeps_defaults → IsTrue i.sure → LeavesVisited (ask i.reply i.next) s (visits (read.operands_tree o)) m result;
     }
+
+-- ---- rows
+
+-- A row that was mapped is added, or its numbers or the number of rows are too large; where it was refused, that is the answer.
+abbrev pub AddsRow : {E B : Type 0} → (B → Tree) → Result B (Error E) → List Tree → List Tree → Result (Unit {0}) (Error E) → Type 0
+AddsRow view (Err e) old new result = (result ≡ Err e) × (new ≡ old)
+AddsRow view (Ok b) old new (Ok _) = new ≡ old ++ view b ∷ []
+AddsRow view (Ok b) old new (Err e) =
+    (new ≡ old) × (w : WriteFault) × (e ≡ error_of_write w) × IfTooLarge w (IsTooLarge (counts (view b) ++ (length old + 1) ∷ []))
 
 -- ---- sections
 

@@ -1,31 +1,26 @@
-//! What a re-encoder does with each row and section of a component.
+//! What a re-encoder does with each section of a component.
 ghost use Rattle.std.specs.Prelude.{◌≤◌};
-ghost use Rattle.wasm_shapes.specs.Component.{alias, canonical_function, component_export_row, component_instance_row, component_section_tree, core_type, extern_row, instance_row, module_declaration, unknown_component_tree};
-ghost use Rattle.wasm_types.specs.ComponentTrees.{component_defined_type_tree, component_export_tree, component_func_type_tree, component_instance_tree, instance_tree};
-ghost use Rattle.wasm_read.specs.Types.{export_tree};
+ghost use Rattle.wasm_shapes.specs.Component.{alias, canonical_function, component_export_row, component_instance_row, component_section_tree, core_type, extern_row, instance_row, unknown_component_tree};
+ghost use Rattle.wasm_types.specs.ComponentTrees.{component_defined_type_tree, component_func_type_tree};
 ghost use Rattle.wasm_read_component.specs.ComponentRows as read;
-ghost use Rattle.wasm_read_component.specs.TypeRows.{module_declaration_tree};
-ghost use Rattle.wasm_write_component.specs.TypeRows.{scope_tree};
 ghost use Rattle.reencode_items.specs.Clauses.{ListClauses};
-ghost use Rattle.reencode_core.specs.Clauses.{RowClauses, RowsClauses};
+ghost use Rattle.reencode_core.specs.Clauses.{RowsClauses};
 ghost use Rattle.reencode_component.specs.Clauses.{AddedClauses};
 ghost use Rattle.reencode_component.specs.ScopedRows.{ShallowRowsClauses};
-ghost use Rattle.reencode_component.specs.TypeClauses.{CoreTypeClauses, ScopeClauses};
 
-use crate::items::ReencodeComponentItems;
-use crate::{core_types, default_bodies, row_sections, rows, sections, type_bodies, types};
-use reencode_core::Reencode;
+use crate::component_rows::ReencodeComponentRows;
+use crate::{row_sections, scoped_sections, sections, types};
 use reencode_hooks::Error;
 use std::alloc::Global;
 use wasm_read_component as r;
 use wasm_write_component as w;
 
-/// What a re-encoder does with each row and section of a component.
+/// What a re-encoder does with each section of a component, and with types of its functions and values.
 ///
-/// The clauses of a method are the fields of the record that it cites (`specs/Clauses.antt`, of `reencode_core` for rows and
-/// sections of rows). `default`, `after_error` and `usual` hold where the reencoder keeps the defaults; `wants` and, of a row or
-/// of a section that is added whole, `after_error` where it is sure.
-pub trait ReencodeComponent: Reencode + ReencodeComponentItems {
+/// The clauses of a method are the fields of the record that it cites (`specs/Clauses.antt`, of `reencode_core` for
+/// sections of rows). `default`, `after_error` and `usual` hold where the reencoder keeps the defaults; `wants` and, of
+/// a section that is added whole, `after_error` where it is sure.
+pub trait ReencodeComponent: ReencodeComponentRows {
     /// Maps the rows that the reader still has, each type by `component_type_ref`, and adds each row once it is mapped.
     fn parse_component_import_section(
         &mut self,
@@ -62,20 +57,7 @@ pub trait ReencodeComponent: Reencode + ReencodeComponentItems {
         ensures { RowsClauses Self.ReencodeIndices component_export_row section.entry
             self.old exports.old self.new exports.new result }
     {
-        default_bodies::each_row!(section, alloc, row => self.parse_component_export(exports, row))
-    }
-
-    /// Maps an export by `component_export_kind`, `component_external_index` and, where it has a type, `component_type_ref`,
-    /// and adds it.
-    fn parse_component_export(
-        &mut self,
-        exports: &mut w::ComponentExportSection,
-        export: r::ComponentExport<'_>,
-    ) -> Result<(), Error<Self::Error>>
-        ensures { RowClauses Self.ReencodeIndices (component_export_tree export.entry)
-            self.old exports.old self.new exports.new result }
-    {
-        rows::parse_component_export(self, exports, export)
+        row_sections::parse_component_export_section(self, alloc, exports, section)
     }
 
     /// Maps the rows that the reader still has, each by `parse_component_canonical`.
@@ -88,23 +70,7 @@ pub trait ReencodeComponent: Reencode + ReencodeComponentItems {
         ensures { RowsClauses Self.ReencodeIndices canonical_function section.entry
             self.old canonical.old self.new canonical.new result }
     {
-        default_bodies::each_row!(section, alloc, row => self.parse_component_canonical(alloc, canonical, row))
-    }
-
-    /// Maps a canonical function and adds it. Indices are asked in the order of the bytes, but that the options of a lifted
-    /// function are asked after its type, and the options of `task.return` and of the reads and writes of streams and futures
-    /// before the type. Options are mapped by `canonical_option`, results by `component_val_type`, and the type of a slot by
-    /// `val_type`.
-    fn parse_component_canonical(
-        &mut self,
-        alloc: Global,
-        section: &mut w::CanonicalFunctionSection,
-        func: r::CanonicalFunction,
-    ) -> Result<(), Error<Self::Error>>
-        ensures { RowClauses Self.ReencodeIndices (read.canonical_tree func)
-            self.old section.old self.new section.new result }
-    {
-        rows::parse_component_canonical(self, alloc, section, func)
+        row_sections::parse_component_canonical_section(self, alloc, canonical, section)
     }
 
     /// Maps the rows that the reader still has, each by `parse_component_instance`.
@@ -117,21 +83,7 @@ pub trait ReencodeComponent: Reencode + ReencodeComponentItems {
         ensures { RowsClauses Self.ReencodeIndices component_instance_row section.entry
             self.old instances.old self.new instances.new result }
     {
-        default_bodies::each_row!(section, alloc, row => self.parse_component_instance(alloc, instances, row))
-    }
-
-    /// Maps an instance and adds it: its component by `component_index` and then what is handed to it, or what it exports, by
-    /// `component_export_kind` and `component_external_index`.
-    fn parse_component_instance(
-        &mut self,
-        alloc: Global,
-        instances: &mut w::ComponentInstanceSection,
-        instance: r::ComponentInstance<'_>,
-    ) -> Result<(), Error<Self::Error>>
-        ensures { RowClauses Self.ReencodeIndices (component_instance_tree instance.entry)
-            self.old instances.old self.new instances.new result }
-    {
-        rows::parse_component_instance(self, alloc, instances, instance)
+        row_sections::parse_component_instance_section(self, alloc, instances, section)
     }
 
     /// Maps the rows that the reader still has, each by `parse_instance`.
@@ -144,21 +96,7 @@ pub trait ReencodeComponent: Reencode + ReencodeComponentItems {
         ensures { RowsClauses Self.ReencodeIndices instance_row section.entry
             self.old instances.old self.new instances.new result }
     {
-        default_bodies::each_row!(section, alloc, row => self.parse_instance(alloc, instances, row))
-    }
-
-    /// Maps a core instance and adds it: its module by `module_index` and then what is handed to it by `instance_index`, or
-    /// what it exports, by `export_kind` and `external_index`.
-    fn parse_instance(
-        &mut self,
-        alloc: Global,
-        instances: &mut w::InstanceSection,
-        instance: r::Instance<'_>,
-    ) -> Result<(), Error<Self::Error>>
-        ensures { RowClauses Self.ReencodeIndices (instance_tree export_tree instance.entry)
-            self.old instances.old self.new instances.new result }
-    {
-        rows::parse_instance(self, alloc, instances, instance)
+        row_sections::parse_instance_section(self, alloc, instances, section)
     }
 
     /// Maps the function that starts a component by `component_func_index`, and then its arguments by `component_value_index`,
@@ -224,44 +162,6 @@ pub trait ReencodeComponent: Reencode + ReencodeComponentItems {
         ensures { ShallowRowsClauses Self.ReencodeIndices core_type section.entry
             self.old types.old self.new types.new result }
     {
-        type_bodies::parse_core_type_section!(self, alloc, types, section)
-    }
-
-    /// A core type (`core:deftype`): types by `parse_recursive_type_group`, or a module type by `component_module_type`.
-    fn parse_component_core_type(
-        &mut self,
-        alloc: Global,
-        core: r::CoreType<'_>,
-    ) -> Result<w::CoreType, Error<Self::Error>>
-        ensures { CoreTypeClauses Self.ReencodeIndices core.entry self.old self.new result }
-    {
-        type_bodies::parse_component_core_type!(self, alloc, core)
-    }
-
-    /// A module type (`core:moduletype`), which is a scope: `push_depth`, then each declaration that the reader still has by
-    /// `parse_component_module_type_declaration`, then `pop_depth`, which is not called where one of these is refused.
-    fn component_module_type(
-        &mut self,
-        alloc: Global,
-        ty: r::ModuleDeclarations<'_>,
-    ) -> Result<w::ModuleType, Error<Self::Error>>
-        ensures { ScopeClauses Self.ReencodeIndices module_declaration ty.entry (λ t. t) scope_tree
-            self.old self.new result }
-    {
-        type_bodies::component_module_type!(self, alloc, ty)
-    }
-
-    /// Maps what a module type declares (`core:moduledecl`) and adds it: types by `parse_recursive_type_group`, what is imported
-    /// or exported by `entity_type`, and an alias by `outer_type_index`, its count as it is.
-    fn parse_component_module_type_declaration(
-        &mut self,
-        alloc: Global,
-        module: &mut w::ModuleType,
-        decl: r::ModuleTypeDeclaration<'_>,
-    ) -> Result<(), Error<Self::Error>>
-        ensures { RowClauses Self.ReencodeIndices (module_declaration_tree decl.entry)
-            self.old «module».old self.new «module».new result }
-    {
-        core_types::parse_component_module_type_declaration(self, alloc, module, decl)
+        scoped_sections::parse_core_type_section(self, alloc, types, section)
     }
 }

@@ -1,19 +1,25 @@
 //! Sections of a component by their frames: each is mapped by the method of its kind, and added.
-ghost use Rattle.std.specs.Prelude.{◌≡◌, ◌≢◌, ◌≤◌};
+ghost use Rattle.std.specs.Prelude.{◌≡◌, ◌≢◌, ◌≤◌, true};
+ghost use Rattle.wasm_shapes.specs.Component.{alias, canonical_function, component_export_row, component_instance_row, extern_row, instance_row};
 ghost use Rattle.wasm_shapes.specs.Module.{numbered_frame};
 ghost use Rattle.wasm_shapes.specs.Tree.{normal};
 ghost use Rattle.wasm_shapes.specs.Types.{vector_tree};
+ghost use Rattle.wasm_shapes.proofs.Unscoped.{unscoped};
+ghost use Rattle.wasm_read_component.specs.ComponentPayloads.{has_frame};
 ghost use Rattle.wasm_write.specs.Sections.{section_row};
+ghost use Rattle.reencode_core.specs.Clauses.{RowsClauses};
 ghost use Rattle.reencode_core.specs.Sections.{AddsMapped};
 ghost use Rattle.reencode_component.specs.ComponentClauses.{FrameClauses, placed_in};
 
 use crate::component::ReencodeComponent;
-use reencode_hooks::Error;
+use reencode_hooks::{Error, ReencodeIndices};
 use std::alloc::Global;
 use wasm_leb::{Fault, ReadError};
+use wasm_read::SectionReader;
 use wasm_read_component as r;
+use wasm_shapes::component_kinds as kinds;
 use wasm_shapes::component_kinds::ComponentSectionKind;
-use wasm_shapes::kinds::SectionKind;
+use wasm_shapes::kinds::{RowKind, SectionKind};
 use wasm_write::RowSection;
 use wasm_write_component as w;
 
@@ -43,120 +49,126 @@ fn add_rows<K: ComponentSectionKind, E>(
     Ok(())
 }
 
-// A section of rows: its count is read, its rows are mapped, and it is added.
-macro_rules! mapped_rows {
-    ($component:ident, $at:ident, $reader:expr, $new:expr, $rows:ident, $section:ident => $step:expr) => {{
-        match $reader {
-            Ok($rows) => {
-                let mut $section = $new;
-                let mapped = $step;
-                add_rows($component, mapped, $at, $section)
-            }
-            Err(_) => Err(Error::ParseError(ReadError { at: $at })),
+/// A kind of section whose rows open no scope, as a reencoder maps them.
+trait MapSection<T: ReencodeIndices>: ComponentSectionKind {
+    /// Maps the rows that the reader still has, and adds them.
+    fn map(
+        reencoder: &mut T,
+        alloc: Global,
+        sink: &mut RowSection<w::Of<Self>>,
+        section: SectionReader<'_, r::Of<Self>>,
+    ) -> Result<(), Error<T::Error>>
+        ensures { RowsClauses T.ReencodeIndices Self.SectionKind.shape section.entry
+            reencoder.old sink.old reencoder.new sink.new result };
+}
+
+/// A section of rows that open no scope, by its body.
+fn flat_rows<T: ReencodeIndices, K: MapSection<T>>(
+    reencoder: &mut T,
+    alloc: Global,
+    component: &mut w::Component,
+    at: usize,
+    body: &[u8],
+    depth: u32,
+) -> Result<(), Error<T::Error>>
+    requires deep { depth ≤ 200 }
+    requires in_force { has_frame K.SectionKind.ID ≡ true }
+    requires flat { unscoped K.shape ≡ true }
+    ensures { FrameClauses T.ReencodeIndices depth (numbered_frame K.SectionKind.ID body.now) at
+        reencoder.old «component».old reencoder.new «component».new result }
+{
+    match SectionReader::<r::Of<K>>::new(body) {
+        Ok(rows) => {
+            let mut section = RowSection::new(alloc);
+            let mapped = K::map(reencoder, alloc, &mut section, rows);
+            add_rows(component, mapped, at, section)
         }
-    }};
+        Err(_) => Err(Error::ParseError(ReadError { at })),
+    }
 }
 
-/// A section of core instances.
-fn instances<T: ReencodeComponent>(
-    reencoder: &mut T,
-    alloc: Global,
-    component: &mut w::Component,
-    at: usize,
-    body: &[u8],
-    depth: u32,
-) -> Result<(), Error<T::Error>>
-    requires { depth ≤ 200 }
-    ensures { FrameClauses T.ReencodeIndices depth (numbered_frame 2 body.now) at
-        reencoder.old «component».old reencoder.new «component».new result }
-{
-    mapped_rows!(component, at, r::InstanceSectionReader::new(body), w::InstanceSection::new(alloc),
-        rows, section => reencoder.parse_instance_section(alloc, &mut section, rows))
+impl<T: ReencodeComponent> MapSection<T> for kinds::Instances {
+    fn map(
+        reencoder: &mut T,
+        alloc: Global,
+        instances: &mut w::InstanceSection,
+        section: r::InstanceSectionReader<'_>,
+    ) -> Result<(), Error<T::Error>>
+        ensures { RowsClauses T.ReencodeIndices instance_row section.entry
+            reencoder.old instances.old reencoder.new instances.new result }
+    {
+        reencoder.parse_instance_section(alloc, instances, section)
+    }
 }
 
-/// A section of instances.
-fn component_instances<T: ReencodeComponent>(
-    reencoder: &mut T,
-    alloc: Global,
-    component: &mut w::Component,
-    at: usize,
-    body: &[u8],
-    depth: u32,
-) -> Result<(), Error<T::Error>>
-    requires { depth ≤ 200 }
-    ensures { FrameClauses T.ReencodeIndices depth (numbered_frame 5 body.now) at
-        reencoder.old «component».old reencoder.new «component».new result }
-{
-    mapped_rows!(component, at, r::ComponentInstanceSectionReader::new(body), w::ComponentInstanceSection::new(alloc),
-        rows, section => reencoder.parse_component_instance_section(alloc, &mut section, rows))
+impl<T: ReencodeComponent> MapSection<T> for kinds::ComponentInstances {
+    fn map(
+        reencoder: &mut T,
+        alloc: Global,
+        instances: &mut w::ComponentInstanceSection,
+        section: r::ComponentInstanceSectionReader<'_>,
+    ) -> Result<(), Error<T::Error>>
+        ensures { RowsClauses T.ReencodeIndices component_instance_row section.entry
+            reencoder.old instances.old reencoder.new instances.new result }
+    {
+        reencoder.parse_component_instance_section(alloc, instances, section)
+    }
 }
 
-/// A section of aliases.
-fn aliases<T: ReencodeComponent>(
-    reencoder: &mut T,
-    alloc: Global,
-    component: &mut w::Component,
-    at: usize,
-    body: &[u8],
-    depth: u32,
-) -> Result<(), Error<T::Error>>
-    requires { depth ≤ 200 }
-    ensures { FrameClauses T.ReencodeIndices depth (numbered_frame 6 body.now) at
-        reencoder.old «component».old reencoder.new «component».new result }
-{
-    mapped_rows!(component, at, r::ComponentAliasSectionReader::new(body), w::ComponentAliasSection::new(alloc),
-        rows, section => reencoder.parse_component_alias_section(alloc, &mut section, rows))
+impl<T: ReencodeComponent> MapSection<T> for kinds::Aliases {
+    fn map(
+        reencoder: &mut T,
+        alloc: Global,
+        aliases: &mut w::ComponentAliasSection,
+        section: r::ComponentAliasSectionReader<'_>,
+    ) -> Result<(), Error<T::Error>>
+        ensures { RowsClauses T.ReencodeIndices alias section.entry
+            reencoder.old aliases.old reencoder.new aliases.new result }
+    {
+        reencoder.parse_component_alias_section(alloc, aliases, section)
+    }
 }
 
-/// A section of canonical functions.
-fn canonical_functions<T: ReencodeComponent>(
-    reencoder: &mut T,
-    alloc: Global,
-    component: &mut w::Component,
-    at: usize,
-    body: &[u8],
-    depth: u32,
-) -> Result<(), Error<T::Error>>
-    requires { depth ≤ 200 }
-    ensures { FrameClauses T.ReencodeIndices depth (numbered_frame 8 body.now) at
-        reencoder.old «component».old reencoder.new «component».new result }
-{
-    mapped_rows!(component, at, r::ComponentCanonicalSectionReader::new(body), w::CanonicalFunctionSection::new(alloc),
-        rows, section => reencoder.parse_component_canonical_section(alloc, &mut section, rows))
+impl<T: ReencodeComponent> MapSection<T> for kinds::CanonicalFunctions {
+    fn map(
+        reencoder: &mut T,
+        alloc: Global,
+        canonical: &mut w::CanonicalFunctionSection,
+        section: r::ComponentCanonicalSectionReader<'_>,
+    ) -> Result<(), Error<T::Error>>
+        ensures { RowsClauses T.ReencodeIndices canonical_function section.entry
+            reencoder.old canonical.old reencoder.new canonical.new result }
+    {
+        reencoder.parse_component_canonical_section(alloc, canonical, section)
+    }
 }
 
-/// A section of imports.
-fn imports<T: ReencodeComponent>(
-    reencoder: &mut T,
-    alloc: Global,
-    component: &mut w::Component,
-    at: usize,
-    body: &[u8],
-    depth: u32,
-) -> Result<(), Error<T::Error>>
-    requires { depth ≤ 200 }
-    ensures { FrameClauses T.ReencodeIndices depth (numbered_frame 10 body.now) at
-        reencoder.old «component».old reencoder.new «component».new result }
-{
-    mapped_rows!(component, at, r::ComponentImportSectionReader::new(body), w::ComponentImportSection::new(alloc),
-        rows, section => reencoder.parse_component_import_section(alloc, &mut section, rows))
+impl<T: ReencodeComponent> MapSection<T> for kinds::ComponentImports {
+    fn map(
+        reencoder: &mut T,
+        alloc: Global,
+        imports: &mut w::ComponentImportSection,
+        section: r::ComponentImportSectionReader<'_>,
+    ) -> Result<(), Error<T::Error>>
+        ensures { RowsClauses T.ReencodeIndices extern_row section.entry
+            reencoder.old imports.old reencoder.new imports.new result }
+    {
+        reencoder.parse_component_import_section(alloc, imports, section)
+    }
 }
 
-/// A section of exports.
-fn exports<T: ReencodeComponent>(
-    reencoder: &mut T,
-    alloc: Global,
-    component: &mut w::Component,
-    at: usize,
-    body: &[u8],
-    depth: u32,
-) -> Result<(), Error<T::Error>>
-    requires { depth ≤ 200 }
-    ensures { FrameClauses T.ReencodeIndices depth (numbered_frame 11 body.now) at
-        reencoder.old «component».old reencoder.new «component».new result }
-{
-    mapped_rows!(component, at, r::ComponentExportSectionReader::new(body), w::ComponentExportSection::new(alloc),
-        rows, section => reencoder.parse_component_export_section(alloc, &mut section, rows))
+impl<T: ReencodeComponent> MapSection<T> for kinds::ComponentExports {
+    fn map(
+        reencoder: &mut T,
+        alloc: Global,
+        exports: &mut w::ComponentExportSection,
+        section: r::ComponentExportSectionReader<'_>,
+    ) -> Result<(), Error<T::Error>>
+        ensures { RowsClauses T.ReencodeIndices component_export_row section.entry
+            reencoder.old exports.old reencoder.new exports.new result }
+    {
+        reencoder.parse_component_export_section(alloc, exports, section)
+    }
 }
 
 /// The start of a component.
@@ -196,25 +208,33 @@ pub(crate) fn numbered<T: ReencodeComponent>(
         reencoder.old «component».old reencoder.new «component».new result }
 {
     if id == 2 {
-        return instances(reencoder, alloc, component, at, body, depth);
+        return flat_rows::<T, kinds::Instances>(reencoder, alloc, component, at, body, depth);
     }
     if id == 5 {
-        return component_instances(reencoder, alloc, component, at, body, depth);
+        return flat_rows::<T, kinds::ComponentInstances>(
+            reencoder, alloc, component, at, body, depth,
+        );
     }
     if id == 6 {
-        return aliases(reencoder, alloc, component, at, body, depth);
+        return flat_rows::<T, kinds::Aliases>(reencoder, alloc, component, at, body, depth);
     }
     if id == 8 {
-        return canonical_functions(reencoder, alloc, component, at, body, depth);
+        return flat_rows::<T, kinds::CanonicalFunctions>(
+            reencoder, alloc, component, at, body, depth,
+        );
     }
     if id == 9 {
         return start(reencoder, alloc, component, at, body, depth);
     }
     if id == 10 {
-        return imports(reencoder, alloc, component, at, body, depth);
+        return flat_rows::<T, kinds::ComponentImports>(
+            reencoder, alloc, component, at, body, depth,
+        );
     }
     if id == 11 {
-        return exports(reencoder, alloc, component, at, body, depth);
+        return flat_rows::<T, kinds::ComponentExports>(
+            reencoder, alloc, component, at, body, depth,
+        );
     }
     if id < 12 {
         return Err(Error::ParseError(ReadError { at }));

@@ -1,15 +1,13 @@
-//! The default bodies of `ReencodeComponentItems` and `ReencodeComponent`, as functions of any reencoder.
+//! The default bodies of `ReencodeComponentItems`, `ReencodeComponentRows` and `ReencodeComponent`, as functions of any
+//! reencoder.
 //!
 //! Those whose bodies call no method of the trait are bounded by a trait below, so that an override can call them.
-ghost use Rattle.wasm_shapes.specs.Component.{canonical_function, component_export_row, component_instance_row, instance_row};
 ghost use Rattle.wasm_types.specs.ComponentTrees.{component_val_type_tree, type_ref_tree};
 ghost use Rattle.wasm_read_component.specs.Aliases as read;
 ghost use Rattle.wasm_write_component.specs.Aliases as write;
-ghost use Rattle.reencode_core.specs.Clauses.{RowsClauses};
 ghost use Rattle.reencode_items.specs.Clauses.{ItemClauses};
 ghost use Rattle.reencode_component.specs.Clauses.{ValueClauses};
 
-use crate::component::ReencodeComponent;
 pub use crate::components::{
     parse_component, parse_component_payload, parse_component_subcomponent,
 };
@@ -20,18 +18,20 @@ pub use crate::kinds::{
     component_export_kind, component_outer_alias_kind, component_primitive_val_type,
 };
 pub use crate::nested::parse_component_submodule;
-pub use crate::row_sections::{parse_component_alias_section, parse_component_import_section};
+pub use crate::row_sections::{
+    parse_component_alias_section, parse_component_canonical_section,
+    parse_component_export_section, parse_component_import_section,
+    parse_component_instance_section, parse_instance_section,
+};
 pub use crate::rows::{
     parse_component_canonical, parse_component_export, parse_component_instance, parse_instance,
 };
+pub use crate::scoped_sections::parse_core_type_section;
 pub use crate::sections::{parse_component_start_section, parse_unknown_component_section};
-pub use crate::type_utils::{
-    component_module_type, parse_component_core_type, parse_core_type_section,
-};
+pub use crate::type_utils::{component_module_type, parse_component_core_type};
 pub use crate::types::{parse_component_defined_type, parse_component_func_type};
 use crate::{default_bodies, hooked};
 use reencode_hooks::Error;
-use std::alloc::Global;
 use wasm_read_component as r;
 use wasm_write_component as w;
 
@@ -66,56 +66,4 @@ pub fn component_alias<'a, T: ReencodeComponentItems>(
         (read.alias_tree alias.entry) write.alias_tree reencoder.old reencoder.new result }
 {
     default_bodies::component_alias!(reencoder, alias)
-}
-
-/// Maps the rows that the reader still has, each by `parse_component_export`.
-pub fn parse_component_export_section<T: ReencodeComponent>(
-    reencoder: &mut T,
-    alloc: Global,
-    exports: &mut w::ComponentExportSection,
-    section: r::ComponentExportSectionReader<'_>,
-) -> Result<(), Error<T::Error>>
-    ensures { RowsClauses T.ReencodeIndices component_export_row section.entry
-        reencoder.old exports.old reencoder.new exports.new result }
-{
-    default_bodies::each_row!(section, alloc, row => reencoder.parse_component_export(exports, row))
-}
-
-/// Maps the rows that the reader still has, each by `parse_component_canonical`.
-pub fn parse_component_canonical_section<T: ReencodeComponent>(
-    reencoder: &mut T,
-    alloc: Global,
-    canonical: &mut w::CanonicalFunctionSection,
-    section: r::ComponentCanonicalSectionReader<'_>,
-) -> Result<(), Error<T::Error>>
-    ensures { RowsClauses T.ReencodeIndices canonical_function section.entry
-        reencoder.old canonical.old reencoder.new canonical.new result }
-{
-    default_bodies::each_row!(section, alloc, row => reencoder.parse_component_canonical(alloc, canonical, row))
-}
-
-/// Maps the rows that the reader still has, each by `parse_component_instance`.
-pub fn parse_component_instance_section<T: ReencodeComponent>(
-    reencoder: &mut T,
-    alloc: Global,
-    instances: &mut w::ComponentInstanceSection,
-    section: r::ComponentInstanceSectionReader<'_>,
-) -> Result<(), Error<T::Error>>
-    ensures { RowsClauses T.ReencodeIndices component_instance_row section.entry
-        reencoder.old instances.old reencoder.new instances.new result }
-{
-    default_bodies::each_row!(section, alloc, row => reencoder.parse_component_instance(alloc, instances, row))
-}
-
-/// Maps the rows that the reader still has, each by `parse_instance`.
-pub fn parse_instance_section<T: ReencodeComponent>(
-    reencoder: &mut T,
-    alloc: Global,
-    instances: &mut w::InstanceSection,
-    section: r::InstanceSectionReader<'_>,
-) -> Result<(), Error<T::Error>>
-    ensures { RowsClauses T.ReencodeIndices instance_row section.entry
-        reencoder.old instances.old reencoder.new instances.new result }
-{
-    default_bodies::each_row!(section, alloc, row => reencoder.parse_instance(alloc, instances, row))
 }

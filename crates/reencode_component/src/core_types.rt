@@ -5,6 +5,7 @@ ghost use Rattle.reencode_items.specs.Clauses.{ListClauses};
 ghost use Rattle.reencode_core.specs.Clauses.{RowClauses};
 
 use crate::items::ReencodeComponentItems;
+use crate::rows::add_row;
 use reencode_core::Reencode;
 use reencode_hooks::Error;
 use std::alloc::Global;
@@ -57,7 +58,6 @@ pub fn parse_component_module_type_declaration<T: Reencode + ReencodeComponentIt
     ensures { RowClauses T.ReencodeIndices (read.module_declaration_tree decl.entry)
         reencoder.old «module».old reencoder.new «module».new result }
 {
-    let row = module_declaration(reencoder, alloc, decl)?;
-    module.add(&row)?;
-    Ok(())
+    let row = module_declaration(reencoder, alloc, decl);
+    add_row(module, row)
 }

@@ -72,18 +72,6 @@ macro_rules! component_alias {
     };
 }
 
-// Each row that the reader still has, one behind another.
-macro_rules! each_row {
-    ($section:ident, $alloc:ident, $row:ident => $step:expr) => {{
-        let mut rows = $section;
-        'rows: while let Some($row) = rows.next_row($alloc)? {
-            $step?;
-        }
-        Ok(())
-    }};
-}
-
 pub(crate) use component_alias;
 pub(crate) use component_type_ref;
 pub(crate) use component_val_type;
-pub(crate) use each_row;

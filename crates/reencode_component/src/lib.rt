@@ -6,6 +6,7 @@ mod answer;
 mod canonical;
 mod chain;
 mod component;
+mod component_rows;
 mod component_sections;
 pub mod component_utils;
 mod components;
@@ -22,6 +23,7 @@ mod mapped;
 mod nested;
 mod row_sections;
 mod rows;
+mod scoped_sections;
 mod sections;
 mod type_bodies;
 mod type_utils;
@@ -29,7 +31,8 @@ mod types;
 
 pub use answer::AnswerComponentVisits;
 pub use component::ReencodeComponent;
-pub use defaults::{DefaultComponent, DefaultComponentItems};
+pub use component_rows::ReencodeComponentRows;
+pub use defaults::{DefaultComponent, DefaultComponentItems, DefaultComponentRows};
 pub use indices::ReencodeComponentIndices;
 pub use items::ReencodeComponentItems;
 pub use laws::{

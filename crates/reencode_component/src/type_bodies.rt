@@ -28,17 +28,5 @@ macro_rules! parse_component_core_type {
     };
 }
 
-macro_rules! parse_core_type_section {
-    ($reencoder:ident, $alloc:ident, $types:ident, $section:ident) => {{
-        let mut rows = $section;
-        'rows: while let Some(row) = rows.next_row($alloc)? {
-            let ty = $reencoder.parse_component_core_type($alloc, row)?;
-            $types.add(&ty)?;
-        }
-        Ok(())
-    }};
-}
-
 pub(crate) use component_module_type;
 pub(crate) use parse_component_core_type;
-pub(crate) use parse_core_type_section;

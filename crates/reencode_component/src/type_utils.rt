@@ -1,10 +1,9 @@
 //! The default bodies of the calls that map types with others inside, as functions of any reencoder.
-ghost use Rattle.wasm_shapes.specs.Component.{core_type, module_declaration};
+ghost use Rattle.wasm_shapes.specs.Component.{module_declaration};
 ghost use Rattle.wasm_write_component.specs.TypeRows.{scope_tree};
-ghost use Rattle.reencode_component.specs.ScopedRows.{ShallowRowsClauses};
 ghost use Rattle.reencode_component.specs.TypeClauses.{CoreTypeClauses, ScopeClauses};
 
-use crate::component::ReencodeComponent;
+use crate::component_rows::ReencodeComponentRows;
 use crate::type_bodies;
 use reencode_hooks::Error;
 use std::alloc::Global;
@@ -13,7 +12,7 @@ use wasm_write_component as w;
 
 /// A core type (Component Model, Binary Format: `core:deftype`): types by `parse_recursive_type_group`, or a module type by
 /// `component_module_type`.
-pub fn parse_component_core_type<T: ReencodeComponent>(
+pub fn parse_component_core_type<T: ReencodeComponentRows>(
     reencoder: &mut T,
     alloc: Global,
     core: r::CoreType<'_>,
@@ -25,7 +24,7 @@ pub fn parse_component_core_type<T: ReencodeComponent>(
 
 /// A module type (`core:moduletype`), which is a scope: `push_depth`, then each declaration that the reader still has by
 /// `parse_component_module_type_declaration`, then `pop_depth`, which is not called where one of these is refused.
-pub fn component_module_type<T: ReencodeComponent>(
+pub fn component_module_type<T: ReencodeComponentRows>(
     reencoder: &mut T,
     alloc: Global,
     ty: r::ModuleDeclarations<'_>,
@@ -34,17 +33,4 @@ pub fn component_module_type<T: ReencodeComponent>(
         reencoder.old reencoder.new result }
 {
     type_bodies::component_module_type!(reencoder, alloc, ty)
-}
-
-/// Maps the rows that the reader still has, each by `parse_component_core_type`, and adds each row once it is mapped.
-pub fn parse_core_type_section<T: ReencodeComponent>(
-    reencoder: &mut T,
-    alloc: Global,
-    types: &mut w::CoreTypeSection,
-    section: r::CoreTypeSectionReader<'_>,
-) -> Result<(), Error<T::Error>>
-    ensures { ShallowRowsClauses T.ReencodeIndices core_type section.entry
-        reencoder.old types.old reencoder.new types.new result }
-{
-    type_bodies::parse_core_type_section!(reencoder, alloc, types, section)
 }

@@ -1,17 +1,6 @@
-use Rattle.std.proofs.Common.{refl}
 use Rattle.wasm_types.specs.ComponentTrees.{component_instance_tree}
-use Rattle.reencode_core.proofs.OneRow.{row_mapped, row_not_added, row_unmapped}
+use Rattle.reencode_component.proofs.RowAdded.{list_added}
 use Rattle.reencode_component.proofs.rows.parse_component_instance.Goals as goal
 
-pub returns-in_err-row : goal.returns-in_err-row
-returns-in_err-row g c =
-    let gone = c.in_err-row.ensures in
-    row_unmapped g.T.ReencodeIndices (component_instance_tree c.args.instance) component_instance_tree _ _ _ gone.default gone.after_error refl _ c.from_residual.ensures.1
-
-pub returns-in_err-add : goal.returns-in_err-add
-returns-in_err-add g c =
-    let gone = c.in_err-add.ensures in
-    row_not_added g.T.ReencodeIndices (component_instance_tree c.args.instance) component_instance_tree _ _ c.in_ok-row.row _ c.in_ok-row.ensures.default gone.err gone.large _ c.from_residual-in_err-add.ensures.1
-
 pub returns : goal.returns
-returns g c = row_mapped g.T.ReencodeIndices (component_instance_tree c.args.instance) component_instance_tree _ _ c.in_ok-row.row c.in_ok-row.ensures.default c.in_ok-add.ensures.ok
+returns g c = list_added g.T.ReencodeIndices (component_instance_tree c.args.instance) component_instance_tree _ c.component_instance-row.ensures _ c.add_row.ensures

@@ -1,0 +1,9 @@
+use Rattle.reencode_core.proofs.EachRow.{RowsKept}
+use Rattle.reencode_component.proofs.row_sections.map_rows.Given as goal
+
+-- the rows so far are walked and added
+abbrev pub invariant-rows : goal.invariant-rows
+invariant-rows g l = RowsKept g.T.ReencodeIndices g.K.RowKind.shape l.initial.rows l.initial.reencoder l.initial.sink l.rows l.reencoder l.sink
+
+abbrev pub decreases-rows : goal.decreases-rows
+decreases-rows g l = l.rows.left
