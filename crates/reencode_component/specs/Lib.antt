@@ -10,4 +10,6 @@ pub mod ComponentFaults
 pub mod TypeClauses
 pub mod ScopedRows
 pub mod ComponentLaws
+pub mod Within
+pub mod WithinLaws
 pub mod WovenIn
