@@ -41,7 +41,7 @@ module _ {S E : Type 0} (i : Ghosts S E) (none : (s : S) (v : Visit) → MayAdd 
   is_walk c s t = weave_in_of_nothing (asks i) (added i.adds) (λ s v may. ap (λ (rows : List SectionRow). map framed_tree rows) (none s v may)) c s t
 
   -- no section of a hook's own is too large
-  own_never : (c depth scopes : ℕ) (f : Tree) (s m : S) (e : Error E) → OwnInside (asks i) i.adds c depth scopes f s m e → ⊥
+  pub own_never : (c depth scopes : ℕ) (f : Tree) (s m : S) (e : Error E) → OwnInside (asks i) i.adds c depth scopes f s m e → ⊥
   own_never c depth zero f s m e h = h
   own_never c depth (suc scopes) f s m e (id, body, is, force, k, push, inl q) = no_own (asks i) i.adds none q.1
   own_never c depth (suc scopes) f s m e (id, body, is, force, k, push, inr q) = let n = q.1.1 in own_never c (depth + 1) scopes n.0 q.1.0.at m e n.3
@@ -148,7 +148,7 @@ module _ {S E : Type 0} (i : Ghosts S E) where
 -- ---- refusals
 
 module _ {S E : Type 0} (i : Ghosts S E) (adds : KeepsAdds i.adds i.adds_nothing) where
-  leaves : (depth : ℕ) (bytes : List ℕ) (s m : S) (old new : Sections) (x : E) → ComponentClauses i depth bytes s old m new (Err (UserError x)) → IsTrue i.keeps_defaults →
+  pub leaves : (depth : ℕ) (bytes : List ℕ) (s m : S) (old new : Sections) (x : E) → ComponentClauses i depth bytes s old m new (Err (UserError x)) → IsTrue i.keeps_defaults →
       Leaves (asks i) (component_in depth bytes) s (UserError x) m
   leaves depth bytes s m old new x g keeps = g.after_error keeps (λ h. absurd cc) (λ h. absurd h)
 

@@ -1,5 +1,5 @@
 -- The laws of `specs/WithinLaws.antt`.
-use Rattle.std.proofs.Common.{◌≡◌, ◌≢◌, ◌⊎◌, inl, inr, ℕ, Bool, true, false, List, [], ◌∷◌, ◌++◌, nat_eq, Option, Result, Ok, Err, IfOk, IsTrue, refl, sym, ap, ap₂, ◌∙◌, subst}
+use Rattle.std.proofs.Common.{arith, ◌≡◌, ◌≢◌, ◌⊎◌, inl, inr, ℕ, Bool, true, false, List, [], ◌∷◌, ◌++◌, nat_eq, Option, Result, Ok, Err, IfOk, IsTrue, refl, sym, ap, ap₂, ◌∙◌, subst}
 use Rattle.std.proofs.lemmas.Bool.Decides.{nat_tests}
 use Rattle.wasm_leb.specs.declared.fault.Fault.{Fault}
 use Rattle.wasm_shapes.specs.declared.SectionId.{SectionId}
@@ -9,7 +9,8 @@ use Rattle.wasm_shapes.specs.Module.{component_header, core_header, core_module,
 use Rattle.wasm_shapes.specs.Spells.{Spells}
 use Rattle.wasm_shapes.specs.Tree.{Tree, fill, normal, visits}
 use Rattle.wasm_shapes.proofs.Laws.{module_headed}
-use Rattle.wasm_write.specs.Sections.{SectionRow, Sections, sections_bytes}
+use Rattle.wasm_write.specs.Sections.{Sections, sections_bytes}
+use Rattle.wasm_write_component.specs.ComponentBytes.{component_bytes}
 use Rattle.reencode_hooks.specs.declared.error.Error.{Error}
 use Rattle.reencode_hooks.specs.declared.error.Error.TheVariants.{InvalidCodeSectionSize, UnexpectedNonCoreModuleSection, UnexpectedNonComponentSection, ParseError, UserError, TooLarge, NoMemory}
 use Rattle.reencode_hooks.specs.declared.indices.ReencodeIndices.{Ghosts}
@@ -22,11 +23,12 @@ use Rattle.reencode_core.specs.Core.{AcceptsSections, IsCause}
 use Rattle.reencode_core.specs.Leaves.{CoreUpTo, Leaves, core_in}
 use Rattle.reencode_core.specs.Refusals.{RefusedUpTo, RefusesNone}
 use Rattle.reencode_core.specs.Weave.{added}
-use Rattle.reencode_core.specs.Woven.{IsWovenCause}
+use Rattle.reencode_core.specs.Woven.{IsWovenCause, OwnNext}
 use Rattle.reencode_core.proofs.AddsNothing.{added_none}
 use Rattle.reencode_core.proofs.Fronts.{one_front}
 use Rattle.reencode_core.proofs.Refusals.{never_refused, refusal_tells}
 use Rattle.reencode_component.specs.Causes.{CauseBy, IfFault, inside, own_inside}
+use Rattle.reencode_component.specs.ComponentClauses.{ComponentClauses}
 use Rattle.reencode_component.specs.ComponentLaws.{AnswersFault, Filled, IsOfBytes, StopsOn}
 use Rattle.reencode_component.specs.ComponentLeaves.{ComponentUpTo, NoComponentHeading}
 use Rattle.reencode_component.specs.Components.{ComponentFault, ModuleFault, ReadsComponent}
@@ -46,9 +48,9 @@ begins_or_not (b ∷ front) (x ∷ bytes) = go (nat_eq x b) refl (begins_or_not 
   where
     go : (same : Bool) → nat_eq x b ≡ same → ((rest : List ℕ) × (bytes ≡ front ++ rest)) ⊎ ((rest : List ℕ) → bytes ≢ front ++ rest) →
         ((rest : List ℕ) × (x ∷ bytes ≡ b ∷ (front ++ rest))) ⊎ ((rest : List ℕ) → x ∷ bytes ≢ b ∷ (front ++ rest))
-    go true e (inl h) = let is : x ≡ b = grind nat_tests in inl (h.0, ap₂ (λ (y : ℕ) (z : List ℕ). y ∷ z) is h.1)
+    go true e (inl h) = let is : x ≡ b = grind (arith, nat_tests) in inl (h.0, ap₂ (λ (y : ℕ) (z : List ℕ). y ∷ z) is h.1)
     go true e (inr h) = inr (λ rest q. let tails : bytes ≡ front ++ rest = cc in h rest tails)
-    go false e h = inr (λ rest q. let is : x ≡ b = cc in grind nat_tests)
+    go false e h = inr (λ rest q. let is : x ≡ b = cc in grind (arith, nat_tests))
 
 pub heading_or_not : (bytes : List ℕ) → HasComponentHeading bytes ⊎ NoComponentHeading bytes
 heading_or_not bytes = begins_or_not component_header bytes
@@ -104,13 +106,16 @@ module _ {S E A : Type 0} (i : Ghosts S E) (adds : KeepsAdds i.adds i.adds_nothi
 
   woven_caused : (c : ℕ) (bytes : List ℕ) (s m : S) (e : Error E) → IsWovenCause (asks i) i.adds c bytes s m e → IfFault e (ModuleFault bytes)
   woven_caused c bytes s m e (inl h) = core_caused c bytes s m e h
-  woven_caused c bytes s m (TooLarge size) (inr h) = tt
-  woven_caused c bytes s m (UserError x) (inr h) = tt
-  woven_caused c bytes s m NoMemory (inr h) = tt
-  woven_caused c bytes s m (ParseError e) (inr (front, inl h)) = absurd h.1
-  woven_caused c bytes s m (ParseError e) (inr (front, inr h)) = absurd h.4
-  woven_caused c bytes s m _ (inr (front, inl h)) = absurd h.1
-  woven_caused c bytes s m _ (inr (front, inr h)) = absurd h.4
+  woven_caused c bytes s m e (inr own) = by e own.own
+    where
+      by : (w : Error E) → OwnNext i.adds c own.front.last own.front.at own.front.rest w → IfFault w (ModuleFault bytes)
+      by (TooLarge size) h = tt
+      by (UserError x) h = tt
+      by NoMemory h = tt
+      by (ParseError x) (inl h) = absurd h.1
+      by (ParseError x) (inr h) = absurd h.4
+      by _ (inl h) = absurd h.1
+      by _ (inr h) = absurd h.4
 
   core_fault : (c : ℕ) (bytes : List ℕ) (s m : S) (e : Error E) → BytesClauses i c bytes s m (Err e) view → IsTrue i.keeps_defaults → IfFault e (ModuleFault bytes)
   core_fault c bytes s m e g keeps = woven_caused c bytes s m e (g.woven keeps).cause
@@ -148,6 +153,11 @@ module _ {S E A : Type 0} (i : Ghosts S E) (adds : KeepsAdds i.adds i.adds_nothi
       CoreUpTo bytes t rest → RefusedUpTo (asks i) s (visits t) rest e m
   core_further c bytes s m (UserError y) g keeps x is t rest (CoreUpTo.sections before left f) = (refusal_tells (asks i)).fault bytes s m y (core_leaves c bytes s m y g keeps) before left f
   core_further c bytes s m _ g keeps x is t rest f = absurd cc
+
+  core_last : (c : ℕ) (bytes : List ℕ) (s m : S) (e : Error E) → BytesClauses i c bytes s m (Err e) view → IsTrue i.keeps_defaults → (x : E) → e ≡ UserError x →
+      (made : List Visit) × (run (asks i) s made ≡ refused e m)
+  core_last c bytes s m (UserError y) g keeps x is = let l = core_leaves c bytes s m y g keeps in (l.made, l.ended.by)
+  core_last c bytes s m _ g keeps x is = absurd cc
 
   core_never : (c : ℕ) (bytes : List ℕ) (s m : S) (e : Error E) → BytesClauses i c bytes s m (Err e) view → IsTrue i.keeps_defaults → RefusesNone (asks i) → (x : E) → e ≢ UserError x
   core_never c bytes s m (UserError y) g keeps none x is = never_refused (asks i) none (core_in bytes) s m y (core_leaves c bytes s m y g keeps)
@@ -223,6 +233,12 @@ module _ {S E A : Type 0} (i : Ghosts S E) (adds : KeepsAdds i.adds i.adds_nothi
   component_further c bytes s m e (inr h) keeps x is t rest (ComponentUpTo.sections before left f) =
       (components.refusal_tells i adds).fault 0 bytes s m (record { ceiling = c; sections = [] }) h.made e h.gives keeps x is before left f
 
+  component_last : (c : ℕ) (bytes : List ℕ) (s m : S) (e : Error E) → ComponentBytesClauses i c bytes s m (Err e) view → IsTrue i.keeps_defaults → (x : E) → e ≡ UserError x →
+      (made : List Visit) × (run (asks i) s made ≡ refused e m)
+  component_last c bytes s m e (inl h) keeps x is = wanted e h.0 (λ same. cc)
+  component_last c bytes s m (UserError y) (inr h) keeps x is = let l = components.leaves i adds 0 bytes s m (record { ceiling = c; sections = [] }) h.made y h.gives keeps in (l.made, l.ended.by)
+  component_last c bytes s m _ (inr h) keeps x is = absurd cc
+
   component_never : (c : ℕ) (bytes : List ℕ) (s m : S) (e : Error E) → ComponentBytesClauses i c bytes s m (Err e) view → IsTrue i.keeps_defaults → RefusesNone (asks i) → (x : E) → e ≢ UserError x
   component_never c bytes s m e (inl h) keeps none x is = wanted e h.0 (λ same. cc)
   component_never c bytes s m e (inr h) keeps none x is =
@@ -258,6 +274,7 @@ module _ {S E A : Type 0} (i : Ghosts S E) (adds : KeepsAdds i.adds i.adds_nothi
     accepted = core_accepted;
     reading = core_reading;
     further = core_further;
+    last = core_last;
     never = core_never;
     stops = core_stops;
   }
@@ -303,6 +320,7 @@ module _ {S E A : Type 0} (i : Ghosts S E) (adds : KeepsAdds i.adds i.adds_nothi
     accepted = λ c bytes s m e g keeps nothing tells t rest f. accepted_there c bytes s m e g keeps nothing tells t rest f (heading_or_not bytes);
     reading = λ c bytes s m e g keeps x is t r. reading c bytes s m e g keeps x is t r (heading_or_not bytes);
     further = λ c bytes s m e g keeps x is t rest f. further c bytes s m e g keeps x is t rest f (heading_or_not bytes);
+    last = λ c bytes s m e g keeps x is. last c bytes s m e g keeps x is (heading_or_not bytes);
     never = λ c bytes s m e g keeps none x is. never c bytes s m e g keeps none x is (heading_or_not bytes);
     stops = λ c bytes s m e g keeps nothing other t r. stops c bytes s m e g keeps nothing other t r (heading_or_not bytes);
   }
@@ -342,6 +360,11 @@ module _ {S E A : Type 0} (i : Ghosts S E) (adds : KeepsAdds i.adds i.adds_nothi
       further c bytes s m e g keeps x is t rest (inr f) (inl h) = component_further c bytes s m e (g.component h) keeps x is t rest f
       further c bytes s m e g keeps x is t rest (inl f) (inr n) = core_further c bytes s m e (g.core n) keeps x is t rest f
       further c bytes s m e g keeps x is t rest (inr f) (inr n) = no_component_fault bytes n t rest f
+
+      last : (c : ℕ) (bytes : List ℕ) (s m : S) (e : Error E) → Within c bytes s m (Err e) → IsTrue i.keeps_defaults → (x : E) → e ≡ UserError x →
+          HasComponentHeading bytes ⊎ NoComponentHeading bytes → (made : List Visit) × (run (asks i) s made ≡ refused e m)
+      last c bytes s m e g keeps x is (inl h) = component_last c bytes s m e (g.component h) keeps x is
+      last c bytes s m e g keeps x is (inr n) = core_last c bytes s m e (g.core n) keeps x is
 
       never : (c : ℕ) (bytes : List ℕ) (s m : S) (e : Error E) → Within c bytes s m (Err e) → IsTrue i.keeps_defaults → RefusesNone (asks i) → (x : E) → e ≡ UserError x →
           HasComponentHeading bytes ⊎ NoComponentHeading bytes → ⊥
@@ -391,7 +414,7 @@ module _ {S E A : Type 0} (i : Ghosts S E) (adds : KeepsAdds i.adds i.adds_nothi
           component_read : ComponentBytesClauses i c bytes s m (Ok o) view → ⊥
           component_read (inl h) = let never : ◌≡◌ {A = Result A (Error E)} (Ok o) (Err NoMemory) = h.0 in absurd cc
           component_read (inr h) = let t = (h.gives.default keeps).readable in bare (component_tree t.0) (inr (t.0, refl, t.1))
-      unread c bytes s m (Ok o) g keeps none bare (inr no) = let t = ((g.core no).woven keeps).readable in bare t.0 (inl t.1)
+      unread c bytes s m (Ok o) g keeps none bare (inr other) = let t = ((g.core other).woven keeps).readable in bare t.0 (inl t.1)
       unread c bytes s m (Err e) g keeps none bare heading =
           unanswered (BinaryFault bytes) (ReadsBinary bytes) (Err e) bare (λ o q. absurd cc)
           (λ w q. let same : e ≡ w = cc in subst (λ (z : Error E). IfFault z (BinaryFault bytes)) same (binary_error_tells.fault c bytes s m e g keeps))
@@ -403,3 +426,10 @@ module _ {S E A : Type 0} (i : Ghosts S E) (adds : KeepsAdds i.adds i.adds_nothi
       by : (w : Error E) → w ≡ UnexpectedNonCoreModuleSection → IfFault w (ModuleFault bytes) → ⊥
       by UnexpectedNonCoreModuleSection q h = none h.0 h.1
       by _ q h = cc
+
+-- ---- a component without sections that was made
+
+pub component_made : {S E A : Type 0} (i : Ghosts S E) (c : ℕ) (bytes : List ℕ) (s m : S) (old new : Sections) (result : Result A (Error E)) (view : A → List ℕ) → old ≡ record { ceiling = c; sections = [] } →
+    ComponentClauses i 0 bytes s old m new (ended result) → IfOk result (λ out. view out ≡ component_bytes new.sections) → ComponentBytesClauses i c bytes s m result view
+component_made i c bytes s m old new result view fresh g spelled =
+    let P : Sections → Type 0 = λ z. ComponentClauses i 0 bytes s z m new (ended result) in inr (record { made = new; gives = subst P fresh g; spelled = spelled })

@@ -3,6 +3,7 @@
 -- reencoder; `s` is its state before the call, and `m` the one after it.
 use Rattle.std.specs.Prelude.{◌≡◌, ◌≢◌, ◌⊎◌, ℕ, List, Result, Ok, Err, IfOk, IsTrue}
 use Rattle.wasm_leb.specs.declared.fault.Fault.{Fault}
+use Rattle.wasm_shapes.specs.declared.Visit.{Visit}
 use Rattle.wasm_shapes.specs.Component.{component_tree}
 use Rattle.wasm_shapes.specs.Module.{core_module}
 use Rattle.wasm_shapes.specs.Spells.{Spells}
@@ -98,7 +99,7 @@ pub record OutputIsTaken {S E A : Type 0} (k : Taking) (i : Ghosts S E) (promise
 -- What an error tells: the fault of the bytes, unless it is a refusal, a size that is too large, or out of memory; and no other comes. Where
 -- the section hook adds nothing, all sections before the fault were then accepted. A refusal of the reencoder is that of the run over
 -- the visits of the reading, or where there is none, of the sections before the fault, or of further ones behind these, which are drawn
--- from the bytes from the fault on; none comes of a reencoder that refuses no visit. Of bytes that are read, where the section hook adds
+-- from the bytes from the fault on; it is of the last visit that was made, and none comes of a reencoder that refuses no visit. Of bytes that are read, where the section hook adds
 -- nothing, any error but out of memory is of the first moment of the walk that is not passed: a visit that is refused, or a frame above the
 -- ceiling that closes.
 pub record ErrorTells {S E A : Type 0} (k : Taking) (i : Ghosts S E) (promised : Promises S E A) : Type 0 where
@@ -108,6 +109,7 @@ pub record ErrorTells {S E A : Type 0} (k : Taking) (i : Ghosts S E) (promised :
   pub reading : OfRefusals i promised (λ ceiling bytes s m e. (x : E) → e ≡ UserError x → (t : Tree) → k.reads bytes t → run (asks i) s (visits t) ≡ refused e m)
   pub further : OfRefusals i promised (λ ceiling bytes s m e. (x : E) → e ≡ UserError x → (t : Tree) (rest : List ℕ) → k.faulty bytes t rest →
       RefusedUpTo (asks i) s (visits t) rest e m)
+  pub last : OfRefusals i promised (λ ceiling bytes s m e. (x : E) → e ≡ UserError x → (made : List Visit) × (run (asks i) s made ≡ refused e m))
   pub never : OfRefusals i promised (λ ceiling bytes s m e. RefusesNone (asks i) → (x : E) → e ≢ UserError x)
   pub stops : OfRefusals i promised (λ ceiling bytes s m e. IsTrue i.adds_nothing → e ≢ NoMemory → (t : Tree) → k.reads bytes t → StopsOn (asks i) ceiling s t e m)
 

@@ -1,4 +1,7 @@
 //! The re-encoding of a binary, which is a core module or a component.
+ghost use Rattle.std.specs.Prelude.{◌≡◌, ◌++◌, IfNone, IfSome};
+ghost use Rattle.wasm_shapes.specs.Module.{component_header};
+ghost use Rattle.reencode_component.specs.ComponentLeaves.{NoComponentHeading};
 ghost use Rattle.reencode_component.specs.Within.{ComponentBytesClauses, WithinClauses};
 
 use crate::component::ReencodeComponent;
@@ -8,6 +11,17 @@ use reencode_hooks::Error;
 use std::alloc::Global;
 use wasm_leb::NoMemory;
 use wasm_write_component as w;
+
+/// What stands behind the header of a component, where that stands there.
+fn behind_header(bytes: &[u8]) -> Option<&[u8]>
+    ensures some { IfSome result (λ rest. bytes.now ≡ component_header ++ rest.now) }
+    ensures none { IfNone result (NoComponentHeading bytes.now) }
+{
+    match bytes {
+        [0x00, 0x61, 0x73, 0x6d, 0x0d, 0x00, 0x01, 0x00, rest @ ..] => Some(rest),
+        _ => None,
+    }
+}
 
 /// The bytes of the component that another becomes.
 fn reencode_component<R: ReencodeComponent>(
@@ -42,11 +56,9 @@ pub fn reencode_within<R: ReencodeComponent>(
 ) -> Result<Vec<u8>, Error<R::Error>>
     ensures { WithinClauses R.ReencodeIndices ceiling bytes.now r.old r.new result (λ v. v.items) }
 {
-    match bytes {
-        [0x00, 0x61, 0x73, 0x6d, 0x0d, 0x00, 0x01, 0x00, ..] => {
-            reencode_component(alloc, r, bytes, ceiling)
-        }
-        _ => reencode_core(alloc, r, bytes, ceiling),
+    match behind_header(bytes) {
+        Some(_) => reencode_component(alloc, r, bytes, ceiling),
+        None => reencode_core(alloc, r, bytes, ceiling),
     }
 }
 
