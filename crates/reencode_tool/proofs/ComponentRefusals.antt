@@ -111,13 +111,41 @@ module _ {S E : Type 0} (i : Ghosts S E) (none : (s : S) (v : Visit) → MayAdd 
   behind c depth bytes e before rest f q =
       tells.larger (second_shorter component_header f.front.start f.front.stands) (tells.larger (second_shorter f.front.rows.text rest f.front.rows.stands) q)
 
-  -- A refusal is told, whether the bytes have a reading or not: so many scopes may still be opened.
-  pub component_is_told : (scopes depth c : ℕ) (e : Error E) (bytes : List ℕ) (s m : S) → depth + scopes ≡ 200 → IsRefusal e → P s →
+  -- a refusal of a nested section is told, and one of a component: so many scopes may still be opened
+  abbrev NestedTold : ℕ → Type 0
+  NestedTold scopes = (depth c : ℕ) (e : Error E) (f : Tree) (rest left : List ℕ) (s m : S) → depth + scopes ≡ 200 → IsRefusal e → P s → Begins frame rest f left →
+      ((t : Tree) → ReadsSection depth f t → ⊥) → StopsNested (asks i) i.adds c depth scopes f s m e → (Q c rest e → ⊥) → ⊥
+
+  abbrev ComponentTold : ℕ → Type 0
+  ComponentTold scopes = (depth c : ℕ) (e : Error E) (bytes : List ℕ) (s m : S) → depth + scopes ≡ 200 → IsRefusal e → P s →
       CauseBy (asks i) (added i.adds) c depth (StopsBy (asks i) c (StopsNested (asks i) i.adds c depth scopes)) (OwnInside (asks i) i.adds c depth scopes) bytes s m e →
       ((t : Tree) → ReadsComponent depth bytes t → ⊥) → (Q c bytes e → ⊥) → ⊥
 
-  nested_told : (scopes depth c : ℕ) (e : Error E) (f : Tree) (rest left : List ℕ) (s m : S) → depth + scopes ≡ 200 → IsRefusal e → P s → Begins frame rest f left →
-      ((t : Tree) → ReadsSection depth f t → ⊥) → StopsNested (asks i) i.adds c depth scopes f s m e → (Q c rest e → ⊥) → ⊥
+  component_by : (scopes : ℕ) → NestedTold scopes → ComponentTold scopes
+  component_by scopes nested_by depth c e bytes s m whole is b cause bare never =
+      let h = of_component scopes depth c e bytes s m is cause in
+      reads_or_fails depth bytes h.rest h.stands (omega (arith, whole)) bare (λ before rest f. at_fault before rest f (h.fault before rest f))
+    where
+      inside : (before : List Tree) (rest left : List ℕ) (f : FaultAt depth bytes before rest) (x : Tree) (n : S) → P n → Begins frame rest x left →
+          StopsBy (asks i) c (StopsNested (asks i) i.adds c depth scopes) x n m e → ⊥
+      inside before rest left f x n p there (inl (id, body, framed, h)) =
+          let B : Tree → Type 0 = λ z. Begins frame rest z left in
+          never (behind c depth bytes e before rest f (tells.larger (numbered (subst B framed there)) (rows_told c id body n m e p h)))
+      inside before rest left f x n p there (inr h) =
+          nested_by depth c e x rest left n m whole is p there (λ t r. f.none.none t left (section_there r there)) h (λ q. never (behind c depth bytes e before rest f q))
+
+      own : BehindFront (asks i) (added i.adds) c depth (OwnInside (asks i) i.adds c depth scopes) bytes s m e → ⊥
+      own h = let n = h.1 in own_never i none c depth scopes n.0 h.0.at m e n.3
+
+      at_fault : (before : List Tree) (rest : List ℕ) → FaultAt depth bytes before rest →
+          RefusesAmong (asks i) (added i.adds) c s before e m
+          ⊎ ((made : List Tree) × (n : S) × AcceptsAll (asks i) (added i.adds) c s before made n × Framed (λ x. StopsBy (asks i) c (StopsNested (asks i) i.adds c depth scopes) x n m e) rest)
+          ⊎ BehindFront (asks i) (added i.adds) c depth (OwnInside (asks i) i.adds c depth scopes) bytes s m e → ⊥
+      at_fault before rest f (inl r) = never (front_told c depth bytes s m e before rest b f r)
+      at_fault before rest f (inr (inl q)) = let x = q.3 in inside before rest x.1 f x.0 q.1 (front_keeps c s q.1 before q.0 b q.2) x.2 x.3
+      at_fault before rest f (inr (inr h)) = own h
+
+  nested_told : (scopes : ℕ) → NestedTold scopes
   nested_told zero depth c e f rest left s m whole is b there bare h never = h
   nested_told (suc scopes) depth c e f rest left s m whole is b there bare (id, body, framed, force, k, push, inl (one, cause)) never =
       let B : Tree → Type 0 = λ z. Begins frame rest z left in
@@ -134,29 +162,10 @@ module _ {S E : Type 0} (i : Ghosts S E) (none : (s : S) (v : Visit) → MayAdd 
       let N : ℕ → Type 0 = λ z. (t : Tree) → ReadsSection depth (numbered_frame z body) t → ⊥ in
       let F : ℕ → Type 0 = λ z. has_frame z ≡ true in
       let unread : (t : Tree) → ReadsSection depth (numbered_frame 4 body) t → ⊥ = subst N four (subst R framed bare) in
-      component_is_told scopes (depth + 1) c e body k m (omega (arith, whole)) is (tells.opened s k 0 b push) cause
+      component_by scopes (nested_told scopes) (depth + 1) c e body k m (omega (arith, whole)) is (tells.opened s k 0 b push) cause
       (λ t r. let p = component_read depth body t (subst F four force) r in unread p.0 p.1)
       (λ q. never (tells.larger (numbered (subst B framed there)) q))
 
-  component_is_told scopes depth c e bytes s m whole is b cause bare never =
-      let h = of_component scopes depth c e bytes s m is cause in
-      reads_or_fails depth bytes h.rest h.stands (omega (arith, whole)) bare (λ before rest f. at_fault before rest f (h.fault before rest f))
-    where
-      inside : (before : List Tree) (rest left : List ℕ) (f : FaultAt depth bytes before rest) (x : Tree) (n : S) → P n → Begins frame rest x left →
-          StopsBy (asks i) c (StopsNested (asks i) i.adds c depth scopes) x n m e → ⊥
-      inside before rest left f x n p there (inl (id, body, framed, h)) =
-          let B : Tree → Type 0 = λ z. Begins frame rest z left in
-          never (behind c depth bytes e before rest f (tells.larger (numbered (subst B framed there)) (rows_told c id body n m e p h)))
-      inside before rest left f x n p there (inr h) =
-          nested_told scopes depth c e x rest left n m whole is p there (λ t r. f.none.none t left (section_there r there)) h (λ q. never (behind c depth bytes e before rest f q))
-
-      own : BehindFront (asks i) (added i.adds) c depth (OwnInside (asks i) i.adds c depth scopes) bytes s m e → ⊥
-      own h = let n = h.1 in own_never i none c depth scopes n.0 h.0.at m e n.3
-
-      at_fault : (before : List Tree) (rest : List ℕ) → FaultAt depth bytes before rest →
-          RefusesAmong (asks i) (added i.adds) c s before e m
-          ⊎ ((made : List Tree) × (n : S) × AcceptsAll (asks i) (added i.adds) c s before made n × Framed (λ x. StopsBy (asks i) c (StopsNested (asks i) i.adds c depth scopes) x n m e) rest)
-          ⊎ BehindFront (asks i) (added i.adds) c depth (OwnInside (asks i) i.adds c depth scopes) bytes s m e → ⊥
-      at_fault before rest f (inl r) = never (front_told c depth bytes s m e before rest b f r)
-      at_fault before rest f (inr (inl q)) = let x = q.3 in inside before rest x.1 f x.0 q.1 (front_keeps c s q.1 before q.0 b q.2) x.2 x.3
-      at_fault before rest f (inr (inr h)) = own h
+  -- a refusal is told, whether the bytes have a reading or not
+  pub component_is_told : (scopes : ℕ) → ComponentTold scopes
+  component_is_told scopes = component_by scopes (nested_told scopes)

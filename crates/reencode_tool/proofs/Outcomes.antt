@@ -11,6 +11,7 @@ use Rattle.wasm_leb.specs.declared.fault.Fault.TheVariants as fault
 use Rattle.wasm_leb.specs.declared.fault.Kind.TheVariants as kind
 use Rattle.wasm_shapes.specs.Module.{core_tree, CoreReading}
 use Rattle.wasm_shapes.specs.Spells.{Spelled}
+use Rattle.wasm_shapes.specs.Component.{component_tree}
 use Rattle.wasm_shapes.proofs.ComponentLaws.{component_headed}
 use Rattle.wasm_shapes.proofs.Laws.{module_headed}
 use Rattle.wasm_shapes.proofs.OwnAnswers.{fill_own}
@@ -19,15 +20,17 @@ use Rattle.reencode_hooks.specs.declared.error.Error.{Error}
 use Rattle.reencode_hooks.specs.declared.error.Error.TheVariants as error
 use Rattle.reencode_hooks.specs.Renamings.{no_renaming, renamer_next}
 use Rattle.reencode_hooks.specs.Run.{accepted, answered, refused}
-use Rattle.reencode_core.specs.Clauses.{BytesClauses}
+use Rattle.reencode_core.specs.Clauses.{BytesClauses, asks}
 use Rattle.reencode_core.specs.Errors.{IfRefused}
 use Rattle.reencode_core.specs.Refusals.{RefusedUpTo}
 use Rattle.reencode_hooks.specs.Walk.{walk}
 use Rattle.reencode_hooks.proofs.Walks.{walk_stops}
 use Rattle.reencode_core.specs.Core.{GivesBytes, BeforeFault, IsCause}
-use Rattle.reencode_component.specs.Causes.{IfFault}
+use Rattle.reencode_core.specs.Weave.{added}
+use Rattle.reencode_component.specs.Causes.{CauseBy, IfFault, inside, own_inside}
 use Rattle.reencode_component.specs.ComponentLaws.{IsOfBytes}
 use Rattle.reencode_component.specs.ComponentLeaves.{NoComponentHeading}
+use Rattle.reencode_component.specs.Components.{ReadsComponent}
 use Rattle.reencode_component.specs.Within.{ComponentBytesClauses, HasComponentHeading}
 use Rattle.reencode_component.specs.WithinLaws.{ErrorTells, OutputIsTaken}
 use Rattle.reencode_component.proofs.ComponentLaws as components
@@ -38,7 +41,7 @@ use Rattle.reencode_tool.specs.declared.renamers.Renamers.{Renamers}
 use Rattle.reencode_tool.specs.declared.renamers.Renamers.TheVariants.{Alone, Both}
 use Rattle.reencode_tool.specs.Plain.{IsPlain}
 use Rattle.reencode_tool.specs.Renamers.{AreCounts, Lack, State, all_counted, asks_of, begun, counts_in, hooks_of, next_of, reply_of, rule_of, told_lack}
-use Rattle.reencode_tool.specs.Reencoded.{IsReencoded, IsMakingFault, IsRefused, IsFault, IsFirstUpTo, IsUserRefusal, IsOutputTooLarge, IsPlainOrRead, IsRefusal, OfComponent, OfModule}
+use Rattle.reencode_tool.specs.Reencoded.{IsReencoded, IsMakingFault, IsRefused, IsFault, IsFirstUpTo, IsUserRefusal, IsOutputTooLarge, IsRefusal, OfComponent, OfModule}
 use Rattle.reencode_tool.specs.Reencoded.{AnyBeforeFault}
 use Rattle.reencode_tool.specs.Taken.{HasFault, Reads, promised, taking}
 use Rattle.reencode_tool.specs.declared.taken.Taken.{Taken}
@@ -46,6 +49,7 @@ use Rattle.reencode_tool.specs.declared.taken.Taken.TheVariants.{Modules, Binari
 use Rattle.reencode_tool.specs.Answer.{EndsAs, HasStatus}
 use Rattle.reencode_tool.proofs.Blank.{Blank, Large, blank_new, blank_next, run_is, walk_blank, only_large}
 use Rattle.reencode_tool.proofs.ByRule.{Keeps, Told, hook_answers, keeps_begun, keeps_next, lacking_or_not, no_answer, now, now_begun, ran, replies_by_rule, runs, stops, told_walk, walk_keeps}
+use Rattle.reencode_tool.proofs.ComponentRefusals.{component_is_told}
 use Rattle.reencode_tool.proofs.Refusals.{Tells, refusal_is_told}
 
 -- ---- what is promised
@@ -299,19 +303,56 @@ module _ {A : Type 0} (c : ℕ) (rs : Renamers) (bytes : List ℕ) {m : State rs
       let d = g.default refl refl in
       (module_told c rs bytes view (error.TooLarge size) (λ same. cc) d d.cause, λ same. large A c bytes view rs same m (error.TooLarge size) (λ e. cc) d d.cause)
 
-read_longer : (c : ℕ) (bytes : List ℕ) (rs : Renamers) (m : State rs) (e : Error (Lack rs)) (t : Tree) → rs ≡ Alone no_renaming → Spelled t bytes → walk (asks_of rs) c (begun rs) t ≡ refused e m → c < length bytes
-read_longer c bytes rs m e t same p h =
-    let P : Renamers → Type 0 = λ z. (n : State z) (w : Error (Lack z)) → walk (asks_of z) c (begun z) t ≡ refused w n → c < length bytes in
-    let there : P rs = subst P (sym same) (λ n w q. (only_large c t bytes blank_new p q).long) in there m e h
+-- why an error of a component comes
+abbrev Caused : ℕ → (rs : Renamers) → List ℕ → State rs → Error (Lack rs) → Type 0
+Caused c rs bytes m e =
+    CauseBy (asks (hooks_of rs)) (added (λ s v. [])) c 0 (inside (asks (hooks_of rs)) (λ s v. []) c 0) (own_inside (asks (hooks_of rs)) (λ s v. []) c 0) bytes (begun rs) m e
+
+-- where nothing is renamed, a component's bytes are longer than the ceiling
+IsLong : ℕ → List ℕ → Renamers → Type 0
+IsLong c bytes rs =
+    (m : State rs) (e : Error (Lack rs)) → IsRefusal e → Caused c rs bytes m e → ((t : Tree) → ReadsComponent 0 bytes t → walk (asks_of rs) c (begun rs) (component_tree t) ≡ refused e m) → c < length bytes
+
+long_alone : (c : ℕ) (bytes : List ℕ) → IsLong c bytes (Alone no_renaming)
+long_alone c bytes m e is cause reads = go (less_or_not c (length bytes))
+  where
+    go : ((c < length bytes) → ⊥) ⊎ (c < length bytes) → c < length bytes
+    go (inr t) = t
+    go (inl never) =
+        absurd (component_is_told (hooks_of (Alone no_renaming)) (λ s v h. refl) blank_tells 200 0 c e bytes no_renaming m refl is blank_new cause
+        (λ t r. never (only_large c (component_tree t) bytes blank_new (component_headed.forth 0 bytes t r.reading).0.spelled (reads t r)).long)
+        (λ l. never l.long))
 
 module _ {A : Type 0} (c : ℕ) (rs : Renamers) (bytes : List ℕ) {m : State rs} (view : A → List ℕ) where
-  above : (k : Taken) (size : ℕ) → promised k (hooks_of rs) view c bytes (begun rs) m (Err (error.TooLarge size)) → IsPlainOrRead k bytes → (c < size) × (rs ≡ Alone no_renaming → c < length bytes)
-  above Modules size g w = module_above c rs bytes view size g
-  above Binaries size g (inl n) = module_above c rs bytes view size (g.core n)
-  above Binaries size g (inr r) = (
-    reading_told Binaries c rs bytes view (error.TooLarge size) g (λ same. cc) r.0 r.1,
-    λ same. read_longer c bytes rs m (error.TooLarge size) r.0 same (spelled_by Binaries bytes r.0 r.1) (walked Binaries c rs bytes view (error.TooLarge size) g (λ same. cc) r.0 r.1),
-  )
+  component_above : (size : ℕ) → promised Binaries (hooks_of rs) view c bytes (begun rs) m (Err (error.TooLarge size)) → HasComponentHeading bytes → (c < size) × (rs ≡ Alone no_renaming → c < length bytes)
+  component_above size g h = (go (told_or_not rs c (error.TooLarge size)), λ same. by same m (error.TooLarge size) tt cause reads)
+    where
+      caused : ComponentBytesClauses (hooks_of rs) c bytes (begun rs) m (Err (error.TooLarge size)) view → Caused c rs bytes m (error.TooLarge size)
+      caused (inl w) = absurd cc
+      caused (inr w) = (w.gives.default refl).cause
+
+      cause : Caused c rs bytes m (error.TooLarge size)
+      cause = caused (g.component h)
+
+      reads : (t : Tree) → ReadsComponent 0 bytes t → walk (asks_of rs) c (begun rs) (component_tree t) ≡ refused (error.TooLarge size) m
+      reads t r = walked Binaries c rs bytes view (error.TooLarge size) g (λ same. cc) (component_tree t) (inr (t, refl, r))
+
+      go : (Told rs c (error.TooLarge size) → ⊥) ⊎ Told rs c (error.TooLarge size) → Told rs c (error.TooLarge size)
+      go (inr t) = t
+      go (inl never) =
+          absurd (component_is_told (hooks_of rs) (λ s v h. refl) (renamers_tell rs) 200 0 c (error.TooLarge size) bytes (begun rs) m refl tt (keeps_begun rs) cause
+          (λ t r. never (reading_told Binaries c rs bytes view (error.TooLarge size) g (λ same. cc) (component_tree t) (inr (t, refl, r)))) never)
+
+      by : rs ≡ Alone no_renaming → IsLong c bytes rs
+      by same = subst (IsLong c bytes) (sym same) (long_alone c bytes)
+
+  above : (k : Taken) (size : ℕ) → promised k (hooks_of rs) view c bytes (begun rs) m (Err (error.TooLarge size)) → (c < size) × (rs ≡ Alone no_renaming → c < length bytes)
+  above Modules size g = module_above c rs bytes view size g
+  above Binaries size g = go (heading_or_not bytes)
+    where
+      go : HasComponentHeading bytes ⊎ NoComponentHeading bytes → (c < size) × (rs ≡ Alone no_renaming → c < length bytes)
+      go (inl h) = component_above size g h
+      go (inr n) = module_above c rs bytes view size (g.core n)
 
 module _ {A : Type 0} (k : Taken) (c : ℕ) (rs : Renamers) (bytes : List ℕ) {m : State rs} (view : A → List ℕ) where
   pub why_given : (e : Error (Lack rs)) → promised k (hooks_of rs) view c bytes (begun rs) m (Err e) → Why k c rs bytes e
@@ -332,10 +373,10 @@ module _ {A : Type 0} (k : Taken) (c : ℕ) (rs : Renamers) (bytes : List ℕ) {
         before = (m, before_fault c rs bytes view k (error.UserError u) g tt);
       }
       go (error.TooLarge size) g h = record {
-        above = λ w. (above c rs bytes view k size g w).0;
+        above = (above c rs bytes view k size g).0;
         first = λ t r. (m, walked k c rs bytes view (error.TooLarge size) g (λ same. cc) t r);
         before = (m, before_fault c rs bytes view k (error.TooLarge size) g tt);
-        longer = λ w. (above c rs bytes view k size g w).1;
+        longer = (above c rs bytes view k size g).1;
       }
       go error.NoMemory g h = tt
       go _ g h = h

@@ -102,19 +102,14 @@ pub record IsUserRefusal (k : Taken) (ceiling : ℕ) (rs : Renamers) (bytes : Li
   pub fault : (sections : Tree) (rest : List ℕ) → Faulty k bytes sections rest → IsFirstUpTo rs (visits sections) rest u
   pub before : (after : State rs) × AnyBeforeFault k ceiling rs bytes after (UserError u)
 
--- the bytes are taken as a core module, or have a reading
-abbrev pub IsPlainOrRead : Taken → List ℕ → Type 0
-IsPlainOrRead Modules bytes = Unit {0}
-IsPlainOrRead Binaries bytes = NoComponentHeading bytes ⊎ ((tree : Tree) × Reads Binaries bytes tree)
-
 -- The size is above the ceiling. Where the bytes have a reading, it is that of the first frame above the ceiling that closes on the
 -- walk over it, and each visit before was accepted. Where they have none, it is that of such a frame before the fault. Where
 -- nothing is renamed, the bytes are longer than the ceiling.
 pub record IsOutputTooLarge (k : Taken) (ceiling : ℕ) (rs : Renamers) (bytes : List ℕ) (size : ℕ) : Type 0 where
-  pub above : IsPlainOrRead k bytes → ceiling < size
+  pub above : ceiling < size
   pub first : (tree : Tree) → Reads k bytes tree → (after : State rs) × (walk (asks_of rs) ceiling (begun rs) tree ≡ refused (error.TooLarge size) after)
   pub before : (after : State rs) × AnyBeforeFault k ceiling rs bytes after (error.TooLarge size)
-  pub longer : IsPlainOrRead k bytes → rs ≡ Alone no_renaming → ceiling < length bytes
+  pub longer : rs ≡ Alone no_renaming → ceiling < length bytes
 
 -- Why nothing is made of the bytes: they have a fault, an index is refused, or a frame is above the ceiling; or memory runs out.
 abbrev pub IsRefused : Taken → ℕ → Renamers → List ℕ → ReencodingFault → Type 0
