@@ -2,10 +2,9 @@
 use Rattle.std.proofs.Common.{◌≡◌, ◌≢◌, ℕ, zero, suc, ◌+◌, ◌≤◌, ◌<◌, ◌⊎◌, inl, inr, List, [], ◌∷◌, ◌++◌, length, length-append, true, refl, sym, ap, ◌∙◌, subst, arith}
 use mathlib.Core.Bool.{false≢true}
 use Rattle.wasm_shapes.specs.declared.Visit.{Visit}
-use Rattle.wasm_shapes.specs.declared.Visit.TheVariants.{Push}
 use Rattle.wasm_shapes.specs.Component.{component_section, component_section_tree, component_tree}
 use Rattle.wasm_shapes.specs.ComponentReadings.{InComponentFrame}
-use Rattle.wasm_shapes.specs.Depth.{Shallow, opens}
+use Rattle.wasm_shapes.specs.Depth.{opens}
 use Rattle.wasm_shapes.specs.Module.{component_header, core_tree, frame, numbered_frame, CoreReading}
 use Rattle.wasm_shapes.specs.Place.{Begins}
 use Rattle.wasm_shapes.specs.Sound.{nullable}
@@ -18,7 +17,7 @@ use Rattle.reencode_hooks.specs.declared.error.Error.{Error}
 use Rattle.reencode_hooks.specs.declared.error.Error.TheVariants.{UserError, TooLarge}
 use Rattle.reencode_hooks.specs.declared.indices.ReencodeIndices.{Ghosts}
 use Rattle.reencode_hooks.specs.Hooks.{MayAdd}
-use Rattle.reencode_hooks.specs.Run.{accepted, refused}
+use Rattle.reencode_hooks.specs.Run.{refused}
 use Rattle.reencode_hooks.specs.Walk.{walk}
 use Rattle.reencode_core.specs.Clauses.{asks}
 use Rattle.reencode_core.specs.Core as core

@@ -1,5 +1,5 @@
 -- What the re-encoding under the renamings of a command makes of some bytes.
-use Rattle.std.proofs.Common.{◌≡◌, ◌≢◌, ℕ, ◌<◌, ◌≤◌, ◌⊎◌, inl, inr, List, [], ◌∷◌, ◌++◌, length, map, Bool, true, false, nat_lt, ltb-true, ltb-false, Option, Result, Ok, Err, refl, sym, ap, ◌∙◌, subst, arith}
+use Rattle.std.proofs.Common.{◌≡◌, ◌≢◌, ℕ, ◌<◌, ◌≤◌, ◌⊎◌, inl, inr, List, [], ◌∷◌, length, map, Bool, true, false, nat_lt, ltb-true, ltb-false, Option, Result, Ok, Err, refl, sym, ap, ◌∙◌, subst, arith}
 use Rattle.std.proofs.lemmas.List.{length-set}
 use Rattle.wasm_shapes.specs.declared.SectionId.{SectionId}
 use Rattle.wasm_shapes.specs.declared.Visit.{Visit}
@@ -7,9 +7,9 @@ use Rattle.wasm_shapes.specs.declared.Visit.TheVariants.{Section, Push}
 use Rattle.wasm_shapes.specs.Tree.{Tree, fill, normal, visits}
 use Rattle.wasm_shapes.specs.Fits.{Fits}
 use Rattle.wasm_leb.specs.declared.fault.Fault.{Fault}
-use Rattle.wasm_leb.specs.declared.fault.Fault.TheVariants as fault
-use Rattle.wasm_leb.specs.declared.fault.Kind.TheVariants as kind
-use Rattle.wasm_shapes.specs.Module.{core_tree, CoreReading}
+use Rattle.wasm_leb.specs.declared.fault.Fault.TheVariants as faults
+use Rattle.wasm_leb.specs.declared.fault.Kind.TheVariants as kinds
+use Rattle.wasm_shapes.specs.Module.{core_tree}
 use Rattle.wasm_shapes.specs.Spells.{Spelled}
 use Rattle.wasm_shapes.specs.Component.{component_tree}
 use Rattle.wasm_shapes.proofs.ComponentLaws.{component_headed}
@@ -114,10 +114,10 @@ one_answer (x ∷ xs) (y ∷ ys) {E} e =
 
 -- why an error comes; no error comes of which nothing is said here
 abbrev pub Why : Taken → ℕ → (rs : Renamers) → List ℕ → Error (Lack rs) → Type 0
-Why k c rs bytes error.InvalidCodeSectionSize = IsFault k c rs bytes fault.CodeSize
-Why k c rs bytes error.UnexpectedNonCoreModuleSection = IsFault k c rs bytes (fault.Header kind.Component)
-Why k c rs bytes error.UnexpectedNonComponentSection = IsFault k c rs bytes (fault.Header kind.Module)
-Why k c rs bytes (error.ParseError e) = IsFault k c rs bytes (fault.Read e)
+Why k c rs bytes error.InvalidCodeSectionSize = IsFault k c rs bytes faults.CodeSize
+Why k c rs bytes error.UnexpectedNonCoreModuleSection = IsFault k c rs bytes (faults.Header kinds.Component)
+Why k c rs bytes error.UnexpectedNonComponentSection = IsFault k c rs bytes (faults.Header kinds.Module)
+Why k c rs bytes (error.ParseError e) = IsFault k c rs bytes (faults.Read e)
 Why k c rs bytes (error.UserError u) = IsUserRefusal k c rs bytes (told_lack rs u)
 Why k c rs bytes (error.TooLarge size) = IsOutputTooLarge k c rs bytes size
 Why k c rs bytes error.NoMemory = Unit {0}
@@ -359,10 +359,10 @@ module _ {A : Type 0} (k : Taken) (c : ℕ) (rs : Renamers) (bytes : List ℕ) {
   why_given e g = go e g ((tells rs view k).fault c bytes (begun rs) m e g refl)
     where
       go : (e : Error (Lack rs)) → promised k (hooks_of rs) view c bytes (begun rs) m (Err e) → IfFault e (HasFault k bytes) → Why k c rs bytes e
-      go error.InvalidCodeSectionSize g h = fault_there k c rs bytes view error.InvalidCodeSectionSize fault.CodeSize g (λ same. cc) (λ q. q) tt h
-      go error.UnexpectedNonCoreModuleSection g h = fault_there k c rs bytes view error.UnexpectedNonCoreModuleSection (fault.Header kind.Component) g (λ same. cc) (λ q. q) tt h
-      go error.UnexpectedNonComponentSection g h = fault_there k c rs bytes view error.UnexpectedNonComponentSection (fault.Header kind.Module) g (λ same. cc) (λ q. q) tt h
-      go (error.ParseError e) g h = fault_there k c rs bytes view (error.ParseError e) (fault.Read e) g (λ same. cc) (λ q. q) tt h
+      go error.InvalidCodeSectionSize g h = fault_there k c rs bytes view error.InvalidCodeSectionSize faults.CodeSize g (λ same. cc) (λ q. q) tt h
+      go error.UnexpectedNonCoreModuleSection g h = fault_there k c rs bytes view error.UnexpectedNonCoreModuleSection (faults.Header kinds.Component) g (λ same. cc) (λ q. q) tt h
+      go error.UnexpectedNonComponentSection g h = fault_there k c rs bytes view error.UnexpectedNonComponentSection (faults.Header kinds.Module) g (λ same. cc) (λ q. q) tt h
+      go (error.ParseError e) g h = fault_there k c rs bytes view (error.ParseError e) (faults.Read e) g (λ same. cc) (λ q. q) tt h
       go (error.UserError u) g h = record {
         u = u;
         is = refl;

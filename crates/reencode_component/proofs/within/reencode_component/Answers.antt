@@ -1,4 +1,4 @@
-use Rattle.std.proofs.Common.{Ok, Err, inl, refl}
+use Rattle.std.proofs.Common.{Ok, Err}
 use Rattle.reencode_component.proofs.WithinLaws.{component_made}
 use Rattle.reencode_component.proofs.within.reencode_component.Goals as goal
 

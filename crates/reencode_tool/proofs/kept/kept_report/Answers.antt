@@ -6,7 +6,7 @@ use Rattle.reencode_tool.specs.declared.taken.Taken.TheVariants.{Modules}
 use Rattle.reencode_tool.specs.Kept.{kept_report}
 use Rattle.reencode_tool.specs.Reencoded.{IsMakingFault, IsRefused}
 use Rattle.reencode_tool.proofs.Keeping.{keeps_given}
-use Rattle.reencode_tool.proofs.Outcomes.{has_status, made_as, refused_as, why_given}
+use Rattle.reencode_tool.proofs.Outcomes.{made_as, refused_as, why_given}
 use Rattle.reencode_tool.proofs.kept.kept_report.Goals as goal
 
 pub returns-in-Err-clause-refused : goal.returns-in-Err-clause-refused
