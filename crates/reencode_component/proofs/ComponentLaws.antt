@@ -37,11 +37,11 @@ use Rattle.reencode_component.proofs.WeavesIn.{weave_in_of_nothing}
 -- ---- where nothing is added
 
 module _ {S E : Type 0} (i : Ghosts S E) (none : (s : S) (v : Visit) → MayAdd v → i.adds s v ≡ []) where
-  is_walk : (c : ℕ) (s : S) (t : Tree) → weave_in (asks i) (added i.adds) c s t ≡ walk (asks i) c s t
+  pub is_walk : (c : ℕ) (s : S) (t : Tree) → weave_in (asks i) (added i.adds) c s t ≡ walk (asks i) c s t
   is_walk c s t = weave_in_of_nothing (asks i) (added i.adds) (λ s v may. ap (λ (rows : List SectionRow). map framed_tree rows) (none s v may)) c s t
 
   -- no section of a hook's own is too large
-  own_never : (c depth scopes : ℕ) (f : Tree) (s m : S) (e : Error E) → OwnInside (asks i) i.adds c depth scopes f s m e → ⊥
+  pub own_never : (c depth scopes : ℕ) (f : Tree) (s m : S) (e : Error E) → OwnInside (asks i) i.adds c depth scopes f s m e → ⊥
   own_never c depth zero f s m e h = h
   own_never c depth (suc scopes) f s m e (id, body, is, force, k, push, inl q) = no_own (asks i) i.adds none q.1
   own_never c depth (suc scopes) f s m e (id, body, is, force, k, push, inr q) = let n = q.1.1 in own_never c (depth + 1) scopes n.0 q.1.0.at m e n.3
@@ -49,12 +49,12 @@ module _ {S E : Type 0} (i : Ghosts S E) (none : (s : S) (v : Visit) → MayAdd 
   behind_never : (c depth : ℕ) (bytes : List ℕ) (s m : S) (e : Error E) → BehindFront (asks i) (added i.adds) c depth (own_inside (asks i) i.adds c depth) bytes s m e → ⊥
   behind_never c depth bytes s m e h = let n = h.1 in own_never c depth (room depth) n.0 h.0.at m e n.3
 
-  filled_of : (c : ℕ) (s m : S) (t u : Tree) → walk (asks i) c s t ≡ accepted u m → (p : Filled (asks i) c s t m) × (u ≡ fill t p.given)
+  pub filled_of : (c : ℕ) (s m : S) (t u : Tree) → walk (asks i) c s t ≡ accepted u m → (p : Filled (asks i) c s t m) × (u ≡ fill t p.given)
   filled_of c s m t u h =
       let a = (walk_is_run (asks i)).forth c s m t u h in
       let P : Tree → Type 0 = λ z. Fits z c in (record { given = a.given; ran = a.ran; fits = subst P (sym a.filled) a.fits }, sym a.filled)
 
-  walk_of : (c : ℕ) (s m : S) (t : Tree) (bytes : List ℕ) → Spelled t bytes → (p : Filled (asks i) c s t m) → walk (asks i) c s t ≡ accepted (fill t p.given) m
+  pub walk_of : (c : ℕ) (s m : S) (t : Tree) (bytes : List ℕ) → Spelled t bytes → (p : Filled (asks i) c s t m) → walk (asks i) c s t ≡ accepted (fill t p.given) m
   walk_of c s m t bytes p f = (walk_is_run (asks i)).back c s m t (fill t f.given) bytes p (record { given = f.given; ran = f.ran; filled = refl; fits = f.fits })
 
   -- sections that were accepted
@@ -148,7 +148,7 @@ module _ {S E : Type 0} (i : Ghosts S E) where
 -- ---- refusals
 
 module _ {S E : Type 0} (i : Ghosts S E) (adds : KeepsAdds i.adds i.adds_nothing) where
-  leaves : (depth : ℕ) (bytes : List ℕ) (s m : S) (old new : Sections) (x : E) → ComponentClauses i depth bytes s old m new (Err (UserError x)) → IsTrue i.keeps_defaults →
+  pub leaves : (depth : ℕ) (bytes : List ℕ) (s m : S) (old new : Sections) (x : E) → ComponentClauses i depth bytes s old m new (Err (UserError x)) → IsTrue i.keeps_defaults →
       Leaves (asks i) (component_in depth bytes) s (UserError x) m
   leaves depth bytes s m old new x g keeps = g.after_error keeps (λ h. absurd cc) (λ h. absurd h)
 

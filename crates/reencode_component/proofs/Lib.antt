@@ -24,3 +24,4 @@ pub mod CoreGroups
 pub mod EachShallowRow
 pub mod CoreTypeCalls
 pub mod ComponentLaws
+pub mod WithinLaws

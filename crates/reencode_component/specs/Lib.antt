@@ -11,4 +11,6 @@ pub mod TypeClauses
 pub mod ScopedRows
 pub mod NestedClauses
 pub mod ComponentLaws
+pub mod Within
+pub mod WithinLaws
 pub mod WovenIn

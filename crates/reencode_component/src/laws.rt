@@ -1,4 +1,5 @@
 //! Laws of the definitions.
+ghost use Rattle.std.specs.Prelude.{List, ℕ};
 ghost use Rattle.reencode_hooks.specs.Run.{ask};
 ghost use Rattle.reencode_component.specs.ComponentFaults.{FaultIsOne};
 ghost use Rattle.reencode_component.specs.ComponentLaws.{
@@ -9,6 +10,15 @@ ghost use Rattle.reencode_component.specs.ComponentLaws.{
   UnreadIsAnswered,
 };
 ghost use Rattle.reencode_component.specs.WeaveIn.{WeaveInOfNothing};
+ghost use Rattle.reencode_component.specs.WithinLaws.{
+  ErrorTells,
+  KindTells,
+  OutputIsTaken,
+  as_binary,
+  as_module,
+  of_binary,
+  of_module,
+};
 ghost use Rattle.reencode_component.specs.WovenIn.{OkIsWoven, WeaveInIsRun};
 
 use reencode_hooks::ReencodeIndices;
@@ -79,4 +89,36 @@ pub fn weave_in_is_run<T: ReencodeIndices>(_reencoder: &T)
 /// the one that the run over the visits leaves.
 pub fn component_is_woven<T: ReencodeIndices>(_reencoder: &T)
     ensures { OkIsWoven T.ReencodeIndices }
+{}
+
+/// What `reencode_core` answers, in terms of the reading: of a call with its clauses, where the reencoder keeps the defaults.
+///
+/// Where its section hook adds nothing, Ok comes only where the bytes are read as a core module whose visits the hooks accept and whose
+/// filled frames fit under the ceiling; it is the normal spelling of the filled reading, in the state that the run over the visits
+/// leaves. And wherever they are, that is answered, or memory runs out. `A` is the answer's type; the slice may be empty.
+pub fn module_is_reencoded<T: ReencodeIndices, A>(_reencoder: &T, _answers: &[A])
+    ensures { (view : A → List ℕ)
+        → OutputIsTaken as_module T.ReencodeIndices (of_module T.ReencodeIndices view) view }
+{}
+
+/// What an error of `reencode_core` tells of the bytes, of a call with its clauses, where the reencoder keeps the defaults.
+pub fn module_error_tells<T: ReencodeIndices, A>(_reencoder: &T, _answers: &[A])
+    ensures { (view : A → List ℕ)
+        → ErrorTells as_module T.ReencodeIndices (of_module T.ReencodeIndices view) }
+{}
+
+/// What `reencode_within` answers, in terms of the reading, as `module_is_reencoded` says it of `reencode_core`: the bytes are read as a
+/// core module or as a component, and the filled reading is spelled with its header.
+pub fn binary_is_reencoded<T: ReencodeIndices, A>(_reencoder: &T, _answers: &[A])
+    ensures { (view : A → List ℕ)
+        → OutputIsTaken as_binary T.ReencodeIndices (of_binary T.ReencodeIndices view) view }
+{}
+
+/// What an error of `reencode_within` tells of the bytes: their fault, that of a component where they begin with the header of one. Bytes
+/// without that header never give the error that a component stands where a core module is due.
+pub fn binary_error_tells<T: ReencodeIndices, A>(_reencoder: &T, _answers: &[A])
+    ensures fault { (view : A → List ℕ)
+        → ErrorTells as_binary T.ReencodeIndices (of_binary T.ReencodeIndices view) }
+    ensures kind { (view : A → List ℕ)
+        → KindTells T.ReencodeIndices (of_binary T.ReencodeIndices view) }
 {}

@@ -28,6 +28,7 @@ mod sections;
 mod type_bodies;
 mod type_utils;
 mod types;
+mod within;
 
 pub use answer::AnswerComponentVisits;
 pub use component::ReencodeComponent;
@@ -36,7 +37,9 @@ pub use defaults::{DefaultComponent, DefaultComponentItems, DefaultComponentRows
 pub use indices::ReencodeComponentIndices;
 pub use items::ReencodeComponentItems;
 pub use laws::{
-    component_fault_gains, component_fault_is_answered, component_fault_is_one,
-    component_is_answered, component_is_reencoded, component_is_woven, component_refusal_tells,
-    weave_in_is_run, weave_in_of_nothing,
+    binary_error_tells, binary_is_reencoded, component_fault_gains, component_fault_is_answered,
+    component_fault_is_one, component_is_answered, component_is_reencoded, component_is_woven,
+    component_refusal_tells, module_error_tells, module_is_reencoded, weave_in_is_run,
+    weave_in_of_nothing,
 };
+pub use within::{reencode, reencode_within};

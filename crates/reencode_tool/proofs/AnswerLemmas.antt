@@ -15,6 +15,7 @@ use Rattle.reencode_tool.specs.declared.answer.ReencodingFault.TheVariants as re
 use Rattle.reencode_tool.specs.declared.renamers.Refusal.{Refusal}
 use Rattle.reencode_tool.specs.declared.renamers.Renamers.{Renamers}
 use Rattle.reencode_tool.specs.declared.renamers.Renamers.TheVariants.{Alone}
+use Rattle.reencode_tool.specs.declared.taken.Taken.{Taken}
 use Rattle.reencode_tool.specs.Answer.{AtFile, Ends, EndsFor, FilesSay, ForJob, HasNoDigits, IsBadFile, IsTooLong, IsUnfetched, IsUnread, MadeFor, Outside, PlainFor, RefusesDigits, RefusesFrom, RefusesInput, RefusesRenaming, Says, StopsFor, StopsWith, Texts, Uses, message, most_bytes, report_of, status_of, text_of}
 use Rattle.reencode_tool.specs.Outside.{Rose, GaveAll, TookFront, TookMore, WhereTold, followed}
 use Rattle.reencode_tool.specs.Hexadecimal.{binary}
@@ -32,9 +33,9 @@ none_said texts (name ∷ names) said rs f e n = absurd cc
 pub none_used : (command : Command) (texts : Texts) (rs : Renamers) → Uses command texts rs → files command ≡ [] → rs ≡ Alone no_renaming
 none_used command texts rs u n = none_said texts (files command) u.0 rs u.1 u.2 n
 
-pub plain_for : {c : ℕ} {rs : Renamers} {bytes output : List ℕ} {counts : List (List ℕ)} (names : List (List ℕ)) → (names ≡ [] → rs ≡ Alone no_renaming) → IsReencoded c rs bytes output counts
-    → PlainFor names bytes output counts
-plain_for {c} {rs} {bytes} {output} {counts} [] none h = plain_of (subst (λ (z : Renamers). IsReencoded c z bytes output counts) (none refl) h)
+pub plain_for : {k : Taken} {c : ℕ} {rs : Renamers} {bytes output : List ℕ} {counts : List (List ℕ)} (names : List (List ℕ)) → (names ≡ [] → rs ≡ Alone no_renaming) → IsReencoded k c rs bytes output counts
+    → PlainFor k names bytes output counts
+plain_for {k} {c} {rs} {bytes} {output} {counts} [] none h = plain_of (subst (λ (z : Renamers). IsReencoded k c z bytes output counts) (none refl) h)
 plain_for (name ∷ names) none h = tt
 
 -- ---- the stages
@@ -104,7 +105,7 @@ module _ (job : Job) (o : Outside) (U : Type 0) where
   by_reencoding (reencoding_fault.Refused u) h = Ends.refused u h
   by_reencoding reencoding_fault.CodeSectionSize h = Ends.code_size h
   by_reencoding reencoding_fault.NonCoreModule h = Ends.component h
-  by_reencoding reencoding_fault.NonComponent h = absurd h.stops
+  by_reencoding reencoding_fault.NonComponent h = Ends.core_module h
   by_reencoding (reencoding_fault.TooLarge size ceiling) h = Ends.too_large size ceiling h
   by_reencoding reencoding_fault.NoMemory h = Ends.no_memory
 
@@ -160,6 +161,9 @@ of_code_size (Ends.code_size h) = h
 pub of_component : {job : Job} {o : Outside} {U : Type 0} {t : List ℕ} → Ends job o U 8 t → StopsFor job o reencoding_fault.NonCoreModule
 of_component (Ends.component h) = h
 
+pub of_core_module : {job : Job} {o : Outside} {U : Type 0} {t : List ℕ} → Ends job o U 9 t → StopsFor job o reencoding_fault.NonComponent
+of_core_module (Ends.core_module h) = h
+
 pub of_bad_file : {job : Job} {o : Outside} {U : Type 0} {t : List ℕ} → Ends job o U 11 t → IsBadFile job.command o.texts × U
 of_bad_file (Ends.bad_file h u) = (h, u)
 
@@ -209,6 +213,7 @@ job_message (Ends.parse_error at h) z p r l = absurd (p refl)
 job_message (Ends.refused u h) z p r l = absurd (r refl)
 job_message (Ends.code_size h) z p r l = refl
 job_message (Ends.component h) z p r l = refl
+job_message (Ends.core_module h) z p r l = refl
 job_message (Ends.too_large size ceiling h) z p r l = absurd (l refl)
 job_message (Ends.bad_file h u) z p r l = refl
 job_message (Ends.unfetched h u) z p r l = refl
@@ -220,7 +225,7 @@ message_of n t None o U F h z p r l = h.1 ∙ ap message (sym h.0)
 message_of n t (Some job) o U F h z p r l = job_message h z p r l
 
 abbrev pub IsStatus : ℕ → Type 0
-IsStatus n = Contains (0 ∷ 1 ∷ 2 ∷ 3 ∷ 4 ∷ 5 ∷ 6 ∷ 7 ∷ 8 ∷ 10 ∷ 11 ∷ 12 ∷ 13 ∷ 14 ∷ []) n
+IsStatus n = Contains (0 ∷ 1 ∷ 2 ∷ 3 ∷ 4 ∷ 5 ∷ 6 ∷ 7 ∷ 8 ∷ 9 ∷ 10 ∷ 11 ∷ 12 ∷ 13 ∷ 14 ∷ []) n
 
 job_status : {job : Job} {o : Outside} {U : Type 0} {n : ℕ} {t : List ℕ} → Ends job o U n t → IsStatus n
 job_status (Ends.printed made told) = (0, lit< tt, refl)
@@ -231,11 +236,12 @@ job_status (Ends.parse_error at h) = (5, lit< tt, refl)
 job_status (Ends.refused u h) = (6, lit< tt, refl)
 job_status (Ends.code_size h) = (7, lit< tt, refl)
 job_status (Ends.component h) = (8, lit< tt, refl)
-job_status (Ends.too_large size ceiling h) = (9, lit< tt, refl)
-job_status (Ends.bad_file h u) = (10, lit< tt, refl)
-job_status (Ends.unfetched h u) = (11, lit< tt, refl)
-job_status (Ends.too_long h) = (12, lit< tt, refl)
-job_status (Ends.no_digits h) = (13, lit< tt, refl)
+job_status (Ends.core_module h) = (9, lit< tt, refl)
+job_status (Ends.too_large size ceiling h) = (10, lit< tt, refl)
+job_status (Ends.bad_file h u) = (11, lit< tt, refl)
+job_status (Ends.unfetched h u) = (12, lit< tt, refl)
+job_status (Ends.too_long h) = (13, lit< tt, refl)
+job_status (Ends.no_digits h) = (14, lit< tt, refl)
 
 pub status_among : (n : ℕ) (t : List ℕ) (j : Option Job) (o : Outside) (U F : Type 0) → EndsFor j o U F n t → IsStatus n
 status_among n t None o U F h = subst IsStatus (sym h.0) (2, lit< tt, refl)

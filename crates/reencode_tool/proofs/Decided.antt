@@ -6,6 +6,7 @@ use Rattle.reencode_hooks.specs.Renamings.{Renaming}
 use Rattle.reencode_tool.specs.declared.answer.ReencodingFault.{ReencodingFault}
 use Rattle.reencode_tool.specs.declared.answer.ReencodingFault.TheVariants as reencoding_fault
 use Rattle.reencode_tool.specs.declared.renamers.Renamers.{Renamers}
+use Rattle.reencode_tool.specs.declared.taken.Taken.{Taken}
 use Rattle.reencode_tool.specs.declared.answer.Answer.TheVariants.{Reencoding}
 use Rattle.reencode_tool.specs.Answer.{AtFile, Ends, EndsFor, FileSays, FilesSay, HasBytes, IsDecided, IsDecidedByBytes, IsDecidedByFile, IsDecidedByFiles, IsDecidedByForm, IsDecidedByInput, IsDecidedByJob, IsDecidedByLeft, IsMaking, IsTooLong, MadeFor, Outside, SaysNone, StopsFor, TakesFrom, Texts, Uses, Work, most_bytes, most_renaming, status_of, told_text}
 use Rattle.reencode_tool.specs.Generated.{generated}
@@ -13,7 +14,7 @@ use Rattle.reencode_tool.specs.Hexadecimal.{binary, bytes_of}
 use Rattle.reencode_tool.specs.Outside.{GaveAll, HasText, IsLonger, Rose, TookMore, WhereTold}
 use Rattle.reencode_tool.specs.Renamers.{renamers_of}
 use Rattle.reencode_tool.specs.Renamings.{IsRenaming}
-use Rattle.reencode_tool.specs.Words.{Job, files, functions}
+use Rattle.reencode_tool.specs.Words.{Job, files, functions, taken}
 
 -- ---- texts that are told
 
@@ -54,20 +55,20 @@ module _ (H R W : Type 0) where
 
   -- ---- out of memory
 
-  memory_bytes : (c : ℕ) (rs : Renamers) (bytes : List ℕ) → IsDecidedByBytes W c rs bytes 1
-  memory_bytes c rs bytes = inr (reencoding_fault.NoMemory, refl, tt, λ t given reading all fits. refl)
+  memory_bytes : (k : Taken) (c : ℕ) (rs : Renamers) (bytes : List ℕ) → IsDecidedByBytes W k c rs bytes 1
+  memory_bytes k c rs bytes = inr (reencoding_fault.NoMemory, refl, tt, λ t given reading all fits. refl)
 
-  memory_form : (c : ℕ) (rs : Renamers) (form : Option (List ℕ)) → IsDecidedByForm W c rs form 1
-  memory_form c rs None = inr refl
-  memory_form c rs (Some bytes) = memory_bytes c rs bytes
+  memory_form : (k : Taken) (c : ℕ) (rs : Renamers) (form : Option (List ℕ)) → IsDecidedByForm W k c rs form 1
+  memory_form k c rs None = inr refl
+  memory_form k c rs (Some bytes) = memory_bytes k c rs bytes
 
   memory_left : (job : Job) (rs : Renamers) (left : Option (List ℕ)) → IsDecidedByLeft R W job rs left 1
   memory_left job rs None = tt
-  memory_left job rs (Some text) = inr (record { long = λ more. inr refl; short = λ less. memory_form job.ceiling rs (bytes_of job.is_text text) })
+  memory_left job rs (Some text) = inr (record { long = λ more. inr refl; short = λ less. memory_form (taken job.command) job.ceiling rs (bytes_of job.is_text text) })
 
   memory_input : (source : Option ℕ) (job : Job) (rs : Renamers) (left : Option (List ℕ)) → IsDecidedByInput R W source job rs left 1
   memory_input None job rs left = memory_left job rs left
-  memory_input (Some n) job rs left = memory_bytes job.ceiling rs (generated n)
+  memory_input (Some n) job rs left = memory_bytes (taken job.command) job.ceiling rs (generated n)
 
   memory_file : (file : Option (List ℕ)) (by : Renaming → Type 0) → ((r : Renaming) → by r) → IsDecidedByFile H file 1 by
   memory_file None by all = tt
@@ -84,7 +85,7 @@ module _ (H R W : Type 0) where
 
   -- ---- the input
 
-  by_bytes : (job : Job) (rs : Renamers) (old new : Option (List ℕ)) (bytes : List ℕ) (n : ℕ) → HasBytes job.is_text old new bytes → IsDecidedByBytes W job.ceiling rs bytes n
+  by_bytes : (job : Job) (rs : Renamers) (old new : Option (List ℕ)) (bytes : List ℕ) (n : ℕ) → HasBytes job.is_text old new bytes → IsDecidedByBytes W (taken job.command) job.ceiling rs bytes n
       → IsDecidedByLeft R W job rs old n
   by_bytes job rs None new bytes n h d = tt
   by_bytes job rs (Some told) new bytes n h d =
@@ -92,13 +93,13 @@ module _ (H R W : Type 0) where
       let form : bytes_of job.is_text told ≡ Some bytes = ap (bytes_of job.is_text) e ∙ h.are in
       inr (record {
         long = λ more. absurd (not_long most_bytes told h.text e h.gave.within more);
-        short = λ less. subst (λ (f : Option (List ℕ)). IsDecidedByForm W job.ceiling rs f n) (sym form) d;
+        short = λ less. subst (λ (f : Option (List ℕ)). IsDecidedByForm W (taken job.command) job.ceiling rs f n) (sym form) d;
       })
 
   by_takes : (source : Option ℕ) (job : Job) (rs : Renamers) (old new : Option (List ℕ)) (bytes : List ℕ) (n : ℕ) → TakesFrom source job.is_text old new bytes
-      → IsDecidedByBytes W job.ceiling rs bytes n → IsDecidedByInput R W source job rs old n
+      → IsDecidedByBytes W (taken job.command) job.ceiling rs bytes n → IsDecidedByInput R W source job rs old n
   by_takes None job rs old new bytes n h d = by_bytes job rs old new bytes n h d
-  by_takes (Some k) job rs old new bytes n h d = subst (λ (b : List ℕ). IsDecidedByBytes W job.ceiling rs b n) h d
+  by_takes (Some k) job rs old new bytes n h d = subst (λ (b : List ℕ). IsDecidedByBytes W (taken job.command) job.ceiling rs b n) h d
 
   long_left : (job : Job) (rs : Renamers) (old new : Option (List ℕ)) → TookMore most_bytes old new → IsDecidedByLeft R W job rs old 13
   long_left job rs None new h = tt
@@ -114,7 +115,7 @@ module _ (H R W : Type 0) where
       let form : bytes_of job.is_text told ≡ None = ap (λ (b : Bool). bytes_of b told) is ∙ ap binary e ∙ none in
       inr (record {
         long = λ more. absurd (not_long most_bytes told text e gave.within more);
-        short = λ less. subst (λ (f : Option (List ℕ)). IsDecidedByForm W job.ceiling rs f 14) (sym form) (inl refl);
+        short = λ less. subst (λ (f : Option (List ℕ)). IsDecidedByForm W (taken job.command) job.ceiling rs f 14) (sym form) (inl refl);
       })
 
   unread : (job : Job) (rs : Renamers) (old : Option (List ℕ)) → R → IsDecidedByLeft R W job rs old 3
@@ -203,7 +204,7 @@ module _ (H R W : Type 0) where
       by_uses texts (files job.command) u.0 n (By job left n) u.1
       (subst (λ (z : Renamers). IsDecidedByInput R W (functions job.command) job z left n) u.2 d)
 
-  by_work : (job : Job) (texts : Texts) (old new : Option (List ℕ)) (n : ℕ) (w : Work job texts old new) → IsDecidedByBytes W job.ceiling w.renamers w.bytes n
+  by_work : (job : Job) (texts : Texts) (old new : Option (List ℕ)) (n : ℕ) (w : Work job texts old new) → IsDecidedByBytes W (taken job.command) job.ceiling w.renamers w.bytes n
       → IsDecidedByJob H R W job texts old n
   by_work job texts old new n w d =
       by_renamers job texts w.renamers old n w.uses (by_takes (functions job.command) job w.renamers old new w.bytes n w.takes d)
@@ -233,6 +234,7 @@ module _ (H R W : Type 0) where
   decided_job job o f r w (Ends.refused u h) = by_refused job o (reencoding_fault.Refused u) h
   decided_job job o f r w (Ends.code_size h) = by_refused job o reencoding_fault.CodeSectionSize h
   decided_job job o f r w (Ends.component h) = by_refused job o reencoding_fault.NonCoreModule h
+  decided_job job o f r w (Ends.core_module h) = by_refused job o reencoding_fault.NonComponent h
   decided_job job o f r w (Ends.too_large size ceiling h) = by_refused job o (reencoding_fault.TooLarge size ceiling) h
   decided_job job o f r w (Ends.bad_file h u) =
       at_file o.texts (files job.command) 11 (By job o.left_old 11) (λ name by none. bad_file name o.texts by none (told_text o.texts name) refl) h

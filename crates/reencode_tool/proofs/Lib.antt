@@ -1,6 +1,7 @@
 mod AnswerLemmas
 mod Blank
 mod ByRule
+mod ComponentRefusals
 mod Decided
 mod Keeping
 mod KeptLines

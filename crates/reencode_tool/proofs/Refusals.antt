@@ -1,7 +1,7 @@
 -- What a refusal of a reencoder comes of: whatever is said by each walk of it that is refused, and kept by each that is accepted.
 use Rattle.std.proofs.Common.{◌≡◌, ℕ, ◌≤◌, ◌⊎◌, inl, inr, List, ◌++◌, length, length-append, Option, Some, refl, ap, arith}
 use Rattle.wasm_shapes.specs.declared.SectionId.{SectionId}
-use Rattle.wasm_shapes.specs.declared.Visit.TheVariants.{Section}
+use Rattle.wasm_shapes.specs.declared.Visit.TheVariants.{Section, Push}
 use Rattle.wasm_shapes.specs.Tree.{Tree}
 use Rattle.wasm_shapes.specs.Shape.{Shape}
 use Rattle.wasm_shapes.specs.Spells.{Spelled}
@@ -23,10 +23,10 @@ use Rattle.reencode_core.proofs.Fronts.{reads_or_fails}
 
 -- ---- lengths
 
-first_shorter : (y z : List ℕ) {x : List ℕ} → x ≡ y ++ z → length y ≤ length x
+pub first_shorter : (y z : List ℕ) {x : List ℕ} → x ≡ y ++ z → length y ≤ length x
 first_shorter y z e = omega (arith, length-append y z, ap length e)
 
-second_shorter : (y z : List ℕ) {x : List ℕ} → x ≡ y ++ z → length z ≤ length x
+pub second_shorter : (y z : List ℕ) {x : List ℕ} → x ≡ y ++ z → length z ≤ length x
 second_shorter y z e = omega (arith, length-append y z, ap length e)
 
 begun : {s : Shape} {x left : List ℕ} {t : Tree} (p : Begins s x t left) → length p.text ≤ length x
@@ -40,7 +40,7 @@ framed {x} {left} {body} p =
     let whole : length p.text ≤ length x = begun p in
     omega (arith, ap length q.4)
 
-numbered : {n : ℕ} {x left body : List ℕ} (p : Begins frame x (numbered_frame n body) left) → length body ≤ length x
+pub numbered : {n : ℕ} {x left body : List ℕ} (p : Begins frame x (numbered_frame n body) left) → length body ≤ length x
 numbered {n} {x} {left} {body} p =
     let q = p.spells.spelled in
     let r = q.4 in
@@ -73,11 +73,13 @@ custom {x} {left} {name} {contents} p =
 
 -- ---- what is kept, and what is said
 
--- This is kept by each accepted walk, and by the section hook, which is never refused; and that is said by each refused walk over a text.
+-- This is kept by each accepted walk, by the beginning of a scope, and by the section hook, which is never refused; and that is said by each
+-- refused walk over a text.
 pub record Tells {S E : Type 0} (asked : Asks S E) (P : S → Type 0) (Q : ℕ → List ℕ → Error E → Type 0) : Type 0 where
   pub larger : {c : ℕ} {x y : List ℕ} {e : Error E} → length x ≤ length y → Q c x e → Q c y e
   pub kept : {s k : S} {u : Tree} (c : ℕ) (t : Tree) → P s → walk asked c s t ≡ accepted u k → P k
   pub hooked : (s k : S) (a : ℕ) (last before : Option SectionId) → P s → asked s (Section last before) ≡ accepted a k → P k
+  pub opened : (s k : S) (a : ℕ) → P s → asked s Push ≡ accepted a k → P k
   pub unrefused : (s m : S) (e : Error E) (last before : Option SectionId) → P s → asked s (Section last before) ≡ refused e m → ⊥
   pub only : {s m : S} {e : Error E} (c : ℕ) (t : Tree) (x : List ℕ) → P s → Spelled t x → walk asked c s t ≡ refused e m → Q c x e
 
@@ -107,7 +109,7 @@ module _ {S E : Type 0} {asked : Asks S E} {P : S → Type 0} {Q : ℕ → List 
   inside_told : {c : ℕ} {row : Shape} {bytes : List ℕ} {s m : S} {e : Error E} → P s → RefusesInside asked c row bytes s e m → Q c bytes e
   inside_told {c} {s = s} {m = m} {e = e} b h = tells.larger (framed h.begins) (body_told c h.body s m e b h.stops)
 
-  row_told : {c : ℕ} {row : Shape} {reader : Standing} {s m : S} {e : Error E} → P s → StopsDue asked c row reader s e m → Q c reader.rest e
+  pub row_told : {c : ℕ} {row : Shape} {reader : Standing} {s m : S} {e : Error E} → P s → StopsDue asked c row reader s e m → Q c reader.rest e
   row_told {c} {row} {m = m} {e = e} b h =
       tells.larger (second_shorter h.front.text h.rest h.front.stands) (go (rows_state c h.state h.read h.made b h.accepts) h.refuses)
     where

@@ -3,6 +3,7 @@ use Rattle.std.proofs.Common.{◌≡◌, ℕ, List, [], length, Result, Ok, Err,
 use Rattle.reencode_hooks.specs.Renamings.{no_renaming}
 use Rattle.reencode_tool.specs.declared.renamers.Renamers.{Renamers}
 use Rattle.reencode_tool.specs.declared.renamers.Renamers.TheVariants.{Alone}
+use Rattle.reencode_tool.specs.declared.taken.Taken.TheVariants.{Modules, Binaries}
 use Rattle.reencode_tool.specs.Answer.{Output, Reports, output_text}
 use Rattle.reencode_tool.specs.Kept.{Keeps}
 use Rattle.reencode_tool.specs.Report.{lengths_report, report}
@@ -13,16 +14,16 @@ abbrev pub Printed : Command → ℕ → Renamers → List ℕ → List ℕ → 
 Printed command c rs bytes text = (m : Output command c rs bytes) × (text ≡ output_text m)
 
 module _ {c : ℕ} {rs : Renamers} {bytes text : List ℕ} where
-  pub plain_printed : Reports c rs bytes report text → Printed plain c rs bytes text
+  pub plain_printed : Reports Binaries c rs bytes report text → Printed plain c rs bytes text
   plain_printed h = (record { output = h.0; counts = h.1; reencoded = h.2; ranges = []; kept = refl }, h.3)
 
-  pub rename_printed : (name : List ℕ) → Reports c rs bytes report text → Printed (rename name) c rs bytes text
+  pub rename_printed : (name : List ℕ) → Reports Binaries c rs bytes report text → Printed (rename name) c rs bytes text
   rename_printed name h = (record { output = h.0; counts = h.1; reencoded = h.2; ranges = []; kept = refl }, h.3)
 
-  pub twice_printed : (first second : List ℕ) → Reports c rs bytes report text → Printed (twice first second) c rs bytes text
+  pub twice_printed : (first second : List ℕ) → Reports Binaries c rs bytes report text → Printed (twice first second) c rs bytes text
   twice_printed first second h = (record { output = h.0; counts = h.1; reencoded = h.2; ranges = []; kept = refl }, h.3)
 
-  pub generate_printed : (n : ℕ) → Reports c rs bytes (lengths_report n (length bytes)) text → Printed (generate n) c rs bytes text
+  pub generate_printed : (n : ℕ) → Reports Modules c rs bytes (lengths_report n (length bytes)) text → Printed (generate n) c rs bytes text
   generate_printed n h = (record { output = h.0; counts = h.1; reencoded = h.2; ranges = []; kept = refl }, h.3)
 
 pub kept_printed : {c : ℕ} {bytes text : List ℕ} {rs : Renamers} → rs ≡ Alone no_renaming → Keeps c bytes text → Printed keep_report c rs bytes text

@@ -1,7 +1,6 @@
 -- How the program ends.
 use Rattle.std.specs.Prelude.{◌≡◌, ℕ, ◌<◌, ◌≤◌, ◌==◌, ◌⊎◌, if◌then◌else◌, Bool, true, Option, Some, None, MatchOption, List, [], ◌∷◌, ◌++◌, codes, decimal, length}
 use Rattle.wasm_shapes.specs.Tree.{Tree}
-use Rattle.wasm_shapes.specs.Module.{core_tree}
 use Rattle.reencode_core.specs.Pieces.{Range}
 use Rattle.reencode_core.specs.Kept.{Kept}
 use Rattle.reencode_tool.specs.declared.answer.Answer.{Answer}
@@ -18,6 +17,7 @@ use Rattle.reencode_tool.specs.declared.answer.ReencodingFault.TheVariants as re
 use Rattle.reencode_tool.specs.declared.answer.WritingFault.TheVariants as writing_fault
 use Rattle.reencode_tool.specs.declared.renamers.Refusal.{Refusal}
 use Rattle.reencode_tool.specs.declared.renamers.Renamers.{Renamers}
+use Rattle.reencode_tool.specs.declared.taken.Taken.{Taken}
 use Rattle.reencode_hooks.specs.declared.error.Error.{Error}
 use Rattle.reencode_hooks.specs.declared.error.Error.TheVariants as error
 use Rattle.reencode_hooks.specs.Renamings.{Renaming}
@@ -30,7 +30,7 @@ use Rattle.reencode_tool.specs.Kept.{kept_report}
 use Rattle.reencode_tool.specs.Report.{lengths_report, report}
 use Rattle.reencode_tool.specs.Plain.{IsPlain}
 use Rattle.reencode_tool.specs.Reencoded.{IsReencoded, IsRefused, IsMakingFault}
-use Rattle.reencode_tool.specs.Words.{Command, generate, keep_report, Job, files, functions}
+use Rattle.reencode_tool.specs.Words.{Command, generate, keep_report, Job, files, functions, taken}
 
 -- what shelves tell
 abbrev pub Texts : Type 0
@@ -105,9 +105,9 @@ pub record Work (job : Job) (texts : Texts) (left_old left_new : Option (List �
   pub takes : Takes job.command job.is_text left_old left_new bytes
 
 -- the text tells the output and the counts that the bytes have under these renamings and the ceiling
-abbrev pub Reports : ℕ → Renamers → (bytes : List ℕ) → (List ℕ → List (List ℕ) → List ℕ) → (text : List ℕ) → Type 0
-Reports ceiling rs bytes shown text =
-    (output : List ℕ) × (counts : List (List ℕ)) × IsReencoded ceiling rs bytes output counts × (text ≡ shown output counts)
+abbrev pub Reports : Taken → ℕ → Renamers → (bytes : List ℕ) → (List ℕ → List (List ℕ) → List ℕ) → (text : List ℕ) → Type 0
+Reports k ceiling rs bytes shown text =
+    (output : List ℕ) × (counts : List (List ℕ)) × IsReencoded k ceiling rs bytes output counts × (text ≡ shown output counts)
 
 -- what is printed of a re-encoding: the lengths of a made module, what is kept, or the digits of the output; and the counts
 abbrev pub report_by : Command → (input : ℕ) → (output : List ℕ) → List Range → List (List ℕ) → List ℕ
@@ -117,19 +117,19 @@ report_by _ input output ranges counts = report output counts
 
 -- where it is told what is kept, these ranges are those of the function bodies that are spelled normally and stay as they are
 abbrev pub KeptFor : Command → (bytes : List ℕ) → Tree → (answers : List ℕ) → List Range → Type 0
-KeptFor keep_report bytes tree answers ranges = Kept bytes (core_tree tree) answers ranges
+KeptFor keep_report bytes tree answers ranges = Kept bytes tree answers ranges
 KeptFor _ bytes tree answers ranges = ranges ≡ []
 
 -- where nothing is renamed, the output is the normal spelling itself
-abbrev pub PlainFor : (names : List (List ℕ)) → (bytes output : List ℕ) → List (List ℕ) → Type 0
-PlainFor [] bytes output counts = IsPlain bytes output counts
-PlainFor (name ∷ names) bytes output counts = Unit {0}
+abbrev pub PlainFor : Taken → (names : List (List ℕ)) → (bytes output : List ℕ) → List (List ℕ) → Type 0
+PlainFor k [] bytes output counts = IsPlain k bytes output counts
+PlainFor k (name ∷ names) bytes output counts = Unit {0}
 
 -- The bytes have this output and these counts under these renamings and this ceiling.
 pub record Output (command : Command) (ceiling : ℕ) (rs : Renamers) (bytes : List ℕ) : Type 0 where
   pub output : List ℕ
   pub counts : List (List ℕ)
-  pub reencoded : IsReencoded ceiling rs bytes output counts
+  pub reencoded : IsReencoded (taken command) ceiling rs bytes output counts
   pub ranges : List Range
   pub kept : KeptFor command bytes reencoded.tree reencoded.answers ranges
 
@@ -137,7 +137,7 @@ pub record Output (command : Command) (ceiling : ℕ) (rs : Renamers) (bytes : L
 pub record Made (job : Job) (texts : Texts) (left_old left_new : Option (List ℕ)) : Type 0 where
   pub work : Work job texts left_old left_new
   pub made : Output job.command job.ceiling work.renamers work.bytes
-  pub plain : PlainFor (files job.command) work.bytes made.output made.counts
+  pub plain : PlainFor (taken job.command) (files job.command) work.bytes made.output made.counts
 
 abbrev pub output_text : {command : Command} {ceiling : ℕ} {rs : Renamers} {bytes : List ℕ} → Output command ceiling rs bytes → List ℕ
 output_text {command} {bytes = bytes} made = report_by command (length bytes) made.output made.ranges made.counts
@@ -207,8 +207,8 @@ RefusesBytes command is_text faults_old faults_new left_old left_new answer =
 -- out of memory alone.
 pub record StopsAtReencoding (job : Job) (texts : Texts) (left_old left_new : Option (List ℕ)) (fault : ReencodingFault) : Type 0 where
   pub work : Work job texts left_old left_new
-  pub stops : IsRefused job.ceiling work.renamers work.bytes fault
-  pub made : IsMakingFault job.ceiling work.renamers work.bytes fault
+  pub stops : IsRefused (taken job.command) job.ceiling work.renamers work.bytes fault
+  pub made : IsMakingFault (taken job.command) job.ceiling work.renamers work.bytes fault
 
 abbrev pub StopsFor : Job → Outside → ReencodingFault → Type 0
 StopsFor job o fault = StopsAtReencoding job o.texts o.left_old o.left_new fault
@@ -322,6 +322,7 @@ pub data Ends (job : Job) (o : Outside) (Unread : Type 0) : ℕ → List ℕ →
   refused : (u : Refusal) → StopsFor job o (reencoding_fault.Refused u) → Ends job o Unread 6 (refusal_text u)
   code_size : StopsFor job o reencoding_fault.CodeSectionSize → Ends job o Unread 7 (message 7)
   component : StopsFor job o reencoding_fault.NonCoreModule → Ends job o Unread 8 (message 8)
+  core_module : StopsFor job o reencoding_fault.NonComponent → Ends job o Unread 9 (message 9)
   too_large : (size ceiling : ℕ) → StopsFor job o (reencoding_fault.TooLarge size ceiling)
       → Ends job o Unread 10 (codes "too large: " ++ decimal size ++ codes " over " ++ decimal ceiling)
   bad_file : IsBadFile job.command o.texts → Unread → Ends job o Unread 11 (message 11)
@@ -356,20 +357,20 @@ EndsAs told ceiling _ fault = ⊥
 
 -- Which status comes by the renamings and the bytes. Where all visits are accepted and all frames fit, it is 0, or 4 where the sink
 -- failed, or memory runs out.
-abbrev pub IsDecidedByBytes : (Unwritten : Type 0) → ℕ → Renamers → List ℕ → ℕ → Type 0
-IsDecidedByBytes Unwritten ceiling rs bytes status =
-    (((status ≡ 0) ⊎ ((status ≡ 4) × Unwritten)) × ((output : List ℕ) × (counts : List (List ℕ)) × IsReencoded ceiling rs bytes output counts))
-    ⊎ ((fault : ReencodingFault) × (status ≡ status_of (Reencoding fault)) × IsRefused ceiling rs bytes fault × IsMakingFault ceiling rs bytes fault)
+abbrev pub IsDecidedByBytes : (Unwritten : Type 0) → Taken → ℕ → Renamers → List ℕ → ℕ → Type 0
+IsDecidedByBytes Unwritten k ceiling rs bytes status =
+    (((status ≡ 0) ⊎ ((status ≡ 4) × Unwritten)) × ((output : List ℕ) × (counts : List (List ℕ)) × IsReencoded k ceiling rs bytes output counts))
+    ⊎ ((fault : ReencodingFault) × (status ≡ status_of (Reencoding fault)) × IsRefused k ceiling rs bytes fault × IsMakingFault k ceiling rs bytes fault)
 
 -- which status comes by the form of the text and the bytes that it is
-abbrev pub IsDecidedByForm : (Unwritten : Type 0) → ℕ → Renamers → Option (List ℕ) → ℕ → Type 0
-IsDecidedByForm Unwritten ceiling rs None status = (status ≡ 14) ⊎ (status ≡ 1)
-IsDecidedByForm Unwritten ceiling rs (Some bytes) status = IsDecidedByBytes Unwritten ceiling rs bytes status
+abbrev pub IsDecidedByForm : (Unwritten : Type 0) → Taken → ℕ → Renamers → Option (List ℕ) → ℕ → Type 0
+IsDecidedByForm Unwritten k ceiling rs None status = (status ≡ 14) ⊎ (status ≡ 1)
+IsDecidedByForm Unwritten k ceiling rs (Some bytes) status = IsDecidedByBytes Unwritten k ceiling rs bytes status
 
 -- which status comes for an input that was read
 pub record IsDecidedFor (Unwritten : Type 0) (job : Job) (rs : Renamers) (text : List ℕ) (status : ℕ) : Type 0 where
   pub long : most_bytes < length text → (status ≡ 13) ⊎ (status ≡ 1)
-  pub short : length text ≤ most_bytes → IsDecidedByForm Unwritten job.ceiling rs (bytes_of job.is_text text) status
+  pub short : length text ≤ most_bytes → IsDecidedByForm Unwritten (taken job.command) job.ceiling rs (bytes_of job.is_text text) status
 
 -- which status comes for the input, where it is told: 3 where the source failed, and else by what was read
 abbrev pub IsDecidedByLeft : (Unread Unwritten : Type 0) → Job → Renamers → Option (List ℕ) → ℕ → Type 0
@@ -379,7 +380,7 @@ IsDecidedByLeft Unread Unwritten job rs (Some text) status = ((status ≡ 3) × 
 -- which status comes under some renamings, for a made module of so many functions or the input
 abbrev pub IsDecidedByInput : (Unread Unwritten : Type 0) → Option ℕ → Job → Renamers → Option (List ℕ) → ℕ → Type 0
 IsDecidedByInput Unread Unwritten None job rs left status = IsDecidedByLeft Unread Unwritten job rs left status
-IsDecidedByInput Unread Unwritten (Some n) job rs left status = IsDecidedByBytes Unwritten job.ceiling rs (generated n) status
+IsDecidedByInput Unread Unwritten (Some n) job rs left status = IsDecidedByBytes Unwritten (taken job.command) job.ceiling rs (generated n) status
 
 -- which status comes for the text of a file that was fetched, where that of a renaming is told
 pub record IsDecidedForFile (text : List ℕ) (status : ℕ) (by : Renaming → Type 0) : Type 0 where

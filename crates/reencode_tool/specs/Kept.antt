@@ -1,12 +1,12 @@
 -- What is told of the function bodies that are kept.
 use Rattle.std.specs.Prelude.{◌≡◌, ℕ, ◌+◌, ◌-◌, List, [], ◌∷◌, ◌++◌, codes, decimal, length}
-use Rattle.wasm_shapes.specs.Module.{core_tree}
 use Rattle.reencode_hooks.specs.Renamings.{no_renaming}
 use Rattle.reencode_core.specs.declared.pieces.piece.Piece.{Piece}
 use Rattle.reencode_core.specs.declared.pieces.piece.Piece.TheVariants as piece
 use Rattle.reencode_core.specs.Pieces.{Range, range}
 use Rattle.reencode_core.specs.Kept.{Kept}
 use Rattle.reencode_tool.specs.declared.renamers.Renamers.TheVariants.{Alone}
+use Rattle.reencode_tool.specs.declared.taken.Taken.TheVariants.{Modules}
 use Rattle.reencode_tool.specs.Reencoded.{IsReencoded}
 use Rattle.reencode_tool.specs.Report.{tail}
 
@@ -45,7 +45,7 @@ kept_len (piece.Made bytes) = 0
 pub record Keeps (ceiling : ℕ) (bytes text : List ℕ) : Type 0 where
   pub output : List ℕ
   pub counts : List (List ℕ)
-  pub reencoded : IsReencoded ceiling (Alone no_renaming) bytes output counts
+  pub reencoded : IsReencoded Modules ceiling (Alone no_renaming) bytes output counts
   pub ranges : List Range
-  pub kept : Kept bytes (core_tree reencoded.tree) reencoded.answers ranges
+  pub kept : Kept bytes reencoded.tree reencoded.answers ranges
   pub told : text ≡ kept_report ranges (length output) counts

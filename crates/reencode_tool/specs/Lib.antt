@@ -6,6 +6,7 @@ pub mod Renamings
 pub mod Generated
 pub mod Report
 pub mod Counts
+pub mod Taken
 pub mod Plain
 pub mod Renamers
 pub mod Reencoded

@@ -7,6 +7,7 @@ use Rattle.reencode_hooks.specs.declared.chain.Chain.{Chain}
 use Rattle.reencode_hooks.specs.declared.chain.ChainError.{ChainError}
 use Rattle.reencode_hooks.specs.declared.chain.ChainError.TheVariants.{First, Second}
 use Rattle.reencode_hooks.specs.declared.error.Error.{Error}
+use Rattle.reencode_hooks.specs.declared.indices.ReencodeIndices.{Ghosts}
 use Rattle.reencode_hooks.specs.Chains.{chain_next, chain_reply, first_then, reindexed}
 use Rattle.reencode_hooks.specs.Renamings.{Renaming, entry_of, no_renaming, renamed, renamer_next, renamer_reply, unmapped_text}
 use Rattle.reencode_hooks.specs.Rules.{by_rule}
@@ -76,6 +77,10 @@ next_of (Both c) = chain_next renamer_reply renamer_next renamer_next
 
 abbrev pub asks_of : (rs : Renamers) → State rs → Visit → Step (State rs) (Error (Lack rs)) ℕ
 asks_of rs s v = ask (reply_of rs) (next_of rs) s v
+
+-- its meanings: it keeps every default, adds nothing, and is never out of memory
+abbrev pub hooks_of : (rs : Renamers) → Ghosts (State rs) (Lack rs)
+hooks_of rs = record { reply = reply_of rs; next = next_of rs; adds = λ s v. []; keeps_defaults = true; adds_nothing = true; sure = true }
 
 -- the state in which it begins
 abbrev pub begun : (rs : Renamers) → State rs

@@ -4,6 +4,8 @@ use Rattle.std.specs.Cmp.Lexicographic.{pointwise}
 use Rattle.reencode_tool.specs.declared.words.Command as of_command
 use Rattle.reencode_tool.specs.declared.words.Command.TheVariants as said
 use Rattle.reencode_tool.specs.declared.words.Job as of_job
+use Rattle.reencode_tool.specs.declared.taken.Taken.{Taken}
+use Rattle.reencode_tool.specs.declared.taken.Taken.TheVariants.{Modules, Binaries}
 use Rattle.reencode_tool.specs.Numerals.{index_of}
 
 -- what is to be done
@@ -30,6 +32,12 @@ files _ = []
 abbrev pub functions : Command → Option ℕ
 functions (generate n) = Some n
 functions _ = None
+
+-- what kinds of binaries a command takes
+abbrev pub taken : Command → Taken
+taken (generate n) = Modules
+taken keep_report = Modules
+taken _ = Binaries
 
 abbrev pub is_word : List ℕ → List ℕ → Bool
 is_word word text = pointwise nat_eq word text

@@ -9,6 +9,7 @@ ghost use Rattle.reencode_tool.specs.Renamers.{AreCounts, counts_in};
 use crate::answer::{ReencodingFault, reencoding_fault};
 use crate::renamers::Renamers;
 use crate::report::{add_number, add_tail};
+use crate::taken::Taken;
 use reencode_core::{Piece, Pieces, reencode_pieces};
 use reencode_hooks::Renamer;
 use std::alloc::{AllocError, Global};
@@ -73,9 +74,9 @@ fn lines_of(alloc: Global, pieces: &Pieces, renamers: &Renamers) -> Result<Vec<u
 pub fn kept_report(alloc: Global, bytes: &[u8], ceiling: u32) -> Result<Vec<u8>, ReencodingFault>
     ensures ok { IfOk result (λ text. Keeps ceiling bytes.now text.items) }
     ensures refused { IfErr result
-        (λ fault. IsRefused ceiling (Renamers.Alone no_renaming) bytes.now fault) }
+        (λ fault. IsRefused Taken.Modules ceiling (Renamers.Alone no_renaming) bytes.now fault) }
     ensures made { IfErr result
-        (λ fault. IsMakingFault ceiling (Renamers.Alone no_renaming) bytes.now fault) }
+        (λ fault. IsMakingFault Taken.Modules ceiling (Renamers.Alone no_renaming) bytes.now fault) }
 {
     let mut renamer = Renamer::new(alloc);
     let pieces = match reencode_pieces(alloc, &mut renamer, bytes, ceiling) {

@@ -7,7 +7,7 @@ ghost use Rattle.reencode_tool.specs.Generated.{generated};
 ghost use Rattle.reencode_tool.specs.Reencoded.{IsMakingFault, IsRefused};
 ghost use Rattle.reencode_tool.specs.Renamers.{AreCounts};
 ghost use Rattle.reencode_tool.specs.Report.{lengths_report, report};
-ghost use Rattle.reencode_tool.specs.Words.{command_seen, files, job_seen};
+ghost use Rattle.reencode_tool.specs.Words.{command_seen, files, job_seen, taken};
 
 use crate::answer::{Answer, FileFault, ReencodingFault, WritingFault};
 use crate::buffer::zeros;
@@ -20,6 +20,7 @@ use crate::reencoded::reencoded;
 use crate::renamers::Renamers;
 use crate::renaming::{RenamingFault, renaming_of};
 use crate::report::{made_lines, tail};
+use crate::taken::Taken;
 use crate::words::{Command, Job, functions};
 use reencode_hooks::{Chain, Renamer};
 use std::alloc::Global;
@@ -158,12 +159,12 @@ fn digits(
     ceiling: u32,
 ) -> Result<(Vec<u8>, Vec<u8>), ReencodingFault>
     requires { AreCounts renamers }
-    ensures ok { IfOk result (λ p. Reports ceiling renamers bytes.now report
+    ensures ok { IfOk result (λ p. Reports Taken.Binaries ceiling renamers bytes.now report
         (encode_lower p.0.items ++ p.1.items)) }
-    ensures refused { IfErr result (λ fault. IsRefused ceiling renamers bytes.now fault) }
-    ensures made { IfErr result (λ fault. IsMakingFault ceiling renamers bytes.now fault) }
+    ensures refused { IfErr result (λ fault. IsRefused Taken.Binaries ceiling renamers bytes.now fault) }
+    ensures made { IfErr result (λ fault. IsMakingFault Taken.Binaries ceiling renamers bytes.now fault) }
 {
-    let (output, renamers) = reencoded(alloc, renamers, bytes, ceiling)?;
+    let (output, renamers) = reencoded(alloc, Taken::Binaries, renamers, bytes, ceiling)?;
     match tail(alloc, &renamers) {
         Ok(tail) => Ok((output, tail)),
         Err(_) => Err(ReencodingFault::NoMemory),
@@ -179,12 +180,12 @@ fn lengths(
     ceiling: u32,
 ) -> Result<Vec<u8>, ReencodingFault>
     requires { AreCounts renamers }
-    ensures ok { IfOk result (λ text. Reports ceiling renamers bytes.now
+    ensures ok { IfOk result (λ text. Reports Taken.Modules ceiling renamers bytes.now
         (lengths_report functions (length bytes.now)) text.items) }
-    ensures refused { IfErr result (λ fault. IsRefused ceiling renamers bytes.now fault) }
-    ensures made { IfErr result (λ fault. IsMakingFault ceiling renamers bytes.now fault) }
+    ensures refused { IfErr result (λ fault. IsRefused Taken.Modules ceiling renamers bytes.now fault) }
+    ensures made { IfErr result (λ fault. IsMakingFault Taken.Modules ceiling renamers bytes.now fault) }
 {
-    let (output, renamers) = reencoded(alloc, renamers, bytes, ceiling)?;
+    let (output, renamers) = reencoded(alloc, Taken::Modules, renamers, bytes, ceiling)?;
     match made_lines(alloc, functions, bytes.len(), output.len(), &renamers) {
         Ok(lines) => Ok(lines),
         Err(_) => Err(ReencodingFault::NoMemory),
@@ -205,8 +206,8 @@ fn shown(
     ensures ok { IfOk result
         (λ p. (m : Output (command_seen command.entry) ceiling renamers bytes.now)
         × (encode_lower p.0.items ++ p.1.items ≡ output_text m)) }
-    ensures refused { IfErr result (λ fault. IsRefused ceiling renamers bytes.now fault) }
-    ensures made { IfErr result (λ fault. IsMakingFault ceiling renamers bytes.now fault) }
+    ensures refused { IfErr result (λ fault. IsRefused (taken (command_seen command.entry)) ceiling renamers bytes.now fault) }
+    ensures made { IfErr result (λ fault. IsMakingFault (taken (command_seen command.entry)) ceiling renamers bytes.now fault) }
 {
     match command {
         Command::Plain => digits(alloc, renamers, bytes, ceiling),

@@ -5,27 +5,28 @@ ghost use Rattle.reencode_tool.specs.Renamers.{AreCounts, counts_in};
 
 use crate::answer::{ReencodingFault, reencoding_fault};
 use crate::renamers::Renamers;
-use reencode_core::reencode_core;
+use crate::taken::{Taken, reencode_taken};
 use reencode_hooks::{Chain, Renamer};
 use std::alloc::Global;
 
 /// The output that is made of some bytes under one renaming and a ceiling, and the renamer behind it.
 fn by_one(
     alloc: Global,
+    taken: Taken,
     renamer: Renamer,
     bytes: &[u8],
     ceiling: u32,
 ) -> Result<(Vec<u8>, Renamers), ReencodingFault>
-    ensures ok { IfOk result (λ made. IsReencoded ceiling (Renamers.Alone renamer) bytes.now
+    ensures ok { IfOk result (λ made. IsReencoded taken ceiling (Renamers.Alone renamer) bytes.now
         made.0.items (counts_in made.1)) }
     ensures counts { AreCounts (Renamers.Alone renamer) → IfOk result (λ made. AreCounts made.1) }
     ensures refused { IfErr result
-        (λ fault. IsRefused ceiling (Renamers.Alone renamer) bytes.now fault) }
+        (λ fault. IsRefused taken ceiling (Renamers.Alone renamer) bytes.now fault) }
     ensures made { IfErr result
-        (λ fault. IsMakingFault ceiling (Renamers.Alone renamer) bytes.now fault) }
+        (λ fault. IsMakingFault taken ceiling (Renamers.Alone renamer) bytes.now fault) }
 {
     let mut renamer = renamer;
-    match reencode_core(alloc, &mut renamer, bytes, ceiling) {
+    match reencode_taken(alloc, taken, &mut renamer, bytes, ceiling) {
         Ok(output) => Ok((output, Renamers::Alone(renamer))),
         Err(e) => Err(reencoding_fault(e, ceiling)),
     }
@@ -34,19 +35,20 @@ fn by_one(
 /// The output that is made of some bytes under two renamings, one after the other, and a ceiling, and the renamers behind it.
 fn by_both(
     alloc: Global,
+    taken: Taken,
     both: Chain<Renamer, Renamer>,
     bytes: &[u8],
     ceiling: u32,
 ) -> Result<(Vec<u8>, Renamers), ReencodingFault>
-    ensures ok { IfOk result (λ made. IsReencoded ceiling (Renamers.Both both) bytes.now
+    ensures ok { IfOk result (λ made. IsReencoded taken ceiling (Renamers.Both both) bytes.now
         made.0.items (counts_in made.1)) }
     ensures counts { AreCounts (Renamers.Both both) → IfOk result (λ made. AreCounts made.1) }
     ensures refused { IfErr result
-        (λ fault. IsRefused ceiling (Renamers.Both both) bytes.now fault) }
-    ensures made { IfErr result (λ fault. IsMakingFault ceiling (Renamers.Both both) bytes.now fault) }
+        (λ fault. IsRefused taken ceiling (Renamers.Both both) bytes.now fault) }
+    ensures made { IfErr result (λ fault. IsMakingFault taken ceiling (Renamers.Both both) bytes.now fault) }
 {
     let mut both = both;
-    match reencode_core(alloc, &mut both, bytes, ceiling) {
+    match reencode_taken(alloc, taken, &mut both, bytes, ceiling) {
         Ok(output) => Ok((output, Renamers::Both(both))),
         Err(e) => Err(reencoding_fault(e, ceiling)),
     }
@@ -56,18 +58,19 @@ fn by_both(
 /// hook of theirs was called for it.
 pub fn reencoded(
     alloc: Global,
+    taken: Taken,
     renamers: Renamers,
     bytes: &[u8],
     ceiling: u32,
 ) -> Result<(Vec<u8>, Renamers), ReencodingFault>
     ensures ok { IfOk result
-        (λ made. IsReencoded ceiling renamers bytes.now made.0.items (counts_in made.1)) }
+        (λ made. IsReencoded taken ceiling renamers bytes.now made.0.items (counts_in made.1)) }
     ensures counts { AreCounts renamers → IfOk result (λ made. AreCounts made.1) }
-    ensures refused { IfErr result (λ fault. IsRefused ceiling renamers bytes.now fault) }
-    ensures made { IfErr result (λ fault. IsMakingFault ceiling renamers bytes.now fault) }
+    ensures refused { IfErr result (λ fault. IsRefused taken ceiling renamers bytes.now fault) }
+    ensures made { IfErr result (λ fault. IsMakingFault taken ceiling renamers bytes.now fault) }
 {
     match renamers {
-        Renamers::Alone(renamer) => by_one(alloc, renamer, bytes, ceiling),
-        Renamers::Both(both) => by_both(alloc, both, bytes, ceiling),
+        Renamers::Alone(renamer) => by_one(alloc, taken, renamer, bytes, ceiling),
+        Renamers::Both(both) => by_both(alloc, taken, both, bytes, ceiling),
     }
 }

@@ -527,10 +527,116 @@ text=
 status=5
 err=parse error at 0/
 
-# The header of a component.
+# The header of a component alone, and a front of it.
 text=0061736d0d000100
-status=8
-err=There was a section that does not belong in a core wasm module/
+out=0061736d0d000100/asked/
+
+text=0061736d0d0001
+status=5
+err=parse error at 0/
+
+# Components: an alias further out, whose count stays.
+words=-x rename r
+file={"component_type":{"0":7}}
+text=0061736d0d000100 06050103020100
+out=0061736d0d00010006050103020107/asked component_type 1/
+
+words=-x rename r
+file={"strict":true}
+text=0061736d0d000100 06050103020100
+out=0061736d0d00010006050103020100/asked component_type 1/
+
+# An import, a core instance, an instance, the start and an export.
+words=-x rename r
+file={"component_func":{"0":2},"module":{"0":3}}
+text=0061736d0d000100 0a06010001610100 02080100000101611200 05080100000101610100 0903000000 0b0701000162010000
+out=0061736d0d0001000a06010001610100020801000301016112000508010000010161010209030200000b0701000162010200/asked component_type 1 component_func 3 component 1 module 1 instance 1/
+
+words=-x rename r
+file={"component":{"0":9},"instance":{"0":8}}
+text=0061736d0d000100 02080100000101611200 05080100000101610100
+out=0061736d0d0001000208010000010161120805080100090101610100/asked component_func 1 component 1 module 1 instance 1/
+
+# What an instance exports, and a value that is handed to the start.
+words=-x rename r
+file={"component_instance":{"0":1},"component_func":{"0":2},"component_value":{"5":6}}
+text=0061736d0d000100 0606010100000161 090400010500
+out=0061736d0d0001000606010100010161090402010600/asked component_instance 1 component_func 1 component_value 1/
+
+# Core indices of a component, and the order in which they are asked.
+words=-x rename r
+file={"function":{"2":9},"component_type":{"3":1}}
+text=0061736d0d000100 0806010000020003
+out=0061736d0d0001000806010000090001/asked function 1 component_type 1/
+
+words=-x rename r
+file={"strict":true,"function":{"2":2}}
+text=0061736d0d000100 08080100000201030003
+status=6
+err=refused memory 0/
+
+words=-x rename r
+file={"strict":true}
+text=0061736d0d000100 080701090005010300
+status=6
+err=refused memory 0/
+
+words=-x twice r s
+second={"strict":true}
+text=0061736d0d000100 0806010000020003
+status=6
+err=refused function 2 by 2/
+
+# Two renamings, one after the other.
+words=-x twice r s
+file={"component_type":{"0":7}}
+second={"component_type":{"7":300}}
+text=0061736d0d000100 06050103020100
+out=0061736d0d000100060601030201ac02/asked component_type 1/asked component_type 1/
+
+# A ceiling, also of a section of an id that no table knows.
+words=-x -m 4 plain
+text=0061736d0d000100 06050103020100
+status=10
+err=too large: 5 over 4/
+
+words=-x -m 5 plain
+text=0061736d0d000100 0685000103020100
+out=0061736d0d00010006050103020100/asked component_type 1/
+
+words=-x -m 1 plain
+text=0061736d0d000100 7f02aabb
+status=10
+err=too large: 2 over 1/
+
+words=-x -m 2 plain
+text=0061736d0d000100 7f02aabb 0c00
+out=0061736d0d0001007f02aabb0c00/asked/
+
+# Behind a section that is refused, or accepted, stands one without a reading: an alias is missing.
+words=-x -m 4 plain
+text=0061736d0d000100 06050103020100 060101
+status=10
+err=too large: 5 over 4/
+
+words=-x rename r
+file={"strict":true}
+text=0061736d0d000100 0806010000020003 060101
+status=6
+err=refused function 2/
+
+text=0061736d0d000100 06050103020100 060101
+status=5
+err=parse error at 15/
+
+text=0061736d0d000100 8000
+status=5
+err=parse error at 8/
+
+# A nested core module without bytes.
+text=0061736d0d000100 0100
+status=5
+err=parse error at 8/
 
 # The second section has no reading.
 text=0061736d01000000 03020101 0303010000
@@ -687,7 +793,7 @@ fn ends_of_runs(rt: HostRuntime) -> Result<(), Fail> {
         assert_eq!(rt; ends(rt.alloc(), case), Some((true, true, true)), "{case}");
         runs = runs.saturating_add(1);
     }
-    assert_eq!(rt; runs, 98);
+    assert_eq!(rt; runs, 118);
     Ok(())
 }
 

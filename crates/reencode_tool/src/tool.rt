@@ -166,7 +166,8 @@ fn tell<D: Sink>(answer: Answer, err: &mut D)
 /// | 5 | the bytes have no reading, in any other case than 7 |
 /// | 6 | a renaming is strict and has no entry for an index |
 /// | 7 | the bytes have no reading, for a code section whose size passes their end |
-/// | 8 | the bytes begin with the header of a component |
+/// | 8 | where a core module is to stand, the bytes begin with the header of a component: those of `keep-report`, or of a nested module |
+/// | 9 | the bytes of a nested component begin with the header of a core module |
 /// | 10 | a frame of the output is above the ceiling |
 /// | 11 | a FILE says no renaming |
 /// | 12 | a FILE could not be fetched |
@@ -228,6 +229,8 @@ pub fn run<F: Shelf, S: Source, K: Sink, D: Sink>(
         (F.texts shelf.old) (S.left input.old) (S.left input.new) ReencodingFault.CodeSectionSize }
     ensures component { result ≡ 8 → StopsWith (job (map string_bytes words.now))
         (F.texts shelf.old) (S.left input.old) (S.left input.new) ReencodingFault.NonCoreModule }
+    ensures core_module { result ≡ 9 → StopsWith (job (map string_bytes words.now))
+        (F.texts shelf.old) (S.left input.old) (S.left input.new) ReencodingFault.NonComponent }
     ensures too_large { result ≡ 10
         → (size : ℕ) × (ceiling : ℕ) × StopsWith (job (map string_bytes words.now))
         (F.texts shelf.old) (S.left input.old) (S.left input.new) (ReencodingFault.TooLarge size ceiling)
@@ -252,7 +255,7 @@ pub fn run<F: Shelf, S: Source, K: Sink, D: Sink>(
 
     // No other status comes, and with each but 0 and 4 the sink is as it was.
     ensures statuses { Contains
-        (0 ∷ 1 ∷ 2 ∷ 3 ∷ 4 ∷ 5 ∷ 6 ∷ 7 ∷ 8 ∷ 10 ∷ 11 ∷ 12 ∷ 13 ∷ 14 ∷ []) result }
+        (0 ∷ 1 ∷ 2 ∷ 3 ∷ 4 ∷ 5 ∷ 6 ∷ 7 ∷ 8 ∷ 9 ∷ 10 ∷ 11 ∷ 12 ∷ 13 ∷ 14 ∷ []) result }
     ensures untouched { result ≢ 0 → result ≢ 4 → out.new ≡ out.old }
 
     // Each status but 0 has its message.

@@ -2,6 +2,7 @@ use Rattle.std.proofs.Common.{ℕ, refl, ap, ◌∙◌, subst, [], ◌∷◌}
 use Rattle.reencode_core.specs.Pieces.{joined, kept_ranges}
 use Rattle.reencode_hooks.specs.Renamings.{Renaming}
 use Rattle.reencode_tool.specs.declared.renamers.Renamers.TheVariants as renamers
+use Rattle.reencode_tool.specs.declared.taken.Taken.TheVariants.{Modules}
 use Rattle.reencode_tool.specs.Kept.{kept_report}
 use Rattle.reencode_tool.specs.Reencoded.{IsMakingFault, IsRefused}
 use Rattle.reencode_tool.proofs.Keeping.{keeps_given}
@@ -11,20 +12,24 @@ use Rattle.reencode_tool.proofs.kept.kept_report.Goals as goal
 pub returns-in-Err-clause-refused : goal.returns-in-Err-clause-refused
 returns-in-Err-clause-refused c =
     let r = c.new-renamer.result in
-    let why = why_given c.args.ceiling (renamers.Alone r) c.args.bytes.now (joined c.args.bytes.now) c.in-Err.e (c.in-Err.ensures.default refl refl)
-    (c.in-Err.ensures.after_error refl (λ h. refl) (λ h. refl)) in
-    subst (λ (z : Renaming). IsRefused c.args.ceiling (renamers.Alone z) c.args.bytes.now c.reencoding_fault.result) c.new-renamer.ensures
-    (refused_as c.args.ceiling (renamers.Alone r) c.args.bytes.now c.in-Err.e c.reencoding_fault.result why c.reencoding_fault.ensures)
+    let e = c.in-Err.ensures in
+    let g = record { default = e.default; woven = e.woven; after_error = e.after_error; headless = e.headless } in
+    let why = why_given Modules c.args.ceiling (renamers.Alone r) c.args.bytes.now (joined c.args.bytes.now) c.in-Err.e g in
+    subst (λ (z : Renaming). IsRefused Modules c.args.ceiling (renamers.Alone z) c.args.bytes.now c.reencoding_fault.result) c.new-renamer.ensures
+    (refused_as Modules c.args.ceiling (renamers.Alone r) c.args.bytes.now c.in-Err.e c.reencoding_fault.result why c.reencoding_fault.ensures)
 
 pub returns-in-Err-clause-made : goal.returns-in-Err-clause-made
 returns-in-Err-clause-made c =
     let r = c.new-renamer.result in
-    subst (λ (z : Renaming). IsMakingFault c.args.ceiling (renamers.Alone z) c.args.bytes.now c.reencoding_fault.result) c.new-renamer.ensures
-    (made_as c.args.ceiling (renamers.Alone r) c.args.bytes.now (joined c.args.bytes.now) c.in-Err.e (c.in-Err.ensures.default refl refl) c.reencoding_fault.result c.reencoding_fault.ensures)
+    let e = c.in-Err.ensures in
+    let g = record { default = e.default; woven = e.woven; after_error = e.after_error; headless = e.headless } in
+    subst (λ (z : Renaming). IsMakingFault Modules c.args.ceiling (renamers.Alone z) c.args.bytes.now c.reencoding_fault.result) c.new-renamer.ensures
+    (made_as Modules c.args.ceiling (renamers.Alone r) c.args.bytes.now (joined c.args.bytes.now) c.in-Err.e g c.reencoding_fault.result c.reencoding_fault.ensures)
 
 pub returns-in-Ok-lines_of-clause-ok : goal.returns-in-Ok-lines_of-clause-ok
 returns-in-Ok-lines_of-clause-ok c =
     let m = c.reencode_pieces.new.r in
+    let e = c.in-Ok.ensures in
     keeps_given c.args.ceiling c.args.bytes.now c.new-renamer.result m c.in-Ok.pieces (joined c.args.bytes.now) c.in-Ok-lines_of.text.items (kept_ranges c.in-Ok.pieces)
-    c.new-renamer.ensures (c.in-Ok.ensures.default refl refl) (c.in-Ok.ensures.kept refl)
+    c.new-renamer.ensures (record { default = e.default; woven = e.woven; after_error = e.after_error; headless = e.headless }) (c.in-Ok.ensures.kept refl)
     (λ h. c.in-Ok-lines_of.ensures h ∙ ap (λ (n : ℕ). kept_report (kept_ranges c.in-Ok.pieces) n (m.counts ∷ [])) c.in-Ok.ensures.size)

@@ -2,7 +2,7 @@ use Rattle.std.proofs.Common.{◌≡◌, ◌++◌, List, ℕ, refl, subst}
 use Rattle.hex.specs.Hex.{encode_lower}
 use Rattle.reencode_tool.specs.Answer.{Ends, Output, output_text}
 use Rattle.reencode_tool.specs.Reencoded.{IsMakingFault, IsRefused}
-use Rattle.reencode_tool.specs.Words.{command_seen, files, functions, job_seen}
+use Rattle.reencode_tool.specs.Words.{command_seen, files, functions, job_seen, taken}
 use Rattle.reencode_tool.proofs.AnswerLemmas.{before_output, by_file, by_reencoding, by_source, none_used, plain_for}
 use Rattle.reencode_tool.proofs.make.make.Goals as goal
 
@@ -24,8 +24,8 @@ returns-in-Ok-shown-clause-stops g c held_old held_new w x = Ends.no_memory
 pub returns-clause-stops : goal.returns-clause-stops
 returns-clause-stops g c held_old held_new w x =
     let rs = c.in-Ok.renamers in
-    let stops = subst (λ (b : List ℕ). IsRefused c.args.job.ceiling rs b c.in-Err-shown.fault) c.as_slice.ensures.value c.in-Err-shown.ensures.refused in
-    let made = subst (λ (b : List ℕ). IsMakingFault c.args.job.ceiling rs b c.in-Err-shown.fault) c.as_slice.ensures.value c.in-Err-shown.ensures.made in
+    let stops = subst (λ (b : List ℕ). IsRefused (taken (command_seen c.args.job.command)) c.args.job.ceiling rs b c.in-Err-shown.fault) c.as_slice.ensures.value c.in-Err-shown.ensures.refused in
+    let made = subst (λ (b : List ℕ). IsMakingFault (taken (command_seen c.args.job.command)) c.args.job.ceiling rs b c.in-Err-shown.fault) c.as_slice.ensures.value c.in-Err-shown.ensures.made in
     by_reencoding (job_seen c.args.job) (before_output (g.F.Shelf.texts c.args.shelf.now) _ _ _ _ _ _ held_old held_new w x) _ c.in-Err-shown.fault (record {
       work = record {
         renamers = rs;

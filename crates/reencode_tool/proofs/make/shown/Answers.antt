@@ -1,6 +1,7 @@
 use Rattle.std.proofs.Common.{◌++◌, refl}
 use Rattle.hex.specs.Hex.{encode_lower}
 use Rattle.reencode_tool.specs.Answer.{Reports}
+use Rattle.reencode_tool.specs.declared.taken.Taken.TheVariants.{Binaries}
 use Rattle.reencode_tool.specs.Report.{report}
 use Rattle.reencode_tool.specs.Words.{plain, rename, twice}
 use Rattle.reencode_tool.proofs.OutsideLemmas.{encode_lower-nil}
@@ -12,7 +13,7 @@ returns-in-Plain-clause-ok c =
     let rs = c.args.renamers in
     let bytes = c.args.bytes.now in
     rw c.in-Plain.is
-    (each_ok c.digits.result (λ p. Reports c.args.ceiling rs bytes report (encode_lower p.0.items ++ p.1.items))
+    (each_ok c.digits.result (λ p. Reports Binaries c.args.ceiling rs bytes report (encode_lower p.0.items ++ p.1.items))
     (λ p. Printed plain c.args.ceiling rs bytes (encode_lower p.0.items ++ p.1.items)) (λ p h. plain_printed h) c.digits.ensures.ok)
 
 pub returns-in-Rename-clause-ok : goal.returns-in-Rename-clause-ok
@@ -20,7 +21,7 @@ returns-in-Rename-clause-ok c =
     let rs = c.args.renamers in
     let bytes = c.args.bytes.now in
     rw c.in-Rename.is
-    (each_ok c.digits-in-Rename.result (λ p. Reports c.args.ceiling rs bytes report (encode_lower p.0.items ++ p.1.items))
+    (each_ok c.digits-in-Rename.result (λ p. Reports Binaries c.args.ceiling rs bytes report (encode_lower p.0.items ++ p.1.items))
     (λ p. Printed (rename c.in-Rename.field-0.now) c.args.ceiling rs bytes (encode_lower p.0.items ++ p.1.items)) (λ p h. rename_printed c.in-Rename.field-0.now h) c.digits-in-Rename.ensures.ok)
 
 pub returns-in-Twice-clause-ok : goal.returns-in-Twice-clause-ok
@@ -28,7 +29,7 @@ returns-in-Twice-clause-ok c =
     let rs = c.args.renamers in
     let bytes = c.args.bytes.now in
     rw c.in-Twice.is
-    (each_ok c.digits-in-Twice.result (λ p. Reports c.args.ceiling rs bytes report (encode_lower p.0.items ++ p.1.items))
+    (each_ok c.digits-in-Twice.result (λ p. Reports Binaries c.args.ceiling rs bytes report (encode_lower p.0.items ++ p.1.items))
     (λ p. Printed (twice c.in-Twice.field-0.now c.in-Twice.field-1.now) c.args.ceiling rs bytes (encode_lower p.0.items ++ p.1.items)) (λ p h. twice_printed c.in-Twice.field-0.now c.in-Twice.field-1.now h) c.digits-in-Twice.ensures.ok)
 
 pub returns-in_ok-lines-in-Generate-clause-ok : goal.returns-in_ok-lines-in-Generate-clause-ok

@@ -72,6 +72,10 @@ pub returns-clause-component : goal.returns-clause-component
 returns-clause-component g c e =
     answers.for_job 8 _ _ _ _ _ _ (λ z. omega arith) (answers.at_status _ _ _ _ _ _ 8 c.status.ensures e c.perform_words-answer.ensures.ends) (λ job h. answers.of_component h)
 
+pub returns-clause-core_module : goal.returns-clause-core_module
+returns-clause-core_module g c e =
+    answers.for_job 9 _ _ _ _ _ _ (λ z. omega arith) (answers.at_status _ _ _ _ _ _ 9 c.status.ensures e c.perform_words-answer.ensures.ends) (λ job h. answers.of_core_module h)
+
 pub returns-clause-bad_renaming : goal.returns-clause-bad_renaming
 returns-clause-bad_renaming g c e =
     answers.for_job 11 _ _ _ _ _ _ (λ z. omega arith) (answers.at_status _ _ _ _ _ _ 11 c.status.ensures e c.perform_words-answer.ensures.ends) (λ job h. (answers.of_bad_file h).0)

@@ -1,0 +1,5 @@
+use Rattle.reencode_component.proofs.WithinLaws as laws
+use Rattle.reencode_component.proofs.laws.module_is_reencoded.Goals as goal
+
+pub returns : goal.returns
+returns g c = λ view. laws.module_output g.T.ReencodeIndices g.met.T.ReencodeIndices.adds_ok view
