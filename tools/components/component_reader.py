@@ -117,7 +117,7 @@ class Ordered(Reader):
     def element(self):
         """The items are asked first, expressions before their type; then the table, then the place in it."""
         outer, self.level, self.marks = (self.level, self.marks), 0, []
-        start, flag = len(self.log), self.data[self.at] & 127
+        start, flag = len(self.log), self.peek() & 127
         out = super().element()
         marks, (self.level, self.marks) = self.marks, outer
         table = start + (not flag & 1)
