@@ -18,7 +18,7 @@ import sys
 HERE = os.path.dirname(os.path.abspath(__file__))
 sys.path.insert(0, os.path.join(os.path.dirname(HERE), "real_modules"))
 sys.dont_write_bytecode = True
-from reader import Fault, Reader, leb, signed_leb  # noqa: E402
+from reader import Fault, Reader, signed_leb  # noqa: E402
 
 sys.setrecursionlimit(20_000)
 MODULE, COMPONENT = b"\0asm\1\0\0\0", b"\0asm\x0d\0\1\0"
@@ -117,7 +117,7 @@ class Ordered(Reader):
     def element(self):
         """The items are asked first, expressions before their type; then the table, then the place in it."""
         outer, self.level, self.marks = (self.level, self.marks), 0, []
-        start, flag = len(self.log), self.data[self.at] & 127
+        start, flag = len(self.log), self.peek() & 127
         out = super().element()
         marks, (self.level, self.marks) = self.marks, outer
         table = start + (not flag & 1)

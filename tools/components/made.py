@@ -305,7 +305,8 @@ def interface(chance, functions):
 def for_exports(chance, functions):
     """A component that takes functions and exports them by their names, with types."""
     made = Builder()
-    defined = [made.type(defined_type(chance, [])) for _ in range(chance.randrange(1, 3))]
+    defined = [made.outer_type(1, 0)] if chance.random() < 0.5 else []
+    defined += [made.type(defined_type(chance, defined)) for _ in range(chance.randrange(1, 3))]
     kinds = [made.type(signature(chance, defined)) for _ in functions]
     taken = [made.import_("import-func-" + text, "component_func", seq(fixed("01"), ix("component_type", kind))) for text, kind in zip(functions, kinds)]
     for text, kind, function in zip(functions, kinds, taken):

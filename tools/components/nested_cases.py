@@ -1,7 +1,7 @@
 """The cases of core modules and components in a component: the ids 1 and 4."""
 from case_lines import *
 from flat_rows import ALIASES, CANON, IMPORTS
-from type_rows import CLOSED_GROUPS, DEFINED, component_type, instance_type, module_type
+from type_rows import CLOSED_GROUPS, DEFINED, component_type, module_type
 
 NON_CORE = "There was a section that does not belong in a core wasm module"
 NON_COMPONENT = "There was a section that does not belong in a component"
