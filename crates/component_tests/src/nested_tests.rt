@@ -65,10 +65,12 @@ fn made(
 fn is_refused_at(alloc: Global, id: u8, body: &[u8], place: usize) -> Result<bool, NoMemory> {
     let bytes = around(alloc, id, body)?;
     let mut renamer = component_renamer(alloc)?;
-    Ok(match made(alloc, &mut renamer, bytes.as_slice(), u32::MAX) {
-        Err(Error::ParseError(ReadError { at })) => at == place,
-        _ => false,
-    })
+    Ok(
+        match made(alloc, &mut renamer, bytes.as_slice(), u32::MAX) {
+            Err(Error::ParseError(ReadError { at })) => at == place,
+            _ => false,
+        },
+    )
 }
 
 #[test]
@@ -78,7 +80,10 @@ fn a_module(rt: HostRuntime) -> Result<(), Error<Unmapped>> {
     let mut renamer = component_renamer(alloc)?;
     let same = made(alloc, &mut renamer, bytes.as_slice(), u32::MAX)?;
     assert_eq!(rt; same.as_slice(), bytes.as_slice());
-    assert_eq!(rt; (renamer.count(Asked::Push), renamer.count(Asked::Pop)), (1, 1));
+    assert_eq!(rt;
+        (renamer.count(Asked::Push), renamer.count(Asked::Pop)),
+        (1, 1)
+    );
     assert_eq!(rt; renamer.count(Asked::SectionHook), 1);
     Ok(())
 }
@@ -115,7 +120,10 @@ fn headers(rt: HostRuntime) -> Result<(), Error<Unmapped>> {
             Err(Error::UnexpectedNonComponentSection)
         )
     );
-    assert_eq!(rt; (renamer.count(Asked::Push), renamer.count(Asked::Pop)), (2, 0));
+    assert_eq!(rt;
+        (renamer.count(Asked::Push), renamer.count(Asked::Pop)),
+        (2, 0)
+    );
     Ok(())
 }
 
@@ -154,7 +162,10 @@ fn scopes(rt: HostRuntime) -> Result<(), Error<Unmapped>> {
     let mut renamer = component_renamer(alloc)?;
     let same = made(alloc, &mut renamer, bytes.as_slice(), u32::MAX)?;
     assert!(rt; same.as_slice() == bytes.as_slice());
-    assert_eq!(rt; (renamer.count(Asked::Push), renamer.count(Asked::Pop)), (200, 200));
+    assert_eq!(rt;
+        (renamer.count(Asked::Push), renamer.count(Asked::Pop)),
+        (200, 200)
+    );
     let inner = nested(alloc, 200)?;
     assert!(rt; is_refused_at(alloc, 4, inner.as_slice(), 8)?);
     Ok(())

@@ -270,7 +270,8 @@ fn starts(rt: HostRuntime) -> Result<(), Fault> {
 #[test]
 fn payloads(rt: HostRuntime) -> Result<(), Fault> {
     let mut payloads = ComponentPayloads::new(&[
-        0x00, 0x61, 0x73, 0x6d, 0x0d, 0x00, 0x01, 0x00, 8, 2, 1, 0x05, 13, 1, 0x63, 1, 1, 0x02, 4, 0,
+        0x00, 0x61, 0x73, 0x6d, 0x0d, 0x00, 0x01, 0x00, 8, 2, 1, 0x05, 13, 1, 0x63, 1, 1, 0x02, 4,
+        0,
     ])?;
     let section = ComponentPayload::Section {
         id: 8,

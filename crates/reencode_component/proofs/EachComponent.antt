@@ -1,5 +1,5 @@
 -- The loop over the sections of a component, and what the call gives at each of its ends.
-use Rattle.std.proofs.Common.{◌≡◌, ◌≢◌, ◌-◌, ◌≤◌, zero, suc, ℕ, List, [], length, true, Result, Ok, Err, IsErrAnd, IsTrue, refl, sym, ap, ◌∙◌, subst, arith}
+use Rattle.std.proofs.Common.{◌≡◌, ◌≢◌, ◌-◌, ◌≤◌, ℕ, List, [], length, Result, Ok, Err, IsErrAnd, IsTrue, refl, sym, ap, ◌∙◌, subst}
 use Rattle.wasm_leb.specs.declared.fault.Fault.{Fault}
 use Rattle.wasm_leb.specs.declared.fault.Fault.TheVariants as fault
 use Rattle.wasm_leb.specs.declared.fault.Kind.TheVariants as kinds
@@ -11,7 +11,7 @@ use Rattle.wasm_read.specs.Frames as read
 use Rattle.wasm_read.specs.Frames.{sections_place}
 use Rattle.wasm_read_component.specs.declared.types.ComponentPayload.{ComponentPayload}
 use Rattle.wasm_read_component.specs.declared.types.ComponentPayload.TheVariants as payload
-use Rattle.wasm_read_component.specs.ComponentPayloads.{component_frame_tree, component_payload_at, has_frame, ComponentHeaderRead, IsGiven, NoComponentFrame, NoComponentHeader}
+use Rattle.wasm_read_component.specs.ComponentPayloads.{component_frame_tree, component_payload_at, ComponentHeaderRead, IsGiven, NoComponentFrame, NoComponentHeader}
 use Rattle.wasm_write.specs.Sections.{Sections}
 use Rattle.reencode_hooks.specs.declared.error.Error.{Error}
 use Rattle.reencode_hooks.specs.declared.error.Error.TheVariants.{InvalidCodeSectionSize, UnexpectedNonCoreModuleSection, UnexpectedNonComponentSection, ParseError, NoMemory}
@@ -23,7 +23,6 @@ use Rattle.reencode_core.specs.Sections.{KeepsModule}
 use Rattle.reencode_core.proofs.Known.{keeps_more, keeps_same}
 use Rattle.reencode_core.proofs.Made.{ended_all, fault_unasked, front_none}
 use Rattle.reencode_core.proofs.OneRow.{answers}
-use Rattle.reencode_component.specs.Components.{ReadsSection}
 use Rattle.reencode_component.specs.Causes.{IfFault, inside, own_inside}
 use Rattle.reencode_component.specs.Gives.{GivesSectionBy}
 use Rattle.reencode_component.specs.ComponentLeaves.{ComponentUpTo, NoComponentHeading, section_in}

@@ -1,5 +1,5 @@
 -- A nested component, by what the call that maps one gives.
-use Rattle.std.proofs.Common.{◌≡◌, ◌≢◌, ◌+◌, ◌-◌, ◌<◌, ℕ, suc, List, [], ◌∷◌, ◌++◌, true, Ok, Err, IsTrue, refl, sym, ap, ◌∙◌, subst, ◌⊎◌, inl, inr}
+use Rattle.std.proofs.Common.{◌≡◌, ◌+◌, ◌<◌, ℕ, List, [], ◌++◌, Ok, Err, IsTrue, refl, ap, ◌∙◌, subst, ◌⊎◌, inl, inr}
 use Rattle.wasm_leb.specs.declared.fault.Fault.{Fault}
 use Rattle.wasm_leb.specs.declared.fault.Fault.TheVariants as fault
 use Rattle.wasm_leb.specs.declared.fault.Kind.TheVariants as kinds
@@ -7,7 +7,7 @@ use Rattle.wasm_shapes.specs.declared.Visit.TheVariants.{Push}
 use Rattle.wasm_shapes.specs.Component.{component_body_of, component_tree}
 use Rattle.wasm_shapes.specs.Module.{component_header, numbered_frame}
 use Rattle.wasm_shapes.specs.Shape.{Shape}
-use Rattle.wasm_shapes.specs.Tree.{Tree, normal}
+use Rattle.wasm_shapes.specs.Tree.{Tree}
 use Rattle.wasm_shapes.proofs.ComponentLaws.{one_reading}
 use Rattle.wasm_write.specs.Sections.{Sections}
 use Rattle.wasm_write_component.specs.ComponentBytes.{component_bytes}

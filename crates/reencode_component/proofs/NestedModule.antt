@@ -1,13 +1,11 @@
 -- A nested core module, by what the call that maps one gives.
-use Rattle.std.proofs.Common.{◌≡◌, ◌≢◌, ◌+◌, ◌-◌, ◌<◌, ℕ, suc, List, [], ◌∷◌, ◌++◌, true, Ok, Err, IsTrue, refl, sym, ap, ◌∙◌, subst, arith, ◌⊎◌, inl, inr}
+use Rattle.std.proofs.Common.{◌≡◌, ◌<◌, ℕ, List, [], ◌++◌, Ok, Err, IsTrue, refl, sym, ◌∙◌, subst, ◌⊎◌, inl, inr}
 use Rattle.wasm_leb.specs.declared.fault.Fault.{Fault}
-use Rattle.wasm_leb.specs.declared.fault.Fault.TheVariants as fault
 use Rattle.wasm_shapes.specs.declared.Visit.TheVariants.{Push}
 use Rattle.wasm_shapes.specs.Component.{component_body_of}
-use Rattle.wasm_shapes.specs.Drawn.{Drawn}
 use Rattle.wasm_shapes.specs.Module.{CoreReading, component_header, core_header, core_tree, numbered_frame}
 use Rattle.wasm_shapes.specs.Shape.{Shape}
-use Rattle.wasm_shapes.specs.Tree.{Tree, normal, visits}
+use Rattle.wasm_shapes.specs.Tree.{Tree}
 use Rattle.wasm_shapes.proofs.ComponentLaws.{one_reading}
 use Rattle.wasm_shapes.proofs.Laws.{module_headed}
 use Rattle.wasm_write.specs.Sections.{Sections, SectionRow, module_bytes}
@@ -20,16 +18,16 @@ use Rattle.reencode_core.specs.Core.{IsCause}
 use Rattle.reencode_core.specs.Leaves.{CoreUpTo, NoCoreHeading}
 use Rattle.reencode_core.specs.Rows.{Asks}
 use Rattle.reencode_core.specs.Weave.{Puts, added, weave}
-use Rattle.reencode_core.specs.Woven.{GivesWoven, GivesWovenBytes, IsOwn, IsWovenCause, OwnNext, OwnTooLarge}
+use Rattle.reencode_core.specs.Woven.{GivesWovenBytes, IsOwn, IsWovenCause, OwnNext, OwnTooLarge}
 use Rattle.reencode_core.proofs.Faults.{fault_tells}
 use Rattle.reencode_core.proofs.Left.{module_drawn}
 use Rattle.reencode_core.proofs.WholeBytes.{bytes_given, bytes_refused}
 use Rattle.reencode_component.specs.Causes.{IfFault, OwnInside, StopsNested, room}
-use Rattle.reencode_component.specs.Components.{ModuleFault, NestedFault, ReadsSection}
+use Rattle.reencode_component.specs.Components.{ModuleFault, NestedFault}
 use Rattle.reencode_component.specs.WeaveIn.{weave_in}
 use Rattle.reencode_component.proofs.NestedReadings.{module_back, module_forth}
 use Rattle.reencode_component.proofs.NestedSections.{Accepts, IsNested, Refuses, next_room}
-use Rattle.reencode_component.proofs.NestedSteps.{core_same, nested_tree}
+use Rattle.reencode_component.proofs.NestedSteps.{core_same}
 
 -- ---- what stands in the frame
 

@@ -1,5 +1,5 @@
 -- A nested section, whatever stands in it: what the call that maps it gives at each of its ends.
-use Rattle.std.proofs.Common.{◌≡◌, ◌≢◌, ◌+◌, ◌-◌, ◌<◌, ◌≤◌, ℕ, zero, suc, List, [], ◌∷◌, ◌++◌, length, Result, Ok, Err, IsErrAnd, IsTrue, refl, sym, ap, ◌∙◌, subst, arith, ◌⊎◌, inl, inr}
+use Rattle.std.proofs.Common.{◌≡◌, ◌≢◌, ◌+◌, ◌<◌, ◌≤◌, ℕ, suc, List, [], ◌∷◌, ◌++◌, length, Result, Ok, Err, IsErrAnd, IsTrue, refl, sym, ap, ◌∙◌, subst, arith, ◌⊎◌, inl, inr}
 use Rattle.wasm_leb.specs.declared.fault.Fault.{Fault}
 use Rattle.wasm_leb.specs.declared.fault.Fault.TheVariants as fault
 use Rattle.wasm_leb.specs.declared.fault.Kind.TheVariants as kinds
@@ -22,14 +22,13 @@ use Rattle.reencode_hooks.specs.Errors.{error_of_write}
 use Rattle.reencode_hooks.specs.Run.{NeverWants, accepted, refused, run}
 use Rattle.reencode_core.specs.Clauses.{asks}
 use Rattle.reencode_core.specs.Errors.{IfRefused, placed_at}
-use Rattle.reencode_core.specs.Leaves.{IsFront, IsSize, Leaves, LeavesCore, Text}
+use Rattle.reencode_core.specs.Leaves.{IsSize, Leaves, Text}
 use Rattle.reencode_core.specs.Weave.{added}
 use Rattle.reencode_core.proofs.Counts.{run_then}
 use Rattle.reencode_core.proofs.Known.{keeps_same}
-use Rattle.reencode_core.proofs.Made.{Unasked, ended_all, ended_behind, front_all, front_first, front_same, front_then, not_wanting, wants_placed, write_unasked}
+use Rattle.reencode_core.proofs.Made.{Unasked, ended_all, ended_behind, front_all, front_first, front_same, front_then, not_wanting, wants_placed}
 use Rattle.reencode_core.proofs.OneRow.{answers}
 use Rattle.reencode_component.specs.Causes.{IfFault, OwnInside, StopsNested, inside, own_inside, room}
-use Rattle.reencode_component.specs.ComponentClauses.{FrameClauses, placed_in}
 use Rattle.reencode_component.specs.ComponentLeaves.{SectionUpTo, section_in}
 use Rattle.reencode_component.specs.Components.{IsHandedOut, NestedFault, ReadsSection}
 use Rattle.reencode_component.specs.Gives.{FaultIn, GivesAddedIn, GivesSection, RefusedOr}
@@ -97,6 +96,7 @@ module _ {S E : Type 0} (i : Ghosts S E) (depth id : ℕ) (body : List ℕ) (hea
       Clauses s old s old (Err (ParseError (record { at = 0 })))
   nested_deep deep none no_rows s old = record {
     framed = λ at. not_read i depth frame_tree none unnested (no_up_to id body no_rows) at s old;
+    unchanged = refl;
     told = λ k low. absurd (omega (arith, deep, low));
     inside = λ k low. absurd (omega (arith, deep, low));
     deep = λ e. (refl, refl, refl);
@@ -109,6 +109,7 @@ module _ {S E : Type 0} (i : Ghosts S E) (depth id : ℕ) (body : List ℕ) (hea
   pub nested_unmade : depth < 200 → (s : S) (old : Sections) (r : Result (Unit {0}) (Error E)) → IsErrAnd r (λ y. y ≡ NoMemory) → Clauses s old s old r
   nested_unmade low s old r q = let P : Result (Unit {0}) (Error E) → Type 0 = λ z. Clauses s old s old z in subst P (answers r q) (record {
     framed = λ at. frame_wanted i depth frame_tree at s old;
+    unchanged = refl;
     told = λ k low. tt;
     inside = λ k low none told size. inl (refl, refl);
     deep = λ e. absurd (omega (arith, low, e));
@@ -125,6 +126,7 @@ module _ {S E : Type 0} (i : Ghosts S E) (depth id : ℕ) (body : List ℕ) (hea
           default = λ k. record { reading = λ t r other. absurd (other refl); readable = tt; unreadable = tt; refusal = tt; unchanged = refl };
           after_error = λ k told size. absurd (not_wanting e never (λ h. told refl) wants);
         };
+        unchanged = refl;
         told = λ k low. tt;
         inside = λ k low none told size. absurd (not_wanting e never (λ h. told refl) wants);
         deep = λ e. absurd (omega (arith, low, e));
@@ -212,6 +214,7 @@ module _ {S E : Type 0} (i : Ghosts S E) (depth id : ℕ) (body : List ℕ) (hea
         default = λ k. gives_refused e k (g k) at;
         after_error = λ k told size. leaves_placed (section_in depth frame_tree) e at (pushed_leaves e ((g k).left (λ h. told (wants_placed e at h)) (λ h. size (size_placed e at h))));
       };
+      unchanged = refl;
       told = λ k low. fault_map e (λ x h. h.1) (g k).unread;
       inside = λ k low none told size. inr (record { at = p; push = pushed; inside = ((g k).left told size, (g k).bare) });
       deep = λ h. absurd (omega (arith, low, h));
@@ -254,6 +257,7 @@ module _ {S E : Type 0} (i : Ghosts S E) (depth id : ℕ) (body : List ℕ) (hea
           };
           after_error = λ k. tt;
         };
+        unchanged = tt;
         told = λ k low. tt;
         inside = λ k low none. tt;
         deep = λ h. absurd (omega (arith, low, h));
@@ -301,6 +305,7 @@ module _ {S E : Type 0} (i : Ghosts S E) (depth id : ℕ) (body : List ℕ) (hea
               };
               after_error = λ k told size. popped_leaves k _ tt;
             };
+            unchanged = refl;
             told = λ k low. tt;
             inside = λ k low none. absurd (none _ (kind.back (g k).some.0 (g k).some.1));
             deep = λ h. absurd (omega (arith, low, h));
@@ -311,6 +316,7 @@ module _ {S E : Type 0} (i : Ghosts S E) (depth id : ℕ) (body : List ℕ) (hea
               default = λ k. record { reading = λ t r other. absurd (other refl); readable = tt; unreadable = tt; refusal = tt; unchanged = refl };
               after_error = λ k told size. popped_leaves k NoMemory tt;
             };
+            unchanged = refl;
             told = λ k low. tt;
             inside = λ k low none. absurd (none _ (kind.back (g k).some.0 (g k).some.1));
             deep = λ h. absurd (omega (arith, low, h));

@@ -1,5 +1,5 @@
 -- What a section asks is drawn from its frame, and what a component asks from its bytes.
-use Rattle.std.proofs.Common.{◌≡◌, ◌+◌, ◌≤◌, zero, suc, ℕ, List, [], true, refl, sym, ap, ◌∙◌, append-nil, subst, arith, ◌⊎◌, inl, inr}
+use Rattle.std.proofs.Common.{◌≡◌, ◌+◌, ◌≤◌, zero, suc, ℕ, List, [], true, refl, sym, append-nil, subst, arith, ◌⊎◌, inl, inr}
 use Rattle.wasm_shapes.specs.Component as table
 use Rattle.wasm_shapes.specs.Component.{component_section_tree, component_tree}
 use Rattle.wasm_shapes.specs.ComponentReadings.{InComponentFrame}

@@ -24,11 +24,12 @@ LeavesInside asked text headless s e m = ((e ≡ NoMemory) × (m ≡ s)) ⊎ Ope
 
 -- A nested section, whose frame has this id and holds these bytes, is mapped and added, wherever it stands: a place in its error is then
 -- that one, as of any section. By itself its error tells what is wrong with its bytes; and where they have no reading, `inside` says
--- what it leaves. With 200 scopes open round it, it is not read.
+-- what it leaves. With any error the component round it holds what it held. With 200 scopes open round it, it is not read.
 abbrev pub NestedClauses : {S E : Type 0} → Ghosts S E → ℕ → ℕ → List ℕ → (Fault → Type 0) → Text → Type 0 → S → Sections → S → Sections → Result (Unit {0}) (Error E) → Type 0
 NestedClauses i depth id bytes fault text headless s old m new result =
     record {
       framed : (at : ℕ) → FrameClauses i depth (numbered_frame id bytes) at s old m new (placed_in result at);
+      unchanged : IfErr result (λ _. new ≡ old);
       told : IsTrue i.keeps_defaults → depth < 200 → IfErr result (λ e. IfFault e fault);
       inside : IsTrue i.keeps_defaults → depth < 200 → ((t : Tree) → ReadsSection depth (numbered_frame id bytes) t → ⊥) →
           IfErr result (λ e. (e ≡ NoMemory → IsTrue i.sure) → (IsSize e → IsTrue i.adds_nothing) → LeavesInside (asks i) text headless s e m);

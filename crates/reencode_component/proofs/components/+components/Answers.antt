@@ -1,6 +1,5 @@
 use Rattle.std.proofs.Common.{◌+◌, refl}
 use Rattle.wasm_shapes.specs.Component.{component_tree}
-use Rattle.wasm_write_component.specs.ComponentBytes.{component_bytes}
 use Rattle.reencode_component.specs.ComponentLeaves.{ComponentUpTo, NoComponentHeading}
 use Rattle.reencode_component.specs.Components.{ComponentFault, ReadsComponent}
 use Rattle.reencode_component.proofs.EachComponent.{component_begun, component_headless, kept_ended, kept_more, kept_refused, kept_unframed}

@@ -1,5 +1,4 @@
 use Rattle.wasm_shapes.specs.Module.{CoreReading, core_tree}
-use Rattle.wasm_write.specs.Sections.{module_bytes}
 use Rattle.reencode_core.specs.Leaves.{CoreUpTo, NoCoreHeading}
 use Rattle.reencode_component.specs.Components.{ModuleFault}
 use Rattle.reencode_component.proofs.NestedModule.{module_accepted, module_nested, module_no_rows, module_refused}
