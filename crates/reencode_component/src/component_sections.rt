@@ -50,20 +50,20 @@ fn add_rows<K: ComponentSectionKind, E>(
 }
 
 /// A kind of section whose rows open no scope, as a reencoder maps them.
-trait MapSection<T: ReencodeIndices>: ComponentSectionKind {
+trait MapSection<T: ReencodeIndices, R: RowKind, W: RowKind>: ComponentSectionKind {
     /// Maps the rows that the reader still has, and adds them.
     fn map(
         reencoder: &mut T,
         alloc: Global,
-        sink: &mut RowSection<w::Of<Self>>,
-        section: SectionReader<'_, r::Of<Self>>,
+        sink: &mut RowSection<W>,
+        section: SectionReader<'_, R>,
     ) -> Result<(), Error<T::Error>>
-        ensures { RowsClauses T.ReencodeIndices Self.SectionKind.shape section.entry
+        ensures { RowsClauses T.ReencodeIndices R.shape section.entry
             reencoder.old sink.old reencoder.new sink.new result };
 }
 
 /// A section of rows that open no scope, by its body.
-fn flat_rows<T: ReencodeIndices, K: MapSection<T>>(
+fn flat_rows<T: ReencodeIndices, K: MapSection<T, r::Of<K>, w::Of<K>>>(
     reencoder: &mut T,
     alloc: Global,
     component: &mut w::Component,
@@ -87,7 +87,8 @@ fn flat_rows<T: ReencodeIndices, K: MapSection<T>>(
     }
 }
 
-impl<T: ReencodeComponent> MapSection<T> for kinds::Instances {
+impl<T: ReencodeComponent> MapSection<T, r::Of<kinds::Instances>, w::Of<kinds::Instances>>
+    for kinds::Instances {
     fn map(
         reencoder: &mut T,
         alloc: Global,
@@ -101,7 +102,11 @@ impl<T: ReencodeComponent> MapSection<T> for kinds::Instances {
     }
 }
 
-impl<T: ReencodeComponent> MapSection<T> for kinds::ComponentInstances {
+impl<T: ReencodeComponent> MapSection<
+    T,
+    r::Of<kinds::ComponentInstances>,
+    w::Of<kinds::ComponentInstances>,
+> for kinds::ComponentInstances {
     fn map(
         reencoder: &mut T,
         alloc: Global,
@@ -115,7 +120,8 @@ impl<T: ReencodeComponent> MapSection<T> for kinds::ComponentInstances {
     }
 }
 
-impl<T: ReencodeComponent> MapSection<T> for kinds::Aliases {
+impl<T: ReencodeComponent> MapSection<T, r::Of<kinds::Aliases>, w::Of<kinds::Aliases>>
+    for kinds::Aliases {
     fn map(
         reencoder: &mut T,
         alloc: Global,
@@ -129,7 +135,11 @@ impl<T: ReencodeComponent> MapSection<T> for kinds::Aliases {
     }
 }
 
-impl<T: ReencodeComponent> MapSection<T> for kinds::CanonicalFunctions {
+impl<T: ReencodeComponent> MapSection<
+    T,
+    r::Of<kinds::CanonicalFunctions>,
+    w::Of<kinds::CanonicalFunctions>,
+> for kinds::CanonicalFunctions {
     fn map(
         reencoder: &mut T,
         alloc: Global,
@@ -143,7 +153,11 @@ impl<T: ReencodeComponent> MapSection<T> for kinds::CanonicalFunctions {
     }
 }
 
-impl<T: ReencodeComponent> MapSection<T> for kinds::ComponentImports {
+impl<T: ReencodeComponent> MapSection<
+    T,
+    r::Of<kinds::ComponentImports>,
+    w::Of<kinds::ComponentImports>,
+> for kinds::ComponentImports {
     fn map(
         reencoder: &mut T,
         alloc: Global,
@@ -157,7 +171,11 @@ impl<T: ReencodeComponent> MapSection<T> for kinds::ComponentImports {
     }
 }
 
-impl<T: ReencodeComponent> MapSection<T> for kinds::ComponentExports {
+impl<T: ReencodeComponent> MapSection<
+    T,
+    r::Of<kinds::ComponentExports>,
+    w::Of<kinds::ComponentExports>,
+> for kinds::ComponentExports {
     fn map(
         reencoder: &mut T,
         alloc: Global,
