@@ -12,4 +12,6 @@ mod payload_tests;
 #[cfg(test)]
 mod reader_tests;
 #[cfg(test)]
+mod section_tests;
+#[cfg(test)]
 mod type_tests;

@@ -76,7 +76,7 @@ pub unknown_in_force : (id : ℕ) → 12 ≤ id → id ≤ 127 → has_frame id 
 unknown_in_force id low high =
     let from : nat_le 8 id ≡ true = le-leb 8 id (omega (arith, low)) in
     let both : (nat_le 8 id && nat_le id 127) ≡ true = rw (from, le-leb id 127 high) refl in
-    or_right (nat_eq id 1) _ (or_right (nat_eq id 2) _ (or_right (nat_eq id 4) _ (or_right (nat_eq id 5) _ (or_right (nat_eq id 6) _ both))))
+    or_right (nat_eq id 1) _ (or_right (nat_eq id 2) _ (or_right (nat_eq id 3) _ (or_right (nat_eq id 4) _ (or_right (nat_eq id 5) _ (or_right (nat_eq id 6) _ both)))))
 
 unframed : (depth : ℕ) {bytes : List ℕ} → BeginsNoFrame bytes → BeginsNoSection depth bytes
 unframed depth {bytes = bytes} n = record { none = λ t left b. go t left b (in_component_frame t b.there.begins.text b.there.begins.spells.shaped b.there.begins.spells.spelled) }

@@ -6,8 +6,7 @@ use Rattle.wasm_leb.proofs.Unique.{unsigned_unique}
 use Rattle.wasm_shapes.specs.Component.{component_body_of, component_section_tree}
 use Rattle.wasm_shapes.specs.Drawn.{IsItem}
 use Rattle.wasm_shapes.specs.Module.{numbered_frame}
-use Rattle.wasm_shapes.specs.Place.{BeginsNone}
-use Rattle.wasm_shapes.specs.Rows.{RowsLeft}
+use Rattle.wasm_shapes.specs.Depth.{BeginsNoneAt}
 use Rattle.wasm_shapes.specs.Shape.{Shape}
 use Rattle.wasm_shapes.specs.Tree.{Tree, visits}
 use Rattle.wasm_shapes.proofs.Drawn.{drawn_behind, drawn_none}
@@ -18,33 +17,35 @@ use Rattle.reencode_hooks.specs.declared.error.Error.{Error}
 use Rattle.reencode_hooks.specs.Run.{accepted}
 use Rattle.reencode_hooks.specs.Walk.{walk}
 use Rattle.reencode_hooks.proofs.Walks.{walk_is_run}
-use Rattle.reencode_core.specs.Leaves.{Leaves, MadeUpTo, RowsUpTo, rows_in}
+use Rattle.reencode_core.specs.Leaves.{Leaves, MadeUpTo}
 use Rattle.reencode_core.specs.Rows.{Asks, RowsBefore}
 use Rattle.reencode_core.proofs.Made.{Unasked, ended_all, front_all, front_none, front_same}
 use Rattle.reencode_core.proofs.RowsMade.{drawn_rows}
 use Rattle.reencode_component.specs.Components.{ReadsSection}
 use Rattle.reencode_component.specs.ComponentLeaves.{SectionUpTo, section_in}
-use Rattle.reencode_component.proofs.ComponentRowsMapped.{FlatRows, rows_read, section_read}
+use Rattle.reencode_component.specs.ScopedRows.{ShallowRows, ShallowUpTo, shallow_rows_in, standing_at}
+use Rattle.reencode_component.proofs.ComponentRowsMapped.{SectionRows, rows_read, section_read}
 
 -- the count that stands there is one
-same_up_to : {body rest : List ℕ} {a b : Standing} {row : Shape} {t : Tree} → CountRead body a → CountRead body b → RowsUpTo row b t rest → RowsUpTo row a t rest
-same_up_to {rest = rest} {a = a} {b = b} {row = row} p q r =
+same_up_to : {body rest : List ℕ} {depth : ℕ} {a b : Standing} {row : Shape} {t : Tree} → CountRead body a → CountRead body b → ShallowUpTo row (standing_at depth b) t rest →
+    ShallowUpTo row (standing_at depth a) t rest
+same_up_to {rest = rest} {depth = depth} {a = a} {b = b} {row = row} p q r =
     let both_ways : p.counted.0 ++ a.rest ≡ q.counted.0 ++ b.rest = sym p.counted.2 ∙ q.counted.2 in
     let one : (p.counted.0 ≡ q.counted.0) × (a.left ≡ b.left) = unsigned_unique a.rest b.rest p.counted.1 q.counted.1 both_ways in
     let shifted : q.counted.0 ++ a.rest ≡ q.counted.0 ++ b.rest = ap (λ (z : List ℕ). z ++ a.rest) (sym one.0) ∙ both_ways in
     let behind : a.rest ≡ b.rest = append_cancel_left q.counted.0 a.rest b.rest shifted in
     let F : List ℕ → Type 0 = λ z. RowsBefore row z r.rows rest in
-    let M : ℕ → Type 0 = λ z. ((length r.rows < z) × BeginsNone row rest) ⊎ ((length r.rows ≡ z) × (rest ≢ [])) in
-    record { rows = r.rows; are = r.are; front = subst F (sym behind) r.front; missing = subst M (sym one.1) r.missing }
+    let M : ℕ → Type 0 = λ z. ((length r.rows < z) × BeginsNoneAt row depth rest) ⊎ ((length r.rows ≡ z) × (rest ≢ [])) in
+    record { rows = r.rows; are = r.are; front = subst F (sym behind) r.front; shallow = r.shallow; missing = subst M (sym one.1) r.missing }
 
-module _ {S E : Type 0} (asked : Asks S E) (depth : ℕ) (deep : depth ≤ 200) {id : ℕ} {row : Shape} (kind : FlatRows id row) (body : List ℕ) (s m : S) where
+module _ {S E : Type 0} (asked : Asks S E) (depth : ℕ) (deep : depth ≤ 200) {id : ℕ} {row : Shape} (kind : SectionRows id row) (body : List ℕ) (s m : S) where
   -- what stands in front of its fault
-  known_up_to : {t : Tree} {rest : List ℕ} → SectionUpTo (numbered_frame id body) t rest →
-      ((t ≡ Tree.nil) × (rest ≡ body) × BeginsNoNumber 128 32 32 body) ⊎ ((reader : Standing) × CountRead body reader × RowsUpTo row reader t rest)
+  known_up_to : {t : Tree} {rest : List ℕ} → SectionUpTo depth (numbered_frame id body) t rest →
+      ((t ≡ Tree.nil) × (rest ≡ body) × BeginsNoNumber 128 32 32 body) ⊎ ((reader : Standing) × CountRead body reader × ShallowUpTo row (standing_at depth reader) t rest)
   known_up_to {t = t} {rest = rest} u = go (numbered_frame id body) t rest u refl
     where
-      go : (f t : Tree) (rest : List ℕ) → SectionUpTo f t rest → f ≡ (numbered_frame id body) →
-          ((t ≡ Tree.nil) × (rest ≡ body) × BeginsNoNumber 128 32 32 body) ⊎ ((reader : Standing) × CountRead body reader × RowsUpTo row reader t rest)
+      go : (f t : Tree) (rest : List ℕ) → SectionUpTo depth f t rest → f ≡ (numbered_frame id body) →
+          ((t ≡ Tree.nil) × (rest ≡ body) × BeginsNoNumber 128 32 32 body) ⊎ ((reader : Standing) × CountRead body reader × ShallowUpTo row (standing_at depth reader) t rest)
       go f t rest (SectionUpTo.uncounted id' body' row' e n) q =
           let same : body' ≡ body = cc in
           let P : List ℕ → Type 0 = λ z. BeginsNoNumber 128 32 32 z in
@@ -55,11 +56,11 @@ module _ {S E : Type 0} (asked : Asks S E) (depth : ℕ) (deep : depth ≤ 200) 
           let vecs : Shape.vec row' ≡ Shape.vec row = sym e.body ∙ ap component_body_of number ∙ kind.are_rows in
           let rows : row' ≡ row = cc in
           let P : List ℕ → Type 0 = λ z. CountRead z reader in
-          let R : Shape → Type 0 = λ z. RowsUpTo z reader t rest in
+          let R : Shape → Type 0 = λ z. ShallowUpTo z (standing_at depth reader) t rest in
           inr (reader, subst P same there, subst R rows r)
 
   -- its rows were asked in part
-  pub section_leaves : {reader : Standing} (e : Error E) → CountRead body reader → Leaves asked (rows_in row reader) s e m → Leaves asked (section_in depth (numbered_frame id body)) s e m
+  pub section_leaves : {reader : Standing} (e : Error E) → CountRead body reader → Leaves asked (shallow_rows_in row (standing_at depth reader)) s e m → Leaves asked (section_in depth (numbered_frame id body)) s e m
   section_leaves {reader = reader} e there l = record {
     made = l.made;
     ended = l.ended;
@@ -69,7 +70,7 @@ module _ {S E : Type 0} (asked : Asks S E) (depth : ℕ) (deep : depth ≤ 200) 
   }
     where
       go : ((t : Tree) → ReadsSection depth (numbered_frame id body) t → ⊥) → (t : Tree) (rest : List ℕ) →
-          ((t ≡ Tree.nil) × (rest ≡ body) × BeginsNoNumber 128 32 32 body) ⊎ ((r : Standing) × CountRead body r × RowsUpTo row r t rest) → MadeUpTo e l.made (visits t) rest
+          ((t ≡ Tree.nil) × (rest ≡ body) × BeginsNoNumber 128 32 32 body) ⊎ ((r : Standing) × CountRead body r × ShallowUpTo row (standing_at depth r) t rest) → MadeUpTo e l.made (visits t) rest
       go none t rest (inl h) = absurd (h.2 there.counted.0 reader.rest reader.left there.counted.1 there.counted.2)
       go none t rest (inr h) = l.fault (λ rows all. none (component_section_tree id (Tree.vec rows)) (section_read depth kind body deep there rows all)) t rest (same_up_to there h.1 h.2)
 
@@ -83,20 +84,20 @@ module _ {S E : Type 0} (asked : Asks S E) (depth : ℕ) (deep : depth ≤ 200) 
     fault = λ never t rest f. go t rest (known_up_to f);
   }
     where
-      go : (t : Tree) (rest : List ℕ) → ((t ≡ Tree.nil) × (rest ≡ body) × BeginsNoNumber 128 32 32 body) ⊎ ((r : Standing) × CountRead body r × RowsUpTo row r t rest) → MadeUpTo e [] (visits t) rest
+      go : (t : Tree) (rest : List ℕ) → ((t ≡ Tree.nil) × (rest ≡ body) × BeginsNoNumber 128 32 32 body) ⊎ ((r : Standing) × CountRead body r × ShallowUpTo row (standing_at depth r) t rest) → MadeUpTo e [] (visits t) rest
       go t rest (inl h) = inr ([], sym (ap (λ (z : Tree). visits z ++ []) h.0), drawn_none)
       go t rest (inr h) = absurd (none h.1.counted.0 h.0.rest h.0.left h.1.counted.1 h.1.counted.2)
 
   -- its rows were accepted
-  pub section_leaves_all : {reader : Standing} (c : ℕ) (made : Tree) (e : Error E) → Unasked e → CountRead body reader → (rows : Tree) → RowsLeft row reader.left reader.rest rows → walk asked c s rows ≡ accepted made m →
+  pub section_leaves_all : {reader : Standing} (c : ℕ) (made : Tree) (e : Error E) → Unasked e → CountRead body reader → (rows : Tree) → ShallowRows row (standing_at depth reader) rows → walk asked c s rows ≡ accepted made m →
       Leaves asked (section_in depth (numbered_frame id body)) s e m
   section_leaves_all {reader = reader} c made e u there rows r walked = record {
     made = visits rows;
     ended = ended_all e u ((walk_is_run asked).forth c s m rows made walked).ran;
-    drawn = drawn_behind there.counted.0 reader.rest there.counted.2 (drawn_rows (IsItem.component_row id row kind.are_rows) rows reader.rest r.shaped r.spelled);
+    drawn = drawn_behind there.counted.0 reader.rest there.counted.2 (drawn_rows (IsItem.component_row id row kind.are_rows) rows reader.rest r.left.shaped r.left.spelled);
     reading = λ t q.
         let v = rows_read depth kind body there t q in
-        let vecs : Tree.vec rows ≡ Tree.vec v.0 = one_tree (Shape.vec row) kind.is_sound body (Tree.vec rows) (Tree.vec v.0) (vec_spelled there.counted r) (vec_spelled there.counted v.2) in
+        let vecs : Tree.vec rows ≡ Tree.vec v.0 = one_tree (Shape.vec row) kind.is_sound body (Tree.vec rows) (Tree.vec v.0) (vec_spelled there.counted r.left) (vec_spelled there.counted v.2.left) in
         let same : rows ≡ v.0 = cc in
         front_same (ap visits same ∙ sym (ap visits v.1)) (front_all (visits rows));
     fault = λ none t rest f. absurd (none (component_section_tree id (Tree.vec rows)) (section_read depth kind body deep there rows r));

@@ -1,20 +1,19 @@
--- A section of a component whose rows open no scope, as its rows are mapped and it is added.
+-- A section of a component, as its rows are mapped and it is added.
 use Rattle.std.proofs.Common.{◌≡◌, ◌≢◌, ◌+◌, ◌-◌, ◌^◌, ◌≤◌, ◌<◌, ℕ, suc, zero, List, [], ◌∷◌, ◌++◌, length, true, Ok, Err, refl, sym, ap, ◌∙◌, subst, arith, ◌⊎◌, inl, inr}
 use Rattle.wasm_leb.specs.declared.fault.Fault.{Fault}
 use Rattle.wasm_leb.specs.declared.fault.Fault.TheVariants as fault
 use Rattle.wasm_leb.specs.Place.{BeginsNoNumber}
 use Rattle.wasm_shapes.specs.Component.{component_bodies, component_body_of, component_section_tree, row_at}
 use Rattle.wasm_shapes.specs.ComponentReadings.{InComponentFrame}
-use Rattle.wasm_shapes.specs.Depth.{opens}
+use Rattle.wasm_shapes.specs.Depth.{Shallow, opens}
 use Rattle.wasm_shapes.specs.Module.{numbered_frame}
-use Rattle.wasm_shapes.specs.Rows.{RowsLeft, rows_then}
+use Rattle.wasm_shapes.specs.Rows.{rows_then}
 use Rattle.wasm_shapes.specs.Shape.{Shape, closed}
 use Rattle.wasm_shapes.specs.Sound.{sound}
-use Rattle.wasm_shapes.specs.Spells.{Spells}
+use Rattle.wasm_shapes.specs.Spells.{Is, Spells}
 use Rattle.wasm_shapes.specs.Tree.{Tree, count, normal}
 use Rattle.wasm_shapes.specs.Types.{rows_tree, vector_tree}
 use Rattle.wasm_shapes.proofs.Rows.{vec_counted, vec_spelled}
-use Rattle.wasm_shapes.proofs.Unscoped.{unscoped, unscoped_is}
 use Rattle.wasm_read.specs.Reading.{Standing, CountRead}
 use Rattle.wasm_read_component.specs.ComponentPayloads.{has_frame}
 use Rattle.wasm_write.specs.declared.fault.WriteFault.{WriteFault}
@@ -27,13 +26,14 @@ use Rattle.reencode_hooks.specs.Errors.{error_of_write}
 use Rattle.reencode_hooks.specs.Run.{Step, accepted, refused}
 use Rattle.reencode_hooks.specs.Walk.{walk}
 use Rattle.reencode_core.specs.Errors.{placed_at}
-use Rattle.reencode_core.specs.Rows.{AcceptedHooks, Asks, GivesRows, RefusesFirst, RefusesInside, RefusesRow, RefusesWhole, StopsAtRow, StopsDue, StopsRows, TooMany, onto_rows}
+use Rattle.reencode_core.specs.Rows.{AcceptedHooks, Asks, RefusesFirst, RefusesInside, RefusesRow, RefusesWhole, StopsAtRow, StopsDue, StopsRows, TooMany, onto_rows}
 use Rattle.reencode_core.specs.Weave.{Puts, added}
 use Rattle.reencode_core.proofs.Known.{closed_fits, closed_large, vec_is}
 use Rattle.reencode_component.specs.Components.{FaultBy, ModuleFault, NestedFault, ReadsSection}
 use Rattle.reencode_component.specs.WeaveIn.{weave_in}
 use Rattle.reencode_component.specs.Causes.{Stops, StopsInRows, room}
 use Rattle.reencode_component.specs.Gives.{FaultIn, GivesSectionBy}
+use Rattle.reencode_component.specs.ScopedRows.{AllShallow, GivesShallow, ShallowRows, StopsShallow, standing_at}
 
 -- ---- a section and its frame
 
@@ -133,13 +133,12 @@ module _ {S E : Type 0} (asked : Asks S E) where
 
 -- ---- a section of rows
 
--- Sections of the id are read, and have these rows, which open no scope.
-pub record FlatRows (id : ℕ) (row : Shape) : Type 0 where
+-- Sections of the id are read, and have these rows.
+pub record SectionRows (id : ℕ) (row : Shape) : Type 0 where
   pub are_rows : component_body_of id ≡ Shape.vec row
   pub known : has_frame id ≡ true
   pub low : 1 ≤ id
   pub high : id ≤ 11
-  pub flat : unscoped row ≡ true
   pub is_sound : sound (Shape.vec row) ≡ true
 
 at_row : (ss : List Shape) (k : ℕ) {row : Shape} → row_at ss k ≡ Shape.vec row → k < length ss
@@ -151,37 +150,43 @@ above_custom : (id : ℕ) {row : Shape} → component_body_of id ≡ Shape.vec r
 above_custom zero e = absurd cc
 above_custom (suc n) e = omega arith
 
-pub flat_rows_of : {id : ℕ} {row : Shape} → component_body_of id ≡ Shape.vec row → has_frame id ≡ true → sound row ≡ true → closed row ≡ true → unscoped row ≡ true → FlatRows id row
-flat_rows_of {id = id} are known is_sound is_closed flat = record {
+pub section_rows : {id : ℕ} {row : Shape} → component_body_of id ≡ Shape.vec row → has_frame id ≡ true → sound row ≡ true → closed row ≡ true → SectionRows id row
+section_rows {id = id} are known is_sound is_closed = record {
   are_rows = are;
   known = known;
   low = above_custom id are;
   high = let less : id < 12 = at_row component_bodies id are in omega (arith, less);
-  flat = flat;
   is_sound = rw (is_closed, is_sound) refl;
 }
 
-module _ (depth : ℕ) {id : ℕ} {row : Shape} (kind : FlatRows id row) (body : List ℕ) where
+-- rows of which none opens a scope too many
+shallow_rows : {depth : ℕ} {row : Shape} (rows : Tree) → Is (Shape.many row) rows → depth ≤ 200 → AllShallow depth rows → opens rows + depth ≤ 200
+shallow_rows rows Is.nil deep all = omega (arith, deep)
+shallow_rows rows (Is.cons {t = t} {u = u} d d') deep all = (all (omega arith)).most
+
+module _ (depth : ℕ) {id : ℕ} {row : Shape} (kind : SectionRows id row) (body : List ℕ) where
   pub rows_read : {reader : Standing} → CountRead body reader → (t : Tree) → ReadsSection depth (numbered_frame id body) t →
-      (rows : Tree) × (t ≡ component_section_tree id (Tree.vec rows)) × RowsLeft row reader.left reader.rest rows
+      (rows : Tree) × (t ≡ component_section_tree id (Tree.vec rows)) × ShallowRows row (standing_at depth reader) rows
   rows_read there t r =
       let u = in_numbered id body t kind.high r.framed in
       let P : Shape → Type 0 = λ z. Spells z body u.0 in
+      let Q : Tree → Type 0 = λ z. Shallow depth z in
       let v = vec_is there.counted u.0 (subst P kind.are_rows u.2) in
-      (v.0, u.1 ∙ ap (component_section_tree id) v.1, v.2)
+      let is : t ≡ component_section_tree id (Tree.vec v.0) = u.1 ∙ ap (component_section_tree id) v.1 in
+      (v.0, is, record { left = v.2; shallow = λ some. let all = (subst Q is r.shallow).most in record { most = omega (arith, all) } })
 
   none_uncounted : BeginsNoNumber 128 32 32 body → (t : Tree) → ReadsSection depth (numbered_frame id body) t → ⊥
   none_uncounted none t r =
       let u = in_numbered id body t kind.high r.framed in let P : Shape → Type 0 = λ z. Spells z body u.0 in vec_counted none u.0 (subst P kind.are_rows u.2)
 
-  pub section_read : depth ≤ 200 → {reader : Standing} → CountRead body reader → (rows : Tree) → RowsLeft row reader.left reader.rest rows →
+  pub section_read : depth ≤ 200 → {reader : Standing} → CountRead body reader → (rows : Tree) → ShallowRows row (standing_at depth reader) rows →
       ReadsSection depth (numbered_frame id body) (component_section_tree id (Tree.vec rows))
   section_read deep there rows r =
       let P : Shape → Type 0 = λ z. Spells z body (Tree.vec rows) in
-      let spelled = vec_spelled there.counted r in
+      let spelled = vec_spelled there.counted r.left in
       record {
         framed = InComponentFrame.of_id id (Tree.vec rows) body kind.low kind.high (subst P (sym kind.are_rows) spelled);
-        shallow = let none : opens rows ≡ 0 = (unscoped_is r.shaped kind.flat).opens in record { most = omega (arith, none, deep) };
+        shallow = let most : opens rows + depth ≤ 200 = shallow_rows rows r.left.shaped deep r.shallow in record { most = omega (arith, most) };
         in_force = (kind.known, λ q. absurd (no_component q));
       }
     where
@@ -206,8 +211,8 @@ module _ (depth : ℕ) {id : ℕ} {row : Shape} (kind : FlatRows id row) (body :
   bytes_fault : {A : Type 0} (at : ℕ) → A → A × FaultIn (NestedFault depth (room depth) (numbered_frame id body)) at (fault.Read (record { at = at }))
   bytes_fault at none = (none, (refl, λ y handed q. unnested_rows (room depth) y q))
 
-module _ {S E : Type 0} (asked : Asks S E) (adds : Puts S SectionRow) (depth : ℕ) (deep : depth ≤ 200) {id : ℕ} {row : Shape} (kind : FlatRows id row) (body : List ℕ) (at : ℕ) where
-  module _ (own inner : Stops S E) (s m : S) (old : Sections) (stops_in : (e : Error E) → StopsInRows asked old.ceiling id body s m e → inner (numbered_frame id body) s m e) where
+module _ {S E : Type 0} (asked : Asks S E) (adds : Puts S SectionRow) (depth : ℕ) (deep : depth ≤ 200) {id : ℕ} {row : Shape} (kind : SectionRows id row) (body : List ℕ) (at : ℕ) where
+  module _ (own inner : Stops S E) (s m : S) (old : Sections) (stops_in : (e : Error E) → StopsInRows asked old.ceiling depth id body s m e → inner (numbered_frame id body) s m e) where
     -- the count of the rows is missing
     pub section_uncounted : BeginsNoNumber 128 32 32 body → GivesSectionBy asked adds depth inner own (numbered_frame id body) at (s, old) (s, old) (Err (ParseError (record { at = at })))
     section_uncounted none =
@@ -216,24 +221,25 @@ module _ {S E : Type 0} (asked : Asks S E) (adds : Puts S SectionRow) (depth : �
 
     -- a row is refused, or none is there where one is due
     pub section_stops : {reader : Standing} {start rows : List Tree} (e : Error E) → start ≡ [] → CountRead body reader →
-        GivesRows asked old.ceiling row reader (s, start) (m, rows) (Err e) → GivesSectionBy asked adds depth inner own (numbered_frame id body) at (s, old) (m, old) (Err (placed_at e at))
+        GivesShallow asked old.ceiling row (standing_at depth reader) (s, start) (m, rows) (Err e) → GivesSectionBy asked adds depth inner own (numbered_frame id body) at (s, old) (m, old) (Err (placed_at e at))
+    unfolding row_stopped
     section_stops {reader = reader} {start = start} {rows = rows} e empty there given =
-        let P : List Tree → Type 0 = λ z. GivesRows asked old.ceiling row reader (s, z) (m, rows) (Err e) in go e (subst P empty given)
+        let P : List Tree → Type 0 = λ z. GivesShallow asked old.ceiling row (standing_at depth reader) (s, z) (m, rows) (Err e) in go e (subst P empty given)
       where
         Given : Error E → Type 0
-        Given e = GivesRows asked old.ceiling row reader (s, []) (m, rows) (Err e)
+        Given e = GivesShallow asked old.ceiling row (standing_at depth reader) (s, []) (m, rows) (Err e)
 
         refuses : (e : Error E) → Given e → e ≢ NoMemory → (t : Tree) → ReadsSection depth (numbered_frame id body) t → weave_in asked (added adds) old.ceiling s t ≡ refused e m
         refuses e g other t r =
             let v = rows_read depth kind body there t r in
-            rw v.1 (section_refuses asked (added adds) id old.ceiling s m v.0 e (rows_stopped asked old.ceiling reader.left s m v.0 rows e v.2.counted there.counted.1.fits (g.reading v.0 v.2) other))
+            rw v.1 (section_refuses asked (added adds) id old.ceiling s m v.0 e (rows_stopped asked old.ceiling reader.left s m v.0 rows e v.2.left.counted there.counted.1.fits (g.reading v.0 v.2) other))
 
-        inside_of : (e : Error E) → StopsAtRow asked old.ceiling row reader (s, []) e (m, rows) → inner (numbered_frame id body) s m e
-        inside_of e f = stops_in e (record { row = row; are_rows = kind.are_rows; reader = reader; counted = there; stops = row_stopped asked e there.counted.1.fits f })
+        inside_of : (e : Error E) → StopsShallow asked old.ceiling row (standing_at depth reader) (s, []) e (m, rows) → inner (numbered_frame id body) s m e
+        inside_of e f = stops_in e (record { row = row; are_rows = kind.are_rows; reader = reader; counted = there; stops = row_stopped asked e there.counted.1.fits f.stops; shallow = f.shallow; next = f.next })
 
         go : (e : Error E) → Given e → GivesSectionBy asked adds depth inner own (numbered_frame id body) at (s, old) (m, old) (Err (placed_at e at))
         go (ParseError x) g =
-            let never : (t : Tree) → ReadsSection depth (numbered_frame id body) t → ⊥ = λ t r. let v = rows_read depth kind body there t r in g.unreadable.none.none v.0 v.2 in
+            let never : (t : Tree) → ReadsSection depth (numbered_frame id body) t → ⊥ = λ t r. let v = rows_read depth kind body there t r in g.unreadable.none v.0 v.2 in
             record { reading = λ t r. absurd (never t r); readable = tt; unreadable = bytes_fault depth kind body at never; refusal = tt; unchanged = refl }
         go (UserError x) g = record { reading = λ t r other. inr (refuses (UserError x) g other t r); readable = tt; unreadable = tt; refusal = inr (inside_of (UserError x) g.refusal); unchanged = refl }
         go (TooLarge x) g = record { reading = λ t r other. inr (refuses (TooLarge x) g other t r); readable = tt; unreadable = tt; refusal = inr (inside_of (TooLarge x) g.refusal); unchanged = refl }
@@ -246,8 +252,8 @@ module _ {S E : Type 0} (asked : Asks S E) (adds : Puts S SectionRow) (depth : �
         go UnsupportedCoreTypeInComponent g = absurd g.unreadable
 
     -- the rows were accepted
-    module _ {reader : Standing} {start made : List Tree} (empty : start ≡ []) (there : CountRead body reader) (g : GivesRows asked old.ceiling row reader (s, start) (m, made) (Ok tt)) where
-      rows_made : (rows : Tree) → RowsLeft row reader.left reader.rest rows → walk asked old.ceiling s rows ≡ accepted (rows_tree made) m
+    module _ {reader : Standing} {start made : List Tree} (empty : start ≡ []) (there : CountRead body reader) (g : GivesShallow asked old.ceiling row (standing_at depth reader) (s, start) (m, made) (Ok tt)) where
+      rows_made : (rows : Tree) → ShallowRows row (standing_at depth reader) rows → walk asked old.ceiling s rows ≡ accepted (rows_tree made) m
       rows_made rows r =
           let q = g.reading rows r in
           let same : made ≡ q.0 = q.2 ∙ ap (λ (z : List Tree). z ++ q.0) empty in

@@ -88,10 +88,10 @@ module _ {S E : Type 0} (i : Ghosts S E) (s m : S) where
       subst P (sym same) (open_visited (asks i) (rows_in module_declaration reader) e scope.rows scope.left (given.after_error k (λ h. sure)))
 
   -- it is added
-  pub core_row_added : (ty : read.CoreType) (mapped : Result made.CoreType (Error E)) → CoreTypeClauses i ty s m mapped → {old new : List Tree} (r : Result (Unit {0}) (Error E)) →
+  pub core_row_added : (ty : read.CoreType) (mapped : Result made.CoreType (Error E)) → CoreTypeClauses i ty s m mapped → (old new : List Tree) (r : Result (Unit {0}) (Error E)) →
       AddsRow core_type_tree mapped old new r → (depth : ℕ) (t : Tree) (x : List ℕ) → CoreTypeStands ty t → Spelled t x → RowClauses i t s old m new r
-  core_row_added ty mapped given r adds depth t x stands spelled =
-      list_added i t core_type_tree mapped (record { default = core_maps ty t x stands spelled mapped given; after_error = left mapped given }) r adds
+  core_row_added ty mapped given old new r adds depth t x stands spelled =
+      list_added i t core_type_tree s m old new mapped (record { default = core_maps ty t x stands spelled mapped given; after_error = left mapped given }) r adds
     where
       left : (r : Result made.CoreType (Error E)) → CoreTypeClauses i ty s m r → IsTrue i.keeps_defaults → IsTrue i.sure → LeavesVisited (asks i) s (visits t) m r
       left (Ok b) given k sure = tt

@@ -1,5 +1,5 @@
 -- A section of a component whose rows were mapped, as it is added.
-use Rattle.std.proofs.Common.{◌≡◌, ◌+◌, ◌≢◌, ◌<◌, ◌≤◌, lit≤, zero, suc, ℕ, List, [], ◌∷◌, true, nat_eq, nat_le, ◌&&◌, ◌||◌, Result, Ok, Err, IfErr, IsTrue, refl, sym, ap, ◌∙◌, subst, arith, ◌⊎◌, inl, inr}
+use Rattle.std.proofs.Common.{◌≡◌, ◌+◌, ◌≢◌, ◌<◌, ◌≤◌, lit≤, zero, suc, ℕ, List, [], ◌∷◌, Bool, true, nat_eq, nat_le, ◌&&◌, ◌||◌, Result, Ok, Err, IfErr, IsTrue, refl, sym, ap, ◌∙◌, subst, arith, ◌⊎◌, inl, inr}
 use Rattle.std.proofs.lemmas.Bool.{eqb-true, leb-true}
 use Rattle.wasm_shapes.proofs.Lists.{both, either}
 use Rattle.wasm_leb.specs.declared.fault.Fault.{Fault}
@@ -21,13 +21,14 @@ use Rattle.wasm_shapes.proofs.Unscoped.{unscoped_is}
 use Rattle.wasm_read_component.specs.declared.types.ComponentStartFunction.{ComponentStartFunction}
 use Rattle.wasm_read_component.specs.ComponentRows.{start_tree}
 use Rattle.wasm_read_component.specs.ComponentPayloads.{has_frame}
+use Rattle.wasm_read_component.specs.Scoped.{ScopedStanding}
 use Rattle.wasm_read.specs.Reading.{Standing, CountRead, ReadsNone}
 use Rattle.wasm_write.specs.Sections.{Sections, section_row}
 use Rattle.reencode_hooks.specs.declared.error.Error.{Error}
 use Rattle.reencode_hooks.specs.declared.error.Error.TheVariants.{CanonicalizedHeapTypeReference, InvalidConstExpr, InvalidCodeSectionSize, UnexpectedNonCoreModuleSection, UnexpectedNonComponentSection, UnsupportedCoreTypeInComponent, ParseError, UserError, TooLarge, NoMemory}
 use Rattle.reencode_hooks.specs.declared.indices.ReencodeIndices.{Ghosts}
 use Rattle.reencode_hooks.specs.Errors.{error_of_write}
-use Rattle.reencode_core.specs.Clauses.{RowsClauses, asks}
+use Rattle.reencode_core.specs.Clauses.{asks}
 use Rattle.reencode_core.specs.Errors.{IfParse, placed_at}
 use Rattle.reencode_core.specs.Leaves.{Leaves, LeavesCore, MadeUpTo, Text}
 use Rattle.reencode_core.specs.Rows.{Asks}
@@ -45,8 +46,9 @@ use Rattle.reencode_component.specs.WeaveIn.{weave_in}
 use Rattle.reencode_component.specs.Clauses.{AddedClauses}
 use Rattle.reencode_component.specs.ComponentClauses.{FrameClauses, placed_in}
 use Rattle.reencode_component.specs.ComponentLeaves.{SectionUpTo, bytes_in, section_in}
+use Rattle.reencode_component.specs.ScopedRows.{ShallowRowsClauses, standing_at}
 use Rattle.reencode_component.proofs.ComponentLoop.{unknown_in_force}
-use Rattle.reencode_component.proofs.ComponentRowsMapped.{FlatRows, in_numbered, section_added, section_not_added, section_stops, section_uncounted}
+use Rattle.reencode_component.proofs.ComponentRowsMapped.{SectionRows, in_numbered, section_added, section_not_added, section_stops, section_uncounted}
 use Rattle.reencode_component.proofs.ComponentRowsLeft.{section_leaves, section_leaves_all, section_untouched}
 
 -- ---- the same error at another place
@@ -64,7 +66,7 @@ leaves_placed {E = E} text e at l = record {
     go all rest (inl h) = inl ((λ q. h.0 (tells_placed e at q)), h.1)
     go all rest (inr h) = inr h
 
-module _ {S E : Type 0} (i : Ghosts S E) (depth : ℕ) (deep : depth ≤ 200) {id : ℕ} {row : Shape} (kind : FlatRows id row) (body : List ℕ) (at : ℕ) {s : S} {old : Sections} where
+module _ {S E : Type 0} (i : Ghosts S E) (depth : ℕ) (deep : depth ≤ 200) {id : ℕ} {row : Shape} (kind : SectionRows id row) (body : List ℕ) (at : ℕ) {s : S} {old : Sections} where
   -- the count of the rows is missing
   pub section_unread : (f : Fault) → ReadsNone f 0 (BeginsNoNumber 128 32 32 body) → FrameClauses i depth (numbered_frame id body) at s old s old (Err (ParseError (record { at = at })))
   section_unread f none = record {
@@ -82,7 +84,7 @@ module _ {S E : Type 0} (i : Ghosts S E) (depth : ℕ) (deep : depth ≤ 200) {i
       uncounted fault.NoMemory h = absurd h
 
   -- its rows were mapped, or refused
-  pub section_mapped : {reader : Standing} {start made : List Tree} {m : S} {new : Sections} (mapped r : Result (Unit {0}) (Error E)) → start ≡ [] → CountRead body reader → RowsClauses i row reader s start m made mapped →
+  pub section_mapped : {reader : Standing} {start made : List Tree} {m : S} {new : Sections} (mapped r : Result (Unit {0}) (Error E)) → start ≡ [] → CountRead body reader → ShallowRowsClauses i row (standing_at depth reader) s start m made mapped →
       AddsMapped (section_row id (normal (vector_tree made))) old (placed_in mapped at) new r → FrameClauses i depth (numbered_frame id body) at s old m new r
   section_mapped {reader = reader} {m = m} {new = new} (Err e) r empty there rows adds =
       let P : Result (Unit {0}) (Error E) → Type 0 = λ z. FrameClauses i depth (numbered_frame id body) at s old m new z in
@@ -115,6 +117,13 @@ module _ {S E : Type 0} (i : Ghosts S E) (depth : ℕ) (deep : depth ≤ 200) {i
             let q = g.reading g.readable.0 g.readable.1 in
             section_leaves_all (asks i) depth deep kind body s m old.ceiling (rows_tree q.0) (error_of_write adds.1) (write_unasked E adds.1) there g.readable.0 g.readable.1 q.1;
       }))
+
+  -- the same by a reader that knows the depth
+  pub scoped_mapped : {reader : ScopedStanding} {start made : List Tree} {m : S} {new : Sections} (mapped r : Result (Unit {0}) (Error E)) → start ≡ [] → CountRead body reader.rows → reader.depth ≡ depth →
+      ShallowRowsClauses i row reader s start m made mapped → AddsMapped (section_row id (normal (vector_tree made))) old (placed_in mapped at) new r → FrameClauses i depth (numbered_frame id body) at s old m new r
+  scoped_mapped {reader = reader} {start = start} {made = made} {m = m} mapped r empty there same rows adds =
+      let P : ℕ → Type 0 = λ n. ShallowRowsClauses i row (standing_at n reader.rows) s start m made mapped in
+      section_mapped mapped r empty there (subst P same rows) adds
 
 -- ---- a section of which there is one reading
 
@@ -199,7 +208,7 @@ module _ {S E : Type 0} (i : Ghosts S E) (depth : ℕ) (deep : depth ≤ 200) (i
 -- ---- a section that is not read
 
 module _ {S E : Type 0} (i : Ghosts S E) (depth : ℕ) (f : Tree) (none : (t : Tree) → ReadsSection depth f t → ⊥) (unnested : (x : Fault) → NestedFault depth (room depth) f x → ⊥)
-    (unknown : (t : Tree) (rest : List ℕ) → SectionUpTo f t rest → ⊥) (at : ℕ) (s : S) (old : Sections) where
+    (unknown : (t : Tree) (rest : List ℕ) → SectionUpTo depth f t rest → ⊥) (at : ℕ) (s : S) (old : Sections) where
   pub not_read : FrameClauses i depth f at s old s old (Err (ParseError (record { at = at })))
   not_read = record {
     kept = keeps_same old;
@@ -251,7 +260,7 @@ module _ {S E : Type 0} (i : Ghosts S E) (depth : ℕ) (at : ℕ) (s : S) (old :
       unnested zero x h = h
       unnested (suc room) x h = let e : numbered_frame id body ≡ numbered_frame h.0 h.1 = h.2 in let number : h.0 ≡ id = cc in never number h.3
 
-      up_to : (f t : Tree) (rest : List ℕ) → SectionUpTo f t rest → f ≡ numbered_frame id body → ⊥
+      up_to : (f t : Tree) (rest : List ℕ) → SectionUpTo depth f t rest → f ≡ numbered_frame id body → ⊥
       up_to f t rest (SectionUpTo.uncounted id' body' row e n) q = let number : id' ≡ id = cc in never number e.in_force
       up_to f t rest (SectionUpTo.rows id' body' row reader u rest' e there r) q = let number : id' ≡ id = cc in never number e.in_force
 
@@ -269,7 +278,7 @@ module _ {S E : Type 0} (i : Ghosts S E) (depth : ℕ) (at : ℕ) (s : S) (old :
       unnested zero x h = h
       unnested (suc room) x h = let e : custom_frame name contents ≡ numbered_frame h.0 h.1 = h.2 in cc
 
-      up_to : (f t : Tree) (rest : List ℕ) → SectionUpTo f t rest → f ≡ custom_frame name contents → ⊥
+      up_to : (f t : Tree) (rest : List ℕ) → SectionUpTo depth f t rest → f ≡ custom_frame name contents → ⊥
       up_to f t rest (SectionUpTo.uncounted id' body' row e n) q = cc
       up_to f t rest (SectionUpTo.rows id' body' row reader u rest' e there r) q = cc
 
@@ -292,7 +301,7 @@ module _ {S E : Type 0} (i : Ghosts S E) (depth : ℕ) (deep : depth ≤ 200) (b
       unnested zero x h = h
       unnested (suc room) x h = let e : numbered_frame 9 body ≡ numbered_frame h.0 h.1 = h.2 in let number : h.0 ≡ 9 = cc in not_nested number h.4
 
-      up_to : (f t : Tree) (rest : List ℕ) → SectionUpTo f t rest → f ≡ numbered_frame 9 body → ⊥
+      up_to : (f t : Tree) (rest : List ℕ) → SectionUpTo depth f t rest → f ≡ numbered_frame 9 body → ⊥
       up_to f t rest (SectionUpTo.uncounted id' body' row e n) q =
           let number : id' ≡ 9 = cc in let start : table.component_start ≡ Shape.vec row = sym (ap table.component_body_of number) ∙ e.body in cc
       up_to f t rest (SectionUpTo.rows id' body' row reader u rest' e there r) q =
@@ -316,43 +325,32 @@ module _ {S E : Type 0} (i : Ghosts S E) (depth : ℕ) (deep : depth ≤ 200) (b
 
 -- ---- ids that are not in force
 
-pub low_off : (id : ℕ) → id < 12 → id ≢ 1 → id ≢ 4 → id ≢ 2 → id ≢ 5 → id ≢ 6 → id ≢ 8 → id ≢ 9 → id ≢ 10 → id ≢ 11 → has_frame id ≡ true → ⊥
-low_off zero h y z a b c d e f g k = cc
-low_off (suc zero) h y z a b c d e f g k = y refl
-low_off (suc (suc zero)) h y z a b c d e f g k = a refl
-low_off (suc (suc (suc zero))) h y z a b c d e f g k = cc
-low_off (suc (suc (suc (suc zero)))) h y z a b c d e f g k = z refl
-low_off (suc (suc (suc (suc (suc zero))))) h y z a b c d e f g k = b refl
-low_off (suc (suc (suc (suc (suc (suc zero)))))) h y z a b c d e f g k = c refl
-low_off (suc (suc (suc (suc (suc (suc (suc zero))))))) h y z a b c d e f g k = cc
-low_off (suc (suc (suc (suc (suc (suc (suc (suc zero)))))))) h y z a b c d e f g k = d refl
-low_off (suc (suc (suc (suc (suc (suc (suc (suc (suc zero))))))))) h y z a b c d e f g k = e refl
-low_off (suc (suc (suc (suc (suc (suc (suc (suc (suc (suc zero)))))))))) h y z a b c d e f g k = f refl
-low_off (suc (suc (suc (suc (suc (suc (suc (suc (suc (suc (suc zero))))))))))) h y z a b c d e f g k = g refl
-low_off (suc (suc (suc (suc (suc (suc (suc (suc (suc (suc (suc (suc n)))))))))))) h y z a b c d e f g k = omega (arith, h)
+pub low_off : (id : ℕ) → id < 12 → id ≢ 1 → id ≢ 4 → id ≢ 2 → id ≢ 3 → id ≢ 5 → id ≢ 6 → id ≢ 8 → id ≢ 9 → id ≢ 10 → id ≢ 11 → has_frame id ≡ true → ⊥
+low_off zero low y z a b c d e f g h k = cc
+low_off (suc zero) low y z a b c d e f g h k = y refl
+low_off (suc (suc zero)) low y z a b c d e f g h k = a refl
+low_off (suc (suc (suc zero))) low y z a b c d e f g h k = b refl
+low_off (suc (suc (suc (suc zero)))) low y z a b c d e f g h k = z refl
+low_off (suc (suc (suc (suc (suc zero))))) low y z a b c d e f g h k = c refl
+low_off (suc (suc (suc (suc (suc (suc zero)))))) low y z a b c d e f g h k = d refl
+low_off (suc (suc (suc (suc (suc (suc (suc zero))))))) low y z a b c d e f g h k = cc
+low_off (suc (suc (suc (suc (suc (suc (suc (suc zero)))))))) low y z a b c d e f g h k = e refl
+low_off (suc (suc (suc (suc (suc (suc (suc (suc (suc zero))))))))) low y z a b c d e f g h k = f refl
+low_off (suc (suc (suc (suc (suc (suc (suc (suc (suc (suc zero)))))))))) low y z a b c d e f g h k = g refl
+low_off (suc (suc (suc (suc (suc (suc (suc (suc (suc (suc (suc zero))))))))))) low y z a b c d e f g h k = h refl
+low_off (suc (suc (suc (suc (suc (suc (suc (suc (suc (suc (suc (suc n)))))))))))) low y z a b c d e f g h k = omega (arith, low)
 
+-- none of these is above 127
 pub high_off : (id : ℕ) → 127 < id → has_frame id ≡ true → ⊥
-high_off id h k = module_first (either (nat_eq id 1) _ k)
+high_off id h k =
+    not_one 1 _ (omega arith) (not_one 2 _ (omega arith) (not_one 3 _ (omega arith) (not_one 4 _ (omega arith) (not_one 5 _ (omega arith) (not_one 6 _ (omega arith) last))))) k
   where
     last : (nat_le 8 id && nat_le id 127) ≡ true → ⊥
     last q = let most : id ≤ 127 = leb-true _ _ (both (nat_le 8 id) (nat_le id 127) q).1 in omega (arith, h, most)
 
-    third : (nat_eq id 6 ≡ true) ⊎ ((nat_le 8 id && nat_le id 127) ≡ true) → ⊥
-    third (inl q) = let is : id ≡ 6 = eqb-true id 6 q in omega (arith, h, is)
-    third (inr q) = last q
-
-    second : (nat_eq id 5 ≡ true) ⊎ ((nat_eq id 6 || (nat_le 8 id && nat_le id 127)) ≡ true) → ⊥
-    second (inl q) = let is : id ≡ 5 = eqb-true id 5 q in omega (arith, h, is)
-    second (inr q) = third (either (nat_eq id 6) _ q)
-
-    component_next : (nat_eq id 4 ≡ true) ⊎ ((nat_eq id 5 || (nat_eq id 6 || (nat_le 8 id && nat_le id 127))) ≡ true) → ⊥
-    component_next (inl q) = let is : id ≡ 4 = eqb-true id 4 q in omega (arith, h, is)
-    component_next (inr q) = second (either (nat_eq id 5) _ q)
-
-    first : (nat_eq id 2 ≡ true) ⊎ ((nat_eq id 4 || (nat_eq id 5 || (nat_eq id 6 || (nat_le 8 id && nat_le id 127)))) ≡ true) → ⊥
-    first (inl q) = let is : id ≡ 2 = eqb-true id 2 q in omega (arith, h, is)
-    first (inr q) = component_next (either (nat_eq id 4) _ q)
-
-    module_first : (nat_eq id 1 ≡ true) ⊎ ((nat_eq id 2 || (nat_eq id 4 || (nat_eq id 5 || (nat_eq id 6 || (nat_le 8 id && nat_le id 127))))) ≡ true) → ⊥
-    module_first (inl q) = let is : id ≡ 1 = eqb-true id 1 q in omega (arith, h, is)
-    module_first (inr q) = first (either (nat_eq id 2) _ q)
+    not_one : (n : ℕ) (others : Bool) → n ≤ 127 → (others ≡ true → ⊥) → (nat_eq id n || others) ≡ true → ⊥
+    not_one n others low never q = by (either (nat_eq id n) others q)
+      where
+        by : (nat_eq id n ≡ true) ⊎ (others ≡ true) → ⊥
+        by (inl e) = let is : id ≡ n = eqb-true id n e in omega (arith, h, is, low)
+        by (inr e) = never e

@@ -11,7 +11,7 @@ use Rattle.wasm_shapes.specs.Depth.{BeginsAt, BeginsNoneAt, Shallow, opens}
 use Rattle.wasm_shapes.specs.Rows.{RowsLeft, rows_then}
 use Rattle.wasm_shapes.specs.Spells.{Is}
 use Rattle.wasm_shapes.specs.Types.{rows_tree}
-use Rattle.wasm_shapes.proofs.Depth.{shallow_cons, shallow_first, shallow_then}
+use Rattle.wasm_shapes.proofs.Depth.{begins_unique, shallow_cons, shallow_first, shallow_then}
 use Rattle.wasm_shapes.proofs.Drawn.{drawn_begun, drawn_none}
 use Rattle.wasm_shapes.proofs.Rows.{no_rows_behind, rows_end, rows_first, rows_then-append}
 use Rattle.wasm_shapes.proofs.Unique.{unique}
@@ -21,20 +21,22 @@ use Rattle.reencode_hooks.specs.declared.error.Error.{Error}
 use Rattle.reencode_hooks.specs.declared.error.Error.TheVariants.{NoMemory}
 use Rattle.reencode_hooks.specs.declared.indices.ReencodeIndices.{Ghosts}
 use Rattle.reencode_hooks.specs.Errors.{error_of_fault}
+use Rattle.reencode_hooks.specs.Run.{refused}
+use Rattle.reencode_hooks.specs.Walk.{walk}
 use Rattle.reencode_hooks.proofs.Walks.{walk_is_run}
 use Rattle.reencode_core.specs.Clauses.{RowClauses, RowsClauses, asks}
-use Rattle.reencode_core.specs.Errors.{IfParse}
+use Rattle.reencode_core.specs.Errors.{IfParse, IfRefused}
 use Rattle.reencode_core.specs.Holds.{AskedRow}
 use Rattle.reencode_core.specs.Leaves.{EndsBy, IsFront, Leaves, MadeUpTo, TellsFault}
-use Rattle.reencode_core.specs.Rows.{Asks, RowsBefore}
+use Rattle.reencode_core.specs.Rows.{Asks, RowsBefore, TooLargeMade}
 use Rattle.reencode_core.proofs.EachRow.{RowsKept, rows_added, rows_begun, rows_ended, rows_refused_at}
 use Rattle.reencode_core.proofs.Group.{rows_then-both}
 use Rattle.reencode_core.proofs.Made.{PartMade, drawn_made, ended_all, ended_behind, fault_unasked, front_first, front_none, front_same, front_then, tells_none}
 use Rattle.reencode_core.proofs.OneRow.{answers}
-use Rattle.reencode_core.proofs.RowLoop.{RowsDone, before_more, row_usual}
+use Rattle.reencode_core.proofs.RowLoop.{RowsDone, before_more, large_is_many, row_usual}
 use Rattle.reencode_core.proofs.RowsMade.{RowsAhead, drawn_then, row_made, rows_ahead, rows_held, visits_behind, visits_more}
-use Rattle.reencode_core.proofs.Usual.{IfParse-map, fault_unrefused}
-use Rattle.reencode_component.specs.ScopedRows.{AllShallow, ShallowFault, ShallowRowsClauses, ShallowUpTo, shallow_rows_in}
+use Rattle.reencode_core.proofs.Usual.{IfParse-map, fault_unrefused, unless_wanting}
+use Rattle.reencode_component.specs.ScopedRows.{AllShallow, ShallowFault, ShallowRowsClauses, ShallowUpTo, StopsShallow, shallow_rows_in}
 
 -- the one number is below the other or not
 below : (n m : ℕ) → (n < m) ⊎ (m ≤ n)
@@ -309,7 +311,9 @@ module _ {S E : Type 0} (i : Ghosts S E) {row : Shape} {start : ScopedStanding} 
               reading = λ rows all. (base.default k c).reading rows all.left;
               readable = tt;
               unreadable = IfParse-map e (λ at never. absurd never) (row_usual i.reply i.next c e (plain_read read) (given.default k c).1);
-              refusal = (base.default k c).refusal;
+              refusal =
+                  let P : List Tree → Type 0 = λ z. IfRefused e (StopsShallow (asks i) c row start (s0, old) e (m, z)) in
+                  subst P (sym (given.default k c).0) (unless_wanting e (λ other. stops k c ((given.default k c).1 other)));
             };
             after_error = λ k told.
                 let stops = (given.default k 0).1 in
@@ -317,6 +321,41 @@ module _ {S E : Type 0} (i : Ghosts S E) {row : Shape} {start : ScopedStanding} 
             wants = base.wants;
           })
         where
+          stops : (k : IsTrue i.keeps_defaults) (c : ℕ) → (walk (asks i) c s read.reads.tree ≡ refused e m) ⊎ TooLargeMade (asks i) s read.reads.tree (length new) e m →
+              StopsShallow (asks i) c row start (s0, old) e (m, new)
+          stops k c h =
+              let d = inv.rows.default k c in
+              let here = read.reads.begins.begins in
+              let less : reader.rows.left ≡ reader'.rows.left + 1 = read.counted in
+              let all : start.rows.left ≡ length d.read + reader.rows.left = d.numbered in
+              record {
+                stops = record {
+                  read = d.read;
+                  rest = reader.rows.rest;
+                  made = d.made;
+                  state = s;
+                  front = d.before;
+                  due = omega (arith, less, all);
+                  accepts = d.accepts;
+                  counted = d.counted;
+                  gains = d.gains;
+                  refuses = inl (record {
+                    tree = read.reads.tree;
+                    left = reader'.rows.rest;
+                    begins = here;
+                    refusal = large_is_many (asks i) c s m read.reads.tree here.text (length new) e here.spells.spelled h;
+                  });
+                };
+                shallow = walked_shallow k c;
+                next = λ u left there. low (begins_unique inv.rows.is_sound inv.rows.is_closed here there).0;
+              }
+            where
+              low : {u : Tree} → read.reads.tree ≡ u → Shallow start.depth u
+              low is =
+                  let P : Tree → Type 0 = λ z. Shallow start.depth z in
+                  let Q : ℕ → Type 0 = λ n. Shallow n read.reads.tree in
+                  subst P is (subst Q inv.depth read.reads.begins.shallow)
+
           next_left : (k : IsTrue i.keeps_defaults) → PartMade (asks i) s (visits read.reads.tree) e m → ¬ TellsFault e → Leaves (asks i) (shallow_rows_in row start) s0 e m
           next_left k p tells =
               shallow_leave (asks i) start reader (inv.rows.default k 0) inv.rows.item inv.rows.is_sound inv.rows.is_closed (walked_shallow k 0) e p.part p.ended (drawn_made p.front (drawn_begun inv.rows.item read.reads.begins.begins)) whole next

@@ -3,12 +3,14 @@ pub mod Walked
 pub mod OperandsWalked
 pub mod Added
 pub mod RowAdded
+pub mod SectionItems
 pub mod SectionsAhead
 pub mod WovenIn
 pub mod WeavesIn
 pub mod ComponentLoop
 pub mod ComponentRowsMapped
 pub mod ComponentRowsLeft
+pub mod FlatRows
 pub mod EachComponentSection
 pub mod EachComponent
 pub mod FaultLaws

@@ -72,10 +72,10 @@ size_placed (TooLarge x) at h = h
 size_placed _ at h = absurd h
 
 -- the section has no rows
-no_up_to : (id : ℕ) (body : List ℕ) → ((row : Shape) → component_body_of id ≡ Shape.vec row → ⊥) → (t : Tree) (rest : List ℕ) → SectionUpTo (numbered_frame id body) t rest → ⊥
-no_up_to id body none t rest x = go (numbered_frame id body) t rest x refl
+no_up_to : (depth id : ℕ) (body : List ℕ) → ((row : Shape) → component_body_of id ≡ Shape.vec row → ⊥) → (t : Tree) (rest : List ℕ) → SectionUpTo depth (numbered_frame id body) t rest → ⊥
+no_up_to depth id body none t rest x = go (numbered_frame id body) t rest x refl
   where
-    go : (f t : Tree) (rest : List ℕ) → SectionUpTo f t rest → f ≡ numbered_frame id body → ⊥
+    go : (f t : Tree) (rest : List ℕ) → SectionUpTo depth f t rest → f ≡ numbered_frame id body → ⊥
     go f t rest (SectionUpTo.uncounted id' body' row e n) q = let number : id' ≡ id = cc in none row (sym (ap component_body_of number) ∙ e.body)
     go f t rest (SectionUpTo.rows id' body' row reader u rest' e there r) q = let number : id' ≡ id = cc in none row (sym (ap component_body_of number) ∙ e.body)
 
@@ -95,7 +95,7 @@ module _ {S E : Type 0} (i : Ghosts S E) (depth id : ℕ) (body : List ℕ) (hea
   pub nested_deep : 200 ≤ depth → ((t : Tree) → ReadsSection depth frame_tree t → ⊥) → ((row : Shape) → component_body_of id ≡ Shape.vec row → ⊥) → (s : S) (old : Sections) →
       Clauses s old s old (Err (ParseError (record { at = 0 })))
   nested_deep deep none no_rows s old = record {
-    framed = λ at. not_read i depth frame_tree none unnested (no_up_to id body no_rows) at s old;
+    framed = λ at. not_read i depth frame_tree none unnested (no_up_to depth id body no_rows) at s old;
     unchanged = refl;
     told = λ k low. absurd (omega (arith, deep, low));
     inside = λ k low. absurd (omega (arith, deep, low));
@@ -204,7 +204,7 @@ module _ {S E : Type 0} (i : Ghosts S E) (depth id : ℕ) (body : List ℕ) (hea
       ended = ended_behind (asks i) e (Push ∷ []) l.made push_ran l.ended;
       drawn = drawn_joined body (Push ∷ []) l.made drawn_push l.drawn;
       reading = λ t r. let q = kind.forth t r in front_same (visits_are t q.0 q.1) (front_then (Push ∷ []) (front_first (Pop ∷ []) (l.reading q.0 q.2)));
-      fault = λ none t rest x. absurd (no_up_to id body kind.no_rows t rest x);
+      fault = λ none t rest x. absurd (no_up_to depth id body kind.no_rows t rest x);
     }
 
     pub nested_refused : {m : S} (e : Error E) → (IsTrue i.keeps_defaults → Refuses old.ceiling s p m e) → (r : Result (Unit {0}) (Error E)) → IsErrAnd r (λ y. y ≡ e) → Clauses s old m old r
@@ -238,7 +238,7 @@ module _ {S E : Type 0} (i : Ghosts S E) (depth id : ℕ) (body : List ℕ) (hea
             ended = ended_all e unasked (all_ran t.0 ran.0 (subst R (kind.headed t.0) ran.1));
             drawn = drawn_scope (visits t.0) (kind.drawn t.0 t.1);
             reading = λ u r. front_same (visits_are (nested_tree id (head t.0)) t.0 refl ∙ ap visits (one u r)) (front_all (Push ∷ visits t.0 ++ Pop ∷ []));
-            fault = λ none u rest x. absurd (no_up_to id body kind.no_rows u rest x);
+            fault = λ none u rest x. absurd (no_up_to depth id body kind.no_rows u rest x);
           }
         where
           one : (u : Tree) → ReadsSection depth frame_tree u → nested_tree id (head (g k).some.0) ≡ u

@@ -8,7 +8,7 @@ use Rattle.reencode_core.specs.Clauses.{RowClauses}
 use Rattle.reencode_core.proofs.OneRow.{row_mapped, row_not_added, row_unmapped, sure_left}
 use Rattle.reencode_component.specs.Clauses.{AddsRow}
 
-module _ {S E B : Type 0} (i : Ghosts S E) (t : Tree) (view : B → Tree) {s m : S} {old new : List Tree} where
+module _ {S E B : Type 0} (i : Ghosts S E) (t : Tree) (view : B → Tree) (s m : S) (old new : List Tree) where
   -- one that may hold lists
   pub list_added : (mapped : Result B (Error E)) → ListClauses i t view s m mapped → (r : Result (Unit {0}) (Error E)) → AddsRow view mapped old new r → RowClauses i t s old m new r
   list_added (Err e) given r adds =

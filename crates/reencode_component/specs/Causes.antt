@@ -6,8 +6,11 @@ use Rattle.wasm_leb.specs.declared.fault.Kind.TheVariants as kind
 use Rattle.wasm_shapes.specs.declared.Visit.TheVariants.{Push}
 use Rattle.wasm_shapes.specs.Component.{component_body_of}
 use Rattle.wasm_shapes.specs.Module.{component_header, numbered_frame}
+use Rattle.wasm_shapes.specs.Depth.{Shallow}
+use Rattle.wasm_shapes.specs.Place.{Begins}
 use Rattle.wasm_shapes.specs.Shape.{Shape}
 use Rattle.wasm_shapes.specs.Tree.{Tree}
+use Rattle.wasm_shapes.specs.Types.{rows_tree}
 use Rattle.wasm_read.specs.Reading.{Standing, CountRead}
 use Rattle.wasm_read_component.specs.ComponentPayloads.{has_frame}
 use Rattle.wasm_write.specs.Sections.{SectionRow}
@@ -18,6 +21,7 @@ use Rattle.reencode_core.specs.Rows.{Asks, StopsDue}
 use Rattle.reencode_core.specs.Weave.{Puts, added}
 use Rattle.reencode_core.specs.Woven.{IsWovenCause, OwnTooLarge}
 use Rattle.reencode_component.specs.Components.{ComponentFault, FaultAt, Framed, SectionsFirst}
+use Rattle.reencode_component.specs.ScopedRows.{AllShallow}
 use Rattle.reencode_component.specs.WeaveIn.{AcceptsAll, RefusesAmong}
 
 -- what is said of a section in its frame: the state before, the state after, and the error
@@ -78,13 +82,15 @@ CauseBy asked put c depth inner own bytes s m e = IfFault e (λ x. IsFault asked
 
 -- ---- inside a section
 
--- The count of the rows stands there, rows behind it were accepted, and the next one is refused.
-pub record StopsInRows {S E : Type 0} (asked : Asks S E) (c id : ℕ) (body : List ℕ) (s m : S) (e : Error E) : Type 0 where
+-- The count of the rows stands there, rows behind it were accepted, and the next one is refused; none of them opens a scope too many.
+pub record StopsInRows {S E : Type 0} (asked : Asks S E) (c depth id : ℕ) (body : List ℕ) (s m : S) (e : Error E) : Type 0 where
   pub row : Shape
   pub are_rows : component_body_of id ≡ Shape.vec row
   pub reader : Standing
   pub counted : CountRead body reader
   pub stops : StopsDue asked c row reader s e m
+  pub shallow : AllShallow depth (rows_tree stops.read)
+  pub next : (t : Tree) (left : List ℕ) → Begins row stops.rest t left → Shallow depth t
 
 -- A nested section stands in the frame, its push is accepted, and from there this holds of its body: of a core module the first, of
 -- a component the second. No pop follows.
@@ -101,15 +107,15 @@ OwnInside asked adds c depth (suc room) f s m e =
     (λ b k n x. BehindFront asked (added adds) c (depth + 1) (OwnInside asked adds c (depth + 1) room) b k n x) f s m e
 
 -- What was refused inside a section that has no reading: a row of it; or what stands inside a nested one, by what is said of that.
-abbrev pub StopsBy : {S E : Type 0} → Asks S E → ℕ → Stops S E → Stops S E
-StopsBy asked c nested f s m e = ((id : ℕ) × (body : List ℕ) × (f ≡ numbered_frame id body) × StopsInRows asked c id body s m e) ⊎ nested f s m e
+abbrev pub StopsBy : {S E : Type 0} → Asks S E → ℕ → ℕ → Stops S E → Stops S E
+StopsBy asked c depth nested f s m e = ((id : ℕ) × (body : List ℕ) × (f ≡ numbered_frame id body) × StopsInRows asked c depth id body s m e) ⊎ nested f s m e
 
 -- A nested section stands in the frame, and this error comes of it; so many scopes may still be opened.
 abbrev pub StopsNested : {S E : Type 0} → Asks S E → Puts S SectionRow → ℕ → ℕ → ℕ → Stops S E
 StopsNested asked adds c depth zero f s m e = ⊥
 StopsNested asked adds c depth (suc room) f s m e =
     Pushed asked (λ b k n x. IsWovenCause asked adds c b k n x)
-    (λ b k n x. CauseBy asked (added adds) c (depth + 1) (StopsBy asked c (StopsNested asked adds c (depth + 1) room)) (OwnInside asked adds c (depth + 1) room) b k n x) f s m e
+    (λ b k n x. CauseBy asked (added adds) c (depth + 1) (StopsBy asked c (depth + 1) (StopsNested asked adds c (depth + 1) room)) (OwnInside asked adds c (depth + 1) room) b k n x) f s m e
 
 -- ---- with so many scopes open round it
 
@@ -118,7 +124,7 @@ abbrev pub room : ℕ → ℕ
 room depth = 200 - depth
 
 abbrev pub inside : {S E : Type 0} → Asks S E → Puts S SectionRow → ℕ → ℕ → Stops S E
-inside asked adds c depth = StopsBy asked c (StopsNested asked adds c depth (room depth))
+inside asked adds c depth = StopsBy asked c depth (StopsNested asked adds c depth (room depth))
 
 abbrev pub own_inside : {S E : Type 0} → Asks S E → Puts S SectionRow → ℕ → ℕ → Stops S E
 own_inside asked adds c depth = OwnInside asked adds c depth (room depth)

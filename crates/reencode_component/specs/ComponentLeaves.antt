@@ -15,11 +15,12 @@ use Rattle.reencode_hooks.specs.declared.error.Error.{Error}
 use Rattle.reencode_hooks.specs.declared.error.Error.TheVariants.{NoMemory}
 use Rattle.reencode_hooks.specs.Hooks.{Gains}
 use Rattle.reencode_core.specs.Holds.{IfWants}
-use Rattle.reencode_core.specs.Leaves.{Leaves, RowsUpTo, Text}
+use Rattle.reencode_core.specs.Leaves.{Leaves, Text}
 use Rattle.reencode_core.specs.Rows.{Asks}
 use Rattle.reencode_core.specs.Weave.{Puts, added}
 use Rattle.reencode_component.specs.Components.{FaultAt, ReadsComponent, ReadsSection}
 use Rattle.reencode_component.specs.Causes.{AcceptedFront}
+use Rattle.reencode_component.specs.ScopedRows.{ShallowUpTo, standing_at}
 
 -- sections of the id are read, and have these rows
 pub record HasRows (id : ℕ) (row : Shape) : Type 0 where
@@ -32,16 +33,16 @@ bytes_in (Tree.row k (Tree.pair b (Tree.sized (Tree.raw body)))) = body
 bytes_in (Tree.row k (Tree.pair b (Tree.sized (Tree.pair n (Tree.raw contents))))) = contents
 bytes_in _ = []
 
--- The count of the rows is due and none begins; or rows stand behind their count up to where one is missing. Of sections that have no
--- rows nothing is said.
-pub data SectionUpTo : Tree → Tree → List ℕ → Type 0 where
-  uncounted : (id : ℕ) (body : List ℕ) (row : Shape) → HasRows id row → BeginsNoNumber 128 32 32 body → SectionUpTo (numbered_frame id body) Tree.nil body
-  rows : (id : ℕ) (body : List ℕ) (row : Shape) (reader : Standing) (t : Tree) (rest : List ℕ) → HasRows id row → CountRead body reader → RowsUpTo row reader t rest →
-      SectionUpTo (numbered_frame id body) t rest
+-- The count of the rows is due and none begins; or rows, of which none opens a scope too many, stand behind their count up to where such a
+-- one is missing. Of sections that have no rows nothing is said.
+pub data SectionUpTo (depth : ℕ) : Tree → Tree → List ℕ → Type 0 where
+  uncounted : (id : ℕ) (body : List ℕ) (row : Shape) → HasRows id row → BeginsNoNumber 128 32 32 body → SectionUpTo depth (numbered_frame id body) Tree.nil body
+  rows : (id : ℕ) (body : List ℕ) (row : Shape) (reader : Standing) (t : Tree) (rest : List ℕ) → HasRows id row → CountRead body reader → ShallowUpTo row (standing_at depth reader) t rest →
+      SectionUpTo depth (numbered_frame id body) t rest
 
 -- a section in its frame
 abbrev pub section_in : ℕ → Tree → Text
-section_in depth f = record { bytes = bytes_in f; reads = ReadsSection depth f; faulty = SectionUpTo f }
+section_in depth f = record { bytes = bytes_in f; reads = ReadsSection depth f; faulty = SectionUpTo depth f }
 
 -- sections stand behind the header up to the first place where none begins that is read
 pub data ComponentUpTo (depth : ℕ) (bytes : List ℕ) : Tree → List ℕ → Type 0 where

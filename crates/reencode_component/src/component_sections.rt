@@ -1,15 +1,17 @@
 //! Sections of a component by their frames: each is mapped by the method of its kind, and added.
 ghost use Rattle.std.specs.Prelude.{◌≡◌, ◌≢◌, ◌≤◌, true};
-ghost use Rattle.wasm_shapes.specs.Component.{alias, canonical_function, component_export_row, component_instance_row, extern_row, instance_row};
 ghost use Rattle.wasm_shapes.specs.Module.{numbered_frame};
 ghost use Rattle.wasm_shapes.specs.Tree.{normal};
 ghost use Rattle.wasm_shapes.specs.Types.{vector_tree};
 ghost use Rattle.wasm_shapes.proofs.Unscoped.{unscoped};
+ghost use Rattle.wasm_read.specs.Reading.{Standing};
 ghost use Rattle.wasm_read_component.specs.ComponentPayloads.{has_frame};
+ghost use Rattle.wasm_read_component.specs.Scoped.{ScopedStanding};
 ghost use Rattle.wasm_write.specs.Sections.{section_row};
 ghost use Rattle.reencode_core.specs.Clauses.{RowsClauses};
 ghost use Rattle.reencode_core.specs.Sections.{AddsMapped};
 ghost use Rattle.reencode_component.specs.ComponentClauses.{FrameClauses, placed_in};
+ghost use Rattle.reencode_component.specs.ScopedRows.{ShallowRowsClauses};
 
 use crate::component::ReencodeComponent;
 use reencode_hooks::{Error, ReencodeIndices};
@@ -17,6 +19,7 @@ use std::alloc::Global;
 use wasm_leb::{Fault, ReadError};
 use wasm_read::SectionReader;
 use wasm_read_component as r;
+use wasm_read_component::ScopedReader;
 use wasm_shapes::component_kinds as kinds;
 use wasm_shapes::component_kinds::ComponentSectionKind;
 use wasm_shapes::kinds::{RowKind, SectionKind};
@@ -50,30 +53,37 @@ fn add_rows<K: ComponentSectionKind, E>(
 }
 
 /// A kind of section whose rows open no scope, as a reencoder maps them.
-trait MapSection<T: ReencodeIndices>: ComponentSectionKind {
+trait MapSection<T: ReencodeIndices, W: RowKind, S>: ComponentSectionKind {
+    // Where a reader of its rows stands.
+    ghost standing: { S → Standing };
+
     /// Maps the rows that the reader still has, and adds them.
     fn map(
         reencoder: &mut T,
         alloc: Global,
-        sink: &mut RowSection<w::Of<Self>>,
-        section: SectionReader<'_, r::Of<Self>>,
+        sink: &mut RowSection<W>,
+        section: S,
     ) -> Result<(), Error<T::Error>>
-        ensures { RowsClauses T.ReencodeIndices Self.SectionKind.shape section.entry
+        ensures { RowsClauses T.ReencodeIndices Self.SectionKind.shape (standing section)
             reencoder.old sink.old reencoder.new sink.new result };
 }
 
 /// A section of rows that open no scope, by its body.
-fn flat_rows<T: ReencodeIndices, K: MapSection<T>>(
+fn flat_rows<'a, T, K>(
     reencoder: &mut T,
     alloc: Global,
     component: &mut w::Component,
     at: usize,
-    body: &[u8],
+    body: &'a [u8],
     depth: u32,
 ) -> Result<(), Error<T::Error>>
+where
+    T: ReencodeIndices,
+    K: MapSection<T, w::Of<K>, SectionReader<'a, r::Of<K>>>,
     requires deep { depth ≤ 200 }
     requires in_force { has_frame K.SectionKind.ID ≡ true }
     requires flat { unscoped K.shape ≡ true }
+    requires same { (reader : Standing) → K.standing reader ≡ reader }
     ensures { FrameClauses T.ReencodeIndices depth (numbered_frame K.SectionKind.ID body.now) at
         reencoder.old «component».old reencoder.new «component».new result }
 {
@@ -87,87 +97,163 @@ fn flat_rows<T: ReencodeIndices, K: MapSection<T>>(
     }
 }
 
-impl<T: ReencodeComponent> MapSection<T> for kinds::Instances {
+impl<'a, T: ReencodeComponent> MapSection<T, w::Of<kinds::Instances>, r::InstanceSectionReader<'a>>
+    for kinds::Instances {
+    ghost standing = { λ reader. reader };
+
     fn map(
         reencoder: &mut T,
         alloc: Global,
         instances: &mut w::InstanceSection,
-        section: r::InstanceSectionReader<'_>,
-    ) -> Result<(), Error<T::Error>>
-        ensures { RowsClauses T.ReencodeIndices instance_row section.entry
-            reencoder.old instances.old reencoder.new instances.new result }
-    {
+        section: r::InstanceSectionReader<'a>,
+    ) -> Result<(), Error<T::Error>> {
         reencoder.parse_instance_section(alloc, instances, section)
     }
 }
 
-impl<T: ReencodeComponent> MapSection<T> for kinds::ComponentInstances {
+impl<'a, T: ReencodeComponent> MapSection<
+    T,
+    w::Of<kinds::ComponentInstances>,
+    r::ComponentInstanceSectionReader<'a>,
+> for kinds::ComponentInstances {
+    ghost standing = { λ reader. reader };
+
     fn map(
         reencoder: &mut T,
         alloc: Global,
         instances: &mut w::ComponentInstanceSection,
-        section: r::ComponentInstanceSectionReader<'_>,
-    ) -> Result<(), Error<T::Error>>
-        ensures { RowsClauses T.ReencodeIndices component_instance_row section.entry
-            reencoder.old instances.old reencoder.new instances.new result }
-    {
+        section: r::ComponentInstanceSectionReader<'a>,
+    ) -> Result<(), Error<T::Error>> {
         reencoder.parse_component_instance_section(alloc, instances, section)
     }
 }
 
-impl<T: ReencodeComponent> MapSection<T> for kinds::Aliases {
+impl<'a, T: ReencodeComponent> MapSection<
+    T,
+    w::Of<kinds::Aliases>,
+    r::ComponentAliasSectionReader<'a>,
+> for kinds::Aliases {
+    ghost standing = { λ reader. reader };
+
     fn map(
         reencoder: &mut T,
         alloc: Global,
         aliases: &mut w::ComponentAliasSection,
-        section: r::ComponentAliasSectionReader<'_>,
-    ) -> Result<(), Error<T::Error>>
-        ensures { RowsClauses T.ReencodeIndices alias section.entry
-            reencoder.old aliases.old reencoder.new aliases.new result }
-    {
+        section: r::ComponentAliasSectionReader<'a>,
+    ) -> Result<(), Error<T::Error>> {
         reencoder.parse_component_alias_section(alloc, aliases, section)
     }
 }
 
-impl<T: ReencodeComponent> MapSection<T> for kinds::CanonicalFunctions {
+impl<'a, T: ReencodeComponent> MapSection<
+    T,
+    w::Of<kinds::CanonicalFunctions>,
+    r::ComponentCanonicalSectionReader<'a>,
+> for kinds::CanonicalFunctions {
+    ghost standing = { λ reader. reader };
+
     fn map(
         reencoder: &mut T,
         alloc: Global,
         canonical: &mut w::CanonicalFunctionSection,
-        section: r::ComponentCanonicalSectionReader<'_>,
-    ) -> Result<(), Error<T::Error>>
-        ensures { RowsClauses T.ReencodeIndices canonical_function section.entry
-            reencoder.old canonical.old reencoder.new canonical.new result }
-    {
+        section: r::ComponentCanonicalSectionReader<'a>,
+    ) -> Result<(), Error<T::Error>> {
         reencoder.parse_component_canonical_section(alloc, canonical, section)
     }
 }
 
-impl<T: ReencodeComponent> MapSection<T> for kinds::ComponentImports {
+impl<'a, T: ReencodeComponent> MapSection<
+    T,
+    w::Of<kinds::ComponentImports>,
+    r::ComponentImportSectionReader<'a>,
+> for kinds::ComponentImports {
+    ghost standing = { λ reader. reader };
+
     fn map(
         reencoder: &mut T,
         alloc: Global,
         imports: &mut w::ComponentImportSection,
-        section: r::ComponentImportSectionReader<'_>,
-    ) -> Result<(), Error<T::Error>>
-        ensures { RowsClauses T.ReencodeIndices extern_row section.entry
-            reencoder.old imports.old reencoder.new imports.new result }
-    {
+        section: r::ComponentImportSectionReader<'a>,
+    ) -> Result<(), Error<T::Error>> {
         reencoder.parse_component_import_section(alloc, imports, section)
     }
 }
 
-impl<T: ReencodeComponent> MapSection<T> for kinds::ComponentExports {
+impl<'a, T: ReencodeComponent> MapSection<
+    T,
+    w::Of<kinds::ComponentExports>,
+    r::ComponentExportSectionReader<'a>,
+> for kinds::ComponentExports {
+    ghost standing = { λ reader. reader };
+
     fn map(
         reencoder: &mut T,
         alloc: Global,
         exports: &mut w::ComponentExportSection,
-        section: r::ComponentExportSectionReader<'_>,
-    ) -> Result<(), Error<T::Error>>
-        ensures { RowsClauses T.ReencodeIndices component_export_row section.entry
-            reencoder.old exports.old reencoder.new exports.new result }
-    {
+        section: r::ComponentExportSectionReader<'a>,
+    ) -> Result<(), Error<T::Error>> {
         reencoder.parse_component_export_section(alloc, exports, section)
+    }
+}
+
+/// A kind of section whose rows may open scopes, as a reencoder maps them.
+trait MapScopedSection<T: ReencodeIndices, W: RowKind, S>: ComponentSectionKind {
+    // Where a reader of its rows stands.
+    ghost standing: { S → ScopedStanding };
+
+    /// Maps the rows that the reader still has, and adds them.
+    fn map(
+        reencoder: &mut T,
+        alloc: Global,
+        sink: &mut RowSection<W>,
+        section: S,
+    ) -> Result<(), Error<T::Error>>
+        ensures { ShallowRowsClauses T.ReencodeIndices Self.SectionKind.shape (standing section)
+            reencoder.old sink.old reencoder.new sink.new result };
+}
+
+/// A section of rows that may open scopes, by its body.
+fn scoped_rows<'a, T, K>(
+    reencoder: &mut T,
+    alloc: Global,
+    component: &mut w::Component,
+    at: usize,
+    body: &'a [u8],
+    depth: u32,
+) -> Result<(), Error<T::Error>>
+where
+    T: ReencodeIndices,
+    K: MapScopedSection<T, w::Of<K>, ScopedReader<'a, r::Of<K>>>,
+    requires deep { depth ≤ 200 }
+    requires in_force { has_frame K.SectionKind.ID ≡ true }
+    requires same { (reader : ScopedStanding) → K.standing reader ≡ reader }
+    ensures { FrameClauses T.ReencodeIndices depth (numbered_frame K.SectionKind.ID body.now) at
+        reencoder.old «component».old reencoder.new «component».new result }
+{
+    match ScopedReader::<r::Of<K>>::new(body, depth) {
+        Ok(rows) => {
+            let mut section = RowSection::new(alloc);
+            let mapped = K::map(reencoder, alloc, &mut section, rows);
+            add_rows(component, mapped, at, section)
+        }
+        Err(_) => Err(Error::ParseError(ReadError { at })),
+    }
+}
+
+impl<'a, T: ReencodeComponent> MapScopedSection<
+    T,
+    w::Of<kinds::CoreTypes>,
+    r::CoreTypeSectionReader<'a>,
+> for kinds::CoreTypes {
+    ghost standing = { λ reader. reader };
+
+    fn map(
+        reencoder: &mut T,
+        alloc: Global,
+        types: &mut w::CoreTypeSection,
+        section: r::CoreTypeSectionReader<'a>,
+    ) -> Result<(), Error<T::Error>> {
+        reencoder.parse_core_type_section(alloc, types, section)
     }
 }
 
@@ -209,6 +295,9 @@ pub(crate) fn numbered<T: ReencodeComponent>(
 {
     if id == 2 {
         return flat_rows::<T, kinds::Instances>(reencoder, alloc, component, at, body, depth);
+    }
+    if id == 3 {
+        return scoped_rows::<T, kinds::CoreTypes>(reencoder, alloc, component, at, body, depth);
     }
     if id == 5 {
         return flat_rows::<T, kinds::ComponentInstances>(

@@ -5,4 +5,4 @@ use Rattle.reencode_component.proofs.RowAdded.{list_added}
 use Rattle.reencode_component.proofs.rows.parse_instance.Goals as goal
 
 pub returns : goal.returns
-returns g c = list_added g.T.ReencodeIndices (instance_tree export_tree c.args.instance) write.instance_tree _ c.instance-row.ensures _ c.add_row.ensures
+returns g c = list_added g.T.ReencodeIndices (instance_tree export_tree c.args.instance) write.instance_tree _ _ _ _ _ c.instance-row.ensures _ c.add_row.ensures
