@@ -7,6 +7,7 @@ mod canonical;
 mod chain;
 mod component;
 mod component_sections;
+mod component_types;
 pub mod component_utils;
 mod components;
 mod core_types;

@@ -1,16 +1,36 @@
-//! The default bodies of the calls that map types with others inside, which the trait and `component_utils` share.
+//! The default bodies of the calls that map types with others inside, which the trait and `component_utils` share, and what these
+//! bodies have in common.
 
-macro_rules! component_module_type {
-    ($reencoder:ident, $alloc:ident, $ty:ident) => {{
+// A scope, each declaration of it that the reader still has by a call that adds what it becomes.
+macro_rules! scope {
+    ($reencoder:ident, $alloc:ident, $ty:ident, $made:ident: $of:ident, $row:ident => $step:expr) => {{
         let mut rows = $ty;
-        let mut module = w::ModuleType::new($alloc);
+        let mut $made = w::$of::new($alloc);
         $reencoder.push_depth()?;
-        'rows: while let Some(row) = rows.next_row($alloc)? {
-            $reencoder.parse_component_module_type_declaration($alloc, &mut module, row)?;
+        'rows: while let Some($row) = rows.next_row($alloc)? {
+            $step?;
         }
         $reencoder.pop_depth();
-        Ok(module)
+        Ok($made)
     }};
+}
+
+// Rows, each that the reader still has by a call, and added once it is mapped.
+macro_rules! type_section {
+    ($alloc:ident, $types:ident, $section:ident, $row:ident => $map:expr) => {{
+        let mut rows = $section;
+        'rows: while let Some($row) = rows.next_row($alloc)? {
+            let ty = $map?;
+            $types.add(&ty)?;
+        }
+        Ok(())
+    }};
+}
+
+macro_rules! component_module_type {
+    ($reencoder:ident, $alloc:ident, $ty:ident) => {
+        $crate::type_bodies::scope!($reencoder, $alloc, $ty, module: ModuleType, row => $reencoder.parse_component_module_type_declaration($alloc, &mut module, row))
+    };
 }
 
 macro_rules! parse_component_core_type {
@@ -29,16 +49,13 @@ macro_rules! parse_component_core_type {
 }
 
 macro_rules! parse_core_type_section {
-    ($reencoder:ident, $alloc:ident, $types:ident, $section:ident) => {{
-        let mut rows = $section;
-        'rows: while let Some(row) = rows.next_row($alloc)? {
-            let ty = $reencoder.parse_component_core_type($alloc, row)?;
-            $types.add(&ty)?;
-        }
-        Ok(())
-    }};
+    ($reencoder:ident, $alloc:ident, $types:ident, $section:ident) => {
+        $crate::type_bodies::type_section!($alloc, $types, $section, row => $reencoder.parse_component_core_type($alloc, row))
+    };
 }
 
 pub(crate) use component_module_type;
 pub(crate) use parse_component_core_type;
 pub(crate) use parse_core_type_section;
+pub(crate) use scope;
+pub(crate) use type_section;

@@ -38,7 +38,7 @@ returns-in_err-ty g c =
     let reads = row.reads in
     let t = reads.tree in
     let maps = core_maps i _ _ c.in-Some.row t _ reads.is reads.begins.begins.spells.spelled _ c.in_err-ty.ensures in
-    shallow_refused i c.rows.invariant row _ (row_unmapped i t core_type_tree _ _ _ maps (core_left i _ _ c.in-Some.row t reads.is _ c.in_err-ty.ensures) refl (Err _) refl) _ c.from_residual-in_err-ty.ensures.1
+    shallow_refused i c.rows.invariant row _ (row_unmapped i t core_type_tree _ _ _ maps (core_left i _ _ c.in-Some.row t _ reads.is reads.begins.begins.spells.spelled _ c.in_err-ty.ensures) refl (Err _) refl) _ c.from_residual-in_err-ty.ensures.1
 
 pub returns-in_err-add : goal.returns-in_err-add
 returns-in_err-add g c =
