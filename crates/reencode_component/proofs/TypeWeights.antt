@@ -1,5 +1,5 @@
 -- How many scopes may still be opened below a type, and between two scopes the order of the calls that map what is in them.
-use Rattle.std.proofs.Common.{◌≡◌, ◌≤◌, ◌<◌, ◌+◌, ◌-◌, ◌*◌, max, ℕ, zero, refl, sym, ap, ◌∙◌, subst, arith}
+use Rattle.std.proofs.Common.{◌≡◌, ◌≤◌, ◌<◌, ◌+◌, ◌-◌, ◌*◌, max, ℕ, zero, suc, refl, sym, ap, ◌∙◌, subst, arith}
 use Rattle.wasm_shapes.specs.Tree.{Tree}
 use Rattle.wasm_shapes.specs.Types.{led}
 use Rattle.wasm_shapes.specs.Depth.{Shallow, opens}
@@ -44,14 +44,14 @@ module _ (reader : ScopedStanding) where
       let scope = stands.stands.declares in
       let same : t ≡ Tree.row 3 (led 0x41 (Tree.scope (Tree.vec scope.rows))) = stands.is ∙ ap (λ (z : Tree). Tree.row 3 (led 0x41 z)) scope.is in
       let P : Tree → Type 0 = λ z. Shallow reader.depth z in
-      let most : max zero (opens scope.rows + 1) + reader.depth ≤ 200 = (subst P same low).most in
+      let most : max zero (suc (opens scope.rows)) + reader.depth ≤ 200 = (subst P same low).most in
       lighter reader.depth inner.depth deeper (omega arith)
   type_lighter (component.Instance inner) t stands low =
       let deeper : inner.depth ≡ reader.depth + 1 = stands.stands.deeper in
       let scope = stands.stands.declares in
       let same : t ≡ Tree.row 4 (led 0x42 (Tree.scope (Tree.vec scope.rows))) = stands.is ∙ ap (λ (z : Tree). Tree.row 4 (led 0x42 z)) scope.is in
       let P : Tree → Type 0 = λ z. Shallow reader.depth z in
-      let most : max zero (opens scope.rows + 1) + reader.depth ≤ 200 = (subst P same low).most in
+      let most : max zero (suc (opens scope.rows)) + reader.depth ≤ 200 = (subst P same low).most in
       lighter reader.depth inner.depth deeper (omega arith)
 
   behind_lighter : (k : ℕ) (ty : ComponentType) (t u : Tree) → t ≡ Tree.row k (led 0x01 u) → TypeStands reader.depth ty u → Shallow reader.depth t → type_weight ty + 3 < scope_weight reader

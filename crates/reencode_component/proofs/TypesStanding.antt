@@ -1,5 +1,5 @@
 -- Types of components as rows, and what these declare: by the tree that one stands for.
-use Rattle.std.proofs.Common.{◌≡◌, ◌≢◌, ◌≤◌, ◌<◌, ◌+◌, ◌^◌, ◌++◌, ◌∷◌, max, zero, ℕ, List, [], length, Result, Ok, Err, IsErrAnd, IsTrue, refl, sym, ap, ◌∙◌, subst, arith, inr}
+use Rattle.std.proofs.Common.{◌≡◌, ◌≢◌, ◌≤◌, ◌<◌, ◌+◌, ◌^◌, ◌++◌, ◌∷◌, max, zero, suc, ℕ, List, [], length, Result, Ok, Err, IsErrAnd, IsTrue, refl, sym, ap, ◌∙◌, subst, arith, inr}
 use Rattle.std.proofs.Math.Seq.{take-length}
 use Rattle.wasm_shapes.specs.Component.{component_declaration, component_type, instance_declaration}
 use Rattle.wasm_shapes.specs.Tree.{Tree, count, visits}
@@ -20,7 +20,6 @@ use Rattle.wasm_read_component.specs.declared.declarations.ComponentTypeDeclarat
 use Rattle.wasm_read_component.specs.declared.declarations.InstanceTypeDeclaration.{InstanceTypeDeclaration}
 use Rattle.wasm_read_component.specs.declared.declarations.InstanceTypeDeclaration.TheVariants as in_instance
 use Rattle.wasm_read_component.specs.declared.declarations.CoreType.{CoreType}
-use Rattle.wasm_write_component.specs.declared.declarations.ComponentTypeRow.{ComponentTypeRow}
 use Rattle.wasm_write_component.specs.declared.declarations.ComponentTypeDeclaration as made_component
 use Rattle.wasm_write_component.specs.declared.declarations.InstanceTypeDeclaration as made_instance
 use Rattle.wasm_write_component.specs.TypeRows as write
@@ -31,7 +30,7 @@ use Rattle.reencode_core.specs.Clauses.{RowClauses, asks}
 use Rattle.reencode_core.specs.Rows.{StopsAtRow}
 use Rattle.reencode_items.proofs.Leaving.{accepted_visited}
 use Rattle.reencode_core.proofs.OneRow.{row_mapped, row_unmapped}
-use Rattle.reencode_component.specs.DeclarationClauses.{ComponentDeclarationClauses, ComponentRowClauses, ComponentTypeClauses, InstanceDeclarationClauses, InstanceRowClauses, MapsAndAdds, ShallowScopeClauses, ThenAdded, TypeWithin}
+use Rattle.reencode_component.specs.DeclarationClauses.{ComponentDeclarationClauses, ComponentRowClauses, ComponentTypeClauses, InstanceDeclarationClauses, InstanceRowClauses, MapsAndAdds, ShallowScopeClauses, ThenAdded, TypeRowClauses, TypeWithin}
 use Rattle.reencode_component.specs.ScopedRows.{ShallowFault, ShallowRows, shallow_rows_in}
 use Rattle.reencode_component.specs.TypeClauses.{CoreTypeWithin}
 use Rattle.reencode_component.proofs.CoreTypeCalls.{core_listed, scope_listed}
@@ -51,7 +50,7 @@ module _ {S E A : Type 0} (i : Ghosts S E) (within : Tree → Tree) (view : A �
       let all : count scope.rows ≡ reader.rows.left = scope.left.counted in
       let deeper : reader.depth ≡ depth + 1 = stands.deeper in
       let D : Tree → Type 0 = λ z. Shallow depth z in
-      let most : max zero (opens scope.rows + 1) + depth ≤ 200 = (subst D same low).most in
+      let most : max zero (suc (opens scope.rows)) + depth ≤ 200 = (subst D same low).most in
       let reads : ShallowRows row reader scope.rows = record { left = scope.left; shallow = λ some. record { most = omega arith } } in
       subst P (sym same)
       (scope_listed i (λ z. within (Tree.row j (led b z))) view (λ z. inside (Tree.row j (led b z))) s m reader.rows.left (shallow_rows_in row reader)
@@ -157,7 +156,8 @@ module _ {S E : Type 0} (i : Ghosts S E) (s m : S) (reader : ScopedStanding) {re
 
   -- a row of a type section that it gave
   pub type_row : (ty : ComponentType) (read : ScopedRead component_type (TypeStands reader.depth ty) reader reader') →
-      (r : Result ComponentTypeRow (Error E)) → ComponentTypeClauses i ty s m r → ListClauses i read.reads.tree write.component_type_tree s m r
+      (r : Result (Unit {0}) (Error E)) → TypeRowClauses i ty s old m new r → RowClauses i read.reads.tree s old m new r
   type_row ty read =
       let reads = read.reads in
-      type_listed i (λ z. z) write.component_type_tree (λ z. refl) s m reader.depth ty reads.tree reads.is (spelled_in_range reads.tree _ reads.begins.begins.spells.spelled) reads.begins.shallow
+      row_of i s m write.component_type_tree (λ made. ComponentTypeClauses i ty s m made) reads.tree
+      (type_listed i (λ z. z) write.component_type_tree (λ z. refl) s m reader.depth ty reads.tree reads.is (spelled_in_range reads.tree _ reads.begins.begins.spells.spelled) reads.begins.shallow)

@@ -78,7 +78,7 @@ ThenAdded view (Ok a) old new (Ok _) = new ≡ old ++ view a ∷ []
 ThenAdded view (Ok a) old new (Err e) = (new ≡ old) × (e ≢ NoMemory → TooLargeRow e (view a) (length old))
 ThenAdded view (Err e) old new result = (new ≡ old) × (result ≡ Err e)
 
--- What a scope declares is mapped, of which this holds, and then added.
+-- An item is mapped, of which this holds, and then added.
 pub record MapsAndAdds {E A : Type 0} (view : A → Tree) (maps : Result A (Error E) → Type 0) (old new : List Tree) (result : Result (Unit {0}) (Error E)) : Type 0 where
   pub mapped : Result A (Error E)
   pub maps_it : maps mapped
@@ -89,3 +89,7 @@ ComponentRowClauses i decl s old m new result = MapsAndAdds write.component_decl
 
 abbrev pub InstanceRowClauses : {S E : Type 0} → Ghosts S E → InstanceTypeDeclaration → S → List Tree → S → List Tree → Result (Unit {0}) (Error E) → Type 0
 InstanceRowClauses i decl s old m new result = MapsAndAdds write.instance_declaration_tree (λ made. InstanceDeclarationClauses i decl s m made) old new result
+
+-- a type, as a row of a section
+abbrev pub TypeRowClauses : {S E : Type 0} → Ghosts S E → ComponentType → S → List Tree → S → List Tree → Result (Unit {0}) (Error E) → Type 0
+TypeRowClauses i ty s old m new result = MapsAndAdds write.component_type_tree (λ made. ComponentTypeClauses i ty s m made) old new result

@@ -4,12 +4,12 @@ ghost use Rattle.wasm_shapes.specs.Component as shapes;
 ghost use Rattle.wasm_types.specs.ComponentTrees.{maybe_function};
 ghost use Rattle.wasm_write_component.specs.TypeRows.{scope_tree};
 ghost use Rattle.reencode_items.specs.Clauses.{ItemClauses};
-ghost use Rattle.reencode_component.specs.DeclarationClauses.{ComponentDeclarationClauses, ComponentRowClauses, ComponentTypeClauses, InstanceDeclarationClauses, InstanceRowClauses, ShallowScopeClauses};
+ghost use Rattle.reencode_component.specs.DeclarationClauses.{ComponentDeclarationClauses, ComponentRowClauses, ComponentTypeClauses, InstanceDeclarationClauses, InstanceRowClauses, ShallowScopeClauses, TypeRowClauses};
 ghost use Rattle.reencode_component.specs.ScopedRows.{ShallowRowsClauses};
 
 use crate::component::ReencodeComponent;
 use crate::items::ReencodeComponentItems;
-use crate::{mapped, type_bodies};
+use crate::{default_bodies, mapped, type_bodies};
 use reencode_hooks::Error;
 use std::alloc::Global;
 use wasm_read_component as r;
@@ -186,6 +186,21 @@ pub fn parse_component_instance_type_declaration<T: ReencodeComponent>(
     Ok(())
 }
 
+/// Maps a type by `parse_component_type`, and adds it.
+fn add_type<T: ReencodeComponent>(
+    reencoder: &mut T,
+    alloc: Global,
+    types: &mut w::ComponentTypeSection,
+    ty: r::ComponentType<'_>,
+) -> Result<(), Error<T::Error>>
+    ensures { TypeRowClauses T.ReencodeIndices ty.entry
+        reencoder.old types.old reencoder.new types.new result }
+{
+    let row = parse_component_type(reencoder, alloc, ty)?;
+    types.add(&row)?;
+    Ok(())
+}
+
 /// Maps the rows that the reader still has, each by `parse_component_type`, and adds each row once it is mapped.
 pub fn parse_component_type_section<T: ReencodeComponent>(
     reencoder: &mut T,
@@ -196,5 +211,5 @@ pub fn parse_component_type_section<T: ReencodeComponent>(
     ensures { ShallowRowsClauses T.ReencodeIndices shapes.component_type section.entry
         reencoder.old types.old reencoder.new types.new result }
 {
-    type_bodies::type_section!(alloc, types, section, row => parse_component_type(reencoder, alloc, row))
+    default_bodies::each_row!(section, alloc, row => add_type(reencoder, alloc, types, row))
 }

@@ -15,18 +15,6 @@ macro_rules! scope {
     }};
 }
 
-// Rows, each that the reader still has by a call, and added once it is mapped.
-macro_rules! type_section {
-    ($alloc:ident, $types:ident, $section:ident, $row:ident => $map:expr) => {{
-        let mut rows = $section;
-        'rows: while let Some($row) = rows.next_row($alloc)? {
-            let ty = $map?;
-            $types.add(&ty)?;
-        }
-        Ok(())
-    }};
-}
-
 macro_rules! component_module_type {
     ($reencoder:ident, $alloc:ident, $ty:ident) => {
         $crate::type_bodies::scope!($reencoder, $alloc, $ty, module: ModuleType, row => $reencoder.parse_component_module_type_declaration($alloc, &mut module, row))
@@ -49,13 +37,17 @@ macro_rules! parse_component_core_type {
 }
 
 macro_rules! parse_core_type_section {
-    ($reencoder:ident, $alloc:ident, $types:ident, $section:ident) => {
-        $crate::type_bodies::type_section!($alloc, $types, $section, row => $reencoder.parse_component_core_type($alloc, row))
-    };
+    ($reencoder:ident, $alloc:ident, $types:ident, $section:ident) => {{
+        let mut rows = $section;
+        'rows: while let Some(row) = rows.next_row($alloc)? {
+            let ty = $reencoder.parse_component_core_type($alloc, row)?;
+            $types.add(&ty)?;
+        }
+        Ok(())
+    }};
 }
 
 pub(crate) use component_module_type;
 pub(crate) use parse_component_core_type;
 pub(crate) use parse_core_type_section;
 pub(crate) use scope;
-pub(crate) use type_section;

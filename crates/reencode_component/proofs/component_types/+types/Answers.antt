@@ -1,4 +1,4 @@
-use Rattle.std.proofs.Common.{Err, refl}
+use Rattle.std.proofs.Common.{◌<◌, ◌+◌, Ok, Err, refl, rules}
 use Rattle.wasm_shapes.specs.declared.Space.TheVariants as space
 use Rattle.wasm_shapes.specs.Component as shapes
 use Rattle.wasm_shapes.specs.Drawn.{IsItem}
@@ -18,7 +18,7 @@ use Rattle.reencode_component.proofs.EachShallowRow.{shallow_added, shallow_begu
 use Rattle.reencode_component.proofs.ScopeCalls.{shallow_closed, shallow_stopped}
 use Rattle.reencode_component.proofs.TypesBehind.{core_behind, core_behind_ended, shallow_behind, shallow_behind_ended, type_behind, type_behind_ended}
 use Rattle.reencode_component.proofs.TypesStanding.{component_row, instance_row}
-use Rattle.reencode_component.proofs.TypeWeights.{component_falls, instance_falls}
+use Rattle.reencode_component.proofs.TypeWeights.{component_falls, component_weight, instance_falls, instance_weight, scope_weight}
 use Rattle.reencode_component.proofs.Walked.{Mapped, first_ended, gives_list, hands_on, item_ended, led_ended, list_ended, list_mapped, row_ended, row_walked, second_ended}
 use Rattle.reencode_component.proofs.component_types.+types.Goals as goal
 
@@ -63,7 +63,7 @@ pub component_type-rows-preserved : goal.component_type-rows-preserved
 component_type-rows-preserved g t c =
     let i = g.T.ReencodeIndices in
     let row = rw c.in-Some.is at c.in_ok-row.ensures.row in
-    shallow_added i c.rows.invariant row (component_row i _ _ _ c.in-Some.row row _ c.in_ok-parse_component_type_declaration.ensures)
+    shallow_added i c.rows.invariant row (component_row i c.rows.reencoder c.parse_component_type_declaration.new.reencoder c.rows.rows c.in-Some.row row (Ok tt) c.in_ok-parse_component_type_declaration.ensures)
 
 pub component_type-returns-in_err-row : goal.component_type-returns-in_err-row
 component_type-returns-in_err-row g t c =
@@ -74,7 +74,7 @@ pub component_type-returns-in_err-parse_component_type_declaration : goal.compon
 component_type-returns-in_err-parse_component_type_declaration g t c =
     let i = g.T.ReencodeIndices in
     let row = rw c.in-Some.is at c.in_ok-row.ensures.row in
-    shallow_stopped i shapes.component_declaration c.args.ty _ c.in_ok-push_depth.ensures.answer c.new-made.ensures _ (shallow_refused i c.rows.invariant row _ (component_row i _ _ _ c.in-Some.row row (Err _) c.in_err-parse_component_type_declaration.ensures) (Err _) refl) _ c.from_residual-in_err-parse_component_type_declaration.ensures.1
+    shallow_stopped i shapes.component_declaration c.args.ty _ c.in_ok-push_depth.ensures.answer c.new-made.ensures _ (shallow_refused i c.rows.invariant row _ (component_row i c.rows.reencoder c.parse_component_type_declaration.new.reencoder c.rows.rows c.in-Some.row row (Err _) c.in_err-parse_component_type_declaration.ensures) (Err _) refl) _ c.from_residual-in_err-parse_component_type_declaration.ensures.1
 
 pub component_type-returns : goal.component_type-returns
 component_type-returns g t c =
@@ -90,7 +90,7 @@ pub component_instance_type-rows-preserved : goal.component_instance_type-rows-p
 component_instance_type-rows-preserved g t c =
     let i = g.T.ReencodeIndices in
     let row = rw c.in-Some.is at c.in_ok-row.ensures.row in
-    shallow_added i c.rows.invariant row (instance_row i _ _ _ c.in-Some.row row _ c.in_ok-parse_component_instance_type_declaration.ensures)
+    shallow_added i c.rows.invariant row (instance_row i c.rows.reencoder c.parse_component_instance_type_declaration.new.reencoder c.rows.rows c.in-Some.row row (Ok tt) c.in_ok-parse_component_instance_type_declaration.ensures)
 
 pub component_instance_type-returns-in_err-row : goal.component_instance_type-returns-in_err-row
 component_instance_type-returns-in_err-row g t c =
@@ -101,7 +101,7 @@ pub component_instance_type-returns-in_err-parse_component_instance_type_declara
 component_instance_type-returns-in_err-parse_component_instance_type_declaration g t c =
     let i = g.T.ReencodeIndices in
     let row = rw c.in-Some.is at c.in_ok-row.ensures.row in
-    shallow_stopped i shapes.instance_declaration c.args.ty _ c.in_ok-push_depth.ensures.answer c.new-made.ensures _ (shallow_refused i c.rows.invariant row _ (instance_row i _ _ _ c.in-Some.row row (Err _) c.in_err-parse_component_instance_type_declaration.ensures) (Err _) refl) _ c.from_residual-in_err-parse_component_instance_type_declaration.ensures.1
+    shallow_stopped i shapes.instance_declaration c.args.ty _ c.in_ok-push_depth.ensures.answer c.new-made.ensures _ (shallow_refused i c.rows.invariant row _ (instance_row i c.rows.reencoder c.parse_component_instance_type_declaration.new.reencoder c.rows.rows c.in-Some.row row (Err _) c.in_err-parse_component_instance_type_declaration.ensures) (Err _) refl) _ c.from_residual-in_err-parse_component_instance_type_declaration.ensures.1
 
 pub component_instance_type-returns : goal.component_instance_type-returns
 component_instance_type-returns g t c =
@@ -183,9 +183,11 @@ instance_declaration-returns-in_err-ty-in-Export g t c =
 pub component_type-parse_component_type_declaration-requires : goal.component_type-parse_component_type_declaration-requires
 component_type-parse_component_type_declaration-requires g t c =
     let row = rw c.in-Some.is at c.in_ok-row.ensures.row in
-    component_falls _ c.args.ty c.rows.invariant.depth c.in-Some.row row
+    let lighter : component_weight c.in-Some.row + 3 < scope_weight c.args.ty = component_falls _ c.args.ty c.rows.invariant.depth c.in-Some.row row in
+    search rules
 
 pub component_instance_type-parse_component_instance_type_declaration-requires : goal.component_instance_type-parse_component_instance_type_declaration-requires
 component_instance_type-parse_component_instance_type_declaration-requires g t c =
     let row = rw c.in-Some.is at c.in_ok-row.ensures.row in
-    instance_falls _ c.args.ty c.rows.invariant.depth c.in-Some.row row
+    let lighter : instance_weight c.in-Some.row + 3 < scope_weight c.args.ty = instance_falls _ c.args.ty c.rows.invariant.depth c.in-Some.row row in
+    search rules

@@ -1,8 +1,6 @@
-use Rattle.std.proofs.Common.{Err, refl}
+use Rattle.std.proofs.Common.{Ok, Err, refl}
 use Rattle.wasm_shapes.specs.Component as shapes
 use Rattle.wasm_shapes.specs.Drawn.{IsItem}
-use Rattle.wasm_write_component.specs.TypeRows.{component_type_tree}
-use Rattle.reencode_core.proofs.OneRow.{row_mapped, row_not_added, row_unmapped}
 use Rattle.reencode_component.proofs.EachShallowRow.{shallow_added, shallow_begun, shallow_ended, shallow_refused, shallow_stuck}
 use Rattle.reencode_component.proofs.TypesStanding.{type_row}
 use Rattle.reencode_component.proofs.component_types.parse_component_type_section.Goals as goal
@@ -14,33 +12,16 @@ pub rows-preserved : goal.rows-preserved
 rows-preserved g c =
     let i = g.T.ReencodeIndices in
     let row = rw c.in-Some.is at c.in_ok-row.ensures.row in
-    let listed = type_row i _ _ _ c.in-Some.row row _ c.in_ok-ty.ensures in
-    shallow_added i c.rows.invariant row (row_mapped i row.reads.tree component_type_tree _ _ c.in_ok-ty.ty listed.default c.in_ok-add.ensures.ok)
-
-pub rows-preserved-in_ok-add : goal.rows-preserved-in_ok-add
-rows-preserved-in_ok-add g c =
-    let i = g.T.ReencodeIndices in
-    let row = rw c.in-Some.is at c.in_ok-row.ensures.row in
-    let listed = type_row i _ _ _ c.in-Some.row row _ c.in_ok-ty.ensures in
-    shallow_added i c.rows.invariant row (row_mapped i row.reads.tree component_type_tree _ _ c.in_ok-ty.ty listed.default c.in_ok-add.ensures.ok)
+    shallow_added i c.rows.invariant row (type_row i c.rows.reencoder c.add_type.new.reencoder c.rows.rows c.in-Some.row row (Ok tt) c.in_ok-add_type.ensures)
 
 pub returns-in_err-row : goal.returns-in_err-row
 returns-in_err-row g c = shallow_stuck g.T.ReencodeIndices c.rows.invariant _ c.in_err-row.ensures.err _ c.from_residual.ensures.1
 
-pub returns-in_err-ty : goal.returns-in_err-ty
-returns-in_err-ty g c =
+pub returns-in_err-add_type : goal.returns-in_err-add_type
+returns-in_err-add_type g c =
     let i = g.T.ReencodeIndices in
     let row = rw c.in-Some.is at c.in_ok-row.ensures.row in
-    let listed = type_row i _ _ _ c.in-Some.row row _ c.in_err-ty.ensures in
-    shallow_refused i c.rows.invariant row _ (row_unmapped i row.reads.tree component_type_tree _ _ _ listed.default listed.after_error refl (Err _) refl) _ c.from_residual-in_err-ty.ensures.1
-
-pub returns-in_err-add : goal.returns-in_err-add
-returns-in_err-add g c =
-    let i = g.T.ReencodeIndices in
-    let row = rw c.in-Some.is at c.in_ok-row.ensures.row in
-    let listed = type_row i _ _ _ c.in-Some.row row _ c.in_ok-ty.ensures in
-    let gone = c.in_err-add.ensures in
-    shallow_refused i c.rows.invariant row _ (row_not_added i row.reads.tree component_type_tree _ _ c.in_ok-ty.ty _ listed.default gone.err gone.large (Err _) refl) _ c.from_residual-in_err-add.ensures.1
+    shallow_refused i c.rows.invariant row _ (type_row i c.rows.reencoder c.add_type.new.reencoder c.rows.rows c.in-Some.row row (Err _) c.in_err-add_type.ensures) _ c.from_residual-in_err-add_type.ensures.1
 
 pub returns : goal.returns
 returns g c =
