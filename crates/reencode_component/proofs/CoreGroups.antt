@@ -1,20 +1,17 @@
 -- Core types: a group of types behind another byte where it is one open subtype, and a module type behind its byte.
 use Rattle.std.proofs.Common.{◌≡◌, ℕ, zero, suc, Bool, true, false, List, [], ◌∷◌, Result, Ok, Err, IsErrAnd, refl, subst}
 use Rattle.wasm_shapes.specs.declared.Visit.{Visit}
-use Rattle.wasm_shapes.specs.Shape.{Shape}
 use Rattle.wasm_shapes.specs.Tree.{Tree, visits}
-use Rattle.wasm_shapes.specs.Types.{led, sub_type_of}
+use Rattle.wasm_shapes.specs.Types.{sub_type_of}
 use Rattle.wasm_types.specs.ComponentTrees.{core_group_tree}
 use Rattle.wasm_read.specs.declared.types.RecGroup as read_group
 use Rattle.wasm_read.specs.declared.types.SubType.{SubType}
-use Rattle.wasm_read.specs.Reading.{Standing}
 use Rattle.wasm_read.specs.Types as read
 use Rattle.wasm_write.specs.declared.types.RecGroup as write_group
 use Rattle.wasm_write.specs.Types as write
 use Rattle.wasm_read_component.specs.declared.declarations.CoreType.TheVariants as read_core
 use Rattle.wasm_write_component.specs.declared.declarations.CoreType.{CoreType}
 use Rattle.wasm_write_component.specs.declared.declarations.CoreType.TheVariants as core
-use Rattle.wasm_write_component.specs.TypeRows.{scope_tree}
 use Rattle.reencode_hooks.specs.declared.error.Error.{Error}
 use Rattle.reencode_hooks.specs.declared.indices.ReencodeIndices.{Ghosts}
 use Rattle.reencode_hooks.specs.Run.{Step, Visited, accepted, and_then, ask, refused}
@@ -22,7 +19,7 @@ use Rattle.reencode_hooks.specs.Walk.{walk}
 use Rattle.reencode_hooks.proofs.Leaving.{handed}
 use Rattle.reencode_items.specs.Clauses.{ListClauses}
 use Rattle.reencode_core.specs.Rows.{Asks}
-use Rattle.reencode_component.specs.TypeClauses.{CoreTypeClauses, ScopeClauses}
+use Rattle.reencode_component.specs.TypeClauses.{CoreTypeClauses}
 
 -- ---- a group
 

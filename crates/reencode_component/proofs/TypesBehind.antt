@@ -14,7 +14,7 @@ use Rattle.wasm_read_component.specs.declared.declarations.CoreType as read_type
 use Rattle.wasm_read_component.specs.declared.declarations.CoreType.TheVariants as read_core
 use Rattle.reencode_hooks.specs.declared.error.Error.{Error}
 use Rattle.reencode_hooks.specs.declared.indices.ReencodeIndices.{Ghosts}
-use Rattle.reencode_hooks.specs.Run.{Step, accepted, ask, refused}
+use Rattle.reencode_hooks.specs.Run.{accepted, ask, refused}
 use Rattle.reencode_hooks.specs.Walk.{walk}
 use Rattle.reencode_hooks.proofs.Leaving.{handed}
 use Rattle.reencode_items.specs.Clauses.{ListClauses}

@@ -1,6 +1,6 @@
 -- What a call that maps a type of a component, or what such a type declares, promises, whole: one record for each kind of call. `i` are
 -- the meanings of the reencoder; `s` is its state and `old` what a scope declares before the call, `m` and `new` are the same after it.
-use Rattle.std.specs.Prelude.{◌≡◌, ◌≢◌, ℕ, List, [], ◌∷◌, ◌++◌, length, Result, Ok, Err}
+use Rattle.std.specs.Prelude.{◌≡◌, ◌≢◌, List, [], ◌∷◌, ◌++◌, length, Result, Ok, Err}
 use Rattle.wasm_shapes.specs.Tree.{Tree}
 use Rattle.wasm_shapes.specs.Types.{led}
 use Rattle.wasm_shapes.specs.Shape.{Shape}

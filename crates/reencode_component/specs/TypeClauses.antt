@@ -5,7 +5,6 @@ use Rattle.wasm_shapes.specs.declared.Visit.TheVariants.{Push}
 use Rattle.wasm_shapes.specs.Tree.{Tree}
 use Rattle.wasm_shapes.specs.Types.{led}
 use Rattle.wasm_shapes.specs.Shape.{Shape}
-use Rattle.wasm_shapes.specs.Rows.{RowsLeft}
 use Rattle.wasm_shapes.specs.Component.{module_declaration}
 use Rattle.wasm_types.specs.ComponentTrees.{core_group_tree}
 use Rattle.wasm_read.specs.Reading.{Standing}

@@ -1,10 +1,9 @@
 use Rattle.std.proofs.Common.{◌<◌, ◌+◌, Ok, Err, refl, rules}
-use Rattle.wasm_shapes.specs.declared.Space.TheVariants as space
 use Rattle.wasm_shapes.specs.Component as shapes
 use Rattle.wasm_shapes.specs.Drawn.{IsItem}
 use Rattle.wasm_shapes.specs.Tree.{Tree}
 use Rattle.wasm_shapes.specs.Types.{led}
-use Rattle.wasm_types.specs.ComponentTrees.{component_defined_type_tree, component_func_type_tree, component_import_tree, extern_name_tree, maybe_function, resource_parts, resource_tree, type_ref_tree}
+use Rattle.wasm_types.specs.ComponentTrees.{component_import_tree, extern_name_tree, maybe_function, resource_tree, type_ref_tree}
 use Rattle.wasm_read.specs.Types as read
 use Rattle.wasm_write.specs.Types as write
 use Rattle.wasm_read_component.specs.Aliases as read_alias
@@ -19,7 +18,7 @@ use Rattle.reencode_component.proofs.ScopeCalls.{shallow_closed, shallow_stopped
 use Rattle.reencode_component.proofs.TypesBehind.{core_behind, core_behind_ended, shallow_behind, shallow_behind_ended, type_behind, type_behind_ended}
 use Rattle.reencode_component.proofs.TypesStanding.{component_row, instance_row}
 use Rattle.reencode_component.proofs.TypeWeights.{component_falls, component_weight, instance_falls, instance_weight, scope_weight}
-use Rattle.reencode_component.proofs.Walked.{Mapped, first_ended, gives_list, hands_on, item_ended, led_ended, list_ended, list_mapped, row_ended, row_walked, second_ended}
+use Rattle.reencode_component.proofs.Walked.{Mapped, first_ended, hands_on, item_ended, led_ended, row_ended, second_ended}
 use Rattle.reencode_component.proofs.component_types.+types.Goals as goal
 
 pub parse_component_type-returns-in_err-declarations-in-Component : goal.parse_component_type-returns-in_err-declarations-in-Component
