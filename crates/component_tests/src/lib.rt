@@ -10,4 +10,6 @@ mod payload_tests;
 #[cfg(test)]
 mod reader_tests;
 #[cfg(test)]
+mod type_calls_tests;
+#[cfg(test)]
 mod type_tests;
