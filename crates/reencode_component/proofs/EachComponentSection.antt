@@ -325,28 +325,28 @@ module _ {S E : Type 0} (i : Ghosts S E) (depth : ℕ) (deep : depth ≤ 200) (b
 
 -- ---- ids that are not in force
 
-pub low_off : (id : ℕ) → id < 12 → id ≢ 2 → id ≢ 3 → id ≢ 5 → id ≢ 6 → id ≢ 8 → id ≢ 9 → id ≢ 10 → id ≢ 11 → has_frame id ≡ true → ⊥
-low_off zero low a b c d e f g h k = cc
-low_off (suc zero) low a b c d e f g h k = cc
-low_off (suc (suc zero)) low a b c d e f g h k = a refl
-low_off (suc (suc (suc zero))) low a b c d e f g h k = b refl
-low_off (suc (suc (suc (suc zero)))) low a b c d e f g h k = cc
-low_off (suc (suc (suc (suc (suc zero))))) low a b c d e f g h k = c refl
-low_off (suc (suc (suc (suc (suc (suc zero)))))) low a b c d e f g h k = d refl
-low_off (suc (suc (suc (suc (suc (suc (suc zero))))))) low a b c d e f g h k = cc
-low_off (suc (suc (suc (suc (suc (suc (suc (suc zero)))))))) low a b c d e f g h k = e refl
-low_off (suc (suc (suc (suc (suc (suc (suc (suc (suc zero))))))))) low a b c d e f g h k = f refl
-low_off (suc (suc (suc (suc (suc (suc (suc (suc (suc (suc zero)))))))))) low a b c d e f g h k = g refl
-low_off (suc (suc (suc (suc (suc (suc (suc (suc (suc (suc (suc zero))))))))))) low a b c d e f g h k = h refl
-low_off (suc (suc (suc (suc (suc (suc (suc (suc (suc (suc (suc (suc n)))))))))))) low a b c d e f g h k = omega (arith, low)
+pub low_off : (id : ℕ) → id < 12 → id ≢ 2 → id ≢ 3 → id ≢ 5 → id ≢ 6 → id ≢ 7 → id ≢ 8 → id ≢ 9 → id ≢ 10 → id ≢ 11 → has_frame id ≡ true → ⊥
+low_off zero low a b c d e f g h j k = cc
+low_off (suc zero) low a b c d e f g h j k = cc
+low_off (suc (suc zero)) low a b c d e f g h j k = a refl
+low_off (suc (suc (suc zero))) low a b c d e f g h j k = b refl
+low_off (suc (suc (suc (suc zero)))) low a b c d e f g h j k = cc
+low_off (suc (suc (suc (suc (suc zero))))) low a b c d e f g h j k = c refl
+low_off (suc (suc (suc (suc (suc (suc zero)))))) low a b c d e f g h j k = d refl
+low_off (suc (suc (suc (suc (suc (suc (suc zero))))))) low a b c d e f g h j k = e refl
+low_off (suc (suc (suc (suc (suc (suc (suc (suc zero)))))))) low a b c d e f g h j k = f refl
+low_off (suc (suc (suc (suc (suc (suc (suc (suc (suc zero))))))))) low a b c d e f g h j k = g refl
+low_off (suc (suc (suc (suc (suc (suc (suc (suc (suc (suc zero)))))))))) low a b c d e f g h j k = h refl
+low_off (suc (suc (suc (suc (suc (suc (suc (suc (suc (suc (suc zero))))))))))) low a b c d e f g h j k = j refl
+low_off (suc (suc (suc (suc (suc (suc (suc (suc (suc (suc (suc (suc n)))))))))))) low a b c d e f g h j k = omega (arith, low)
 
 -- none of these is above 127
 pub high_off : (id : ℕ) → 127 < id → has_frame id ≡ true → ⊥
 high_off id h k =
-    not_one 2 _ (omega arith) (not_one 3 _ (omega arith) (not_one 5 _ (omega arith) (not_one 6 _ (omega arith) last))) k
+    not_one 2 _ (omega arith) (not_one 3 _ (omega arith) last) k
   where
-    last : (nat_le 8 id && nat_le id 127) ≡ true → ⊥
-    last q = let most : id ≤ 127 = leb-true _ _ (both (nat_le 8 id) (nat_le id 127) q).1 in omega (arith, h, most)
+    last : (nat_le 5 id && nat_le id 127) ≡ true → ⊥
+    last q = let most : id ≤ 127 = leb-true _ _ (both (nat_le 5 id) (nat_le id 127) q).1 in omega (arith, h, most)
 
     not_one : (n : ℕ) (others : Bool) → n ≤ 127 → (others ≡ true → ⊥) → (nat_eq id n || others) ≡ true → ⊥
     not_one n others low never q = by (either (nat_eq id n) others q)

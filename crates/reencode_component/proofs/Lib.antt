@@ -17,6 +17,9 @@ pub mod FaultLaws
 pub mod TypeParts
 pub mod ScopeCalls
 pub mod CoreGroups
+pub mod TypesBehind
 pub mod EachShallowRow
 pub mod CoreTypeCalls
+pub mod TypeWeights
+pub mod TypesStanding
 pub mod ComponentLaws

@@ -9,5 +9,6 @@ pub mod ComponentClauses
 pub mod ComponentFaults
 pub mod TypeClauses
 pub mod ScopedRows
+pub mod DeclarationClauses
 pub mod ComponentLaws
 pub mod WovenIn

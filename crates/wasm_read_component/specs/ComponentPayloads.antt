@@ -29,9 +29,9 @@ component_payload_at (payload.Component at bytes) = at
 component_payload_at (payload.Custom at section) = at
 component_payload_at (payload.Unknown at id contents) = at
 
--- whether a section may have this id: 2, 3, 5, 6, or 8 to 127
+-- whether a section may have this id: 2, 3, or 5 to 127
 abbrev pub has_frame : ℕ → Bool
-has_frame id = nat_eq id 2 || (nat_eq id 3 || (nat_eq id 5 || (nat_eq id 6 || (nat_le 8 id && nat_le id 127))))
+has_frame id = nat_eq id 2 || (nat_eq id 3 || (nat_le 5 id && nat_le id 127))
 
 -- a payload that a reader gives: of a kind below 12, or of an id that no table knows
 abbrev pub IsGiven : ComponentPayload → Type 0
