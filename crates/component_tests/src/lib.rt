@@ -14,4 +14,6 @@ mod reader_tests;
 #[cfg(test)]
 mod section_tests;
 #[cfg(test)]
+mod type_calls_tests;
+#[cfg(test)]
 mod type_tests;

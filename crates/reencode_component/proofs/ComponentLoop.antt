@@ -1,6 +1,6 @@
 -- The loop over the sections of a component, whatever the call that maps one gives of it.
-use Rattle.std.proofs.Common.{◌≡◌, ◌≢◌, ◌-◌, ◌≤◌, ◌&&◌, nat_eq, nat_le, true, arith, zero, suc, ℕ, List, [], ◌∷◌, ◌++◌, length, Ok, Err, refl, sym, ap, ◌∙◌, subst, append_assoc, append-nil, ◌⊎◌, inl, inr}
-use Rattle.std.proofs.lemmas.Bool.{le-leb, or_right}
+use Rattle.std.proofs.Common.{◌≡◌, ◌≢◌, ◌-◌, ◌≤◌, nat_le, true, arith, zero, suc, ℕ, List, [], ◌∷◌, ◌++◌, length, Ok, Err, refl, sym, ap, ◌∙◌, subst, append_assoc, append-nil, ◌⊎◌, inl, inr}
+use Rattle.std.proofs.lemmas.Bool.{le-leb}
 use Rattle.wasm_leb.specs.declared.fault.Fault.{Fault}
 use Rattle.wasm_leb.specs.declared.fault.Fault.TheVariants as fault
 use Rattle.wasm_leb.specs.declared.fault.Kind.TheVariants as kinds
@@ -74,9 +74,8 @@ frame_drawn {f = f} {bytes = bytes} {left = left} {vs = vs} there p = go f there
 -- ids from 12 on are in force
 pub unknown_in_force : (id : ℕ) → 12 ≤ id → id ≤ 127 → has_frame id ≡ true
 unknown_in_force id low high =
-    let from : nat_le 8 id ≡ true = le-leb 8 id (omega (arith, low)) in
-    let both : (nat_le 8 id && nat_le id 127) ≡ true = rw (from, le-leb id 127 high) refl in
-    or_right (nat_eq id 1) _ (or_right (nat_eq id 2) _ (or_right (nat_eq id 3) _ (or_right (nat_eq id 4) _ (or_right (nat_eq id 5) _ (or_right (nat_eq id 6) _ both)))))
+    let from : nat_le 1 id ≡ true = le-leb 1 id (omega (arith, low)) in
+    rw (from, le-leb id 127 high) refl
 
 unframed : (depth : ℕ) {bytes : List ℕ} → BeginsNoFrame bytes → BeginsNoSection depth bytes
 unframed depth {bytes = bytes} n = record { none = λ t left b. go t left b (in_component_frame t b.there.begins.text b.there.begins.spells.shaped b.there.begins.spells.spelled) }

@@ -1,20 +1,17 @@
 -- Core types: a group of types behind another byte where it is one open subtype, and a module type behind its byte.
 use Rattle.std.proofs.Common.{◌≡◌, ℕ, zero, suc, Bool, true, false, List, [], ◌∷◌, Result, Ok, Err, IsErrAnd, refl, subst}
 use Rattle.wasm_shapes.specs.declared.Visit.{Visit}
-use Rattle.wasm_shapes.specs.Shape.{Shape}
 use Rattle.wasm_shapes.specs.Tree.{Tree, visits}
-use Rattle.wasm_shapes.specs.Types.{led, sub_type_of}
+use Rattle.wasm_shapes.specs.Types.{sub_type_of}
 use Rattle.wasm_types.specs.ComponentTrees.{core_group_tree}
 use Rattle.wasm_read.specs.declared.types.RecGroup as read_group
 use Rattle.wasm_read.specs.declared.types.SubType.{SubType}
-use Rattle.wasm_read.specs.Reading.{Standing}
 use Rattle.wasm_read.specs.Types as read
 use Rattle.wasm_write.specs.declared.types.RecGroup as write_group
 use Rattle.wasm_write.specs.Types as write
 use Rattle.wasm_read_component.specs.declared.declarations.CoreType.TheVariants as read_core
 use Rattle.wasm_write_component.specs.declared.declarations.CoreType.{CoreType}
 use Rattle.wasm_write_component.specs.declared.declarations.CoreType.TheVariants as core
-use Rattle.wasm_write_component.specs.TypeRows.{scope_tree}
 use Rattle.reencode_hooks.specs.declared.error.Error.{Error}
 use Rattle.reencode_hooks.specs.declared.indices.ReencodeIndices.{Ghosts}
 use Rattle.reencode_hooks.specs.Run.{Step, Visited, accepted, and_then, ask, refused}
@@ -22,7 +19,7 @@ use Rattle.reencode_hooks.specs.Walk.{walk}
 use Rattle.reencode_hooks.proofs.Leaving.{handed}
 use Rattle.reencode_items.specs.Clauses.{ListClauses}
 use Rattle.reencode_core.specs.Rows.{Asks}
-use Rattle.reencode_component.specs.TypeClauses.{CoreTypeClauses, ScopeClauses}
+use Rattle.reencode_component.specs.TypeClauses.{CoreTypeClauses}
 
 -- ---- a group
 
@@ -108,37 +105,4 @@ module _ {S E : Type 0} (i : Ghosts S E) (s m : S) where
       rw (handed r q) (record {
         default = λ k c other. core_refused (ask i.reply i.next) c s m (read.group_tree group) (group_row group) (gone.default k c other);
         after_error = λ k sure. rw (core_visits (read.group_tree group) (group_row group)) (gone.after_error k sure);
-      })
-
--- ---- what stands behind a byte
-
-module _ {S E : Type 0} (asked : Asks S E) (c : ℕ) (s m : S) (j b : ℕ) where
-  behind_mapped : (t u : Tree) → walk asked c s t ≡ accepted u m → walk asked c s (Tree.row j (led b t)) ≡ accepted (Tree.row j (led b u)) m
-  behind_mapped t u h = rw h refl
-
-  behind_refused : (t : Tree) {e : Error E} → walk asked c s t ≡ refused e m → walk asked c s (Tree.row j (led b t)) ≡ refused e m
-  behind_refused t h = rw h refl
-
-module _ {S E A B : Type 0} (i : Ghosts S E) (row : Shape) (reader : Standing) (j b : ℕ) (s m : S) (view : A → List Tree) (whole : B → Tree) where
-  -- a scope that was mapped, behind a byte
-  pub scope_behind : (a : A) (made : B) → whole made ≡ Tree.row j (led b (scope_tree (view a))) → ScopeClauses i row reader (λ t. t) (λ z. scope_tree (view z)) s m (Ok a) →
-      ScopeClauses i row reader (λ t. Tree.row j (led b t)) whole s m (Ok made)
-  scope_behind a made is given = record {
-    default = λ k few rows left c. rw is (behind_mapped (ask i.reply i.next) c s m j b (Tree.scope (Tree.vec rows)) (scope_tree (view a)) (given.default k few rows left c));
-    readable = given.readable;
-    unreadable = λ k c. tt;
-    refusal = λ k c. tt;
-    after_error = λ k. tt;
-  }
-
-  -- it was refused
-  pub scope_behind_ended : (e : Error E) → ScopeClauses i row reader (λ t. t) (λ z. scope_tree (view z)) s m (Err e) → (r : Result B (Error E)) → IsErrAnd r (λ y. y ≡ e) →
-      ScopeClauses i row reader (λ t. Tree.row j (led b t)) whole s m r
-  scope_behind_ended e gone r q =
-      rw (handed r q) (record {
-        default = λ k few rows left c other. behind_refused (ask i.reply i.next) c s m j b (Tree.scope (Tree.vec rows)) (gone.default k few rows left c other);
-        readable = λ k. tt;
-        unreadable = gone.unreadable;
-        refusal = gone.refusal;
-        after_error = gone.after_error;
       })

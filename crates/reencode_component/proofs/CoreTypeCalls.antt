@@ -2,6 +2,7 @@
 use Rattle.std.proofs.Common.{◌≡◌, ◌<◌, ◌^◌, ◌++◌, ℕ, List, [], ◌∷◌, Result, Ok, Err, IsTrue, refl, sym, ap, ◌∙◌, append_assoc, subst, arith}
 use Rattle.wasm_shapes.specs.declared.Visit.{Visit}
 use Rattle.wasm_shapes.specs.declared.Visit.TheVariants.{Push, Pop}
+use Rattle.wasm_shapes.specs.Depth.{Shallow}
 use Rattle.wasm_shapes.specs.Tree.{Tree, count, visits}
 use Rattle.wasm_shapes.specs.Types.{led}
 use Rattle.wasm_shapes.specs.Fits.{InRange}
@@ -18,13 +19,14 @@ use Rattle.wasm_write_component.specs.TypeRows.{core_type_tree}
 use Rattle.reencode_hooks.specs.declared.error.Error.{Error}
 use Rattle.reencode_hooks.specs.declared.error.Error.TheVariants.{CanonicalizedHeapTypeReference, InvalidConstExpr, InvalidCodeSectionSize, UnexpectedNonCoreModuleSection, UnexpectedNonComponentSection, UnsupportedCoreTypeInComponent, ParseError, UserError, TooLarge, NoMemory}
 use Rattle.reencode_hooks.specs.declared.indices.ReencodeIndices.{Ghosts}
-use Rattle.reencode_hooks.specs.Run.{LeavesVisited, Step, Visited, accepted, and_then, refused, run, state_after}
+use Rattle.reencode_hooks.specs.Run.{Step, Visited, accepted, and_then, refused, run, state_after}
+use Rattle.reencode_items.specs.Clauses.{ListClauses}
 use Rattle.reencode_items.specs.Maps.{Maps}
 use Rattle.reencode_core.specs.Clauses.{RowClauses, asks}
 use Rattle.reencode_core.specs.Leaves.{Ended, Leaves, Text, rows_in}
-use Rattle.reencode_core.specs.Rows.{Asks}
+use Rattle.reencode_core.specs.Rows.{Asks, RowsFault, StopsAtRow}
 use Rattle.reencode_component.specs.Clauses.{AddsRow}
-use Rattle.reencode_component.specs.TypeClauses.{CoreTypeClauses, Opened}
+use Rattle.reencode_component.specs.TypeClauses.{CoreTypeClauses, CoreTypeWithin, Opened, ScopeBy}
 use Rattle.reencode_component.proofs.RowAdded.{list_added}
 
 -- ---- what an error leaves of a scope
@@ -58,41 +60,40 @@ open_visited asked {s = s} {m = m} text e rows reads opened =
       state = rw opened.push (more_state 0 (run asked opened.at inside.made) ∙ ended_state e (run asked opened.at inside.made) m inside.ended.by);
     }
 
--- ---- a core type that stands for a tree
+-- a scope that stands for a tree, where what it stands in asks nothing more
+pub scope_listed : {S E A : Type 0} (i : Ghosts S E) (within : Tree → Tree) (view : A → Tree) (inside : (t : Tree) → visits (within t) ≡ visits t) (s m : S) (left : ℕ) (text : Text)
+    (faulty : ℕ → S → List Tree → ℕ → Type 0) (stops : ℕ → S → List Tree → Error E → Type 0) (rows : Tree) → text.reads rows → left < 2 ^ 32 → (r : Result A (Error E)) →
+    ScopeBy i left text faulty stops within view s m r → ListClauses i (within (Tree.scope (Tree.vec rows))) view s m r
+scope_listed {A = A} i within view inside s m left text faulty stops rows reads few (Ok a) given = record { default = λ k. given.default k few rows reads; after_error = λ k sure. tt }
+scope_listed {A = A} i within view inside s m left text faulty stops rows reads few (Err e) given = record {
+  default = λ k. given.default k few rows reads;
+  after_error = λ k sure.
+      let P : List Visit → Type 0 = λ z. Visited (asks i) s z m in
+      subst P (sym (inside (Tree.scope (Tree.vec rows)))) (open_visited (asks i) text e rows reads (given.after_error k (λ h. sure)));
+}
 
-module _ {S E : Type 0} (i : Ghosts S E) (s m : S) where
-  pub core_maps : (ty : read.CoreType) (t : Tree) (x : List ℕ) → CoreTypeStands ty t → Spelled t x → (r : Result made.CoreType (Error E)) → CoreTypeClauses i ty s m r →
-      IsTrue i.keeps_defaults → Maps i.reply i.next s t core_type_tree m r
-  core_maps (core.Rec group) t x is spelled r given k =
-      let P : Tree → Type 0 = λ z. Maps i.reply i.next s z core_type_tree m r in
+-- ---- a type that stands for a tree
+
+module _ {S E A : Type 0} (i : Ghosts S E) (within : Tree → Tree) (view : A → Tree) (inside : (t : Tree) → visits (within t) ≡ visits t) (s m : S) where
+  pub core_listed : (ty : read.CoreType) (t : Tree) → CoreTypeStands ty t → InRange t → (r : Result A (Error E)) → CoreTypeWithin i within view ty s m r → ListClauses i (within t) view s m r
+  core_listed (core.Rec group) t is range r given =
+      let P : Tree → Type 0 = λ z. ListClauses i (within z) view s m r in
       let same : t ≡ core_group_tree (group_tree group) = is in
-      subst P (sym same) (given.default k)
-  core_maps (core.Module reader) t x stands spelled r given k =
+      subst P (sym same) given
+  core_listed (core.Module reader) t stands range r given =
       let scope = stands.stands in
-      let P : Tree → Type 0 = λ z. Maps i.reply i.next s z core_type_tree m r in
+      let P : Tree → Type 0 = λ z. ListClauses i (within z) view s m r in
       let same : t ≡ Tree.row 0 (led 0x50 (Tree.scope (Tree.vec scope.rows))) = stands.is ∙ ap (λ (z : Tree). Tree.row 0 (led 0x50 z)) scope.is in
       let Q : Tree → Type 0 = InRange in
-      let few : count scope.rows < 2 ^ 32 = (subst Q same (spelled_in_range t x spelled)).1.0 in
+      let few : count scope.rows < 2 ^ 32 = (subst Q same range).1.0 in
       let all : count scope.rows ≡ reader.left = scope.left.counted in
-      subst P (sym same) (given.default k (omega arith) scope.rows scope.left)
+      subst P (sym same)
+      (scope_listed i (λ z. within (Tree.row 0 (led 0x50 z))) view (λ z. inside (Tree.row 0 (led 0x50 z))) s m reader.left (rows_in module_declaration reader)
+      (λ c n made at. RowsFault (asks i) c module_declaration reader (n, []) (m, made) at) (λ c n made e. StopsAtRow (asks i) c module_declaration reader (n, []) e (m, made))
+      scope.rows scope.left (omega arith) r given)
 
-  pub core_left : (ty : read.CoreType) (t : Tree) → CoreTypeStands ty t → (e : Error E) → CoreTypeClauses i ty s m (Err e) → IsTrue i.keeps_defaults → IsTrue i.sure → Visited (asks i) s (visits t) m
-  core_left (core.Rec group) t is e given k sure =
-      let P : Tree → Type 0 = λ z. Visited (asks i) s (visits z) m in
-      let same : t ≡ core_group_tree (group_tree group) = is in
-      subst P (sym same) (given.after_error k sure)
-  core_left (core.Module reader) t stands e given k sure =
-      let scope = stands.stands in
-      let P : Tree → Type 0 = λ z. Visited (asks i) s (visits z) m in
-      let same : t ≡ Tree.row 0 (led 0x50 (Tree.scope (Tree.vec scope.rows))) = stands.is ∙ ap (λ (z : Tree). Tree.row 0 (led 0x50 z)) scope.is in
-      subst P (sym same) (open_visited (asks i) (rows_in module_declaration reader) e scope.rows scope.left (given.after_error k (λ h. sure)))
-
-  -- it is added
-  pub core_row_added : (ty : read.CoreType) (mapped : Result made.CoreType (Error E)) → CoreTypeClauses i ty s m mapped → (old new : List Tree) (r : Result (Unit {0}) (Error E)) →
-      AddsRow core_type_tree mapped old new r → (depth : ℕ) (t : Tree) (x : List ℕ) → CoreTypeStands ty t → Spelled t x → RowClauses i t s old m new r
-  core_row_added ty mapped given old new r adds depth t x stands spelled =
-      list_added i t core_type_tree s m old new mapped (record { default = core_maps ty t x stands spelled mapped given; after_error = left mapped given }) r adds
-    where
-      left : (r : Result made.CoreType (Error E)) → CoreTypeClauses i ty s m r → IsTrue i.keeps_defaults → IsTrue i.sure → LeavesVisited (asks i) s (visits t) m r
-      left (Ok b) given k sure = tt
-      left (Err e) given k sure = core_left ty t stands e given k sure
+-- it is added
+pub core_row_added : {S E : Type 0} (i : Ghosts S E) (s m : S) (ty : read.CoreType) (mapped : Result made.CoreType (Error E)) → CoreTypeClauses i ty s m mapped → (old new : List Tree) (r : Result (Unit {0}) (Error E)) →
+    AddsRow core_type_tree mapped old new r → (depth : ℕ) (t : Tree) (x : List ℕ) → CoreTypeStands ty t → Spelled t x → Shallow depth t → RowClauses i t s old m new r
+core_row_added i s m ty mapped given old new r adds depth t x stands spelled low =
+    list_added i t core_type_tree s m old new mapped (core_listed i (λ z. z) core_type_tree (λ z. refl) s m ty t stands (spelled_in_range t x spelled) mapped given) r adds

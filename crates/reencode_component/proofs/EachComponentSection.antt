@@ -1,7 +1,7 @@
 -- A section of a component whose rows were mapped, as it is added.
-use Rattle.std.proofs.Common.{◌≡◌, ◌+◌, ◌≢◌, ◌<◌, ◌≤◌, lit≤, zero, suc, ℕ, List, [], ◌∷◌, Bool, true, nat_eq, nat_le, ◌&&◌, ◌||◌, Result, Ok, Err, IfErr, IsTrue, refl, sym, ap, ◌∙◌, subst, arith, ◌⊎◌, inl, inr}
-use Rattle.std.proofs.lemmas.Bool.{eqb-true, leb-true}
-use Rattle.wasm_shapes.proofs.Lists.{both, either}
+use Rattle.std.proofs.Common.{◌≡◌, ◌+◌, ◌≢◌, ◌<◌, ◌≤◌, lit≤, zero, suc, ℕ, List, [], ◌∷◌, true, nat_le, Result, Ok, Err, IfErr, IsTrue, refl, sym, ap, ◌∙◌, subst, arith, ◌⊎◌, inl, inr}
+use Rattle.std.proofs.lemmas.Bool.{leb-true}
+use Rattle.wasm_shapes.proofs.Lists.{both}
 use Rattle.wasm_leb.specs.declared.fault.Fault.{Fault}
 use Rattle.wasm_leb.specs.declared.fault.Fault.TheVariants as fault
 use Rattle.wasm_leb.specs.Place.{BeginsNoNumber}
@@ -325,32 +325,21 @@ module _ {S E : Type 0} (i : Ghosts S E) (depth : ℕ) (deep : depth ≤ 200) (b
 
 -- ---- ids that are not in force
 
-pub low_off : (id : ℕ) → id < 12 → id ≢ 1 → id ≢ 4 → id ≢ 2 → id ≢ 3 → id ≢ 5 → id ≢ 6 → id ≢ 8 → id ≢ 9 → id ≢ 10 → id ≢ 11 → has_frame id ≡ true → ⊥
-low_off zero low y z a b c d e f g h k = cc
-low_off (suc zero) low y z a b c d e f g h k = y refl
-low_off (suc (suc zero)) low y z a b c d e f g h k = a refl
-low_off (suc (suc (suc zero))) low y z a b c d e f g h k = b refl
-low_off (suc (suc (suc (suc zero)))) low y z a b c d e f g h k = z refl
-low_off (suc (suc (suc (suc (suc zero))))) low y z a b c d e f g h k = c refl
-low_off (suc (suc (suc (suc (suc (suc zero)))))) low y z a b c d e f g h k = d refl
-low_off (suc (suc (suc (suc (suc (suc (suc zero))))))) low y z a b c d e f g h k = cc
-low_off (suc (suc (suc (suc (suc (suc (suc (suc zero)))))))) low y z a b c d e f g h k = e refl
-low_off (suc (suc (suc (suc (suc (suc (suc (suc (suc zero))))))))) low y z a b c d e f g h k = f refl
-low_off (suc (suc (suc (suc (suc (suc (suc (suc (suc (suc zero)))))))))) low y z a b c d e f g h k = g refl
-low_off (suc (suc (suc (suc (suc (suc (suc (suc (suc (suc (suc zero))))))))))) low y z a b c d e f g h k = h refl
-low_off (suc (suc (suc (suc (suc (suc (suc (suc (suc (suc (suc (suc n)))))))))))) low y z a b c d e f g h k = omega (arith, low)
+pub low_off : (id : ℕ) → id < 12 → id ≢ 1 → id ≢ 4 → id ≢ 2 → id ≢ 3 → id ≢ 5 → id ≢ 6 → id ≢ 7 → id ≢ 8 → id ≢ 9 → id ≢ 10 → id ≢ 11 → has_frame id ≡ true → ⊥
+low_off zero low y z a b c d e f g h j k = cc
+low_off (suc zero) low y z a b c d e f g h j k = y refl
+low_off (suc (suc zero)) low y z a b c d e f g h j k = a refl
+low_off (suc (suc (suc zero))) low y z a b c d e f g h j k = b refl
+low_off (suc (suc (suc (suc zero)))) low y z a b c d e f g h j k = z refl
+low_off (suc (suc (suc (suc (suc zero))))) low y z a b c d e f g h j k = c refl
+low_off (suc (suc (suc (suc (suc (suc zero)))))) low y z a b c d e f g h j k = d refl
+low_off (suc (suc (suc (suc (suc (suc (suc zero))))))) low y z a b c d e f g h j k = e refl
+low_off (suc (suc (suc (suc (suc (suc (suc (suc zero)))))))) low y z a b c d e f g h j k = f refl
+low_off (suc (suc (suc (suc (suc (suc (suc (suc (suc zero))))))))) low y z a b c d e f g h j k = g refl
+low_off (suc (suc (suc (suc (suc (suc (suc (suc (suc (suc zero)))))))))) low y z a b c d e f g h j k = h refl
+low_off (suc (suc (suc (suc (suc (suc (suc (suc (suc (suc (suc zero))))))))))) low y z a b c d e f g h j k = j refl
+low_off (suc (suc (suc (suc (suc (suc (suc (suc (suc (suc (suc (suc n)))))))))))) low y z a b c d e f g h j k = omega (arith, low)
 
 -- none of these is above 127
 pub high_off : (id : ℕ) → 127 < id → has_frame id ≡ true → ⊥
-high_off id h k =
-    not_one 1 _ (omega arith) (not_one 2 _ (omega arith) (not_one 3 _ (omega arith) (not_one 4 _ (omega arith) (not_one 5 _ (omega arith) (not_one 6 _ (omega arith) last))))) k
-  where
-    last : (nat_le 8 id && nat_le id 127) ≡ true → ⊥
-    last q = let most : id ≤ 127 = leb-true _ _ (both (nat_le 8 id) (nat_le id 127) q).1 in omega (arith, h, most)
-
-    not_one : (n : ℕ) (others : Bool) → n ≤ 127 → (others ≡ true → ⊥) → (nat_eq id n || others) ≡ true → ⊥
-    not_one n others low never q = by (either (nat_eq id n) others q)
-      where
-        by : (nat_eq id n ≡ true) ⊎ (others ≡ true) → ⊥
-        by (inl e) = let is : id ≡ n = eqb-true id n e in omega (arith, h, is, low)
-        by (inr e) = never e
+high_off id h k = let most : id ≤ 127 = leb-true _ _ (both (nat_le 1 id) (nat_le id 127) k).1 in omega (arith, h, most)

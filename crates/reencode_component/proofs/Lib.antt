@@ -23,7 +23,10 @@ pub mod NestedComponent
 pub mod TypeParts
 pub mod ScopeCalls
 pub mod CoreGroups
+pub mod TypesBehind
 pub mod EachShallowRow
 pub mod CoreTypeCalls
+pub mod TypeWeights
+pub mod TypesStanding
 pub mod ComponentLaws
 pub mod WithinLaws

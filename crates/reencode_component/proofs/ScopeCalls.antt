@@ -1,10 +1,11 @@
 -- What a call gives that opens a scope, maps the rows in it and closes it.
-use Rattle.std.proofs.Common.{◌≡◌, ◌≢◌, ◌+◌, ◌-◌, ◌^◌, ◌<◌, ◌⊎◌, ℕ, suc, List, [], ◌∷◌, ◌++◌, length, Result, Ok, Err, IsErrAnd, refl, sym, ap, ◌∙◌, subst, arith, inl, inr}
+use Rattle.std.proofs.Common.{◌≡◌, ◌≢◌, ◌+◌, ◌-◌, ◌^◌, ◌<◌, ◌⊎◌, ℕ, suc, List, [], ◌∷◌, ◌++◌, length, Result, Ok, Err, IfErr, IfOk, IsErrAnd, IsTrue, refl, sym, ap, ◌∙◌, subst, arith, inl, inr}
 use Rattle.wasm_shapes.specs.declared.Visit.TheVariants.{Push, Pop}
 use Rattle.wasm_shapes.specs.Shape.{Shape}
 use Rattle.wasm_shapes.specs.Tree.{Tree, count}
 use Rattle.wasm_shapes.specs.Rows.{rows_then}
 use Rattle.wasm_read.specs.Reading.{Standing}
+use Rattle.wasm_read_component.specs.Scoped.{ScopedStanding}
 use Rattle.wasm_write_component.specs.TypeRows.{scope_tree}
 use Rattle.reencode_hooks.specs.declared.error.Error.{Error}
 use Rattle.reencode_hooks.specs.declared.error.Error.TheVariants.{CanonicalizedHeapTypeReference, InvalidConstExpr, InvalidCodeSectionSize, UnexpectedNonCoreModuleSection, UnexpectedNonComponentSection, UnsupportedCoreTypeInComponent, ParseError, UserError, TooLarge, NoMemory}
@@ -13,12 +14,15 @@ use Rattle.reencode_hooks.specs.Run.{NeverWants, Step, accepted, refused}
 use Rattle.reencode_hooks.specs.Walk.{walk}
 use Rattle.reencode_core.specs.Clauses.{RowsClauses, asks}
 use Rattle.reencode_core.specs.Errors.{IfParse, IfRefused}
-use Rattle.reencode_core.specs.Rows.{Asks, GivesAll, StopsRows, RefusesFirst, TooMany, AcceptedHooks, onto_rows}
+use Rattle.reencode_core.specs.Leaves.{LeavesMade, Text, rows_in}
+use Rattle.reencode_core.specs.Rows.{Asks, GivesAll, RowsFault, StopsAtRow, StopsRows, RefusesFirst, TooMany, AcceptedHooks, onto_rows}
 use Rattle.reencode_core.proofs.Made.{not_wanting}
 use Rattle.reencode_core.proofs.OneRow.{answers}
 use Rattle.reencode_core.proofs.Usual.{IfParse-map, IfRefused-map}
 use Rattle.reencode_component.specs.Hooks.{Answers, RepliesPush}
-use Rattle.reencode_component.specs.TypeClauses.{ScopeClauses}
+use Rattle.reencode_component.specs.DeclarationClauses.{ShallowScopeClauses}
+use Rattle.reencode_component.specs.ScopedRows.{ShallowFault, ShallowRowsClauses, StopsShallow, shallow_rows_in}
+use Rattle.reencode_component.specs.TypeClauses.{ScopeBy, ScopeClauses}
 
 -- of an error that says that memory ran out nothing is asked
 parse_wanting : {E : Type 0} (P : ℕ → Type 0) (e : Error E) → e ≡ NoMemory → IfParse e P
@@ -80,48 +84,113 @@ module _ {S E : Type 0} (asked : Asks S E) where
           let same : length stops.made ≡ length stops.read = stops.counted in
           absurd (never_many e (length new) (omega arith) h.1)
 
-module _ {S E : Type 0} (i : Ghosts S E) (row : Shape) (reader : Standing) (s : S) where
+-- What is to be read in a scope was mapped from a state on, into what held no rows.
+record InScope {S E : Type 0} (i : Ghosts S E) (left : ℕ) (text : Text) (faulty : ℕ → S → List Tree → ℕ → Type 0) (stops : ℕ → S → List Tree → Error E → Type 0)
+    (n m : S) (new : List Tree) (result : Result (Unit {0}) (Error E)) : Type 0 where
+  pub reading : IsTrue i.keeps_defaults → (c : ℕ) (rows : Tree) → text.reads rows → GivesAll (asks i) c (n, []) rows (m, new) result
+  pub counted : (rows : Tree) → text.reads rows → count rows ≡ left
+  pub readable : IsTrue i.keeps_defaults → IfOk result (λ _. (rows : Tree) × text.reads rows)
+  pub unreadable : IsTrue i.keeps_defaults → (c : ℕ) → IfErr result (λ e. IfParse e (faulty c n new))
+  pub refusal : IsTrue i.keeps_defaults → (c : ℕ) → IfErr result (λ e. IfRefused e (stops c n new e))
+  pub after_error : IsTrue i.keeps_defaults → LeavesMade i.sure (asks i) text n m result
+
+module _ {S E : Type 0} (i : Ghosts S E) (left : ℕ) (text : Text) (faulty : ℕ → S → List Tree → ℕ → Type 0) (stops : ℕ → S → List Tree → Error E → Type 0) (s m : S) where
   -- the scope was not opened
-  pub scope_unopened : {A : Type 0} (m : S) (within : Tree → Tree) (view : A → Tree) (e : Error E) → RepliesPush i.reply i.next s m (Err e) → NeverWants {A = Unit {0}} i.sure (Err e) →
-      (r : Result A (Error E)) → IsErrAnd r (λ y. y ≡ e) → ScopeClauses i row reader within view s m r
-  scope_unopened {A = A} m within view e wants never r q =
-      let P : Result A (Error E) → Type 0 = λ z. ScopeClauses i row reader within view s m z in
+  unopened : {A : Type 0} (within : Tree → Tree) (view : A → Tree) (e : Error E) → RepliesPush i.reply i.next s m (Err e) → NeverWants {A = Unit {0}} i.sure (Err e) →
+      (r : Result A (Error E)) → IsErrAnd r (λ y. y ≡ e) → ScopeBy i left text faulty stops within view s m r
+  unopened {A = A} within view e wants never r q =
+      let P : Result A (Error E) → Type 0 = λ z. ScopeBy i left text faulty stops within view s m z in
       subst P (answers r q) (record {
-        default = λ k few rows left c other. absurd (other wants);
+        default = λ k few rows reads c other. absurd (other wants);
         readable = λ k. tt;
         unreadable = λ k c. parse_wanting _ e wants;
         refusal = λ k c. refused_wanting _ e wants;
         after_error = λ k told. absurd (not_wanting e never told wants);
       })
 
-  module _ {n : S} {old : List Tree} (push : Answers i.reply i.next s n Push 0) (none : old ≡ []) where
+  module _ {n : S} {new : List Tree} (push : Answers i.reply i.next s n Push 0) where
     -- what is in it was refused, or has no reading
-    pub scope_stopped : {m : S} {new : List Tree} (e : Error E) → RowsClauses i row reader n old m new (Err e) → (r : Result (List Tree) (Error E)) → IsErrAnd r (λ y. y ≡ e) →
-        ScopeClauses i row reader (λ t. t) scope_tree s m r
-    scope_stopped {m = m} {new = new} e given r q =
-        let P : Result (List Tree) (Error E) → Type 0 = λ z. ScopeClauses i row reader (λ t. t) scope_tree s m z in
-        let Q : List Tree → Type 0 = λ z. RowsClauses i row reader n z m new (Err e) in
-        let fresh : RowsClauses i row reader n [] m new (Err e) = subst Q none given in
+    stopped : (e : Error E) → InScope i left text faulty stops n m new (Err e) → (r : Result (List Tree) (Error E)) → IsErrAnd r (λ y. y ≡ e) →
+        ScopeBy i left text faulty stops (λ t. t) scope_tree s m r
+    stopped e given r q =
+        let P : Result (List Tree) (Error E) → Type 0 = λ z. ScopeBy i left text faulty stops (λ t. t) scope_tree s m z in
         subst P (answers r q) (record {
-          default = λ k few rows left c other.
-              let all : count rows ≡ reader.left = left.counted in
-              refused_scope (asks i) s c rows push (refused_rows (asks i) c rows e refl (omega arith) other ((fresh.default k c).reading rows left));
+          default = λ k few rows reads c other.
+              let all : count rows ≡ left = given.counted rows reads in
+              refused_scope (asks i) s c rows push (refused_rows (asks i) c rows e refl (omega arith) other (given.reading k c rows reads));
           readable = λ k. tt;
-          unreadable = λ k c. IfParse-map e (λ at fault. record { at = n; push = push; inside = (new, fault) }) (fresh.default k c).unreadable;
-          refusal = λ k c. IfRefused-map e (λ stops. record { at = n; push = push; inside = (new, stops) }) (fresh.default k c).refusal;
-          after_error = λ k told. record { at = n; push = push; inside = fresh.after_error k told };
+          unreadable = λ k c. IfParse-map e (λ at fault. record { at = n; push = push; inside = (new, fault) }) (given.unreadable k c);
+          refusal = λ k c. IfRefused-map e (λ stops. record { at = n; push = push; inside = (new, stops) }) (given.refusal k c);
+          after_error = λ k told. record { at = n; push = push; inside = given.after_error k told };
         })
 
     -- all of it was mapped, and the scope was closed
+    closed : {j : S} → (IsTrue i.keeps_defaults → (c : ℕ) (rows : Tree) → text.reads rows → GivesAll (asks i) c (n, []) rows (j, new) (Ok tt)) →
+        (IsTrue i.keeps_defaults → (rows : Tree) × text.reads rows) → Answers i.reply i.next j m Pop 0 → ScopeBy i left text faulty stops (λ t. t) scope_tree s m (Ok new)
+    closed {j = j} gives reads pop = record {
+      default = λ k few rows read c.
+          let all : GivesAll (asks i) c (n, []) rows (j, new) (Ok tt) = gives k c rows read in
+          accepted_scope (asks i) s c rows (rows_then new Tree.nil) push (subst (λ (z : List Tree). walk (asks i) c n rows ≡ accepted (rows_then z Tree.nil) j) (sym all.2) all.1) pop;
+      readable = reads;
+      unreadable = λ k c. tt;
+      refusal = λ k c. tt;
+      after_error = λ k. tt;
+    }
+
+-- ---- of rows
+
+module _ {S E : Type 0} (i : Ghosts S E) (row : Shape) (reader : Standing) (s : S) where
+  pub scope_unopened : {A : Type 0} (m : S) (within : Tree → Tree) (view : A → Tree) (e : Error E) → RepliesPush i.reply i.next s m (Err e) → NeverWants {A = Unit {0}} i.sure (Err e) →
+      (r : Result A (Error E)) → IsErrAnd r (λ y. y ≡ e) → ScopeClauses i row reader within view s m r
+  scope_unopened m = unopened i reader.left (rows_in row reader) (λ c n made at. RowsFault (asks i) c row reader (n, []) (m, made) at) (λ c n made e. StopsAtRow (asks i) c row reader (n, []) e (m, made)) s m
+
+  module _ {n : S} {old : List Tree} (push : Answers i.reply i.next s n Push 0) (none : old ≡ []) where
+    pub scope_stopped : {m : S} {new : List Tree} (e : Error E) → RowsClauses i row reader n old m new (Err e) → (r : Result (List Tree) (Error E)) → IsErrAnd r (λ y. y ≡ e) →
+        ScopeClauses i row reader (λ t. t) scope_tree s m r
+    scope_stopped {m = m} {new = new} e given r q =
+        let Q : List Tree → Type 0 = λ z. RowsClauses i row reader n z m new (Err e) in
+        let fresh : RowsClauses i row reader n [] m new (Err e) = subst Q none given in
+        stopped i reader.left (rows_in row reader) (λ c n made at. RowsFault (asks i) c row reader (n, []) (m, made) at) (λ c n made e. StopsAtRow (asks i) c row reader (n, []) e (m, made)) s m push e (record {
+          reading = λ k c rows left. (fresh.default k c).reading rows left;
+          counted = λ rows left. left.counted;
+          readable = λ k. tt;
+          unreadable = λ k c. (fresh.default k c).unreadable;
+          refusal = λ k c. (fresh.default k c).refusal;
+          after_error = fresh.after_error;
+        }) r q
+
     pub scope_closed : {j m : S} {new : List Tree} → RowsClauses i row reader n old j new (Ok tt) → Answers i.reply i.next j m Pop 0 → ScopeClauses i row reader (λ t. t) scope_tree s m (Ok new)
     scope_closed {j = j} {m = m} {new = new} given pop =
         let Q : List Tree → Type 0 = λ z. RowsClauses i row reader n z j new (Ok tt) in
-        let fresh : RowsClauses i row reader n [] j new (Ok tt) = subst Q none given in record {
-          default = λ k few rows left c.
-              let all : GivesAll (asks i) c (n, []) rows (j, new) (Ok tt) = (fresh.default k c).reading rows left in
-              accepted_scope (asks i) s c rows (rows_then new Tree.nil) push (subst (λ (z : List Tree). walk (asks i) c n rows ≡ accepted (rows_then z Tree.nil) j) (sym all.2) all.1) pop;
-          readable = λ k. (fresh.default k 0).readable;
-          unreadable = λ k c. tt;
-          refusal = λ k c. tt;
-          after_error = λ k. tt;
-        }
+        let fresh : RowsClauses i row reader n [] j new (Ok tt) = subst Q none given in
+        closed i reader.left (rows_in row reader) (λ c n made at. RowsFault (asks i) c row reader (n, []) (m, made) at) (λ c n made e. StopsAtRow (asks i) c row reader (n, []) e (m, made)) s m push
+        (λ k c rows left. (fresh.default k c).reading rows left) (λ k. (fresh.default k 0).readable) pop
+
+-- ---- of rows of which none opens a scope too many
+
+module _ {S E : Type 0} (i : Ghosts S E) (row : Shape) (reader : ScopedStanding) (s : S) where
+  pub shallow_unopened : {A : Type 0} (m : S) (within : Tree → Tree) (view : A → Tree) (e : Error E) → RepliesPush i.reply i.next s m (Err e) → NeverWants {A = Unit {0}} i.sure (Err e) →
+      (r : Result A (Error E)) → IsErrAnd r (λ y. y ≡ e) → ShallowScopeClauses i row reader within view s m r
+  shallow_unopened m = unopened i reader.rows.left (shallow_rows_in row reader) (λ c n made at. ShallowFault (asks i) c row reader (n, []) (m, made) at) (λ c n made e. StopsShallow (asks i) c row reader (n, []) e (m, made)) s m
+
+  module _ {n : S} {old : List Tree} (push : Answers i.reply i.next s n Push 0) (none : old ≡ []) where
+    pub shallow_stopped : {m : S} {new : List Tree} (e : Error E) → ShallowRowsClauses i row reader n old m new (Err e) → (r : Result (List Tree) (Error E)) → IsErrAnd r (λ y. y ≡ e) →
+        ShallowScopeClauses i row reader (λ t. t) scope_tree s m r
+    shallow_stopped {m = m} {new = new} e given r q =
+        let Q : List Tree → Type 0 = λ z. ShallowRowsClauses i row reader n z m new (Err e) in
+        let fresh : ShallowRowsClauses i row reader n [] m new (Err e) = subst Q none given in
+        stopped i reader.rows.left (shallow_rows_in row reader) (λ c n made at. ShallowFault (asks i) c row reader (n, []) (m, made) at) (λ c n made e. StopsShallow (asks i) c row reader (n, []) e (m, made)) s m push e (record {
+          reading = λ k c rows all. (fresh.default k c).reading rows all;
+          counted = λ rows all. all.left.counted;
+          readable = λ k. tt;
+          unreadable = λ k c. (fresh.default k c).unreadable;
+          refusal = λ k c. (fresh.default k c).refusal;
+          after_error = fresh.after_error;
+        }) r q
+
+    pub shallow_closed : {j m : S} {new : List Tree} → ShallowRowsClauses i row reader n old j new (Ok tt) → Answers i.reply i.next j m Pop 0 → ShallowScopeClauses i row reader (λ t. t) scope_tree s m (Ok new)
+    shallow_closed {j = j} {m = m} {new = new} given pop =
+        let Q : List Tree → Type 0 = λ z. ShallowRowsClauses i row reader n z j new (Ok tt) in
+        let fresh : ShallowRowsClauses i row reader n [] j new (Ok tt) = subst Q none given in
+        closed i reader.rows.left (shallow_rows_in row reader) (λ c n made at. ShallowFault (asks i) c row reader (n, []) (m, made) at) (λ c n made e. StopsShallow (asks i) c row reader (n, []) e (m, made)) s m push
+        (λ k c rows all. (fresh.default k c).reading rows all) (λ k. (fresh.default k 0).readable) pop

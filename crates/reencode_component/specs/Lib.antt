@@ -10,6 +10,7 @@ pub mod ComponentFaults
 pub mod TypeClauses
 pub mod ScopedRows
 pub mod NestedClauses
+pub mod DeclarationClauses
 pub mod ComponentLaws
 pub mod Within
 pub mod WithinLaws

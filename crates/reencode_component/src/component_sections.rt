@@ -14,6 +14,7 @@ ghost use Rattle.reencode_component.specs.ComponentClauses.{FrameClauses, placed
 ghost use Rattle.reencode_component.specs.ScopedRows.{ShallowRowsClauses};
 
 use crate::component::ReencodeComponent;
+use crate::component_types::parse_component_type_section;
 use reencode_hooks::{Error, ReencodeIndices};
 use std::alloc::Global;
 use wasm_leb::{Fault, ReadError};
@@ -257,6 +258,23 @@ impl<'a, T: ReencodeComponent> MapScopedSection<
     }
 }
 
+impl<'a, T: ReencodeComponent> MapScopedSection<
+    T,
+    w::Of<kinds::ComponentTypes>,
+    r::ComponentTypeSectionReader<'a>,
+> for kinds::ComponentTypes {
+    ghost standing = { λ reader. reader };
+
+    fn map(
+        reencoder: &mut T,
+        alloc: Global,
+        types: &mut w::ComponentTypeSection,
+        section: r::ComponentTypeSectionReader<'a>,
+    ) -> Result<(), Error<T::Error>> {
+        parse_component_type_section(reencoder, alloc, types, section)
+    }
+}
+
 /// The start of a component.
 fn start<T: ReencodeComponent>(
     reencoder: &mut T,
@@ -306,6 +324,11 @@ pub(crate) fn numbered<T: ReencodeComponent>(
     }
     if id == 6 {
         return flat_rows::<T, kinds::Aliases>(reencoder, alloc, component, at, body, depth);
+    }
+    if id == 7 {
+        return scoped_rows::<T, kinds::ComponentTypes>(
+            reencoder, alloc, component, at, body, depth,
+        );
     }
     if id == 8 {
         return flat_rows::<T, kinds::CanonicalFunctions>(

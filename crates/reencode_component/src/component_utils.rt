@@ -8,6 +8,10 @@ ghost use Rattle.wasm_write_component.specs.Aliases as write;
 ghost use Rattle.reencode_items.specs.Clauses.{ItemClauses};
 ghost use Rattle.reencode_component.specs.Clauses.{ValueClauses};
 
+pub use crate::component_types::{
+    component_instance_type, component_type, parse_component_instance_type_declaration,
+    parse_component_type, parse_component_type_declaration, parse_component_type_section,
+};
 pub use crate::components::{
     parse_component, parse_component_payload, parse_component_subcomponent,
 };

@@ -8,6 +8,7 @@ mod chain;
 mod component;
 mod component_rows;
 mod component_sections;
+mod component_types;
 pub mod component_utils;
 mod components;
 mod core_types;

@@ -2,6 +2,7 @@
 //! them.
 ghost use Rattle.std.specs.Prelude.{ℕ, List};
 ghost use Rattle.wasm_shapes.specs.Component.{core_type};
+ghost use Rattle.wasm_shapes.specs.Depth.{Shallow};
 ghost use Rattle.wasm_shapes.specs.Drawn.{IsItem};
 ghost use Rattle.wasm_shapes.specs.Spells.{Spelled};
 ghost use Rattle.wasm_shapes.specs.Tree.{Tree};
@@ -32,7 +33,7 @@ pub(crate) trait MapScopedRow<T: ReencodeIndices, W: RowKind, A> {
         sink: &mut RowSection<W>,
         row: A,
     ) -> Result<(), Error<T::Error>>
-        ensures { (depth : ℕ) (t : Tree) (text : List ℕ) → read depth row t → Spelled t text →
+        ensures { (depth : ℕ) (t : Tree) (text : List ℕ) → read depth row t → Spelled t text → Shallow depth t →
             RowClauses T.ReencodeIndices t reencoder.old sink.old reencoder.new sink.new result };
 }
 

@@ -1,16 +1,24 @@
-//! The default bodies of the calls that map types with others inside, which the trait and `component_utils` share.
+//! The default bodies of the calls that map types with others inside, which the trait and `component_utils` share, and what these
+//! bodies have in common.
 
-macro_rules! component_module_type {
-    ($reencoder:ident, $alloc:ident, $ty:ident) => {{
+// A scope, each declaration of it that the reader still has by a call that adds what it becomes.
+macro_rules! scope {
+    ($reencoder:ident, $alloc:ident, $ty:ident, $made:ident: $of:ident, $row:ident => $step:expr) => {{
         let mut rows = $ty;
-        let mut module = w::ModuleType::new($alloc);
+        let mut $made = w::$of::new($alloc);
         $reencoder.push_depth()?;
-        'rows: while let Some(row) = rows.next_row($alloc)? {
-            $reencoder.parse_component_module_type_declaration($alloc, &mut module, row)?;
+        'rows: while let Some($row) = rows.next_row($alloc)? {
+            $step?;
         }
         $reencoder.pop_depth();
-        Ok(module)
+        Ok($made)
     }};
+}
+
+macro_rules! component_module_type {
+    ($reencoder:ident, $alloc:ident, $ty:ident) => {
+        $crate::type_bodies::scope!($reencoder, $alloc, $ty, module: ModuleType, row => $reencoder.parse_component_module_type_declaration($alloc, &mut module, row))
+    };
 }
 
 macro_rules! parse_component_core_type {
@@ -30,3 +38,4 @@ macro_rules! parse_component_core_type {
 
 pub(crate) use component_module_type;
 pub(crate) use parse_component_core_type;
+pub(crate) use scope;

@@ -1,5 +1,5 @@
 -- The frames of the sections of a component: what a payload stands for, and what the reader of payloads promises.
-use Rattle.std.specs.Prelude.{◌≡◌, ◌≢◌, ℕ, ◌<◌, ◌≤◌, List, [], ◌++◌, length, Bool, true, ◌&&◌, ◌||◌, nat_eq, nat_le}
+use Rattle.std.specs.Prelude.{◌≡◌, ◌≢◌, ℕ, ◌<◌, ◌≤◌, List, [], ◌++◌, length, Bool, true, ◌&&◌, nat_le}
 use Rattle.wasm_leb.specs.declared.fault.Fault.{Fault}
 use Rattle.wasm_leb.specs.declared.fault.Fault.TheVariants as fault
 use Rattle.wasm_leb.specs.declared.fault.Kind.TheVariants as kind
@@ -29,9 +29,9 @@ component_payload_at (payload.Component at bytes) = at
 component_payload_at (payload.Custom at section) = at
 component_payload_at (payload.Unknown at id contents) = at
 
--- whether a section may have this id: 1 to 6, or 8 to 127
+-- whether a section may have this id: 1 to 127
 abbrev pub has_frame : ℕ → Bool
-has_frame id = nat_eq id 1 || (nat_eq id 2 || (nat_eq id 3 || (nat_eq id 4 || (nat_eq id 5 || (nat_eq id 6 || (nat_le 8 id && nat_le id 127))))))
+has_frame id = nat_le 1 id && nat_le id 127
 
 -- a payload that a reader gives: a core module or a component, another of a kind below 12, or of an id that no table knows
 abbrev pub IsGiven : ComponentPayload → Type 0

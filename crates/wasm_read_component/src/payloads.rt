@@ -56,7 +56,7 @@ impl<'a> ComponentPayloads<'a> {
 
     /// The frame of the next section, or none at the end. It is a `Module`, a `Component`, a `Section` or an `Unknown`.
     ///
-    /// The error comes exactly where no frame of an id begins that is in force: of these are the ids 1 to 6 and 8 to 127. It
+    /// The error comes exactly where no frame of an id begins that is in force: of these are the ids 1 to 127. It
     /// holds the place where the frame is due, counted from the first byte of the header, and leaves the reader where it
     /// stood. No memory is taken.
     pub fn next(&mut self) -> Result<Option<ComponentPayload<'a>>, Fault>
@@ -96,7 +96,7 @@ fn id_of_kind(kind: SectionId) -> u8
 fn has_frame(id: u8) -> bool
     ensures { result ≡ has_frame id }
 {
-    id == 1 || id == 2 || id == 3 || id == 4 || id == 5 || id == 6 || (8 <= id && id <= 127)
+    1 <= id && id <= 127
 }
 
 /// The section of this id, where it is in force.
