@@ -11,3 +11,5 @@ mod payload_tests;
 mod reader_tests;
 #[cfg(test)]
 mod type_tests;
+#[cfg(test)]
+mod whole_tests;
