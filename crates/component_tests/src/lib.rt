@@ -17,3 +17,5 @@ mod section_tests;
 mod type_calls_tests;
 #[cfg(test)]
 mod type_tests;
+#[cfg(test)]
+mod whole_tests;

@@ -67,7 +67,7 @@ module_read depth body u low force r =
     let p = nested.module_forth depth body u low r in
     let most : opens (Tree.scope (core_tree u)) + depth ≤ 200 = p.1.most in (
       component_section_tree 1 (Tree.scope (core_tree u)),
-      record { framed = InComponentFrame.of_id 1 (Tree.scope (core_tree u)) body (omega arith) (omega arith) p.0; shallow = record { most = most }; in_force = force },
+      record { framed = InComponentFrame.of_id 1 (Tree.scope (core_tree u)) body (omega arith) (omega arith) p.0; shallow = record { most = omega (arith, most) }; in_force = force },
     )
 
 component_read : (depth : ℕ) (body : List ℕ) (u : Tree) → has_frame 4 ≡ true → ReadsComponent (depth + 1) body u → (t : Tree) × ReadsSection depth (numbered_frame 4 body) t
@@ -75,7 +75,7 @@ component_read depth body u force r =
     let p = nested.component_forth depth body u r.reading in
     let most : opens (Tree.scope (component_tree u)) + depth ≤ 200 = p.1.most in (
       component_section_tree 4 (Tree.scope (component_tree u)),
-      record { framed = InComponentFrame.of_id 4 (Tree.scope (component_tree u)) body (omega arith) (omega arith) p.0; shallow = record { most = most }; in_force = force },
+      record { framed = InComponentFrame.of_id 4 (Tree.scope (component_tree u)) body (omega arith) (omega arith) p.0; shallow = record { most = omega (arith, most) }; in_force = force },
     )
 
 -- ---- what is said

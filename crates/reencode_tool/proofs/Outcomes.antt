@@ -40,7 +40,7 @@ use Rattle.reencode_tool.specs.declared.answer.ReencodingFault.{ReencodingFault}
 use Rattle.reencode_tool.specs.declared.renamers.Renamers.{Renamers}
 use Rattle.reencode_tool.specs.declared.renamers.Renamers.TheVariants.{Alone, Both}
 use Rattle.reencode_tool.specs.Plain.{IsPlain}
-use Rattle.reencode_tool.specs.Renamers.{AreCounts, Lack, State, all_counted, asks_of, begun, counts_in, hooks_of, next_of, reply_of, rule_of, told_lack}
+use Rattle.reencode_tool.specs.Renamers.{AreCounts, IsLacking, Lack, State, all_counted, asks_of, begun, counts_in, hooks_of, next_of, reply_of, rule_of, told_lack}
 use Rattle.reencode_tool.specs.Reencoded.{IsReencoded, IsMakingFault, IsRefused, IsFault, IsFirstUpTo, IsUserRefusal, IsOutputTooLarge, IsRefusal, OfComponent, OfModule}
 use Rattle.reencode_tool.specs.Reencoded.{AnyBeforeFault}
 use Rattle.reencode_tool.specs.Taken.{HasFault, Reads, promised, taking}
@@ -234,7 +234,7 @@ spelled_by Modules bytes t p = p.spelled
 spelled_by Binaries bytes t (inl p) = p.spelled
 spelled_by Binaries bytes t (inr (u, q, r)) = let P : Tree → Type 0 = λ z. Spelled z bytes in subst P (sym q) (component_headed.forth 0 bytes u r.reading).0.spelled
 
-module _ {A : Type 0} (k : Taken) (c : ℕ) (rs : Renamers) (bytes : List ℕ) {m : State rs} (view : A → List ℕ) where
+module _ {A : Type 0} (k : Taken) (c : ℕ) (rs : Renamers) (bytes : List ℕ) (m : State rs) (view : A → List ℕ) where
   -- the walk over a reading was refused
   walked : (e : Error (Lack rs)) → promised k (hooks_of rs) view c bytes (begun rs) m (Err e) → e ≢ error.NoMemory → (t : Tree) → Reads k bytes t → walk (asks_of rs) c (begun rs) t ≡ refused e m
   walked e g other t r = (walk_stops (asks_of rs) c (begun rs) m t e).1 ((tells rs view k).stops c bytes (begun rs) m e g refl refl other t r)
@@ -260,13 +260,13 @@ module _ {A : Type 0} (k : Taken) (c : ℕ) (rs : Renamers) (bytes : List ℕ) {
       let n = ran rs vs (begun rs) (keeps_begun rs) h.3 in inr (h.0, h.2, n.answers, h.4, stops rs h.2 h.1 n.keeps h.5)
 
   -- the last visit that was made has no answer
-  last_lacks : {u : Lack rs} → promised k (hooks_of rs) view c bytes (begun rs) m (Err (error.UserError u)) → IsLacking rs u
-  last_lacks {u} g =
+  last_lacks : (u : Lack rs) → promised k (hooks_of rs) view c bytes (begun rs) m (Err (error.UserError u)) → IsLacking rs u
+  last_lacks u g =
       let p = (tells rs view k).last c bytes (begun rs) m (error.UserError u) g refl u refl in
       let q = stops rs p.0 (begun rs) (keeps_begun rs) p.1 in no_answer rs q.visit u q.refused
 
 -- where a component's bytes have a fault, a refusal comes of what stands before it
-module _ {A : Type 0} (c : ℕ) (rs : Renamers) (bytes : List ℕ) {m : State rs} (view : A → List ℕ) where
+module _ {A : Type 0} (c : ℕ) (rs : Renamers) (bytes : List ℕ) (m : State rs) (view : A → List ℕ) where
   component_before : (e : Error (Lack rs)) → ComponentBytesClauses (hooks_of rs) c bytes (begun rs) m (Err e) view → IsRefusal e → OfComponent c rs bytes m e
   component_before e (inl h) is = absurd (not_wanted e h.0 is)
     where
@@ -309,7 +309,7 @@ Caused c rs bytes m e =
     CauseBy (asks (hooks_of rs)) (added (λ s v. [])) c 0 (inside (asks (hooks_of rs)) (λ s v. []) c 0) (own_inside (asks (hooks_of rs)) (λ s v. []) c 0) bytes (begun rs) m e
 
 -- where nothing is renamed, a component's bytes are longer than the ceiling
-IsLong : ℕ → List ℕ → Renamers → Type 0
+abbrev IsLong : ℕ → List ℕ → Renamers → Type 0
 IsLong c bytes rs =
     (m : State rs) (e : Error (Lack rs)) → IsRefusal e → Caused c rs bytes m e → ((t : Tree) → ReadsComponent 0 bytes t → walk (asks_of rs) c (begun rs) (component_tree t) ≡ refused e m) → c < length bytes
 
@@ -323,7 +323,7 @@ long_alone c bytes m e is cause reads = go (less_or_not c (length bytes))
         (λ t r. never (only_large c (component_tree t) bytes blank_new (component_headed.forth 0 bytes t r.reading).0.spelled (reads t r)).long)
         (λ l. never l.long))
 
-module _ {A : Type 0} (c : ℕ) (rs : Renamers) (bytes : List ℕ) {m : State rs} (view : A → List ℕ) where
+module _ {A : Type 0} (c : ℕ) (rs : Renamers) (bytes : List ℕ) (m : State rs) (view : A → List ℕ) where
   component_above : (size : ℕ) → promised Binaries (hooks_of rs) view c bytes (begun rs) m (Err (error.TooLarge size)) → HasComponentHeading bytes → (c < size) × (rs ≡ Alone no_renaming → c < length bytes)
   component_above size g h = (go (told_or_not rs c (error.TooLarge size)), λ same. by same m (error.TooLarge size) tt cause reads)
     where
@@ -335,48 +335,48 @@ module _ {A : Type 0} (c : ℕ) (rs : Renamers) (bytes : List ℕ) {m : State rs
       cause = caused (g.component h)
 
       reads : (t : Tree) → ReadsComponent 0 bytes t → walk (asks_of rs) c (begun rs) (component_tree t) ≡ refused (error.TooLarge size) m
-      reads t r = walked Binaries c rs bytes view (error.TooLarge size) g (λ same. cc) (component_tree t) (inr (t, refl, r))
+      reads t r = walked Binaries c rs bytes m view (error.TooLarge size) g (λ same. cc) (component_tree t) (inr (t, refl, r))
 
       go : (Told rs c (error.TooLarge size) → ⊥) ⊎ Told rs c (error.TooLarge size) → Told rs c (error.TooLarge size)
       go (inr t) = t
       go (inl never) =
           absurd (component_is_told (hooks_of rs) (λ s v h. refl) (renamers_tell rs) 200 0 c (error.TooLarge size) bytes (begun rs) m refl tt (keeps_begun rs) cause
-          (λ t r. never (reading_told Binaries c rs bytes view (error.TooLarge size) g (λ same. cc) (component_tree t) (inr (t, refl, r)))) never)
+          (λ t r. never (reading_told Binaries c rs bytes m view (error.TooLarge size) g (λ same. cc) (component_tree t) (inr (t, refl, r)))) never)
 
       by : rs ≡ Alone no_renaming → IsLong c bytes rs
       by same = subst (IsLong c bytes) (sym same) (long_alone c bytes)
 
   above : (k : Taken) (size : ℕ) → promised k (hooks_of rs) view c bytes (begun rs) m (Err (error.TooLarge size)) → (c < size) × (rs ≡ Alone no_renaming → c < length bytes)
-  above Modules size g = module_above c rs bytes view size g
+  above Modules size g = module_above c rs bytes m view size g
   above Binaries size g = go (heading_or_not bytes)
     where
       go : HasComponentHeading bytes ⊎ NoComponentHeading bytes → (c < size) × (rs ≡ Alone no_renaming → c < length bytes)
       go (inl h) = component_above size g h
-      go (inr n) = module_above c rs bytes view size (g.core n)
+      go (inr n) = module_above c rs bytes m view size (g.core n)
 
-module _ {A : Type 0} (k : Taken) (c : ℕ) (rs : Renamers) (bytes : List ℕ) {m : State rs} (view : A → List ℕ) where
+module _ {A : Type 0} (k : Taken) (c : ℕ) (rs : Renamers) (bytes : List ℕ) (m : State rs) (view : A → List ℕ) where
   pub why_given : (e : Error (Lack rs)) → promised k (hooks_of rs) view c bytes (begun rs) m (Err e) → Why k c rs bytes e
   why_given e g = go e g ((tells rs view k).fault c bytes (begun rs) m e g refl)
     where
       go : (e : Error (Lack rs)) → promised k (hooks_of rs) view c bytes (begun rs) m (Err e) → IfFault e (HasFault k bytes) → Why k c rs bytes e
-      go error.InvalidCodeSectionSize g h = fault_there k c rs bytes view error.InvalidCodeSectionSize faults.CodeSize g (λ same. cc) (λ q. q) tt h
-      go error.UnexpectedNonCoreModuleSection g h = fault_there k c rs bytes view error.UnexpectedNonCoreModuleSection (faults.Header kinds.Component) g (λ same. cc) (λ q. q) tt h
-      go error.UnexpectedNonComponentSection g h = fault_there k c rs bytes view error.UnexpectedNonComponentSection (faults.Header kinds.Module) g (λ same. cc) (λ q. q) tt h
-      go (error.ParseError e) g h = fault_there k c rs bytes view (error.ParseError e) (faults.Read e) g (λ same. cc) (λ q. q) tt h
+      go error.InvalidCodeSectionSize g h = fault_there k c rs bytes m view error.InvalidCodeSectionSize faults.CodeSize g (λ same. cc) (λ q. q) tt h
+      go error.UnexpectedNonCoreModuleSection g h = fault_there k c rs bytes m view error.UnexpectedNonCoreModuleSection (faults.Header kinds.Component) g (λ same. cc) (λ q. q) tt h
+      go error.UnexpectedNonComponentSection g h = fault_there k c rs bytes m view error.UnexpectedNonComponentSection (faults.Header kinds.Module) g (λ same. cc) (λ q. q) tt h
+      go (error.ParseError e) g h = fault_there k c rs bytes m view (error.ParseError e) (faults.Read e) g (λ same. cc) (λ q. q) tt h
       go (error.UserError u) g h = record {
         u = u;
         is = refl;
-        unmapped = last_lacks k c rs bytes view g;
+        unmapped = last_lacks k c rs bytes m view u g;
         first = λ t r. stops rs (visits t) (begun rs) (keeps_begun rs) ((tells rs view k).reading c bytes (begun rs) m (error.UserError u) g refl u refl t r);
-        walked = λ t r. (m, walked k c rs bytes view (error.UserError u) g (λ same. cc) t r);
-        fault = λ t rest f. first_up_to k c rs bytes view (visits t) rest ((tells rs view k).further c bytes (begun rs) m (error.UserError u) g refl u refl t rest f);
-        before = (m, before_fault c rs bytes view k (error.UserError u) g tt);
+        walked = λ t r. (m, walked k c rs bytes m view (error.UserError u) g (λ same. cc) t r);
+        fault = λ t rest f. first_up_to k c rs bytes m view (visits t) rest ((tells rs view k).further c bytes (begun rs) m (error.UserError u) g refl u refl t rest f);
+        before = (m, before_fault c rs bytes m view k (error.UserError u) g tt);
       }
       go (error.TooLarge size) g h = record {
-        above = (above c rs bytes view k size g).0;
-        first = λ t r. (m, walked k c rs bytes view (error.TooLarge size) g (λ same. cc) t r);
-        before = (m, before_fault c rs bytes view k (error.TooLarge size) g tt);
-        longer = (above c rs bytes view k size g).1;
+        above = (above c rs bytes m view k size g).0;
+        first = λ t r. (m, walked k c rs bytes m view (error.TooLarge size) g (λ same. cc) t r);
+        before = (m, before_fault c rs bytes m view k (error.TooLarge size) g tt);
+        longer = (above c rs bytes m view k size g).1;
       }
       go error.NoMemory g h = tt
       go _ g h = h

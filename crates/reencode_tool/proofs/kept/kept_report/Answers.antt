@@ -1,10 +1,12 @@
-use Rattle.std.proofs.Common.{ℕ, refl, ap, ◌∙◌, subst, [], ◌∷◌}
+use Rattle.std.proofs.Common.{ℕ, Err, refl, ap, ◌∙◌, subst, [], ◌∷◌}
+use Rattle.reencode_core.specs.Clauses.{BytesClauses}
 use Rattle.reencode_core.specs.Pieces.{joined, kept_ranges}
 use Rattle.reencode_hooks.specs.Renamings.{Renaming}
 use Rattle.reencode_tool.specs.declared.renamers.Renamers.TheVariants as renamers
 use Rattle.reencode_tool.specs.declared.taken.Taken.TheVariants.{Modules}
 use Rattle.reencode_tool.specs.Kept.{kept_report}
 use Rattle.reencode_tool.specs.Reencoded.{IsMakingFault, IsRefused}
+use Rattle.reencode_tool.specs.Renamers.{hooks_of}
 use Rattle.reencode_tool.proofs.Keeping.{keeps_given}
 use Rattle.reencode_tool.proofs.Outcomes.{made_as, refused_as, why_given}
 use Rattle.reencode_tool.proofs.kept.kept_report.Goals as goal
@@ -13,8 +15,9 @@ pub returns-in-Err-clause-refused : goal.returns-in-Err-clause-refused
 returns-in-Err-clause-refused c =
     let r = c.new-renamer.result in
     let e = c.in-Err.ensures in
-    let g = record { default = e.default; woven = e.woven; after_error = e.after_error; headless = e.headless } in
-    let why = why_given Modules c.args.ceiling (renamers.Alone r) c.args.bytes.now (joined c.args.bytes.now) c.in-Err.e g in
+    let g : BytesClauses (hooks_of (renamers.Alone r)) c.args.ceiling c.args.bytes.now r c.reencode_pieces.new.r (Err c.in-Err.e) (joined c.args.bytes.now) =
+    record { default = e.default; woven = e.woven; after_error = e.after_error; headless = e.headless } in
+    let why = why_given Modules c.args.ceiling (renamers.Alone r) c.args.bytes.now c.reencode_pieces.new.r (joined c.args.bytes.now) c.in-Err.e g in
     subst (λ (z : Renaming). IsRefused Modules c.args.ceiling (renamers.Alone z) c.args.bytes.now c.reencoding_fault.result) c.new-renamer.ensures
     (refused_as Modules c.args.ceiling (renamers.Alone r) c.args.bytes.now c.in-Err.e c.reencoding_fault.result why c.reencoding_fault.ensures)
 
@@ -22,9 +25,10 @@ pub returns-in-Err-clause-made : goal.returns-in-Err-clause-made
 returns-in-Err-clause-made c =
     let r = c.new-renamer.result in
     let e = c.in-Err.ensures in
-    let g = record { default = e.default; woven = e.woven; after_error = e.after_error; headless = e.headless } in
+    let g : BytesClauses (hooks_of (renamers.Alone r)) c.args.ceiling c.args.bytes.now r c.reencode_pieces.new.r (Err c.in-Err.e) (joined c.args.bytes.now) =
+    record { default = e.default; woven = e.woven; after_error = e.after_error; headless = e.headless } in
     subst (λ (z : Renaming). IsMakingFault Modules c.args.ceiling (renamers.Alone z) c.args.bytes.now c.reencoding_fault.result) c.new-renamer.ensures
-    (made_as Modules c.args.ceiling (renamers.Alone r) c.args.bytes.now (joined c.args.bytes.now) c.in-Err.e g c.reencoding_fault.result c.reencoding_fault.ensures)
+    (made_as Modules c.args.ceiling (renamers.Alone r) c.args.bytes.now c.reencode_pieces.new.r (joined c.args.bytes.now) c.in-Err.e g c.reencoding_fault.result c.reencoding_fault.ensures)
 
 pub returns-in-Ok-lines_of-clause-ok : goal.returns-in-Ok-lines_of-clause-ok
 returns-in-Ok-lines_of-clause-ok c =

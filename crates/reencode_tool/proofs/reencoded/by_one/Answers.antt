@@ -12,13 +12,13 @@ returns-in-Ok-clause-counts c h =
 pub reencoding_fault-requires : goal.reencoding_fault-requires
 reencoding_fault-requires c =
     has_status c.args.taken c.args.ceiling (renamers.Alone c.args.renamer) c.args.bytes.now c.in-Err.e
-    (why_given c.args.taken c.args.ceiling (renamers.Alone c.args.renamer) c.args.bytes.now (λ v. v.items) c.in-Err.e c.in-Err.ensures)
+    (why_given c.args.taken c.args.ceiling (renamers.Alone c.args.renamer) c.args.bytes.now c.reencode_taken.new.r (λ v. v.items) c.in-Err.e c.in-Err.ensures)
 
 pub returns-in-Err-clause-refused : goal.returns-in-Err-clause-refused
 returns-in-Err-clause-refused c =
-    let why = why_given c.args.taken c.args.ceiling (renamers.Alone c.args.renamer) c.args.bytes.now (λ v. v.items) c.in-Err.e c.in-Err.ensures in
+    let why = why_given c.args.taken c.args.ceiling (renamers.Alone c.args.renamer) c.args.bytes.now c.reencode_taken.new.r (λ v. v.items) c.in-Err.e c.in-Err.ensures in
     refused_as c.args.taken c.args.ceiling (renamers.Alone c.args.renamer) c.args.bytes.now c.in-Err.e c.reencoding_fault.result why c.reencoding_fault.ensures
 
 pub returns-in-Err-clause-made : goal.returns-in-Err-clause-made
 returns-in-Err-clause-made c =
-    made_as c.args.taken c.args.ceiling (renamers.Alone c.args.renamer) c.args.bytes.now (λ v. v.items) c.in-Err.e c.in-Err.ensures c.reencoding_fault.result c.reencoding_fault.ensures
+    made_as c.args.taken c.args.ceiling (renamers.Alone c.args.renamer) c.args.bytes.now c.reencode_taken.new.r (λ v. v.items) c.in-Err.e c.in-Err.ensures c.reencoding_fault.result c.reencoding_fault.ensures
