@@ -32,7 +32,8 @@ sort_of space.Component = Sort.own 0x04
 sort_of space.ComponentInstance = Sort.own 0x05
 sort_of _ = Sort.none
 
-abbrev is_sort : Sort → Bool
+-- there is one
+abbrev pub is_sort : Sort → Bool
 is_sort Sort.none = false
 is_sort _ = true
 
@@ -40,21 +41,23 @@ is_sort _ = true
 abbrev pub has_sort : Space → Bool
 has_sort p = is_sort (sort_of p)
 
-abbrev spelled_sort : Sort → List ℕ
+-- the bytes of a sort
+abbrev pub spelled_sort : Sort → List ℕ
 spelled_sort (Sort.core k b) = core_sort b
 spelled_sort (Sort.own b) = b ∷ []
 spelled_sort Sort.none = []
 
--- its bytes
+-- the same of what a space counts
 abbrev pub sort_bytes : Space → List ℕ
 sort_bytes p = spelled_sort (sort_of p)
 
-abbrev led_by : Sort → Tree → Tree
+-- what stands behind a sort
+abbrev pub led_by : Sort → Tree → Tree
 led_by (Sort.core k b) t = Tree.row 0 (led 0x00 (Tree.row k (led b t)))
 led_by (Sort.own b) t = Tree.row b (led b t)
 led_by Sort.none t = no_reading
 
--- what stands behind it
+-- the same of what a space counts
 abbrev pub behind_sort : Space → Tree → Tree
 behind_sort p t = led_by (sort_of p) t
 
