@@ -1,5 +1,5 @@
 -- Subsections of the names of a component, and the frames that they stand in.
-use Rattle.std.proofs.Common.{◌≡◌, ◌≢◌, ◌⊎◌, inl, inr, ℕ, ◌≤◌, ◌<◌, nat_eq, List, [], ◌∷◌, ◌++◌, Bool, true, false, Option, Some, None, if◌then◌else◌, refl, sym, ap, ap₂, ◌∙◌, append-nil, subst, arith}
+use Rattle.std.proofs.Common.{◌≡◌, inl, inr, ℕ, ◌≤◌, ◌<◌, nat_eq, List, [], ◌∷◌, ◌++◌, true, false, Option, Some, None, if◌then◌else◌, refl, sym, ap, ap₂, ◌∙◌, subst, arith}
 use Rattle.std.proofs.lemmas.Bool.{ne_eqb}
 use Rattle.wasm_shapes.specs.declared.Space.{Space}
 use Rattle.wasm_shapes.specs.declared.Space.TheVariants as space
@@ -317,8 +317,7 @@ map_read p m {body = body} {u = u} h b o =
     let es = entries_of r.0 r.2.rows_left.shaped in
     let L : MapStanding → List Tree → Type 0 = λ y z. EntriesLeft (plain_row Shape.name) y (rows_tree z) in
     let left : L (whole_map b.bytes) (entries_trees es.0) = subst (L (whole_map b.bytes)) es.1 r.2 in
-    let tree : u ≡ behind_sort p o.map = o.is ∙ ap (λ (y : Space). behind_sort y o.map) (sym same.0) in
-    (
+    let tree : u ≡ behind_sort p o.map = o.is ∙ ap (λ (y : Space). behind_sort y o.map) (sym same.0) in (
       es.0,
       subst (λ (y : MapStanding). L y (entries_trees es.0)) (sym b.map) left,
       ap (subsection_tree 1) tree ∙ ap (λ (z : Tree). subsection_tree 1 (behind_sort p z)) r.1 ∙ ap (component_names_tree p) es.1,

@@ -36,7 +36,7 @@ pub use type_sections::{ComponentTypeSectionReader, CoreTypeSectionReader};
 pub use types::{
     CanonicalFunction, CanonicalOption, ComponentAlias, ComponentArg, ComponentDefinedType,
     ComponentExport, ComponentExternalKind, ComponentFuncType, ComponentImport, ComponentInstance,
-    ComponentName, ComponentOuterAliasKind, ComponentPayload, ComponentStartFunction, ComponentTypeRef,
-    ComponentValType, Instance, InstantiationArg, InstantiationArgKind, Operands, OuterAliasKind,
-    PrimitiveValType, TypeBounds, VariantCase,
+    ComponentName, ComponentOuterAliasKind, ComponentPayload, ComponentStartFunction,
+    ComponentTypeRef, ComponentValType, Instance, InstantiationArg, InstantiationArgKind, Operands,
+    OuterAliasKind, PrimitiveValType, TypeBounds, VariantCase,
 };

@@ -1,12 +1,12 @@
 -- The rows of maps of names, and of name sections.
-use Rattle.std.proofs.Common.{◌≡◌, ℕ, ◌<◌, ◌≤◌, ◌^◌, List, [], ◌∷◌, ◌++◌, length, map, refl, sym, ap, ap₂, ◌∙◌, true, subst, arith, IsUtf8}
+use Rattle.std.proofs.Common.{◌≡◌, ℕ, ◌<◌, ◌≤◌, ◌^◌, List, [], ◌∷◌, ◌++◌, length, map, refl, sym, ap, ap₂, subst, arith, IsUtf8}
 use mathlib.Core.Logic.{∥∥₁_map}
 use Rattle.wasm_leb.specs.Leb.{leb, IsUnsigned}
 use Rattle.wasm_leb.proofs.Shortest.{leb_spells}
 use Rattle.wasm_shapes.specs.declared.Space.{Space}
 use Rattle.wasm_shapes.specs.Tree.{Tree, normal}
 use Rattle.wasm_shapes.specs.Shape.{Shape}
-use Rattle.wasm_shapes.specs.Spells.{Is, Spelled, Spells}
+use Rattle.wasm_shapes.specs.Spells.{Is, Spells}
 use Rattle.wasm_shapes.specs.Fits.{InRange}
 use Rattle.wasm_shapes.specs.Types.{rows_tree, vector_tree, led}
 use Rattle.wasm_shapes.specs.Module.{plain_naming, name_subsection, names_name, subsection}

@@ -1,5 +1,5 @@
 //! Subsections of names, as they are written (WebAssembly Core Specification 3.0, section 7.4.1).
-ghost use Rattle.std.specs.Prelude.{◌≡◌, ◌++◌, ◌∷◌, ◌<◌, ◌≤◌, [], length, take, vec_len, true, OnOk, OnErr, IfErr};
+ghost use Rattle.std.specs.Prelude.{◌≡◌, ◌++◌, ◌∷◌, ◌+◌, ◌<◌, ◌≤◌, [], length, take, vec_len, true, OnOk, OnErr, IfErr};
 ghost use Rattle.wasm_leb.specs.Leb.{leb};
 ghost use Rattle.wasm_shapes.specs.Shape.{Shape};
 ghost use Rattle.wasm_shapes.specs.Sound.{sound};
@@ -81,7 +81,8 @@ fn write_subsection(
 
 /// How many bytes a number and others behind it are.
 fn len_behind(number: Option<u32>, bytes: &[u8]) -> usize
-    ensures { result ≡ length (behind number bytes.now) }
+    ensures value { result ≡ length (behind number bytes.now) }
+    ensures small { result ≤ length bytes.now + 5 }
 {
     match number {
         Some(n) => len_u32(n) + bytes.len(),
