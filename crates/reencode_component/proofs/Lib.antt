@@ -17,3 +17,4 @@ pub mod CoreGroups
 pub mod EachShallowRow
 pub mod CoreTypeCalls
 pub mod ComponentLaws
+pub mod ComponentNameCalls

@@ -7,14 +7,18 @@ ghost use Rattle.wasm_read_component.specs.ComponentRows as read;
 ghost use Rattle.wasm_read_component.specs.TypeRows.{module_declaration_tree};
 ghost use Rattle.wasm_write_component.specs.TypeRows.{scope_tree};
 ghost use Rattle.reencode_items.specs.Clauses.{ListClauses};
-ghost use Rattle.reencode_core.specs.Clauses.{RowClauses, RowsClauses};
+ghost use Rattle.wasm_read_component.specs.ComponentNames.{IsRawName};
+ghost use Rattle.reencode_core.specs.Clauses.{NamesClausesOf, RowClauses, RowsClauses, SubsectionClausesOf};
 ghost use Rattle.reencode_component.specs.Clauses.{AddedClauses};
+ghost use Rattle.reencode_component.specs.ComponentNames.{component_names};
 ghost use Rattle.reencode_component.specs.ScopedRows.{ShallowRowsClauses};
 ghost use Rattle.reencode_component.specs.TypeClauses.{CoreTypeClauses, ScopeClauses};
 
 use crate::items::ReencodeComponentItems;
-use crate::{core_types, default_bodies, row_sections, rows, sections, type_bodies, types};
-use reencode_core::Reencode;
+use crate::{
+    core_types, default_bodies, names, row_sections, rows, sections, type_bodies, types,
+};
+use reencode_core::{Reencode, placed};
 use reencode_hooks::Error;
 use std::alloc::Global;
 use wasm_read_component as r;
@@ -263,5 +267,35 @@ pub trait ReencodeComponent: Reencode + ReencodeComponentItems {
             self.old «module».old self.new «module».new result }
     {
         core_types::parse_component_module_type_declaration(self, alloc, module, decl)
+    }
+
+    /// Maps the subsections of a component's names that the reader still has, each by
+    /// `parse_custom_component_name_subsection`. No subsection that is written may be longer than the ceiling. A `ParseError`
+    /// holds the place of the subsection in fault.
+    fn custom_component_name_section(
+        &mut self,
+        alloc: Global,
+        section: r::ComponentNameSectionReader<'_>,
+        ceiling: u32,
+    ) -> Result<w::ComponentNameSection, Error<Self::Error>>
+        ensures { NamesClausesOf component_names Self.ReencodeIndices ceiling section.entry
+            self.old self.new result }
+    {
+        default_bodies::custom_component_name_section!(self, alloc, section, ceiling)
+    }
+
+    /// Maps a subsection of a component's names and adds it. The indices of a map are mapped by the hook of their space. A
+    /// `ParseError` holds the place in the map behind the entries that were accepted.
+    fn parse_custom_component_name_subsection(
+        &mut self,
+        alloc: Global,
+        names: &mut w::ComponentNameSection,
+        section: r::ComponentName<'_>,
+    ) -> Result<(), Error<Self::Error>>
+        requires { IsRawName section }
+        ensures { SubsectionClausesOf component_names Self.ReencodeIndices section.entry
+            self.old names.old self.new names.new result }
+    {
+        names::parse_custom_component_name_subsection(self, alloc, names, section)
     }
 }

@@ -5,9 +5,10 @@ ghost use Rattle.wasm_shapes.specs.Component.{canonical_function, component_expo
 ghost use Rattle.wasm_types.specs.ComponentTrees.{component_val_type_tree, type_ref_tree};
 ghost use Rattle.wasm_read_component.specs.Aliases as read;
 ghost use Rattle.wasm_write_component.specs.Aliases as write;
-ghost use Rattle.reencode_core.specs.Clauses.{RowsClauses};
+ghost use Rattle.reencode_core.specs.Clauses.{NamesClausesOf, RowsClauses};
 ghost use Rattle.reencode_items.specs.Clauses.{ItemClauses};
 ghost use Rattle.reencode_component.specs.Clauses.{ValueClauses};
+ghost use Rattle.reencode_component.specs.ComponentNames.{component_names};
 
 use crate::component::ReencodeComponent;
 pub use crate::components::{parse_component, parse_component_payload};
@@ -17,6 +18,7 @@ use crate::items::ReencodeComponentItems;
 pub use crate::kinds::{
     component_export_kind, component_outer_alias_kind, component_primitive_val_type,
 };
+pub use crate::names::parse_custom_component_name_subsection;
 pub use crate::row_sections::{parse_component_alias_section, parse_component_import_section};
 pub use crate::rows::{
     parse_component_canonical, parse_component_export, parse_component_instance, parse_instance,
@@ -27,6 +29,7 @@ pub use crate::type_utils::{
 };
 pub use crate::types::{parse_component_defined_type, parse_component_func_type};
 use crate::{default_bodies, hooked};
+use reencode_core::placed;
 use reencode_hooks::Error;
 use std::alloc::Global;
 use wasm_read_component as r;
@@ -115,4 +118,18 @@ pub fn parse_instance_section<T: ReencodeComponent>(
         reencoder.old instances.old reencoder.new instances.new result }
 {
     default_bodies::each_row!(section, alloc, row => reencoder.parse_instance(alloc, instances, row))
+}
+
+/// Maps the subsections of a component's names that the reader still has, each by `parse_custom_component_name_subsection`. No
+/// subsection that is written may be longer than the ceiling. A `ParseError` holds the place of the subsection in fault.
+pub fn custom_component_name_section<T: ReencodeComponent>(
+    reencoder: &mut T,
+    alloc: Global,
+    section: r::ComponentNameSectionReader<'_>,
+    ceiling: u32,
+) -> Result<w::ComponentNameSection, Error<T::Error>>
+    ensures { NamesClausesOf component_names T.ReencodeIndices ceiling section.entry
+        reencoder.old reencoder.new result }
+{
+    default_bodies::custom_component_name_section!(reencoder, alloc, section, ceiling)
 }

@@ -19,6 +19,7 @@ mod items;
 mod kinds;
 mod laws;
 mod mapped;
+mod names;
 mod row_sections;
 mod rows;
 mod sections;

@@ -96,7 +96,7 @@ of_own p b {t = t} {body = body} h e d s =
     let here : body ≡ b ∷ s.1 = s.2 ∙ ap (λ (y : List ℕ). y ++ s.1) s.3 in
     record { p = p; sort = h; bytes = s.1; stands = rw e here; map = t; is = rw e refl; spells = record { shaped = d; spelled = s.4 } }
 
-of_sort : {body : List ℕ} {u : Tree} → Is sort_rows u → Spelled u body → OfSort body u
+pub of_sort : {body : List ℕ} {u : Tree} → Is sort_rows u → Spelled u body → OfSort body u
 of_sort (Is.first (Is.seq Is.fixed (Is.first (Is.seq Is.fixed d)))) s = of_core space.Function 0 0x00 refl refl d s
 of_sort (Is.first (Is.seq Is.fixed (Is.later (Is.first (Is.seq Is.fixed d))))) s = of_core space.Table 1 0x01 refl refl d s
 of_sort (Is.first (Is.seq Is.fixed (Is.later (Is.later (Is.first (Is.seq Is.fixed d)))))) s = of_core space.Memory 2 0x02 refl refl d s
@@ -146,7 +146,7 @@ pub record Framed (bytes : List ℕ) (t : Tree) (left : List ℕ) : Type 0 where
   pub inside : InBody id body t
 
 -- one of another id
-raw_above : {id : ℕ} (body : List ℕ) → 2 ≤ id → raw_component_names_tree id body ≡ Tree.row 2 (Tree.pair (Tree.byte id) (Tree.sized (Tree.raw body)))
+pub raw_above : {id : ℕ} (body : List ℕ) → 2 ≤ id → raw_component_names_tree id body ≡ Tree.row 2 (Tree.pair (Tree.byte id) (Tree.sized (Tree.raw body)))
 raw_above {id = id} body from = let other : nat_eq id 1 ≡ false = ne_eqb id 1 (λ e. omega arith) in rw other refl
 
 -- a subsection stands in its frame
@@ -241,12 +241,12 @@ there {bytes = bytes} {left = left} p (InBody.raw {id = id} {body = body} r) = g
 -- ---- what the contents are, by the name
 
 -- a map's space has a sort, and no map has maps inside
-abbrev IsSorted : Content → Type 0
+abbrev pub IsSorted : Content → Type 0
 IsSorted (Content.direct id p m) = (id ≡ 1) × (has_sort p ≡ true)
 IsSorted (Content.indirect id p m) = ⊥
 IsSorted _ = Unit {0}
 
-name_sorted : (n : ComponentName) → IsSorted (component_content n)
+pub name_sorted : (n : ComponentName) → IsSorted (component_content n)
 name_sorted (name.Component n) = tt
 name_sorted (name.CoreFuncs m) = (refl, refl)
 name_sorted (name.CoreTables m) = (refl, refl)
