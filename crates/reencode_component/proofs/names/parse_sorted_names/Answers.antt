@@ -12,20 +12,20 @@ map_names-requires g c = mut_by _ (λ f. has_sort f.1.now ≡ true) (λ f a h. s
 pub returns-in-Ok-clause-default : goal.returns-in-Ok-clause-default
 returns-in-Ok-clause-default g c = λ keeps n is.
     let w = c.names.ensures in
-    (map_written g.T.ReencodeComponentIndices.ReencodeIndices (sorted_map c.args.space is) (wraps _ c.args.space c.requires) _ _ (sorted_length c.args.space _ c.requires) (map_calls g.T.ReencodeComponentIndices.ReencodeIndices c.args.space (quiet_name _) _ (λ f. f.0.now) (λ f. f.0.ghost_name) (λ f. f.1.now) (λ f j r f' k. search rules) _ _ _ _ refl c.in-Ok.ensures (λ e. search rules)) _ w.ok w.fits w.err w.large _ c.written.ensures).default keeps
+    (map_written g.T.ReencodeIndices (sorted_map c.args.space is) (wraps _ c.args.space c.requires) _ _ (sorted_length c.args.space _ c.requires) (map_calls g.T.ReencodeIndices c.args.space (quiet_name _) _ (λ f. f.0.now) (λ f. f.0.ghost_name) (λ f. f.1.now) (λ f j r f' k. search rules) _ _ _ _ refl c.in-Ok.ensures (λ e. search rules)) _ w.ok w.fits w.err w.large _ c.written.ensures).default keeps
 
 pub returns-in-Err-clause-default : goal.returns-in-Err-clause-default
 returns-in-Err-clause-default g c = λ keeps n is.
-    (map_stopped g.T.ReencodeComponentIndices.ReencodeIndices (sorted_map c.args.space is) (wraps _ c.args.space c.requires) {old = c.args.names.now} _ (map_calls g.T.ReencodeComponentIndices.ReencodeIndices c.args.space (quiet_name _) _ (λ f. f.0.now) (λ f. f.0.ghost_name) (λ f. f.1.now) (λ f j r f' k. search rules) _ _ _ _ refl c.in-Err.ensures (λ e. search rules)) (Err c.in-Err.e) refl).default keeps
+    (map_stopped g.T.ReencodeIndices (sorted_map c.args.space is) (wraps _ c.args.space c.requires) {old = c.args.names.now} _ (map_calls g.T.ReencodeIndices c.args.space (quiet_name _) _ (λ f. f.0.now) (λ f. f.0.ghost_name) (λ f. f.1.now) (λ f j r f' k. search rules) _ _ _ _ refl c.in-Err.ensures (λ e. search rules)) (Err c.in-Err.e) refl).default keeps
 
 pub returns-in-Ok-clause-after_error : goal.returns-in-Ok-clause-after_error
 returns-in-Ok-clause-after_error g c = λ keeps n is.
     let w = c.names.ensures in
-    (map_written g.T.ReencodeComponentIndices.ReencodeIndices (sorted_map c.args.space is) (wraps _ c.args.space c.requires) _ _ (sorted_length c.args.space _ c.requires) (map_calls g.T.ReencodeComponentIndices.ReencodeIndices c.args.space (quiet_name _) _ (λ f. f.0.now) (λ f. f.0.ghost_name) (λ f. f.1.now) (λ f j r f' k. search rules) _ _ _ _ refl c.in-Ok.ensures (λ e. search rules)) _ w.ok w.fits w.err w.large _ c.written.ensures).after_error keeps
+    (map_written g.T.ReencodeIndices (sorted_map c.args.space is) (wraps _ c.args.space c.requires) _ _ (sorted_length c.args.space _ c.requires) (map_calls g.T.ReencodeIndices c.args.space (quiet_name _) _ (λ f. f.0.now) (λ f. f.0.ghost_name) (λ f. f.1.now) (λ f j r f' k. search rules) _ _ _ _ refl c.in-Ok.ensures (λ e. search rules)) _ w.ok w.fits w.err w.large _ c.written.ensures).after_error keeps
 
 pub returns-in-Err-clause-after_error : goal.returns-in-Err-clause-after_error
 returns-in-Err-clause-after_error g c = λ keeps n is.
-    (map_stopped g.T.ReencodeComponentIndices.ReencodeIndices (sorted_map c.args.space is) (wraps _ c.args.space c.requires) {old = c.args.names.now} _ (map_calls g.T.ReencodeComponentIndices.ReencodeIndices c.args.space (quiet_name _) _ (λ f. f.0.now) (λ f. f.0.ghost_name) (λ f. f.1.now) (λ f j r f' k. search rules) _ _ _ _ refl c.in-Err.ensures (λ e. search rules)) (Err c.in-Err.e) refl).after_error keeps
+    (map_stopped g.T.ReencodeIndices (sorted_map c.args.space is) (wraps _ c.args.space c.requires) {old = c.args.names.now} _ (map_calls g.T.ReencodeIndices c.args.space (quiet_name _) _ (λ f. f.0.now) (λ f. f.0.ghost_name) (λ f. f.1.now) (λ f j r f' k. search rules) _ _ _ _ refl c.in-Err.ensures (λ e. search rules)) (Err c.in-Err.e) refl).after_error keeps
 
 pub returns-in-Ok-clause-unchanged : goal.returns-in-Ok-clause-unchanged
 returns-in-Ok-clause-unchanged g c = λ keeps. not_written _ _ _ c.names.ensures.err _ c.written.ensures
