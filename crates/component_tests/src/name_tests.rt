@@ -1,4 +1,6 @@
 //! The names of a component, as they are read and as they are written.
+use reencode_component::{ReencodeComponent, component_utils};
+use reencode_hooks::{Error, Renamer, Unmapped};
 use wasm_leb::{Fault, ReadError};
 use wasm_read as r;
 use wasm_read_component::{ComponentName, ComponentNameSectionReader};
@@ -136,5 +138,40 @@ fn section_of_names(rt: HostRuntime) -> Result<(), WriteFault> {
         &bytes[8..],
         b"\x00\x19\x0ecomponent-name\x00\x02\x01c\x01\x01\x06\x07\x01\x09" as &[u8]
     );
+    Ok(())
+}
+
+/// Each index of a map is asked in the space of its sort; what is read by its bytes stays.
+#[test]
+fn names_are_mapped(rt: HostRuntime) -> Result<(), Error<Unmapped>> {
+    let alloc = rt.alloc();
+    let mut renamer = Renamer::new(alloc);
+    renamer.set(Space::ComponentFunc, 0, 2)?;
+    renamer.set(Space::Instance, 0, 3)?;
+    let body = b"\x00\x02\x01c\x01\x05\x01\x01\x00\x01f\x01\x06\x00\x12\x01\x00\x01i\x01\x05\x02\x01\x00\x01v\x07\x01\x09";
+    let made = b"\x00\x02\x01c\x01\x05\x01\x01\x02\x01f\x01\x06\x00\x12\x01\x03\x01i\x01\x05\x02\x01\x00\x01v\x07\x01\x09";
+    for by_function in [false, true] {
+        let rows = ComponentNameSectionReader::new(body)?;
+        let names = if by_function {
+            component_utils::custom_component_name_section(&mut renamer, alloc, rows, 1000)?
+        } else {
+            renamer.custom_component_name_section(alloc, rows, 1000)?
+        };
+        let mut bytes = Vec::new(alloc);
+        assert_eq!(rt; names.encode_body(&mut bytes), Ok(()));
+        assert_eq!(rt; &bytes[15..], made as &[u8]);
+    }
+    Ok(())
+}
+
+/// The place is that of the subsection in fault.
+#[test]
+fn names_in_fault(rt: HostRuntime) -> Result<(), Error<Unmapped>> {
+    let mut renamer = Renamer::new(rt.alloc());
+    let rows = ComponentNameSectionReader::new(&[7u8, 0, 1, 3, 1, 1, 0])?;
+    match renamer.custom_component_name_section(rt.alloc(), rows, 1000) {
+        Err(Error::ParseError(error)) => assert_eq!(rt; error, ReadError { at: 2 }),
+        _ => assert!(rt; false),
+    }
     Ok(())
 }
