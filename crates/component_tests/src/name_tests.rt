@@ -127,14 +127,16 @@ fn section_of_names(rt: HostRuntime) -> Result<(), WriteFault> {
     section.component("c")?;
     section.raw(1, &[0x06])?;
     section.raw(7, &[9])?;
-    assert_eq!(rt; section.component("long"), Err(WriteFault::TooLarge { size: 5 }));
+    assert_eq!(rt;
+        section.component("long"),
+        Err(WriteFault::TooLarge { size: 5 })
+    );
     let Ok(mut component) = Component::new(rt.alloc(), 1000) else {
         return Err(WriteFault::NoMemory);
     };
     component.section(&section)?;
     let bytes = component.finish();
-    assert_eq!(
-        rt;
+    assert_eq!(rt;
         &bytes[8..],
         b"\x00\x19\x0ecomponent-name\x00\x02\x01c\x01\x01\x06\x07\x01\x09" as &[u8]
     );
@@ -148,8 +150,10 @@ fn names_are_mapped(rt: HostRuntime) -> Result<(), Error<Unmapped>> {
     let mut renamer = Renamer::new(alloc);
     renamer.set(Space::ComponentFunc, 0, 2)?;
     renamer.set(Space::Instance, 0, 3)?;
-    let body = b"\x00\x02\x01c\x01\x05\x01\x01\x00\x01f\x01\x06\x00\x12\x01\x00\x01i\x01\x05\x02\x01\x00\x01v\x07\x01\x09";
-    let made = b"\x00\x02\x01c\x01\x05\x01\x01\x02\x01f\x01\x06\x00\x12\x01\x03\x01i\x01\x05\x02\x01\x00\x01v\x07\x01\x09";
+    let body =
+        b"\x00\x02\x01c\x01\x05\x01\x01\x00\x01f\x01\x06\x00\x12\x01\x00\x01i\x01\x05\x02\x01\x00\x01v\x07\x01\x09";
+    let made =
+        b"\x00\x02\x01c\x01\x05\x01\x01\x02\x01f\x01\x06\x00\x12\x01\x03\x01i\x01\x05\x02\x01\x00\x01v\x07\x01\x09";
     for by_function in [false, true] {
         let rows = ComponentNameSectionReader::new(body)?;
         let names = if by_function {
