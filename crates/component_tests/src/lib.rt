@@ -6,6 +6,8 @@ mod calls_tests;
 #[cfg(test)]
 mod items_tests;
 #[cfg(test)]
+mod name_tests;
+#[cfg(test)]
 mod nested_tests;
 #[cfg(test)]
 mod payload_tests;

@@ -30,3 +30,4 @@ pub mod TypeWeights
 pub mod TypesStanding
 pub mod ComponentLaws
 pub mod WithinLaws
+pub mod ComponentNameCalls

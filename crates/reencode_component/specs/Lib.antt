@@ -5,6 +5,7 @@ pub mod WeaveIn
 pub mod Causes
 pub mod Gives
 pub mod ComponentLeaves
+pub mod ComponentNames
 pub mod ComponentClauses
 pub mod ComponentFaults
 pub mod TypeClauses

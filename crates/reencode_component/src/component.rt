@@ -4,12 +4,15 @@ ghost use Rattle.wasm_shapes.specs.Component.{alias, canonical_function, compone
 ghost use Rattle.wasm_types.specs.ComponentTrees.{component_defined_type_tree, component_func_type_tree};
 ghost use Rattle.wasm_read_component.specs.ComponentRows as read;
 ghost use Rattle.reencode_items.specs.Clauses.{ListClauses};
-ghost use Rattle.reencode_core.specs.Clauses.{RowsClauses};
+ghost use Rattle.reencode_core.specs.Clauses.{NamesClausesOf, RowsClauses, SubsectionClausesOf};
+ghost use Rattle.wasm_read_component.specs.ComponentNames.{IsRawName};
 ghost use Rattle.reencode_component.specs.Clauses.{AddedClauses};
+ghost use Rattle.reencode_component.specs.ComponentNames.{component_names};
 ghost use Rattle.reencode_component.specs.ScopedRows.{ShallowRowsClauses};
 
 use crate::component_rows::ReencodeComponentRows;
-use crate::{row_sections, scoped_sections, sections, types};
+use crate::{default_bodies, names, row_sections, scoped_sections, sections, types};
+use reencode_core::placed;
 use reencode_hooks::Error;
 use std::alloc::Global;
 use wasm_read_component as r;
@@ -163,5 +166,35 @@ pub trait ReencodeComponent: ReencodeComponentRows {
             self.old types.old self.new types.new result }
     {
         scoped_sections::parse_core_type_section(self, alloc, types, section)
+    }
+
+    /// Maps the subsections of a component's names that the reader still has, each by
+    /// `parse_custom_component_name_subsection`. No subsection that is written may be longer than the ceiling. A `ParseError`
+    /// holds the place of the subsection in fault.
+    fn custom_component_name_section(
+        &mut self,
+        alloc: Global,
+        section: r::ComponentNameSectionReader<'_>,
+        ceiling: u32,
+    ) -> Result<w::ComponentNameSection, Error<Self::Error>>
+        ensures { NamesClausesOf component_names Self.ReencodeIndices ceiling section.entry
+            self.old self.new result }
+    {
+        default_bodies::custom_component_name_section!(self, alloc, section, ceiling)
+    }
+
+    /// Maps a subsection of a component's names and adds it. The indices of a map are mapped by the hook of their space. A
+    /// `ParseError` holds the place in the map behind the entries that were accepted.
+    fn parse_custom_component_name_subsection(
+        &mut self,
+        alloc: Global,
+        names: &mut w::ComponentNameSection,
+        section: r::ComponentName<'_>,
+    ) -> Result<(), Error<Self::Error>>
+        requires { IsRawName section }
+        ensures { SubsectionClausesOf component_names Self.ReencodeIndices section.entry
+            self.old names.old self.new names.new result }
+    {
+        names::parse_custom_component_name_subsection(self, alloc, names, section)
     }
 }

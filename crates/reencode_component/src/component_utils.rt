@@ -5,9 +5,12 @@
 ghost use Rattle.wasm_types.specs.ComponentTrees.{component_val_type_tree, type_ref_tree};
 ghost use Rattle.wasm_read_component.specs.Aliases as read;
 ghost use Rattle.wasm_write_component.specs.Aliases as write;
+ghost use Rattle.reencode_core.specs.Clauses.{NamesClausesOf};
 ghost use Rattle.reencode_items.specs.Clauses.{ItemClauses};
 ghost use Rattle.reencode_component.specs.Clauses.{ValueClauses};
+ghost use Rattle.reencode_component.specs.ComponentNames.{component_names};
 
+use crate::component::ReencodeComponent;
 pub use crate::component_types::{
     component_instance_type, component_type, parse_component_instance_type_declaration,
     parse_component_type, parse_component_type_declaration, parse_component_type_section,
@@ -21,6 +24,7 @@ use crate::items::ReencodeComponentItems;
 pub use crate::kinds::{
     component_export_kind, component_outer_alias_kind, component_primitive_val_type,
 };
+pub use crate::names::parse_custom_component_name_subsection;
 pub use crate::nested::parse_component_submodule;
 pub use crate::row_sections::{
     parse_component_alias_section, parse_component_canonical_section,
@@ -35,7 +39,9 @@ pub use crate::sections::{parse_component_start_section, parse_unknown_component
 pub use crate::type_utils::{component_module_type, parse_component_core_type};
 pub use crate::types::{parse_component_defined_type, parse_component_func_type};
 use crate::{default_bodies, hooked};
+use reencode_core::placed;
 use reencode_hooks::Error;
+use std::alloc::Global;
 use wasm_read_component as r;
 use wasm_write_component as w;
 
@@ -70,4 +76,18 @@ pub fn component_alias<'a, T: ReencodeComponentItems>(
         (read.alias_tree alias.entry) write.alias_tree reencoder.old reencoder.new result }
 {
     default_bodies::component_alias!(reencoder, alias)
+}
+
+/// Maps the subsections of a component's names that the reader still has, each by `parse_custom_component_name_subsection`. No
+/// subsection that is written may be longer than the ceiling. A `ParseError` holds the place of the subsection in fault.
+pub fn custom_component_name_section<T: ReencodeComponent>(
+    reencoder: &mut T,
+    alloc: Global,
+    section: r::ComponentNameSectionReader<'_>,
+    ceiling: u32,
+) -> Result<w::ComponentNameSection, Error<T::Error>>
+    ensures { NamesClausesOf component_names T.ReencodeIndices ceiling section.entry
+        reencoder.old reencoder.new result }
+{
+    default_bodies::custom_component_name_section!(reencoder, alloc, section, ceiling)
 }

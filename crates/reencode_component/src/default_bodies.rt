@@ -72,6 +72,29 @@ macro_rules! component_alias {
     };
 }
 
+// Each subsection of names that the reader still has, one behind another.
+macro_rules! custom_component_name_section {
+    ($reencoder:ident, $alloc:ident, $section:ident, $ceiling:ident) => {{
+        let mut names = w::ComponentNameSection::new($alloc, $ceiling);
+        let mut rows = $section;
+        'rows: loop {
+            let at = rows.place();
+            match rows.next_row($alloc)? {
+                Some(name) => {
+                    match $reencoder
+                        .parse_custom_component_name_subsection($alloc, &mut names, name)
+                    {
+                        Ok(()) => {}
+                        Err(e) => return Err(placed(e, at)),
+                    }
+                }
+                None => return Ok(names),
+            }
+        }
+    }};
+}
+
 pub(crate) use component_alias;
 pub(crate) use component_type_ref;
 pub(crate) use component_val_type;
+pub(crate) use custom_component_name_section;

@@ -21,6 +21,7 @@ mod items;
 mod kinds;
 mod laws;
 mod mapped;
+mod names;
 mod nested;
 mod row_sections;
 mod rows;

@@ -14,7 +14,7 @@ use Rattle.wasm_shapes.specs.Module.{plain_naming}
 use Rattle.wasm_shapes.specs.Namings.{Entry, Outer, asked_in, entries_trees, module_name_tree, names_tree, outers_trees, raw_names_tree}
 use Rattle.wasm_read.specs.declared.types.Name.{Name}
 use Rattle.wasm_read.specs.Names.{EntriesLeft, MapStanding}
-use Rattle.wasm_read.specs.Subsections.{Content, ReadsContent, ReadsName, content_of}
+use Rattle.wasm_read.specs.Subsections.{Content, ReadsContent, content_of}
 use Rattle.wasm_read.proofs.NameMaps.{asked_left, asked_row, entries_of, names_one, outers_left_one, outers_of, plain_row}
 use Rattle.wasm_write.specs.declared.fault.WriteFault.{WriteFault}
 use Rattle.wasm_write.specs.declared.fault.WriteFault.TheVariants as write
@@ -30,14 +30,15 @@ use Rattle.reencode_hooks.specs.Hooks.{Replies}
 use Rattle.reencode_hooks.specs.Run.{Gives, NeverWants, accepted, refused}
 use Rattle.reencode_hooks.specs.Walk.{walk}
 use Rattle.reencode_core.specs.Bodies.{KeepsCode}
-use Rattle.reencode_core.specs.Names.{GivesSubsection, IsIndirect, MapRow, OfMap, TooLargeNames, names_id, of_writer}
+use Rattle.reencode_core.specs.NameFormats.{MapRow, NameFormat, OfMap, core_names, entries_bytes}
+use Rattle.reencode_core.specs.Names.{GivesSubsectionOf, IsIndirect, TooLargeNames, names_id, of_writer}
 use Rattle.reencode_core.specs.NameMaps.{MapsEntries}
 use Rattle.reencode_core.specs.Rows.{Asks}
 use Rattle.reencode_core.proofs.BodyLoop.{keeps_code}
 use Rattle.reencode_core.proofs.InFrame.{framed, framed_fits, framed_large, framed_refused}
 use Rattle.reencode_core.proofs.NameCalls.{GivesMap, MapLeaves, Quiet, due_drawn, gives_map_at, map_leaves_at, maps_kept}
-use Rattle.reencode_core.specs.Leaves.{Leaves, LeavesMade, entries_bytes, subsection_in}
-use Rattle.reencode_core.specs.Clauses.{SubsectionClauses, asks}
+use Rattle.reencode_core.specs.Leaves.{Leaves, LeavesMade, subsection_of}
+use Rattle.reencode_core.specs.Clauses.{SubsectionClauses, SubsectionClausesOf, asks}
 use Rattle.reencode_core.proofs.Made.{PartMade, drawn_made, front_same, one_ended, tree_made, write_unasked}
 use Rattle.reencode_core.proofs.RowsMade.{drawn_rows}
 use Rattle.reencode_core.proofs.OneRow.{answers}
@@ -54,20 +55,20 @@ not_written {E = E} old new w unchanged r is = let P : Result (Unit {0}) (Error 
 -- ---- a subsection that is accepted
 
 -- The subsection has a reading, and the body of each is accepted and becomes this.
-pub record NamingMade {S E : Type 0} (asked : Asks S E) (n : Name) (s k : S) (row : ℕ) (head made : Tree) : Type 0 where
-  pub reading : (t : Tree) × ReadsName n t
-  pub becomes : (t : Tree) → ReadsName n t → (v : Tree) × (t ≡ framed row head v) × ((c : ℕ) → walk asked c s v ≡ accepted made k)
+pub record NamingMade {V : Type 0} (form : NameFormat V) {S E : Type 0} (asked : Asks S E) (n : V) (s k : S) (row : ℕ) (head made : Tree) : Type 0 where
+  pub reading : (t : Tree) × form.reads n t
+  pub becomes : (t : Tree) → form.reads n t → (v : Tree) × (t ≡ framed row head v) × ((c : ℕ) → walk asked c s v ≡ accepted made k)
 
 -- The subsection is read as one tree, whose visits are drawn from the entries of its map.
-pub record NamingKnown (n : Name) : Type 0 where
-  pub drawn : (t : Tree) → ReadsName n t → Drawn (entries_bytes (content_of n)) (visits t)
-  pub one : (t u : Tree) → ReadsName n t → ReadsName n u → t ≡ u
+pub record NamingKnown {V : Type 0} (form : NameFormat V) (n : V) : Type 0 where
+  pub drawn : (t : Tree) → form.reads n t → Drawn (form.entries n) (visits t)
+  pub one : (t u : Tree) → form.reads n t → form.reads n u → t ≡ u
 
 -- the same of one that is read as this tree, of which nothing is asked
-known_tree : {n : Name} (v : Tree) → visits v ≡ [] → ((t : Tree) → ReadsName n t → t ≡ v) → NamingKnown n
-known_tree {n = n} v none is = record {
+pub known_tree : {V : Type 0} (form : NameFormat V) {n : V} (v : Tree) → visits v ≡ [] → ((t : Tree) → form.reads n t → t ≡ v) → NamingKnown form n
+known_tree form {n = n} v none is = record {
   drawn = λ t reads.
-      let P : List Visit → Type 0 = λ z. Drawn (entries_bytes (content_of n)) z in
+      let P : List Visit → Type 0 = λ z. Drawn (form.entries n) z in
       subst P (sym (ap visits (is t reads) ∙ none)) drawn_none;
   one = λ t u p q. is t p ∙ sym (is u q);
 }
@@ -76,16 +77,16 @@ known_tree {n = n} v none is = record {
 abbrev pub TooLargeBody : ℕ → Tree → ℕ → Type 0
 TooLargeBody c made size = IsTooLarge (counts made) size ⊎ ((size ≡ length (normal made)) × (c < size))
 
-module _ {S E : Type 0} (i : Ghosts S E) (n : Name) (s k : S) (old new : CodeRows) (row : ℕ) (head : Tree) (made : Tree) (still : (c : ℕ) (s : S) → walk (asks i) c s head ≡ accepted head s)
+module _ {V : Type 0} (form : NameFormat V) {S E : Type 0} (i : Ghosts S E) (n : V) (s k : S) (old new : CodeRows) (row : ℕ) (head : Tree) (made : Tree) (still : (c : ℕ) (s : S) → walk (asks i) c s head ≡ accepted head s)
     (none : counts head ≡ []) where
-  all_accepted : NamingMade (asks i) n s k row head made → (t : Tree) → ReadsName n t → walk (asks i) (length (normal made)) s t ≡ accepted (framed row head made) k
+  all_accepted : NamingMade form (asks i) n s k row head made → (t : Tree) → form.reads n t → walk (asks i) (length (normal made)) s t ≡ accepted (framed row head made) k
   all_accepted b t reads =
       let v = b.becomes t reads in
       let size : ℕ = length (normal made) in
       rw v.1 (framed_fits (asks i) row head size s k v.0 (still size s) made (v.2 size) (omega arith))
 
-  naming_given : NamingMade (asks i) n s k row head made → (w : Result (Unit {0}) WriteFault) → OnOk w (new ≡ with_row old (framed row head made)) → OnOk w (length (normal made) ≤ old.ceiling) →
-      OnErr w (new ≡ old) → IfErr w (λ f. IfTooLarge f (TooLargeBody old.ceiling made)) → GivesSubsection (asks i) n (s, old) (k, new) (of_writer {E = E} w)
+  naming_given : NamingMade form (asks i) n s k row head made → (w : Result (Unit {0}) WriteFault) → OnOk w (new ≡ with_row old (framed row head made)) → OnOk w (length (normal made) ≤ old.ceiling) →
+      OnErr w (new ≡ old) → IfErr w (λ f. IfTooLarge f (TooLargeBody old.ceiling made)) → GivesSubsectionOf form (asks i) n (s, old) (k, new) (of_writer {E = E} w)
   naming_given b (Ok u) gains fits unchanged large = record {
     reading = λ t reads. let v = b.becomes t reads in (framed row head made, rw v.1 (framed_fits (asks i) row head old.ceiling s k v.0 (still old.ceiling s) made (v.2 old.ceiling) fits), gains);
     readable = b.reading;
@@ -99,7 +100,7 @@ module _ {S E : Type 0} (i : Ghosts S E) (n : Name) (s k : S) (old new : CodeRow
     refusal = unless_wanting (error_of_write f) (λ other. inl b.reading);
   }
     where
-      stops : (f : WriteFault) → IfTooLarge f (TooLargeBody old.ceiling made) → error_of_write {E = E} f ≢ NoMemory → (t : Tree) → ReadsName n t →
+      stops : (f : WriteFault) → IfTooLarge f (TooLargeBody old.ceiling made) → error_of_write {E = E} f ≢ NoMemory → (t : Tree) → form.reads n t →
           (walk (asks i) old.ceiling s t ≡ refused (error_of_write f) k) ⊎ TooLargeNames (asks i) s t (error_of_write {E = E} f) k
       stops write.NoMemory q other t reads = absurd (other refl)
       stops (write.TooLarge size) (inl q) other t reads =
@@ -111,11 +112,11 @@ module _ {S E : Type 0} (i : Ghosts S E) (n : Name) (s k : S) (old new : CodeRow
           let above : old.ceiling < size = q.1 in
           inl (rw v.1 (framed_large (asks i) row head old.ceiling s k v.0 (still old.ceiling s) made (v.2 old.ceiling) (omega arith)) ∙ ap (λ (z : ℕ). refused (TooLarge z) k) (sym same))
 
-  pub naming_written : NamingKnown n → (IsTrue i.keeps_defaults → NamingMade (asks i) n s k row head made) → (w : Result (Unit {0}) WriteFault) → OnOk w (new ≡ with_row old (framed row head made)) →
+  pub naming_written : NamingKnown form n → (IsTrue i.keeps_defaults → NamingMade form (asks i) n s k row head made) → (w : Result (Unit {0}) WriteFault) → OnOk w (new ≡ with_row old (framed row head made)) →
       OnOk w (length (normal made) ≤ old.ceiling) → OnErr w (new ≡ old) → IfErr w (λ f. IfTooLarge f (TooLargeBody old.ceiling made)) → (r : Result (Unit {0}) (Error E)) → r ≡ of_writer w →
-      SubsectionClauses i n s old k new r
+      SubsectionClausesOf form i n s old k new r
   naming_written known b w gains fits unchanged large r is =
-      let P : Result (Unit {0}) (Error E) → Type 0 = λ z. SubsectionClauses i n s old k new z in
+      let P : Result (Unit {0}) (Error E) → Type 0 = λ z. SubsectionClausesOf form i n s old k new z in
       subst P (sym is) (record {
         kept = kept w gains unchanged;
         default = λ keeps. naming_given (b keeps) w gains fits unchanged large;
@@ -123,7 +124,7 @@ module _ {S E : Type 0} (i : Ghosts S E) (n : Name) (s k : S) (old new : CodeRow
         unchanged = λ keeps. none_written E old new w unchanged;
       })
     where
-      left : (w : Result (Unit {0}) WriteFault) → NamingMade (asks i) n s k row head made → LeavesMade i.sure (asks i) (subsection_in n) s k (of_writer {E = E} w)
+      left : (w : Result (Unit {0}) WriteFault) → NamingMade form (asks i) n s k row head made → LeavesMade i.sure (asks i) (subsection_of form n) s k (of_writer {E = E} w)
       left (Ok u) b = tt
       left (Err f) b = λ told.
           let t = b.reading.0 in
@@ -141,47 +142,49 @@ module _ {S E : Type 0} (i : Ghosts S E) (n : Name) (s k : S) (old new : CodeRow
 
 -- ---- what asks nothing
 
+-- a subsection that is read as this one alone, of whose body nothing is asked
+module _ {V : Type 0} (form : NameFormat V) {S E : Type 0} (i : Ghosts S E) {n : V} {s : S} {old new : CodeRows} (row : ℕ) (head body : Tree) (still : (c : ℕ) (s : S) → walk (asks i) c s head ≡ accepted head s)
+    (kept : (c : ℕ) (s : S) → walk (asks i) c s body ≡ accepted body s) (none : counts head ≡ []) (unasked : visits (framed row head body) ≡ [])
+    (reads : form.reads n (framed row head body)) (only : (t : Tree) → form.reads n t → t ≡ framed row head body) where
+  pub leaf_written : (w : Result (Unit {0}) WriteFault) → OnOk w (new ≡ with_row old (framed row head body)) → OnOk w (length (normal body) ≤ old.ceiling) → OnErr w (new ≡ old) →
+      IfErr w (λ f. IfTooLarge f (TooLargeBody old.ceiling body)) → (r : Result (Unit {0}) (Error E)) → r ≡ of_writer w → SubsectionClausesOf form i n s old s new r
+  leaf_written w gains fits unchanged large r q =
+      naming_written form i n s s old new row head body still none (known_tree form (framed row head body) unasked only) (λ keeps. made) w gains fits unchanged large r q
+    where
+      made : NamingMade form (asks i) n s s row head body
+      made = record { reading = (framed row head body, reads); becomes = λ t p. (body, only t p, λ c. kept c s) }
+
+-- the length of a name, or of its body
+pub text_sizes : (ceiling : ℕ) (name : List ℕ) (w : Result (Unit {0}) WriteFault) →
+    IfErr w (λ f. IfTooLarge f (λ size. ((size ≡ length name) × (2 ^ 32 - 1 < size)) ⊎ PassesCeiling ceiling (Tree.name name) size)) → IfErr w (λ f. IfTooLarge f (TooLargeBody ceiling (Tree.name name)))
+text_sizes ceiling name (Ok u) h = tt
+text_sizes ceiling name (Err write.NoMemory) h = tt
+text_sizes ceiling name (Err (write.TooLarge size)) (inl h) = inl (record { counted = (0, omega arith, sym h.0); large = h.1 })
+text_sizes ceiling name (Err (write.TooLarge size)) (inr h) = inr h
+
+pub raw_sizes : (ceiling : ℕ) (contents : List ℕ) (w : Result (Unit {0}) WriteFault) → IfErr w (λ f. IfTooLarge f (PassesCeiling ceiling (Tree.raw contents))) →
+    IfErr w (λ f. IfTooLarge f (TooLargeBody ceiling (Tree.raw contents)))
+raw_sizes ceiling contents (Ok u) h = tt
+raw_sizes ceiling contents (Err write.NoMemory) h = tt
+raw_sizes ceiling contents (Err (write.TooLarge size)) h = inr h
+
 module _ {S E : Type 0} (i : Ghosts S E) {n : Name} {s : S} {old new : CodeRows} where
   pub module_written : (name : List ℕ) → content_of n ≡ Content.text name → (w : Result (Unit {0}) WriteFault) → OnOk w (new ≡ with_row old (module_name_tree name)) →
       OnOk w (length (normal (Tree.name name)) ≤ old.ceiling) → OnErr w (new ≡ old) →
       IfErr w (λ f. IfTooLarge f (λ size. ((size ≡ length name) × (2 ^ 32 - 1 < size)) ⊎ PassesCeiling old.ceiling (Tree.name name) size)) → (r : Result (Unit {0}) (Error E)) → r ≡ of_writer w →
       SubsectionClauses i n s old s new r
   module_written name is w gains fits unchanged large r q =
-      naming_written i n s s old new 0 (Tree.fixed 0) (Tree.name name) (λ c s. refl) refl
-      (known_tree (module_name_tree name) refl (λ t reads. let Q : Content → Type 0 = λ z. ReadsContent z t in subst Q is reads)) (λ keeps. made) w gains fits unchanged (sizes w large) r q
-    where
-      made : NamingMade (asks i) n s s 0 (Tree.fixed 0) (Tree.name name)
-      made =
-          let P : Content → Type 0 = λ z. ReadsContent z (module_name_tree name) in record {
-            reading = (module_name_tree name, subst P (sym is) refl);
-            becomes = λ t reads. let Q : Content → Type 0 = λ z. ReadsContent z t in (Tree.name name, subst Q is reads, λ c. refl);
-          }
-
-      sizes : (w : Result (Unit {0}) WriteFault) → IfErr w (λ f. IfTooLarge f (λ size. ((size ≡ length name) × (2 ^ 32 - 1 < size)) ⊎ PassesCeiling old.ceiling (Tree.name name) size)) →
-          IfErr w (λ f. IfTooLarge f (TooLargeBody old.ceiling (Tree.name name)))
-      sizes (Ok u) h = tt
-      sizes (Err write.NoMemory) h = tt
-      sizes (Err (write.TooLarge size)) (inl h) = inl (record { counted = (0, omega arith, sym h.0); large = h.1 })
-      sizes (Err (write.TooLarge size)) (inr h) = inr h
+      let P : Content → Type 0 = λ z. ReadsContent z (module_name_tree name) in
+      leaf_written core_names i 0 (Tree.fixed 0) (Tree.name name) (λ c s. refl) (λ c s. refl) refl refl (subst P (sym is) refl)
+      (λ t reads. let Q : Content → Type 0 = λ z. ReadsContent z t in subst Q is reads) w gains fits unchanged (text_sizes old.ceiling name w large) r q
 
   pub raw_written : (id : ℕ) (contents : List ℕ) → content_of n ≡ Content.raw id contents → (w : Result (Unit {0}) WriteFault) → OnOk w (new ≡ with_row old (raw_names_tree id contents)) →
       OnOk w (length contents ≤ old.ceiling) → OnErr w (new ≡ old) → IfErr w (λ f. IfTooLarge f (PassesCeiling old.ceiling (Tree.raw contents))) → (r : Result (Unit {0}) (Error E)) → r ≡ of_writer w →
       SubsectionClauses i n s old s new r
   raw_written id contents is w gains fits unchanged large r q =
-      naming_written i n s s old new 12 (Tree.byte id) (Tree.raw contents) (λ c s. refl) refl
-      (known_tree (raw_names_tree id contents) refl (λ t reads. let Q : Content → Type 0 = λ z. ReadsContent z t in subst Q is reads)) (λ keeps. made) w gains fits unchanged (sizes w large) r q
-    where
-      made : NamingMade (asks i) n s s 12 (Tree.byte id) (Tree.raw contents)
-      made =
-          let P : Content → Type 0 = λ z. ReadsContent z (raw_names_tree id contents) in record {
-            reading = (raw_names_tree id contents, subst P (sym is) refl);
-            becomes = λ t reads. let Q : Content → Type 0 = λ z. ReadsContent z t in (Tree.raw contents, subst Q is reads, λ c. refl);
-          }
-
-      sizes : (w : Result (Unit {0}) WriteFault) → IfErr w (λ f. IfTooLarge f (PassesCeiling old.ceiling (Tree.raw contents))) → IfErr w (λ f. IfTooLarge f (TooLargeBody old.ceiling (Tree.raw contents)))
-      sizes (Ok u) h = tt
-      sizes (Err write.NoMemory) h = tt
-      sizes (Err (write.TooLarge size)) h = inr h
+      let P : Content → Type 0 = λ z. ReadsContent z (raw_names_tree id contents) in
+      leaf_written core_names i 12 (Tree.byte id) (Tree.raw contents) (λ c s. refl) (λ c s. refl) refl refl (subst P (sym is) refl)
+      (λ t reads. let Q : Content → Type 0 = λ z. ReadsContent z t in subst Q is reads) w gains fits unchanged (raw_sizes old.ceiling contents w large) r q
 
 -- ---- a map
 
@@ -198,19 +201,28 @@ count_rows p [] = refl
 count_rows p (t ∷ ts) = let again : count (rows_tree (map (asked_in p) ts)) ≡ count (rows_tree ts) = count_rows p ts in omega arith
 
 -- entries are written alike, whether their indices are asked for or not
-normal_map : (p : Space) (ts : List Tree) → normal (vector_tree (map (asked_in p) ts)) ≡ normal (vector_tree ts)
+pub normal_map : (p : Space) (ts : List Tree) → normal (vector_tree (map (asked_in p) ts)) ≡ normal (vector_tree ts)
 normal_map p ts = rw (count_rows p ts, normal_rows p ts) refl
 
--- the name is a map of an id, whose indices are of a space, each before such a body
-pub record IsMap (n : Name) (id : ℕ) (p : Space) (body : Shape) (m : MapStanding) : Type 1 where
-  pub entries : (t : Tree) → ReadsName n t → (ts : List Tree) × EntriesLeft (plain_row body) m (rows_tree ts) × (t ≡ names_tree id p ts)
-  pub read : (ts : List Tree) → EntriesLeft (plain_row body) m (rows_tree ts) → (t : Tree) × ReadsName n t
-  pub row : MapRow id (asked_row p body)
-  pub of_map : (P : Shape → MapStanding → Type 0) → P (asked_row p body) m → OfMap (content_of n) P
-  pub bytes : entries_bytes (content_of n) ≡ m.rest
-  pub one : (t u : Tree) → ReadsName n t → ReadsName n u → t ≡ u
+-- A subsection is a map whose indices are of a space, each before such a body: in its frame the vector stands inside `wrap`.
+pub record IsMap {V : Type 0} (form : NameFormat V) (n : V) (id : ℕ) (wrap : Tree → Tree) (p : Space) (body : Shape) (m : MapStanding) : Type 1 where
+  pub entries : (t : Tree) → form.reads n t → (ts : List Tree) × EntriesLeft (plain_row body) m (rows_tree ts) × (t ≡ framed id (Tree.fixed id) (wrap (vector_tree (map (asked_in p) ts))))
+  pub read : (ts : List Tree) → EntriesLeft (plain_row body) m (rows_tree ts) → (t : Tree) × form.reads n t
+  pub item : IsItem (asked_row p body)
+  pub of_map : (P : Shape → MapStanding → Type 0) → P (asked_row p body) m → form.of_map n P
+  pub bytes : form.entries n ≡ m.rest
+  pub one : (t u : Tree) → form.reads n t → form.reads n u → t ≡ u
 
-pub direct_map : {n : Name} {m : MapStanding} (id : ℕ) (p : Space) → MapRow id (asked_row p Shape.name) → content_of n ≡ Content.direct id p m → IsMap n id p Shape.name m
+-- what stands round a map asks nothing and counts nothing
+pub record IsWrap {S E : Type 0} (asked : Asks S E) (wrap : Tree → Tree) : Type 0 where
+  pub accepts : (c : ℕ) (s m : S) (t u : Tree) → walk asked c s t ≡ accepted u m → walk asked c s (wrap t) ≡ accepted (wrap u) m
+  pub refuses : (c : ℕ) (s m : S) (t : Tree) (e : Error E) → walk asked c s t ≡ refused e m → walk asked c s (wrap t) ≡ refused e m
+  pub asks_same : (t : Tree) → visits (wrap t) ≡ visits t
+
+pub no_wrap : {S E : Type 0} (asked : Asks S E) → IsWrap asked (λ t. t)
+no_wrap asked = record { accepts = λ c s m t u h. h; refuses = λ c s m t e h. h; asks_same = λ t. refl }
+
+pub direct_map : {n : Name} {m : MapStanding} (id : ℕ) (p : Space) → MapRow id (asked_row p Shape.name) → content_of n ≡ Content.direct id p m → IsMap core_names n id (λ t. t) p Shape.name m
 direct_map {n = n} {m = m} id p row is = record {
   entries = λ t reads. let Q : Content → Type 0 = λ z. ReadsContent z t in let q = subst Q is reads in (entries_trees q.0, q.1, q.2);
   read = λ ts w.
@@ -219,7 +231,7 @@ direct_map {n = n} {m = m} id p row is = record {
       let t = names_tree id p (entries_trees es.0) in
       let Q : Content → Type 0 = λ z. ReadsContent z t in
       (t, subst Q (sym is) (es.0, subst L es.1 w, refl));
-  row = row;
+  item = IsItem.entry id _ row;
   of_map = λ P h. let Q : Content → Type 0 = λ z. OfMap z P in subst Q (sym is) (_, row, h);
   bytes = ap entries_bytes is;
   one = λ t u p_t p_u.
@@ -229,7 +241,7 @@ direct_map {n = n} {m = m} id p row is = record {
       x.2 ∙ ap (λ (es : List Entry). names_tree id p (entries_trees es)) (names_one x.0 y.0 x.1 y.1) ∙ sym y.2;
 }
 
-pub indirect_map : {n : Name} {m : MapStanding} (id : ℕ) (p : Space) → MapRow id (asked_row p (Shape.vec plain_naming)) → content_of n ≡ Content.indirect id p m → IsMap n id p (Shape.vec plain_naming) m
+pub indirect_map : {n : Name} {m : MapStanding} (id : ℕ) (p : Space) → MapRow id (asked_row p (Shape.vec plain_naming)) → content_of n ≡ Content.indirect id p m → IsMap core_names n id (λ t. t) p (Shape.vec plain_naming) m
 indirect_map {n = n} {m = m} id p row is = record {
   entries = λ t reads. let Q : Content → Type 0 = λ z. ReadsContent z t in let q = subst Q is reads in (outers_trees q.0, q.1, q.2);
   read = λ ts w.
@@ -238,7 +250,7 @@ indirect_map {n = n} {m = m} id p row is = record {
       let t = names_tree id p (outers_trees os.0) in
       let Q : Content → Type 0 = λ z. ReadsContent z t in
       (t, subst Q (sym is) (os.0, subst L os.1 w, refl));
-  row = row;
+  item = IsItem.entry id _ row;
   of_map = λ P h. let Q : Content → Type 0 = λ z. OfMap z P in subst Q (sym is) (_, row, h);
   bytes = ap entries_bytes is;
   one = λ t u p_t p_u.
@@ -275,74 +287,75 @@ pub record MapCalls {S E : Type 0} (i : Ghosts S E) (p : Space) (body : Shape) (
   pub gives : (c : ℕ) → GivesMap (asks i) c p body m s k mapped
   pub leaves : IsItem (asked_row p body) → IfErr mapped (λ e. (e ≡ NoMemory → IsTrue i.sure) → MapLeaves (asks i) p body m s e k)
 
-module _ {S E : Type 0} (i : Ghosts S E) {n : Name} {id : ℕ} {p : Space} {body : Shape} {m : MapStanding} (is : IsMap n id p body m) {s k : S} {old : CodeRows} where
+-- entries behind their number, their indices asked for
+abbrev pub inner : Space → List Tree → Tree
+inner p ts = vector_tree (map (asked_in p) ts)
+
+module _ {S E : Type 0} (i : Ghosts S E) {V : Type 0} {form : NameFormat V} {n : V} {id : ℕ} {wrap : Tree → Tree} {p : Space} {body : Shape} {m : MapStanding}
+    (is : IsMap form n id wrap p body m) (wraps : IsWrap (asks i) wrap) {s k : S} {old : CodeRows} where
   -- an entry is refused, or there is none
-  pub map_stopped : (e : Error E) → MapCalls i p body m s k (Err e) → (r : Result (Unit {0}) (Error E)) → IsErrAnd r (λ y. y ≡ e) → SubsectionClauses i n s old k old r
+  pub map_stopped : (e : Error E) → MapCalls i p body m s k (Err e) → (r : Result (Unit {0}) (Error E)) → IsErrAnd r (λ y. y ≡ e) → SubsectionClausesOf form i n s old k old r
   map_stopped e calls r q =
-      let P : Result (Unit {0}) (Error E) → Type 0 = λ z. SubsectionClauses i n s old k old z in
+      let P : Result (Unit {0}) (Error E) → Type 0 = λ z. SubsectionClausesOf form i n s old k old z in
       subst P (answers r q) (record { kept = keeps_code old; default = λ keeps. stopped; after_error = λ keeps. left; unchanged = λ keeps. refl })
     where
-      stopped : GivesSubsection (asks i) n (s, old) (k, old) (Err e)
+      stopped : GivesSubsectionOf form (asks i) n (s, old) (k, old) (Err e)
       stopped =
           let g = calls.gives old.ceiling in record {
             reading = λ t reads.
                 let b = is.entries t reads in
-                (refl, λ other. inl (rw b.2 (framed_refused (asks i) id (Tree.fixed id) old.ceiling s k (vector_tree (map (asked_in p) b.0)) refl e (g.reading b.0 b.1 other))));
+                let inside = wraps.refuses old.ceiling s k (inner p b.0) e in
+                (refl, λ other. inl (rw b.2 (framed_refused (asks i) id (Tree.fixed id) old.ceiling s k (wrap (inner p b.0)) refl e (inside (g.reading b.0 b.1 other)))));
             readable = tt;
             unreadable = IfParse-map e (λ at u. (λ t reads. let b = is.entries t reads in u.0 (rows_tree b.0) b.1, refl, is.of_map _ u.1)) g.unreadable;
             refusal = IfRefused-map e (λ d. inr (refl, is.of_map _ d)) g.refusal;
           }
 
-      left : (e ≡ NoMemory → IsTrue i.sure) → Leaves (asks i) (subsection_in n) s e k
+      left : (e ≡ NoMemory → IsTrue i.sure) → Leaves (asks i) (subsection_of form n) s e k
       left told =
-          let l = calls.leaves (IsItem.entry id (asked_row p body) is.row) told in
+          let l = calls.leaves is.item told in
           let P : List ℕ → Type 0 = λ z. Drawn z l.made in record {
             made = l.made;
             ended = l.ended;
             drawn = subst P (sym is.bytes) l.drawn;
-            reading = λ t reads. let b = is.entries t reads in front_same (ap visits (sym b.2)) (l.reading b.0 b.1);
+            reading = λ t reads. let b = is.entries t reads in front_same (sym (ap visits b.2 ∙ wraps.asks_same (inner p b.0))) (l.reading b.0 b.1);
             fault = λ none t rest f. absurd f;
           }
 
-  -- all entries were accepted, and the map was added or not
-  pub map_written : {new : CodeRows} (es : List Tree) → MapCalls i p body m s k (Ok es) → (w : Result (Unit {0}) WriteFault) → OnOk w (new ≡ with_row old (names_tree id p es)) →
-      OnOk w (length (normal (vector_tree es)) ≤ old.ceiling) → OnErr w (new ≡ old) → IfErr w (λ f. IfTooLarge f (PassesCeiling old.ceiling (vector_tree es))) → (r : Result (Unit {0}) (Error E)) →
-      r ≡ of_writer w → SubsectionClauses i n s old k new r
-  map_written {new = new} es calls w gains fits unchanged large r q =
-      naming_written i n s k old new id (Tree.fixed id) (vector_tree (map (asked_in p) es)) (λ c s. refl) refl known (λ keeps. made) w gains (fit w fits) unchanged (sizes w large) r q
+  -- all entries were accepted, and the map, which takes so many bytes, was added or not
+  pub map_written : {new : CodeRows} (es : List Tree) (size : ℕ) → length (normal (wrap (inner p es))) ≡ size → MapCalls i p body m s k (Ok es) → (w : Result (Unit {0}) WriteFault) →
+      OnOk w (new ≡ with_row old (framed id (Tree.fixed id) (wrap (inner p es)))) → OnOk w (size ≤ old.ceiling) → OnErr w (new ≡ old) →
+      IfErr w (λ f. IfTooLarge f (λ z. (z ≡ size) × (old.ceiling < z))) → (r : Result (Unit {0}) (Error E)) → r ≡ of_writer w → SubsectionClausesOf form i n s old k new r
+  map_written {new = new} es size alike calls w gains fits unchanged large r q =
+      naming_written form i n s k old new id (Tree.fixed id) (wrap (inner p es)) (λ c s. refl) refl known (λ keeps. made) w gains (fit w fits) unchanged (sizes w large) r q
     where
-      known : NamingKnown n
+      known : NamingKnown form n
       known = record {
         drawn = λ t reads.
             let b = is.entries t reads in
             let rows = asked_left p b.0 b.1.rows_left in
             let entries : List Visit = visits (rows_tree (map (asked_in p) b.0)) in
-            let here : Drawn m.rest entries =
-            due_drawn m b.1.count b.1.bytes entries b.1.due (drawn_rows (IsItem.entry id (asked_row p body) is.row) (rows_tree (map (asked_in p) b.0)) b.1.bytes rows.shaped rows.spelled) in
+            let here : Drawn m.rest entries = due_drawn m b.1.count b.1.bytes entries b.1.due (drawn_rows is.item (rows_tree (map (asked_in p) b.0)) b.1.bytes rows.shaped rows.spelled) in
             let P : List ℕ → Type 0 = λ z. Drawn z entries in
-            let Q : Tree → Type 0 = λ z. Drawn (entries_bytes (content_of n)) (visits z) in
-            subst Q (sym b.2) (subst P (sym is.bytes) here);
+            let W : List Visit → Type 0 = λ z. Drawn (form.entries n) z in
+            subst W (sym (ap visits b.2 ∙ wraps.asks_same (inner p b.0))) (subst P (sym is.bytes) here);
         one = is.one;
       }
 
-      made : NamingMade (asks i) n s k id (Tree.fixed id) (vector_tree (map (asked_in p) es))
+      made : NamingMade form (asks i) n s k id (Tree.fixed id) (wrap (inner p es))
       made = record {
         reading = let b = (calls.gives 0).readable in is.read b.0 b.1;
-        becomes = λ t reads. let b = is.entries t reads in (vector_tree (map (asked_in p) b.0), b.2, λ c. (calls.gives c).reading b.0 b.1);
+        becomes = λ t reads. let b = is.entries t reads in (wrap (inner p b.0), b.2, λ c. wraps.accepts c s k (inner p b.0) (inner p es) ((calls.gives c).reading b.0 b.1));
       }
 
-      alike : length (normal (vector_tree (map (asked_in p) es))) ≡ length (normal (vector_tree es))
-      alike = ap length (normal_map p es)
-
-      fit : (w : Result (Unit {0}) WriteFault) → OnOk w (length (normal (vector_tree es)) ≤ old.ceiling) → OnOk w (length (normal (vector_tree (map (asked_in p) es))) ≤ old.ceiling)
-      fit (Ok u) h = let same = alike in let below : length (normal (vector_tree es)) ≤ old.ceiling = h in omega arith
+      fit : (w : Result (Unit {0}) WriteFault) → OnOk w (size ≤ old.ceiling) → OnOk w (length (normal (wrap (inner p es))) ≤ old.ceiling)
+      fit (Ok u) h = let below : size ≤ old.ceiling = h in omega (arith, alike)
       fit (Err f) h = tt
 
-      sizes : (w : Result (Unit {0}) WriteFault) → IfErr w (λ f. IfTooLarge f (PassesCeiling old.ceiling (vector_tree es))) →
-          IfErr w (λ f. IfTooLarge f (TooLargeBody old.ceiling (vector_tree (map (asked_in p) es))))
+      sizes : (w : Result (Unit {0}) WriteFault) → IfErr w (λ f. IfTooLarge f (λ z. (z ≡ size) × (old.ceiling < z))) → IfErr w (λ f. IfTooLarge f (TooLargeBody old.ceiling (wrap (inner p es))))
       sizes (Ok u) h = tt
       sizes (Err write.NoMemory) h = tt
-      sizes (Err (write.TooLarge size)) h = inr (h.0 ∙ sym alike, h.1)
+      sizes (Err (write.TooLarge z)) h = inr (h.0 ∙ sym alike, h.1)
 
 -- ---- the calls of a closure over a reencoder
 

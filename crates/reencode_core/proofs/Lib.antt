@@ -36,6 +36,7 @@ pub mod EachBody
 pub mod Runs
 pub mod ManyLoop
 pub mod InFrame
+pub mod NameLaws
 pub mod NamesLoop
 pub mod CustomSection
 pub mod EachSubsection

@@ -18,8 +18,9 @@ use Rattle.reencode_core.specs.Bodies.{GivesBody, GivesLocals, KeepsCode}
 use Rattle.reencode_core.specs.Core.{GivesBytes, GivesCore}
 use Rattle.reencode_core.specs.Errors.{IfParse}
 use Rattle.reencode_core.specs.Holds.{HoldsCore, HoldsRows}
-use Rattle.reencode_core.specs.Leaves.{LeavesCore, LeavesMade, NoCoreHeading, body_in, core_in, custom_in, locals_in, module_in, names_in, rows_in, section_in, subsection_in}
-use Rattle.reencode_core.specs.Names.{GivesCustom, GivesNames, GivesSubsection}
+use Rattle.reencode_core.specs.Leaves.{LeavesCore, LeavesMade, NoCoreHeading, body_in, core_in, custom_in, locals_in, many_in, module_in, rows_in, section_in, subsection_of}
+use Rattle.reencode_core.specs.NameFormats.{NameFormat, core_names}
+use Rattle.reencode_core.specs.Names.{GivesCustom, GivesNamesOf, GivesSubsectionOf}
 use Rattle.reencode_core.specs.Rows.{Asks, GivesRow, GivesRows, KeepsFront}
 use Rattle.reencode_core.specs.Sections.{GivesAdded, GivesSection, KeepsModule}
 use Rattle.reencode_core.specs.Woven.{GivesWoven, GivesWovenBytes}
@@ -108,23 +109,29 @@ UnknownClauses i id contents s old m new result =
       usual : IsTrue i.keeps_defaults → IfErr result (λ e. IfParse e (λ _. ⊥));
     }
 
--- The subsections that a reader still has are mapped, and are the answer.
-abbrev pub NamesClauses : {S E : Type 0} → Ghosts S E → ℕ → NamesStanding → S → S → Result CodeRows (Error E) → Type 0
-NamesClauses i c reader s m result =
+-- The subsections of a format that a reader still has are mapped, and are the answer.
+abbrev pub NamesClausesOf : {N S E : Type 0} → NameFormat N → Ghosts S E → ℕ → NamesStanding → S → S → Result CodeRows (Error E) → Type 0
+NamesClausesOf f i c reader s m result =
     record {
-      default : IsTrue i.keeps_defaults → GivesNames (asks i) c reader s m result (λ names. names);
-      after_error : IsTrue i.keeps_defaults → LeavesMade i.sure (asks i) (names_in reader) s m result;
+      default : IsTrue i.keeps_defaults → GivesNamesOf f (asks i) c reader s m result (λ names. names);
+      after_error : IsTrue i.keeps_defaults → LeavesMade i.sure (asks i) (many_in f.row reader) s m result;
     }
 
--- A subsection is mapped and added.
-abbrev pub SubsectionClauses : {S E : Type 0} → Ghosts S E → Name → S → CodeRows → S → CodeRows → Result (Unit {0}) (Error E) → Type 0
-SubsectionClauses i n s old m new result =
+abbrev pub NamesClauses : {S E : Type 0} → Ghosts S E → ℕ → NamesStanding → S → S → Result CodeRows (Error E) → Type 0
+NamesClauses i c reader s m result = NamesClausesOf core_names i c reader s m result
+
+-- A subsection of a format is mapped and added.
+abbrev pub SubsectionClausesOf : {N S E : Type 0} → NameFormat N → Ghosts S E → N → S → CodeRows → S → CodeRows → Result (Unit {0}) (Error E) → Type 0
+SubsectionClausesOf f i n s old m new result =
     record {
       kept : KeepsCode old new;
-      default : IsTrue i.keeps_defaults → GivesSubsection (asks i) n (s, old) (m, new) result;
-      after_error : IsTrue i.keeps_defaults → LeavesMade i.sure (asks i) (subsection_in n) s m result;
+      default : IsTrue i.keeps_defaults → GivesSubsectionOf f (asks i) n (s, old) (m, new) result;
+      after_error : IsTrue i.keeps_defaults → LeavesMade i.sure (asks i) (subsection_of f n) s m result;
       unchanged : IsTrue i.keeps_defaults → IfErr result (λ _. new ≡ old);
     }
+
+abbrev pub SubsectionClauses : {S E : Type 0} → Ghosts S E → Name → S → CodeRows → S → CodeRows → Result (Unit {0}) (Error E) → Type 0
+SubsectionClauses i n s old m new result = SubsectionClausesOf core_names i n s old m new result
 
 -- ---- modules
 

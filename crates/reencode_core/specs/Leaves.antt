@@ -15,12 +15,12 @@ use Rattle.wasm_shapes.specs.Module.{body, core_header, row_of, alsos, CoreReadi
 use Rattle.wasm_read.specs.declared.types.Name.{Name}
 use Rattle.wasm_read.specs.Names.{NamesStanding}
 use Rattle.wasm_read.specs.Reading.{Standing, CountRead}
-use Rattle.wasm_read.specs.Subsections.{Content, ReadsName, content_of}
 use Rattle.reencode_hooks.specs.declared.error.Error.{Error}
 use Rattle.reencode_hooks.specs.declared.error.Error.TheVariants.{InvalidCodeSectionSize, UnexpectedNonCoreModuleSection, UnexpectedNonComponentSection, ParseError, UserError, TooLarge, NoMemory}
 use Rattle.reencode_hooks.specs.Run.{Step, accepted, refused, state_after, run}
 use Rattle.reencode_core.specs.Rows.{Asks, RowsBefore, locals}
-use Rattle.reencode_core.specs.Names.{SubsectionsLeft}
+use Rattle.reencode_core.specs.NameFormats.{NameFormat, core_names}
+use Rattle.reencode_core.specs.Names.{AreLeft}
 use Rattle.reencode_core.specs.Sections.{HasItem, HasRows, LeftBehind, ReadsAs}
 
 -- What is to be read: the bytes, the trees that they are read as, and what stands in front of the place where they are at fault, with the
@@ -138,27 +138,33 @@ section_in kind bytes = record { bytes = bytes; reads = ReadsAs kind bytes; faul
 
 -- ---- name sections and custom sections
 
--- what the entries of a subsection's map are read from
-abbrev pub entries_bytes : Content → List ℕ
-entries_bytes (Content.direct id s m) = m.rest
-entries_bytes (Content.indirect id s m) = m.rest
-entries_bytes _ = []
+-- one subsection of a format
+abbrev pub subsection_of : {N : Type 0} → NameFormat N → N → Text
+subsection_of f n = record { bytes = f.entries n; reads = f.reads n; faulty = λ t rest. ⊥ }
 
 -- one subsection of a name section
 abbrev pub subsection_in : Name → Text
-subsection_in n = record { bytes = entries_bytes (content_of n); reads = ReadsName n; faulty = λ t rest. ⊥ }
+subsection_in n = subsection_of core_names n
 
--- Subsections stand there one behind another, and then one is due and none begins.
-pub record NamesUpTo (bytes : List ℕ) (t : Tree) (rest : List ℕ) : Type 0 where
+-- Subsections of a shape stand there one behind another, and then one is due and none begins.
+pub record ManyUpTo (row : Shape) (bytes : List ℕ) (t : Tree) (rest : List ℕ) : Type 0 where
   pub rows : List Tree
   pub are : t ≡ rows_tree rows
-  pub front : RowsBefore name_subsection bytes rows rest
-  pub missing : BeginsNone name_subsection rest
+  pub front : RowsBefore row bytes rows rest
+  pub missing : BeginsNone row rest
   pub some : rest ≢ []
+
+-- the same in a name section
+abbrev pub NamesUpTo : List ℕ → Tree → List ℕ → Type 0
+NamesUpTo = ManyUpTo name_subsection
+
+-- the subsections of a shape that a reader still has
+abbrev pub many_in : Shape → NamesStanding → Text
+many_in row reader = record { bytes = reader.rest; reads = AreLeft row reader; faulty = ManyUpTo row reader.rest }
 
 -- the subsections that a reader still has
 abbrev pub names_in : NamesStanding → Text
-names_in reader = record { bytes = reader.rest; reads = SubsectionsLeft reader; faulty = NamesUpTo reader.rest }
+names_in reader = many_in name_subsection reader
 
 -- a custom section, by its name
 abbrev pub custom_in : List ℕ → List ℕ → Text

@@ -4,6 +4,7 @@ pub mod Errors
 pub mod Rows
 pub mod Bodies
 pub mod Sections
+pub mod NameFormats
 pub mod NameMaps
 pub mod Names
 pub mod Core

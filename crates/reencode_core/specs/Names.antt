@@ -1,5 +1,5 @@
 -- What the calls that map name sections, custom sections and sections of other ids give.
-use Rattle.std.specs.Prelude.{◌≡◌, ◌≢◌, ◌-◌, ◌⊎◌, ◌<◌, ℕ, List, [], length, get_or, Result, Ok, Err, IfOk, IfErr}
+use Rattle.std.specs.Prelude.{◌≡◌, ◌≢◌, ◌-◌, ◌⊎◌, ◌<◌, ℕ, List, [], length, Result, Ok, Err, IfOk, IfErr}
 use Rattle.std.specs.List.{FoldsTo}
 use Rattle.wasm_leb.specs.Place.{BeginsNumber}
 use Rattle.wasm_shapes.specs.declared.Space.{Space}
@@ -9,10 +9,10 @@ use Rattle.wasm_shapes.specs.Tree.{Tree}
 use Rattle.wasm_shapes.specs.Spells.{Spells}
 use Rattle.wasm_shapes.specs.Place.{Begins, BeginsNone}
 use Rattle.wasm_shapes.specs.Types.{rows_tree}
-use Rattle.wasm_shapes.specs.Module.{name_rows, name_subsection, names, names_name, subsection, frame, custom_frame, ReadsCustom}
+use Rattle.wasm_shapes.specs.Module.{name_subsection, names_name, frame, custom_frame, ReadsCustom}
 use Rattle.wasm_read.specs.declared.types.Name.{Name}
 use Rattle.wasm_read.specs.Names.{NamesStanding}
-use Rattle.wasm_read.specs.Subsections.{ReadsName, content_of, Content, subsection_frame, subsection_frame_tree}
+use Rattle.wasm_read.specs.Subsections.{subsection_frame, subsection_frame_tree}
 use Rattle.wasm_read.specs.Names.{MapStanding, map_place, Due, EntryRead, EntryMissing}
 use Rattle.wasm_write.specs.declared.fault.WriteFault.{WriteFault}
 use Rattle.wasm_write.specs.Bodies.{CodeRows, with_row}
@@ -24,6 +24,7 @@ use Rattle.reencode_hooks.specs.Errors.{error_of_write}
 use Rattle.reencode_hooks.specs.Run.{accepted, refused}
 use Rattle.reencode_hooks.specs.Walk.{walk}
 use Rattle.reencode_core.specs.Errors.{IfParse, IfRefused}
+use Rattle.reencode_core.specs.NameFormats.{NameFormat, core_names}
 use Rattle.reencode_core.specs.Rows.{Asks, AcceptsRows, AcceptedHooks, RefusesRow, RowsBefore, StopsEach}
 use Rattle.reencode_core.specs.Sections.{GivesAdded}
 
@@ -49,16 +50,6 @@ names_id _ = 11
 abbrev pub IsIndirect : ℕ → Space → Type 0
 IsIndirect id s = ((id ≡ 2) × (s ≡ space.Function)) ⊎ ((id ≡ 3) × (s ≡ space.Function)) ⊎ ((id ≡ 10) × (s ≡ space.Type_))
 
--- the rows of the map in a subsection of an id
-abbrev pub MapRow : ℕ → Shape → Type 0
-MapRow id row = get_or name_rows id Shape.none ≡ subsection id (Shape.vec row)
-
--- the fact about these rows and the content's map, if it has one
-abbrev pub OfMap : Content → (Shape → MapStanding → Type 0) → Type 0
-OfMap (Content.direct id _ m) P = (row : Shape) × MapRow id row × P row m
-OfMap (Content.indirect id _ m) P = (row : Shape) × MapRow id row × P row m
-OfMap _ P = ⊥
-
 -- In what a map still has entries stand and were accepted, and the next one, which is due, stands whole and is refused.
 pub record StopsMap {S E : Type 0} (asked : Asks S E) (c : ℕ) (row : Shape) (m : MapStanding) (s : S) (e : Error E) (k : S) : Type 0 where
   pub count : ℕ
@@ -66,9 +57,6 @@ pub record StopsMap {S E : Type 0} (asked : Asks S E) (c : ℕ) (row : Shape) (m
   pub due : Due m count start
   pub stops : StopsEach asked c row start s e k
   pub more : length stops.read < count
-
-abbrev pub StopsContent : {S E : Type 0} → Asks S E → ℕ → Content → S → Error E → S → Type 0
-StopsContent asked c n s e k = OfMap n (λ row m. StopsMap asked c row m s e k)
 
 -- these entries were read one behind another, and this is left
 abbrev pub EntriesRead : Shape → MapStanding → List Tree → MapStanding → Type 0
@@ -84,10 +72,6 @@ pub record MapFault {S E : Type 0} (asked : Asks S E) (c : ℕ) (row : Shape) (m
   pub missing : EntryMissing row rest
   pub place : at ≡ map_place rest
   pub accepts : AcceptsRows asked c s read made k
-
--- the map of a subsection has no entry where one is due, or bytes are left behind the last
-abbrev pub ContentFault : {S E : Type 0} → Asks S E → ℕ → Content → S → S → ℕ → Type 0
-ContentFault asked c n s k at = OfMap n (λ row m. MapFault asked c row m s k at)
 
 -- a length in what the subsection became is too large
 abbrev pub TooLargeIn : {E : Type 0} → Error E → Tree → Type 0
@@ -106,60 +90,63 @@ GivesNaming asked before t after (Err e) =
     (after.1 ≡ before.1)
     × (e ≢ NoMemory → (walk asked before.1.ceiling before.0 t ≡ refused e after.0) ⊎ TooLargeNames asked before.0 t e after.0)
 
-pub record GivesSubsection {S E : Type 0} (asked : Asks S E) (n : Name) (before after : S × CodeRows) (result : Result (Unit {0}) (Error E)) : Type 0 where
-  pub reading : (t : Tree) → ReadsName n t → GivesNaming asked before t after result
-  pub readable : IfOk result (λ _. (t : Tree) × ReadsName n t)
+-- The same by a subsection of a format: of each reading; or it has none, and its map has no entry where one is due, or bytes are left
+-- behind the last; or an entry of its map is refused.
+pub record GivesSubsectionOf {N : Type 0} (f : NameFormat N) {S E : Type 0} (asked : Asks S E) (n : N) (before after : S × CodeRows) (result : Result (Unit {0}) (Error E)) : Type 0 where
+  pub reading : (t : Tree) → f.reads n t → GivesNaming asked before t after result
+  pub readable : IfOk result (λ _. (t : Tree) × f.reads n t)
   pub unreadable : IfErr result (λ e. IfParse e (λ at.
-      ((t : Tree) → ReadsName n t → ⊥) × (after.1 ≡ before.1) × ContentFault asked before.1.ceiling (content_of n) before.0 after.0 at))
+      ((t : Tree) → f.reads n t → ⊥) × (after.1 ≡ before.1) × f.of_map n (λ row m. MapFault asked before.1.ceiling row m before.0 after.0 at)))
   pub refusal : IfErr result (λ e.
-      IfRefused e (((t : Tree) × ReadsName n t) ⊎ ((after.1 ≡ before.1) × StopsContent asked before.1.ceiling (content_of n) before.0 e after.0)))
+      IfRefused e (((t : Tree) × f.reads n t) ⊎ ((after.1 ≡ before.1) × f.of_map n (λ row m. StopsMap asked before.1.ceiling row m before.0 e after.0))))
 
--- ---- a name section
+-- that of a name section
+abbrev pub GivesSubsection : {S E : Type 0} → Asks S E → Name → S × CodeRows → S × CodeRows → Result (Unit {0}) (Error E) → Type 0
+GivesSubsection asked n before after result = GivesSubsectionOf core_names asked n before after result
 
--- the subsections that a reader has still to read
-abbrev pub SubsectionsLeft : NamesStanding → Tree → Type 0
-SubsectionsLeft reader rows = Spells names reader.rest rows
+-- ---- subsections one behind another
+
+-- the subsections of a shape that a reader has still to read
+abbrev pub AreLeft : Shape → NamesStanding → Tree → Type 0
+AreLeft row reader rows = Spells (Shape.many row) reader.rest rows
 
 -- At this place a subsection is due and none begins. All subsections before it were accepted.
-pub record SubsectionsFault {S E : Type 0} (asked : Asks S E) (c : ℕ) (reader : NamesStanding) (s : S) (at : ℕ) : Type 0 where
-  pub none : (rows : Tree) → SubsectionsLeft reader rows → ⊥
+pub record SubsectionsFaultOf (row : Shape) {S E : Type 0} (asked : Asks S E) (c : ℕ) (reader : NamesStanding) (s : S) (at : ℕ) : Type 0 where
+  pub none : (rows : Tree) → AreLeft row reader rows → ⊥
   pub read : List Tree
   pub rest : List ℕ
   pub made : List Tree
   pub state : S
-  pub front : RowsBefore name_subsection reader.rest read rest
+  pub front : RowsBefore row reader.rest read rest
   pub some : rest ≢ []
-  pub missing : BeginsNone name_subsection rest
+  pub missing : BeginsNone row rest
   pub place : at ≡ reader.len - length rest
   pub accepts : AcceptsRows asked c s read made state
 
--- A subsection stands whole there, and it is refused.
-abbrev pub RefusesSubsection : {S E : Type 0} → Asks S E → ℕ → List ℕ → S → Error E → S → Type 0
-RefusesSubsection asked c bytes s e m = RefusesRow asked c name_subsection bytes s e m
-
 -- The frame of a subsection stands there, and an entry of its map is refused.
-pub record RefusesEntry {S E : Type 0} (asked : Asks S E) (bytes : List ℕ) (c : ℕ) (s : S) (e : Error E) (m : S) : Type 0 where
+pub record RefusesEntryOf {N : Type 0} (f : NameFormat N) {S E : Type 0} (asked : Asks S E) (bytes : List ℕ) (c : ℕ) (s : S) (e : Error E) (m : S) : Type 0 where
   pub id : ℕ
   pub body : List ℕ
   pub left : List ℕ
   pub begins : Begins subsection_frame bytes (subsection_frame_tree id body) left
   pub row : Shape
-  pub is_row : MapRow id row
+  pub map : List ℕ
+  pub is_map : f.map_at id body row map
   pub count : ℕ
   pub start : List ℕ
-  pub counted : BeginsNumber 128 32 32 body count start
+  pub counted : BeginsNumber 128 32 32 map count start
   pub stops : StopsEach asked c row start s e m
   pub more : length stops.read < count
 
--- Subsections stand there and were accepted, and the next one is refused.
-pub record StopsNames {S E : Type 0} (asked : Asks S E) (c : ℕ) (reader : NamesStanding) (s : S) (e : Error E) (m : S) : Type 0 where
+-- Subsections stand there and were accepted, and the next one is refused: it stands whole, or an entry of its map is refused.
+pub record StopsNamesOf {N : Type 0} (f : NameFormat N) {S E : Type 0} (asked : Asks S E) (c : ℕ) (reader : NamesStanding) (s : S) (e : Error E) (m : S) : Type 0 where
   pub read : List Tree
   pub rest : List ℕ
   pub made : List Tree
   pub state : S
-  pub front : RowsBefore name_subsection reader.rest read rest
+  pub front : RowsBefore f.row reader.rest read rest
   pub accepts : AcceptsRows asked c s read made state
-  pub refuses : RefusesSubsection asked c rest state e m ⊎ RefusesEntry asked rest c state e m
+  pub refuses : RefusesRow asked c f.row rest state e m ⊎ RefusesEntryOf f asked rest c state e m
 
 -- The subsections became others, which are the answer, or one of them was refused.
 abbrev pub GivesSubsections : {S E A : Type 0} → Asks S E → ℕ → S → Tree → S → Result A (Error E) → (A → CodeRows) → Type 0
@@ -167,11 +154,32 @@ GivesSubsections asked c s rows m (Ok a) view =
     (made : List Tree) × (walk asked c s rows ≡ accepted (rows_tree made) m) × (view a ≡ record { ceiling = c; rows = made })
 GivesSubsections asked c s rows m (Err e) view = e ≢ NoMemory → walk asked c s rows ≡ refused e m
 
-pub record GivesNames {S E A : Type 0} (asked : Asks S E) (c : ℕ) (reader : NamesStanding) (s m : S) (result : Result A (Error E)) (view : A → CodeRows) : Type 0 where
-  pub reading : (rows : Tree) → SubsectionsLeft reader rows → GivesSubsections asked c s rows m result view
-  pub readable : IfOk result (λ _. (rows : Tree) × SubsectionsLeft reader rows)
-  pub unreadable : IfErr result (λ e. IfParse e (SubsectionsFault asked c reader s))
-  pub refusal : IfErr result (λ e. IfRefused e (((rows : Tree) × SubsectionsLeft reader rows) ⊎ StopsNames asked c reader s e m))
+pub record GivesNamesOf {N : Type 0} (f : NameFormat N) {S E A : Type 0} (asked : Asks S E) (c : ℕ) (reader : NamesStanding) (s m : S) (result : Result A (Error E)) (view : A → CodeRows) : Type 0 where
+  pub reading : (rows : Tree) → AreLeft f.row reader rows → GivesSubsections asked c s rows m result view
+  pub readable : IfOk result (λ _. (rows : Tree) × AreLeft f.row reader rows)
+  pub unreadable : IfErr result (λ e. IfParse e (SubsectionsFaultOf f.row asked c reader s))
+  pub refusal : IfErr result (λ e. IfRefused e (((rows : Tree) × AreLeft f.row reader rows) ⊎ StopsNamesOf f asked c reader s e m))
+
+-- ---- a name section
+
+abbrev pub SubsectionsLeft : NamesStanding → Tree → Type 0
+SubsectionsLeft reader rows = AreLeft name_subsection reader rows
+
+abbrev pub SubsectionsFault : {S E : Type 0} → Asks S E → ℕ → NamesStanding → S → ℕ → Type 0
+SubsectionsFault asked c reader s at = SubsectionsFaultOf name_subsection asked c reader s at
+
+-- A subsection stands whole there, and it is refused.
+abbrev pub RefusesSubsection : {S E : Type 0} → Asks S E → ℕ → List ℕ → S → Error E → S → Type 0
+RefusesSubsection asked c bytes s e m = RefusesRow asked c name_subsection bytes s e m
+
+abbrev pub RefusesEntry : {S E : Type 0} → Asks S E → List ℕ → ℕ → S → Error E → S → Type 0
+RefusesEntry asked bytes c s e m = RefusesEntryOf core_names asked bytes c s e m
+
+abbrev pub StopsNames : {S E : Type 0} → Asks S E → ℕ → NamesStanding → S → Error E → S → Type 0
+StopsNames asked c reader s e m = StopsNamesOf core_names asked c reader s e m
+
+abbrev pub GivesNames : {S E A : Type 0} → Asks S E → ℕ → NamesStanding → S → S → Result A (Error E) → (A → CodeRows) → Type 0
+GivesNames asked c reader s m result view = GivesNamesOf core_names asked c reader s m result view
 
 -- ---- a custom section
 

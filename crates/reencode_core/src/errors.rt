@@ -6,7 +6,7 @@ use reencode_hooks::Error;
 use wasm_leb::ReadError;
 
 /// An error inside a part that begins at a place: a fault of the bytes holds that place.
-pub(crate) fn placed<E>(e: Error<E>, at: usize) -> Error<E>
+pub fn placed<E>(e: Error<E>, at: usize) -> Error<E>
     ensures { result ≡ placed_at e at }
 {
     match e {

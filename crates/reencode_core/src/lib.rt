@@ -22,6 +22,7 @@ pub mod utils;
 
 pub use adding::{Adding, SectionRule};
 pub use defaults::{DefaultReencode, DefaultSections};
+pub use errors::placed;
 pub use item_lists::{MapItem, map_items};
 pub use laws::{
     accepted_is_answered, fault_gains, fault_is_answered, fault_tells, front_is_one,
@@ -34,3 +35,4 @@ pub use pieces::{
 };
 pub use reencode::{Reencode, reencode_core};
 pub use rule::{check_by_rule, reencode_by_rule};
+pub use subsections::written;

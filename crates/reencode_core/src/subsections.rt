@@ -23,7 +23,7 @@ use wasm_shapes::Space;
 use wasm_write as w;
 
 /// What a writer answered, as an answer of the reencoder.
-fn written<E>(answer: Result<(), w::WriteFault>) -> Result<(), Error<E>>
+pub fn written<E>(answer: Result<(), w::WriteFault>) -> Result<(), Error<E>>
     ensures { result ≡ of_writer answer }
 {
     match answer {

@@ -1,5 +1,5 @@
 -- What a refusal of a reencoder comes of: whatever is said by each walk of it that is refused, and kept by each that is accepted.
-use Rattle.std.proofs.Common.{◌≡◌, ℕ, ◌≤◌, ◌⊎◌, inl, inr, List, ◌++◌, length, length-append, Option, Some, refl, ap, arith}
+use Rattle.std.proofs.Common.{◌≡◌, ℕ, ◌≤◌, ◌⊎◌, inl, inr, List, ◌++◌, length, length-append, Option, Some, refl, ap, subst, arith}
 use Rattle.wasm_shapes.specs.declared.SectionId.{SectionId}
 use Rattle.wasm_shapes.specs.declared.Visit.TheVariants.{Section, Push}
 use Rattle.wasm_shapes.specs.Tree.{Tree}
@@ -124,7 +124,9 @@ module _ {S E : Type 0} {asked : Asks S E} {P : S → Type 0} {Q : ℕ → List 
   -- ---- a name section
 
   entry_told : {c : ℕ} {bytes : List ℕ} {s m : S} {e : Error E} → P s → RefusesEntry asked bytes c s e m → Q c bytes e
-  entry_told b h = tells.larger (subsection_framed h.begins) (tells.larger (second_shorter h.counted.0 h.start h.counted.2) (each_told b h.stops))
+  entry_told {c} {e = e} b h =
+      let B : List ℕ → Type 0 = λ z. Q c z e in
+      tells.larger (subsection_framed h.begins) (subst B h.is_map.1 (tells.larger (second_shorter h.counted.0 h.start h.counted.2) (each_told b h.stops)))
 
   names_told : {c : ℕ} {contents : List ℕ} {s m : S} {e : Error E} → P s → StopsNames asked c (contents_standing contents) s e m → Q c contents e
   names_told {c} {contents} {s} {m} {e} b h =

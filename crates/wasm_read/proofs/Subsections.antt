@@ -18,7 +18,7 @@ use Rattle.wasm_read.proofs.NameMaps.{plain_row, asked_row, asked_spelled, spell
 use Rattle.wasm_read.specs.declared.types.Name.{Name}
 use Rattle.wasm_read.specs.declared.types.Name.TheVariants as name
 use Rattle.wasm_read.specs.Names.{MapStanding, whole_map, EntriesLeft, NamesStanding}
-use Rattle.wasm_read.specs.Subsections.{Content, content_of, subsection_frame, subsection_frame_tree, ReadsContent, ReadsName, Holds, NoSubsection, NameRead, NameMissing}
+use Rattle.wasm_read.specs.Subsections.{Content, content_of, subsection_frame, subsection_frame_tree, ReadsContent, ReadsName, Holds, NoSubsection, NameRead, SubsectionMissing}
 
 -- ---- what bytes begin with is one
 
@@ -29,7 +29,7 @@ begins_one {left = left} {behind = behind} k h p q =
     let same = unique p.spells.shaped q.spells.shaped p.text q.text left behind k (inl h) p.spells.spelled q.spells.spelled both_ways in
     (same.1, append_cancel_left q.text left behind (ap (λ (z : List ℕ). z ++ left) (sym same.0) ∙ both_ways))
 
-frame_one : {id other : ℕ} {body contents bytes left behind : List ℕ} → Begins subsection_frame bytes (subsection_frame_tree id body) left →
+pub frame_one : {id other : ℕ} {body contents bytes left behind : List ℕ} → Begins subsection_frame bytes (subsection_frame_tree id body) left →
     Begins subsection_frame bytes (subsection_frame_tree other contents) behind → (id ≡ other) × (body ≡ contents) × (left ≡ behind)
 frame_one {id = id} {other = other} {body = body} {contents = contents} p q =
     let same = begins_one refl refl p q in
@@ -324,5 +324,5 @@ none_begins {bytes = bytes} none = record { none = λ text left t p e. go none l
     go (inl n) left t q = no_frame n q
     go (inr n) left t q = no_name n.2 n.3 q
 
-pub missing : {old : NamesStanding} → old.rest ≢ [] → NoSubsection old.rest → NameMissing old
-missing some here = record { some = some; here = here; none = none_begins here }
+pub missing : {row : Shape} {old : NamesStanding} → BeginsNone row old.rest → old.rest ≢ [] → NoSubsection old.rest → SubsectionMissing row old
+missing none some here = record { some = some; here = here; none = none }

@@ -42,12 +42,16 @@ content_of (name.Field m) = Content.indirect 10 space.Type_ m
 content_of (name.Tag m) = Content.direct 11 space.Tag m
 content_of (name.Unknown id c) = Content.raw id c.now
 
--- the tree is what the content is read as
+-- the tree is what the content is read as, where these are the subsection of a map and the one of an id that is read by its bytes
+abbrev pub ReadsContentAs : (ℕ → Space → List Tree → Tree) → (ℕ → List ℕ → Tree) → Content → Tree → Type 0
+ReadsContentAs map_tree raw_tree (Content.text n) t = t ≡ module_name_tree n
+ReadsContentAs map_tree raw_tree (Content.direct id s m) t = (es : List Entry) × NamesLeft m es × (t ≡ map_tree id s (entries_trees es))
+ReadsContentAs map_tree raw_tree (Content.indirect id s m) t = (os : List Outer) × IndirectLeft m os × (t ≡ map_tree id s (outers_trees os))
+ReadsContentAs map_tree raw_tree (Content.raw id c) t = t ≡ raw_tree id c
+
+-- the same in the name section of a core module
 abbrev pub ReadsContent : Content → Tree → Type 0
-ReadsContent (Content.text n) t = t ≡ module_name_tree n
-ReadsContent (Content.direct id s m) t = (es : List Entry) × NamesLeft m es × (t ≡ names_tree id s (entries_trees es))
-ReadsContent (Content.indirect id s m) t = (os : List Outer) × IndirectLeft m os × (t ≡ names_tree id s (outers_trees os))
-ReadsContent (Content.raw id c) t = t ≡ raw_names_tree id c
+ReadsContent c t = ReadsContentAs names_tree raw_names_tree c t
 
 abbrev pub ReadsName : Name → Tree → Type 0
 ReadsName n t = ReadsContent (content_of n) t
@@ -64,19 +68,19 @@ Holds id body (Content.direct j s m) = (id ≡ j) × (m ≡ whole_map body)
 Holds id body (Content.indirect j s m) = (id ≡ j) × (m ≡ whole_map body)
 Holds id body (Content.raw j c) = (id ≡ j) × (12 ≤ j) × (c ≡ body)
 
--- A subsection's frame begins there, and these bytes are left behind it.
-pub record NameBegins (bytes : List ℕ) (n : Name) (behind : List ℕ) : Type 0 where
+-- A subsection's frame begins there, whose id and body hold this, and these bytes are left behind it.
+pub record SubsectionBegins {N : Type 0} (holding : ℕ → List ℕ → N → Type 0) (bytes : List ℕ) (n : N) (behind : List ℕ) : Type 0 where
   pub id : ℕ
   pub body : List ℕ
   pub begins : Begins subsection_frame bytes (subsection_frame_tree id body) behind
-  pub holds : Holds id body (content_of n)
+  pub holds : holding id body n
 
 -- The frame of a subsection was read, and the reader stands behind it.
-pub record NameRead (old : NamesStanding) (n : Name) (new : NamesStanding) : Type 0 where
+pub record SubsectionRead {N : Type 0} (holding : ℕ → List ℕ → N → Type 0) (old : NamesStanding) (n : N) (new : NamesStanding) : Type 0 where
   pub id : ℕ
   pub body : List ℕ
   pub begins : Begins subsection_frame old.rest (subsection_frame_tree id body) new.rest
-  pub holds : Holds id body (content_of n)
+  pub holds : holding id body n
   pub len : new.len ≡ old.len
 
 -- no frame begins there, or one of the id 0 whose body is no name
@@ -85,8 +89,19 @@ NoSubsection bytes =
     BeginsNone subsection_frame bytes
     ⊎ ((body left : List ℕ) × Begins subsection_frame bytes (subsection_frame_tree 0 body) left × ((t : Tree) → Spells Shape.name body t → ⊥))
 
--- Neither stands where bytes are left; and so no subsection begins.
-pub record NameMissing (old : NamesStanding) : Type 0 where
+-- Neither stands where bytes are left; and so no subsection of this shape begins.
+pub record SubsectionMissing (row : Shape) (old : NamesStanding) : Type 0 where
   pub some : old.rest ≢ []
   pub here : NoSubsection old.rest
-  pub none : BeginsNone name_subsection old.rest
+  pub none : BeginsNone row old.rest
+
+-- ---- the same of the names of a core module
+
+abbrev pub HoldsName : ℕ → List ℕ → Name → Type 0
+HoldsName id body n = Holds id body (content_of n)
+
+abbrev pub NameRead : NamesStanding → Name → NamesStanding → Type 0
+NameRead = SubsectionRead HoldsName
+
+abbrev pub NameMissing : NamesStanding → Type 0
+NameMissing = SubsectionMissing name_subsection

@@ -24,10 +24,10 @@ pub use expressions::ConstExpr;
 pub use externals::{front_type_ref, read_type_ref};
 pub use fields::{front_export, front_name, read_item, read_name};
 pub use groups::{front_group, read_group};
-pub use name_section::NameSectionReader;
+pub use name_section::{NameSectionReader, Subsection, SubsectionReader, whole_name};
 pub use names::{IndirectNameMap, NameMap};
 pub use operators::{Operator, OperatorsReader};
-pub use payloads::{Payloads, front_frame};
+pub use payloads::{Payloads, front_frame, front_sized};
 pub use rows::Rows;
 pub use section_reader::{ReadRow, SectionReader};
 pub use sections::{

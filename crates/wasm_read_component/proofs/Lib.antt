@@ -1,6 +1,7 @@
 pub mod AliasSorts
 pub mod ComponentCanonical
 pub mod ComponentStart
+pub mod ComponentSubsections
 pub mod ComponentValues
 pub mod CoreTypeRows
 pub mod NestedRows

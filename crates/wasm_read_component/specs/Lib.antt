@@ -1,4 +1,5 @@
 pub mod Aliases
+pub mod ComponentNames
 pub mod ComponentPayloads
 pub mod ComponentRows
 pub mod Scoped

@@ -7,6 +7,7 @@ mod core_types;
 mod declarations;
 mod defined_types;
 mod items;
+mod names;
 mod nested;
 mod optional;
 mod payloads;
@@ -23,6 +24,7 @@ pub use declarations::{
     ComponentDeclarations, ComponentType, ComponentTypeDeclaration, CoreType, InstanceDeclarations,
     InstanceTypeDeclaration, ModuleDeclarations, ModuleTypeDeclaration,
 };
+pub use names::ComponentNameSectionReader;
 pub use payloads::ComponentPayloads;
 pub use scoped_reader::{ReadRowAt, ScopedReader};
 pub use sections::{
@@ -34,7 +36,7 @@ pub use type_sections::{ComponentTypeSectionReader, CoreTypeSectionReader};
 pub use types::{
     CanonicalFunction, CanonicalOption, ComponentAlias, ComponentArg, ComponentDefinedType,
     ComponentExport, ComponentExternalKind, ComponentFuncType, ComponentImport, ComponentInstance,
-    ComponentOuterAliasKind, ComponentPayload, ComponentStartFunction, ComponentTypeRef,
-    ComponentValType, Instance, InstantiationArg, InstantiationArgKind, Operands, OuterAliasKind,
-    PrimitiveValType, TypeBounds, VariantCase,
+    ComponentName, ComponentOuterAliasKind, ComponentPayload, ComponentStartFunction,
+    ComponentTypeRef, ComponentValType, Instance, InstantiationArg, InstantiationArgKind, Operands,
+    OuterAliasKind, PrimitiveValType, TypeBounds, VariantCase,
 };

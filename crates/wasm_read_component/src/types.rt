@@ -1,6 +1,6 @@
 //! What the readers give.
 use wasm_leb::List;
-use wasm_read::{CustomSection, Export, ExternalKind, UnpackedIndex};
+use wasm_read::{CustomSection, Export, ExternalKind, NameMap, UnpackedIndex};
 use wasm_shapes::SectionId;
 pub use wasm_types::{
     CanonicalOption, ComponentArg, ComponentDefinedType, ComponentExport, ComponentExternalKind,
@@ -56,4 +56,25 @@ pub enum ComponentPayload<'a> {
         id: u8,
         contents: &'a [u8],
     },
+}
+
+/// A subsection of the names of a component (Component Model, Binary Format: the custom section named `component-name`): its
+/// own name, names of what is of a sort by their indices, or one that is read by its bytes.
+#[derive(Drop)]
+pub enum ComponentName<'a> {
+    Component { name: &'a str },
+    CoreFuncs(NameMap<'a>),
+    CoreTables(NameMap<'a>),
+    CoreMemories(NameMap<'a>),
+    CoreGlobals(NameMap<'a>),
+    CoreTags(NameMap<'a>),
+    CoreTypes(NameMap<'a>),
+    CoreModules(NameMap<'a>),
+    CoreInstances(NameMap<'a>),
+    Funcs(NameMap<'a>),
+    Values(NameMap<'a>),
+    Types(NameMap<'a>),
+    Components(NameMap<'a>),
+    Instances(NameMap<'a>),
+    Unknown { id: u8, contents: &'a [u8] },
 }

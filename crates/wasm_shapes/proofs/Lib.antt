@@ -27,3 +27,4 @@ pub mod Unique
 pub mod Unscoped
 pub mod Worked
 pub mod WorkedRows
+pub mod SortRows

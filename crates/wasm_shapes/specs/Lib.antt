@@ -1,6 +1,7 @@
 pub mod CodeSize
 pub mod Component
 pub mod ComponentLaws
+pub mod ComponentNames
 pub mod ComponentReadings
 pub mod ComponentTypes
 pub mod Depth

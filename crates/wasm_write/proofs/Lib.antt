@@ -18,3 +18,4 @@ pub mod NameRows
 pub mod Shorter
 pub mod FramesFound
 pub mod FramesFit
+pub mod HeldSubsections

@@ -1,25 +1,21 @@
 -- The rows of maps of names, and of name sections.
-use Rattle.std.proofs.Common.{◌≡◌, ℕ, ◌<◌, ◌≤◌, ◌^◌, List, [], ◌∷◌, ◌++◌, length, map, refl, sym, ap, ap₂, ◌∙◌, true, subst, arith, IsUtf8}
-use Rattle.std.specs.Coded.{Coded-set, coded_ℕ, coded_list}
-use mathlib.Core.Logic.{∥∥₁_elim, ∥∥₁_map, ∥∥₁_prop}
+use Rattle.std.proofs.Common.{◌≡◌, ℕ, ◌<◌, ◌≤◌, ◌^◌, List, [], ◌∷◌, ◌++◌, length, map, refl, sym, ap, ap₂, subst, arith, IsUtf8}
+use mathlib.Core.Logic.{∥∥₁_map}
 use Rattle.wasm_leb.specs.Leb.{leb, IsUnsigned}
 use Rattle.wasm_leb.proofs.Shortest.{leb_spells}
 use Rattle.wasm_shapes.specs.declared.Space.{Space}
 use Rattle.wasm_shapes.specs.Tree.{Tree, normal}
 use Rattle.wasm_shapes.specs.Shape.{Shape}
-use Rattle.wasm_shapes.specs.Spells.{Is, Spelled, Spells}
+use Rattle.wasm_shapes.specs.Spells.{Is, Spells}
 use Rattle.wasm_shapes.specs.Fits.{InRange}
-use Rattle.wasm_shapes.specs.Sound.{sound}
 use Rattle.wasm_shapes.specs.Types.{rows_tree, vector_tree, led}
 use Rattle.wasm_shapes.specs.Module.{plain_naming, name_subsection, names_name, subsection}
 use Rattle.wasm_shapes.specs.Namings.{entry_tree, asked_in, module_name_tree, names_tree, raw_names_tree}
 use Rattle.wasm_shapes.proofs.Begins.{row_at, row_is}
 use Rattle.wasm_shapes.proofs.Namings.{asked}
 use Rattle.wasm_shapes.proofs.Frameless.{frameless_spells}
-use Rattle.wasm_write.specs.Bodies.{CodeRows, with_row}
-use Rattle.wasm_write.specs.Held.{AreHeld, BodySpells, HeldMany, HeldMany-one, held_many}
-use Rattle.wasm_write.specs.Names.{name_section_tree, NamesSpell, subsection_bytes, IsSubsection, GainsSubsection}
-use Rattle.wasm_write.proofs.Holding.{are_none, are_many_more}
+use Rattle.wasm_write.specs.Held.{BodySpells}
+use Rattle.wasm_write.specs.Names.{IsSubsection, NamesSpell, SubsectionsSpell}
 
 -- ---- entries
 
@@ -43,13 +39,13 @@ indirect_spelled i names small p =
 
 -- the map's body is this one, and the row of this number is that of its shape
 map_is : (id : ℕ) (s : Space) (behind : Shape) (rows : List Tree) → row_at name_subsection id ≡ subsection id (Shape.vec (Shape.seq (Shape.ix s) behind)) →
-    Spells (Shape.vec (Shape.seq Shape.u32 behind)) (normal (vector_tree rows)) (vector_tree rows) → IsSubsection id (normal (vector_tree rows)) (names_tree id s rows)
+    Spells (Shape.vec (Shape.seq Shape.u32 behind)) (normal (vector_tree rows)) (vector_tree rows) → IsSubsection name_subsection id (normal (vector_tree rows)) (names_tree id s rows)
 map_is id s behind rows e p = go (inner p.shaped)
   where
     inner : Is (Shape.vec (Shape.seq Shape.u32 behind)) (vector_tree rows) → Is (Shape.many (Shape.seq Shape.u32 behind)) (rows_tree rows)
     inner (Is.vec d) = d
 
-    go : Is (Shape.many (Shape.seq Shape.u32 behind)) (rows_tree rows) → IsSubsection id (normal (vector_tree rows)) (names_tree id s rows)
+    go : Is (Shape.many (Shape.seq Shape.u32 behind)) (rows_tree rows) → IsSubsection name_subsection id (normal (vector_tree rows)) (names_tree id s rows)
     go d =
         let a = asked s behind rows d in
         let body : List ℕ = normal (vector_tree rows) in
@@ -71,11 +67,11 @@ map_is id s behind rows e p = go (inner p.shaped)
 
 module _ (id : ℕ) (s : Space) (behind : Shape) (rows : List Tree) {body : List ℕ} (e : row_at name_subsection id ≡ subsection id (Shape.vec (Shape.seq (Shape.ix s) behind)))
     (b : body ≡ normal (vector_tree rows)) (p : BodySpells (Shape.seq Shape.u32 behind) rows) where
-  pub map_had : ∥ IsSubsection id body (names_tree id s rows) ∥₁
+  pub map_had : ∥ IsSubsection name_subsection id body (names_tree id s rows) ∥₁
   map_had = rw b (∥∥₁_map p.spells (map_is id s behind rows e))
 
 -- the name of the module
-pub module_name_had : (name : List ℕ) → InRange (Tree.name name) → ∥ IsSubsection 0 (leb (length name) ++ name) (module_name_tree name) ∥₁
+pub module_name_had : (name : List ℕ) → InRange (Tree.name name) → ∥ IsSubsection name_subsection 0 (leb (length name) ++ name) (module_name_tree name) ∥₁
 module_name_had name r =
     let body : List ℕ = leb (length name) ++ name in
     ∣ record {
@@ -85,7 +81,7 @@ module_name_had name r =
     } ∣₁
 
 -- a subsection of an id from 12 on
-pub raw_had : (id : ℕ) (contents : List ℕ) → 12 ≤ id → id < 256 → ∥ IsSubsection id contents (raw_names_tree id contents) ∥₁
+pub raw_had : (id : ℕ) (contents : List ℕ) → 12 ≤ id → id < 256 → ∥ IsSubsection name_subsection id contents (raw_names_tree id contents) ∥₁
 raw_had id contents low small =
     ∣ record {
       shaped = row_is name_subsection 12 (Is.seq (Is.within low (omega arith)) (Is.sized Is.rest));
@@ -93,67 +89,15 @@ raw_had id contents low small =
       normally = refl;
     } ∣₁
 
--- ---- subsections that are held, and one more
+-- ---- the body of a section
 
 names_name_utf8 : IsUtf8 names_name
 unfolding lib.Utf8.encode
 names_name_utf8 = (names_name, (refl, refl))
 
-subsections_sound : sound (Shape.many name_subsection) ≡ true
-subsections_sound = refl
-
-abbrev pub view : ℕ → List Tree → CodeRows
-view ceiling rows = record { ceiling = ceiling; rows = rows }
-
-pub subsections_none : {bytes : List ℕ} → bytes ≡ [] → HeldMany name_subsection bytes
-subsections_none e = ([], ∣ rw e (are_none name_subsection) ∣₁)
-
-pub subsections_none_is : {bytes : List ℕ} (h : HeldMany name_subsection bytes) → bytes ≡ [] → held_many name_subsection bytes h ≡ []
-unfolding held_many subsections_none
-subsections_none_is {bytes} h e = HeldMany-one name_subsection subsections_sound bytes h (subsections_none e)
-
-more : {bytes body : List ℕ} {rows : List Tree} {id : ℕ} {t : Tree} → AreHeld name_subsection (length rows) bytes rows → IsSubsection id body t → length body < 2 ^ 32 →
-    AreHeld name_subsection (length (rows ++ t ∷ [])) (bytes ++ subsection_bytes id body) (rows ++ t ∷ [])
-more {rows = rows} {t = t} r p small =
-    let P : List ℕ → Type 0 = λ z. Spelled t z in
-    rw (← p.normally) (are_many_more r (record { shaped = p.shaped; spelled = subst P (sym p.normally) (p.spelled small) }))
-
-module _ {bytes : List ℕ} (h : HeldMany name_subsection bytes) where
-  -- the bytes have grown by a subsection
-  pub subsections_grown : {new body : List ℕ} {id : ℕ} (t : Tree) → ∥ IsSubsection id body t ∥₁ → new ≡ bytes ++ subsection_bytes id body → length body < 2 ^ 32 → HeldMany name_subsection new
-  subsections_grown t p e small = (h.0 ++ t ∷ [], ∥∥₁_elim h.1 ∥∥₁_prop (λ r. ∥∥₁_map p (λ q. rw e (more r q small))))
-
-  pub subsections_grown_is : {new body : List ℕ} {id : ℕ} (ceiling : ℕ) {old : CodeRows} (k : HeldMany name_subsection new) → new ≡ bytes ++ subsection_bytes id body →
-      length body < 2 ^ 32 → view ceiling (held_many name_subsection bytes h) ≡ old → GainsSubsection old id body (view ceiling (held_many name_subsection new k))
-  unfolding held_many subsections_grown
-  subsections_grown_is {new} ceiling k e small is t p =
-      ap (view ceiling) (HeldMany-one name_subsection subsections_sound new k (subsections_grown t p e small)) ∙ ap (λ (z : CodeRows). with_row z t) is
-
-  -- the bytes are the same
-  pub subsections_same_is : {new : List ℕ} (ceiling : ℕ) {old : CodeRows} (k : HeldMany name_subsection new) → new ≡ bytes →
-      view ceiling (held_many name_subsection bytes h) ≡ old → view ceiling (held_many name_subsection new k) ≡ old
-  unfolding held_many
-  subsections_same_is {new} ceiling k e is =
-      ap (view ceiling) (HeldMany-one name_subsection subsections_sound new k (h.0, ∥∥₁_map h.1 (λ r. rw e r))) ∙ is
-
-  -- the section's body
-  pub section_normal : normal (name_section_tree (held_many name_subsection bytes h)) ≡ (leb 4 ++ names_name) ++ bytes
-  unfolding held_many
-  section_normal =
-      ap (λ (z : List ℕ). (leb 4 ++ names_name) ++ z)
-      (∥∥₁_elim h.1 (Coded-set (coded_list coded_ℕ) (normal (rows_tree h.0)) bytes) (λ r. r.normally))
-
-  pub section_spells : NamesSpell (held_many name_subsection bytes h)
-  unfolding held_many
-  section_spells =
-      let P : List ℕ → Type 0 = λ z. Spelled (rows_tree h.0) z in
-      ∥∥₁_map h.1 (λ r. record {
-        shaped = Is.named r.shaped;
-        spelled = (
-          leb 4 ++ names_name,
-          normal (rows_tree h.0),
-          refl,
-          (leb 4, refl, leb_spells 4 (omega arith), names_name_utf8),
-          subst P (sym r.normally) r.spelled,
-        );
-      })
+pub section_spells : (rows : List Tree) → SubsectionsSpell name_subsection rows → NamesSpell rows
+section_spells rows p =
+    ∥∥₁_map p (λ s. record {
+      shaped = Is.named s.shaped;
+      spelled = (leb 4 ++ names_name, normal (rows_tree rows), refl, (leb 4, refl, leb_spells 4 (omega arith), names_name_utf8), s.spelled);
+    })

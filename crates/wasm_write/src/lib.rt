@@ -20,6 +20,7 @@ mod rows;
 mod section;
 mod sections;
 mod single_sections;
+mod subsections;
 mod types;
 mod value_types;
 mod vectors;
@@ -42,6 +43,7 @@ pub use sections::{
     MemorySection, TableSection, TagSection, TypeSection,
 };
 pub use single_sections::{DataCountSection, RawSection, StartSection};
+pub use subsections::{SubsectionKind, Subsections};
 pub use types::{
     AbstractHeapType, ArrayType, BlockType, Catch, CompositeInnerType, CompositeType, ContType,
     CustomSection, Elements, EntityType, Export, ExportKind, FieldType, FuncType, GlobalType,

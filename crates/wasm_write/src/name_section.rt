@@ -1,7 +1,6 @@
 //! Name sections, as they are written (WebAssembly Core Specification 3.0, section 7.4.1).
-ghost use Rattle.std.specs.Prelude.{◌≡◌, ◌++◌, ◌∷◌, ◌-◌, ◌^◌, ◌<◌, ◌≤◌, ◌⊎◌, [], refl, length, take, vec_len, OnOk, OnErr, IfErr};
+ghost use Rattle.std.specs.Prelude.{◌≡◌, ◌++◌, ◌-◌, ◌^◌, ◌<◌, ◌≤◌, ◌⊎◌, [], refl, length, take, vec_len, OnOk, OnErr, IfErr};
 ghost use Rattle.std.proofs.Common.{lit≤};
-ghost use Rattle.wasm_leb.specs.Leb.{leb};
 ghost use Rattle.wasm_shapes.specs.declared.Space.TheVariants as space;
 ghost use Rattle.wasm_shapes.specs.Tree.{Tree, normal};
 ghost use Rattle.wasm_shapes.specs.Shape.{Shape};
@@ -11,104 +10,47 @@ ghost use Rattle.wasm_shapes.specs.Namings.{module_name_tree, names_tree, raw_na
 ghost use Rattle.wasm_shapes.proofs.Begins.{row_at};
 ghost use Rattle.wasm_write.specs.Bodies.{with_row};
 ghost use Rattle.wasm_write.specs.Faults.{IfTooLarge};
-ghost use Rattle.wasm_write.specs.Held.{HeldMany, HeldMany-prop};
-ghost use Rattle.wasm_write.specs.Names.{PassesCeiling, name_section_tree, NamesSpell, behind, HasSubsection, GainsSubsection};
+ghost use Rattle.wasm_write.specs.Names.{PassesCeiling, name_section_tree, NamesSpell};
 
 use crate::fault::WriteFault;
 use crate::fields::{named_len, write_behind};
 use crate::immediates::write_bytes;
 use crate::names::{Entries, IndirectNameMap, MapKind, NameMap};
 use crate::section::Section;
-use crate::value_types::write_byte;
+use crate::subsections::{SubsectionKind, Subsections};
 use std::alloc::Global;
 use std::marker::Model;
-use wasm_leb::{NoMemory, len_u32, write_u32};
+use wasm_leb::NoMemory;
 use wasm_shapes::Space;
+
+/// The subsections of a core module's names.
+struct CoreNames;
+
+impl SubsectionKind for CoreNames {
+    ghost shape = { name_subsection };
+
+    ghost rows_sound = { refl };
+}
 
 /// A name section: a custom section of the name `name`.
 ///
 /// Contracts see it as the list of its subsections and its ceiling, the greatest length that the body of one may have.
 #[derive(Drop)]
 pub struct NameSection {
-    ceiling: u32,
-    bytes: Vec<u8>,
-    ghost held: { HeldMany name_subsection bytes.items } by { HeldMany-prop name_subsection refl bytes.items },
+    subsections: Subsections<CoreNames>,
 }
 
 impl Model for NameSection {
-    ghost use Rattle.wasm_shapes.specs.Module.{name_subsection};
     ghost use Rattle.wasm_write.specs.Bodies.{CodeRows, code_rows_code};
-    ghost use Rattle.wasm_write.specs.Held.{held_many};
 
     ghost Value = { CodeRows };
 
     ghost coded = { code_rows_code };
 
-    ghost view = { λ s. record { ceiling = s.ceiling; rows = held_many name_subsection s.bytes.items s.held } };
-}
-
-/// Appends a subsection: its id, its length, and its body, which is bytes behind a number, if there is one. Where memory is
-/// wanting it is a part of that.
-fn write_subsection(
-    out: &mut Vec<u8>,
-    id: u8,
-    size: u32,
-    number: Option<u32>,
-    bytes: &[u8],
-) -> Result<(), NoMemory>
-    ensures ok { OnOk result
-        (out.new.items ≡ out.old.items ++ (id ∷ (leb size ++ behind number bytes.now))) }
-    ensures err { OnErr result (take (vec_len out.old) out.new.items ≡ out.old.items) }
-{
-    match write_byte(out, id) {
-        Ok(()) => {}
-        Err(NoMemory) => return Err(NoMemory),
-    }
-    match write_u32(out, size) {
-        Ok(()) => {}
-        Err(NoMemory) => return Err(NoMemory),
-    }
-    match number {
-        Some(n) => write_behind(out, n, bytes),
-        None => write_bytes(out, bytes),
-    }
-}
-
-/// How many bytes a number and others behind it are.
-fn len_behind(number: Option<u32>, bytes: &[u8]) -> usize
-    ensures { result ≡ length (behind number bytes.now) }
-{
-    match number {
-        Some(n) => len_u32(n) + bytes.len(),
-        None => bytes.len(),
-    }
+    ghost view = { λ s. s.subsections };
 }
 
 impl NameSection {
-    /// Adds a subsection whose body is these bytes behind a number, if there is one. A refusal changes nothing.
-    fn add(&mut self, id: u8, number: Option<u32>, bytes: &[u8]) -> Result<(), WriteFault>
-        requires { HasSubsection id (behind number bytes.now) }
-        ensures ok { OnOk result
-            (GainsSubsection self.old id (behind number bytes.now) self.new) }
-        ensures fits { OnOk result (length (behind number bytes.now) ≤ self.old.ceiling) }
-        ensures err { OnErr result (self.new ≡ self.old) }
-        ensures large { IfErr result (λ e. IfTooLarge e (λ size.
-            (size ≡ length (behind number bytes.now)) × (self.old.ceiling < size))) }
-    {
-        let size = len_behind(number, bytes) as u64;
-        if size > u64::from(self.ceiling) {
-            return Err(WriteFault::TooLarge { size });
-        }
-        let len = self.bytes.len();
-        match write_subsection(&mut self.bytes, id, size as u32, number, bytes) {
-            Ok(()) => Ok(()),
-            Err(NoMemory) => {
-                self.bytes.truncate(len);
-                Err(WriteFault::NoMemory)
-            }
-        }
-    }
-
     /// Adds a map whose indices are those of a space.
     fn add_map<K: MapKind>(
         &mut self,
@@ -125,7 +67,7 @@ impl NameSection {
             (PassesCeiling self.old.ceiling (vector_tree map.now))) }
     {
         let (count, bytes) = map.as_parts();
-        self.add(id, Some(count), bytes)
+        self.subsections.add(id, &[], Some(count), bytes)
     }
 }
 
@@ -135,8 +77,7 @@ impl NameSection {
         ensures { result ≡ record { ceiling = ceiling; rows = [] } }
     {
         NameSection {
-            ceiling,
-            bytes: Vec::new(alloc),
+            subsections: Subsections::new(alloc, ceiling),
         }
     }
 
@@ -156,7 +97,8 @@ impl NameSection {
         if size > u32::MAX as usize {
             return Err(WriteFault::TooLarge { size: size as u64 });
         }
-        self.add(0, Some(size as u32), name.as_bytes())
+        self.subsections
+            .add(0, &[], Some(size as u32), name.as_bytes())
     }
 
     /// Adds the names of functions. A refusal changes nothing: see `module`.
@@ -300,7 +242,7 @@ impl NameSection {
         ensures large { IfErr result (λ e. IfTooLarge e
             (PassesCeiling self.old.ceiling (Tree.raw contents.now))) }
     {
-        self.add(id, None, contents)
+        self.subsections.add(id, &[], None, contents)
     }
 }
 
@@ -326,13 +268,13 @@ impl Section for NameSection {
             Ok(()) => {}
             Err(NoMemory) => return Err(NoMemory),
         }
-        match write_bytes(out, &self.bytes) {
+        match write_bytes(out, self.subsections.as_slice()) {
             Ok(()) => Ok(()),
             Err(NoMemory) => Err(NoMemory),
         }
     }
 
     fn known_len(&self) -> Option<usize> {
-        named_len(4, self.bytes.len())
+        named_len(4, self.subsections.as_slice().len())
     }
 }

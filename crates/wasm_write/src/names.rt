@@ -177,6 +177,14 @@ impl<'a> EntryOf<Plain> for Naming<'a> {
 }
 
 impl NameMap {
+    /// The number of the entries and their spelling.
+    pub fn as_parts(&self) -> (u32, &[u8])
+        ensures value { leb result.0 ++ result.1.now ≡ normal (vector_tree self.now) }
+        ensures spells { BodySpells plain_naming self.now }
+    {
+        self.entries.as_parts()
+    }
+
     /// A map without entries. It takes no memory.
     pub fn new(alloc: Global) -> Self
         ensures { result ≡ [] }

@@ -3,3 +3,4 @@ pub mod ExternRows
 pub mod InstanceRows
 pub mod ComponentCanonical
 pub mod TypeSpelling
+pub mod ComponentNameRows

@@ -1,4 +1,5 @@
 pub mod Aliases
 pub mod ComponentBytes
+pub mod ComponentNames
 pub mod ComponentRows
 pub mod TypeRows

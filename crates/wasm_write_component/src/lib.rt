@@ -7,6 +7,7 @@ mod component;
 mod declarations;
 mod defined_types;
 mod items;
+mod names;
 mod rows;
 mod sections;
 mod type_rows;
@@ -18,6 +19,7 @@ pub use declarations::{
     ComponentType, ComponentTypeDeclaration, ComponentTypeRow, CoreType, InstanceType,
     InstanceTypeDeclaration, ModuleType, ModuleTypeDeclaration,
 };
+pub use names::ComponentNameSection;
 pub use sections::{
     CanonicalFunctionSection, ComponentAliasSection, ComponentExportSection,
     ComponentImportSection, ComponentInstanceSection, ComponentStartSection, ComponentTypeSection,

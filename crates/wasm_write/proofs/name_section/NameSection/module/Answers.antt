@@ -5,10 +5,13 @@ use Rattle.wasm_write.proofs.NameRows.{module_name_had}
 use Rattle.wasm_write.proofs.name_section.NameSection.module.Goals as goal
 
 pub add-requires : goal.add-requires
-add-requires c =
-    (module_name_tree c.args.name.now, rw c.as_bytes.ensures.value (module_name_had c.args.name.now (omega (arith, c.if-size.false), c.utf8.name)))
+add-requires c = record {
+  short = omega arith;
+  subsection = (module_name_tree c.args.name.now, rw c.as_bytes.ensures.value (module_name_had c.args.name.now (omega (arith, c.if-size.false), c.utf8.name)));
+}
 
 pub returns-clause-ok : goal.returns-clause-ok
 returns-clause-ok c =
-    OnOk-map c.add.result c.add.ensures.ok (λ gains.
-    gains (module_name_tree c.args.name.now) (rw c.as_bytes.ensures.value (module_name_had c.args.name.now (omega (arith, c.if-size.false), c.utf8.name))))
+    rw (← c.self.view_is)
+    (OnOk-map c.add.result c.add.ensures.ok (λ gains.
+    gains (module_name_tree c.args.name.now) (rw c.as_bytes.ensures.value (module_name_had c.args.name.now (omega (arith, c.if-size.false), c.utf8.name)))))

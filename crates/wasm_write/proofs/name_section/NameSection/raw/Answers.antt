@@ -5,8 +5,12 @@ use Rattle.wasm_write.proofs.NameRows.{raw_had}
 use Rattle.wasm_write.proofs.name_section.NameSection.raw.Goals as goal
 
 pub add-requires : goal.add-requires
-add-requires c = (raw_names_tree c.args.id c.args.contents.now, raw_had c.args.id c.args.contents.now c.requires (omega arith))
+add-requires c = record {
+  short = omega arith;
+  subsection = (raw_names_tree c.args.id c.args.contents.now, raw_had c.args.id c.args.contents.now c.requires (omega arith));
+}
 
 pub returns-clause-ok : goal.returns-clause-ok
 returns-clause-ok c =
-    OnOk-map c.add.result c.add.ensures.ok (λ gains. gains (raw_names_tree c.args.id c.args.contents.now) (raw_had c.args.id c.args.contents.now c.requires (omega arith)))
+    rw (← c.self.view_is)
+    (OnOk-map c.add.result c.add.ensures.ok (λ gains. gains (raw_names_tree c.args.id c.args.contents.now) (raw_had c.args.id c.args.contents.now c.requires (omega arith))))

@@ -1,0 +1,181 @@
+//! The names of a component, as they are read and as they are written.
+use reencode_component::{ReencodeComponent, component_utils};
+use reencode_hooks::{Error, Renamer, Unmapped};
+use wasm_leb::{Fault, ReadError};
+use wasm_read as r;
+use wasm_read_component::{ComponentName, ComponentNameSectionReader};
+use wasm_shapes::Space;
+use wasm_write::{NameMap, Section, WriteFault};
+use wasm_write_component::{Component, ComponentNameSection};
+
+/// The space and the entries of names of what is of a sort.
+fn sorted(name: ComponentName<'_>) -> Option<(Space, r::NameMap<'_>)> {
+    match name {
+        ComponentName::CoreFuncs(map) => Some((Space::Function, map)),
+        ComponentName::CoreTables(map) => Some((Space::Table, map)),
+        ComponentName::CoreMemories(map) => Some((Space::Memory, map)),
+        ComponentName::CoreGlobals(map) => Some((Space::Global, map)),
+        ComponentName::CoreTags(map) => Some((Space::Tag, map)),
+        ComponentName::CoreTypes(map) => Some((Space::Type_, map)),
+        ComponentName::CoreModules(map) => Some((Space::Module, map)),
+        ComponentName::CoreInstances(map) => Some((Space::Instance, map)),
+        ComponentName::Funcs(map) => Some((Space::ComponentFunc, map)),
+        ComponentName::Values(map) => Some((Space::ComponentValue, map)),
+        ComponentName::Types(map) => Some((Space::ComponentType, map)),
+        ComponentName::Components(map) => Some((Space::Component, map)),
+        ComponentName::Instances(map) => Some((Space::ComponentInstance, map)),
+        _ => None,
+    }
+}
+
+/// Each sort stands before the map of its names.
+#[test]
+fn names_by_their_sort(rt: HostRuntime) -> Result<(), WriteFault> {
+    for (subsection, space) in [
+        (&[1u8, 6, 0, 0x00, 1, 2, 1, 0x66] as &[u8], Space::Function),
+        (&[1, 6, 0, 0x01, 1, 2, 1, 0x66], Space::Table),
+        (&[1, 6, 0, 0x02, 1, 2, 1, 0x66], Space::Memory),
+        (&[1, 6, 0, 0x03, 1, 2, 1, 0x66], Space::Global),
+        (&[1, 6, 0, 0x04, 1, 2, 1, 0x66], Space::Tag),
+        (&[1, 6, 0, 0x10, 1, 2, 1, 0x66], Space::Type_),
+        (&[1, 6, 0, 0x11, 1, 2, 1, 0x66], Space::Module),
+        (&[1, 6, 0, 0x12, 1, 2, 1, 0x66], Space::Instance),
+        (&[1, 5, 0x01, 1, 2, 1, 0x66], Space::ComponentFunc),
+        (&[1, 5, 0x02, 1, 2, 1, 0x66], Space::ComponentValue),
+        (&[1, 5, 0x03, 1, 2, 1, 0x66], Space::ComponentType),
+        (&[1, 5, 0x04, 1, 2, 1, 0x66], Space::Component),
+        (&[1, 5, 0x05, 1, 2, 1, 0x66], Space::ComponentInstance),
+    ] {
+        let Ok(mut names) = ComponentNameSectionReader::new(subsection) else {
+            return Ok(());
+        };
+        let Ok(Some(name)) = names.next_row(rt.alloc()) else {
+            assert!(rt; false, "of {subsection:?}");
+            return Ok(());
+        };
+        let Some((read, mut map)) = sorted(name) else {
+            assert!(rt; false, "of {subsection:?}");
+            return Ok(());
+        };
+        assert_eq!(rt; read, space, "of {subsection:?}");
+        let entry = r::Naming {
+            index: 2,
+            name: "f",
+        };
+        assert_eq!(rt; map.next(), Ok(Some(entry)), "of {subsection:?}");
+        assert_eq!(rt; map.next(), Ok(None), "of {subsection:?}");
+
+        let mut made = NameMap::new(rt.alloc());
+        made.append(2, "f")?;
+        let mut section = ComponentNameSection::new(rt.alloc(), 1000);
+        section.names(space, &made)?;
+        let mut body = Vec::new(rt.alloc());
+        assert_eq!(rt; section.encode_body(&mut body), Ok(()), "of {space:?}");
+        assert_eq!(rt; &body[15..], subsection, "of {space:?}");
+    }
+    Ok(())
+}
+
+/// A name of the component itself, and what is read by its bytes: behind no sort, and of another id.
+#[test]
+fn other_subsections(rt: HostRuntime) -> Result<(), Fault> {
+    let body = &[0u8, 2, 1, 0x63, 1, 2, 0x06, 0x00, 1, 1, 0x00, 1, 0, 7, 1, 9];
+    let mut names = ComponentNameSectionReader::new(body)?;
+    match names.next_row(rt.alloc())? {
+        Some(ComponentName::Component { name }) => assert_eq!(rt; name, "c"),
+        _ => assert!(rt; false),
+    }
+    for (id, contents) in [
+        (1, &[0x06u8, 0x00] as &[u8]),
+        (1, &[0x00]),
+        (1, &[]),
+        (7, &[9]),
+    ] {
+        match names.next_row(rt.alloc())? {
+            Some(ComponentName::Unknown { id: j, contents: c }) => {
+                assert_eq!(rt; (j, c), (id, contents));
+            }
+            _ => assert!(rt; false, "of {contents:?}"),
+        }
+    }
+    assert!(rt; matches!(names.next_row(rt.alloc())?, None));
+    assert_eq!(rt; names.place(), 16);
+    Ok(())
+}
+
+/// The error holds the place of the subsection in fault, and comes again.
+#[test]
+fn no_subsection(rt: HostRuntime) -> Result<(), Fault> {
+    let mut names = ComponentNameSectionReader::new(&[1u8, 0, 0, 1, 5])?;
+    match names.next_row(rt.alloc())? {
+        Some(ComponentName::Unknown { id, .. }) => assert_eq!(rt; id, 1),
+        _ => assert!(rt; false),
+    }
+    for _ in 0..2 {
+        match names.next_row(rt.alloc()) {
+            Err(fault) => assert_eq!(rt; fault, Fault::Read(ReadError { at: 2 })),
+            Ok(_) => assert!(rt; false),
+        }
+    }
+    Ok(())
+}
+
+/// A section of names is added to a component behind its name.
+#[test]
+fn section_of_names(rt: HostRuntime) -> Result<(), WriteFault> {
+    let mut section = ComponentNameSection::new(rt.alloc(), 4);
+    section.component("c")?;
+    section.raw(1, &[0x06])?;
+    section.raw(7, &[9])?;
+    assert_eq!(rt;
+        section.component("long"),
+        Err(WriteFault::TooLarge { size: 5 })
+    );
+    let Ok(mut component) = Component::new(rt.alloc(), 1000) else {
+        return Err(WriteFault::NoMemory);
+    };
+    component.section(&section)?;
+    let bytes = component.finish();
+    assert_eq!(rt;
+        &bytes[8..],
+        b"\x00\x19\x0ecomponent-name\x00\x02\x01c\x01\x01\x06\x07\x01\x09" as &[u8]
+    );
+    Ok(())
+}
+
+/// Each index of a map is asked in the space of its sort; what is read by its bytes stays.
+#[test]
+fn names_are_mapped(rt: HostRuntime) -> Result<(), Error<Unmapped>> {
+    let alloc = rt.alloc();
+    let mut renamer = Renamer::new(alloc);
+    renamer.set(Space::ComponentFunc, 0, 2)?;
+    renamer.set(Space::Instance, 0, 3)?;
+    let body =
+        b"\x00\x02\x01c\x01\x05\x01\x01\x00\x01f\x01\x06\x00\x12\x01\x00\x01i\x01\x05\x02\x01\x00\x01v\x07\x01\x09";
+    let made =
+        b"\x00\x02\x01c\x01\x05\x01\x01\x02\x01f\x01\x06\x00\x12\x01\x03\x01i\x01\x05\x02\x01\x00\x01v\x07\x01\x09";
+    for by_function in [false, true] {
+        let rows = ComponentNameSectionReader::new(body)?;
+        let names = if by_function {
+            component_utils::custom_component_name_section(&mut renamer, alloc, rows, 1000)?
+        } else {
+            renamer.custom_component_name_section(alloc, rows, 1000)?
+        };
+        let mut bytes = Vec::new(alloc);
+        assert_eq!(rt; names.encode_body(&mut bytes), Ok(()));
+        assert_eq!(rt; &bytes[15..], made as &[u8]);
+    }
+    Ok(())
+}
+
+/// The place is that of the subsection in fault.
+#[test]
+fn names_in_fault(rt: HostRuntime) -> Result<(), Error<Unmapped>> {
+    let mut renamer = Renamer::new(rt.alloc());
+    let rows = ComponentNameSectionReader::new(&[7u8, 0, 1, 3, 1, 1, 0])?;
+    match renamer.custom_component_name_section(rt.alloc(), rows, 1000) {
+        Err(Error::ParseError(error)) => assert_eq!(rt; error, ReadError { at: 2 }),
+        _ => assert!(rt; false),
+    }
+    Ok(())
+}
