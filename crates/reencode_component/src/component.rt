@@ -15,9 +15,7 @@ ghost use Rattle.reencode_component.specs.ScopedRows.{ShallowRowsClauses};
 ghost use Rattle.reencode_component.specs.TypeClauses.{CoreTypeClauses, ScopeClauses};
 
 use crate::items::ReencodeComponentItems;
-use crate::{
-    core_types, default_bodies, names, row_sections, rows, sections, type_bodies, types,
-};
+use crate::{core_types, default_bodies, names, row_sections, rows, sections, type_bodies, types};
 use reencode_core::{Reencode, placed};
 use reencode_hooks::Error;
 use std::alloc::Global;
