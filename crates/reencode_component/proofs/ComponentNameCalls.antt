@@ -118,6 +118,7 @@ component_names_drawn t x (Is.cons {t = v} {u = u} d d') s =
 pub component_laws : FormatLaws format.component_names
 component_laws = record {
   passes = refl;
+  many_pass = refl;
   ends = refl;
   fills = refl;
   there = λ old new n t r reads. subsection_there {old = old} {new = new} {n = n} r reads;

@@ -4,17 +4,19 @@ ghost use Rattle.wasm_shapes.specs.Component.{alias, canonical_function, compone
 ghost use Rattle.wasm_types.specs.ComponentTrees.{component_defined_type_tree, component_func_type_tree};
 ghost use Rattle.wasm_read_component.specs.ComponentRows as read;
 ghost use Rattle.reencode_items.specs.Clauses.{ListClauses};
-ghost use Rattle.reencode_core.specs.Clauses.{NamesClausesOf, RowsClauses, SubsectionClausesOf};
+ghost use Rattle.reencode_core.specs.Clauses.{CustomClausesOf, NamesClausesOf, RowsClauses, SubsectionClausesOf};
 ghost use Rattle.wasm_read_component.specs.ComponentNames.{IsRawName};
 ghost use Rattle.reencode_component.specs.Clauses.{AddedClauses};
-ghost use Rattle.reencode_component.specs.ComponentNames.{component_names};
+ghost use Rattle.reencode_component.specs.ComponentNames.{component_custom, component_names};
 ghost use Rattle.reencode_component.specs.ScopedRows.{ShallowRowsClauses};
 
 use crate::component_rows::ReencodeComponentRows;
+use crate::names::add_section;
 use crate::{default_bodies, names, row_sections, scoped_sections, sections, types};
 use reencode_core::placed;
 use reencode_hooks::Error;
 use std::alloc::Global;
+use wasm_read::CustomSection;
 use wasm_read_component as r;
 use wasm_write_component as w;
 
@@ -196,5 +198,19 @@ pub trait ReencodeComponent: ReencodeComponentRows {
             self.old names.old self.new names.new result }
     {
         names::parse_custom_component_name_subsection(self, alloc, names, section)
+    }
+
+    /// Maps a custom section and adds it: one named `component-name` by `custom_component_name_section`, and any other by
+    /// `custom_section`. The place of a `ParseError` is in the contents behind the name.
+    fn parse_component_custom_section(
+        &mut self,
+        alloc: Global,
+        component: &mut w::Component,
+        section: CustomSection<'_>,
+    ) -> Result<(), Error<Self::Error>>
+        ensures { CustomClausesOf component_custom Self.ReencodeIndices section.entry.name.now section.entry.contents.now
+            self.old component.old self.new component.new result }
+    {
+        default_bodies::parse_component_custom_section!(self, alloc, component, section)
     }
 }

@@ -5,10 +5,10 @@
 ghost use Rattle.wasm_types.specs.ComponentTrees.{component_val_type_tree, type_ref_tree};
 ghost use Rattle.wasm_read_component.specs.Aliases as read;
 ghost use Rattle.wasm_write_component.specs.Aliases as write;
-ghost use Rattle.reencode_core.specs.Clauses.{NamesClausesOf};
+ghost use Rattle.reencode_core.specs.Clauses.{CustomClausesOf, NamesClausesOf};
 ghost use Rattle.reencode_items.specs.Clauses.{ItemClauses};
 ghost use Rattle.reencode_component.specs.Clauses.{ValueClauses};
-ghost use Rattle.reencode_component.specs.ComponentNames.{component_names};
+ghost use Rattle.reencode_component.specs.ComponentNames.{component_custom, component_names};
 
 use crate::component::ReencodeComponent;
 pub use crate::component_types::{
@@ -21,6 +21,7 @@ pub use crate::components::{
 pub use crate::core_types::parse_component_module_type_declaration;
 pub use crate::hooked::{canonical_option, type_bounds};
 use crate::items::ReencodeComponentItems;
+use crate::names::add_section;
 pub use crate::kinds::{
     component_export_kind, component_outer_alias_kind, component_primitive_val_type,
 };
@@ -42,6 +43,7 @@ use crate::{default_bodies, hooked};
 use reencode_core::placed;
 use reencode_hooks::Error;
 use std::alloc::Global;
+use wasm_read::CustomSection;
 use wasm_read_component as r;
 use wasm_write_component as w;
 
@@ -90,4 +92,18 @@ pub fn custom_component_name_section<T: ReencodeComponent>(
         reencoder.old reencoder.new result }
 {
     default_bodies::custom_component_name_section!(reencoder, alloc, section, ceiling)
+}
+
+/// Maps a custom section and adds it: one named `component-name` by `custom_component_name_section`, and any other by
+/// `custom_section`. The place of a `ParseError` is in the contents behind the name.
+pub fn parse_component_custom_section<T: ReencodeComponent>(
+    reencoder: &mut T,
+    alloc: Global,
+    component: &mut w::Component,
+    section: CustomSection<'_>,
+) -> Result<(), Error<T::Error>>
+    ensures { CustomClausesOf component_custom T.ReencodeIndices section.entry.name.now section.entry.contents.now
+        reencoder.old component.old reencoder.new component.new result }
+{
+    default_bodies::parse_component_custom_section!(reencoder, alloc, component, section)
 }

@@ -94,7 +94,23 @@ macro_rules! custom_component_name_section {
     }};
 }
 
+// A custom section: names are mapped, and any other is copied.
+macro_rules! parse_component_custom_section {
+    ($reencoder:ident, $alloc:ident, $component:ident, $section:ident) => {{
+        if $section.name == "component-name" {
+            let rows = r::ComponentNameSectionReader::new($section.contents)?;
+            let names =
+                $reencoder.custom_component_name_section($alloc, rows, $component.ceiling())?;
+            add_section($component, &names)
+        } else {
+            let section = $reencoder.custom_section($section)?;
+            add_section($component, &section)
+        }
+    }};
+}
+
 pub(crate) use component_alias;
 pub(crate) use component_type_ref;
 pub(crate) use component_val_type;
 pub(crate) use custom_component_name_section;
+pub(crate) use parse_component_custom_section;

@@ -1,5 +1,5 @@
 //! The subsections of the names of a component (Component Model, Binary Format: the custom section named `component-name`).
-ghost use Rattle.std.specs.Prelude.{◌≡◌, IfErr, IsTrue, true};
+ghost use Rattle.std.specs.Prelude.{◌≡◌, IfErr, IsTrue, Ok, true};
 ghost use Rattle.wasm_shapes.specs.declared.Visit.TheVariants.{Index};
 ghost use Rattle.wasm_shapes.specs.ComponentNames.{has_sort};
 ghost use Rattle.wasm_read.specs.Subsections.{Content};
@@ -11,6 +11,8 @@ ghost use Rattle.reencode_core.specs.Bodies.{KeepsCode};
 ghost use Rattle.reencode_core.specs.Clauses.{SubsectionClausesOf};
 ghost use Rattle.reencode_core.specs.Leaves.{LeavesMade, subsection_of};
 ghost use Rattle.reencode_core.specs.Names.{GivesSubsectionOf};
+ghost use Rattle.reencode_core.specs.Sections.{AddsMapped};
+ghost use Rattle.wasm_write.specs.Sections.{section_row};
 ghost use Rattle.reencode_component.specs.ComponentNames.{component_names};
 
 use crate::indices::ReencodeComponentIndices;
@@ -21,6 +23,7 @@ use wasm_read::NameMap;
 use wasm_read_component as r;
 use wasm_shapes::Space;
 use wasm_write_component as w;
+use wasm_write_component::ComponentSection;
 
 /// The new index of what has a sort, by the hook of its space.
 #[inline(always)]
@@ -136,4 +139,16 @@ pub fn parse_custom_component_name_subsection<T: ReencodeComponentIndices>(
         }
         r::ComponentName::Unknown { id, contents } => written(names.raw(id, contents)),
     }
+}
+
+/// Adds a section, as what became of it says.
+pub(crate) fn add_section<S: ComponentSection, E>(
+    component: &mut w::Component,
+    section: &S,
+) -> Result<(), Error<E>>
+    ensures { AddsMapped (section_row (S.Section.number section.now) (S.Section.contents section.now))
+        component.old (Ok tt) component.new result }
+{
+    component.section(section)?;
+    Ok(())
 }

@@ -17,6 +17,8 @@ use Rattle.reencode_hooks.specs.Walk.{walk}
 use Rattle.reencode_core.specs.Leaves.{Leaves, Text, body_in, core_in, custom_in, section_in}
 use Rattle.reencode_core.specs.Rows.{Asks}
 use Rattle.reencode_core.specs.Sections.{ReadsAs}
+use Rattle.reencode_core.specs.NameFormats.{core_custom}
+use Rattle.reencode_core.proofs.NameLaws.{core_laws}
 use Rattle.reencode_core.proofs.CustomSection.{one_contents}
 use Rattle.reencode_core.proofs.FunctionMade.{drawn_locals}
 use Rattle.reencode_core.proofs.Made.{PartMade, Unasked, drawn_made, ended_all, front_none, front_same, tree_made, wants_tells_none, whole_made}
@@ -85,7 +87,7 @@ module _ {S E : Type 0} (asked : Asks S E) {s m : S} where
   left_custom {name = name} {contents = contents} c t r h =
       let P : List Visit → Type 0 = λ z. Drawn contents z in
       left_part (custom_in name contents) NoMemory t r (tree_made asked c NoMemory t tt h) (subst P (sym (ap visits r.1)) (contents_drawn r.2))
-      (λ v q. ap visits r.1 ∙ ap visits (one_contents r.2 q.2) ∙ sym (ap visits q.1))
+      (λ v q. ap visits r.1 ∙ ap visits (one_contents core_custom core_laws r.2 q.2) ∙ sym (ap visits q.1))
 
   -- a module
   pub left_core : {bytes : List ℕ} {told : List ℕ} (t : Tree) → CoreReading bytes t → run asked s (visits t) ≡ accepted told m → Leaves asked (core_in bytes) s NoMemory m

@@ -17,6 +17,7 @@ use Rattle.reencode_core.proofs.SectionMade.{names_drawn}
 
 pub record FormatLaws {N : Type 0} (form : NameFormat N) : Type 1 where
   pub passes : sound form.row ≡ true
+  pub many_pass : sound (Shape.many form.row) ≡ true
   pub ends : closed form.row ≡ true
   pub fills : nullable form.row ≡ false
   -- a subsection that was read stands there, and what stands there is what it is read as
@@ -51,6 +52,7 @@ content_drawn (Content.raw j c) id body vs h d = drawn_front [] body refl d
 pub core_laws : FormatLaws core_names
 core_laws = record {
   passes = refl;
+  many_pass = refl;
   ends = refl;
   fills = refl;
   there = λ old new n t r reads. subsection_there {old = old} {new = new} {n = n} r reads;

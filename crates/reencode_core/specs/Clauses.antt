@@ -18,9 +18,9 @@ use Rattle.reencode_core.specs.Bodies.{GivesBody, GivesLocals, KeepsCode}
 use Rattle.reencode_core.specs.Core.{GivesBytes, GivesCore}
 use Rattle.reencode_core.specs.Errors.{IfParse}
 use Rattle.reencode_core.specs.Holds.{HoldsCore, HoldsRows}
-use Rattle.reencode_core.specs.Leaves.{LeavesCore, LeavesMade, NoCoreHeading, body_in, core_in, custom_in, locals_in, many_in, module_in, rows_in, section_in, subsection_of}
-use Rattle.reencode_core.specs.NameFormats.{NameFormat, core_names}
-use Rattle.reencode_core.specs.Names.{GivesCustom, GivesNamesOf, GivesSubsectionOf}
+use Rattle.reencode_core.specs.Leaves.{LeavesCore, LeavesMade, NoCoreHeading, body_in, core_in, custom_of, locals_in, many_in, module_in, rows_in, section_in, subsection_of}
+use Rattle.reencode_core.specs.NameFormats.{CustomFormat, NameFormat, core_custom, core_names}
+use Rattle.reencode_core.specs.Names.{GivesCustomOf, GivesNamesOf, GivesSubsectionOf}
 use Rattle.reencode_core.specs.Rows.{Asks, GivesRow, GivesRows, KeepsFront}
 use Rattle.reencode_core.specs.Sections.{GivesAdded, GivesSection, KeepsModule}
 use Rattle.reencode_core.specs.Woven.{GivesWoven, GivesWovenBytes}
@@ -90,14 +90,17 @@ SectionClauses i kind body s old m new result =
       after_error : IsTrue i.keeps_defaults → LeavesMade i.sure (asks i) (section_in kind body) s m result;
     }
 
--- A custom section is mapped and added.
-abbrev pub CustomClauses : {S E : Type 0} → Ghosts S E → List ℕ → List ℕ → S → Sections → S → Sections → Result (Unit {0}) (Error E) → Type 0
-CustomClauses i name contents s old m new result =
+-- A custom section of a format is mapped and added.
+abbrev pub CustomClausesOf : {N S E : Type 0} → CustomFormat N → Ghosts S E → List ℕ → List ℕ → S → Sections → S → Sections → Result (Unit {0}) (Error E) → Type 0
+CustomClausesOf form i name contents s old m new result =
     record {
       kept : KeepsModule old new;
-      default : IsTrue i.keeps_defaults → GivesCustom (asks i) name contents (s, old) (m, new) result;
-      after_error : IsTrue i.keeps_defaults → LeavesMade i.sure (asks i) (custom_in name contents) s m result;
+      default : IsTrue i.keeps_defaults → GivesCustomOf form (asks i) name contents (s, old) (m, new) result;
+      after_error : IsTrue i.keeps_defaults → LeavesMade i.sure (asks i) (custom_of form name contents) s m result;
     }
+
+abbrev pub CustomClauses : {S E : Type 0} → Ghosts S E → List ℕ → List ℕ → S → Sections → S → Sections → Result (Unit {0}) (Error E) → Type 0
+CustomClauses i name contents s old m new result = CustomClausesOf core_custom i name contents s old m new result
 
 -- A section of an id that no kind has is added by its bytes.
 abbrev pub UnknownClauses : {S E : Type 0} → Ghosts S E → ℕ → List ℕ → S → Sections → S → Sections → Result (Unit {0}) (Error E) → Type 0

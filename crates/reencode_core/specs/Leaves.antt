@@ -11,7 +11,7 @@ use Rattle.wasm_shapes.specs.Place.{Begins, BeginsNone}
 use Rattle.wasm_shapes.specs.Rows.{RowsLeft}
 use Rattle.wasm_shapes.specs.Types.{rows_tree}
 use Rattle.wasm_shapes.specs.Spells.{Spells}
-use Rattle.wasm_shapes.specs.Module.{body, core_header, row_of, alsos, CoreReading, FaultAt, core_module, name_subsection, names_name, ReadsCustom}
+use Rattle.wasm_shapes.specs.Module.{body, core_header, row_of, alsos, CoreReading, FaultAt, core_module, name_subsection}
 use Rattle.wasm_read.specs.declared.types.Name.{Name}
 use Rattle.wasm_read.specs.Names.{NamesStanding}
 use Rattle.wasm_read.specs.Reading.{Standing, CountRead}
@@ -19,8 +19,8 @@ use Rattle.reencode_hooks.specs.declared.error.Error.{Error}
 use Rattle.reencode_hooks.specs.declared.error.Error.TheVariants.{InvalidCodeSectionSize, UnexpectedNonCoreModuleSection, UnexpectedNonComponentSection, ParseError, UserError, TooLarge, NoMemory}
 use Rattle.reencode_hooks.specs.Run.{Step, accepted, refused, state_after, run}
 use Rattle.reencode_core.specs.Rows.{Asks, RowsBefore, locals}
-use Rattle.reencode_core.specs.NameFormats.{NameFormat, core_names}
-use Rattle.reencode_core.specs.Names.{AreLeft}
+use Rattle.reencode_core.specs.NameFormats.{CustomFormat, NameFormat, core_custom, core_names}
+use Rattle.reencode_core.specs.Names.{AreLeft, ReadsCustomOf}
 use Rattle.reencode_core.specs.Sections.{HasItem, HasRows, LeftBehind, ReadsAs}
 
 -- What is to be read: the bytes, the trees that they are read as, and what stands in front of the place where they are at fault, with the
@@ -166,9 +166,17 @@ many_in row reader = record { bytes = reader.rest; reads = AreLeft row reader; f
 abbrev pub names_in : NamesStanding → Text
 names_in reader = many_in name_subsection reader
 
--- a custom section, by its name
+-- a custom section of a format, by its name
+abbrev pub custom_of : {N : Type 0} → CustomFormat N → List ℕ → List ℕ → Text
+custom_of form name contents = record {
+  bytes = contents;
+  reads = ReadsCustomOf form name contents;
+  faulty = λ t rest. (name ≡ form.called) × ManyUpTo form.names.row contents t rest;
+}
+
+-- the same in a core module
 abbrev pub custom_in : List ℕ → List ℕ → Text
-custom_in name contents = record { bytes = contents; reads = ReadsCustom name contents; faulty = λ t rest. (name ≡ names_name) × NamesUpTo contents t rest }
+custom_in name contents = custom_of core_custom name contents
 
 -- ---- modules
 

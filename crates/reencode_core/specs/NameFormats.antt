@@ -1,6 +1,6 @@
 -- Formats of subsections of names: those of a core module, and others that are mapped as they are.
 use Rattle.std.specs.Prelude.{◌≡◌, ℕ, List, [], get_or}
-use Rattle.wasm_shapes.specs.Module.{name_rows, name_subsection, subsection}
+use Rattle.wasm_shapes.specs.Module.{name_rows, name_subsection, names_name, subsection}
 use Rattle.wasm_shapes.specs.Shape.{Shape}
 use Rattle.wasm_shapes.specs.Tree.{Tree}
 use Rattle.wasm_shapes.specs.Types.{rows_tree}
@@ -18,6 +18,13 @@ pub record NameFormat (N : Type 0) : Type 1 where
   pub of_map : N → (Shape → MapStanding → Type 0) → Type 0
   pub entries : N → List ℕ
   pub map_at : ℕ → List ℕ → Shape → List ℕ → Type 0
+
+-- A format of custom sections: the name of those whose contents are such subsections, and the number of a custom section among the
+-- sections.
+pub record CustomFormat (N : Type 0) : Type 1 where
+  pub names : NameFormat N
+  pub called : List ℕ
+  pub number : ℕ
 
 -- ---- the names of a core module
 
@@ -46,3 +53,6 @@ core_names = record {
   entries = λ n. entries_bytes (content_of n);
   map_at = λ id body row map. MapRow id row × (map ≡ body);
 }
+
+abbrev pub core_custom : CustomFormat Name
+core_custom = record { names = core_names; called = names_name; number = 13 }

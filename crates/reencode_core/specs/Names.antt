@@ -9,7 +9,7 @@ use Rattle.wasm_shapes.specs.Tree.{Tree}
 use Rattle.wasm_shapes.specs.Spells.{Spells}
 use Rattle.wasm_shapes.specs.Place.{Begins, BeginsNone}
 use Rattle.wasm_shapes.specs.Types.{rows_tree}
-use Rattle.wasm_shapes.specs.Module.{name_subsection, names_name, frame, custom_frame, ReadsCustom}
+use Rattle.wasm_shapes.specs.Module.{name_subsection, names_name, frame, custom_frame}
 use Rattle.wasm_read.specs.declared.types.Name.{Name}
 use Rattle.wasm_read.specs.Names.{NamesStanding}
 use Rattle.wasm_read.specs.Subsections.{subsection_frame, subsection_frame_tree}
@@ -24,7 +24,7 @@ use Rattle.reencode_hooks.specs.Errors.{error_of_write}
 use Rattle.reencode_hooks.specs.Run.{accepted, refused}
 use Rattle.reencode_hooks.specs.Walk.{walk}
 use Rattle.reencode_core.specs.Errors.{IfParse, IfRefused}
-use Rattle.reencode_core.specs.NameFormats.{NameFormat, core_names}
+use Rattle.reencode_core.specs.NameFormats.{CustomFormat, NameFormat, core_custom, core_names}
 use Rattle.reencode_core.specs.Rows.{Asks, AcceptsRows, AcceptedHooks, RefusesRow, RowsBefore, StopsEach}
 use Rattle.reencode_core.specs.Sections.{GivesAdded}
 
@@ -187,19 +187,35 @@ GivesNames asked c reader s m result view = GivesNamesOf core_names asked c read
 abbrev pub contents_standing : List ℕ → NamesStanding
 contents_standing contents = record { rest = contents; len = length contents }
 
--- it is named `name`, and an entry of its names is refused
-abbrev pub StopsCustom : {S E : Type 0} → Asks S E → ℕ → List ℕ → List ℕ → S → Error E → S → Type 0
-StopsCustom asked c name contents s e m = (name ≡ names_name) × StopsNames asked c (contents_standing contents) s e m
+-- what the contents of a custom section are read as: of one of names, its subsections; else they are themselves
+abbrev pub ReadsContentsOf : {N : Type 0} → CustomFormat N → List ℕ → List ℕ → Tree → Type 0
+ReadsContentsOf form name contents u = ((name ≡ form.called) × Spells (Shape.many form.names.row) contents u) ⊎ ((name ≢ form.called) × (u ≡ Tree.raw contents))
 
-pub record GivesCustom {S E : Type 0} (asked : Asks S E) (name contents : List ℕ) (before after : S × Sections) (result : Result (Unit {0}) (Error E)) : Type 0 where
-  pub reading : (t : Tree) → ReadsCustom name contents t → GivesAdded asked 0 before t after result
-  pub readable : IfOk result (λ _. (t : Tree) × ReadsCustom name contents t)
+-- the tree is what a custom section is read as
+abbrev pub ReadsCustomOf : {N : Type 0} → CustomFormat N → List ℕ → List ℕ → Tree → Type 0
+ReadsCustomOf form name contents t =
+    (u : Tree) × (t ≡ Tree.row form.number (Tree.pair (Tree.fixed 0) (Tree.sized (Tree.pair (Tree.name name) u)))) × ReadsContentsOf form name contents u
+
+-- it is one of names, and one of these is refused
+abbrev pub StopsCustomOf : {N S E : Type 0} → CustomFormat N → Asks S E → ℕ → List ℕ → List ℕ → S → Error E → S → Type 0
+StopsCustomOf form asked c name contents s e m = (name ≡ form.called) × StopsNamesOf form.names asked c (contents_standing contents) s e m
+
+pub record GivesCustomOf {N : Type 0} (form : CustomFormat N) {S E : Type 0} (asked : Asks S E) (name contents : List ℕ) (before after : S × Sections) (result : Result (Unit {0}) (Error E)) : Type 0 where
+  pub reading : (t : Tree) → ReadsCustomOf form name contents t → GivesAdded asked 0 before t after result
+  pub readable : IfOk result (λ _. (t : Tree) × ReadsCustomOf form name contents t)
   pub unreadable : IfErr result (λ e. IfParse e (λ at.
-      ((t : Tree) → ReadsCustom name contents t → ⊥) × (name ≡ names_name)
-      × SubsectionsFault asked before.1.ceiling (contents_standing contents) before.0 at))
+      ((t : Tree) → ReadsCustomOf form name contents t → ⊥) × (name ≡ form.called)
+      × SubsectionsFaultOf form.names.row asked before.1.ceiling (contents_standing contents) before.0 at))
   pub refusal : IfErr result (λ e.
-      IfRefused e (((t : Tree) × ReadsCustom name contents t) ⊎ StopsCustom asked before.1.ceiling name contents before.0 e after.0))
+      IfRefused e (((t : Tree) × ReadsCustomOf form name contents t) ⊎ StopsCustomOf form asked before.1.ceiling name contents before.0 e after.0))
   pub unchanged : IfErr result (λ _. after.1 ≡ before.1)
+
+-- the same in a core module
+abbrev pub StopsCustom : {S E : Type 0} → Asks S E → ℕ → List ℕ → List ℕ → S → Error E → S → Type 0
+StopsCustom asked c name contents s e m = StopsCustomOf core_custom asked c name contents s e m
+
+abbrev pub GivesCustom : {S E : Type 0} → Asks S E → List ℕ → List ℕ → S × Sections → S × Sections → Result (Unit {0}) (Error E) → Type 0
+GivesCustom asked name contents before after result = GivesCustomOf core_custom asked name contents before after result
 
 -- A custom section that has no reading stands there in its frame, and an entry of its names is refused.
 pub record StopsInNames {S E : Type 0} (asked : Asks S E) (c : ℕ) (bytes : List ℕ) (s : S) (e : Error E) (m : S) : Type 0 where
