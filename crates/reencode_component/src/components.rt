@@ -15,8 +15,7 @@ use wasm_write_component as w;
 
 /// Reads a component, with so many scopes open round it, and adds what its sections become, each by `parse_component_payload`.
 ///
-/// No section hook is called before a section of a component. A section is read where its id is in force, as
-/// `ComponentPayloads::next` says. A `ParseError` holds the place of the section in fault, counted from the first byte of the
+/// No section hook is called before a section of a component. A `ParseError` holds the place of the section in fault, counted from the first byte of the
 /// header. Depths that were pushed stay pushed after an error.
 #[cycle(components)]
 pub fn parse_component<T: ReencodeComponent>(
@@ -47,7 +46,7 @@ pub fn parse_component<T: ReencodeComponent>(
 /// Maps a section of a component by the method of its kind, with so many scopes open round it, and adds it: a core module by
 /// `parse_component_submodule`, and a component by `parse_component_subcomponent`.
 ///
-/// A `ParseError` holds the place of the payload; it also comes for a section that is not read yet: a custom section, and types.
+/// A `ParseError` holds the place of the payload.
 /// `UnexpectedNonComponentSection` also comes for a section of a core module.
 #[cycle(components)]
 pub fn parse_component_payload<T: ReencodeComponent>(
@@ -72,7 +71,10 @@ pub fn parse_component_payload<T: ReencodeComponent>(
         r::ComponentPayload::Component { at, bytes } => {
             section(reencoder, alloc, component, 4, at, bytes, depth)
         }
-        r::ComponentPayload::Custom { at, .. } => Err(Error::ParseError(ReadError { at })),
+        r::ComponentPayload::Custom { at, section } => {
+            let mapped = reencoder.parse_component_custom_section(alloc, component, section);
+            placed(mapped, at)
+        }
         r::ComponentPayload::Unknown { at, id, contents } => {
             section(reencoder, alloc, component, id, at, contents, depth)
         }

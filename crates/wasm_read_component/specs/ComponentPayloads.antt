@@ -1,5 +1,5 @@
 -- The frames of the sections of a component: what a payload stands for, and what the reader of payloads promises.
-use Rattle.std.specs.Prelude.{◌≡◌, ◌≢◌, ℕ, ◌<◌, ◌≤◌, List, [], ◌++◌, length, Bool, true, ◌&&◌, nat_le}
+use Rattle.std.specs.Prelude.{◌≡◌, ◌≢◌, ℕ, ◌<◌, ◌≤◌, List, [], ◌++◌, length, Bool, true, nat_le}
 use Rattle.wasm_leb.specs.declared.fault.Fault.{Fault}
 use Rattle.wasm_leb.specs.declared.fault.Fault.TheVariants as fault
 use Rattle.wasm_leb.specs.declared.fault.Kind.TheVariants as kind
@@ -29,14 +29,15 @@ component_payload_at (payload.Component at bytes) = at
 component_payload_at (payload.Custom at section) = at
 component_payload_at (payload.Unknown at id contents) = at
 
--- whether a section may have this id: 1 to 127
+-- whether a section may have this id
 abbrev pub has_frame : ℕ → Bool
-has_frame id = nat_le 1 id && nat_le id 127
+has_frame id = nat_le id 127
 
--- a payload that a reader gives: a core module or a component, another of a kind below 12, or of an id that no table knows
+-- a payload that a reader gives: a core module or a component, another of a kind below 12, a custom one, or of an id that no table knows
 abbrev pub IsGiven : ComponentPayload → Type 0
 IsGiven (payload.Module at bytes) = Unit {0}
 IsGiven (payload.Component at bytes) = Unit {0}
+IsGiven (payload.Custom at section) = Unit {0}
 IsGiven (payload.Section id at body) = (has_frame id ≡ true) × (id < 12) × (id ≢ 1) × (id ≢ 4)
 IsGiven (payload.Unknown at id contents) = (has_frame id ≡ true) × (12 ≤ id)
 IsGiven _ = ⊥
@@ -44,10 +45,13 @@ IsGiven _ = ⊥
 -- no frame of such an id begins there
 pub record BeginsNoFrame (bytes : List ℕ) : Type 0 where
   pub none : (id : ℕ) (body left : List ℕ) → has_frame id ≡ true → Begins frame bytes (numbered_frame id body) left → ⊥
+  pub no_custom : (name contents left : List ℕ) → Begins frame bytes (custom_frame name contents) left → ⊥
 
 -- what a frame holds is of no such id
 abbrev pub HasNoFrame : Payload → Type 0
-HasNoFrame p = (id : ℕ) (body : List ℕ) → has_frame id ≡ true → frame_tree p ≢ numbered_frame id body
+HasNoFrame p =
+    ((id : ℕ) (body : List ℕ) → has_frame id ≡ true → frame_tree p ≢ numbered_frame id body)
+    × ((name contents : List ℕ) → frame_tree p ≢ custom_frame name contents)
 
 -- none begins where bytes are left, and the error holds the place
 abbrev pub NoComponentFrame : Fault → List ℕ → ℕ → Type 0

@@ -54,11 +54,11 @@ impl<'a> ComponentPayloads<'a> {
         self.len.saturating_sub(self.rest.len())
     }
 
-    /// The frame of the next section, or none at the end. It is a `Module`, a `Component`, a `Section` or an `Unknown`.
+    /// The frame of the next section, or none at the end. It is no `Core`.
     ///
-    /// The error comes exactly where no frame of an id begins that is in force: of these are the ids 1 to 127. It
-    /// holds the place where the frame is due, counted from the first byte of the header, and leaves the reader where it
-    /// stood. No memory is taken.
+    /// The error comes exactly where no frame begins: there is none of an id of 128 or more, and one of the id 0 has a body
+    /// that begins with a name. It holds the place where the frame is due, counted from the first byte of the header, and
+    /// leaves the reader where it stood. No memory is taken.
     pub fn next(&mut self) -> Result<Option<ComponentPayload<'a>>, Fault>
         ensures some { IfOk result (λ o. IfSome o (λ p.
             Begins frame self.old.rest (component_frame_tree p) self.new.rest)) }
@@ -96,7 +96,7 @@ fn id_of_kind(kind: SectionId) -> u8
 fn has_frame(id: u8) -> bool
     ensures { result ≡ has_frame id }
 {
-    1 <= id && id <= 127
+    id <= 127
 }
 
 /// The section of this id, where it is in force.
@@ -140,7 +140,7 @@ fn of_frame(payload: Payload<'_>) -> Option<ComponentPayload<'_>>
             Some(payload) => Some(payload),
             None => None,
         },
-        Payload::Custom { .. } => None,
+        Payload::Custom { at, section } => Some(ComponentPayload::Custom { at, section }),
     }
 }
 
