@@ -71,19 +71,17 @@ frame_drawn {f = f} {bytes = bytes} {left = left} {vs = vs} there p = go f there
 
 -- ---- no frame of an id in force
 
--- ids from 12 on are in force
-pub unknown_in_force : (id : ℕ) → 12 ≤ id → id ≤ 127 → has_frame id ≡ true
-unknown_in_force id low high =
-    let from : nat_le 1 id ≡ true = le-leb 1 id (omega (arith, low)) in
-    rw (from, le-leb id 127 high) refl
+-- ids up to 127 are in force
+pub below_in_force : (id : ℕ) → id ≤ 127 → has_frame id ≡ true
+below_in_force id high = le-leb id 127 high
 
 unframed : (depth : ℕ) {bytes : List ℕ} → BeginsNoFrame bytes → BeginsNoSection depth bytes
 unframed depth {bytes = bytes} n = record { none = λ t left b. go t left b (in_component_frame t b.there.begins.text b.there.begins.spells.shaped b.there.begins.spells.spelled) }
   where
     by : (t f : Tree) (text left : List ℕ) → InComponentFrame t f → IsInForce t → Spells frame text f → bytes ≡ text ++ left → ⊥
     by t f text left (InComponentFrame.of_id id u body low high r) known p e = n.none id body left known.0 (record { text = text; spells = p; reads = e })
-    by t f text left (InComponentFrame.of_custom name contents u r) known p e = absurd cc
-    by t f text left (InComponentFrame.of_unknown id contents low high) known p e = n.none id contents left (unknown_in_force id low high) (record { text = text; spells = p; reads = e })
+    by t f text left (InComponentFrame.of_custom name contents u r) known p e = n.no_custom name contents left (record { text = text; spells = p; reads = e })
+    by t f text left (InComponentFrame.of_unknown id contents low high) known p e = n.none id contents left (below_in_force id high) (record { text = text; spells = p; reads = e })
 
     go : (t : Tree) (left : List ℕ) (b : BeginsSection depth bytes t left) → (f : Tree) × InComponentFrame t f × Spells frame b.there.begins.text f → ⊥
     go t left b g = by t g.0 b.there.begins.text left g.1 b.in_force g.2 b.there.begins.reads

@@ -58,6 +58,7 @@ module _ {S E : Type 0} (asked : Asks S E) (depth : ℕ) (deep : depth ≤ 200) 
           let P : List ℕ → Type 0 = λ z. CountRead z reader in
           let R : Shape → Type 0 = λ z. ShallowUpTo z (standing_at depth reader) t rest in
           inr (reader, subst P same there, subst R rows r)
+      go f t rest (SectionUpTo.names name contents u rest' is r) q = absurd cc
 
   -- its rows were asked in part
   pub section_leaves : {reader : Standing} (e : Error E) → CountRead body reader → Leaves asked (shallow_rows_in row (standing_at depth reader)) s e m → Leaves asked (section_in depth (numbered_frame id body)) s e m

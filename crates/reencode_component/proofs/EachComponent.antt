@@ -46,7 +46,7 @@ given_framed i depth (payload.Unknown at id contents) g c = c
 given_framed i depth (payload.Core id) g c = absurd g
 given_framed i depth (payload.Module at bytes) g c = c
 given_framed i depth (payload.Component at bytes) g c = c
-given_framed i depth (payload.Custom at section) g c = absurd g
+given_framed i depth (payload.Custom at section) g c = c
 
 -- an error of the bytes leaves no reading of the section
 tells_none_read : {E : Type 0} (P : Fault → Type 0) {none : Type 0} (e : Error E) → IfFault e (λ x. none × P x) → TellsFault e → none

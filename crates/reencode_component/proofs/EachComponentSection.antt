@@ -1,7 +1,6 @@
 -- A section of a component whose rows were mapped, as it is added.
-use Rattle.std.proofs.Common.{◌≡◌, ◌+◌, ◌≢◌, ◌<◌, ◌≤◌, lit≤, zero, suc, ℕ, List, [], ◌∷◌, true, nat_le, Result, Ok, Err, IfErr, IsTrue, refl, sym, ap, ◌∙◌, subst, arith, ◌⊎◌, inl, inr}
+use Rattle.std.proofs.Common.{◌≡◌, ◌+◌, ◌≢◌, ◌<◌, ◌≤◌, lit≤, zero, suc, ℕ, List, [], ◌∷◌, true, Result, Ok, Err, IfErr, IsTrue, refl, sym, ap, ◌∙◌, subst, arith, ◌⊎◌, inl, inr}
 use Rattle.std.proofs.lemmas.Bool.{leb-true}
-use Rattle.wasm_shapes.proofs.Lists.{both}
 use Rattle.wasm_leb.specs.declared.fault.Fault.{Fault}
 use Rattle.wasm_leb.specs.declared.fault.Fault.TheVariants as fault
 use Rattle.wasm_leb.specs.Place.{BeginsNoNumber}
@@ -9,7 +8,7 @@ use Rattle.wasm_shapes.specs.Component as table
 use Rattle.wasm_shapes.specs.ComponentReadings.{InComponentFrame}
 use Rattle.wasm_shapes.specs.Depth.{opens}
 use Rattle.wasm_shapes.specs.Drawn.{Drawn, IsItem}
-use Rattle.wasm_shapes.specs.Module.{custom_frame, numbered_frame}
+use Rattle.wasm_shapes.specs.Module.{numbered_frame}
 use Rattle.wasm_shapes.specs.Shape.{Shape}
 use Rattle.wasm_shapes.specs.declared.Visit.{Visit}
 use Rattle.wasm_shapes.specs.Tree.{Tree, normal, visits}
@@ -47,7 +46,7 @@ use Rattle.reencode_component.specs.Clauses.{AddedClauses}
 use Rattle.reencode_component.specs.ComponentClauses.{FrameClauses, placed_in}
 use Rattle.reencode_component.specs.ComponentLeaves.{SectionUpTo, bytes_in, section_in}
 use Rattle.reencode_component.specs.ScopedRows.{ShallowRowsClauses, standing_at}
-use Rattle.reencode_component.proofs.ComponentLoop.{unknown_in_force}
+use Rattle.reencode_component.proofs.ComponentLoop.{below_in_force}
 use Rattle.reencode_component.proofs.ComponentRowsMapped.{SectionRows, in_numbered, section_added, section_not_added, section_stops, section_uncounted}
 use Rattle.reencode_component.proofs.ComponentRowsLeft.{section_leaves, section_leaves_all, section_untouched}
 
@@ -242,45 +241,37 @@ frame_wanted i depth f at s old = record {
   };
 }
 
-module _ {S E : Type 0} (i : Ghosts S E) (depth : ℕ) (at : ℕ) (s : S) (old : Sections) where
-  -- of an id that is not in force
-  pub number_not_read : (id : ℕ) (body : List ℕ) → (has_frame id ≡ true → ⊥) → FrameClauses i depth (numbered_frame id body) at s old s old (Err (ParseError (record { at = at })))
-  number_not_read id body off =
-      not_read i depth (numbered_frame id body) (λ t r. none t (numbered_frame id body) r.framed r.in_force refl) (unnested (room depth)) (λ t rest x. up_to (numbered_frame id body) t rest x refl) at s old
-    where
-      never : {n : ℕ} → n ≡ id → has_frame n ≡ true → ⊥
-      never {n = n} e k = let P : ℕ → Type 0 = λ z. has_frame z ≡ true in off (subst P e k)
+-- sections that have rows are of no id below 1
+rows_from : (id : ℕ) {row : Shape} → table.component_body_of id ≡ Shape.vec row → 1 ≤ id
+rows_from zero e = absurd cc
+rows_from (suc n) e = omega arith
 
-      none : (t f : Tree) → InComponentFrame t f → IsInForce t → f ≡ numbered_frame id body → ⊥
-      none t f (InComponentFrame.of_id id' v body' low' high' q) k e = let number : id' ≡ id = cc in never number k.0
-      none t f (InComponentFrame.of_custom name contents v q) k e = cc
-      none t f (InComponentFrame.of_unknown id' contents' low' high') k e = let number : id' ≡ id = cc in never number (unknown_in_force id' low' high')
+-- those of an id that is not in force, and of the id 0 where no name stands
+pub number_not_read : {S E : Type 0} (i : Ghosts S E) (depth : ℕ) (at : ℕ) (s : S) (old : Sections) (id : ℕ) (body : List ℕ) → (1 ≤ id → has_frame id ≡ true → ⊥) →
+    FrameClauses i depth (numbered_frame id body) at s old s old (Err (ParseError (record { at = at })))
+number_not_read i depth at s old id body off =
+    not_read i depth (numbered_frame id body) (λ t r. none t (numbered_frame id body) r.framed r.in_force refl) (unnested (room depth)) (λ t rest x. up_to (numbered_frame id body) t rest x refl) at s old
+  where
+    never : {n : ℕ} → n ≡ id → 1 ≤ n → has_frame n ≡ true → ⊥
+    never {n = n} e low k = let P : ℕ → Type 0 = λ z. has_frame z ≡ true in off (omega (arith, e, low)) (subst P e k)
 
-      unnested : (room : ℕ) (x : Fault) → NestedFault depth room (numbered_frame id body) x → ⊥
-      unnested zero x h = h
-      unnested (suc room) x h = let e : numbered_frame id body ≡ numbered_frame h.0 h.1 = h.2 in let number : h.0 ≡ id = cc in never number h.3
+    none : (t f : Tree) → InComponentFrame t f → IsInForce t → f ≡ numbered_frame id body → ⊥
+    none t f (InComponentFrame.of_id id' v body' low' high' q) k e = let number : id' ≡ id = cc in never number low' k.0
+    none t f (InComponentFrame.of_custom name contents v q) k e = cc
+    none t f (InComponentFrame.of_unknown id' contents' low' high') k e = let number : id' ≡ id = cc in never number (omega (arith, low')) (below_in_force id' high')
 
-      up_to : (f t : Tree) (rest : List ℕ) → SectionUpTo depth f t rest → f ≡ numbered_frame id body → ⊥
-      up_to f t rest (SectionUpTo.uncounted id' body' row e n) q = let number : id' ≡ id = cc in never number e.in_force
-      up_to f t rest (SectionUpTo.rows id' body' row reader u rest' e there r) q = let number : id' ≡ id = cc in never number e.in_force
+    nested_from : {n : ℕ} {A B : Type 0} → ((n ≡ 1) × A) ⊎ ((n ≡ 4) × B) → 1 ≤ n
+    nested_from {n = n} (inl p) = let one : n ≡ 1 = p.0 in omega (arith, one)
+    nested_from {n = n} (inr p) = let four : n ≡ 4 = p.0 in omega (arith, four)
 
-  -- a custom one
-  pub custom_not_read : (name contents : List ℕ) → FrameClauses i depth (custom_frame name contents) at s old s old (Err (ParseError (record { at = at })))
-  custom_not_read name contents =
-      not_read i depth (custom_frame name contents) (λ t r. none t (custom_frame name contents) r.framed r.in_force refl) (unnested (room depth)) (λ t rest x. up_to (custom_frame name contents) t rest x refl) at s old
-    where
-      none : (t f : Tree) → InComponentFrame t f → IsInForce t → f ≡ custom_frame name contents → ⊥
-      none t f (InComponentFrame.of_id id' v body' low' high' q) k e = cc
-      none t f (InComponentFrame.of_custom name' contents' v q) k e = cc
-      none t f (InComponentFrame.of_unknown id' contents' low' high') k e = cc
+    unnested : (room : ℕ) (x : Fault) → NestedFault depth room (numbered_frame id body) x → ⊥
+    unnested zero x h = h
+    unnested (suc room) x h = let e : numbered_frame id body ≡ numbered_frame h.0 h.1 = h.2 in let number : h.0 ≡ id = cc in never number (nested_from h.4) h.3
 
-      unnested : (room : ℕ) (x : Fault) → NestedFault depth room (custom_frame name contents) x → ⊥
-      unnested zero x h = h
-      unnested (suc room) x h = let e : custom_frame name contents ≡ numbered_frame h.0 h.1 = h.2 in cc
-
-      up_to : (f t : Tree) (rest : List ℕ) → SectionUpTo depth f t rest → f ≡ custom_frame name contents → ⊥
-      up_to f t rest (SectionUpTo.uncounted id' body' row e n) q = cc
-      up_to f t rest (SectionUpTo.rows id' body' row reader u rest' e there r) q = cc
+    up_to : (f t : Tree) (rest : List ℕ) → SectionUpTo depth f t rest → f ≡ numbered_frame id body → ⊥
+    up_to f t rest (SectionUpTo.uncounted id' body' row e n) q = let number : id' ≡ id = cc in never number (rows_from id' e.body) e.in_force
+    up_to f t rest (SectionUpTo.rows id' body' row reader u rest' e there r) q = let number : id' ≡ id = cc in never number (rows_from id' e.body) e.in_force
+    up_to f t rest (SectionUpTo.names name contents u rest' is r) q = cc
 
 -- ---- the start
 
@@ -306,6 +297,7 @@ module _ {S E : Type 0} (i : Ghosts S E) (depth : ℕ) (deep : depth ≤ 200) (b
           let number : id' ≡ 9 = cc in let start : table.component_start ≡ Shape.vec row = sym (ap table.component_body_of number) ∙ e.body in cc
       up_to f t rest (SectionUpTo.rows id' body' row reader u rest' e there r) q =
           let number : id' ≡ 9 = cc in let start : table.component_start ≡ Shape.vec row = sym (ap table.component_body_of number) ∙ e.body in cc
+      up_to f t rest (SectionUpTo.names name contents u rest' is r) q = cc
 
   -- it was mapped
   pub start_added : (f : ComponentStartFunction) → Spells table.component_start body (start_tree f) → {m : S} {new : Sections} (r : Result (Unit {0}) (Error E)) →
@@ -325,21 +317,21 @@ module _ {S E : Type 0} (i : Ghosts S E) (depth : ℕ) (deep : depth ≤ 200) (b
 
 -- ---- ids that are not in force
 
-pub low_off : (id : ℕ) → id < 12 → id ≢ 1 → id ≢ 4 → id ≢ 2 → id ≢ 3 → id ≢ 5 → id ≢ 6 → id ≢ 7 → id ≢ 8 → id ≢ 9 → id ≢ 10 → id ≢ 11 → has_frame id ≡ true → ⊥
-low_off zero low y z a b c d e f g h j k = cc
-low_off (suc zero) low y z a b c d e f g h j k = y refl
-low_off (suc (suc zero)) low y z a b c d e f g h j k = a refl
-low_off (suc (suc (suc zero))) low y z a b c d e f g h j k = b refl
-low_off (suc (suc (suc (suc zero)))) low y z a b c d e f g h j k = z refl
-low_off (suc (suc (suc (suc (suc zero))))) low y z a b c d e f g h j k = c refl
-low_off (suc (suc (suc (suc (suc (suc zero)))))) low y z a b c d e f g h j k = d refl
-low_off (suc (suc (suc (suc (suc (suc (suc zero))))))) low y z a b c d e f g h j k = e refl
-low_off (suc (suc (suc (suc (suc (suc (suc (suc zero)))))))) low y z a b c d e f g h j k = f refl
-low_off (suc (suc (suc (suc (suc (suc (suc (suc (suc zero))))))))) low y z a b c d e f g h j k = g refl
-low_off (suc (suc (suc (suc (suc (suc (suc (suc (suc (suc zero)))))))))) low y z a b c d e f g h j k = h refl
-low_off (suc (suc (suc (suc (suc (suc (suc (suc (suc (suc (suc zero))))))))))) low y z a b c d e f g h j k = j refl
-low_off (suc (suc (suc (suc (suc (suc (suc (suc (suc (suc (suc (suc n)))))))))))) low y z a b c d e f g h j k = omega (arith, low)
+pub low_off : (id : ℕ) → id < 12 → id ≢ 1 → id ≢ 4 → id ≢ 2 → id ≢ 3 → id ≢ 5 → id ≢ 6 → id ≢ 7 → id ≢ 8 → id ≢ 9 → id ≢ 10 → id ≢ 11 → 1 ≤ id → has_frame id ≡ true → ⊥
+low_off zero low y z a b c d e f g h j from k = omega (arith, from)
+low_off (suc zero) low y z a b c d e f g h j from k = y refl
+low_off (suc (suc zero)) low y z a b c d e f g h j from k = a refl
+low_off (suc (suc (suc zero))) low y z a b c d e f g h j from k = b refl
+low_off (suc (suc (suc (suc zero)))) low y z a b c d e f g h j from k = z refl
+low_off (suc (suc (suc (suc (suc zero))))) low y z a b c d e f g h j from k = c refl
+low_off (suc (suc (suc (suc (suc (suc zero)))))) low y z a b c d e f g h j from k = d refl
+low_off (suc (suc (suc (suc (suc (suc (suc zero))))))) low y z a b c d e f g h j from k = e refl
+low_off (suc (suc (suc (suc (suc (suc (suc (suc zero)))))))) low y z a b c d e f g h j from k = f refl
+low_off (suc (suc (suc (suc (suc (suc (suc (suc (suc zero))))))))) low y z a b c d e f g h j from k = g refl
+low_off (suc (suc (suc (suc (suc (suc (suc (suc (suc (suc zero)))))))))) low y z a b c d e f g h j from k = h refl
+low_off (suc (suc (suc (suc (suc (suc (suc (suc (suc (suc (suc zero))))))))))) low y z a b c d e f g h j from k = j refl
+low_off (suc (suc (suc (suc (suc (suc (suc (suc (suc (suc (suc (suc n)))))))))))) low y z a b c d e f g h j from k = omega (arith, low)
 
 -- none of these is above 127
-pub high_off : (id : ℕ) → 127 < id → has_frame id ≡ true → ⊥
-high_off id h k = let most : id ≤ 127 = leb-true _ _ (both (nat_le 1 id) (nat_le id 127) k).1 in omega (arith, h, most)
+pub high_off : (id : ℕ) → 127 < id → 1 ≤ id → has_frame id ≡ true → ⊥
+high_off id h from k = let most : id ≤ 127 = leb-true _ _ k in omega (arith, h, most)

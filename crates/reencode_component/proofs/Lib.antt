@@ -31,3 +31,4 @@ pub mod TypesStanding
 pub mod ComponentLaws
 pub mod WithinLaws
 pub mod ComponentNameCalls
+pub mod CustomFrames

@@ -78,6 +78,7 @@ no_up_to depth id body none t rest x = go (numbered_frame id body) t rest x refl
     go : (f t : Tree) (rest : List ℕ) → SectionUpTo depth f t rest → f ≡ numbered_frame id body → ⊥
     go f t rest (SectionUpTo.uncounted id' body' row e n) q = let number : id' ≡ id = cc in none row (sym (ap component_body_of number) ∙ e.body)
     go f t rest (SectionUpTo.rows id' body' row reader u rest' e there r) q = let number : id' ≡ id = cc in none row (sym (ap component_body_of number) ∙ e.body)
+    go f t rest (SectionUpTo.names name contents u rest' is r) q = cc
 
 module _ {S E : Type 0} (i : Ghosts S E) (depth id : ℕ) (body : List ℕ) (head : Tree → Tree) (reads : Tree → Type 0) (faulty : Tree → List ℕ → Type 0) (broken : Fault → Type 0) (headless : Type 0) where
   abbrev frame_tree : Tree
@@ -190,8 +191,8 @@ module _ {S E : Type 0} (i : Ghosts S E) (depth id : ℕ) (body : List ℕ) (hea
     gives_refused UnexpectedNonComponentSection k g at =
         given UnexpectedNonComponentSection (λ _. g) at UnexpectedNonComponentSection (walk_refused UnexpectedNonComponentSection (λ _. g) k)
         (no_reading g.unread.0, (tt, kind.faults (fault.Header kinds.Module) g.unread.1)) tt
-    gives_refused (UserError x) k g at = given (UserError x) (λ _. g) at (UserError x) (walk_refused (UserError x) (λ _. g) k) tt (inr (inr g.why))
-    gives_refused (TooLarge x) k g at = given (TooLarge x) (λ _. g) at (TooLarge x) (walk_refused (TooLarge x) (λ _. g) k) tt (inr (inr g.why))
+    gives_refused (UserError x) k g at = given (UserError x) (λ _. g) at (UserError x) (walk_refused (UserError x) (λ _. g) k) tt (inr (inr (inr g.why)))
+    gives_refused (TooLarge x) k g at = given (TooLarge x) (λ _. g) at (TooLarge x) (walk_refused (TooLarge x) (λ _. g) k) tt (inr (inr (inr g.why)))
     gives_refused NoMemory k g at = given NoMemory (λ _. g) at NoMemory (walk_refused NoMemory (λ _. g) k) tt tt
     gives_refused CanonicalizedHeapTypeReference k g at = absurd g.unread
     gives_refused InvalidConstExpr k g at = absurd g.unread

@@ -1,5 +1,5 @@
 -- What a section asks is drawn from its frame, and what a component asks from its bytes.
-use Rattle.std.proofs.Common.{◌≡◌, ◌+◌, ◌≤◌, zero, suc, ℕ, List, [], true, refl, sym, append-nil, subst, arith, ◌⊎◌, inl, inr}
+use Rattle.std.proofs.Common.{◌≡◌, ◌+◌, ◌≤◌, zero, suc, ℕ, List, [], refl, sym, append-nil, subst, arith, ◌⊎◌, inl, inr}
 use Rattle.wasm_shapes.specs.Component as table
 use Rattle.wasm_shapes.specs.Component.{component_section_tree, component_tree}
 use Rattle.wasm_shapes.specs.ComponentReadings.{InComponentFrame}
@@ -14,11 +14,13 @@ use Rattle.wasm_shapes.proofs.ComponentFrames.{in_component_frame}
 use Rattle.wasm_shapes.proofs.Depth.{shallow_first}
 use Rattle.wasm_shapes.proofs.Drawn.{drawn_behind, drawn_front, drawn_item, drawn_joined, drawn_none}
 use Rattle.wasm_shapes.proofs.Laws.{module_headed}
-use Rattle.wasm_read_component.specs.ComponentPayloads.{has_frame}
+use Rattle.reencode_core.proofs.CustomSection.{drawn_contents}
 use Rattle.reencode_core.proofs.Left.{module_drawn}
 use Rattle.reencode_core.proofs.RowsMade.{drawn_rows}
-use Rattle.reencode_core.proofs.SectionMade.{numbered_drawn}
+use Rattle.reencode_core.proofs.SectionMade.{custom_drawn, numbered_drawn}
+use Rattle.reencode_component.specs.ComponentNames.{component_custom}
 use Rattle.reencode_component.specs.Components.{IsInForce, ReadsComponent, ReadsSection}
+use Rattle.reencode_component.proofs.ComponentNameCalls.{component_laws}
 use Rattle.reencode_component.proofs.NestedReadings.{component_forth, module_forth}
 use Rattle.reencode_component.proofs.NestedSteps.{drawn_scope, nested_tree}
 
@@ -27,20 +29,20 @@ use Rattle.reencode_component.proofs.NestedSteps.{drawn_scope, nested_tree}
 rows_drawn : (id : ℕ) (row : Shape) → table.component_body_of id ≡ Shape.vec row → (u : Tree) (x : List ℕ) → Is (Shape.vec row) u → Spelled u x → Drawn x (visits u)
 rows_drawn id row e u x (Is.vec {t = v} d) s = drawn_behind s.0 s.1 s.2 (drawn_rows (IsItem.component_row id row e) v s.1 d s.4)
 
-body_drawn : (id : ℕ) → id ≤ 11 → has_frame id ≡ true → (u : Tree) (x : List ℕ) → Is (table.component_body_of id) u → Spelled u x → ((id ≡ 1) ⊎ (id ≡ 4) → Drawn x (visits u)) → Drawn x (visits u)
-body_drawn zero h k u x d s nested = absurd cc
-body_drawn (suc zero) h k u x d s nested = nested (inl refl)
-body_drawn (suc (suc zero)) h k u x d s nested = rows_drawn 2 table.instance_row refl u x d s
-body_drawn (suc (suc (suc zero))) h k u x d s nested = rows_drawn 3 table.core_type refl u x d s
-body_drawn (suc (suc (suc (suc zero)))) h k u x d s nested = nested (inr refl)
-body_drawn (suc (suc (suc (suc (suc zero))))) h k u x d s nested = rows_drawn 5 table.component_instance_row refl u x d s
-body_drawn (suc (suc (suc (suc (suc (suc zero)))))) h k u x d s nested = rows_drawn 6 table.alias refl u x d s
-body_drawn (suc (suc (suc (suc (suc (suc (suc zero))))))) h k u x d s nested = rows_drawn 7 table.component_type refl u x d s
-body_drawn (suc (suc (suc (suc (suc (suc (suc (suc zero)))))))) h k u x d s nested = rows_drawn 8 table.canonical_function refl u x d s
-body_drawn (suc (suc (suc (suc (suc (suc (suc (suc (suc zero))))))))) h k u x d s nested = drawn_item IsItem.component_start (record { shaped = d; spelled = s })
-body_drawn (suc (suc (suc (suc (suc (suc (suc (suc (suc (suc zero)))))))))) h k u x d s nested = rows_drawn 10 table.extern_row refl u x d s
-body_drawn (suc (suc (suc (suc (suc (suc (suc (suc (suc (suc (suc zero))))))))))) h k u x d s nested = rows_drawn 11 table.component_export_row refl u x d s
-body_drawn (suc (suc (suc (suc (suc (suc (suc (suc (suc (suc (suc (suc n)))))))))))) h k u x d s nested = absurd (omega (arith, h))
+body_drawn : (id : ℕ) → 1 ≤ id → id ≤ 11 → (u : Tree) (x : List ℕ) → Is (table.component_body_of id) u → Spelled u x → ((id ≡ 1) ⊎ (id ≡ 4) → Drawn x (visits u)) → Drawn x (visits u)
+body_drawn zero low h u x d s nested = absurd (omega (arith, low))
+body_drawn (suc zero) low h u x d s nested = nested (inl refl)
+body_drawn (suc (suc zero)) low h u x d s nested = rows_drawn 2 table.instance_row refl u x d s
+body_drawn (suc (suc (suc zero))) low h u x d s nested = rows_drawn 3 table.core_type refl u x d s
+body_drawn (suc (suc (suc (suc zero)))) low h u x d s nested = nested (inr refl)
+body_drawn (suc (suc (suc (suc (suc zero))))) low h u x d s nested = rows_drawn 5 table.component_instance_row refl u x d s
+body_drawn (suc (suc (suc (suc (suc (suc zero)))))) low h u x d s nested = rows_drawn 6 table.alias refl u x d s
+body_drawn (suc (suc (suc (suc (suc (suc (suc zero))))))) low h u x d s nested = rows_drawn 7 table.component_type refl u x d s
+body_drawn (suc (suc (suc (suc (suc (suc (suc (suc zero)))))))) low h u x d s nested = rows_drawn 8 table.canonical_function refl u x d s
+body_drawn (suc (suc (suc (suc (suc (suc (suc (suc (suc zero))))))))) low h u x d s nested = drawn_item IsItem.component_start (record { shaped = d; spelled = s })
+body_drawn (suc (suc (suc (suc (suc (suc (suc (suc (suc (suc zero)))))))))) low h u x d s nested = rows_drawn 10 table.extern_row refl u x d s
+body_drawn (suc (suc (suc (suc (suc (suc (suc (suc (suc (suc (suc zero))))))))))) low h u x d s nested = rows_drawn 11 table.component_export_row refl u x d s
+body_drawn (suc (suc (suc (suc (suc (suc (suc (suc (suc (suc (suc (suc n)))))))))))) low h u x d s nested = absurd (omega (arith, h))
 
 -- what stands in the scope of a nested section
 inner_drawn : {id : ℕ} {u : Tree} {x : List ℕ} (k : ℕ) (v : Tree) → component_section_tree id u ≡ nested_tree k v → Drawn x (visits v) → Drawn x (visits u)
@@ -53,7 +55,7 @@ section_drawn_by : (depth : ℕ) → ((body : List ℕ) (t : Tree) → ReadsComp
 section_drawn_by depth inner {f = f} {t = t} {bytes = bytes} {left = left} there r = go t f r.framed r there
   where
     go : (t f : Tree) → InComponentFrame t f → ReadsSection depth f t → Begins frame bytes f left → Drawn bytes (visits t)
-    go t f (InComponentFrame.of_id id u body low high p) r there = numbered_drawn there (body_drawn id high r.in_force.0 u body p.shaped p.spelled nested)
+    go t f (InComponentFrame.of_id id u body low high p) r there = numbered_drawn there (body_drawn id low high u body p.shaped p.spelled nested)
       where
         at : {n : ℕ} → id ≡ n → ReadsSection depth (numbered_frame n body) t
         at e = let P : ℕ → Type 0 = λ z. ReadsSection depth (numbered_frame z body) t in subst P e r
@@ -61,7 +63,7 @@ section_drawn_by depth inner {f = f} {t = t} {bytes = bytes} {left = left} there
         nested : (id ≡ 1) ⊎ (id ≡ 4) → Drawn body (visits u)
         nested (inl e) = let q = module_forth depth body t (at e) in inner_drawn 1 (core_tree q.0) q.1 (module_drawn body (core_tree q.0) (module_headed.forth body q.0 q.2))
         nested (inr e) = let q = component_forth depth body t (at e) in inner_drawn 4 (component_tree q.0) q.1 (inner body q.0 q.2)
-    go t f (InComponentFrame.of_custom name contents u p) r there = let k : has_frame 0 ≡ true = r.in_force.0 in absurd cc
+    go t f (InComponentFrame.of_custom name contents u p) r there = custom_drawn there (drawn_contents component_custom component_laws p)
     go t f (InComponentFrame.of_unknown id contents low high) r there = drawn_none
 
 -- ---- sections one behind another

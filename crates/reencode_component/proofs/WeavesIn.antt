@@ -85,7 +85,7 @@ then_same (accepted a m) f g h = h a m
 then_same (refused e m) f g h = refl
 
 -- two steps that are the same, and what follows the first
-both_same : {S E A B : Type 0} {r q : Step S E A} (f g : A → S → Step S E B) → r ≡ q → ((a : A) (m : S) → f a m ≡ g a m) → and_then r f ≡ and_then q g
+pub both_same : {S E A B : Type 0} {r q : Step S E A} (f g : A → S → Step S E B) → r ≡ q → ((a : A) (m : S) → f a m ≡ g a m) → and_then r f ≡ and_then q g
 both_same {q = q} f g e h = ap (λ z. and_then z f) e ∙ then_same q f g h
 
 pub weave_in_of_nothing : {S E : Type 0} (asked : Asks S E) → WeaveInOfNothing asked

@@ -5,7 +5,7 @@ use Rattle.wasm_leb.specs.declared.fault.Fault.TheVariants as fault
 use Rattle.wasm_leb.specs.declared.fault.Kind.TheVariants as kind
 use Rattle.wasm_shapes.specs.declared.Visit.TheVariants.{Push}
 use Rattle.wasm_shapes.specs.Component.{component_body_of}
-use Rattle.wasm_shapes.specs.Module.{component_header, numbered_frame}
+use Rattle.wasm_shapes.specs.Module.{component_header, custom_frame, numbered_frame}
 use Rattle.wasm_shapes.specs.Depth.{Shallow}
 use Rattle.wasm_shapes.specs.Place.{Begins}
 use Rattle.wasm_shapes.specs.Shape.{Shape}
@@ -17,9 +17,11 @@ use Rattle.wasm_write.specs.Sections.{SectionRow}
 use Rattle.reencode_hooks.specs.declared.error.Error.{Error}
 use Rattle.reencode_hooks.specs.declared.error.Error.TheVariants.{InvalidCodeSectionSize, UnexpectedNonCoreModuleSection, UnexpectedNonComponentSection, ParseError, UserError, TooLarge, NoMemory}
 use Rattle.reencode_hooks.specs.Run.{accepted}
+use Rattle.reencode_core.specs.Names.{StopsCustomOf}
 use Rattle.reencode_core.specs.Rows.{Asks, StopsDue}
 use Rattle.reencode_core.specs.Weave.{Puts, added}
 use Rattle.reencode_core.specs.Woven.{IsWovenCause, OwnTooLarge}
+use Rattle.reencode_component.specs.ComponentNames.{component_custom}
 use Rattle.reencode_component.specs.Components.{ComponentFault, FaultAt, Framed, SectionsFirst}
 use Rattle.reencode_component.specs.ScopedRows.{AllShallow}
 use Rattle.reencode_component.specs.WeaveIn.{AcceptsAll, RefusesAmong}
@@ -106,9 +108,15 @@ OwnInside asked adds c depth (suc room) f s m e =
     Pushed asked (λ b k n x. OwnTooLarge asked adds c b k x)
     (λ b k n x. BehindFront asked (added adds) c (depth + 1) (OwnInside asked adds c (depth + 1) room) b k n x) f s m e
 
--- What was refused inside a section that has no reading: a row of it; or what stands inside a nested one, by what is said of that.
+-- A custom section stands in the frame, and one of its names is refused.
+abbrev pub StopsNamed : {S E : Type 0} → Asks S E → ℕ → Stops S E
+StopsNamed asked c f s m e = (name : List ℕ) × (contents : List ℕ) × (f ≡ custom_frame name contents) × StopsCustomOf component_custom asked c name contents s e m
+
+-- What was refused inside a section that has no reading: a row of it; or one of its names; or what stands inside a nested one, by what
+-- is said of that.
 abbrev pub StopsBy : {S E : Type 0} → Asks S E → ℕ → ℕ → Stops S E → Stops S E
-StopsBy asked c depth nested f s m e = ((id : ℕ) × (body : List ℕ) × (f ≡ numbered_frame id body) × StopsInRows asked c depth id body s m e) ⊎ nested f s m e
+StopsBy asked c depth nested f s m e =
+    ((id : ℕ) × (body : List ℕ) × (f ≡ numbered_frame id body) × StopsInRows asked c depth id body s m e) ⊎ StopsNamed asked c f s m e ⊎ nested f s m e
 
 -- A nested section stands in the frame, and this error comes of it; so many scopes may still be opened.
 abbrev pub StopsNested : {S E : Type 0} → Asks S E → Puts S SectionRow → ℕ → ℕ → ℕ → Stops S E

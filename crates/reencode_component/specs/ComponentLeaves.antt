@@ -1,8 +1,8 @@
 -- What a component, or a section of one, is read as and where it is at fault, for what an error leaves.
 use Rattle.std.specs.Prelude.{◌≡◌, ◌≢◌, ℕ, List, [], ◌++◌, true, Result}
 use Rattle.wasm_leb.specs.Place.{BeginsNoNumber}
-use Rattle.wasm_shapes.specs.Component.{component_body_of}
-use Rattle.wasm_shapes.specs.Module.{component_header, frame, numbered_frame}
+use Rattle.wasm_shapes.specs.Component.{component_body_of, component_name_subsection, component_names_name}
+use Rattle.wasm_shapes.specs.Module.{component_header, custom_frame, frame, numbered_frame}
 use Rattle.wasm_shapes.specs.Place.{Begins}
 use Rattle.wasm_shapes.specs.Rows.{rows_then}
 use Rattle.wasm_shapes.specs.Shape.{Shape}
@@ -15,7 +15,7 @@ use Rattle.reencode_hooks.specs.declared.error.Error.{Error}
 use Rattle.reencode_hooks.specs.declared.error.Error.TheVariants.{NoMemory}
 use Rattle.reencode_hooks.specs.Hooks.{Gains}
 use Rattle.reencode_core.specs.Holds.{IfWants}
-use Rattle.reencode_core.specs.Leaves.{Leaves, Text}
+use Rattle.reencode_core.specs.Leaves.{Leaves, ManyUpTo, Text}
 use Rattle.reencode_core.specs.Rows.{Asks}
 use Rattle.reencode_core.specs.Weave.{Puts, added}
 use Rattle.reencode_component.specs.Components.{FaultAt, ReadsComponent, ReadsSection}
@@ -34,11 +34,12 @@ bytes_in (Tree.row k (Tree.pair b (Tree.sized (Tree.pair n (Tree.raw contents)))
 bytes_in _ = []
 
 -- The count of the rows is due and none begins; or rows, of which none opens a scope too many, stand behind their count up to where such a
--- one is missing. Of sections that have no rows nothing is said.
+-- one is missing; or subsections of names stand up to where one is missing. Of other sections nothing is said.
 pub data SectionUpTo (depth : ℕ) : Tree → Tree → List ℕ → Type 0 where
   uncounted : (id : ℕ) (body : List ℕ) (row : Shape) → HasRows id row → BeginsNoNumber 128 32 32 body → SectionUpTo depth (numbered_frame id body) Tree.nil body
   rows : (id : ℕ) (body : List ℕ) (row : Shape) (reader : Standing) (t : Tree) (rest : List ℕ) → HasRows id row → CountRead body reader → ShallowUpTo row (standing_at depth reader) t rest →
       SectionUpTo depth (numbered_frame id body) t rest
+  names : (name contents : List ℕ) (t : Tree) (rest : List ℕ) → name ≡ component_names_name → ManyUpTo component_name_subsection contents t rest → SectionUpTo depth (custom_frame name contents) t rest
 
 -- a section in its frame
 abbrev pub section_in : ℕ → Tree → Text

@@ -90,7 +90,7 @@ module _ {V : Type 0} (form : CustomFormat V) (laws : FormatLaws form.names) whe
   abbrev section_of : Tree → Tree
   section_of body = Tree.row form.number (Tree.pair (Tree.fixed 0) (Tree.sized body))
 
-  drawn_contents : {name contents : List ℕ} {u : Tree} → ReadsContentsOf form name contents u → Drawn contents (visits u)
+  pub drawn_contents : {name contents : List ℕ} {u : Tree} → ReadsContentsOf form name contents u → Drawn contents (visits u)
   drawn_contents {contents = contents} {u = u} (inl r) = laws.rows_drawn u contents r.1.shaped r.1.spelled
   drawn_contents {contents = contents} (inr r) = let P : Tree → Type 0 = λ z. Drawn contents (visits z) in subst P (sym r.1) drawn_none
 

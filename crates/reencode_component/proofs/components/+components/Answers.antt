@@ -2,8 +2,8 @@ use Rattle.std.proofs.Common.{◌+◌, refl}
 use Rattle.wasm_shapes.specs.Component.{component_tree}
 use Rattle.reencode_component.specs.ComponentLeaves.{ComponentUpTo, NoComponentHeading}
 use Rattle.reencode_component.specs.Components.{ComponentFault, ReadsComponent}
+use Rattle.reencode_component.proofs.CustomFrames.{custom_framed}
 use Rattle.reencode_component.proofs.EachComponent.{component_begun, component_headless, kept_ended, kept_more, kept_refused, kept_unframed}
-use Rattle.reencode_component.proofs.EachComponentSection.{custom_not_read}
 use Rattle.reencode_component.proofs.NestedComponent.{component_accepted, component_nested, component_no_rows, component_refused}
 use Rattle.reencode_component.proofs.NestedReadings.{component_too_deep}
 use Rattle.reencode_component.proofs.NestedSections.{nested_added, nested_deep, nested_large, nested_refused, nested_unmade, nested_unopened}
@@ -38,7 +38,9 @@ parse_component-returns-in-None g t c =
     kept_ended g.T.ReencodeIndices c.args.depth c.in_ok-payloads.ensures.ok c.sections.invariant ended.0
 
 pub parse_component_payload-returns-in-Custom : goal.parse_component_payload-returns-in-Custom
-parse_component_payload-returns-in-Custom g t c = rw c.in-Custom.is (custom_not_read g.T.ReencodeIndices c.args.depth c.in-Custom.at _ _ c.in-Custom.section.name.now c.in-Custom.section.contents.now)
+parse_component_payload-returns-in-Custom g t c =
+    let section = c.in-Custom.section in
+    rw (c.in-Custom.is, c.placed.ensures) (custom_framed g.T.ReencodeIndices c.args.depth c.requires section.name.now section.contents.now c.in-Custom.at _ c.parse_component_custom_section-mapped.ensures)
 
 pub section-returns-then-id-eq1 : goal.section-returns-then-id-eq1
 section-returns-then-id-eq1 g t c = rw (c.if-id-eq1.true, c.placed.ensures) (c.parse_component_submodule-mapped.ensures.framed c.args.at)
