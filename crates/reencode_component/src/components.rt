@@ -43,7 +43,7 @@ pub fn parse_component<T: ReencodeComponent>(
 /// Maps a section of a component by the method of its kind, with so many scopes open round it, and adds it.
 ///
 /// A `ParseError` holds the place of the payload; it also comes for a section that is not read yet: a core module, a component, a
-/// custom section, and types. `UnexpectedNonComponentSection` comes for a section of a core module.
+/// custom section, and types of components. `UnexpectedNonComponentSection` comes for a section of a core module.
 pub fn parse_component_payload<T: ReencodeComponent>(
     reencoder: &mut T,
     alloc: Global,
