@@ -47,7 +47,7 @@ pub fn parse_component<T: ReencodeComponent>(
 /// Maps a section of a component by the method of its kind, with so many scopes open round it, and adds it: a core module by
 /// `parse_component_submodule`, and a component by `parse_component_subcomponent`.
 ///
-/// A `ParseError` holds the place of the payload; it also comes for a section that is not read yet: a custom section, and types.
+/// A `ParseError` holds the place of the payload; it also comes for a section that is not read yet: a custom section.
 /// `UnexpectedNonComponentSection` also comes for a section of a core module.
 #[cycle(components)]
 pub fn parse_component_payload<T: ReencodeComponent>(
