@@ -1,6 +1,6 @@
 //! The kind in which components, rows, aliases and types with others inside ask.
 use crate::noter::{Made, Noter, Notes, noted};
-use reencode_component::{ReencodeComponent, ReencodeComponentItems};
+use reencode_component::{ReencodeComponent, ReencodeComponentItems, ReencodeComponentRows};
 use std::alloc::Global;
 use wasm_read_component as r;
 use wasm_write::RowSection;
@@ -40,6 +40,16 @@ impl ReencodeComponentItems for Noter<PartsNoted> {
 
     fn canonical_option(&mut self, ty: r::CanonicalOption) -> Made<w::CanonicalOption> {
         noted!(self, canonical_option, Ok(ty))
+    }
+}
+
+impl ReencodeComponentRows for Noter<PartsNoted> {
+    fn component_module_type(
+        &mut self,
+        alloc: Global,
+        _ty: r::ModuleDeclarations<'_>,
+    ) -> Made<w::ModuleType> {
+        noted!(self, component_module_type, Ok(RowSection::new(alloc)))
     }
 }
 
@@ -123,13 +133,5 @@ impl ReencodeComponent for Noter<PartsNoted> {
         _contents: &[u8],
     ) -> Made<()> {
         noted!(self, parse_unknown_component_section, Ok(()))
-    }
-
-    fn component_module_type(
-        &mut self,
-        alloc: Global,
-        _ty: r::ModuleDeclarations<'_>,
-    ) -> Made<w::ModuleType> {
-        noted!(self, component_module_type, Ok(RowSection::new(alloc)))
     }
 }

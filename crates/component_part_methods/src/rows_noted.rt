@@ -1,7 +1,7 @@
 //! The kind in which sections, module types, types of values and what a type may be ask.
 use crate::core_methods::group;
 use crate::noter::{Made, Noter, Notes, noted};
-use reencode_component::{ReencodeComponent, ReencodeComponentItems};
+use reencode_component::{ReencodeComponent, ReencodeComponentItems, ReencodeComponentRows};
 use std::alloc::Global;
 use wasm_leb::List;
 use wasm_read_component as r;
@@ -33,7 +33,7 @@ impl ReencodeComponentItems for Noter<RowsNoted> {
     }
 }
 
-impl ReencodeComponent for Noter<RowsNoted> {
+impl ReencodeComponentRows for Noter<RowsNoted> {
     fn parse_component_export(
         &mut self,
         _exports: &mut w::ComponentExportSection,
@@ -89,7 +89,9 @@ impl ReencodeComponent for Noter<RowsNoted> {
     ) -> Made<()> {
         noted!(self, parse_component_module_type_declaration, Ok(()))
     }
+}
 
+impl ReencodeComponent for Noter<RowsNoted> {
     fn parse_component_func_type<'a>(
         &mut self,
         alloc: Global,

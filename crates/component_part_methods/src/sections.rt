@@ -10,18 +10,27 @@ use wasm_write::RowSection;
 use wasm_write_component as w;
 
 /// A component with a section of each kind, which hold no rows, in another order than that of their ids.
-const COMPONENT: [u8; 38] = [
+const COMPONENT: [u8; 64] = [
     0x00, 0x61, 0x73, 0x6d, 0x0d, 0x00, 0x01, 0x00, 0x7f, 0x00, 0x0c, 0x01, 0x00, 0x0b, 0x01, 0x00,
-    0x0a, 0x01, 0x00, 0x09, 0x03, 0x00, 0x00, 0x00, 0x08, 0x01, 0x00, 0x06, 0x01, 0x00, 0x05, 0x01,
-    0x00, 0x02, 0x01, 0x00, 0x0c, 0x00,
+    0x0a, 0x01, 0x00, 0x09, 0x03, 0x00, 0x00, 0x00, 0x08, 0x01, 0x00, 0x07, 0x01, 0x00, 0x06, 0x01,
+    0x00, 0x05, 0x01, 0x00, 0x04, 0x08, 0x00, 0x61, 0x73, 0x6d, 0x0d, 0x00, 0x01, 0x00, 0x03, 0x01,
+    0x00, 0x02, 0x01, 0x00, 0x01, 0x08, 0x00, 0x61, 0x73, 0x6d, 0x01, 0x00, 0x00, 0x00, 0x0c, 0x00,
 ];
 
-/// What a component holds: sections without rows, a start, and a section of an id that no table knows.
-const PAYLOADS: [(&str, ComponentPayload<'_>); 8] = [
+/// What a component holds: sections without rows, a start, what is nested, and a section of an id that no table knows.
+const PAYLOADS: [(&str, ComponentPayload<'_>); 12] = [
     (
         "instances",
         ComponentPayload::Section {
             id: 2,
+            at: 0,
+            body: &[0x00],
+        },
+    ),
+    (
+        "core types",
+        ComponentPayload::Section {
+            id: 3,
             at: 0,
             body: &[0x00],
         },
@@ -38,6 +47,14 @@ const PAYLOADS: [(&str, ComponentPayload<'_>); 8] = [
         "aliases",
         ComponentPayload::Section {
             id: 6,
+            at: 0,
+            body: &[0x00],
+        },
+    ),
+    (
+        "types",
+        ComponentPayload::Section {
+            id: 7,
             at: 0,
             body: &[0x00],
         },
@@ -75,6 +92,22 @@ const PAYLOADS: [(&str, ComponentPayload<'_>); 8] = [
         },
     ),
     (
+        "module",
+        ComponentPayload::Module {
+            at: 0,
+            bytes: &[0x00, 0x61, 0x73, 0x6d, 0x01, 0x00, 0x00, 0x00],
+        },
+    ),
+    (
+        "component",
+        ComponentPayload::Component {
+            at: 0,
+            bytes: &[
+                0x00, 0x61, 0x73, 0x6d, 0x0d, 0x00, 0x01, 0x00, 0x0c, 0x01, 0x00,
+            ],
+        },
+    ),
+    (
         "unknown",
         ComponentPayload::Unknown {
             at: 0,
@@ -108,6 +141,14 @@ const INSTANCES: [u8; 6] = [0x02, 0x00, 0x00, 0x00, 0x01, 0x00];
 
 /// A core function type, and a module type that declares nothing.
 const CORE_TYPES: [u8; 6] = [0x02, 0x60, 0x00, 0x00, 0x50, 0x00];
+
+/// A type of values, a function type, a resource, an instance type with each of what it may declare, and a component type
+/// with an import and an export.
+const TYPES: [u8; 43] = [
+    0x05, 0x73, 0x40, 0x00, 0x01, 0x00, 0x3f, 0x7f, 0x01, 0x00, 0x42, 0x04, 0x00, 0x60, 0x00, 0x00,
+    0x01, 0x73, 0x02, 0x03, 0x02, 0x00, 0x00, 0x04, 0x00, 0x01, 0x61, 0x01, 0x00, 0x41, 0x02, 0x03,
+    0x00, 0x01, 0x61, 0x01, 0x00, 0x04, 0x00, 0x01, 0x62, 0x03, 0x01,
+];
 
 /// What a module type declares: a function type and a function that is exported as `a`.
 const DECLARATIONS: [u8; 10] = [0x02, 0x01, 0x60, 0x00, 0x00, 0x03, 0x01, 0x61, 0x00, 0x00];
@@ -325,6 +366,18 @@ pub fn more_sections<N: ReencodeComponent + Notes>(
     )
 }
 
+/// A section of types, by its function alone.
+fn types<N: ReencodeComponent + Notes>(
+    of: &mut N,
+    alloc: Global,
+    rows: r::ComponentTypeSectionReader<'_>,
+    sink: &mut w::ComponentTypeSection,
+) -> Result<(), Error<N::Error>> {
+    of.begin("parse_component_type_section", "");
+    of.note("|");
+    component_utils::parse_component_type_section(of, alloc, sink, rows)
+}
+
 /// A module type.
 fn module_type<N: ReencodeComponent + Notes>(
     of: &mut N,
@@ -340,10 +393,16 @@ fn module_type<N: ReencodeComponent + Notes>(
     )
 }
 
-/// Module types.
+/// Module types, and types of all sorts.
 pub fn scopes<N: ReencodeComponent + Notes>(
     of: &mut N,
     alloc: Global,
 ) -> Result<(), Error<N::Error>> {
+    types(
+        of,
+        alloc,
+        v::component_types(&TYPES)?,
+        &mut RowSection::new(alloc),
+    )?;
     module_type(of, alloc, v::rows(&DECLARATIONS)?, v::rows(&DECLARATIONS)?)
 }

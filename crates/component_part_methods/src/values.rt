@@ -20,6 +20,11 @@ pub fn types<'a>(body: &'a [u8]) -> Result<r::CoreTypeSectionReader<'a>, Fault> 
     r::CoreTypeSectionReader::new(body, 0)
 }
 
+/// The same of types of components.
+pub fn component_types<'a>(body: &'a [u8]) -> Result<r::ComponentTypeSectionReader<'a>, Fault> {
+    r::ComponentTypeSectionReader::new(body, 0)
+}
+
 /// The first row that a reader gives.
 pub fn row<'a, K: ReadRow<'a>, E>(
     alloc: Global,
@@ -43,7 +48,7 @@ pub fn core_type<'a, E>(alloc: Global, body: &'a [u8]) -> Result<r::CoreType<'a>
 
 /// The first row of a body of types.
 fn component_type<'a, E>(alloc: Global, body: &'a [u8]) -> Result<r::ComponentType<'a>, Error<E>> {
-    let mut rows = r::ComponentTypeSectionReader::new(body, 0)?;
+    let mut rows = component_types(body)?;
     match rows.next_row(alloc)? {
         Some(row) => Ok(row),
         None => Err(missing()),

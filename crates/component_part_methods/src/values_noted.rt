@@ -1,6 +1,6 @@
 //! The kind in which types of what is imported or exported ask, and all that asks hooks alone.
 use crate::noter::{Noter, Notes, noted};
-use reencode_component::{DefaultComponent, ReencodeComponentItems};
+use reencode_component::{DefaultComponent, DefaultComponentRows, ReencodeComponentItems};
 use wasm_read_component as r;
 use wasm_write_component as w;
 
@@ -17,5 +17,7 @@ impl ReencodeComponentItems for Noter<ValuesNoted> {
         noted!(self, type_bounds, ty)
     }
 }
+
+impl DefaultComponentRows for Noter<ValuesNoted> {}
 
 impl DefaultComponent for Noter<ValuesNoted> {}

@@ -101,21 +101,21 @@ module _ {S E : Type 0} (asked : Asks S E) (put : Puts S Tree) (c : ℕ) where
 
 -- ---- the section in its frame
 
-module _ {S E : Type 0} (i : Ghosts S E) (depth : ℕ) (deep : depth ≤ 200) (name contents : List ℕ) (at : ℕ) {s m : S} {old new : Sections} where
-  abbrev frame_tree : Tree
-  frame_tree = custom_frame name contents
+module _ (depth : ℕ) (name contents : List ℕ) where
+  abbrev custom_tree : Tree
+  custom_tree = custom_frame name contents
 
-  unnested : (room : ℕ) (x : Fault) → NestedFault depth room frame_tree x → ⊥
+  unnested : (room : ℕ) (x : Fault) → NestedFault depth room custom_tree x → ⊥
   unnested zero x h = h
-  unnested (suc room) x h = let e : frame_tree ≡ numbered_frame h.0 h.1 = h.2 in cc
+  unnested (suc room) x h = let e : custom_tree ≡ numbered_frame h.0 h.1 = h.2 in cc
 
-  unread : ((t : Tree) → ReadsCustomOf component_custom name contents t → ⊥) → (t : Tree) → ReadsSection depth frame_tree t → ⊥
+  unread : ((t : Tree) → ReadsCustomOf component_custom name contents t → ⊥) → (t : Tree) → ReadsSection depth custom_tree t → ⊥
   unread none t r = none t (custom_forth depth name contents t r)
 
-  names_up_to : (t : Tree) (rest : List ℕ) → SectionUpTo depth frame_tree t rest → (name ≡ component_names_name) × ManyUpTo component_name_subsection contents t rest
-  names_up_to t rest x = go frame_tree t rest x refl
+  names_up_to : (t : Tree) (rest : List ℕ) → SectionUpTo depth custom_tree t rest → (name ≡ component_names_name) × ManyUpTo component_name_subsection contents t rest
+  names_up_to t rest x = go custom_tree t rest x refl
     where
-      go : (f t : Tree) (rest : List ℕ) → SectionUpTo depth f t rest → f ≡ frame_tree → (name ≡ component_names_name) × ManyUpTo component_name_subsection contents t rest
+      go : (f t : Tree) (rest : List ℕ) → SectionUpTo depth f t rest → f ≡ custom_tree → (name ≡ component_names_name) × ManyUpTo component_name_subsection contents t rest
       go f t rest (SectionUpTo.uncounted id body row e n) q = absurd cc
       go f t rest (SectionUpTo.rows id body row reader u rest' e there r) q = absurd cc
       go f t rest (SectionUpTo.names n c u rest' is r) q =
@@ -123,59 +123,49 @@ module _ {S E : Type 0} (i : Ghosts S E) (depth : ℕ) (deep : depth ≤ 200) (n
           let P : List ℕ → Type 0 = λ z. ManyUpTo component_name_subsection z t rest in
           (sym e.0 ∙ is, subst P e.1 r)
 
-  leaves_framed : (e : Error E) → Leaves (asks i) (custom_of component_custom name contents) s e m → Leaves (asks i) (section_in depth frame_tree) s e m
-  leaves_framed e l = record {
+  unreadable : {E : Type 0} (P : ℕ → Type 0) (at : ℕ) (e : Error E) → IfParse e (λ z. ((t : Tree) → ReadsCustomOf component_custom name contents t → ⊥) × P z) →
+      IfFault (placed_at e at) (λ x. ((t : Tree) → ReadsSection depth custom_tree t → ⊥) × FaultIn (NestedFault depth (room depth) custom_tree) at x)
+  unreadable P at (ParseError x) h = (unread h.0, (refl, λ y handed q. unnested (room depth) y q))
+  unreadable P at (UserError x) h = tt
+  unreadable P at (TooLarge x) h = tt
+  unreadable P at NoMemory h = tt
+  unreadable P at InvalidCodeSectionSize h = absurd h
+  unreadable P at UnexpectedNonCoreModuleSection h = absurd h
+  unreadable P at UnexpectedNonComponentSection h = absurd h
+  unreadable P at CanonicalizedHeapTypeReference h = absurd h
+  unreadable P at InvalidConstExpr h = absurd h
+  unreadable P at UnsupportedCoreTypeInComponent h = absurd h
+
+  -- of bytes that have a reading no place is told
+  same_error : {E : Type 0} (P : ℕ → Type 0) (at : ℕ) (t : Tree) → ReadsCustomOf component_custom name contents t → (e : Error E) →
+      IfParse e (λ z. ((t : Tree) → ReadsCustomOf component_custom name contents t → ⊥) × P z) → placed_at e at ≡ e
+  same_error P at t r (ParseError x) h = absurd (h.0 t r)
+  same_error P at t r _ h = refl
+
+module _ {S E : Type 0} (i : Ghosts S E) (depth : ℕ) (deep : depth ≤ 200) (name contents : List ℕ) where
+  leaves_framed : (s m : S) (e : Error E) → Leaves (asks i) (custom_of component_custom name contents) s e m → Leaves (asks i) (section_in depth (custom_frame name contents)) s e m
+  leaves_framed s m e l = record {
     made = l.made;
     ended = l.ended;
     drawn = l.drawn;
     reading = λ t r. l.reading t (custom_forth depth name contents t r);
-    fault = λ none t rest x. l.fault (λ u r. none u (custom_back depth deep name contents u r)) t rest (names_up_to t rest x);
+    fault = λ none t rest x. l.fault (λ u r. none u (custom_back depth deep name contents u r)) t rest (names_up_to depth name contents t rest x);
   }
 
-  unreadable : (P : ℕ → Type 0) (e : Error E) → IfParse e (λ z. ((t : Tree) → ReadsCustomOf component_custom name contents t → ⊥) × P z) →
-      IfFault (placed_at e at) (λ x. ((t : Tree) → ReadsSection depth frame_tree t → ⊥) × FaultIn (NestedFault depth (room depth) frame_tree) at x)
-  unreadable P (ParseError x) h = (unread h.0, (refl, λ y handed q. unnested (room depth) y q))
-  unreadable P (UserError x) h = tt
-  unreadable P (TooLarge x) h = tt
-  unreadable P NoMemory h = tt
-  unreadable P InvalidCodeSectionSize h = absurd h
-  unreadable P UnexpectedNonCoreModuleSection h = absurd h
-  unreadable P UnexpectedNonComponentSection h = absurd h
-  unreadable P CanonicalizedHeapTypeReference h = absurd h
-  unreadable P InvalidConstExpr h = absurd h
-  unreadable P UnsupportedCoreTypeInComponent h = absurd h
+  stops : (s m : S) (c : ℕ) (e : Error E) → ((t : Tree) × ReadsCustomOf component_custom name contents t) ⊎ StopsCustomOf component_custom (asks i) c name contents s e m →
+      ((t : Tree) × ReadsSection depth (custom_frame name contents) t) ⊎ inside (asks i) i.adds c depth (custom_frame name contents) s m e
+  stops s m c e (inl q) = inl (q.0, custom_back depth deep name contents q.0 q.1)
+  stops s m c e (inr q) = inr (inr (inl (name, contents, refl, q)))
 
-  abbrev Refused : Error E → Type 0
-  Refused e = ((t : Tree) × ReadsSection depth frame_tree t) ⊎ inside (asks i) i.adds old.ceiling depth frame_tree s m e
+  refusal : (s m : S) (c at : ℕ) (e : Error E) → IfRefused e (((t : Tree) × ReadsCustomOf component_custom name contents t) ⊎ StopsCustomOf component_custom (asks i) c name contents s e m) →
+      IfRefused (placed_at e at) (((t : Tree) × ReadsSection depth (custom_frame name contents) t) ⊎ inside (asks i) i.adds c depth (custom_frame name contents) s m (placed_at e at))
+  refusal s m c at (UserError x) h = stops s m c (UserError x) h
+  refusal s m c at (TooLarge x) h = stops s m c (TooLarge x) h
+  refusal s m c at _ h = tt
 
-  refusal : (e : Error E) → IfRefused e (((t : Tree) × ReadsCustomOf component_custom name contents t) ⊎ StopsCustomOf component_custom (asks i) old.ceiling name contents s e m) → IfRefused (placed_at e at) (Refused (placed_at e at))
-  refusal (UserError x) h = by h
-    where
-      by : ((t : Tree) × ReadsCustomOf component_custom name contents t) ⊎ StopsCustomOf component_custom (asks i) old.ceiling name contents s (UserError x) m → Refused (UserError x)
-      by (inl q) = inl (q.0, custom_back depth deep name contents q.0 q.1)
-      by (inr q) = inr (inr (inl (name, contents, refl, q)))
-  refusal (TooLarge x) h = by h
-    where
-      by : ((t : Tree) × ReadsCustomOf component_custom name contents t) ⊎ StopsCustomOf component_custom (asks i) old.ceiling name contents s (TooLarge x) m → Refused (TooLarge x)
-      by (inl q) = inl (q.0, custom_back depth deep name contents q.0 q.1)
-      by (inr q) = inr (inr (inl (name, contents, refl, q)))
-  refusal (ParseError x) h = tt
-  refusal NoMemory h = tt
-  refusal InvalidCodeSectionSize h = tt
-  refusal UnexpectedNonCoreModuleSection h = tt
-  refusal UnexpectedNonComponentSection h = tt
-  refusal CanonicalizedHeapTypeReference h = tt
-  refusal InvalidConstExpr h = tt
-  refusal UnsupportedCoreTypeInComponent h = tt
-
-  -- of bytes that have a reading no place is told
-  same_error : (P : ℕ → Type 0) (t : Tree) → ReadsCustomOf component_custom name contents t → (e : Error E) →
-      IfParse e (λ z. ((t : Tree) → ReadsCustomOf component_custom name contents t → ⊥) × P z) → placed_at e at ≡ e
-  same_error P t r (ParseError x) h = absurd (h.0 t r)
-  same_error P t r _ h = refl
-
-  gives : (r : Result (Unit {0}) (Error E)) → GivesCustomOf component_custom (asks i) name contents (s, old) (m, new) r → GivesSection (asks i) i.adds depth frame_tree at (s, old) (m, new) (placed_in r at)
-  gives (Ok u) g = record {
+  gives : (at : ℕ) (s m : S) (old new : Sections) (r : Result (Unit {0}) (Error E)) → GivesCustomOf component_custom (asks i) name contents (s, old) (m, new) r →
+      GivesSection (asks i) i.adds depth (custom_frame name contents) at (s, old) (m, new) (placed_in r at)
+  gives at s m old new (Ok u) g = record {
     reading = λ t r.
         let q = custom_forth depth name contents t r in
         let x = g.reading t q in
@@ -185,21 +175,23 @@ module _ {S E : Type 0} (i : Ghosts S E) (depth : ℕ) (deep : depth ≤ 200) (n
     refusal = tt;
     unchanged = tt;
   }
-  gives (Err e) g = record {
+  gives at s m old new (Err e) g = record {
     reading = λ t r other.
         let q = custom_forth depth name contents t r in
-        let same = same_error _ t q e g.unreadable in
+        let same = same_error depth name contents _ at t q e g.unreadable in
         let W : Error E → Type 0 = λ z. weave_in (asks i) (added i.adds) old.ceiling s t ≡ refused z m in
         inr (subst W (sym same) (custom_walked (asks i) (added i.adds) old.ceiling q s ∙ (g.reading t q).1 (λ w. other (same ∙ w))));
     readable = tt;
-    unreadable = unreadable _ e g.unreadable;
-    refusal = refusal e g.refusal;
+    unreadable = unreadable depth name contents _ at e g.unreadable;
+    refusal = refusal s m old.ceiling at e g.refusal;
     unchanged = g.unchanged;
   }
 
-  left : (r : Result (Unit {0}) (Error E)) → LeavesMade i.sure (asks i) (custom_of component_custom name contents) s m r → LeavesCore i.sure i.adds_nothing (asks i) (section_in depth frame_tree) s m (placed_in r at)
-  left (Ok u) l = tt
-  left (Err e) l = λ told size. leaves_placed (section_in depth frame_tree) e at (leaves_framed e (l (λ h. told (wants_placed e at h))))
+  left : (at : ℕ) (s m : S) (r : Result (Unit {0}) (Error E)) → LeavesMade i.sure (asks i) (custom_of component_custom name contents) s m r →
+      LeavesCore i.sure i.adds_nothing (asks i) (section_in depth (custom_frame name contents)) s m (placed_in r at)
+  left at s m (Ok u) l = tt
+  left at s m (Err e) l = λ told size. leaves_placed (section_in depth (custom_frame name contents)) e at (leaves_framed s m e (l (λ h. told (wants_placed e at h))))
 
-  pub custom_framed : (r : Result (Unit {0}) (Error E)) → CustomClausesOf component_custom i name contents s old m new r → FrameClauses i depth frame_tree at s old m new (placed_in r at)
-  custom_framed r c = record { kept = c.kept; default = λ k. gives r (c.default k); after_error = λ k. left r (c.after_error k) }
+  pub custom_framed : (at : ℕ) {s m : S} {old new : Sections} (r : Result (Unit {0}) (Error E)) → CustomClausesOf component_custom i name contents s old m new r →
+      FrameClauses i depth (custom_frame name contents) at s old m new (placed_in r at)
+  custom_framed at {s = s} {m = m} {old = old} {new = new} r c = record { kept = c.kept; default = λ k. gives at s m old new r (c.default k); after_error = λ k. left at s m r (c.after_error k) }

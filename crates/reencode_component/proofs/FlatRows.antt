@@ -1,5 +1,5 @@
 -- Rows that open no scope, as rows that may open some.
-use Rattle.std.proofs.Common.{◌≡◌, ◌≢◌, ◌<◌, ◌≤◌, ◌⊎◌, ℕ, List, [], length, Result, Ok, Err, IfErr, true, refl, arith, inl, inr}
+use Rattle.std.proofs.Common.{◌≡◌, ◌≢◌, ◌<◌, ◌≤◌, ◌⊎◌, ℕ, List, [], length, Result, Ok, Err, true, refl, arith, inl, inr}
 use Rattle.wasm_shapes.specs.Depth.{BeginsNoneAt, Shallow, opens}
 use Rattle.wasm_shapes.specs.Place.{BeginsNone}
 use Rattle.wasm_shapes.specs.Shape.{Shape}
@@ -11,7 +11,6 @@ use Rattle.wasm_read.specs.Reading.{Standing}
 use Rattle.reencode_hooks.specs.declared.error.Error.{Error}
 use Rattle.reencode_hooks.specs.declared.indices.ReencodeIndices.{Ghosts}
 use Rattle.reencode_core.specs.Clauses.{RowsClauses, asks}
-use Rattle.reencode_core.specs.Errors.{IfParse}
 use Rattle.reencode_core.specs.Leaves.{Leaves, LeavesMade, RowsUpTo, rows_in}
 use Rattle.reencode_core.specs.Rows.{Asks, GivesRows, RowsFault}
 use Rattle.reencode_core.proofs.Usual.{IfParse-map, IfRefused-map}

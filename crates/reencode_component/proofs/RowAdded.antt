@@ -1,5 +1,5 @@
 -- A row that a call mapped, as it is added.
-use Rattle.std.proofs.Common.{◌≡◌, List, Result, Ok, Err, refl, sym, subst}
+use Rattle.std.proofs.Common.{List, Result, Ok, Err, refl, sym, subst}
 use Rattle.wasm_shapes.specs.Tree.{Tree}
 use Rattle.reencode_hooks.specs.declared.error.Error.{Error}
 use Rattle.reencode_hooks.specs.declared.indices.ReencodeIndices.{Ghosts}

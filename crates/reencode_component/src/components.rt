@@ -15,8 +15,8 @@ use wasm_write_component as w;
 
 /// Reads a component, with so many scopes open round it, and adds what its sections become, each by `parse_component_payload`.
 ///
-/// No section hook is called before a section of a component. A `ParseError` holds the place of the section in fault, counted from the first byte of the
-/// header. Depths that were pushed stay pushed after an error.
+/// No section hook is called before a section of a component. A `ParseError` holds the place of the section in fault, counted
+/// from the first byte of the header. Depths that were pushed stay pushed after an error.
 #[cycle(components)]
 pub fn parse_component<T: ReencodeComponent>(
     reencoder: &mut T,
@@ -44,10 +44,10 @@ pub fn parse_component<T: ReencodeComponent>(
 }
 
 /// Maps a section of a component by the method of its kind, with so many scopes open round it, and adds it: a core module by
-/// `parse_component_submodule`, and a component by `parse_component_subcomponent`.
+/// `parse_component_submodule`, a component by `parse_component_subcomponent`, and a custom section by
+/// `parse_component_custom_section`.
 ///
-/// A `ParseError` holds the place of the payload.
-/// `UnexpectedNonComponentSection` also comes for a section of a core module.
+/// A `ParseError` holds the place of the payload. `UnexpectedNonComponentSection` also comes for a section of a core module.
 #[cycle(components)]
 pub fn parse_component_payload<T: ReencodeComponent>(
     reencoder: &mut T,

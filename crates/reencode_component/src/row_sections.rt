@@ -1,7 +1,7 @@
 //! Sections of rows: one loop for those whose rows open no scope. `component_utils` has these functions, and the methods call
 //! them.
 ghost use Rattle.std.specs.Prelude.{◌≡◌};
-ghost use Rattle.wasm_shapes.specs.Component.{alias, canonical_function, component_export_row, component_instance_row, core_type, extern_row, instance_row};
+ghost use Rattle.wasm_shapes.specs.Component.{alias, canonical_function, component_export_row, component_instance_row, extern_row, instance_row};
 ghost use Rattle.wasm_shapes.specs.Drawn.{IsItem};
 ghost use Rattle.wasm_shapes.specs.Tree.{Tree};
 ghost use Rattle.wasm_types.specs.ComponentTrees.{component_export_tree, component_import_tree, component_instance_tree, instance_tree};
@@ -9,7 +9,6 @@ ghost use Rattle.wasm_read.specs.Types.{export_tree};
 ghost use Rattle.wasm_read_component.specs.Aliases as read;
 ghost use Rattle.wasm_read_component.specs.ComponentRows.{canonical_tree};
 ghost use Rattle.reencode_core.specs.Clauses.{RowClauses, RowsClauses};
-ghost use Rattle.reencode_component.specs.ScopedRows.{ShallowRowsClauses};
 
 use crate::component_rows::ReencodeComponentRows;
 use crate::items::ReencodeComponentItems;

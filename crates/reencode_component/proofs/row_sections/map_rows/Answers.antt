@@ -1,4 +1,3 @@
-use Rattle.std.proofs.Common.{refl}
 use Rattle.reencode_core.proofs.EachRow.{rows_begun, rows_ended, rows_stuck, rows_added, rows_refused_at}
 use Rattle.reencode_core.proofs.RowLoop.{none_if}
 use Rattle.reencode_component.proofs.row_sections.map_rows.Goals as goal

@@ -1,4 +1,3 @@
-use Rattle.std.proofs.Common.{refl}
 use Rattle.reencode_core.proofs.RowLoop.{none_if}
 use Rattle.reencode_component.proofs.EachShallowRow.{shallow_added, shallow_begun, shallow_ended, shallow_refused, shallow_stuck}
 use Rattle.reencode_component.proofs.scoped_sections.map_scoped_rows.Goals as goal
