@@ -20,7 +20,7 @@ use Rattle.reencode_hooks.specs.Walk.{walk}
 use Rattle.reencode_core.specs.Clauses.{CustomClausesOf, asks}
 use Rattle.reencode_core.specs.Errors.{IfParse, IfRefused, placed_at}
 use Rattle.reencode_core.specs.Leaves.{Leaves, LeavesCore, LeavesMade, ManyUpTo, custom_of}
-use Rattle.reencode_core.specs.Names.{GivesCustomOf, ReadsContentsOf, ReadsCustomOf, StopsCustomOf}
+use Rattle.reencode_core.specs.Names.{GivesCustomOf, ReadsContentsOf, ReadsCustomOf, StopsCustomOf, SubsectionsFaultOf, contents_standing}
 use Rattle.reencode_core.specs.Rows.{Asks}
 use Rattle.reencode_core.specs.Sections.{GivesAdded}
 use Rattle.reencode_core.specs.Weave.{Puts, added}
@@ -123,24 +123,24 @@ module _ (depth : ℕ) (name contents : List ℕ) where
           let P : List ℕ → Type 0 = λ z. ManyUpTo component_name_subsection z t rest in
           (sym e.0 ∙ is, subst P e.1 r)
 
-  unreadable : {E : Type 0} (P : ℕ → Type 0) (at : ℕ) (e : Error E) → IfParse e (λ z. ((t : Tree) → ReadsCustomOf component_custom name contents t → ⊥) × P z) →
+  unreadable : {E : Type 0} (P : ℕ → Type 0) → ((z : ℕ) → P z → (t : Tree) → ReadsCustomOf component_custom name contents t → ⊥) → (at : ℕ) (e : Error E) → IfParse e P →
       IfFault (placed_at e at) (λ x. ((t : Tree) → ReadsSection depth custom_tree t → ⊥) × FaultIn (NestedFault depth (room depth) custom_tree) at x)
-  unreadable P at (ParseError x) h = (unread h.0, (refl, λ y handed q. unnested (room depth) y q))
-  unreadable P at (UserError x) h = tt
-  unreadable P at (TooLarge x) h = tt
-  unreadable P at NoMemory h = tt
-  unreadable P at InvalidCodeSectionSize h = absurd h
-  unreadable P at UnexpectedNonCoreModuleSection h = absurd h
-  unreadable P at UnexpectedNonComponentSection h = absurd h
-  unreadable P at CanonicalizedHeapTypeReference h = absurd h
-  unreadable P at InvalidConstExpr h = absurd h
-  unreadable P at UnsupportedCoreTypeInComponent h = absurd h
+  unreadable P none at (ParseError x) h = (unread (none x.at h), (refl, λ y handed q. unnested (room depth) y q))
+  unreadable P none at (UserError x) h = tt
+  unreadable P none at (TooLarge x) h = tt
+  unreadable P none at NoMemory h = tt
+  unreadable P none at InvalidCodeSectionSize h = absurd h
+  unreadable P none at UnexpectedNonCoreModuleSection h = absurd h
+  unreadable P none at UnexpectedNonComponentSection h = absurd h
+  unreadable P none at CanonicalizedHeapTypeReference h = absurd h
+  unreadable P none at InvalidConstExpr h = absurd h
+  unreadable P none at UnsupportedCoreTypeInComponent h = absurd h
 
   -- of bytes that have a reading no place is told
-  same_error : {E : Type 0} (P : ℕ → Type 0) (at : ℕ) (t : Tree) → ReadsCustomOf component_custom name contents t → (e : Error E) →
-      IfParse e (λ z. ((t : Tree) → ReadsCustomOf component_custom name contents t → ⊥) × P z) → placed_at e at ≡ e
-  same_error P at t r (ParseError x) h = absurd (h.0 t r)
-  same_error P at t r _ h = refl
+  same_error : {E : Type 0} (P : ℕ → Type 0) → ((z : ℕ) → P z → (t : Tree) → ReadsCustomOf component_custom name contents t → ⊥) → (at : ℕ) (t : Tree) → ReadsCustomOf component_custom name contents t →
+      (e : Error E) → IfParse e P → placed_at e at ≡ e
+  same_error P none at t r (ParseError x) h = absurd (none x.at h t r)
+  same_error P none at t r _ h = refl
 
 module _ {S E : Type 0} (i : Ghosts S E) (depth : ℕ) (deep : depth ≤ 200) (name contents : List ℕ) where
   leaves_framed : (s m : S) (e : Error E) → Leaves (asks i) (custom_of component_custom name contents) s e m → Leaves (asks i) (section_in depth (custom_frame name contents)) s e m
@@ -175,17 +175,20 @@ module _ {S E : Type 0} (i : Ghosts S E) (depth : ℕ) (deep : depth ≤ 200) (n
     refusal = tt;
     unchanged = tt;
   }
-  gives at s m old new (Err e) g = record {
-    reading = λ t r other.
-        let q = custom_forth depth name contents t r in
-        let same = same_error depth name contents _ at t q e g.unreadable in
-        let W : Error E → Type 0 = λ z. weave_in (asks i) (added i.adds) old.ceiling s t ≡ refused z m in
-        inr (subst W (sym same) (custom_walked (asks i) (added i.adds) old.ceiling q s ∙ (g.reading t q).1 (λ w. other (same ∙ w))));
-    readable = tt;
-    unreadable = unreadable depth name contents _ at e g.unreadable;
-    refusal = refusal s m old.ceiling at e g.refusal;
-    unchanged = g.unchanged;
-  }
+  gives at s m old new (Err e) g =
+      let P : ℕ → Type 0 = λ z.
+      ((t : Tree) → ReadsCustomOf component_custom name contents t → ⊥) × (name ≡ component_names_name)
+      × SubsectionsFaultOf component_name_subsection (asks i) old.ceiling (contents_standing contents) s z in record {
+        reading = λ t r other.
+            let q = custom_forth depth name contents t r in
+            let same = same_error depth name contents P (λ z h. h.0) at t q e g.unreadable in
+            let W : Error E → Type 0 = λ z. weave_in (asks i) (added i.adds) old.ceiling s t ≡ refused z m in
+            inr (subst W (sym same) (custom_walked (asks i) (added i.adds) old.ceiling q s ∙ (g.reading t q).1 (λ w. other (same ∙ w))));
+        readable = tt;
+        unreadable = unreadable depth name contents P (λ z h. h.0) at e g.unreadable;
+        refusal = refusal s m old.ceiling at e g.refusal;
+        unchanged = g.unchanged;
+      }
 
   left : (at : ℕ) (s m : S) (r : Result (Unit {0}) (Error E)) → LeavesMade i.sure (asks i) (custom_of component_custom name contents) s m r →
       LeavesCore i.sure i.adds_nothing (asks i) (section_in depth (custom_frame name contents)) s m (placed_in r at)

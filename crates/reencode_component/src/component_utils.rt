@@ -21,10 +21,10 @@ pub use crate::components::{
 pub use crate::core_types::parse_component_module_type_declaration;
 pub use crate::hooked::{canonical_option, type_bounds};
 use crate::items::ReencodeComponentItems;
-use crate::names::add_section;
 pub use crate::kinds::{
     component_export_kind, component_outer_alias_kind, component_primitive_val_type,
 };
+use crate::names::add_section;
 pub use crate::names::parse_custom_component_name_subsection;
 pub use crate::nested::parse_component_submodule;
 pub use crate::row_sections::{

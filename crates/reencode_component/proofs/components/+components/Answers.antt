@@ -42,6 +42,12 @@ parse_component_payload-returns-in-Custom g t c =
     let section = c.in-Custom.section in
     rw (c.in-Custom.is, c.placed.ensures) (custom_framed g.T.ReencodeIndices c.args.depth c.requires section.name.now section.contents.now c.in-Custom.at _ c.parse_component_custom_section-mapped.ensures)
 
+pub parse_component_payload-returns-in-Module : goal.parse_component_payload-returns-in-Module
+parse_component_payload-returns-in-Module g t c = rw c.in-Module.is c.section-in-Module.ensures
+
+pub parse_component_payload-returns-in-Component : goal.parse_component_payload-returns-in-Component
+parse_component_payload-returns-in-Component g t c = rw c.in-Component.is c.section-in-Component.ensures
+
 pub section-returns-then-id-eq1 : goal.section-returns-then-id-eq1
 section-returns-then-id-eq1 g t c = rw (c.if-id-eq1.true, c.placed.ensures) (c.parse_component_submodule-mapped.ensures.framed c.args.at)
 
