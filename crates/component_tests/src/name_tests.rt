@@ -1,5 +1,5 @@
 //! The names of a component, as they are read and as they are written.
-use reencode_component::{ReencodeComponent, component_utils};
+use reencode_component::{ReencodeComponent, component_utils, reencode};
 use reencode_hooks::{Error, Renamer, Unmapped};
 use wasm_leb::{Fault, ReadError};
 use wasm_read as r;
@@ -178,4 +178,47 @@ fn names_in_fault(rt: HostRuntime) -> Result<(), Error<Unmapped>> {
         _ => assert!(rt; false),
     }
     Ok(())
+}
+
+/// A function's name follows its index.
+#[test]
+fn names_in_a_component(rt: HostRuntime) -> Result<(), Error<Unmapped>> {
+    let mut renamer = Renamer::new(rt.alloc());
+    renamer.set(Space::ComponentFunc, 0, 2)?;
+    let made = reencode(
+        rt.alloc(),
+        &mut renamer,
+        b"\0asm\x0d\0\x01\0\x00\x16\x0ecomponent-name\x01\x05\x01\x01\x00\x01f",
+    )?;
+    assert_eq!(rt;
+        made.as_slice(),
+        b"\0asm\x0d\0\x01\0\x00\x16\x0ecomponent-name\x01\x05\x01\x01\x02\x01f" as &[u8]
+    );
+    Ok(())
+}
+
+/// A custom section of another name is copied.
+#[test]
+fn another_custom_section(rt: HostRuntime) -> Result<(), Error<Unmapped>> {
+    let mut renamer = Renamer::new(rt.alloc());
+    renamer.set(Space::ComponentFunc, 0, 2)?;
+    let bytes = b"\0asm\x0d\0\x01\0\x00\x0b\x04name\x01\x04\x01\x00\x01f\x0c\x00" as &[u8];
+    let made = reencode(rt.alloc(), &mut renamer, bytes)?;
+    assert_eq!(rt; made.as_slice(), bytes);
+    Ok(())
+}
+
+/// A body of the id 0 that begins with no name is no section, nor is one whose names have a fault.
+#[test]
+fn custom_sections_without_a_reading(rt: HostRuntime) {
+    let mut renamer = Renamer::new(rt.alloc());
+    for bytes in [
+        b"\0asm\x0d\0\x01\0\x0c\x00\x00\x02\x02f" as &[u8],
+        b"\0asm\x0d\0\x01\0\x0c\x00\x00\x10\x0ecomponent-name\x00",
+    ] {
+        match reencode(rt.alloc(), &mut renamer, bytes) {
+            Err(Error::ParseError(error)) => assert_eq!(rt; error, ReadError { at: 10 }),
+            _ => assert!(rt; false, "of {bytes:?}"),
+        }
+    }
 }

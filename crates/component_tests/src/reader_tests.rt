@@ -1,6 +1,6 @@
 //! The rows of a component's sections, as typed values.
 use wasm_leb::{Fault, Kind, ReadError};
-use wasm_read::ExternalKind;
+use wasm_read::{CustomSection, ExternalKind};
 use wasm_read_component::{
     CanonicalFunction, CanonicalOption, ComponentAlias, ComponentAliasSectionReader,
     ComponentCanonicalSectionReader, ComponentExport, ComponentExportSectionReader,
@@ -271,7 +271,7 @@ fn starts(rt: HostRuntime) -> Result<(), Fault> {
 fn payloads(rt: HostRuntime) -> Result<(), Fault> {
     let mut payloads = ComponentPayloads::new(&[
         0x00, 0x61, 0x73, 0x6d, 0x0d, 0x00, 0x01, 0x00, 8, 2, 1, 0x05, 13, 1, 0x63, 1, 1, 0x02, 4,
-        0,
+        0, 0, 3, 1, 0x61, 0x07,
     ])?;
     let section = ComponentPayload::Section {
         id: 8,
@@ -292,9 +292,15 @@ fn payloads(rt: HostRuntime) -> Result<(), Fault> {
     assert_eq!(rt; payloads.next(), Ok(Some(module)));
     let component = ComponentPayload::Component { at: 18, bytes: &[] };
     assert_eq!(rt; payloads.next(), Ok(Some(component)));
+    let section = CustomSection {
+        name: "a",
+        contents: &[0x07],
+    };
+    let custom = ComponentPayload::Custom { at: 20, section };
+    assert_eq!(rt; payloads.next(), Ok(Some(custom)));
     assert_eq!(rt; payloads.next(), Ok(None));
     for id in [0u8, 128] {
-        let bytes = [0x00, 0x61, 0x73, 0x6d, 0x0d, 0x00, 0x01, 0x00, id, 1, 0];
+        let bytes = [0x00, 0x61, 0x73, 0x6d, 0x0d, 0x00, 0x01, 0x00, id, 1, 1];
         let mut payloads = ComponentPayloads::new(&bytes)?;
         assert_eq!(rt;
             payloads.next(),

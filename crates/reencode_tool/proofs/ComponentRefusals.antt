@@ -3,6 +3,7 @@ use Rattle.std.proofs.Common.{◌≡◌, ℕ, zero, suc, ◌+◌, ◌≤◌, ◌
 use mathlib.Core.Bool.{false≢true}
 use Rattle.wasm_shapes.specs.declared.Visit.{Visit}
 use Rattle.wasm_shapes.specs.Component.{component_section, component_section_tree, component_tree}
+use Rattle.wasm_shapes.specs.ComponentNames.{sort_bytes}
 use Rattle.wasm_shapes.specs.ComponentReadings.{InComponentFrame}
 use Rattle.wasm_shapes.specs.Depth.{opens}
 use Rattle.wasm_shapes.specs.Module.{component_header, core_tree, frame, numbered_frame, CoreReading}
@@ -23,12 +24,13 @@ use Rattle.reencode_core.specs.Clauses.{asks}
 use Rattle.reencode_core.specs.Core as core
 use Rattle.reencode_core.specs.Weave.{added}
 use Rattle.reencode_component.specs.Causes.{BeforeFault, BehindFront, CauseBy, OwnInside, StopsBy, StopsInRows, StopsNested}
+use Rattle.reencode_component.specs.ComponentNames.{component_names}
 use Rattle.reencode_component.specs.Components.{BeginsNoSection, BeginsSection, FaultAt, Framed, ReadsComponent, ReadsSection, SectionsFirst}
 use Rattle.reencode_component.specs.WeaveIn.{AcceptsAll, RefusesAmong}
 use Rattle.reencode_component.proofs.ComponentLaws.{is_walk, own_never}
 use Rattle.reencode_component.proofs.SectionsAhead.{none_first, one_more, section_there, whole_read}
 use Rattle.reencode_tool.specs.Reencoded.{IsRefusal}
-use Rattle.reencode_tool.proofs.Refusals.{Tells, first_shorter, numbered, refusal_is_told, row_told, second_shorter}
+use Rattle.reencode_tool.proofs.Refusals.{MapsWithin, Tells, custom, first_shorter, names_told, numbered, refusal_is_told, row_told, second_shorter}
 
 -- ---- a component has a reading or a fault
 
@@ -77,6 +79,12 @@ component_read depth body u force r =
       component_section_tree 4 (Tree.scope (component_tree u)),
       record { framed = InComponentFrame.of_id 4 (Tree.scope (component_tree u)) body (omega arith) (omega arith) p.0; shallow = record { most = omega (arith, most) }; in_force = force },
     )
+
+-- ---- names
+
+-- behind its sort stands the map of a subsection
+sorted_within : MapsWithin component_names
+sorted_within id body row map h = second_shorter (sort_bytes h.1.space) map h.1.stands
 
 -- ---- what is said
 
@@ -130,7 +138,10 @@ module _ {S E : Type 0} (i : Ghosts S E) (none : (s : S) (v : Visit) → MayAdd 
       inside before rest left f x n p there (inl (id, body, framed, h)) =
           let B : Tree → Type 0 = λ z. Begins frame rest z left in
           never (behind c depth bytes e before rest f (tells.larger (numbered (subst B framed there)) (rows_told c id body n m e p h)))
-      inside before rest left f x n p there (inr h) =
+      inside before rest left f x n p there (inr (inl (name, contents, framed, h))) =
+          let B : Tree → Type 0 = λ z. Begins frame rest z left in
+          never (behind c depth bytes e before rest f (tells.larger (custom (subst B framed there)) (names_told tells component_names sorted_within p h.1)))
+      inside before rest left f x n p there (inr (inr h)) =
           nested_by depth c e x rest left n m whole is p there (λ t r. f.none.none t left (section_there r there)) h (λ q. never (behind c depth bytes e before rest f q))
 
       own : BehindFront (asks i) (added i.adds) c depth (OwnInside (asks i) i.adds c depth scopes) bytes s m e → ⊥

@@ -17,7 +17,8 @@ use Rattle.reencode_hooks.specs.Run.{accepted, refused}
 use Rattle.reencode_hooks.specs.Walk.{walk}
 use Rattle.reencode_core.specs.Rows.{Asks, AcceptsRows, RefusesInside, RefusesRow, StopsBody, StopsDue, StopsEach}
 use Rattle.reencode_core.specs.Sections.{StopsSection}
-use Rattle.reencode_core.specs.Names.{StopsNames, StopsInNames, RefusesSubsection, RefusesEntry, contents_standing}
+use Rattle.reencode_core.specs.NameFormats.{NameFormat, core_names}
+use Rattle.reencode_core.specs.Names.{RefusesEntryOf, StopsInNames, StopsNamesOf, contents_standing}
 use Rattle.reencode_core.specs.Core.{AcceptsSections, RefusedIn, StopsInside, StopsThere, BeforeFault}
 use Rattle.reencode_core.proofs.Fronts.{reads_or_fails}
 
@@ -59,8 +60,15 @@ subsection_framed {n} {x} {left} {body} p =
     let whole : length p.text ≤ length x = begun p in
     omega (arith, ap length r.4)
 
+-- in the body of a subsection stands its map
+abbrev pub MapsWithin : {V : Type 0} → NameFormat V → Type 0
+MapsWithin f = (id : ℕ) (body : List ℕ) (row : Shape) (map : List ℕ) → f.map_at id body row map → length map ≤ length body
+
+core_within : MapsWithin core_names
+core_within id body row map h = omega (arith, ap length h.1)
+
 -- and the contents of a custom section
-custom : {x left name contents : List ℕ} (p : Begins frame x (custom_frame name contents) left) → length contents ≤ length x
+pub custom : {x left name contents : List ℕ} (p : Begins frame x (custom_frame name contents) left) → length contents ≤ length x
 custom {x} {left} {name} {contents} p =
     let q = p.spells.spelled in
     let r = q.4 in
@@ -123,21 +131,22 @@ module _ {S E : Type 0} {asked : Asks S E} {P : S → Type 0} {Q : ℕ → List 
 
   -- ---- a name section
 
-  entry_told : {c : ℕ} {bytes : List ℕ} {s m : S} {e : Error E} → P s → RefusesEntry asked bytes c s e m → Q c bytes e
-  entry_told {c} {e = e} b h =
-      let B : List ℕ → Type 0 = λ z. Q c z e in
-      tells.larger (subsection_framed h.begins) (subst B h.is_map.1 (tells.larger (second_shorter h.counted.0 h.start h.counted.2) (each_told b h.stops)))
+  module _ {V : Type 0} (f : NameFormat V) (within : MapsWithin f) where
+    entry_told : {c : ℕ} {bytes : List ℕ} {s m : S} {e : Error E} → P s → RefusesEntryOf f asked bytes c s e m → Q c bytes e
+    entry_told b h =
+        let map = tells.larger (second_shorter h.counted.0 h.start h.counted.2) (each_told b h.stops) in
+        tells.larger (subsection_framed h.begins) (tells.larger (within h.id h.body h.row h.map h.is_map) map)
 
-  names_told : {c : ℕ} {contents : List ℕ} {s m : S} {e : Error E} → P s → StopsNames asked c (contents_standing contents) s e m → Q c contents e
-  names_told {c} {contents} {s} {m} {e} b h =
-      tells.larger (second_shorter h.front.text h.rest h.front.stands) (go (rows_state c h.state h.read h.made b h.accepts) h.refuses)
-    where
-      go : P h.state → RefusesSubsection asked c h.rest h.state e m ⊎ RefusesEntry asked h.rest c h.state e m → Q c h.rest e
-      go state (inl w) = whole_told state w
-      go state (inr w) = entry_told state w
+    pub names_told : {c : ℕ} {contents : List ℕ} {s m : S} {e : Error E} → P s → StopsNamesOf f asked c (contents_standing contents) s e m → Q c contents e
+    names_told {c} {contents} {s} {m} {e} b h =
+        tells.larger (second_shorter h.front.text h.rest h.front.stands) (go (rows_state c h.state h.read h.made b h.accepts) h.refuses)
+      where
+        go : P h.state → RefusesRow asked c f.row h.rest h.state e m ⊎ RefusesEntryOf f asked h.rest c h.state e m → Q c h.rest e
+        go state (inl w) = whole_told state w
+        go state (inr w) = entry_told state w
 
   in_names_told : {c : ℕ} {bytes : List ℕ} {s m : S} {e : Error E} → P s → StopsInNames asked c bytes s e m → Q c bytes e
-  in_names_told b h = tells.larger (custom h.framed) (names_told b h.stops)
+  in_names_told b h = tells.larger (custom h.framed) (names_told core_names core_within b h.stops)
 
   -- ---- the section in fault
 
