@@ -18,8 +18,8 @@ use Rattle.reencode_core.specs.Rows.{RowsBefore}
 
 -- ---- readings
 
--- Sections of this one's id are read, and where it is a component, so are those in it: of sections one behind another each, and of
--- what stands in a frame those behind the header.
+-- Sections of this one's id are read, as those of each id below 128 are, and where it is a component, so are those in it: of sections
+-- one behind another each, and of what stands in a frame those behind the header.
 abbrev pub IsInForce : Tree → Type 0
 IsInForce (Tree.row id t) = (has_frame id ≡ true) × (id ≡ 4 → IsInForce t)
 IsInForce (Tree.cons t u) = IsInForce t × IsInForce u

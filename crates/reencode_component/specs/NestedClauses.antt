@@ -17,7 +17,7 @@ use Rattle.reencode_component.specs.ComponentLeaves.{NoComponentHeading, compone
 use Rattle.reencode_component.specs.Components.{ComponentFault, ModuleFault, ReadsSection}
 use Rattle.reencode_component.specs.TypeClauses.{Opened}
 
--- What an error leaves of a nested section: memory ran out before anything was asked; or its scope stays open, and behind the push
+-- What an error leaves of a nested section: memory ran out before anything was asked; or its scope was opened, and behind the push
 -- visits of its text were made, and none where its header is missing.
 abbrev pub LeavesInside : {S E : Type 0} → Asks S E → Text → Type 0 → S → Error E → S → Type 0
 LeavesInside asked text headless s e m = ((e ≡ NoMemory) × (m ≡ s)) ⊎ Opened asked s (λ n. Leaves asked text n e m × (headless → m ≡ n))

@@ -32,13 +32,13 @@ pub record Opened {S E : Type 0} (asked : Asks S E) (s : S) (says : S → Type 0
   pub push : asked s Push ≡ accepted 0 at
   pub inside : says at
 
--- What an error leaves of what was to be read in a scope: the scope stays open, and behind `Push` these visits were made. Of `NoMemory`
+-- What an error leaves of what was to be read in a scope: the scope was opened, and behind `Push` these visits were made. Of `NoMemory`
 -- nothing is said unless the reencoder is sure.
 abbrev pub LeavesOpen : {S E A : Type 0} → Bool → Asks S E → Text → S → S → Result A (Error E) → Type 0
 LeavesOpen sure asked text s m result = IfErr result (λ e. (e ≡ NoMemory → IsTrue sure) → Opened asked s (λ n. Leaves asked text n e m))
 
 -- A scope is opened, what is to be read in it is mapped, so many rows, and it is closed; `within` says where the scope stands. Where
--- the bytes hold no such rows the scope stays open, and the error holds the place in them, of which `faulty` holds; and where a row is
+-- the bytes hold no such rows the scope was opened, and the error holds the place in them, of which `faulty` holds; and where a row is
 -- refused, `stops`. No reader has more rows than a count can say.
 abbrev pub ScopeBy : {S E A : Type 0} → Ghosts S E → ℕ → Text → (faulty : ℕ → S → List Tree → ℕ → Type 0) → (stops : ℕ → S → List Tree → Error E → Type 0)
     → (Tree → Tree) → (A → Tree) → S → S → Result A (Error E) → Type 0

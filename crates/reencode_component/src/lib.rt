@@ -1,4 +1,4 @@
-//! The re-encoding of a component (Component Model, Binary Format).
+//! The re-encoding of a component (Component Model, Binary Format), and of any binary by its header.
 #![tactic(auto)]
 
 mod adding;

@@ -638,6 +638,47 @@ text=0061736d0d000100 0100
 status=5
 err=parse error at 8/
 
+# A nested core module, whose section hook is asked; the header of the other kind in the place of each.
+text=0061736d0d000100 01080061736d01000000
+out=0061736d0d00010001080061736d01000000/asked section_hook 1 push 1 pop 1/
+
+text=0061736d0d000100 01080061736d0d000100
+status=8
+err=There was a section that does not belong in a core wasm module/
+
+text=0061736d0d000100 04080061736d01000000
+status=9
+err=There was a section that does not belong in a component/
+
+# The size of a code section of a nested module passes its end.
+text=0061736d0d000100 010b0061736d010000000a0901
+status=7
+err=invalid code section size/
+
+# Types of components: an instance type, a function type, and module types, of which the first has no declarations.
+text=0061736d0d000100 0709014201040101610100
+out=0061736d0d0001000709014201040001610100/asked component_type 1 push 1 pop 1/
+
+text=0061736d0d000100 07080140010178790073
+out=0061736d0d00010007080140010178790073/asked/
+
+text=0061736d0d000100 03020150
+status=5
+err=parse error at 8/
+
+text=0061736d0d000100 0303015000
+out=0061736d0d0001000303015000/asked push 1 pop 1/
+
+# Names of a component.
+words=-x rename r
+file={"component_func":{"0":2}}
+text=0061736d0d000100 00160e636f6d706f6e656e742d6e616d65010501010001 66
+out=0061736d0d00010000160e636f6d706f6e656e742d6e616d6501050101020166/asked component_func 1/
+
+# A custom section of another name stays as it is, also one named as the names of a core module are.
+text=0061736d0d000100 0004017800ff 0008046e616d65010500
+out=0061736d0d0001000004017800ff0008046e616d65010500/asked/
+
 # The second section has no reading.
 text=0061736d01000000 03020101 0303010000
 status=5
@@ -793,7 +834,7 @@ fn ends_of_runs(rt: HostRuntime) -> Result<(), Fail> {
         assert_eq!(rt; ends(rt.alloc(), case), Some((true, true, true)), "{case}");
         runs = runs.saturating_add(1);
     }
-    assert_eq!(rt; runs, 118);
+    assert_eq!(rt; runs, 128);
     Ok(())
 }
 

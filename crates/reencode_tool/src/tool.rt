@@ -163,7 +163,7 @@ fn tell<D: Sink>(answer: Answer, err: &mut D)
 /// | 2 | the words are not accepted |
 /// | 3 | the input could not be read |
 /// | 4 | the output could not be written |
-/// | 5 | the bytes have no reading, in any other case than 7 |
+/// | 5 | the bytes have no reading, in any other case than 7, 8 and 9 |
 /// | 6 | a renaming is strict and has no entry for an index |
 /// | 7 | the bytes have no reading, for a code section whose size passes their end |
 /// | 8 | where a core module is to stand, the bytes begin with the header of a component: those of `keep-report`, or of a nested module |

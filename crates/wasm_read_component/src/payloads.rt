@@ -99,7 +99,7 @@ fn has_frame(id: u8) -> bool
     id <= 127
 }
 
-/// The section of this id, where it is in force.
+/// The section of this id, where it is below 128.
 fn of_id(id: u8, at: usize, body: &[u8]) -> Option<ComponentPayload<'_>>
     ensures tree { IfSome result (λ p. component_frame_tree p ≡ numbered_frame id body.now) }
     ensures at { IfSome result (λ p. component_payload_at p ≡ at) }
@@ -124,7 +124,7 @@ fn of_id(id: u8, at: usize, body: &[u8]) -> Option<ComponentPayload<'_>>
     Some(ComponentPayload::Unknown { at, id, contents })
 }
 
-/// The section that stands in a frame, where its id is in force.
+/// The section that stands in a frame, where its id is below 128.
 fn of_frame(payload: Payload<'_>) -> Option<ComponentPayload<'_>>
     ensures tree { IfSome result (λ p. component_frame_tree p ≡ frame_tree payload.entry) }
     ensures at { IfSome result (λ p. component_payload_at p ≡ payload_at payload.entry) }
