@@ -1,5 +1,5 @@
 -- The subsections of the names of a component, as they are mapped.
-use Rattle.std.proofs.Common.{◌≡◌, ◌⊎◌, inl, inr, ℕ, ◌≤◌, ◌<◌, ◌^◌, ◌-◌, List, [], ◌∷◌, ◌++◌, length, map, Result, Ok, Err, IfErr, OnOk, OnErr, true, refl, sym, ap, ◌∙◌, subst}
+use Rattle.std.proofs.Common.{◌≡◌, ◌⊎◌, inl, inr, ℕ, ◌≤◌, ◌<◌, ◌^◌, ◌-◌, List, [], ◌++◌, length, map, Result, IfErr, OnOk, OnErr, true, refl, sym, ap, ◌∙◌, subst}
 use Rattle.wasm_shapes.specs.declared.Space.{Space}
 use Rattle.wasm_shapes.specs.declared.Visit.{Visit}
 use Rattle.wasm_shapes.specs.Component.{component_name_subsection, component_names}

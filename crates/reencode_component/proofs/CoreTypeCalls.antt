@@ -1,5 +1,5 @@
 -- Core types as rows: by the tree that one stands for, and what a refusal leaves.
-use Rattle.std.proofs.Common.{◌≡◌, ◌<◌, ◌^◌, ◌++◌, ℕ, List, [], ◌∷◌, Result, Ok, Err, IsTrue, refl, sym, ap, ◌∙◌, append_assoc, subst, arith}
+use Rattle.std.proofs.Common.{◌≡◌, ◌<◌, ◌^◌, ◌++◌, ℕ, List, [], ◌∷◌, Result, Ok, Err, refl, sym, ap, ◌∙◌, append_assoc, subst, arith}
 use Rattle.wasm_shapes.specs.declared.Visit.{Visit}
 use Rattle.wasm_shapes.specs.declared.Visit.TheVariants.{Push, Pop}
 use Rattle.wasm_shapes.specs.Depth.{Shallow}
@@ -21,7 +21,6 @@ use Rattle.reencode_hooks.specs.declared.error.Error.TheVariants.{CanonicalizedH
 use Rattle.reencode_hooks.specs.declared.indices.ReencodeIndices.{Ghosts}
 use Rattle.reencode_hooks.specs.Run.{Step, Visited, accepted, and_then, refused, run, state_after}
 use Rattle.reencode_items.specs.Clauses.{ListClauses}
-use Rattle.reencode_items.specs.Maps.{Maps}
 use Rattle.reencode_core.specs.Clauses.{RowClauses, asks}
 use Rattle.reencode_core.specs.Leaves.{Ended, Leaves, Text, rows_in}
 use Rattle.reencode_core.specs.Rows.{Asks, RowsFault, StopsAtRow}

@@ -1,8 +1,8 @@
 -- A custom section of a component in its frame, by what the call that maps it gives.
-use Rattle.std.proofs.Common.{◌≡◌, ◌≢◌, ◌+◌, ◌≤◌, max, zero, suc, ℕ, List, [], Result, Ok, Err, IfErr, true, refl, sym, ap, ◌∙◌, subst, arith, ◌⊎◌, inl, inr, IsTrue}
+use Rattle.std.proofs.Common.{◌≡◌, ◌+◌, ◌≤◌, max, zero, suc, ℕ, List, Result, Ok, Err, true, refl, sym, ap, ◌∙◌, subst, arith, ◌⊎◌, inl, inr}
 use Rattle.wasm_leb.specs.declared.fault.Fault.{Fault}
 use Rattle.wasm_shapes.specs.Component.{component_name_subsection, component_names, component_names_name, component_section_tree}
-use Rattle.wasm_shapes.specs.ComponentNames.{Sort, behind_sort, has_sort, is_sort, led_by, sort_of}
+use Rattle.wasm_shapes.specs.ComponentNames.{Sort, is_sort, led_by, sort_of}
 use Rattle.wasm_shapes.specs.ComponentReadings.{InComponentFrame, ReadsComponentContents}
 use Rattle.wasm_shapes.specs.Depth.{opens}
 use Rattle.wasm_shapes.specs.Module.{custom_frame, naming_row, numbered_frame}
@@ -10,7 +10,7 @@ use Rattle.wasm_shapes.specs.Shape.{Shape}
 use Rattle.wasm_shapes.specs.Spells.{Is, Spelled}
 use Rattle.wasm_shapes.specs.Tree.{Tree}
 use Rattle.wasm_shapes.proofs.Unscoped.{unscoped_is}
-use Rattle.wasm_read_component.proofs.ComponentSubsections.{OfSort, of_sort}
+use Rattle.wasm_read_component.proofs.ComponentSubsections.{of_sort}
 use Rattle.wasm_write.specs.Sections.{Sections, section_row}
 use Rattle.reencode_hooks.specs.declared.error.Error.{Error}
 use Rattle.reencode_hooks.specs.declared.error.Error.TheVariants.{CanonicalizedHeapTypeReference, InvalidConstExpr, InvalidCodeSectionSize, UnexpectedNonCoreModuleSection, UnexpectedNonComponentSection, UnsupportedCoreTypeInComponent, ParseError, UserError, TooLarge, NoMemory}
@@ -22,15 +22,14 @@ use Rattle.reencode_core.specs.Errors.{IfParse, IfRefused, placed_at}
 use Rattle.reencode_core.specs.Leaves.{Leaves, LeavesCore, LeavesMade, ManyUpTo, custom_of}
 use Rattle.reencode_core.specs.Names.{GivesCustomOf, ReadsContentsOf, ReadsCustomOf, StopsCustomOf, SubsectionsFaultOf, contents_standing}
 use Rattle.reencode_core.specs.Rows.{Asks}
-use Rattle.reencode_core.specs.Sections.{GivesAdded}
 use Rattle.reencode_core.specs.Weave.{Puts, added}
 use Rattle.reencode_core.proofs.Made.{wants_placed}
-use Rattle.reencode_component.specs.Causes.{IfFault, inside, own_inside, room}
+use Rattle.reencode_component.specs.Causes.{IfFault, inside, room}
 use Rattle.reencode_component.specs.ComponentClauses.{FrameClauses, placed_in}
 use Rattle.reencode_component.specs.ComponentLeaves.{SectionUpTo, section_in}
 use Rattle.reencode_component.specs.ComponentNames.{component_custom}
 use Rattle.reencode_component.specs.Components.{NestedFault, ReadsSection}
-use Rattle.reencode_component.specs.Gives.{FaultIn, GivesAddedIn, GivesSection}
+use Rattle.reencode_component.specs.Gives.{FaultIn, GivesSection}
 use Rattle.reencode_component.specs.WeaveIn.{weave_in}
 use Rattle.reencode_component.proofs.EachComponentSection.{leaves_placed}
 use Rattle.reencode_component.proofs.WeavesIn.{both_same}

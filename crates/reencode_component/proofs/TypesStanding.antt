@@ -1,7 +1,7 @@
 -- Types of components as rows, and what these declare: by the tree that one stands for.
 use Rattle.std.proofs.Common.{◌≡◌, ◌≤◌, ◌<◌, ◌+◌, ◌^◌, max, zero, suc, ℕ, List, [], Result, Ok, Err, refl, sym, ap, ◌∙◌, subst, arith, inr}
 use Rattle.std.proofs.Math.Seq.{take-length}
-use Rattle.wasm_shapes.specs.Component.{component_declaration, component_type, instance_declaration}
+use Rattle.wasm_shapes.specs.Component.{component_declaration, instance_declaration}
 use Rattle.wasm_shapes.specs.Spells.{Spelled}
 use Rattle.wasm_shapes.specs.Tree.{Tree, count, visits}
 use Rattle.wasm_shapes.specs.Types.{led}

@@ -8,7 +8,6 @@ use Rattle.wasm_shapes.specs.Shape.{Shape, closed}
 use Rattle.wasm_shapes.specs.Sound.{nullable, sound}
 use Rattle.wasm_shapes.specs.Spells.{Is, Spelled}
 use Rattle.wasm_shapes.specs.Tree.{Tree, visits}
-use Rattle.wasm_read.specs.declared.types.Name.{Name}
 use Rattle.wasm_read.specs.Names.{MapStanding, NamesStanding, whole_map}
 use Rattle.wasm_read.specs.Subsections.{Content, Holds, SubsectionRead, content_of}
 use Rattle.wasm_read.proofs.Subsections.{reads_subsection, subsection_there}

@@ -3,7 +3,6 @@ use Rattle.std.specs.Prelude.{◌≡◌, ℕ, List, [], get_or}
 use Rattle.wasm_shapes.specs.Module.{name_rows, name_subsection, names_name, subsection}
 use Rattle.wasm_shapes.specs.Shape.{Shape}
 use Rattle.wasm_shapes.specs.Tree.{Tree}
-use Rattle.wasm_shapes.specs.Types.{rows_tree}
 use Rattle.wasm_read.specs.declared.types.Name.{Name}
 use Rattle.wasm_read.specs.Names.{MapStanding}
 use Rattle.wasm_read.specs.Subsections.{Content, HoldsName, ReadsName, content_of}

@@ -23,6 +23,8 @@ use Rattle.reencode_hooks.specs.Walk.{walk}
 use Rattle.reencode_core.specs.Clauses.{asks}
 use Rattle.reencode_core.specs.Core as core
 use Rattle.reencode_core.specs.Weave.{added}
+use Rattle.reencode_core.specs.Woven.{IsWovenCause}
+use Rattle.reencode_core.proofs.AddsNothing.{no_own}
 use Rattle.reencode_component.specs.Causes.{BeforeFault, BehindFront, CauseBy, OwnInside, StopsBy, StopsInRows, StopsNested}
 use Rattle.reencode_component.specs.ComponentNames.{component_names}
 use Rattle.reencode_component.specs.Components.{BeginsNoSection, BeginsSection, FaultAt, Framed, ReadsComponent, ReadsSection, SectionsFirst}
@@ -69,7 +71,7 @@ module_read depth body u low force r =
     let p = nested.module_forth depth body u low r in
     let most : opens (Tree.scope (core_tree u)) + depth ≤ 200 = p.1.most in (
       component_section_tree 1 (Tree.scope (core_tree u)),
-      record { framed = InComponentFrame.of_id 1 (Tree.scope (core_tree u)) body (omega arith) (omega arith) p.0; shallow = record { most = omega (arith, most) }; in_force = force },
+      record { framed = InComponentFrame.of_id 1 (Tree.scope (core_tree u)) body (omega arith) (omega arith) p.0; shallow = record { most = omega (arith, most) }; in_force = (force, λ q. absurd cc) },
     )
 
 component_read : (depth : ℕ) (body : List ℕ) (u : Tree) → has_frame 4 ≡ true → ReadsComponent (depth + 1) body u → (t : Tree) × ReadsSection depth (numbered_frame 4 body) t
@@ -77,7 +79,7 @@ component_read depth body u force r =
     let p = nested.component_forth depth body u r.reading in
     let most : opens (Tree.scope (component_tree u)) + depth ≤ 200 = p.1.most in (
       component_section_tree 4 (Tree.scope (component_tree u)),
-      record { framed = InComponentFrame.of_id 4 (Tree.scope (component_tree u)) body (omega arith) (omega arith) p.0; shallow = record { most = omega (arith, most) }; in_force = force },
+      record { framed = InComponentFrame.of_id 4 (Tree.scope (component_tree u)) body (omega arith) (omega arith) p.0; shallow = record { most = omega (arith, most) }; in_force = (force, λ q. r.in_force) },
     )
 
 -- ---- names
@@ -89,17 +91,21 @@ sorted_within id body row map h = second_shorter (sort_bytes h.1.space) map h.1.
 -- ---- what is said
 
 module _ {S E : Type 0} (i : Ghosts S E) (none : (s : S) (v : Visit) → MayAdd v → i.adds s v ≡ []) {P : S → Type 0} {Q : ℕ → List ℕ → Error E → Type 0} (tells : Tells (asks i) P Q) where
-  rows_told : (c id : ℕ) (body : List ℕ) (s m : S) (e : Error E) → P s → StopsInRows (asks i) c id body s m e → Q c body e
-  rows_told c id body s m e b h = let counted = h.counted.counted in tells.larger (second_shorter counted.0 h.reader.rest counted.2) (row_told tells b h.stops)
+  rows_told : (c depth id : ℕ) (body : List ℕ) (s m : S) (e : Error E) → P s → StopsInRows (asks i) c depth id body s m e → Q c body e
+  rows_told c depth id body s m e b h = let counted = h.counted.counted in tells.larger (second_shorter counted.0 h.reader.rest counted.2) (row_told tells b h.stops)
 
-  of_module : (c : ℕ) (e : Error E) (bytes : List ℕ) (s m : S) → IsRefusal e → core.IsCause (asks i) c bytes s m e → core.BeforeFault (asks i) c bytes s m e
-  of_module c (UserError x) bytes s m is h = h
-  of_module c (TooLarge size) bytes s m is h = h
-  of_module c _ bytes s m is h = absurd is
+  of_plain : (c : ℕ) (e : Error E) (bytes : List ℕ) (s m : S) → IsRefusal e → core.IsCause (asks i) c bytes s m e → core.BeforeFault (asks i) c bytes s m e
+  of_plain c (UserError x) bytes s m is h = h
+  of_plain c (TooLarge size) bytes s m is h = h
+  of_plain c _ bytes s m is h = absurd is
+
+  of_module : (c : ℕ) (e : Error E) (bytes : List ℕ) (s m : S) → IsRefusal e → IsWovenCause (asks i) i.adds c bytes s m e → core.BeforeFault (asks i) c bytes s m e
+  of_module c e bytes s m is (inl h) = of_plain c e bytes s m is h
+  of_module c e bytes s m is (inr h) = absurd (no_own (asks i) i.adds none h)
 
   of_component : (scopes depth c : ℕ) (e : Error E) (bytes : List ℕ) (s m : S) → IsRefusal e →
-      CauseBy (asks i) (added i.adds) c depth (StopsBy (asks i) c (StopsNested (asks i) i.adds c depth scopes)) (OwnInside (asks i) i.adds c depth scopes) bytes s m e →
-      BeforeFault (asks i) (added i.adds) c depth (StopsBy (asks i) c (StopsNested (asks i) i.adds c depth scopes)) (OwnInside (asks i) i.adds c depth scopes) bytes s m e
+      CauseBy (asks i) (added i.adds) c depth (StopsBy (asks i) c depth (StopsNested (asks i) i.adds c depth scopes)) (OwnInside (asks i) i.adds c depth scopes) bytes s m e →
+      BeforeFault (asks i) (added i.adds) c depth (StopsBy (asks i) c depth (StopsNested (asks i) i.adds c depth scopes)) (OwnInside (asks i) i.adds c depth scopes) bytes s m e
   of_component scopes depth c (UserError x) bytes s m is h = h
   of_component scopes depth c (TooLarge size) bytes s m is h = h
   of_component scopes depth c _ bytes s m is h = absurd is
@@ -125,7 +131,7 @@ module _ {S E : Type 0} (i : Ghosts S E) (none : (s : S) (v : Visit) → MayAdd 
 
   abbrev ComponentTold : ℕ → Type 0
   ComponentTold scopes = (depth c : ℕ) (e : Error E) (bytes : List ℕ) (s m : S) → depth + scopes ≡ 200 → IsRefusal e → P s →
-      CauseBy (asks i) (added i.adds) c depth (StopsBy (asks i) c (StopsNested (asks i) i.adds c depth scopes)) (OwnInside (asks i) i.adds c depth scopes) bytes s m e →
+      CauseBy (asks i) (added i.adds) c depth (StopsBy (asks i) c depth (StopsNested (asks i) i.adds c depth scopes)) (OwnInside (asks i) i.adds c depth scopes) bytes s m e →
       ((t : Tree) → ReadsComponent depth bytes t → ⊥) → (Q c bytes e → ⊥) → ⊥
 
   component_by : (scopes : ℕ) → NestedTold scopes → ComponentTold scopes
@@ -134,10 +140,10 @@ module _ {S E : Type 0} (i : Ghosts S E) (none : (s : S) (v : Visit) → MayAdd 
       reads_or_fails depth bytes h.rest h.stands (omega (arith, whole)) bare (λ before rest f. at_fault before rest f (h.fault before rest f))
     where
       inside : (before : List Tree) (rest left : List ℕ) (f : FaultAt depth bytes before rest) (x : Tree) (n : S) → P n → Begins frame rest x left →
-          StopsBy (asks i) c (StopsNested (asks i) i.adds c depth scopes) x n m e → ⊥
+          StopsBy (asks i) c depth (StopsNested (asks i) i.adds c depth scopes) x n m e → ⊥
       inside before rest left f x n p there (inl (id, body, framed, h)) =
           let B : Tree → Type 0 = λ z. Begins frame rest z left in
-          never (behind c depth bytes e before rest f (tells.larger (numbered (subst B framed there)) (rows_told c id body n m e p h)))
+          never (behind c depth bytes e before rest f (tells.larger (numbered (subst B framed there)) (rows_told c depth id body n m e p h)))
       inside before rest left f x n p there (inr (inl (name, contents, framed, h))) =
           let B : Tree → Type 0 = λ z. Begins frame rest z left in
           never (behind c depth bytes e before rest f (tells.larger (custom (subst B framed there)) (names_told tells component_names sorted_within p h.1)))
@@ -149,7 +155,7 @@ module _ {S E : Type 0} (i : Ghosts S E) (none : (s : S) (v : Visit) → MayAdd 
 
       at_fault : (before : List Tree) (rest : List ℕ) → FaultAt depth bytes before rest →
           RefusesAmong (asks i) (added i.adds) c s before e m
-          ⊎ ((made : List Tree) × (n : S) × AcceptsAll (asks i) (added i.adds) c s before made n × Framed (λ x. StopsBy (asks i) c (StopsNested (asks i) i.adds c depth scopes) x n m e) rest)
+          ⊎ ((made : List Tree) × (n : S) × AcceptsAll (asks i) (added i.adds) c s before made n × Framed (λ x. StopsBy (asks i) c depth (StopsNested (asks i) i.adds c depth scopes) x n m e) rest)
           ⊎ BehindFront (asks i) (added i.adds) c depth (OwnInside (asks i) i.adds c depth scopes) bytes s m e → ⊥
       at_fault before rest f (inl r) = never (front_told c depth bytes s m e before rest b f r)
       at_fault before rest f (inr (inl q)) = let x = q.3 in inside before rest x.1 f x.0 q.1 (front_keeps c s q.1 before q.0 b q.2) x.2 x.3

@@ -1,5 +1,5 @@
-use Rattle.reencode_core.proofs.NamesLoop.{further_on, names_begun, names_ended, names_on, names_refused, names_stuck}
-use Rattle.reencode_component.proofs.ComponentNameCalls.{component_laws, read_raw}
+use Rattle.reencode_core.proofs.NamesLoop.{names_begun, names_ended, names_on, names_refused, names_stuck}
+use Rattle.reencode_component.proofs.ComponentNameCalls.{component_laws}
 use Rattle.reencode_component.proofs.component.ReencodeComponent.custom_component_name_section.Goals as goal
 
 pub rows-init : goal.rows-init
