@@ -7,6 +7,7 @@
 
 mod core_methods;
 mod items;
+mod names;
 mod noter;
 mod parts_noted;
 mod rows;
@@ -29,6 +30,7 @@ fn by_rows<N: ReencodeComponent + Notes>(of: &mut N, alloc: Global) -> Result<()
     sections::sections(of, alloc)?;
     sections::more_sections(of, alloc)?;
     sections::scopes(of, alloc)?;
+    names::custom_sections(of, alloc)?;
     items::values(of);
     Ok(())
 }
@@ -39,6 +41,7 @@ fn by_parts<N: ReencodeComponent + Notes>(
     alloc: Global,
 ) -> Result<(), Error<N::Error>> {
     sections::components(of, alloc)?;
+    names::name_sections(of, alloc)?;
     rows::rows(of, alloc)?;
     rows::canonical_functions(of, alloc)?;
     rows::types(of, alloc)?;
@@ -53,6 +56,7 @@ fn by_values<N: ReencodeComponent + Notes>(
 ) -> Result<(), Error<N::Error>> {
     items::references(of)?;
     items::indices(of)?;
+    names::sorts(of, alloc)?;
     items::whole_sections(of, alloc)
 }
 

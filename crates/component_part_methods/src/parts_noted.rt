@@ -2,6 +2,7 @@
 use crate::noter::{Made, Noter, Notes, noted};
 use reencode_component::{ReencodeComponent, ReencodeComponentItems, ReencodeComponentRows};
 use std::alloc::Global;
+use wasm_read::CustomSection;
 use wasm_read_component as r;
 use wasm_write::RowSection;
 use wasm_write_component as w;
@@ -124,6 +125,24 @@ impl ReencodeComponent for Noter<PartsNoted> {
         _func: r::ComponentStartFunction,
     ) -> Made<()> {
         noted!(self, parse_component_start_section, Ok(()))
+    }
+
+    fn parse_component_custom_section(
+        &mut self,
+        _alloc: Global,
+        _component: &mut w::Component,
+        _section: CustomSection<'_>,
+    ) -> Made<()> {
+        noted!(self, parse_component_custom_section, Ok(()))
+    }
+
+    fn parse_custom_component_name_subsection(
+        &mut self,
+        _alloc: Global,
+        _names: &mut w::ComponentNameSection,
+        _section: r::ComponentName<'_>,
+    ) -> Made<()> {
+        noted!(self, parse_custom_component_name_subsection, Ok(()))
     }
 
     fn parse_unknown_component_section(

@@ -92,6 +92,19 @@ impl ReencodeComponentRows for Noter<RowsNoted> {
 }
 
 impl ReencodeComponent for Noter<RowsNoted> {
+    fn custom_component_name_section(
+        &mut self,
+        alloc: Global,
+        _section: r::ComponentNameSectionReader<'_>,
+        ceiling: u32,
+    ) -> Made<w::ComponentNameSection> {
+        noted!(
+            self,
+            custom_component_name_section,
+            Ok(w::ComponentNameSection::new(alloc, ceiling))
+        )
+    }
+
     fn parse_component_func_type<'a>(
         &mut self,
         alloc: Global,

@@ -4,6 +4,7 @@ use crate::values as v;
 use reencode_component::{ReencodeComponent, component_utils};
 use reencode_hooks::Error;
 use std::alloc::Global;
+use wasm_read::CustomSection;
 use wasm_read_component as r;
 use wasm_read_component::ComponentPayload;
 use wasm_write::RowSection;
@@ -18,7 +19,7 @@ const COMPONENT: [u8; 64] = [
 ];
 
 /// What a component holds: sections without rows, a start, what is nested, and a section of an id that no table knows.
-const PAYLOADS: [(&str, ComponentPayload<'_>); 12] = [
+const PAYLOADS: [(&str, ComponentPayload<'_>); 13] = [
     (
         "instances",
         ComponentPayload::Section {
@@ -105,6 +106,16 @@ const PAYLOADS: [(&str, ComponentPayload<'_>); 12] = [
             bytes: &[
                 0x00, 0x61, 0x73, 0x6d, 0x0d, 0x00, 0x01, 0x00, 0x0c, 0x01, 0x00,
             ],
+        },
+    ),
+    (
+        "custom",
+        ComponentPayload::Custom {
+            at: 0,
+            section: CustomSection {
+                name: "x",
+                contents: &[],
+            },
         },
     ),
     (
