@@ -1,6 +1,10 @@
 //! The names of a component, as they are read and as they are written.
+ghost use Rattle.std.specs.Prelude.{◌≡◌, true};
+ghost use Rattle.wasm_shapes.specs.ComponentNames.{has_sort};
+
 use reencode_component::{ReencodeComponent, component_utils, reencode};
 use reencode_hooks::{Error, Renamer, Unmapped};
+use std::alloc::Global;
 use wasm_leb::{Fault, ReadError};
 use wasm_read as r;
 use wasm_read_component::{ComponentName, ComponentNameSectionReader};
@@ -28,51 +32,77 @@ fn sorted(name: ComponentName<'_>) -> Option<(Space, r::NameMap<'_>)> {
     }
 }
 
+/// Whether index 2 is read as `f` in a subsection of names of this space.
+fn is_read(alloc: Global, subsection: &[u8], space: Space) -> bool {
+    let Ok(mut names) = ComponentNameSectionReader::new(subsection) else {
+        return false;
+    };
+    let Ok(Some(name)) = names.next_row(alloc) else {
+        return false;
+    };
+    let Some((read, mut map)) = sorted(name) else {
+        return false;
+    };
+    let entry = r::Naming {
+        index: 2,
+        name: "f",
+    };
+    read == space && map.next() == Ok(Some(entry)) && map.next() == Ok(None)
+}
+
+/// What stands behind the name of a custom section, in its body.
+fn behind_name(body: &[u8]) -> &[u8] {
+    if body.len() < 15 {
+        return &[];
+    }
+    &body[15..]
+}
+
+/// Whether index 2 as `f`, of this space, is written as such a subsection.
+fn is_written(alloc: Global, subsection: &[u8], space: Space) -> Result<bool, WriteFault>
+    requires { has_sort space ≡ true }
+{
+    let mut map = NameMap::new(alloc);
+    map.append(2, "f")?;
+    let mut section = ComponentNameSection::new(alloc, 1000);
+    section.names(space, &map)?;
+    let mut body = Vec::new(alloc);
+    match section.encode_body(&mut body) {
+        Ok(()) => Ok(behind_name(body.as_slice()) == subsection),
+        Err(_) => Ok(false),
+    }
+}
+
+/// Whether such a subsection is read, and written.
+fn is_sorted(alloc: Global, subsection: &[u8], space: Space) -> Result<bool, WriteFault>
+    requires { has_sort space ≡ true }
+{
+    Ok(is_read(alloc, subsection, space) && is_written(alloc, subsection, space)?)
+}
+
 /// Each sort stands before the map of its names.
 #[test]
 fn names_by_their_sort(rt: HostRuntime) -> Result<(), WriteFault> {
-    for (subsection, space) in [
-        (&[1u8, 6, 0, 0x00, 1, 2, 1, 0x66] as &[u8], Space::Function),
-        (&[1, 6, 0, 0x01, 1, 2, 1, 0x66], Space::Table),
-        (&[1, 6, 0, 0x02, 1, 2, 1, 0x66], Space::Memory),
-        (&[1, 6, 0, 0x03, 1, 2, 1, 0x66], Space::Global),
-        (&[1, 6, 0, 0x04, 1, 2, 1, 0x66], Space::Tag),
-        (&[1, 6, 0, 0x10, 1, 2, 1, 0x66], Space::Type_),
-        (&[1, 6, 0, 0x11, 1, 2, 1, 0x66], Space::Module),
-        (&[1, 6, 0, 0x12, 1, 2, 1, 0x66], Space::Instance),
-        (&[1, 5, 0x01, 1, 2, 1, 0x66], Space::ComponentFunc),
-        (&[1, 5, 0x02, 1, 2, 1, 0x66], Space::ComponentValue),
-        (&[1, 5, 0x03, 1, 2, 1, 0x66], Space::ComponentType),
-        (&[1, 5, 0x04, 1, 2, 1, 0x66], Space::Component),
-        (&[1, 5, 0x05, 1, 2, 1, 0x66], Space::ComponentInstance),
-    ] {
-        let Ok(mut names) = ComponentNameSectionReader::new(subsection) else {
-            return Ok(());
-        };
-        let Ok(Some(name)) = names.next_row(rt.alloc()) else {
-            assert!(rt; false, "of {subsection:?}");
-            return Ok(());
-        };
-        let Some((read, mut map)) = sorted(name) else {
-            assert!(rt; false, "of {subsection:?}");
-            return Ok(());
-        };
-        assert_eq!(rt; read, space, "of {subsection:?}");
-        let entry = r::Naming {
-            index: 2,
-            name: "f",
-        };
-        assert_eq!(rt; map.next(), Ok(Some(entry)), "of {subsection:?}");
-        assert_eq!(rt; map.next(), Ok(None), "of {subsection:?}");
-
-        let mut made = NameMap::new(rt.alloc());
-        made.append(2, "f")?;
-        let mut section = ComponentNameSection::new(rt.alloc(), 1000);
-        section.names(space, &made)?;
-        let mut body = Vec::new(rt.alloc());
-        assert_eq!(rt; section.encode_body(&mut body), Ok(()), "of {space:?}");
-        assert_eq!(rt; &body[15..], subsection, "of {space:?}");
-    }
+    let alloc = rt.alloc();
+    assert!(rt; is_sorted(alloc, &[1u8, 6, 0, 0x00, 1, 2, 1, 0x66], Space::Function)?);
+    assert!(rt; is_sorted(alloc, &[1u8, 6, 0, 0x01, 1, 2, 1, 0x66], Space::Table)?);
+    assert!(rt; is_sorted(alloc, &[1u8, 6, 0, 0x02, 1, 2, 1, 0x66], Space::Memory)?);
+    assert!(rt; is_sorted(alloc, &[1u8, 6, 0, 0x03, 1, 2, 1, 0x66], Space::Global)?);
+    assert!(rt; is_sorted(alloc, &[1u8, 6, 0, 0x04, 1, 2, 1, 0x66], Space::Tag)?);
+    assert!(rt; is_sorted(alloc, &[1u8, 6, 0, 0x10, 1, 2, 1, 0x66], Space::Type_)?);
+    assert!(rt; is_sorted(alloc, &[1u8, 6, 0, 0x11, 1, 2, 1, 0x66], Space::Module)?);
+    assert!(rt; is_sorted(alloc, &[1u8, 6, 0, 0x12, 1, 2, 1, 0x66], Space::Instance)?);
+    assert!(rt; is_sorted(alloc, &[1u8, 5, 0x01, 1, 2, 1, 0x66], Space::ComponentFunc)?);
+    assert!(rt; is_sorted(alloc, &[1u8, 5, 0x02, 1, 2, 1, 0x66], Space::ComponentValue)?);
+    assert!(rt; is_sorted(alloc, &[1u8, 5, 0x03, 1, 2, 1, 0x66], Space::ComponentType)?);
+    assert!(rt; is_sorted(alloc, &[1u8, 5, 0x04, 1, 2, 1, 0x66], Space::Component)?);
+    assert!(rt;
+        is_sorted(
+            alloc,
+            &[1u8, 5, 0x05, 1, 2, 1, 0x66],
+            Space::ComponentInstance
+        )?
+    );
     Ok(())
 }
 
@@ -163,7 +193,7 @@ fn names_are_mapped(rt: HostRuntime) -> Result<(), Error<Unmapped>> {
         };
         let mut bytes = Vec::new(alloc);
         assert_eq!(rt; names.encode_body(&mut bytes), Ok(()));
-        assert_eq!(rt; &bytes[15..], made as &[u8]);
+        assert_eq!(rt; behind_name(bytes.as_slice()), made as &[u8]);
     }
     Ok(())
 }

@@ -1,4 +1,6 @@
 //! Sections of types within a whole component: rows that open scopes, up to the last that may be opened.
+ghost use Rattle.std.specs.Prelude.{◌≤◌};
+
 use reencode_component::component_utils::parse_component;
 use reencode_hooks::{Asked, Error, Renamer, Unmapped};
 use std::alloc::Global;
@@ -6,7 +8,9 @@ use wasm_leb::{List, NoMemory, ReadError};
 use wasm_write_component::Component;
 
 /// What a component becomes, and how often a scope was opened and closed.
-fn made(alloc: Global, bytes: &[u8], depth: u32) -> Result<(Vec<u8>, u64, u64), Error<Unmapped>> {
+fn made(alloc: Global, bytes: &[u8], depth: u32) -> Result<(Vec<u8>, u64, u64), Error<Unmapped>>
+    requires { depth ≤ 200 }
+{
     let mut renamer = Renamer::new(alloc);
     let mut component = Component::new(alloc, u32::MAX)?;
     parse_component(&mut renamer, alloc, &mut component, bytes, depth)?;
@@ -18,7 +22,9 @@ fn made(alloc: Global, bytes: &[u8], depth: u32) -> Result<(Vec<u8>, u64, u64), 
 }
 
 /// Whether a component is refused at this place.
-fn is_refused_at(alloc: Global, bytes: &[u8], depth: u32, place: usize) -> bool {
+fn is_refused_at(alloc: Global, bytes: &[u8], depth: u32, place: usize) -> bool
+    requires { depth ≤ 200 }
+{
     match made(alloc, bytes, depth) {
         Err(Error::ParseError(ReadError { at })) => at == place,
         _ => false,
