@@ -10,7 +10,7 @@ use Rattle.wasm_shapes.specs.Drawn.{Drawn}
 use Rattle.wasm_shapes.specs.Module.{numbered_frame}
 use Rattle.wasm_shapes.specs.Shape.{Shape}
 use Rattle.wasm_shapes.specs.Tree.{Tree, normal, visits}
-use Rattle.wasm_shapes.proofs.Drawn.{drawn_joined}
+use Rattle.wasm_shapes.proofs.Drawn.{drawn_joined, drawn_push, drawn_scope}
 use Rattle.wasm_write.specs.declared.fault.WriteFault.{WriteFault}
 use Rattle.wasm_write.specs.declared.fault.WriteFault.TheVariants as write
 use Rattle.wasm_write.specs.Faults.{IfTooLarge}
@@ -36,7 +36,7 @@ use Rattle.reencode_component.specs.NestedClauses.{NestedClauses}
 use Rattle.reencode_component.specs.WeaveIn.{weave_in}
 use Rattle.reencode_component.proofs.EachComponentSection.{frame_wanted, leaves_placed, not_read}
 use Rattle.reencode_component.proofs.FaultLaws.{nested_one}
-use Rattle.reencode_component.proofs.NestedSteps.{drawn_push, drawn_scope, nested_tree, walk_fits, walk_large, walk_stopped}
+use Rattle.reencode_component.proofs.NestedSteps.{nested_tree, walk_fits, walk_large, walk_stopped}
 use Rattle.reencode_component.proofs.WeavesIn.{weave_in_ran}
 
 -- the scopes that may still be opened, with one more open
@@ -237,7 +237,7 @@ module _ {S E : Type 0} (i : Ghosts S E) (depth id : ℕ) (body : List ℕ) (hea
           record {
             made = Push ∷ visits t.0 ++ Pop ∷ [];
             ended = ended_all e unasked (all_ran t.0 ran.0 (subst R (kind.headed t.0) ran.1));
-            drawn = drawn_scope (visits t.0) (kind.drawn t.0 t.1);
+            drawn = drawn_scope t.0 (kind.drawn t.0 t.1);
             reading = λ u r. front_same (visits_are (nested_tree id (head t.0)) t.0 refl ∙ ap visits (one u r)) (front_all (Push ∷ visits t.0 ++ Pop ∷ []));
             fault = λ none u rest x. absurd (no_up_to depth id body kind.no_rows u rest x);
           }

@@ -1,14 +1,10 @@
 -- The walk of a nested section, step by step.
 use Rattle.std.proofs.Common.{◌≡◌, ◌<◌, ◌≤◌, ℕ, List, [], ◌∷◌, ◌++◌, length, refl}
-use Rattle.std.proofs.lemmas.List.Elements.{All-cons, All-nil}
-use Rattle.wasm_shapes.specs.declared.Visit.{Visit}
 use Rattle.wasm_shapes.specs.declared.Visit.TheVariants.{Push, Pop}
 use Rattle.wasm_shapes.specs.Component.{component_section_tree}
-use Rattle.wasm_shapes.specs.Drawn.{Drawn, IsDrawn}
 use Rattle.wasm_shapes.specs.Module.{CoreReading, core_tree, headed_tree, sections}
 use Rattle.wasm_shapes.specs.Spells.{Is}
 use Rattle.wasm_shapes.specs.Tree.{Tree, normal}
-use Rattle.wasm_shapes.proofs.Drawn.{drawn_joined}
 use Rattle.reencode_hooks.specs.declared.error.Error.{Error}
 use Rattle.reencode_hooks.specs.declared.error.Error.TheVariants.{TooLarge}
 use Rattle.reencode_hooks.specs.Run.{accepted, refused}
@@ -20,18 +16,6 @@ use Rattle.reencode_component.specs.WeaveIn.{weave_in}
 -- a nested section, by what stands in its scope
 abbrev pub nested_tree : ℕ → Tree → Tree
 nested_tree id t = component_section_tree id (Tree.scope t)
-
--- ---- visits
-
-pub drawn_push : {bytes : List ℕ} → Drawn bytes (Push ∷ [])
-drawn_push {bytes = bytes} = record { each = All-cons (IsDrawn bytes) Push [] tt (All-nil (IsDrawn bytes)) }
-
-drawn_pop : {bytes : List ℕ} → Drawn bytes (Pop ∷ [])
-drawn_pop {bytes = bytes} = record { each = All-cons (IsDrawn bytes) Pop [] tt (All-nil (IsDrawn bytes)) }
-
--- in a scope
-pub drawn_scope : {bytes : List ℕ} (vs : List Visit) → Drawn bytes vs → Drawn bytes (Push ∷ vs ++ Pop ∷ [])
-drawn_scope {bytes = bytes} vs d = drawn_joined bytes (Push ∷ []) (vs ++ Pop ∷ []) drawn_push (drawn_joined bytes vs (Pop ∷ []) d drawn_pop)
 
 -- ---- steps
 

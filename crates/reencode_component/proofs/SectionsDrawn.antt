@@ -12,7 +12,7 @@ use Rattle.wasm_shapes.specs.Spells.{Is, Spelled}
 use Rattle.wasm_shapes.specs.Tree.{Tree, visits}
 use Rattle.wasm_shapes.proofs.ComponentFrames.{in_component_frame}
 use Rattle.wasm_shapes.proofs.Depth.{shallow_first}
-use Rattle.wasm_shapes.proofs.Drawn.{drawn_behind, drawn_front, drawn_item, drawn_joined, drawn_none}
+use Rattle.wasm_shapes.proofs.Drawn.{drawn_behind, drawn_front, drawn_item, drawn_joined, drawn_none, drawn_scope}
 use Rattle.wasm_shapes.proofs.Laws.{module_headed}
 use Rattle.reencode_core.proofs.CustomSection.{drawn_contents}
 use Rattle.reencode_core.proofs.Left.{module_drawn}
@@ -22,7 +22,7 @@ use Rattle.reencode_component.specs.ComponentNames.{component_custom}
 use Rattle.reencode_component.specs.Components.{IsInForce, ReadsComponent, ReadsSection}
 use Rattle.reencode_component.proofs.ComponentNameCalls.{component_laws}
 use Rattle.reencode_component.proofs.NestedReadings.{component_forth, module_forth}
-use Rattle.reencode_component.proofs.NestedSteps.{drawn_scope, nested_tree}
+use Rattle.reencode_component.proofs.NestedSteps.{nested_tree}
 
 -- ---- one section
 
@@ -47,7 +47,7 @@ body_drawn (suc (suc (suc (suc (suc (suc (suc (suc (suc (suc (suc (suc n))))))))
 -- what stands in the scope of a nested section
 inner_drawn : {id : ℕ} {u : Tree} {x : List ℕ} (k : ℕ) (v : Tree) → component_section_tree id u ≡ nested_tree k v → Drawn x (visits v) → Drawn x (visits u)
 inner_drawn {id = id} {u = u} {x = x} k v e d =
-    let is : u ≡ Tree.scope v = cc in let P : Tree → Type 0 = λ z. Drawn x (visits z) in subst P (sym is) (drawn_scope (visits v) d)
+    let is : u ≡ Tree.scope v = cc in let P : Tree → Type 0 = λ z. Drawn x (visits z) in subst P (sym is) (drawn_scope v d)
 
 -- by what a nested component asks
 section_drawn_by : (depth : ℕ) → ((body : List ℕ) (t : Tree) → ReadsComponent (depth + 1) body t → Drawn body (visits t)) → {f t : Tree} {bytes left : List ℕ} → Begins frame bytes f left →

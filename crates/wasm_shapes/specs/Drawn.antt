@@ -1,10 +1,11 @@
 -- Visits that are drawn from some bytes.
-use Rattle.std.specs.Prelude.{◌≡◌, ℕ, List, ◌++◌, get_or, true, All, Contains}
+use Rattle.std.specs.Prelude.{◌≡◌, ℕ, List, ◌++◌, get_or, true, All, Contains, Some}
 use Rattle.wasm_shapes.specs.declared.SectionId.{SectionId}
 use Rattle.wasm_shapes.specs.declared.Space.{Space}
 use Rattle.wasm_shapes.specs.declared.Visit.{Visit}
 use Rattle.wasm_shapes.specs.declared.Visit.TheVariants.{Index, Outer}
 use Rattle.wasm_shapes.specs.Tree.{Tree, visits}
+use Rattle.wasm_shapes.specs.Scopes.{open_behind}
 use Rattle.wasm_shapes.specs.Shape.{Shape}
 use Rattle.wasm_shapes.specs.Spells.{Spells}
 use Rattle.wasm_shapes.specs.Module.{body_of, row_of, local_row, name_rows, naming_row, subsection}
@@ -44,9 +45,11 @@ IsDrawn bytes (Index s i) = OfItem bytes (Index s i)
 IsDrawn bytes (Outer s c i) = OfItem bytes (Outer s c i)
 IsDrawn bytes _ = Unit {0}
 
--- each visit that asks an index is one of an item that stands somewhere in the bytes
+-- Each visit that asks an index is one of an item that stands somewhere in the bytes, and no scope is closed that these visits did not
+-- open.
 pub record Drawn (bytes : List ℕ) (vs : List Visit) : Type 0 where
   pub each : All (IsDrawn bytes) vs
+  pub opened : (k : ℕ) × (open_behind 0 vs ≡ Some k)
 
 -- ---- laws
 

@@ -60,7 +60,6 @@ pub fn drawn_from_a_stretch()
 {}
 
 /// Lists of visits that are drawn from the same bytes are drawn from them when joined.
-#[tactic(auto, using(crate::proofs::Drawn::drawn_joined))]
 pub fn drawn_lists_join()
     ensures { IsDrawnJoined }
 {}
