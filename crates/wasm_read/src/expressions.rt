@@ -88,12 +88,6 @@ impl<'a> Entry for ConstExpr<'a> {
     ghost tree = { expr_tree };
 
     ghost rows_sound = { refl };
-
-    fn most(bytes: usize) -> usize
-        ensures { result ≤ bytes }
-    {
-        bytes
-    }
 }
 
 impl<'a> ReadEntry<'a> for ConstExpr<'a> {

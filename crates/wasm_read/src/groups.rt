@@ -265,10 +265,6 @@ impl Entry for SubType {
     ghost tree = { sub_type_tree };
 
     ghost rows_sound = { refl };
-
-    fn most(bytes: usize) -> usize {
-        bytes / 2
-    }
 }
 
 impl<'a> ReadEntry<'a> for SubType {

@@ -44,4 +44,4 @@ pub use types::{
     TypeRef, UnpackedIndex, ValType,
 };
 pub use value_types::{front_val_type, read_val_type};
-pub use vector_items::{VectorRow, behind_rows, front_rows};
+pub use vector_items::{behind_rows, front_rows};

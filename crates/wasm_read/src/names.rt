@@ -113,12 +113,6 @@ impl<'a> Entry for Naming<'a> {
     ghost tree = { λ n. entry_tree (record { index = n.index; name = n.name.now }) };
 
     ghost rows_sound = { refl };
-
-    fn most(bytes: usize) -> usize
-        ensures { result ≤ bytes }
-    {
-        bytes / 2
-    }
 }
 
 impl<'a> SmallEntry<'a> for Naming<'a> {

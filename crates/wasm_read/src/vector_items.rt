@@ -25,11 +25,6 @@ pub trait Entry {
     ghost tree: { Self → Tree };
 
     ghost rows_sound: { sound (Shape.many shape) ≡ true };
-
-    /// How many entries can stand in so many bytes. It guides how much memory is taken before they are read, and nothing else
-    /// rests on it.
-    fn most(bytes: usize) -> usize
-        ensures { result ≤ bytes };
 }
 
 /// What stands in a vector and can be read.
@@ -90,10 +85,6 @@ impl Entry for u32 {
     ghost tree = { Tree.u32 };
 
     ghost rows_sound = { refl };
-
-    fn most(bytes: usize) -> usize {
-        bytes
-    }
 }
 
 impl<'a> ReadEntry<'a> for u32 {
@@ -112,10 +103,6 @@ impl Entry for ValType {
     ghost tree = { val_type_tree };
 
     ghost rows_sound = { refl };
-
-    fn most(bytes: usize) -> usize {
-        bytes
-    }
 }
 
 impl<'a> ReadEntry<'a> for ValType {
@@ -131,10 +118,6 @@ impl Entry for FieldType {
     ghost tree = { field_type_tree };
 
     ghost rows_sound = { refl };
-
-    fn most(bytes: usize) -> usize {
-        bytes / 2
-    }
 }
 
 impl<'a> ReadEntry<'a> for FieldType {
@@ -156,10 +139,6 @@ impl Entry for UnpackedIndex {
     ghost tree = { type_index };
 
     ghost rows_sound = { refl };
-
-    fn most(bytes: usize) -> usize {
-        bytes
-    }
 }
 
 impl<'a> ReadEntry<'a> for UnpackedIndex {
@@ -182,10 +161,6 @@ impl Entry for (u32, ValType) {
     ghost tree = { local_tree };
 
     ghost rows_sound = { refl };
-
-    fn most(bytes: usize) -> usize {
-        bytes / 2
-    }
 }
 
 impl<'a> ReadEntry<'a> for (u32, ValType) {
@@ -204,10 +179,6 @@ impl Entry for Catch {
     ghost tree = { catch_tree };
 
     ghost rows_sound = { refl };
-
-    fn most(bytes: usize) -> usize {
-        bytes / 2
-    }
 }
 
 impl<'a> ReadEntry<'a> for Catch {
@@ -223,10 +194,6 @@ impl Entry for Handle {
     ghost tree = { handle_tree };
 
     ghost rows_sound = { refl };
-
-    fn most(bytes: usize) -> usize {
-        bytes / 2
-    }
 }
 
 impl<'a> ReadEntry<'a> for Handle {
@@ -316,14 +283,6 @@ fn front_tag_and_label(bytes: &[u8]) -> Option<(u32, u32, &[u8])>
     }
 }
 
-/// Rows that stand in a vector.
-pub trait VectorRow: RowKind {
-    /// How many of them can stand in so many bytes. It guides how much memory is taken before they are read, and nothing else
-    /// rests on it.
-    fn most(bytes: usize) -> usize
-        ensures { result ≤ bytes };
-}
-
 /// Entries, as a kind of rows.
 pub struct Entries<T> {
     entry: PhantomData<T>,
@@ -339,12 +298,6 @@ impl<T: Entry> RowKind for Entries<T> {
     ghost rows_sound = { T.Entry.rows_sound };
 }
 
-impl<T: Entry> VectorRow for Entries<T> {
-    fn most(bytes: usize) -> usize {
-        T::most(bytes)
-    }
-}
-
 impl<'a, T: ReadEntry<'a>> ReadRow<'a> for Entries<T> {
     type Row = T;
 
@@ -358,9 +311,12 @@ impl<'a, T: ReadEntry<'a>> ReadRow<'a> for Entries<T> {
     }
 }
 
-/// The vector of rows at the front of some bytes, and the bytes behind it. Memory is taken for no more rows than the bytes
-/// can hold.
-pub fn front_rows<'a, K: ReadRow<'a> + VectorRow>(
+/// The most rows of a vector for which memory is taken before they are read.
+const AHEAD: usize = 16;
+
+/// The vector of rows at the front of some bytes, and the bytes behind it. Memory is taken as rows are read, whatever their number
+/// says.
+pub fn front_rows<'a, K: ReadRow<'a>>(
     alloc: Global,
     bytes: &'a [u8],
 ) -> Result<Option<(List<K::Row>, &'a [u8])>, NoMemory>
@@ -376,8 +332,7 @@ where
     let Some((count, start)) = front_u32(bytes) else {
         return Ok(None);
     };
-    let most = K::most(start.len()).min(count as usize);
-    let mut entries = match List::with_capacity(alloc, most) {
+    let mut entries = match List::with_capacity(alloc, AHEAD.min(count as usize)) {
         Ok(entries) => entries,
         Err(NoMemory) => return Err(NoMemory),
     };

@@ -13,7 +13,7 @@ use crate::rows::{front_component_arg, front_inline_export, front_instantiation_
 use crate::types::{CanonicalOption, ComponentArg, InstantiationArg};
 use std::alloc::Global;
 use wasm_leb::{NoMemory, front_u32};
-use wasm_read::{Export, ReadRow, VectorRow, front_export};
+use wasm_read::{Export, ReadRow, front_export};
 use wasm_shapes::kinds::RowKind;
 
 /// What is handed to a core module.
@@ -27,12 +27,6 @@ impl RowKind for InstantiationArgs {
     ghost is_closed = { refl };
 
     ghost rows_sound = { refl };
-}
-
-impl VectorRow for InstantiationArgs {
-    fn most(bytes: usize) -> usize {
-        bytes / 3
-    }
 }
 
 impl<'a> ReadRow<'a> for InstantiationArgs {
@@ -62,12 +56,6 @@ impl RowKind for CoreExports {
     ghost rows_sound = { refl };
 }
 
-impl VectorRow for CoreExports {
-    fn most(bytes: usize) -> usize {
-        bytes / 3
-    }
-}
-
 impl<'a> ReadRow<'a> for CoreExports {
     type Row = Export<'a>;
 
@@ -92,12 +80,6 @@ impl RowKind for ComponentArgs {
     ghost is_closed = { refl };
 
     ghost rows_sound = { refl };
-}
-
-impl VectorRow for ComponentArgs {
-    fn most(bytes: usize) -> usize {
-        bytes / 3
-    }
 }
 
 impl<'a> ReadRow<'a> for ComponentArgs {
@@ -127,12 +109,6 @@ impl RowKind for InlineExports {
     ghost rows_sound = { refl };
 }
 
-impl VectorRow for InlineExports {
-    fn most(bytes: usize) -> usize {
-        bytes / 4
-    }
-}
-
 impl<'a> ReadRow<'a> for InlineExports {
     type Row = ComponentArg<'a>;
 
@@ -160,12 +136,6 @@ impl RowKind for ComponentValues {
     ghost rows_sound = { refl };
 }
 
-impl VectorRow for ComponentValues {
-    fn most(bytes: usize) -> usize {
-        bytes
-    }
-}
-
 impl<'a> ReadRow<'a> for ComponentValues {
     type Row = u32;
 
@@ -191,12 +161,6 @@ impl RowKind for CanonicalOptions {
     ghost is_closed = { refl };
 
     ghost rows_sound = { refl };
-}
-
-impl VectorRow for CanonicalOptions {
-    fn most(bytes: usize) -> usize {
-        bytes
-    }
 }
 
 impl<'a> ReadRow<'a> for CanonicalOptions {

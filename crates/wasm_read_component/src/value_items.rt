@@ -9,7 +9,7 @@ use crate::types::{ComponentValType, VariantCase};
 use crate::value_types::front_component_val_type;
 use std::alloc::Global;
 use wasm_leb::NoMemory;
-use wasm_read::{ReadRow, VectorRow, front_name};
+use wasm_read::{ReadRow, front_name};
 use wasm_shapes::kinds::RowKind;
 
 /// Names with types: the fields of a record, and parameters.
@@ -23,12 +23,6 @@ impl RowKind for NamedValues {
     ghost is_closed = { refl };
 
     ghost rows_sound = { refl };
-}
-
-impl VectorRow for NamedValues {
-    fn most(bytes: usize) -> usize {
-        bytes / 2
-    }
 }
 
 impl<'a> ReadRow<'a> for NamedValues {
@@ -58,12 +52,6 @@ impl RowKind for VariantCases {
     ghost rows_sound = { refl };
 }
 
-impl VectorRow for VariantCases {
-    fn most(bytes: usize) -> usize {
-        bytes / 3
-    }
-}
-
 impl<'a> ReadRow<'a> for VariantCases {
     type Row = VariantCase<'a>;
 
@@ -91,12 +79,6 @@ impl RowKind for ValueTypes {
     ghost rows_sound = { refl };
 }
 
-impl VectorRow for ValueTypes {
-    fn most(bytes: usize) -> usize {
-        bytes
-    }
-}
-
 impl<'a> ReadRow<'a> for ValueTypes {
     type Row = ComponentValType;
 
@@ -122,12 +104,6 @@ impl RowKind for Labels {
     ghost is_closed = { refl };
 
     ghost rows_sound = { refl };
-}
-
-impl VectorRow for Labels {
-    fn most(bytes: usize) -> usize {
-        bytes
-    }
 }
 
 impl<'a> ReadRow<'a> for Labels {
