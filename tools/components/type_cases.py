@@ -110,6 +110,11 @@ def faults():
                    "02 10 01 00", "02 10 01 808080808000 00", "02 10 01 00 ffffffff1f", "00 0161 00 00", "00 0161 0161 05 00", "00 0161 0162 21 00",
                    "03 0161 01 70 08 00", "03 0161 02 10 00", "03 0161 03 7f 04", "03 0161 04 01 00", "03 01ff 00 00", "00 01ff 00 00 00",
                    "03 0161 01 7f 00 00", "03 0161 02 01 00")] + ["01 50 02 03 0161 00 00", "01 50", "01 50 80"])
+    lines += bad(3, "What a module type imports has no compact form, and behind an empty name stands a type as behind any other.",
+                 [f"01 50 01 00 0161 {row}" for row in
+                  ("00 7f 00", "00 7f 01 0162 0000", "00 7e 0000 00", "00 7e 0000 01 0162", "0162 7f 00", "8000 7e 0000 00")])
+    lines += [case([], framed(3, bytes.fromhex(f"01 50 01 00 0161 {row} 0000")), framed(3, bytes.fromhex("01 50 01 00 0161 00 0000")).hex())
+              for row in ("00", "8000")]
     lines.append("# Bytes behind a row of which a front is one: the row before is asked.")
     lines += [nothing(8, asks, framed(number, bytes.fromhex(body))) for number, body, asks in
               ((3, "01 50 00 5f 00", [("push", None), ("pop", None)]), (3, "01 50 00 50 00", [("push", None), ("pop", None)]),

@@ -461,7 +461,20 @@ class Reader:
     # Sections.
 
     def import_(self):
-        return self.name() + self.name() + self.entity()
+        return self.name() + self.item()
+
+    def item(self):
+        return self.name() + self.entity()
+
+    def imports(self):
+        """A row of an import section. Behind an empty name it may be a compact one, told by its first byte: 7f, and names with a type
+        each, or 7e, one type and names."""
+        module, name = self.name(), self.name()
+        kind = self.peek()
+        if name != b"\0" or kind not in (0x7F, 0x7E):
+            return module + name + self.entity()
+        self.byte()
+        return module + name + bytes([kind]) + (self.vec(self.item) if kind == 0x7F else self.entity() + self.vec(self.name))
 
     def table_row(self):
         if self.peek() == 0x40:
@@ -552,7 +565,7 @@ class Reader:
             return self.index(F)
         if kind == 12:
             return self.index("data_count")
-        rows = {1: self.group, 2: self.import_, 3: lambda: self.index(B), 4: self.table_row, 5: self.memory,
+        rows = {1: self.group, 2: self.imports, 3: lambda: self.index(B), 4: self.table_row, 5: self.memory,
                 6: lambda: self.global_() + self.expr(), 7: self.export, 9: self.element, 10: self.body, 11: self.segment, 13: self.tag}
         return self.vec(rows[kind])
 

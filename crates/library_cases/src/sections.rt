@@ -4,9 +4,11 @@ use crate::groups::add_group;
 use crate::stop::Stop;
 use crate::text::{add, add_bytes, add_place, add_refusal, add_word};
 use std::alloc::{AllocError, Global};
+use std::fmt::{Debug, Write};
 use wasm_read::{
-    BodyFrames, Data, DataKind, Element, ElementItems, ElementKind, Export, FunctionBody, Imports,
-    MemoryType, Payload, Payloads, ReadRow, RecGroup, SectionReader, Table, TableInit, TagType,
+    BodyFrames, CompactItems, CompactNames, Data, DataKind, Element, ElementItems, ElementKind,
+    Export, FunctionBody, Import, Imports, MemoryType, Payload, Payloads, ReadRow, RecGroup,
+    SectionReader, SmallEntry, Table, TableInit, TagType, VecItems,
 };
 use wasm_shapes::kinds;
 
@@ -58,57 +60,100 @@ fn payloads(alloc: Global, bytes: &[u8]) -> Result<String, Stop> {
     Ok(text)
 }
 
+/// Adds an import of its own.
+fn add_single(text: &mut String, import: Import<'_>) -> Result<(), AllocError> {
+    write!(text, "Single({import:?}) ")
+}
+
+/// Adds the items that are left of a vector.
+fn add_items<'a, T: SmallEntry<'a> + Debug + Drop>(
+    text: &mut String,
+    items: VecItems<'a, T>,
+) -> Result<(), AllocError> {
+    let mut items = items;
+    'items: for _ in 0..u64::MAX {
+        match items.next() {
+            Some(item) => add(text, &item)?,
+            None => break 'items,
+        }
+    }
+    Ok(())
+}
+
+/// The items of a vector.
+fn items<'a, T: SmallEntry<'a> + Debug + Drop>(
+    alloc: Global,
+    items: VecItems<'a, T>,
+) -> Result<Option<String>, Stop> {
+    let mut text = String::new(alloc);
+    add_items(&mut text, items)?;
+    Ok(Some(text))
+}
+
 /// A row of a section, as text.
 trait AddRow {
     /// Adds the row.
-    fn add_row(&self, alloc: Global, text: &mut String) -> Result<(), AllocError>;
+    fn add_row(self, alloc: Global, text: &mut String) -> Result<(), AllocError>;
 }
 
 impl AddRow for RecGroup {
-    fn add_row(&self, _alloc: Global, text: &mut String) -> Result<(), AllocError> {
-        add_group(text, self)
+    fn add_row(self, _alloc: Global, text: &mut String) -> Result<(), AllocError> {
+        add_group(text, &self)
     }
 }
 
 impl<'a> AddRow for Imports<'a> {
-    fn add_row(&self, _alloc: Global, text: &mut String) -> Result<(), AllocError> {
-        add(text, self)
+    fn add_row(self, _alloc: Global, text: &mut String) -> Result<(), AllocError> {
+        match self {
+            Imports::Single(import) => add_single(text, import),
+            Imports::Compact1 { module, items } => {
+                add_word(text, "items")?;
+                add(text, &module)?;
+                add_items(text, items)
+            }
+            Imports::Compact2 { module, ty, names } => {
+                add_word(text, "names")?;
+                add(text, &module)?;
+                add(text, &ty)?;
+                add_items(text, names)
+            }
+        }
     }
 }
 
 impl AddRow for u32 {
-    fn add_row(&self, _alloc: Global, text: &mut String) -> Result<(), AllocError> {
-        add(text, self)
+    fn add_row(self, _alloc: Global, text: &mut String) -> Result<(), AllocError> {
+        add(text, &self)
     }
 }
 
 impl AddRow for MemoryType {
-    fn add_row(&self, _alloc: Global, text: &mut String) -> Result<(), AllocError> {
-        add(text, self)
+    fn add_row(self, _alloc: Global, text: &mut String) -> Result<(), AllocError> {
+        add(text, &self)
     }
 }
 
 impl<'a> AddRow for Export<'a> {
-    fn add_row(&self, _alloc: Global, text: &mut String) -> Result<(), AllocError> {
-        add(text, self)
+    fn add_row(self, _alloc: Global, text: &mut String) -> Result<(), AllocError> {
+        add(text, &self)
     }
 }
 
 impl<'a> AddRow for FunctionBody<'a> {
-    fn add_row(&self, _alloc: Global, text: &mut String) -> Result<(), AllocError> {
-        add(text, self)
+    fn add_row(self, _alloc: Global, text: &mut String) -> Result<(), AllocError> {
+        add(text, &self)
     }
 }
 
 impl AddRow for TagType {
-    fn add_row(&self, _alloc: Global, text: &mut String) -> Result<(), AllocError> {
-        add(text, self)
+    fn add_row(self, _alloc: Global, text: &mut String) -> Result<(), AllocError> {
+        add(text, &self)
     }
 }
 
 // A table, and what it starts with.
 impl<'a> AddRow for Table<'a> {
-    fn add_row(&self, alloc: Global, text: &mut String) -> Result<(), AllocError> {
+    fn add_row(self, alloc: Global, text: &mut String) -> Result<(), AllocError> {
         add(text, &self.ty)?;
         match &self.init {
             TableInit::RefNull => Ok(()),
@@ -119,7 +164,7 @@ impl<'a> AddRow for Table<'a> {
 
 // A global, and what it starts with.
 impl<'a> AddRow for wasm_read::Global<'a> {
-    fn add_row(&self, alloc: Global, text: &mut String) -> Result<(), AllocError> {
+    fn add_row(self, alloc: Global, text: &mut String) -> Result<(), AllocError> {
         add(text, &self.ty)?;
         add_operators(alloc, text, self.init_expr.get_operators_reader())
     }
@@ -164,7 +209,7 @@ fn add_element_items(
 }
 
 impl<'a> AddRow for Element<'a> {
-    fn add_row(&self, alloc: Global, text: &mut String) -> Result<(), AllocError> {
+    fn add_row(self, alloc: Global, text: &mut String) -> Result<(), AllocError> {
         add_element_kind(alloc, text, &self.kind)?;
         add_element_items(alloc, text, &self.items)
     }
@@ -172,7 +217,7 @@ impl<'a> AddRow for Element<'a> {
 
 // A data segment: where it is placed, and its bytes.
 impl<'a> AddRow for Data<'a> {
-    fn add_row(&self, alloc: Global, text: &mut String) -> Result<(), AllocError> {
+    fn add_row(self, alloc: Global, text: &mut String) -> Result<(), AllocError> {
         match &self.kind {
             DataKind::Active {
                 memory_index,
@@ -230,6 +275,8 @@ pub fn answer(alloc: Global, call: &str, bytes: &[u8]) -> Result<Option<String>,
         "payloads" => Ok(Some(payloads(alloc, bytes)?)),
         "types" => rows::<kinds::Types>(alloc, bytes),
         "imports" => rows::<kinds::Imports>(alloc, bytes),
+        "compact_items" => items(alloc, CompactItems::new(bytes)?),
+        "compact_names" => items(alloc, CompactNames::new(bytes)?),
         "functions" => rows::<kinds::Functions>(alloc, bytes),
         "memories" => rows::<kinds::Memories>(alloc, bytes),
         "exports" => rows::<kinds::Exports>(alloc, bytes),

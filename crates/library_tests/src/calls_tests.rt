@@ -93,6 +93,17 @@ fn is_kept<R: Reencode>(of: &mut R) -> bool {
     kept.name == "x" && kept.contents == [0xffu8].as_slice()
 }
 
+/// Whether of the items of a compact import those are mapped that its reader still has.
+fn is_left<R: Reencode>(of: &mut R, alloc: Global) -> Result<bool, Error<R::Error>> {
+    let mut items = r::CompactItems::new(&[0x02, 0x01, 0x62, 0x00, 0x05, 0x01, 0x63, 0x00, 0x01])?;
+    let taken = items.next();
+    let row = r::Imports::Compact1 { module: "a", items };
+    let mut imports = w::ImportSection::new(alloc);
+    of.parse_imports(alloc, &mut imports, row)?;
+    let left = [0x01u8, 0x61, 0x00, 0x7f, 0x01, 0x01, 0x63, 0x00, 0x0b];
+    Ok(taken.is_some() && imports.as_slice() == left.as_slice())
+}
+
 /// The answers of the hooks by default, which are the indices.
 fn hooked<R: ReencodeIndices>(of: &mut R) -> [u32; 8] {
     [
@@ -134,12 +145,17 @@ struct Answered {
     parts: [bool; 3],
     is_lost: bool,
     is_kept: bool,
+    is_left: bool,
     hooked: [u32; 8],
     added: usize,
 }
 
 /// All of them. To hand a renamer to a function of any reencoder costs its check some twenty seconds, so this is done once.
-fn answers<R: Reencode>(of: &mut R, module: &mut w::Module) -> Result<Answered, Error<R::Error>>
+fn answers<R: Reencode>(
+    of: &mut R,
+    alloc: Global,
+    module: &mut w::Module,
+) -> Result<Answered, Error<R::Error>>
 where
     R::Error: Drop,
 {
@@ -151,6 +167,7 @@ where
         parts: parts(of)?,
         is_lost: is_lost(of),
         is_kept: is_kept(of),
+        is_left: is_left(of, alloc)?,
         hooked: hooked(of),
         added: added(of, module)?,
     })
@@ -176,9 +193,13 @@ fn calls_answer(rt: HostRuntime) -> Result<(), NoMemory> {
         parts: [true; 3],
         is_lost: true,
         is_kept: true,
+        is_left: true,
         hooked: [1, 2, 4, 8, 16, 32, 64, 128],
         added: 0,
     };
-    assert_eq!(rt; answers(&mut renamer, &mut module).ok(), Some(right));
+    assert_eq!(rt;
+        answers(&mut renamer, rt.alloc(), &mut module).ok(),
+        Some(right)
+    );
     Ok(())
 }

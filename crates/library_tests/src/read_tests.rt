@@ -1,6 +1,6 @@
 //! What no bytes spell: operators that are put together, indices inside a group, and a call after the last.
 use wasm_leb::{Fault, List, NoMemory, ReadError};
-use wasm_read::{FunctionSectionReader, Imm, Operator, UnpackedIndex, front_name};
+use wasm_read::{CompactNames, FunctionSectionReader, Imm, Operator, UnpackedIndex, front_name};
 use wasm_shapes::{CALL, I32_ADD, I32_CONST, LOCAL_GET, Opcode, Space};
 
 #[test]
@@ -56,6 +56,16 @@ fn called_again(rt: HostRuntime) -> Result<(), Fault> {
         assert_eq!(rt; rows.next_row(rt.alloc()), answer, "of {body:?}");
         assert_eq!(rt; rows.next_row(rt.alloc()), answer, "of {body:?}");
         assert_eq!(rt; rows.place(), 1, "of {body:?}");
+    }
+    Ok(())
+}
+
+/// Behind the last name of a compact import there is none, however often it is asked.
+#[test]
+fn names_end(rt: HostRuntime) -> Result<(), ReadError> {
+    let mut names = CompactNames::new(&[0x02, 0x01, 0x62, 0x00])?;
+    for name in [Some("b"), Some(""), None, None] {
+        assert_eq!(rt; names.next(), name);
     }
     Ok(())
 }

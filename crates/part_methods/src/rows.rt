@@ -435,14 +435,41 @@ fn group<N: Reencode + Notes>(
     both!(of, parse_recursive_type_group(alloc, group), (alloc, again))
 }
 
-/// An entry of imports.
+/// An entry of imports, which is given twice.
 fn imported<N: Reencode + Notes>(
     of: &mut N,
     alloc: Global,
     row: r::Imports<'_>,
+    again: r::Imports<'_>,
     sink: &mut w::ImportSection,
 ) -> Result<(), Error<N::Error>> {
-    added!(of, parse_imports(alloc, sink, row), (alloc, sink, row))
+    added!(of, parse_imports(alloc, sink, row), (alloc, sink, again))
+}
+
+/// Entries of imports: a single one, and two of one module, with a type each and of one type.
+fn entries<N: Reencode + Notes>(of: &mut N, alloc: Global) -> Result<(), Error<N::Error>> {
+    let mut sink = RowSection::new(alloc);
+    imported(
+        of,
+        alloc,
+        r::Imports::Single(v::IMPORT),
+        r::Imports::Single(v::IMPORT),
+        &mut sink,
+    )?;
+    imported(
+        of,
+        alloc,
+        v::typed_imports()?,
+        v::typed_imports()?,
+        &mut sink,
+    )?;
+    imported(
+        of,
+        alloc,
+        v::named_imports()?,
+        v::named_imports()?,
+        &mut sink,
+    )
 }
 
 /// A table, which is given twice.
@@ -526,12 +553,7 @@ fn imports<N: Reencode + Notes>(
 /// Groups, imports and tables.
 pub fn rows<N: Reencode + Notes>(of: &mut N, alloc: Global) -> Result<(), Error<N::Error>> {
     group(of, alloc, v::group(alloc)?, v::group(alloc)?)?;
-    imported(
-        of,
-        alloc,
-        r::Imports::Single(v::IMPORT),
-        &mut RowSection::new(alloc),
-    )?;
+    entries(of, alloc)?;
     let mut sink = RowSection::new(alloc);
     table(of, alloc, v::table(), v::table(), &mut sink)?;
     table(

@@ -161,6 +161,23 @@ pub const IMPORT: r::Import<'_> = r::Import {
     ty: r::TypeRef::Func(0),
 };
 
+/// Two imports from one module, with a type each.
+pub fn typed_imports<'a>() -> Result<r::Imports<'a>, ReadError> {
+    Ok(r::Imports::Compact1 {
+        module: "a",
+        items: r::CompactItems::new(&[0x02, 0x01, 0x62, 0x00, 0x00, 0x01, 0x63, 0x00, 0x00])?,
+    })
+}
+
+/// Two imports from one module, of one type.
+pub fn named_imports<'a>() -> Result<r::Imports<'a>, ReadError> {
+    Ok(r::Imports::Compact2 {
+        module: "a",
+        ty: r::TypeRef::Func(0),
+        names: r::CompactNames::new(&[0x02, 0x01, 0x62, 0x01, 0x63])?,
+    })
+}
+
 pub const EXPORT: r::Export<'_> = r::Export {
     name: "a",
     kind: r::ExternalKind::Func,

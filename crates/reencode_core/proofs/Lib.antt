@@ -14,6 +14,7 @@ pub mod CoreLoop
 pub mod Fronts
 pub mod Faults
 pub mod WholeBytes
+pub mod CompactRows
 pub mod Completeness
 pub mod OneRow
 pub mod DataRow

@@ -85,7 +85,7 @@ pub trait Reencode: ReencodeItems {
         default_bodies::each_row!(section, alloc, row => self.parse_imports(alloc, imports, row))
     }
 
-    /// Maps an entry of an import section, its type by `entity_type`, and adds it.
+    /// Maps an entry of an import section, each type in it by `entity_type`, and adds it.
     fn parse_imports(
         &mut self,
         alloc: Global,

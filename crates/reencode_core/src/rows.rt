@@ -8,7 +8,7 @@ ghost use Rattle.reencode_core.specs.Elements.{answered_table, asked_table};
 ghost use Rattle.reencode_core.specs.Clauses.{BodyClauses, LocalsClauses, RowClauses, UnknownClauses};
 
 use crate::default_bodies;
-use crate::imports::single;
+use crate::imports::{compact_items, compact_names};
 use crate::item_lists::{ExpressionItems, FunctionItems, map_items};
 use crate::sections::add_section;
 use reencode_hooks::{Error, ReencodeIndices};
@@ -38,25 +38,41 @@ pub fn parse_recursive_type_group<T: ReencodeItems>(
     })
 }
 
-/// Maps an entry of an import section, its type by `entity_type`, and adds it.
+/// Maps an entry of an import section, each type in it by `entity_type`, and adds it.
 pub fn parse_imports<T: ReencodeItems>(
     reencoder: &mut T,
-    _alloc: Global,
+    alloc: Global,
     import_section: &mut w::ImportSection,
     imports: r::Imports<'_>,
 ) -> Result<(), Error<T::Error>>
     ensures { RowClauses T.ReencodeIndices (read.import_tree imports.entry)
         reencoder.old import_section.old reencoder.new import_section.new result }
 {
-    let import = single(imports);
-    let ty = reencoder.entity_type(import.ty)?;
-    let entry = w::Imports::Single(w::Import {
-        module: import.module,
-        name: import.name,
-        ty,
-    });
-    import_section.imports(&entry)?;
-    Ok(())
+    match imports {
+        r::Imports::Single(import) => {
+            let ty = reencoder.entity_type(import.ty)?;
+            let entry = w::Imports::Single(w::Import {
+                module: import.module,
+                name: import.name,
+                ty,
+            });
+            import_section.imports(&entry)?;
+            Ok(())
+        }
+        r::Imports::Compact1 { module, items } => {
+            let items = compact_items(reencoder, alloc, items)?;
+            let entry = w::Imports::Compact1 { module, items };
+            import_section.imports(&entry)?;
+            Ok(())
+        }
+        r::Imports::Compact2 { module, ty, names } => {
+            let ty = reencoder.entity_type(ty)?;
+            let names = compact_names(alloc, names)?;
+            let entry = w::Imports::Compact2 { module, ty, names };
+            import_section.imports(&entry)?;
+            Ok(())
+        }
+    }
 }
 
 /// Maps a table by `table_type`, and the expression of its first value by `const_expr` where it has one, and adds it.

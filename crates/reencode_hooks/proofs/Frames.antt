@@ -106,8 +106,8 @@ unframed_is (Is.aimed {w = w} {a = a} {r = r} {b = b} {o = o} {t = t} d d') k =
     let e = bare_back o t (unframed_is d p.0) (unframed_is d' (listing_unframed w r b q.0 q.1)) in leaf_bare e.0 e.1
 unframed_is (Is.placed {a = a} {b = b} {o = o} {t = t} d d') k =
     let p = both (unframed a) (unframed b) k in let e = bare_two o t (unframed_is d p.0) (unframed_is d' p.1) in leaf_bare e.0 e.1
-unframed_is (Is.named d) k = let e = unframed_is d k in leaf_bare e.none e.closes
-unframed_is (Is.other o) k = leaf_bare refl refl
+unframed_is (Is.named {a = a} {b = b} d) k = let e = unframed_is d (both (unframed a) (unframed b) k).0 in leaf_bare e.none e.closes
+unframed_is (Is.other {a = a} {b = b} o d) k = let e = unframed_is d (both (unframed a) (unframed b) k).1 in leaf_bare e.none e.closes
 unframed_is (Is.led d) k = let e = unframed_is d k in leaf_bare e.none e.closes
 unframed_is (Is.not_led o) k = leaf_bare refl refl
 unframed_is (Is.told d) k = let e = unframed_is d k in leaf_bare e.none e.closes
@@ -171,8 +171,8 @@ in_order_is (Is.left d d' d'') k = level_of_bare (unframed_is (Is.left d d' d'')
 in_order_is (Is.aimed d d') k = level_of_bare (unframed_is (Is.aimed d d') k)
 in_order_is (Is.placed {a = a} {b = b} {o = o} {t = t} d d') k =
     let p = both (in_order a) (in_order b) k in level (level_two o t (in_order_is d p.0) (in_order_is d' p.1))
-in_order_is (Is.named d) k = level (in_order_is d k).is
-in_order_is (Is.other o) k = level refl
+in_order_is (Is.named {a = a} {b = b} d) k = level (in_order_is d (both (in_order a) (in_order b) k).0).is
+in_order_is (Is.other {a = a} {b = b} o d) k = level (in_order_is d (both (in_order a) (in_order b) k).1).is
 in_order_is (Is.led d) k = level (in_order_is d k).is
 in_order_is (Is.not_led o) k = level refl
 in_order_is (Is.told d) k = level (in_order_is d k).is

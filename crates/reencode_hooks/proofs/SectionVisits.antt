@@ -31,7 +31,7 @@ sectionless (Shape.final a b) = sectionless a && sectionless b
 sectionless (Shape.until b a) = sectionless a
 sectionless (Shape.active w a r b) = sectionless a && (sectionless r && sectionless b)
 sectionless (Shape.placed a b) = sectionless a && sectionless b
-sectionless (Shape.by_name n a) = sectionless a
+sectionless (Shape.by_name n a b) = sectionless a && sectionless b
 sectionless (Shape.begun fs a) = sectionless a
 sectionless (Shape.told k a) = sectionless a
 sectionless (Shape.sections a) = false
@@ -88,7 +88,8 @@ none_within (Is.aimed {w = w} {a = a} {r = r} {b = b} {i = i} {o = o} {t = t} d 
     none_of_both (visits t) (Index space.Table i ∷ visits o) (none_within e (listing_sectionless w r b p.1)) (none_within d p.0)
 none_within (Is.placed {a = a} {b = b} {o = o} {t = t} d e) h =
     let p = both (sectionless a) (sectionless b) h in none_of_both (visits o) (visits t) (none_within d p.0) (none_within e p.1)
-none_within (Is.named d) h = none_within d h
+none_within (Is.named {a = a} {b = b} d) h = none_within d (both (sectionless a) (sectionless b) h).0
+none_within (Is.other {a = a} {b = b} o d) h = none_within d (both (sectionless a) (sectionless b) h).1
 none_within (Is.led d) h = none_within d h
 none_within (Is.told d) h = none_within d h
 none_within Is.finish h = absurd cc

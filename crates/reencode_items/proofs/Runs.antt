@@ -6,7 +6,8 @@ use Rattle.wasm_shapes.specs.Spells.{Is}
 use Rattle.wasm_shapes.proofs.Rows.{rows_then-append}
 use Rattle.wasm_read.proofs.Codes.{fewer_left}
 use Rattle.wasm_write.specs.Bodies.{AreOperators, HasOperators}
-use Rattle.wasm_write.proofs.Holding.{snoc_is, snoc_normal, snoc_spelled}
+use Rattle.wasm_shapes.proofs.Rows.{snoc_is, snoc_spelled}
+use Rattle.wasm_write.proofs.Holding.{snoc_normal}
 use Rattle.reencode_hooks.specs.declared.error.Error.{Error}
 use Rattle.reencode_hooks.specs.Run.{Step, accepted, and_then}
 use Rattle.reencode_hooks.specs.Walk.{walk}

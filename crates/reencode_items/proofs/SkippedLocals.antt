@@ -8,7 +8,8 @@ use Rattle.wasm_shapes.specs.Shape.{Shape}
 use Rattle.wasm_shapes.specs.Spells.{Is, Spelled}
 use Rattle.wasm_shapes.specs.Tree.{Tree, count, normal}
 use Rattle.wasm_shapes.specs.Types.{rows_tree}
-use Rattle.wasm_write.proofs.Holding.{count_rows, snoc_is, snoc_length, snoc_normal, snoc_spelled}
+use Rattle.wasm_shapes.proofs.Rows.{snoc_is, snoc_spelled}
+use Rattle.wasm_write.proofs.Holding.{count_rows, snoc_length, snoc_normal}
 use Rattle.reencode_items.specs.Direct.{IsUnasked, SkipsLeaf, SkipsLocals}
 use Rattle.reencode_items.proofs.Passing.{number_is}
 

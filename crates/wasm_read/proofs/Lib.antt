@@ -8,6 +8,7 @@ pub mod Items
 pub mod OfKinds
 pub mod Placed
 pub mod RowsBeside
+pub mod VectorItems
 pub mod Vectors
 pub mod Missing
 pub mod HeapTypes

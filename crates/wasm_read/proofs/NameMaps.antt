@@ -13,9 +13,8 @@ use Rattle.wasm_shapes.specs.Rows.{RowsLeft}
 use Rattle.wasm_shapes.specs.Types.{rows_tree, vector_tree, listed, listed_rows}
 use Rattle.wasm_shapes.specs.Module.{plain_naming}
 use Rattle.wasm_shapes.specs.Namings.{Entry, Outer, plain_indirect, entry_tree, entries_trees, outer_tree, outers_trees, asked_in}
-use Rattle.wasm_shapes.proofs.Unique.{unique}
 use Rattle.wasm_shapes.proofs.Begins.{begins_u32, begins_seq}
-use Rattle.wasm_shapes.proofs.Rows.{rows_end, rows_cons, rows_first, no_rows_behind, vec_spelled}
+use Rattle.wasm_shapes.proofs.Rows.{rows_end, rows_cons, rows_first, rows_one, no_rows_behind, vec_spelled}
 use Rattle.wasm_read.proofs.DataSegments.{one_number}
 use Rattle.wasm_read.proofs.Missing.{row_missing}
 use Rattle.wasm_read.proofs.Placed.{takes_bytes}
@@ -74,23 +73,10 @@ left_ended {row = row} {all = all} r w = let rows = left_at 0 [] r.due w in go a
     go all (Is.cons {u = u} d d') e = let some : suc (count u) ≡ 0 = e in absurd (omega arith)
 
 -- a map has one list of entries
-rows_one : {row : Shape} {t u : Tree} (bytes : List ℕ) → sound row ≡ true → closed row ≡ true → Is (Shape.many row) t → Is (Shape.many row) u → count t ≡ count u →
-    Spelled t bytes → Spelled u bytes → t ≡ u
-rows_one bytes k h Is.nil Is.nil e p q = refl
-rows_one bytes k h Is.nil (Is.cons {u = u} d d') e p q = let some : 0 ≡ suc (count u) = e in absurd (omega arith)
-rows_one bytes k h (Is.cons {u = u} d d') Is.nil e p q = let some : suc (count u) ≡ 0 = e in absurd (omega arith)
-rows_one bytes k h (Is.cons {t = t} {u = u} d d') (Is.cons {t = t'} {u = u'} f f') e p q =
-    let both_ways : p.0 ++ p.1 ≡ q.0 ++ q.1 = sym p.2 ∙ q.2 in
-    let same : (p.0 ≡ q.0) × (t ≡ t') = unique d f p.0 q.0 p.1 q.1 k (inl h) p.3 q.3 both_ways in
-    let behind : p.1 ≡ q.1 = append_cancel_left q.0 p.1 q.1 (ap (λ (z : List ℕ). z ++ p.1) (sym same.0) ∙ both_ways) in
-    let S : List ℕ → Type 0 = λ z. Spelled u z in
-    let fewer : count u ≡ count u' = omega arith in
-    ap₂ Tree.cons same.1 (rows_one q.1 k h d' f' fewer (subst S behind p.4) q.4)
-
 pub left_one : {row : Shape} {m : MapStanding} {t u : Tree} → sound row ≡ true → closed row ≡ true → EntriesLeft row m t → EntriesLeft row m u → t ≡ u
 left_one k h w v =
     let r = left_at v.count v.bytes v.due w in
-    rows_one v.bytes k h r.shaped v.rows_left.shaped (r.counted ∙ sym v.rows_left.counted) r.spelled v.rows_left.spelled
+    rows_one k h r v.rows_left
 
 -- a step takes bytes
 due_within : (rest : List ℕ) (left : Option ℕ) (n : ℕ) (b : List ℕ) → DueFrom rest left n b → length b < length rest + 1

@@ -1,12 +1,13 @@
 -- The trees that the types and rows of a core module stand for, as they are read (WebAssembly Core Specification 3.0,
 -- section 5.3). An index inside a recursion group stands for a leaf that no shape has.
-use Rattle.std.specs.Prelude.{◌≡◌, ℕ, Bool, List, ◌∷◌, map, Option, Some, None}
+use Rattle.std.specs.Prelude.{◌≡◌, ℕ, Bool, List, [], ◌∷◌, map, Option, Some, None}
 use Rattle.std.specs.Option.{option_map}
 use Rattle.wasm_shapes.specs.declared.Space.TheVariants as space
 use Rattle.wasm_shapes.specs.Tree.{Tree}
 use Rattle.wasm_shapes.specs.Shape.{Shape}
 use Rattle.wasm_shapes.specs.Place.{Begins}
-use Rattle.wasm_shapes.specs.Types.{behind_descriptor, behind_described, sub_type_of, group_of, table_of, memory_of, global_of, null_table_of, table_with_init_of, global_with_init_of, import_of, item_of, Items, items_of, passive_of, declared_of, active_of, active_data_of, passive_data_tree}
+use Rattle.wasm_shapes.specs.Module.{unnamed}
+use Rattle.wasm_shapes.specs.Types.{behind_descriptor, behind_described, sub_type_of, group_of, table_of, memory_of, global_of, null_table_of, table_with_init_of, global_with_init_of, import_of, item_import_of, compact_items_of, compact_names_of, item_of, Items, items_of, passive_of, declared_of, active_of, active_data_of, passive_data_tree}
 pub use Rattle.wasm_shapes.specs.Types.{no_reading, led, vector_tree, shared_tree, mutable_of, shared_composite_tree, flag, limits_flags, bounds_tree, paged_tree, limits_tree, global_flags, function_tree}
 use Rattle.wasm_types.specs.declared.types.FieldType as field_type
 use Rattle.wasm_types.specs.declared.types.FuncType as func_type
@@ -35,6 +36,7 @@ use Rattle.wasm_read.specs.declared.types.MemoryType.{MemoryType}
 use Rattle.wasm_read.specs.declared.types.GlobalType.{GlobalType}
 use Rattle.wasm_read.specs.declared.types.TypeRef.{TypeRef}
 use Rattle.wasm_read.specs.declared.types.TypeRef.TheVariants as entity
+use Rattle.wasm_read.specs.declared.types.ImportCompact.{ImportCompact}
 use Rattle.wasm_read.specs.declared.types.Imports.{Imports}
 use Rattle.wasm_read.specs.declared.types.Imports.TheVariants as imported
 use Rattle.wasm_read.specs.declared.types.Table.{Table}
@@ -204,9 +206,21 @@ entity_tree (entity.Tag ty) = Tree.row 4 (led 0x04 (tag_type_tree ty))
 
 -- ---- rows
 
--- a module's name, a name in it, and the type of what is imported
+-- a name in a module that is known, and the type of what is imported under it
+abbrev pub compact_tree : ImportCompact → Tree
+compact_tree item = item_import_of item.name.now (entity_tree item.ty)
+
+-- a module's name, a name in it, and the type of what is imported; or a compact row
 abbrev pub import_tree : Imports → Tree
 import_tree (imported.Single row) = import_of row.module.now row.name.now (entity_tree row.ty)
+import_tree (imported.Compact1 «module» items) = compact_items_of «module».now items
+import_tree (imported.Compact2 «module» ty names) = compact_names_of «module».now (entity_tree ty) names
+
+-- behind an empty name the bytes begin with what makes this an import from the module
+pub record IsUnnamed (from bytes : List ℕ) (t : Tree) (left : List ℕ) : Type 0 where
+  pub what : Tree
+  pub whole : t ≡ import_of from [] what
+  pub begins : Begins unnamed bytes what left
 
 -- a table that starts with null references, or with the value of an expression
 abbrev pub table_parts : TableInit → TableType → Tree

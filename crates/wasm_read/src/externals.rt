@@ -1,11 +1,12 @@
 //! The types of what is imported, at the front of some bytes, and at a place of some bytes.
-ghost use Rattle.std.specs.Prelude.{◌≡◌, ◌<◌, ◌≤◌, length, drop, IfOk, IfErr, IfSome, IfNone, Bool};
+ghost use Rattle.std.specs.Prelude.{◌≡◌, ◌<◌, ◌≤◌, length, drop, IfOk, IfErr, IfSome, IfNone, Bool, []};
 ghost use Rattle.std.specs.Option.{is_some};
-ghost use Rattle.wasm_shapes.specs.Module.{global_row, import_row, table_row};
+ghost use Rattle.wasm_shapes.specs.Module.{global_row, import_row, unnamed, table_row};
 ghost use Rattle.wasm_shapes.specs.Place.{Begins, BeginsNone};
 ghost use Rattle.wasm_shapes.specs.Shape.{Shape, bounds, paged, table_type, memory_type, global_type, tag_type, entity};
-ghost use Rattle.wasm_read.specs.Types.{limits_flags, bounds_tree, paged_tree, table_type_tree, memory_type_tree, global_type_tree, tag_type_tree, entity_tree, table_tree, global_tree, import_tree};
+ghost use Rattle.wasm_read.specs.Types.{limits_flags, bounds_tree, paged_tree, table_type_tree, memory_type_tree, global_type_tree, tag_type_tree, entity_tree, table_tree, global_tree, import_tree, IsUnnamed};
 
+use crate::compact::{CompactItems, CompactNames};
 use crate::expressions::front_expr;
 use crate::fields::{from_place, front_name};
 use crate::types::{
@@ -294,6 +295,38 @@ pub fn read_type_ref(bytes: &[u8], at: usize) -> Result<(TypeRef, usize), ReadEr
     }
 }
 
+/// What is imported from a module behind an empty name, at the front of some bytes, and the bytes behind it.
+fn front_unnamed<'a>(module: &'a str, bytes: &'a [u8]) -> Option<(Imports<'a>, &'a [u8])>
+    ensures some { IfSome result (λ r. IsUnnamed «module».now bytes.now (import_tree r.0) r.1.now) }
+    ensures none { IfNone result (BeginsNone unnamed bytes.now) }
+{
+    let Some((form, rest)) = front_byte(bytes) else {
+        return None;
+    };
+    match form {
+        0x7f => match CompactItems::front(rest) {
+            Some((items, rest)) => Some((Imports::Compact1 { module, items }, rest)),
+            None => None,
+        },
+        0x7e => {
+            let Some((ty, rest)) = front_type_ref(rest) else {
+                return None;
+            };
+            match CompactNames::front(rest) {
+                Some((names, rest)) => Some((Imports::Compact2 { module, ty, names }, rest)),
+                None => None,
+            }
+        }
+        _ => match front_type_ref(bytes) {
+            Some((ty, rest)) => {
+                let name = "";
+                Some((Imports::Single(Import { module, name, ty }), rest))
+            }
+            None => None,
+        },
+    }
+}
+
 /// The import at the front of some bytes, and the bytes behind it.
 pub fn front_import(bytes: &[u8]) -> Option<(Imports<'_>, &[u8])>
     ensures some { IfSome result (λ r. Begins import_row bytes.now (import_tree r.0) r.1.now) }
@@ -305,6 +338,12 @@ pub fn front_import(bytes: &[u8]) -> Option<(Imports<'_>, &[u8])>
     let Some((name, rest)) = front_name(rest) else {
         return None;
     };
+    if name.is_empty() {
+        return match front_unnamed(module, rest) {
+            Some((imports, rest)) => Some((imports, rest)),
+            None => None,
+        };
+    }
     match front_type_ref(rest) {
         Some((ty, rest)) => Some((Imports::Single(Import { module, name, ty }), rest)),
         None => None,

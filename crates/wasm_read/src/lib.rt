@@ -2,6 +2,7 @@
 #![tactic(auto)]
 
 mod code;
+mod compact;
 mod data_segments;
 mod elements;
 mod expressions;
@@ -20,6 +21,7 @@ mod types;
 mod value_types;
 mod vector_items;
 
+pub use compact::{CompactItems, CompactNames, VecItems};
 pub use expressions::ConstExpr;
 pub use externals::{front_type_ref, read_type_ref};
 pub use fields::{front_export, front_name, read_item, read_name};
@@ -39,9 +41,9 @@ pub use types::{
     AbstractHeapType, ArrayType, BlockType, Catch, CompositeInnerType, CompositeType, ContType,
     CustomSection, Data, DataKind, Element, ElementItems, ElementKind, Export, ExternalKind,
     FieldType, FuncType, FunctionBody, Global, GlobalType, Handle, HeapType, Ieee32, Ieee64, Imm,
-    Import, Imports, IndirectNaming, MemArg, MemoryType, Name, Naming, Ordering, Payload, RecGroup,
-    RefType, StorageType, StructType, SubType, Table, TableInit, TableType, TagKind, TagType,
-    TypeRef, UnpackedIndex, ValType,
+    Import, ImportCompact, Imports, IndirectNaming, MemArg, MemoryType, Name, Naming, Ordering,
+    Payload, RecGroup, RefType, StorageType, StructType, SubType, Table, TableInit, TableType,
+    TagKind, TagType, TypeRef, UnpackedIndex, ValType,
 };
 pub use value_types::{front_val_type, read_val_type};
-pub use vector_items::{behind_rows, front_rows};
+pub use vector_items::{Entry, SmallEntry, behind_rows, front_rows};

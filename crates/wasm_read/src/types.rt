@@ -1,6 +1,7 @@
 //! The types, rows and immediates of a core module, as they are read.
 ghost use Rattle.std.specs.Prelude.{◌≡◌, length, false};
 
+use crate::compact::{CompactItems, CompactNames};
 use crate::expressions::ConstExpr;
 use crate::names::{IndirectNameMap, NameMap};
 use wasm_leb::List;
@@ -146,10 +147,27 @@ pub enum ExternalKind {
     Tag,
 }
 
-/// An entry of an import section (section 5.5.5).
-#[derive(Clone, Copy, PartialEq, Debug)]
+/// An entry of an import section (section 5.5.5): an import, or imports from one module, with a type each or of one type. It
+/// is one row, and an import for each item or name.
+#[derive(Drop)]
 pub enum Imports<'a> {
     Single(Import<'a>),
+    Compact1 {
+        module: &'a str,
+        items: CompactItems<'a>,
+    },
+    Compact2 {
+        module: &'a str,
+        ty: TypeRef,
+        names: CompactNames<'a>,
+    },
+}
+
+/// What is imported from a module that is known: its name and its type.
+#[derive(Clone, Copy, PartialEq, Debug)]
+pub struct ImportCompact<'a> {
+    pub name: &'a str,
+    pub ty: TypeRef,
 }
 
 /// What is imported: its module, its name and its type (section 5.5.5).

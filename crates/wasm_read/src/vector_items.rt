@@ -7,6 +7,7 @@ ghost use Rattle.wasm_shapes.specs.Sound.{sound};
 ghost use Rattle.wasm_shapes.specs.Tree.{Tree};
 ghost use Rattle.wasm_shapes.specs.Types.{vector_tree, tagged_label, tagged_label_tree, catch_row, handle_row};
 ghost use Rattle.wasm_read.specs.Types.{val_type_tree, field_type_tree};
+ghost use Rattle.wasm_read.specs.VectorItems.{Passed, Stuck};
 ghost use Rattle.wasm_read.specs.VectorRows.{VectorBeside, items_closed, items_sound};
 ghost use Rattle.wasm_read.specs.Immediates.{local_tree, catch_tree, handle_tree};
 
@@ -399,14 +400,16 @@ pub fn front_vec<'a, T: ReadEntry<'a> + Drop>(
     front_rows::<Entries<T>>(alloc, bytes)
 }
 
-/// The bytes behind the vector of entries at the front of some bytes. It takes no memory.
-pub fn behind_vec<'a, T: SmallEntry<'a> + Drop>(bytes: &'a [u8]) -> Option<&'a [u8]>
-    ensures some { IfSome result (λ r.
-        (t : Tree) × Begins (Shape.vec T.shape) bytes.now t r.now) }
-    ensures none { IfNone result (BeginsNone (Shape.vec T.shape) bytes.now) }
+/// Passes by the vector of entries at the front of some bytes: their number, the bytes where they begin, and those behind
+/// them; or else the bytes where no number or no entry begins. It takes no memory.
+pub fn pass_vec<'a, T: SmallEntry<'a> + Drop>(
+    bytes: &'a [u8],
+) -> Result<(u32, &'a [u8], &'a [u8]), &'a [u8]>
+    ensures ok { IfOk result (λ r. Passed T.shape bytes.now r.0 r.1.now r.2.now) }
+    ensures err { IfErr result (λ stuck. Stuck T.shape bytes.now stuck.now) }
 {
     let Some((count, start)) = front_u32(bytes) else {
-        return None;
+        return Err(bytes);
     };
     let mut rest = start;
     let mut left = count;
@@ -416,8 +419,20 @@ pub fn behind_vec<'a, T: SmallEntry<'a> + Drop>(bytes: &'a [u8]) -> Option<&'a [
                 rest = behind;
                 left -= 1;
             }
-            None => return None,
+            None => return Err(rest),
         }
     }
-    Some(rest)
+    Ok((count, start, rest))
+}
+
+/// The bytes behind the vector of entries at the front of some bytes. It takes no memory.
+pub fn behind_vec<'a, T: SmallEntry<'a> + Drop>(bytes: &'a [u8]) -> Option<&'a [u8]>
+    ensures some { IfSome result (λ r.
+        (t : Tree) × Begins (Shape.vec T.shape) bytes.now t r.now) }
+    ensures none { IfNone result (BeginsNone (Shape.vec T.shape) bytes.now) }
+{
+    match pass_vec::<T>(bytes) {
+        Ok((_, _, rest)) => Some(rest),
+        Err(_) => None,
+    }
 }

@@ -36,7 +36,7 @@ of_custom u x (Is.named {t = v} d) p =
         spelled = (p.0, p.1, p.2, p.3, (p.4.0, p.4.1, p.4.2, p.4.3, (q.0, q.1, q.2, q.3, refl)));
       };
     }
-of_custom u x (Is.other {bs = name} {r = r} other) p = record {
+of_custom u x (Is.other {bs = name} other (Is.rest {bs = r})) p = record {
   frame = custom_frame name r;
   is = InComponentFrame.of_custom name r (Tree.raw r) (inr (other, refl));
   spells = record { shaped = Is.first (Is.seq Is.fixed (Is.sized (Is.seq Is.name Is.rest))); spelled = p };
@@ -107,7 +107,7 @@ custom_is {name = name} {contents = contents} {x = x} {u = u} (inl r) p =
     }
 custom_is {name = name} {contents = contents} {x = x} (inr r) p =
     let P : Tree → Type 0 = λ z. Spells component_custom x (Tree.pair (Tree.name name) z) in
-    subst P (sym r.1) (record { shaped = Is.other r.0; spelled = p })
+    subst P (sym r.1) (record { shaped = Is.other r.0 Is.rest; spelled = p })
 
 pub of_component_frame : {t f : Tree} {x : List ℕ} → InComponentFrame t f → Spells frame x f → Spells component_section x t
 of_component_frame {x = x} (InComponentFrame.of_id id u body low high r) p =

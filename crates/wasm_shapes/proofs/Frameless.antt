@@ -26,7 +26,7 @@ frameless (Shape.final a b) = frameless a && frameless b
 frameless (Shape.until b a) = frameless a
 frameless (Shape.active w a r b) = frameless a && (frameless r && frameless b)
 frameless (Shape.placed a b) = frameless a && frameless b
-frameless (Shape.by_name n a) = frameless a
+frameless (Shape.by_name n a b) = frameless a && frameless b
 frameless (Shape.begun fs a) = frameless a
 frameless (Shape.told k a) = frameless a
 frameless (Shape.sections a) = frameless a
@@ -79,7 +79,8 @@ no_frames (Is.aimed {w = w} {a = a} {r = r} {b = b} d e) h =
     let p = both (frameless a) (frameless r && frameless b) h in
     none_of_both (no_frames d p.0) (no_frames e (listing_frameless w r b p.1))
 no_frames (Is.placed {a = a} {b = b} d e) h = let p = both (frameless a) (frameless b) h in none_of_both (no_frames d p.0) (no_frames e p.1)
-no_frames (Is.named d) h = no_frames d h
+no_frames (Is.named {a = a} {b = b} d) h = no_frames d (both (frameless a) (frameless b) h).0
+no_frames (Is.other {a = a} {b = b} o d) h = no_frames d (both (frameless a) (frameless b) h).1
 no_frames (Is.led d) h = no_frames d h
 no_frames (Is.told d) h = no_frames d h
 no_frames (Is.also d e) h = none_of_both (no_frames d h) (no_frames e h)

@@ -122,7 +122,7 @@ nullable_sound (Is.placed {i = i} d d') x p e = absurd (place_fills i p.0 p.4 (n
 nullable_sound (Is.named d) x p e =
     let none : (p.0 ≡ []) × (p.1 ≡ []) = no_bytes p.0 p.1 (sym p.2 ∙ e) in
     absurd (leb_fills 128 p.3.0 _ p.3.2.spelled (no_bytes p.3.0 _ (sym p.3.1 ∙ none.0)).0)
-nullable_sound (Is.other o) x p e =
+nullable_sound (Is.other o d) x p e =
     let none : (p.0 ≡ []) × (p.1 ≡ []) = no_bytes p.0 p.1 (sym p.2 ∙ e) in
     absurd (leb_fills 128 p.3.0 _ p.3.2.spelled (no_bytes p.3.0 _ (sym p.3.1 ∙ none.0)).0)
 nullable_sound (Is.led d) x p e = refl
@@ -296,7 +296,7 @@ front_sound (Is.placed {i = i} d d') deep x b r p e =
       | inr h ↦ place_front i p.0 b h.0 p.4 h.1
     ]
 front_sound (Is.named d) deep x b r p e = named_front x p.0 p.1 p.3.0 _ _ b r p.2 p.3.1 p.3.2.spelled e
-front_sound (Is.other o) deep x b r p e = named_front x p.0 p.1 p.3.0 _ _ b r p.2 p.3.1 p.3.2.spelled e
+front_sound (Is.other o d) deep x b r p e = named_front x p.0 p.1 p.3.0 _ _ b r p.2 p.3.1 p.3.2.spelled e
 front_sound (Is.led d) deep x b r p e = refl
 front_sound (Is.not_led o) deep x b r p e = refl
 front_sound (Is.told d) deep x b r p e = front_sound d deep x b r p e

@@ -22,6 +22,7 @@ pub mod Parts
 pub mod ReadBack
 pub mod Rows
 pub mod Scopes
+pub mod SingleImports
 pub mod TableRows
 pub mod Unique
 pub mod Unscoped

@@ -5,6 +5,8 @@ use Rattle.wasm_shapes.specs.Shape.{Shape, Named, choice, rows_and, lead}
 use Rattle.wasm_shapes.specs.NamedShapes.{shape_of}
 use Rattle.wasm_shapes.specs.Spells.{Is, Spelled}
 use Rattle.wasm_shapes.specs.Place.{Begins, BeginsNone}
+use Rattle.wasm_shapes.proofs.Unique.{unique}
+use Rattle.wasm_shapes.proofs.Begins.{begins_seq, none_seq_first, none_seq_second}
 
 -- ---- parts in the other order
 
@@ -30,6 +32,56 @@ begins_alike {b = b} e = record { text = b ∷ []; spells = record { shaped = Is
 
 pub begins_alike_other : {b c : ℕ} {bytes left : List ℕ} → bytes ≡ c ∷ left → Begins (Shape.alike b c) bytes (Tree.alike b c) left
 begins_alike_other {c = c} e = record { text = c ∷ []; spells = record { shaped = Is.alike; spelled = inr refl }; reads = e }
+
+-- ---- a name that says what stands behind it
+
+pub begins_this_name : {n bytes middle left : List ℕ} {a b : Shape} {t : Tree} → Begins Shape.name bytes (Tree.name n) middle → Begins a middle t left →
+    Begins (Shape.by_name n a b) bytes (Tree.pair (Tree.name n) t) left
+begins_this_name {n = n} {a = a} p q = let r = begins_seq {a = Shape.name} {b = a} p q in record {
+  text = r.text;
+  spells = record { shaped = Is.named q.spells.shaped; spelled = r.spells.spelled };
+  reads = r.reads;
+}
+
+pub begins_other_name : {n bs bytes middle left : List ℕ} {a b : Shape} {t : Tree} → bs ≢ n → Begins Shape.name bytes (Tree.name bs) middle → Begins b middle t left →
+    Begins (Shape.by_name n a b) bytes (Tree.pair (Tree.name bs) t) left
+begins_other_name {b = b} o p q = let r = begins_seq {a = Shape.name} {b = b} p q in record {
+  text = r.text;
+  spells = record { shaped = Is.other o q.spells.shaped; spelled = r.spells.spelled };
+  reads = r.reads;
+}
+
+-- no name, or nothing behind the one that is there
+pub none_without_name : {n bytes : List ℕ} {a b : Shape} → BeginsNone Shape.name bytes → BeginsNone (Shape.by_name n a b) bytes
+none_without_name {n = n} {bytes = bytes} {a = a} {b = b} none = record { none = λ text left tree p e. go text left tree p.shaped p.spelled e }
+  where
+    go : (text left : List ℕ) (tree : Tree) → Is (Shape.by_name n a b) tree → Spelled tree text → bytes ≡ text ++ left → ⊥
+    go text left tree (Is.named {t = t} d) p e = (none_seq_first {b = a} none).none text left tree (record { shaped = Is.seq Is.name d; spelled = p }) e
+    go text left tree (Is.other {t = t} o d) p e = (none_seq_first {b = b} none).none text left tree (record { shaped = Is.seq Is.name d; spelled = p }) e
+
+-- the name that is there
+name_there : {bs cs bytes middle text : List ℕ} (left : List ℕ) (t : Tree) → Begins Shape.name bytes (Tree.name bs) middle → Spelled (Tree.pair (Tree.name cs) t) text → bytes ≡ text ++ left →
+    bs ≡ cs
+name_there {bs = bs} {cs = cs} {bytes = bytes} {middle = middle} left t there p e =
+    let parts : bytes ≡ p.0 ++ (p.1 ++ left) = e ∙ ap (λ (z : List ℕ). z ++ left) p.2 ∙ append_assoc p.0 p.1 left in
+    let same : _ × (Tree.name bs ≡ Tree.name cs) =
+    unique there.spells.shaped Is.name there.text p.0 middle (p.1 ++ left) refl (inl refl) there.spells.spelled p.3 (sym there.reads ∙ parts) in
+    let names : Tree.name bs ≡ Tree.name cs = same.1 in
+    cc
+
+pub none_behind_this : {n bytes middle : List ℕ} {a b : Shape} → Begins Shape.name bytes (Tree.name n) middle → BeginsNone a middle → BeginsNone (Shape.by_name n a b) bytes
+none_behind_this {n = n} {bytes = bytes} {a = a} {b = b} there none = record { none = λ text left tree p e. go text left tree p.shaped p.spelled e }
+  where
+    go : (text left : List ℕ) (tree : Tree) → Is (Shape.by_name n a b) tree → Spelled tree text → bytes ≡ text ++ left → ⊥
+    go text left tree (Is.named d) p e = (none_seq_second {b = a} refl refl there none).none text left tree (record { shaped = Is.seq Is.name d; spelled = p }) e
+    go text left tree (Is.other {t = t} o d) p e = o (sym (name_there left t there p e))
+
+pub none_behind_other : {n bs bytes middle : List ℕ} {a b : Shape} → bs ≢ n → Begins Shape.name bytes (Tree.name bs) middle → BeginsNone b middle → BeginsNone (Shape.by_name n a b) bytes
+none_behind_other {n = n} {bytes = bytes} {a = a} {b = b} other there none = record { none = λ text left tree p e. go text left tree p.shaped p.spelled e }
+  where
+    go : (text left : List ℕ) (tree : Tree) → Is (Shape.by_name n a b) tree → Spelled tree text → bytes ≡ text ++ left → ⊥
+    go text left tree (Is.named {t = t} d) p e = other (name_there left t there p e)
+    go text left tree (Is.other o d) p e = (none_seq_second {b = b} refl refl there none).none text left tree (record { shaped = Is.seq Is.name d; spelled = p }) e
 
 -- ---- rows among others
 

@@ -353,7 +353,7 @@ fill_is (Is.left {w = w} {r = r} {b = b} {t = t} d d' d'') answers =
 fill_is (Is.aimed {t = t} d d') answers = Is.aimed (fill_is d (drop 1 (after t answers))) (fill_is d' answers)
 fill_is (Is.placed {o = o} d d') answers = Is.placed (fill_is d (drop 1 answers)) (fill_is d' (after o (drop 1 answers)))
 fill_is (Is.named {n = n} d) answers = Is.named (fill_is d (after (Tree.name n) answers))
-fill_is (Is.other o) answers = Is.other o
+fill_is (Is.other {bs = bs} o d) answers = Is.other o (fill_is d (after (Tree.name bs) answers))
 fill_is (Is.led d) answers = Is.led (fill_is d answers)
 fill_is (Is.not_led o) answers = Is.not_led o
 fill_is (Is.told d) answers = Is.told (fill_is d answers)

@@ -1,5 +1,5 @@
 -- Reading rows one by one.
-use Rattle.std.proofs.Common.{◌≡◌, ℕ, suc, List, [], ◌∷◌, ◌++◌, true, refl, sym, ap, ◌∙◌, arith, inl, ◌≢◌, subst}
+use Rattle.std.proofs.Common.{◌≡◌, ℕ, suc, List, [], ◌∷◌, ◌++◌, true, refl, sym, ap, ap₂, ◌∙◌, append-nil, append_assoc, arith, inl, ◌≢◌, subst}
 use Rattle.std.proofs.lemmas.List.{append_cancel_left}
 use Rattle.wasm_shapes.specs.Tree.{Tree, count}
 use Rattle.wasm_shapes.specs.Shape.{Shape, closed}
@@ -52,6 +52,44 @@ rows_first {s = s} {n = n} {m = m} {bytes = bytes} {left = left} {t = t} k h c t
         let some : suc (count u) ≡ m = counted in
         let P : List ℕ → Type 0 = λ z. Spelled u z in
         (u, ap (λ (w : Tree). Tree.cons w u) (sym same.1), record { shaped = d'; counted = omega arith; spelled = subst P (sym behind) p.4 })
+
+-- and so the bytes are one list of so many rows
+pub rows_one : {s : Shape} {n : ℕ} {bytes : List ℕ} {t u : Tree} → sound s ≡ true → closed s ≡ true → RowsLeft s n bytes t → RowsLeft s n bytes u → t ≡ u
+rows_one {s = s} {bytes = bytes} {t = t} {u = u} k h p q = go t u p.shaped q.shaped (p.counted ∙ sym q.counted) bytes p.spelled q.spelled
+  where
+    go : (t u : Tree) → Is (Shape.many s) t → Is (Shape.many s) u → count t ≡ count u → (bytes : List ℕ) → Spelled t bytes → Spelled u bytes → t ≡ u
+    go t u Is.nil Is.nil e bytes p q = refl
+    go t u Is.nil (Is.cons {u = v} d d') e bytes p q = let some : 0 ≡ suc (count v) = e in absurd (omega arith)
+    go t u (Is.cons {u = v} d d') Is.nil e bytes p q = let some : suc (count v) ≡ 0 = e in absurd (omega arith)
+    go t u (Is.cons {t = t'} {u = v} d d') (Is.cons {t = u'} {u = w} f f') e bytes p q =
+        let both_ways : p.0 ++ p.1 ≡ q.0 ++ q.1 = sym p.2 ∙ q.2 in
+        let same : (p.0 ≡ q.0) × (t' ≡ u') = unique d f p.0 q.0 p.1 q.1 k (inl h) p.3 q.3 both_ways in
+        let behind : p.1 ≡ q.1 = append_cancel_left q.0 p.1 q.1 (ap (λ (z : List ℕ). z ++ p.1) (sym same.0) ∙ both_ways) in
+        let S : List ℕ → Type 0 = λ z. Spelled v z in
+        let fewer : count v ≡ count w = omega arith in
+        ap₂ Tree.cons same.1 (go v w d' f' fewer q.1 (subst S behind p.4) q.4)
+
+-- a row more behind the others
+pub snoc_is : {s : Shape} (rows : List Tree) {t : Tree} → Is (Shape.many s) (rows_then rows Tree.nil) → Is s t → Is (Shape.many s) (rows_then (rows ++ t ∷ []) Tree.nil)
+snoc_is [] d e = Is.cons e d
+snoc_is (u ∷ rows) (Is.cons d d') e = Is.cons d (snoc_is rows d' e)
+
+pub snoc_spelled : (rows : List Tree) (t : Tree) (x y : List ℕ) → Spelled (rows_then rows Tree.nil) x → Spelled t y → Spelled (rows_then (rows ++ t ∷ []) Tree.nil) (x ++ y)
+snoc_spelled [] t x y p q = (y, [], ap (λ (z : List ℕ). z ++ y) p ∙ sym (append-nil y), q, refl)
+snoc_spelled (u ∷ rows) t x y p q =
+    (p.0, p.1 ++ y, ap (λ (z : List ℕ). z ++ y) p.2 ∙ append_assoc p.0 p.1 y, p.3, snoc_spelled rows t p.1 y p.4 q)
+
+snoc_count : (rows : List Tree) (t : Tree) → count (rows_then (rows ++ t ∷ []) Tree.nil) ≡ suc (count (rows_then rows Tree.nil))
+snoc_count [] t = refl
+snoc_count (u ∷ rows) t = ap suc (snoc_count rows t)
+
+pub rows_snoc : {s : Shape} {n : ℕ} {bytes text : List ℕ} {t : Tree} (rows : List Tree) → RowsLeft s n bytes (rows_then rows Tree.nil) → Spells s text t →
+    RowsLeft s (suc n) (bytes ++ text) (rows_then (rows ++ t ∷ []) Tree.nil)
+rows_snoc {bytes = bytes} {text = text} {t = t} rows r p = record {
+  shaped = snoc_is rows r.shaped p.shaped;
+  counted = snoc_count rows t ∙ ap suc r.counted;
+  spelled = snoc_spelled rows t bytes text r.spelled p.spelled;
+}
 
 pub rows_then-append : (ts : List Tree) (t others : Tree) → rows_then (ts ++ t ∷ []) others ≡ rows_then ts (Tree.cons t others)
 rows_then-append [] t others = refl

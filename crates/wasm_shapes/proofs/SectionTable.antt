@@ -207,7 +207,7 @@ contents_of : (u : Tree) (x : List ℕ) → Is custom u → Spelled u x →
     (name contents : List ℕ) × (v : Tree) × (u ≡ Tree.pair (Tree.name name) v) × ReadsContents name contents v × Spelled (Tree.pair (Tree.name name) (Tree.raw contents)) x
 contents_of u x (Is.named {t = v} d) p =
     (names_name, p.1, v, refl, inl (refl, record { shaped = d; spelled = p.4 }), (p.0, p.1, p.2, p.3, refl))
-contents_of u x (Is.other {bs = name} {r = r} other) p = (name, r, Tree.raw r, refl, inr (other, refl), p)
+contents_of u x (Is.other {bs = name} other (Is.rest {bs = r})) p = (name, r, Tree.raw r, refl, inr (other, refl), p)
 
 -- a section stands in a frame
 pub in_frame : (t : Tree) (x : List ℕ) → Is section t → Spelled t x → (f : Tree) × InFrame t f × Spells frame x f
@@ -254,7 +254,7 @@ row_shaped xs k {t = t} d = among (shapes_of xs) two_others (in_table xs k t d)
 
 pub custom_is : {name contents : List ℕ} {u : Tree} → ReadsContents name contents u → Is custom (Tree.pair (Tree.name name) u)
 custom_is {u = u} (inl r) = let N : List ℕ → Type 0 = λ z. Is custom (Tree.pair (Tree.name z) u) in subst N (sym r.0) (Is.named r.1.shaped)
-custom_is {name = name} (inr r) = let P : Tree → Type 0 = λ z. Is custom (Tree.pair (Tree.name name) z) in subst P (sym r.1) (Is.other r.0)
+custom_is {name = name} (inr r) = let P : Tree → Type 0 = λ z. Is custom (Tree.pair (Tree.name name) z) in subst P (sym r.1) (Is.other r.0 Is.rest)
 
 custom_spelled : {name contents x : List ℕ} {u : Tree} → ReadsContents name contents u → Spelled (Tree.pair (Tree.name name) (Tree.raw contents)) x →
     Spelled (Tree.pair (Tree.name name) u) x

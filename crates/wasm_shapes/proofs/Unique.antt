@@ -617,21 +617,17 @@ mutual
       (λ l' m'. unique f f' p.2 q.2 a b test.1 h p.6 q.6 m') m in
       (inner.0, ap₂ Tree.pair inner.1 inner.2)) e in
       (same.0, ap₂ placed_of same.1 same.2)
-  unique (Is.named {n = n} {a = r} {t = t} d) (Is.named {t = t'} f) x y a b k (inl h) p q e = absurd cc
-  unique (Is.named {n = n} {a = r} {t = t} d) (Is.named {t = t'} f) x y a b k (inr h) p q e =
+  unique (Is.named {n = n} {a = r} {b = s} {t = t} d) (Is.named {t = t'} f) x y a b k h p q e =
       let same = two_parts {t = Tree.name n} {t' = Tree.name n} {u = t} {u' = t'} x y p.0 p.1 q.0 q.1 a b p.2 q.2
       (name_unique n n p.0 q.0 (p.1 ++ a) (q.1 ++ b) p.3 q.3)
-      (λ l m. unique d f p.1 q.1 a b k (inr h) p.4 q.4 m) e in
+      (λ l m. unique d f p.1 q.1 a b (both (sound r) (sound s) k).0 (ends_first r s a b h) p.4 q.4 m) e in
       (same.0, ap₂ Tree.pair same.1 same.2)
-  unique (Is.named d) (Is.other o) x y a b k (inl h) p q e = absurd cc
-  unique (Is.named {n = n} {t = t} d) (Is.other {bs = bs} {r = r} o) x y a b k (inr h) p q e = absurd (o (sym (names_same n bs t (Tree.raw r) x y a b p q e)))
-  unique (Is.other o) (Is.named f) x y a b k (inl h) p q e = absurd cc
-  unique (Is.other {n = n} {bs = bs} {r = r} o) (Is.named {t = t} f) x y a b k (inr h) p q e = absurd (o (names_same bs n (Tree.raw r) t x y a b p q e))
-  unique (Is.other o) (Is.other o') x y a b k (inl h) p q e = absurd cc
-  unique (Is.other {bs = bs} {r = r} o) (Is.other {bs = bs'} {r = r'} o') x y a b k (inr h) p q e =
-      let same = two_parts {t = Tree.name bs} {t' = Tree.name bs'} {u = Tree.raw r} {u' = Tree.raw r'} x y p.0 p.1 q.0 q.1 a b p.2 q.2
+  unique (Is.named {n = n} {t = t} d) (Is.other {bs = bs} {t = u} o f) x y a b k h p q e = absurd (o (sym (names_same n bs t u x y a b p q e)))
+  unique (Is.other {n = n} {bs = bs} {t = t} o d) (Is.named {t = u} f) x y a b k h p q e = absurd (o (names_same bs n t u x y a b p q e))
+  unique (Is.other {bs = bs} {a = r} {b = s} {t = t} o d) (Is.other {bs = bs'} {t = t'} o' f) x y a b k h p q e =
+      let same = two_parts {t = Tree.name bs} {t' = Tree.name bs'} {u = t} {u' = t'} x y p.0 p.1 q.0 q.1 a b p.2 q.2
       (name_unique bs bs' p.0 q.0 (p.1 ++ a) (q.1 ++ b) p.3 q.3)
-      (λ l m. let rest : p.1 ≡ q.1 = no_ends p.1 q.1 a b m h in (rest, ap Tree.raw (sym p.4 ∙ rest ∙ q.4))) e in
+      (λ l m. unique d f p.1 q.1 a b (both (sound r) (sound s) k).1 (ends_second r s a b h) p.4 q.4 m) e in
       (same.0, ap₂ Tree.pair same.1 same.2)
   unique (Is.led d) (Is.led f) x y a b k (inl h) p q e = absurd cc
   unique (Is.led {fs = fs} {a = r} d) (Is.led f) x y a b k (inr h) p q e = unique d f x y a b (both (led_by fs r) (sound r) k).1 (inr h) p q e

@@ -35,7 +35,7 @@ unscoped (Shape.final a b) = unscoped a && unscoped b
 unscoped (Shape.until b a) = unscoped a
 unscoped (Shape.active w a r b) = unscoped a && (unscoped r && unscoped b)
 unscoped (Shape.placed a b) = unscoped a && unscoped b
-unscoped (Shape.by_name n a) = unscoped a
+unscoped (Shape.by_name n a b) = unscoped a && unscoped b
 unscoped (Shape.begun fs a) = unscoped a
 unscoped (Shape.told k a) = unscoped a
 unscoped (Shape.sections a) = unscoped a
@@ -101,8 +101,10 @@ unscoped_is (Is.aimed {w = w} {a = a} {r = r} {b = b} {o = o} {t = t} d e) h =
     let f = flat_two o t (unscoped_is d p.0) (unscoped_is e (listing_unscoped w r b p.1)) in flat_leaf f.0 f.1
 unscoped_is (Is.placed {a = a} {b = b} {o = o} {t = t} d e) h =
     let p = both (unscoped a) (unscoped b) h in let f = flat_two o t (unscoped_is d p.0) (unscoped_is e p.1) in flat_leaf f.0 f.1
-unscoped_is (Is.named {n = n} {t = t} d) h = let f = flat_two (Tree.name n) t (flat_leaf refl refl) (unscoped_is d h) in flat_leaf f.0 f.1
-unscoped_is (Is.other o) h = flat_leaf refl refl
+unscoped_is (Is.named {n = n} {a = a} {b = b} {t = t} d) h =
+    let f = flat_two (Tree.name n) t (flat_leaf refl refl) (unscoped_is d (both (unscoped a) (unscoped b) h).0) in flat_leaf f.0 f.1
+unscoped_is (Is.other {bs = n} {a = a} {b = b} {t = t} o d) h =
+    let f = flat_two (Tree.name n) t (flat_leaf refl refl) (unscoped_is d (both (unscoped a) (unscoped b) h).1) in flat_leaf f.0 f.1
 unscoped_is (Is.led d) h = unscoped_is d h
 unscoped_is (Is.told d) h = let f = unscoped_is d h in flat_leaf f.scopes f.opens
 unscoped_is (Is.also {t = t} {u = u} d e) h = let f = flat_two t u (unscoped_is d h) (unscoped_is e h) in flat_leaf f.0 f.1

@@ -110,8 +110,7 @@ abbrev mutual
   reads (suc n) (Shape.final a b) xs = byte_then xs (λ d r. whether (nat_eq d 0x4f)
       (λ u. u32_then r (λ k q. on (counted n k a q) (λ t e. mapped (λ v. Tree.final t v) (reads n b e))))
       (λ u. mapped (λ v. Tree.final Tree.nil v) (reads n b xs)))
-  reads (suc n) (Shape.by_name x a) xs = u32_then xs (λ k r. so_many k r (λ y q. whether (same x y)
-      (λ u. mapped (λ t. Tree.pair (Tree.name y) t) (reads n a q)) (λ u. Read.yes (Tree.pair (Tree.name y) (Tree.raw q)) [])))
+  reads (suc n) (Shape.by_name x a b) xs = u32_then xs (λ k r. so_many k r (λ y q. mapped (λ t. Tree.pair (Tree.name y) t) (whether (same x y) (λ u. reads n a q) (λ u. reads n b q))))
   reads (suc n) (Shape.begun fs a) xs = whether (begins_with_one fs xs) (λ u. reads n a xs) (λ u. Read.yes (Tree.raw xs) [])
   reads (suc n) (Shape.told k a) xs = mapped (λ t. Tree.told k t) (reads n a xs)
   reads (suc n) (Shape.sections a) xs = sections n a xs

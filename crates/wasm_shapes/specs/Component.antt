@@ -6,7 +6,7 @@ use Rattle.wasm_shapes.specs.declared.Space.{Space}
 use Rattle.wasm_shapes.specs.declared.Space.TheVariants as space
 use Rattle.wasm_shapes.specs.Tree.{Tree}
 use Rattle.wasm_shapes.specs.Shape.{Shape, Named, one_of, choice, lead, final_sub, open_sub, explicit_group, entity}
-use Rattle.wasm_shapes.specs.Sections.{component_header, import_row, export_row, naming_row, subsection, headed, headed_tree, core_module}
+use Rattle.wasm_shapes.specs.Sections.{component_header, single_import, export_row, naming_row, subsection, headed, headed_tree, core_module}
 
 -- ---- names and sorts
 
@@ -119,7 +119,7 @@ alias = Shape.ref Named.alias
 -- what a module type declares: an import, a type, an alias of a type further out, or an export
 abbrev pub module_declaration : Shape
 module_declaration = choice (
-    lead 0x00 import_row ∷ lead 0x01 (Shape.ref Named.group) ∷ lead 0x02 (lead 0x10 (lead 0x01 (Shape.outer space.Type_))) ∷
+    lead 0x00 single_import ∷ lead 0x01 (Shape.ref Named.group) ∷ lead 0x02 (lead 0x10 (lead 0x01 (Shape.outer space.Type_))) ∷
     lead 0x03 (Shape.seq Shape.name entity) ∷ [])
 
 -- A module type, or types of a core module. An open subtype, whose first byte is that of a module type, stands behind another
@@ -314,7 +314,7 @@ component_names_name = codes "component-name"
 -- ---- sections
 
 abbrev pub component_custom : Shape
-component_custom = Shape.by_name component_names_name component_names
+component_custom = Shape.by_name component_names_name component_names Shape.rest
 
 -- The sections of a component. A row's number is the id, but that the last row is that of all other ids. The sections of the
 -- ids 1 and 4 are scopes: a core module, and a component.

@@ -6,7 +6,7 @@ use Rattle.wasm_shapes.specs.NamedShapes.{shape_of}
 use Rattle.wasm_shapes.specs.Sound.{sound}
 use Rattle.wasm_shapes.specs.Spells.{Spells}
 use Rattle.wasm_shapes.specs.Fits.{Fits}
-use Rattle.wasm_shapes.specs.Module.{core_module, core_tree, CoreReading, section, frame}
+use Rattle.wasm_shapes.specs.Module.{core_module, single_module, core_tree, CoreReading, section, frame}
 
 -- no spelling of a closed shape begins another, and one text has one tree
 abbrev pub IsUnique : Type 0
@@ -39,3 +39,9 @@ pub record AreSound : Type 0 where
 pub record IsHeaded : Type 0 where
   pub forth : (bytes : List ℕ) (t : Tree) → CoreReading bytes t → Spells core_module bytes (core_tree t)
   pub back : (bytes : List ℕ) (t : Tree) → Spells core_module bytes t → (u : Tree) × (t ≡ core_tree u) × CoreReading bytes u
+
+-- bytes that read as a module by the table in which every import is a single one have the same tree by the table in force, and
+-- no other there; so their normal spelling and their visits are the same
+abbrev pub KeepsSingleImports : Type 0
+KeepsSingleImports = (bytes : List ℕ) (t : Tree) → Spells single_module bytes t →
+    Spells core_module bytes t × ((u : Tree) → Spells core_module bytes u → u ≡ t)

@@ -6,7 +6,7 @@ use Rattle.wasm_shapes.specs.Tree.{Tree}
 use Rattle.wasm_shapes.specs.Spells.{Spells}
 use Rattle.wasm_shapes.specs.Place.{BeginsNone}
 use Rattle.wasm_shapes.specs.SectionTable.{number}
-pub use Rattle.wasm_shapes.specs.Sections.{core_header, component_header, function_row, import_row, table_row, global_row, export_row, element_functions, element_expressions, element_row, data_row, local_row, body, code_row, types, imports, functions, tables, memories, globals, tags, exports, start, elements, code, segments, data_count, in_force, plain_naming, naming_row, indirect_row, subsection, name_rows, name_subsection, names, names_name, custom, custom_section, unknown_section, section, sections, body_of, row_of, tree_of, custom_tree_of, unknown_tree_of, alsos, headed, headed_tree, core_module, core_tree, frame, numbered_frame, custom_frame}
+pub use Rattle.wasm_shapes.specs.Sections.{core_header, component_header, function_row, single_import, compact_item, compact_rows, unnamed, import_row, table_row, global_row, export_row, element_functions, element_expressions, element_row, data_row, local_row, body, code_row, types, imports, functions, tables, memories, globals, tags, exports, start, elements, code, segments, data_count, in_force, plain_naming, naming_row, indirect_row, subsection, name_rows, name_subsection, names, names_name, custom, custom_section, unknown_section, section_with, section, sections, body_of, row_of, tree_of, custom_tree_of, unknown_tree_of, alsos, headed, headed_tree, core_module, single_module, core_tree, frame, numbered_frame, custom_frame}
 
 -- the bytes are the header of a core module and these sections, one behind another
 pub record CoreReading (bytes : List ℕ) (t : Tree) : Type 0 where

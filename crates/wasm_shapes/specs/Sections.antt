@@ -5,7 +5,7 @@ use Rattle.wasm_shapes.specs.declared.SectionId.{SectionId}
 use Rattle.wasm_shapes.specs.declared.SectionId.TheVariants as id
 use Rattle.wasm_shapes.specs.declared.Space.TheVariants as space
 use Rattle.wasm_shapes.specs.Tree.{Tree, Listed}
-use Rattle.wasm_shapes.specs.Shape.{Shape, Named, choice, lead, rows_and, reference, table_type, memory_type, global_type, tag_type, entity}
+use Rattle.wasm_shapes.specs.Shape.{Shape, Named, choice, lead, rows_and, reference, table_type, memory_type, global_type, tag_type, entity_rows, entity}
 use Rattle.wasm_shapes.specs.SectionTable.{Kind, of_body, framed_tree, shapes_of, place_in, body_in, item_of}
 
 abbrev pub core_header : List ℕ
@@ -21,8 +21,23 @@ abbrev pub function_row : Shape
 function_row = Shape.ix space.Type_
 
 -- a module's name, a name in it, and the type of what is imported
+abbrev pub single_import : Shape
+single_import = Shape.seq Shape.name (Shape.seq Shape.name entity)
+
+-- a name in a module that is known, and the type of what is imported under it
+abbrev pub compact_item : Shape
+compact_item = Shape.seq Shape.name entity
+
+-- what is imported from one module: names with a type each, or of one type
+abbrev pub compact_rows : List Shape
+compact_rows = lead 0x7f (Shape.vec compact_item) ∷ lead 0x7e (Shape.seq entity (Shape.vec Shape.name)) ∷ []
+
+-- what stands behind an empty name: a type as behind any other, or a compact row
+abbrev pub unnamed : Shape
+unnamed = choice (rows_and entity_rows compact_rows)
+
 abbrev pub import_row : Shape
-import_row = Shape.seq Shape.name (Shape.seq Shape.name entity)
+import_row = Shape.seq Shape.name (Shape.by_name [] unnamed entity)
 
 -- a table that starts with null references, or behind two bytes one that starts with the value of an expression
 abbrev pub table_row : Shape
@@ -118,13 +133,16 @@ data_count = Shape.ix space.DataCount
 
 -- ---- sections
 
--- the kinds of sections that a module has
-abbrev pub in_force : List Kind
-in_force =
-    of_body id.Type_ types ∷ of_body id.Import imports ∷ of_body id.Function functions ∷ of_body id.Table tables ∷
+-- the kinds of sections that a module has, where these are the bodies of imports
+abbrev pub in_force_with : Shape → List Kind
+in_force_with imported =
+    of_body id.Type_ types ∷ of_body id.Import imported ∷ of_body id.Function functions ∷ of_body id.Table tables ∷
     of_body id.Memory memories ∷ of_body id.Global globals ∷ of_body id.Export exports ∷ of_body id.Start start ∷
     of_body id.Element elements ∷ of_body id.Code code ∷ of_body id.Data segments ∷ of_body id.DataCount data_count ∷
     of_body id.Tag tags ∷ []
+
+abbrev pub in_force : List Kind
+in_force = in_force_with imports
 
 -- ---- names, custom sections, and sections of other ids
 
@@ -174,7 +192,7 @@ names_name = codes "name"
 
 -- the body of a custom section
 abbrev pub custom : Shape
-custom = Shape.by_name names_name names
+custom = Shape.by_name names_name names Shape.rest
 
 abbrev pub custom_section : Shape
 custom_section = lead 0 (Shape.sized custom)
@@ -185,8 +203,11 @@ unknown_section = Shape.seq (Shape.within 14 127) (Shape.sized Shape.rest)
 
 -- ---- all sections
 
+abbrev pub section_with : Shape → Shape
+section_with imported = choice (rows_and (shapes_of (in_force_with imported)) (custom_section ∷ unknown_section ∷ []))
+
 abbrev pub section : Shape
-section = choice (rows_and (shapes_of in_force) (custom_section ∷ unknown_section ∷ []))
+section = section_with imports
 
 abbrev pub sections : Shape
 sections = Shape.sections section
@@ -228,6 +249,10 @@ headed_tree (b ∷ bs) t = Tree.pair (Tree.fixed b) (headed_tree bs t)
 
 abbrev pub core_module : Shape
 core_module = headed core_header sections
+
+-- the same where every import is a single one
+abbrev pub single_module : Shape
+single_module = headed core_header (Shape.sections (section_with (Shape.vec single_import)))
 
 abbrev pub core_tree : Tree → Tree
 core_tree t = headed_tree core_header t

@@ -64,8 +64,8 @@ pub data Shape : Type 0 where
   active : Listed → Shape → Shape → Shape → Shape
   -- an active data segment: its offset and its bytes
   placed : Shape → Shape → Shape
-  -- a name, and the shape where it is this one, or else any bytes
-  by_name : List ℕ → Shape → Shape
+  -- a name, and the first shape where it is this one, or else the second
+  by_name : List ℕ → Shape → Shape → Shape
   -- the shape where the bytes begin with one of these texts, or else any bytes
   begun : List (List ℕ) → Shape → Shape
   told : SectionId → Shape → Shape
@@ -212,10 +212,13 @@ abbrev pub tag_type : Shape
 tag_type = lead 0x00 (Shape.ix space.Type_)
 
 -- the type of what is imported: the last row is a function of exactly its type
-abbrev pub entity : Shape
-entity = choice (
+abbrev pub entity_rows : List Shape
+entity_rows =
     lead 0x00 (Shape.ix space.Type_) ∷ lead 0x01 table_type ∷ lead 0x02 memory_type ∷ lead 0x03 global_type ∷
-    lead 0x04 tag_type ∷ lead 0x20 (Shape.ix space.Type_) ∷ [])
+    lead 0x04 tag_type ∷ lead 0x20 (Shape.ix space.Type_) ∷ []
+
+abbrev pub entity : Shape
+entity = choice entity_rows
 
 -- ---- immediates
 
@@ -271,7 +274,7 @@ abbrev pub closed : Shape → Bool
 closed Shape.rest = false
 closed (Shape.many a) = false
 closed (Shape.sections a) = false
-closed (Shape.by_name n a) = false
+closed (Shape.by_name n a b) = closed a && closed b
 closed (Shape.begun fs a) = false
 closed (Shape.told k a) = closed a
 closed (Shape.seq a b) = closed a && closed b

@@ -48,8 +48,8 @@ pub data Is : Shape → Tree → Type 0 where
   left : {w : Listed} {a r b : Shape} {o t : Tree} → Is a o → Is b t → Is (listing w r b) (typed w t) → Is (Shape.active w a r b) (Tree.left w o t)
   aimed : {w : Listed} {a r b : Shape} {i : ℕ} {o t : Tree} → Is a o → Is (listing w r b) t → Is (Shape.active w a r b) (Tree.aimed w i o t)
   placed : {a b : Shape} {i : ℕ} {o t : Tree} → Is a o → Is b t → Is (Shape.placed a b) (Tree.placed i o t)
-  named : {n : List ℕ} {a : Shape} {t : Tree} → Is a t → Is (Shape.by_name n a) (Tree.pair (Tree.name n) t)
-  other : {n bs r : List ℕ} {a : Shape} → bs ≢ n → Is (Shape.by_name n a) (Tree.pair (Tree.name bs) (Tree.raw r))
+  named : {n : List ℕ} {a b : Shape} {t : Tree} → Is a t → Is (Shape.by_name n a b) (Tree.pair (Tree.name n) t)
+  other : {n bs : List ℕ} {a b : Shape} {t : Tree} → bs ≢ n → Is b t → Is (Shape.by_name n a b) (Tree.pair (Tree.name bs) t)
   led : {fs : List (List ℕ)} {a : Shape} {t : Tree} → Is a t → Is (Shape.begun fs a) t
   not_led : {fs : List (List ℕ)} {bs : List ℕ} {a : Shape} → begins_with_one fs bs ≡ false → Is (Shape.begun fs a) (Tree.raw bs)
   told : {k : SectionId} {a : Shape} {t : Tree} → Is a t → Is (Shape.told k a) (Tree.told k t)

@@ -154,6 +154,17 @@ global_with_init_of global init = Tree.pair global init
 abbrev pub import_of : List ℕ → List ℕ → Tree → Tree
 import_of from name t = Tree.pair (Tree.name from) (Tree.pair (Tree.name name) t)
 
+-- a name in a module, and what is imported under it
+abbrev pub item_import_of : List ℕ → Tree → Tree
+item_import_of name t = Tree.pair (Tree.name name) t
+
+-- imports from one module: by their names with a type each, and by their names of one type
+abbrev pub compact_items_of : List ℕ → List Tree → Tree
+compact_items_of from items = import_of from [] (Tree.row 6 (led 0x7f (vector_tree items)))
+
+abbrev pub compact_names_of : List ℕ → Tree → List Tree → Tree
+compact_names_of from t names = import_of from [] (Tree.row 7 (led 0x7e (Tree.pair t (vector_tree names))))
+
 -- what is exported, of a space and by its index: a function's first byte is the normal one of two
 abbrev pub item_of : Space → ℕ → Tree
 item_of space.Function i = Tree.row 0 (Tree.pair (Tree.alike 0x00 0x20) (Tree.ix space.Function i))

@@ -20,8 +20,8 @@ pub use operators::{
 };
 pub use spelling::{
     drawn_from_a_stretch, drawn_lists_join, header_spells, normal_reads_back,
-    own_answers_change_nothing, section_is_sized, sections_stand_in_frames, spelling_is_unique,
-    tables_are_sound, text_has_one_tree,
+    own_answers_change_nothing, section_is_sized, sections_stand_in_frames, single_imports_stay,
+    spelling_is_unique, tables_are_sound, text_has_one_tree,
 };
 
 /// An index space. The first eight are those of core modules (WebAssembly Core Specification 3.0, section 5.5.1);

@@ -2,7 +2,7 @@
 ghost use Rattle.wasm_shapes.specs.Drawn.{IsDrawnFromWhole, IsDrawnJoined};
 ghost use Rattle.wasm_shapes.specs.Own.{IsOwn};
 ghost use Rattle.wasm_shapes.specs.SectionLaws.{AreInFrames, AreSized};
-ghost use Rattle.wasm_shapes.specs.Laws.{IsUnique, HasOneTree, IsReadBack, IsReadBackAsIs, AreSound, IsHeaded};
+ghost use Rattle.wasm_shapes.specs.Laws.{IsUnique, HasOneTree, IsReadBack, IsReadBackAsIs, AreSound, IsHeaded, KeepsSingleImports};
 
 /// No spelling of a closed shape that passes the test begins another, and one text has one tree.
 #[tactic(auto, using(crate::proofs::Laws::shapes_unique))]
@@ -46,6 +46,12 @@ pub fn sections_stand_in_frames()
 #[tactic(auto, using(crate::proofs::SectionLaws::sized))]
 pub fn section_is_sized()
     ensures { AreSized }
+{}
+
+/// Bytes whose imports are all single ones read as they do by the table without compact rows.
+#[tactic(auto, using(crate::proofs::SingleImports::single_imports_stay))]
+pub fn single_imports_stay()
+    ensures { KeepsSingleImports }
 {}
 
 /// A tree filled with the indices that its own visits ask is the same tree.

@@ -1,9 +1,10 @@
 -- The trees of tables, memories, globals, tags and of what is imported have the shapes of their tables.
 use Rattle.std.specs.Option.{is_some}
-use Rattle.std.proofs.Common.{◌≡◌, ℕ, zero, suc, Bool, true, false, List, [], ◌∷◌, get_or, Option, Some, None, refl, sym, subst}
+use Rattle.std.proofs.Common.{◌≡◌, ℕ, zero, suc, Bool, true, false, List, [], ◌∷◌, map, get_or, Option, Some, None, refl, sym, subst}
+use Rattle.std.specs.Borrow.{Bor}
 use Rattle.wasm_shapes.specs.Tree.{Tree}
-use Rattle.wasm_shapes.specs.Shape.{Shape, choice, lead, bounds, paged, four_limits, memory_type, table_type, global_type, tag_type, entity}
-use Rattle.wasm_shapes.specs.Module.{import_row}
+use Rattle.wasm_shapes.specs.Shape.{Shape, choice, lead, bounds, paged, four_limits, memory_type, table_type, global_type, tag_type, entity, entity_rows}
+use Rattle.wasm_shapes.specs.Module.{import_row, unnamed, compact_item, compact_rows}
 use Rattle.wasm_shapes.specs.Spells.{Is}
 use Rattle.wasm_write.specs.declared.types.TableType.{TableType}
 use Rattle.wasm_write.specs.declared.types.MemoryType.{MemoryType}
@@ -11,11 +12,14 @@ use Rattle.wasm_write.specs.declared.types.GlobalType.{GlobalType}
 use Rattle.wasm_types.specs.declared.types.TagType.{TagType}
 use Rattle.wasm_write.specs.declared.types.EntityType.{EntityType}
 use Rattle.wasm_write.specs.declared.types.EntityType.TheVariants as variant
+use Rattle.wasm_write.specs.declared.types.ImportCompact.{ImportCompact}
 use Rattle.wasm_write.specs.declared.types.Imports.{Imports}
 use Rattle.wasm_write.specs.declared.types.Imports.TheVariants as imported
-use Rattle.wasm_shapes.specs.Types.{led, limits_flags, bounds_tree, paged_tree, limits_tree, global_flags}
+use Rattle.wasm_shapes.specs.Types.{led, rows_tree, limits_flags, bounds_tree, paged_tree, limits_tree, global_flags}
 use Rattle.wasm_write.specs.Types.{table_type_tree, memory_type_tree, global_type_tree, tag_type_tree, entity_tree}
-use Rattle.wasm_write.specs.Rows.{import_tree}
+use Rattle.wasm_shapes.proofs.Begins.{row_is}
+use Rattle.wasm_shapes.proofs.Parts.{among}
+use Rattle.wasm_write.specs.Rows.{import_tree, compact_tree, name_tree}
 use Rattle.wasm_write.proofs.TypeShapes.{reference_is, value_is}
 
 -- a row by its number
@@ -104,7 +108,7 @@ global_type_is ty =
 pub tag_type_is : (ty : TagType) → Is tag_type (tag_type_tree ty)
 tag_type_is ty = Is.seq Is.fixed Is.ix
 
-entity_is : (ty : EntityType) → Is entity (entity_tree ty)
+pub entity_is : (ty : EntityType) → Is entity (entity_tree ty)
 entity_is (variant.Function i) = Is.first (Is.seq Is.fixed Is.ix)
 entity_is (variant.Table ty) = Is.later {k = 0} (Is.first (Is.seq Is.fixed (table_type_is ty)))
 entity_is (variant.Memory ty) = Is.later {k = 1} (Is.later {k = 0} (Is.first (Is.seq Is.fixed (memory_type_is ty))))
@@ -112,5 +116,20 @@ entity_is (variant.Global ty) = Is.later {k = 2} (Is.later {k = 1} (Is.later {k 
 entity_is (variant.Tag ty) = Is.later {k = 3} (Is.later {k = 2} (Is.later {k = 1} (Is.later {k = 0} (Is.first (Is.seq Is.fixed (tag_type_is ty))))))
 entity_is (variant.FunctionExact i) = Is.later {k = 4} (Is.later {k = 3} (Is.later {k = 2} (Is.later {k = 1} (Is.later {k = 0} (Is.first (Is.seq Is.fixed Is.ix))))))
 
+-- a type behind a name, empty or not
+single_is : (name : List ℕ) {t : Tree} → Is entity t → Is (Shape.by_name [] unnamed entity) (Tree.pair (Tree.name name) t)
+single_is [] d = Is.named (among entity_rows compact_rows d)
+single_is (b ∷ bs) d = Is.other (λ e. cc) d
+
+items_are : (items : List ImportCompact) → Is (Shape.many compact_item) (rows_tree (map compact_tree items))
+items_are [] = Is.nil
+items_are (x ∷ xs) = Is.cons (Is.seq Is.name (entity_is x.ty)) (items_are xs)
+
+names_are : (names : List (Bor (List ℕ))) → Is (Shape.many Shape.name) (rows_tree (map name_tree names))
+names_are [] = Is.nil
+names_are (x ∷ xs) = Is.cons Is.name (names_are xs)
+
 pub import_is : (row : Imports) → Is import_row (import_tree row)
-import_is (imported.Single row) = Is.seq Is.name (Is.seq Is.name (entity_is row.ty))
+import_is (imported.Single row) = Is.seq Is.name (single_is row.name.now (entity_is row.ty))
+import_is (imported.Compact1 «module» items) = Is.seq Is.name (Is.named (row_is unnamed 6 (Is.seq Is.fixed (Is.vec (items_are items)))))
+import_is (imported.Compact2 «module» ty names) = Is.seq Is.name (Is.named (row_is unnamed 7 (Is.seq Is.fixed (Is.seq (entity_is ty) (Is.vec (names_are names))))))

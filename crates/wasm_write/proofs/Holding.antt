@@ -11,6 +11,7 @@ use Rattle.wasm_shapes.specs.Shape.{Shape}
 use Rattle.wasm_shapes.specs.Sound.{sound}
 use Rattle.wasm_shapes.specs.Spells.{Is, Spelled, Spells}
 use Rattle.wasm_shapes.specs.Types.{rows_tree, vector_tree}
+use Rattle.wasm_shapes.proofs.Rows.{snoc_is, snoc_spelled}
 use Rattle.wasm_write.specs.Held.{BodySpells, AreHeld, Held, Held-one, held_rows}
 
 -- ---- rows as a tree
@@ -18,15 +19,6 @@ use Rattle.wasm_write.specs.Held.{BodySpells, AreHeld, Held, Held-one, held_rows
 pub count_rows : (rows : List Tree) → count (rows_tree rows) ≡ length rows
 count_rows [] = refl
 count_rows (t ∷ rows) = ap suc (count_rows rows)
-
-pub snoc_is : {s : Shape} (rows : List Tree) {t : Tree} → Is (Shape.many s) (rows_tree rows) → Is s t → Is (Shape.many s) (rows_tree (rows ++ t ∷ []))
-snoc_is [] d e = Is.cons e d
-snoc_is (u ∷ rows) (Is.cons d d') e = Is.cons d (snoc_is rows d' e)
-
-pub snoc_spelled : (rows : List Tree) (t : Tree) (x y : List ℕ) → Spelled (rows_tree rows) x → Spelled t y → Spelled (rows_tree (rows ++ t ∷ [])) (x ++ y)
-snoc_spelled [] t x y p q = (y, [], ap (λ (z : List ℕ). z ++ y) p ∙ sym (append-nil y), q, refl)
-snoc_spelled (u ∷ rows) t x y p q =
-    (p.0, p.1 ++ y, ap (λ (z : List ℕ). z ++ y) p.2 ∙ append_assoc p.0 p.1 y, p.3, snoc_spelled rows t p.1 y p.4 q)
 
 pub snoc_normal : (rows : List Tree) (t : Tree) → normal (rows_tree (rows ++ t ∷ [])) ≡ normal (rows_tree rows) ++ normal t
 snoc_normal [] t = append-nil (normal t)

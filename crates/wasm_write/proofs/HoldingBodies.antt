@@ -23,7 +23,8 @@ use Rattle.wasm_write.specs.Counts.{counts, IsTooLarge}
 use Rattle.wasm_write.specs.Faults.{IfTooLarge}
 use Rattle.wasm_write.specs.Instructions.{Parts, imms_tree, instruction_tree}
 use Rattle.wasm_write.specs.Bodies.{AreOperators, Body, CodeRows, GainsBody, code_rows_code, with_row, local_tree, with_operator, with_operators, function_body, code_tree, IsBody, HeldBody, HeldBody-one, held_body, HeldOperators, HeldOperators-one, held_operators}
-use Rattle.wasm_write.proofs.Holding.{snoc_is, snoc_spelled, snoc_normal, are_none, are_many_more}
+use Rattle.wasm_shapes.proofs.Rows.{snoc_is, snoc_spelled}
+use Rattle.wasm_write.proofs.Holding.{snoc_normal, are_none, are_many_more}
 use Rattle.wasm_write.proofs.SmallCounts.{counts_small, last_is_large}
 use Rattle.wasm_write.proofs.TypeShapes.{items_are, value_is}
 

@@ -1,15 +1,17 @@
 -- The trees that rows of sections stand for.
-use Rattle.std.specs.Prelude.{ℕ, Bool, true, false, List, length, map, Option, All}
+use Rattle.std.specs.Prelude.{ℕ, Bool, true, false, List, [], length, map, Option, All}
+use Rattle.std.specs.Borrow.{Bor}
 use Rattle.wasm_shapes.specs.declared.Space.{Space}
 use Rattle.wasm_shapes.specs.declared.Space.TheVariants as space
 use Rattle.wasm_shapes.specs.Tree.{Tree, normal}
-use Rattle.wasm_shapes.specs.Types.{expression_of, null_table_of, table_with_init_of, global_with_init_of, import_of, item_of, Items, items_of, passive_of, declared_of, active_of, active_data_of}
+use Rattle.wasm_shapes.specs.Types.{expression_of, null_table_of, table_with_init_of, global_with_init_of, import_of, item_import_of, compact_items_of, compact_names_of, item_of, Items, items_of, passive_of, declared_of, active_of, active_data_of}
 pub use Rattle.wasm_shapes.specs.Types.{passive_data_tree}
 use Rattle.wasm_shapes.specs.Shape.{Shape, Named}
 use Rattle.wasm_shapes.specs.Spells.{Spells}
 use Rattle.wasm_write.specs.declared.types.ExportKind.{ExportKind}
 use Rattle.wasm_write.specs.declared.types.ExportKind.TheVariants as export
 use Rattle.wasm_write.specs.declared.types.Import.{Import}
+use Rattle.wasm_write.specs.declared.types.ImportCompact.{ImportCompact}
 use Rattle.wasm_write.specs.declared.types.Imports.{Imports}
 use Rattle.wasm_write.specs.declared.types.Imports.TheVariants as imported
 use Rattle.wasm_write.specs.declared.types.TableType.{TableType}
@@ -25,8 +27,18 @@ use Rattle.wasm_write.specs.declared.types.Elements.TheVariants as elements
 abbrev pub single_tree : Import → Tree
 single_tree row = import_of row.module.now row.name.now (entity_tree row.ty)
 
+-- a name
+abbrev pub name_tree : Bor (List ℕ) → Tree
+name_tree name = Tree.name name.now
+
+-- a name in a module that is known, and the type of what is imported under it
+abbrev pub compact_tree : ImportCompact → Tree
+compact_tree item = item_import_of item.name.now (entity_tree item.ty)
+
 abbrev pub import_tree : Imports → Tree
 import_tree (imported.Single row) = single_tree row
+import_tree (imported.Compact1 «module» items) = compact_items_of «module».now (map compact_tree items)
+import_tree (imported.Compact2 «module» ty names) = compact_names_of «module».now (entity_tree ty) (map name_tree names)
 
 -- ---- tables and globals
 

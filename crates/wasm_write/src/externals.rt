@@ -1,17 +1,20 @@
 //! The types of tables, memories, globals, tags and of what is imported, in their normal spelling.
-ghost use Rattle.std.specs.Prelude.{◌≡◌, ◌++◌, ◌≤◌, take, vec_len, OnOk, OnErr, IfErr};
-ghost use Rattle.wasm_shapes.specs.Tree.{normal};
+ghost use Rattle.std.specs.Prelude.{◌≡◌, ◌++◌, ◌∷◌, [], ◌≤◌, ◌<◌, ◌-◌, ◌^◌, length, take, vec_len, OnOk, OnErr, IfErr};
+ghost use Rattle.wasm_shapes.specs.Tree.{Tree, normal};
 ghost use Rattle.wasm_shapes.specs.Fits.{InRange};
 ghost use Rattle.wasm_shapes.specs.Types.{flag, limits_flags, bounds_tree, paged_tree, limits_tree, global_flags};
 ghost use Rattle.wasm_write.specs.Counts.{counts, IsTooLarge};
 ghost use Rattle.wasm_write.specs.Faults.{IfTooLarge};
-ghost use Rattle.wasm_write.specs.Rows.{single_tree};
+ghost use Rattle.wasm_write.specs.Rows.{single_tree, import_tree};
 ghost use Rattle.wasm_write.specs.Types.{table_type_tree, memory_type_tree, global_type_tree, tag_type_tree, entity_tree};
 
 use crate::fault::WriteFault;
 use crate::fields::write_name;
-use crate::types::{EntityType, GlobalType, Import, MemoryType, TableType, TagKind, TagType};
+use crate::types::{
+    EntityType, GlobalType, Import, ImportCompact, Imports, MemoryType, TableType, TagKind, TagType,
+};
 use crate::value_types::{write_byte, write_marked, write_ref_type, write_val_type};
+use crate::vectors::{ItemOf, write_vec};
 use wasm_leb::{NoMemory, write_u32, write_u64};
 
 /// So much where it is set, and otherwise 0.
@@ -192,5 +195,91 @@ pub(crate) fn write_import(out: &mut Vec<u8>, import: &Import<'_>) -> Result<(),
     match write_entity_type(out, import.ty) {
         Ok(()) => Ok(()),
         Err(NoMemory) => Err(WriteFault::NoMemory),
+    }
+}
+
+/// Imports from one module.
+struct InImports;
+
+impl<'a> ItemOf<InImports> for ImportCompact<'a> {
+    ghost use Rattle.wasm_write.specs.Rows.{compact_tree};
+
+    ghost tree = { compact_tree };
+
+    fn write(&self, out: &mut Vec<u8>) -> Result<(), WriteFault> {
+        match write_name(out, self.name) {
+            Ok(()) => {}
+            Err(fault) => return Err(fault),
+        }
+        match write_entity_type(out, self.ty) {
+            Ok(()) => Ok(()),
+            Err(NoMemory) => Err(WriteFault::NoMemory),
+        }
+    }
+}
+
+impl<'a> ItemOf<InImports> for &'a str {
+    ghost use Rattle.wasm_write.specs.Rows.{name_tree};
+
+    ghost tree = { name_tree };
+
+    fn write(&self, out: &mut Vec<u8>) -> Result<(), WriteFault> {
+        write_name(out, self)
+    }
+}
+
+/// Appends the name of a module, an empty name and a byte, or a part of them where that is refused.
+fn write_unnamed(out: &mut Vec<u8>, module: &str, byte: u8) -> Result<(), WriteFault>
+    ensures ok { OnOk result (out.new.items ≡ out.old.items
+        ++ (normal (Tree.name «module».now) ++ (0 ∷ byte ∷ []))) }
+    ensures in_range { OnOk result (InRange (Tree.name «module».now)) }
+    ensures err { OnErr result (take (vec_len out.old) out.new.items ≡ out.old.items) }
+    ensures large { IfErr result (λ e. IfTooLarge e
+        (λ size. (size ≡ length «module».now) × (2 ^ 32 - 1 < size))) }
+{
+    match write_name(out, module) {
+        Ok(()) => {}
+        Err(fault) => return Err(fault),
+    }
+    match out.extend_from_slice(&[0x00, byte]) {
+        Ok(()) => Ok(()),
+        Err(_) => Err(WriteFault::NoMemory),
+    }
+}
+
+/// Appends an entry of an import section, or a part of it where that is refused.
+pub(crate) fn write_imports(out: &mut Vec<u8>, imports: &Imports<'_>) -> Result<(), WriteFault>
+    ensures ok { OnOk result (out.new.items ≡ out.old.items ++ normal (import_tree imports.now)) }
+    ensures in_range { OnOk result (InRange (import_tree imports.now)) }
+    ensures err { OnErr result (take (vec_len out.old) out.new.items ≡ out.old.items) }
+    ensures large { IfErr result (λ e. IfTooLarge e
+        (IsTooLarge (counts (import_tree imports.now)))) }
+{
+    match imports {
+        Imports::Single(import) => write_import(out, import),
+        Imports::Compact1 { module, items } => {
+            match write_unnamed(out, module, 0x7f) {
+                Ok(()) => {}
+                Err(fault) => return Err(fault),
+            }
+            match write_vec::<InImports, _>(out, items.as_slice()) {
+                Ok(()) => Ok(()),
+                Err(fault) => Err(fault),
+            }
+        }
+        Imports::Compact2 { module, ty, names } => {
+            match write_unnamed(out, module, 0x7e) {
+                Ok(()) => {}
+                Err(fault) => return Err(fault),
+            }
+            match write_entity_type(out, *ty) {
+                Ok(()) => {}
+                Err(NoMemory) => return Err(WriteFault::NoMemory),
+            }
+            match write_vec::<InImports, _>(out, names.as_slice()) {
+                Ok(()) => Ok(()),
+                Err(fault) => Err(fault),
+            }
+        }
     }
 }

@@ -47,8 +47,9 @@ pub use subsections::{SubsectionKind, Subsections};
 pub use types::{
     AbstractHeapType, ArrayType, BlockType, Catch, CompositeInnerType, CompositeType, ContType,
     CustomSection, Elements, EntityType, Export, ExportKind, FieldType, FuncType, GlobalType,
-    Handle, HeapType, Ieee32, Ieee64, Imm, Import, Imports, MemArg, MemoryType, Ordering, RecGroup,
-    RefType, StorageType, StructType, SubType, TableType, TagKind, TagType, ValType,
+    Handle, HeapType, Ieee32, Ieee64, Imm, Import, ImportCompact, Imports, MemArg, MemoryType,
+    Ordering, RecGroup, RefType, StorageType, StructType, SubType, TableType, TagKind, TagType,
+    ValType,
 };
 pub use value_types::write_val_type;
 pub use vectors::{ItemOf, write_rows, write_vec};

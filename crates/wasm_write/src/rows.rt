@@ -4,7 +4,7 @@ ghost use Rattle.wasm_shapes.specs.Tree.{placed_bytes};
 
 use crate::expressions::ConstExpr;
 use crate::externals::{
-    write_global_type, write_import, write_memory_type, write_table_type, write_tag_type,
+    write_global_type, write_imports, write_memory_type, write_table_type, write_tag_type,
 };
 use crate::fault::WriteFault;
 use crate::fields::{write_content, write_item, write_name};
@@ -32,9 +32,7 @@ impl<'a> RowOf<kinds::Imports> for Imports<'a> {
 
     #[tactic(auto, using(crate::proofs::RowSpelling::import_spelled))]
     fn write(&self, out: &mut Vec<u8>) -> Result<(), WriteFault> {
-        match self {
-            Imports::Single(import) => write_import(out, import),
-        }
+        write_imports(out, self)
     }
 }
 

@@ -129,10 +129,27 @@ pub struct Export<'a> {
     pub index: u32,
 }
 
-/// An entry of an import section (section 5.5.5).
-#[derive(Clone, Copy, PartialEq, Debug)]
+/// An entry of an import section (section 5.5.5): an import, or imports from one module, with a type each or of one type. It
+/// is one row, and an import for each item or name.
+#[derive(Drop)]
 pub enum Imports<'a> {
     Single(Import<'a>),
+    Compact1 {
+        module: &'a str,
+        items: List<ImportCompact<'a>>,
+    },
+    Compact2 {
+        module: &'a str,
+        ty: EntityType,
+        names: List<&'a str>,
+    },
+}
+
+/// What is imported from a module that is known: its name and its type.
+#[derive(Clone, Copy, PartialEq, Debug)]
+pub struct ImportCompact<'a> {
+    pub name: &'a str,
+    pub ty: EntityType,
 }
 
 /// What is imported: its module, its name and its type (section 5.5.5).

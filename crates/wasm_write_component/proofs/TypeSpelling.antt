@@ -7,7 +7,7 @@ use Rattle.wasm_leb.proofs.Shortest.{leb_spells}
 use Rattle.wasm_shapes.specs.declared.Space.TheVariants as space
 use Rattle.wasm_shapes.specs.Tree.{Tree, count, normal}
 use Rattle.wasm_shapes.specs.Shape.{Shape, Named, choice, entity, lead, group_rows}
-use Rattle.wasm_shapes.specs.Sections.{import_row}
+use Rattle.wasm_shapes.specs.Sections.{import_row, single_import}
 use Rattle.wasm_shapes.specs.NamedShapes.{shape_of}
 use Rattle.wasm_shapes.specs.Spells.{Is}
 use Rattle.wasm_shapes.specs.Fits.{InRange}
@@ -22,10 +22,11 @@ use Rattle.wasm_types.specs.declared.components.ComponentValType.{ComponentValTy
 use Rattle.wasm_types.specs.declared.components.VariantCase.{VariantCase}
 use Rattle.wasm_types.specs.ComponentTrees.{component_defined_type_tree, component_func_type_tree, component_signature_tree, component_val_type_tree, core_group_tree, func_row, label_tree, maybe_value_tree, named_value_tree, resource_tree, variant_case_tree}
 use Rattle.wasm_write.specs.declared.types.EntityType.{EntityType}
-use Rattle.wasm_write.specs.declared.types.Imports.TheVariants as imported
+use Rattle.wasm_write.specs.declared.types.Import.{Import}
 use Rattle.wasm_write.specs.declared.types.RecGroup.{RecGroup}
+use Rattle.wasm_write.specs.Rows.{single_tree}
 use Rattle.wasm_write.specs.Types.{ValType, entity_tree, group_tree, val_type_tree}
-use Rattle.wasm_write.proofs.ExternalShapes.{import_is}
+use Rattle.wasm_write.proofs.ExternalShapes.{entity_is}
 use Rattle.wasm_write.proofs.Holding.{count_rows}
 use Rattle.wasm_write.proofs.TypeShapes as core
 use Rattle.wasm_write.proofs.TypeShapes.{group_is, items_are}
@@ -141,13 +142,12 @@ scope_spelled rows small p =
 pub outer_spelled : (c i : ℕ) → c < 2 ^ 32 → i < 2 ^ 32 → SpelledAs module_declaration (Tree.row 2 (led 0x02 (led 0x10 (led 0x01 (Tree.outer space.Type_ c i)))))
 outer_spelled c i h k = ∣ frameless_spells module_declaration refl (row_is module_declaration 2 (Is.seq Is.fixed (Is.seq Is.fixed (Is.seq Is.fixed Is.outer)))) (tt, (tt, (tt, (h, k)))) ∣₁
 
--- ---- an export of a module, whose type is that of an import
+-- ---- what a module imports and exports
 
-imported_is : {from name t : Tree} → Is import_row (Tree.pair from (Tree.pair name t)) → Is entity t
-imported_is (Is.seq d (Is.seq e f)) = f
+-- an import stands in a module type as it stands in a section, where it is a single one
+pub single_spelled : (row : Import) → SpelledAs import_row (single_tree row) → SpelledAs single_import (single_tree row)
+single_spelled row p = ∥∥₁_map p (λ q. record { shaped = Is.seq Is.name (Is.seq Is.name (entity_is row.ty)); spelled = q.spelled })
 
 pub entity_spelled : (name : Bor (List ℕ)) (ty : EntityType) → InRange (Tree.pair (Tree.name name.now) (entity_tree ty)) →
     SpelledAs module_declaration (Tree.row 3 (led 0x03 (Tree.pair (Tree.name name.now) (entity_tree ty))))
-entity_spelled name ty h =
-    let d = imported_is (import_is (imported.Single (record { «module» = name; name = name; ty = ty }))) in
-    ∣ frameless_spells module_declaration refl (row_is module_declaration 3 (Is.seq Is.fixed (Is.seq Is.name d))) (tt, h) ∣₁
+entity_spelled name ty h = ∣ frameless_spells module_declaration refl (row_is module_declaration 3 (Is.seq Is.fixed (Is.seq Is.name (entity_is ty)))) (tt, h) ∣₁

@@ -1,12 +1,12 @@
 use Rattle.std.proofs.Common.{refl, arith}
 use Rattle.wasm_shapes.specs.Component.{module_declaration}
 use Rattle.wasm_write.proofs.Holding.{OnOk-map}
-use Rattle.wasm_write_component.proofs.TypeSpelling.{choice_spelled, entity_spelled, outer_spelled}
+use Rattle.wasm_write_component.proofs.TypeSpelling.{choice_spelled, entity_spelled, outer_spelled, single_spelled}
 use Rattle.wasm_write_component.proofs.type_rows.ModuleTypeDeclarationRowOfOfComponent_kindsModuleDeclarations.write.Goals as goal
 
 pub returns-in-Import-clause-spells : goal.returns-in-Import-clause-spells
 returns-in-Import-clause-spells c =
-    rw c.in-Import.is (OnOk-map c.write_behind.result c.write_behind.ensures.spells (λ p. choice_spelled module_declaration 0 0x00 refl p))
+    rw c.in-Import.is (OnOk-map c.write_behind.result c.write_behind.ensures.spells (λ p. choice_spelled module_declaration 0 0x00 refl (single_spelled c.in-Import.import p)))
 
 pub returns-in-Type_-clause-spells : goal.returns-in-Type_-clause-spells
 returns-in-Type_-clause-spells c =
