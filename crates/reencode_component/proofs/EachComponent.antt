@@ -26,7 +26,8 @@ use Rattle.reencode_core.proofs.OneRow.{answers}
 use Rattle.reencode_component.specs.Causes.{IfFault, inside, own_inside}
 use Rattle.reencode_component.specs.Gives.{GivesSectionBy}
 use Rattle.reencode_component.specs.ComponentLeaves.{ComponentUpTo, NoComponentHeading, section_in}
-use Rattle.reencode_component.specs.ComponentClauses.{ComponentClauses, FrameClauses, PayloadClauses}
+use Rattle.reencode_component.specs.ComponentClauses.{ComponentClauses, FrameClauses}
+use Rattle.reencode_component.specs.NestedClauses.{PayloadClauses}
 use Rattle.reencode_component.proofs.ComponentLoop.{ComponentDone, component_begin, component_end, component_held, component_more, component_refused, component_refused_leaves, component_unframed, component_unframed_leaves, header_wrong, no_header}
 use Rattle.reencode_component.proofs.SectionsDrawn.{section_drawn}
 
@@ -44,8 +45,8 @@ given_framed : {S E : Type 0} (i : Ghosts S E) (depth : ℕ) (p : ComponentPaylo
 given_framed i depth (payload.Section id at body) g c = c
 given_framed i depth (payload.Unknown at id contents) g c = c
 given_framed i depth (payload.Core id) g c = absurd g
-given_framed i depth (payload.Module at bytes) g c = c
-given_framed i depth (payload.Component at bytes) g c = c
+given_framed i depth (payload.Module at bytes) g c = rw c.placed (c.call.framed at)
+given_framed i depth (payload.Component at bytes) g c = rw c.placed (c.call.framed at)
 given_framed i depth (payload.Custom at section) g c = c
 
 -- an error of the bytes leaves no reading of the section

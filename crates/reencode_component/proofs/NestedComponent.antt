@@ -18,14 +18,15 @@ use Rattle.reencode_hooks.specs.Run.{accepted, refused}
 use Rattle.reencode_core.specs.Clauses.{asks}
 use Rattle.reencode_core.specs.Rows.{Asks}
 use Rattle.reencode_core.specs.Weave.{Puts, added}
-use Rattle.reencode_component.specs.Causes.{BehindFront, CauseBy, IfFault, IsFault, OwnInside, Stops, StopsNested, inside, own_inside, room}
+use Rattle.reencode_component.specs.Causes.{BehindFront, CauseBy, ComponentCause, IfFault, IsFault, OwnInside, Stops, StopsNested, inside, own_inside, room}
 use Rattle.reencode_component.specs.ComponentClauses.{ComponentClauses}
-use Rattle.reencode_component.specs.ComponentLeaves.{ComponentUpTo, NoComponentHeading}
+use Rattle.reencode_component.specs.ComponentLeaves.{component_in}
 use Rattle.reencode_component.specs.Components.{ComponentFault, NestedFault, ReadsComponent}
+use Rattle.reencode_component.specs.NestedClauses.{inner_component}
 use Rattle.reencode_component.specs.WeaveIn.{weave_in}
 use Rattle.reencode_component.proofs.FaultLaws.{fault_is_one}
 use Rattle.reencode_component.proofs.NestedReadings.{component_back, component_forth}
-use Rattle.reencode_component.proofs.NestedSections.{Accepts, IsNested, Refuses, next_room}
+use Rattle.reencode_component.proofs.NestedSections.{Accepts, IsNested, Refuses, fault_map, next_room}
 use Rattle.reencode_component.proofs.NestedSteps.{headed_accepted, headed_refused}
 use Rattle.reencode_component.proofs.SectionsDrawn.{component_drawn}
 
@@ -34,15 +35,14 @@ use Rattle.reencode_component.proofs.SectionsDrawn.{component_drawn}
 pub component_no_rows : (row : Shape) → component_body_of 4 ≡ Shape.vec row → ⊥
 component_no_rows row e = cc
 
-pub component_nested : (depth : ℕ) (body : List ℕ) → depth < 200 → IsNested depth 4 body component_tree (ReadsComponent (depth + 1) body) (ComponentFault (depth + 1) body)
-component_nested depth body low = record {
+pub component_nested : (depth : ℕ) (body : List ℕ) → IsNested depth 4 component_tree (component_in (depth + 1) body)
+component_nested depth body = record {
   forth = λ t r. component_forth depth body t r;
   back = λ u r. component_back depth body u r;
   one = λ u v p q. one_reading.component (depth + 1) (depth + 1) body u v p.reading q.reading;
   headed = λ u. refl;
   drawn = λ u r. component_drawn (depth + 1) body u r;
   no_rows = component_no_rows;
-  faults = λ x h. let P : ℕ → Type 0 = λ z. NestedFault depth z (numbered_frame 4 body) x in subst P (next_room depth low) (4, body, refl, refl, inr (refl, h));
 }
 
 -- ---- errors of its bytes
@@ -71,22 +71,24 @@ module _ {S E : Type 0} (i : Ghosts S E) (depth : ℕ) (body : List ℕ) (low : 
   ceiling = ap Sections.ceiling is_fresh
 
   pub component_refused : (e : Error E) → ComponentClauses i (depth + 1) body p fresh m new (Err e) → IsTrue i.keeps_defaults →
-      Refuses i depth 4 body component_tree (ReadsComponent (depth + 1) body) (ComponentUpTo (depth + 1) body) (ComponentFault (depth + 1) body) (NoComponentHeading body) top s p m e
+      Refuses i depth 4 (inner_component i (depth + 1) body) component_tree top s p m e
   component_refused e g k = record {
     walks = λ u r other.
         let P : ℕ → Type 0 = λ z.
         BehindFront (asks i) (added i.adds) z (depth + 1) (own_inside (asks i) i.adds z (depth + 1)) body p m e ⊎ (weave_in (asks i) (added i.adds) z p u ≡ refused e m) in
         by u (subst P ceiling ((g.default k).reading u r other));
-    unread = component_unread (asks i) (added i.adds) top (depth + 1) (inside (asks i) i.adds top (depth + 1)) (own_inside (asks i) i.adds top (depth + 1)) body p m e cause;
+    unread = fault_map e (λ x h. (h.0, faults x h.1)) (component_unread (asks i) (added i.adds) top (depth + 1) (inside (asks i) i.adds top (depth + 1)) (own_inside (asks i) i.adds top (depth + 1)) body p m e cause);
+    cause = cause;
     why = let P : ℕ → Type 0 = λ z. StopsNested (asks i) i.adds top depth z (numbered_frame 4 body) s m e in subst P (next_room depth low) (4, body, refl, refl, p, pushed, inr (refl, cause));
     left = g.after_error k;
     bare = g.headless k;
   }
     where
-      cause : CauseBy (asks i) (added i.adds) top (depth + 1) (inside (asks i) i.adds top (depth + 1)) (own_inside (asks i) i.adds top (depth + 1)) body p m e
-      cause =
-          let P : ℕ → Type 0 = λ z. CauseBy (asks i) (added i.adds) z (depth + 1) (inside (asks i) i.adds z (depth + 1)) (own_inside (asks i) i.adds z (depth + 1)) body p m e in
-          subst P ceiling (g.default k).cause
+      cause : ComponentCause (asks i) i.adds top (depth + 1) body p m e
+      cause = let P : ℕ → Type 0 = λ z. ComponentCause (asks i) i.adds z (depth + 1) body p m e in subst P ceiling (g.default k).cause
+
+      faults : (x : Fault) → ComponentFault (depth + 1) body x → NestedFault depth (room depth) (numbered_frame 4 body) x
+      faults x h = let P : ℕ → Type 0 = λ z. NestedFault depth z (numbered_frame 4 body) x in subst P (next_room depth low) (4, body, refl, refl, inr (refl, h))
 
       by : (u : Tree) → BehindFront (asks i) (added i.adds) top (depth + 1) (own_inside (asks i) i.adds top (depth + 1)) body p m e ⊎ (weave_in (asks i) (added i.adds) top p u ≡ refused e m) →
           OwnInside (asks i) i.adds top depth (room depth) (numbered_frame 4 body) s m e ⊎ (weave_in (asks i) (added i.adds) top p (component_tree u) ≡ refused e m)
@@ -96,8 +98,7 @@ module _ {S E : Type 0} (i : Ghosts S E) (depth : ℕ) (body : List ℕ) (low : 
       by u (inr h) = inr (headed_refused (asks i) (added i.adds) component_header top p m e u h)
 
   pub component_accepted : ComponentClauses i (depth + 1) body p fresh m new (Ok tt) → IsTrue i.keeps_defaults →
-      Accepts i depth 4 body component_tree (ReadsComponent (depth + 1) body) (ComponentUpTo (depth + 1) body) (ComponentFault (depth + 1) body) (NoComponentHeading body) top p m
-      (component_bytes new.sections)
+      Accepts i depth 4 (inner_component i (depth + 1) body) component_tree top p m (component_bytes new.sections)
   component_accepted g k = record {
     walks = λ u r.
         let q = (g.default k).reading u r in

@@ -15,7 +15,7 @@ use Rattle.reencode_hooks.specs.declared.indices.ReencodeIndices.{Ghosts}
 use Rattle.reencode_hooks.specs.Run.{accepted, refused}
 use Rattle.reencode_core.specs.Clauses.{ModuleClauses, asks}
 use Rattle.reencode_core.specs.Core.{IsCause}
-use Rattle.reencode_core.specs.Leaves.{CoreUpTo, NoCoreHeading}
+use Rattle.reencode_core.specs.Leaves.{module_in}
 use Rattle.reencode_core.specs.Rows.{Asks}
 use Rattle.reencode_core.specs.Weave.{Puts, added, weave}
 use Rattle.reencode_core.specs.Woven.{GivesWovenBytes, IsOwn, IsWovenCause, OwnNext, OwnTooLarge}
@@ -24,9 +24,10 @@ use Rattle.reencode_core.proofs.Left.{module_drawn}
 use Rattle.reencode_core.proofs.WholeBytes.{bytes_given, bytes_refused}
 use Rattle.reencode_component.specs.Causes.{IfFault, OwnInside, StopsNested, room}
 use Rattle.reencode_component.specs.Components.{ModuleFault, NestedFault}
+use Rattle.reencode_component.specs.NestedClauses.{inner_module}
 use Rattle.reencode_component.specs.WeaveIn.{weave_in}
 use Rattle.reencode_component.proofs.NestedReadings.{module_back, module_forth}
-use Rattle.reencode_component.proofs.NestedSections.{Accepts, IsNested, Refuses, next_room}
+use Rattle.reencode_component.proofs.NestedSections.{Accepts, IsNested, Refuses, fault_map, next_room}
 use Rattle.reencode_component.proofs.NestedSteps.{core_same}
 
 -- ---- what stands in the frame
@@ -34,7 +35,7 @@ use Rattle.reencode_component.proofs.NestedSteps.{core_same}
 pub module_no_rows : (row : Shape) → component_body_of 1 ≡ Shape.vec row → ⊥
 module_no_rows row e = cc
 
-pub module_nested : (depth : ℕ) (body : List ℕ) → depth < 200 → IsNested depth 1 body core_tree (CoreReading body) (ModuleFault body)
+pub module_nested : (depth : ℕ) (body : List ℕ) → depth < 200 → IsNested depth 1 core_tree (module_in body)
 module_nested depth body low = record {
   forth = λ t r. let q = module_forth depth body t r in (q.0, q.1, q.2);
   back = λ u r. module_back depth body low u r;
@@ -42,7 +43,6 @@ module_nested depth body low = record {
   headed = λ u. refl;
   drawn = λ u r. module_drawn body (core_tree u) (module_headed.forth body u r);
   no_rows = module_no_rows;
-  faults = λ x h. let P : ℕ → Type 0 = λ z. NestedFault depth z (numbered_frame 1 body) x in subst P (next_room depth low) (1, body, refl, refl, inl (refl, h));
 }
 
 -- ---- errors of its bytes
@@ -90,15 +90,19 @@ module _ {S E : Type 0} (asked : Asks S E) (adds : Puts S SectionRow) (c : ℕ) 
 module _ {S E : Type 0} (i : Ghosts S E) (depth : ℕ) (body : List ℕ) (low : depth < 200) (s p m : S) (top : ℕ) (fresh new : Sections) (is_fresh : fresh ≡ record { ceiling = top; sections = [] })
     (pushed : asks i s Push ≡ accepted 0 p) where
   pub module_refused : (e : Error E) → ModuleClauses i body p fresh m new (Err e) → IsTrue i.keeps_defaults →
-      Refuses i depth 1 body core_tree (CoreReading body) (CoreUpTo body) (ModuleFault body) (NoCoreHeading body) top s p m e
+      Refuses i depth 1 (inner_module i body) core_tree top s p m e
   module_refused e g k = record {
     walks = λ u r other. by u r (b.reading (core_tree u) (module_headed.forth body u r) other);
-    unread = module_unread (asks i) i.adds top body p m e b.cause;
+    unread = fault_map e (λ x h. (h.0, faults x h.1)) (module_unread (asks i) i.adds top body p m e b.cause);
+    cause = b.cause;
     why = let P : ℕ → Type 0 = λ z. StopsNested (asks i) i.adds top depth z (numbered_frame 1 body) s m e in subst P (next_room depth low) (1, body, refl, refl, p, pushed, inl (refl, b.cause));
     left = g.after_error k;
     bare = g.headless k;
   }
     where
+      faults : (x : Fault) → ModuleFault body x → NestedFault depth (room depth) (numbered_frame 1 body) x
+      faults x h = let P : ℕ → Type 0 = λ z. NestedFault depth z (numbered_frame 1 body) x in subst P (next_room depth low) (1, body, refl, refl, inl (refl, h))
+
       b : GivesWovenBytes {A = Unit {0}} (asks i) i.adds top body p m (Err e) (λ _. [])
       b = bytes_refused (asks i) i.adds body top p m fresh new e (λ _. []) is_fresh (g.woven k)
 
@@ -110,7 +114,7 @@ module _ {S E : Type 0} (i : Ghosts S E) (depth : ℕ) (body : List ℕ) (low : 
       by u r (inr h) = inr (core_same (asks i) (added i.adds) top p u r ∙ h)
 
   pub module_accepted : ModuleClauses i body p fresh m new (Ok tt) → IsTrue i.keeps_defaults →
-      Accepts i depth 1 body core_tree (CoreReading body) (CoreUpTo body) (ModuleFault body) (NoCoreHeading body) top p m (module_bytes new.sections)
+      Accepts i depth 1 (inner_module i body) core_tree top p m (module_bytes new.sections)
   module_accepted g k = record {
     walks = λ u r.
         let q = b.reading (core_tree u) (module_headed.forth body u r) in

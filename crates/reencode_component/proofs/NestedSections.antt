@@ -32,7 +32,7 @@ use Rattle.reencode_component.specs.Causes.{IfFault, OwnInside, StopsNested, ins
 use Rattle.reencode_component.specs.ComponentLeaves.{SectionUpTo, section_in}
 use Rattle.reencode_component.specs.Components.{IsHandedOut, NestedFault, ReadsSection}
 use Rattle.reencode_component.specs.Gives.{FaultIn, GivesAddedIn, GivesSection, RefusedOr}
-use Rattle.reencode_component.specs.NestedClauses.{NestedClauses}
+use Rattle.reencode_component.specs.NestedClauses.{Inner, NestedClauses}
 use Rattle.reencode_component.specs.WeaveIn.{weave_in}
 use Rattle.reencode_component.proofs.EachComponentSection.{frame_wanted, leaves_placed, not_read}
 use Rattle.reencode_component.proofs.FaultLaws.{nested_one}
@@ -44,18 +44,17 @@ pub next_room : (depth : ℕ) → depth < 200 → suc (room (depth + 1)) ≡ roo
 next_room depth h = omega (arith, h)
 
 -- What stands in the frame of a nested section of an id: a scope, in it a header, and behind that what its bytes are read as.
-pub record IsNested (depth id : ℕ) (body : List ℕ) (head : Tree → Tree) (reads : Tree → Type 0) (broken : Fault → Type 0) : Type 0 where
-  pub forth : (t : Tree) → ReadsSection depth (numbered_frame id body) t → (u : Tree) × (t ≡ nested_tree id (head u)) × reads u
-  pub back : (u : Tree) → reads u → ReadsSection depth (numbered_frame id body) (nested_tree id (head u))
-  pub one : (u v : Tree) → reads u → reads v → u ≡ v
+pub record IsNested (depth id : ℕ) (head : Tree → Tree) (text : Text) : Type 0 where
+  pub forth : (t : Tree) → ReadsSection depth (numbered_frame id text.bytes) t → (u : Tree) × (t ≡ nested_tree id (head u)) × text.reads u
+  pub back : (u : Tree) → text.reads u → ReadsSection depth (numbered_frame id text.bytes) (nested_tree id (head u))
+  pub one : (u v : Tree) → text.reads u → text.reads v → u ≡ v
   pub headed : (u : Tree) → visits (head u) ≡ visits u
-  pub drawn : (u : Tree) → reads u → Drawn body (visits u)
+  pub drawn : (u : Tree) → text.reads u → Drawn text.bytes (visits u)
   pub no_rows : (row : Shape) → component_body_of id ≡ Shape.vec row → ⊥
-  pub faults : (x : Fault) → broken x → NestedFault depth (room depth) (numbered_frame id body) x
 
 -- ---- errors
 
-fault_map : {E : Type 0} {P Q : Fault → Type 0} (e : Error E) → ((x : Fault) → P x → Q x) → IfFault e P → IfFault e Q
+pub fault_map : {E : Type 0} {P Q : Fault → Type 0} (e : Error E) → ((x : Fault) → P x → Q x) → IfFault e P → IfFault e Q
 fault_map (ParseError x) f h = f (fault.Read x) h
 fault_map InvalidCodeSectionSize f h = f fault.CodeSize h
 fault_map UnexpectedNonCoreModuleSection f h = f (fault.Header kinds.Component) h
@@ -80,15 +79,18 @@ no_up_to depth id body none t rest x = go (numbered_frame id body) t rest x refl
     go f t rest (SectionUpTo.rows id' body' row reader u rest' e there r) q = let number : id' ≡ id = cc in none row (sym (ap component_body_of number) ∙ e.body)
     go f t rest (SectionUpTo.names name contents u rest' is r) q = cc
 
-module _ {S E : Type 0} (i : Ghosts S E) (depth id : ℕ) (body : List ℕ) (head : Tree → Tree) (reads : Tree → Type 0) (faulty : Tree → List ℕ → Type 0) (broken : Fault → Type 0) (headless : Type 0) where
+module _ {S E : Type 0} (i : Ghosts S E) (depth id : ℕ) (inner : Inner S E) where
+  abbrev body : List ℕ
+  body = inner.text.bytes
+
+  abbrev reads : Tree → Type 0
+  reads u = inner.text.reads u
+
   abbrev frame_tree : Tree
   frame_tree = numbered_frame id body
 
-  abbrev text : Text
-  text = record { bytes = body; reads = reads; faulty = faulty }
-
   abbrev Clauses : S → Sections → S → Sections → Result (Unit {0}) (Error E) → Type 0
-  Clauses s old m new r = NestedClauses i depth id body broken text headless s old m new r
+  Clauses s old m new r = NestedClauses i depth id inner s old m new r
 
   -- ---- before the push
 
@@ -98,7 +100,7 @@ module _ {S E : Type 0} (i : Ghosts S E) (depth id : ℕ) (body : List ℕ) (hea
   nested_deep deep none no_rows s old = record {
     framed = λ at. not_read i depth frame_tree none unnested (no_up_to depth id body no_rows) at s old;
     unchanged = refl;
-    told = λ k low. absurd (omega (arith, deep, low));
+    cause = λ k low. absurd (omega (arith, deep, low));
     inside = λ k low. absurd (omega (arith, deep, low));
     deep = λ e. (refl, refl, refl);
   }
@@ -111,7 +113,7 @@ module _ {S E : Type 0} (i : Ghosts S E) (depth id : ℕ) (body : List ℕ) (hea
   nested_unmade low s old r q = let P : Result (Unit {0}) (Error E) → Type 0 = λ z. Clauses s old s old z in subst P (answers r q) (record {
     framed = λ at. frame_wanted i depth frame_tree at s old;
     unchanged = refl;
-    told = λ k low. tt;
+    cause = λ k low. inl refl;
     inside = λ k low none told size. inl (refl, refl);
     deep = λ e. absurd (omega (arith, low, e));
   })
@@ -128,7 +130,7 @@ module _ {S E : Type 0} (i : Ghosts S E) (depth id : ℕ) (body : List ℕ) (hea
           after_error = λ k told size. absurd (not_wanting e never (λ h. told refl) wants);
         };
         unchanged = refl;
-        told = λ k low. tt;
+        cause = λ k low. inl refl;
         inside = λ k low none told size. absurd (not_wanting e never (λ h. told refl) wants);
         deep = λ e. absurd (omega (arith, low, e));
       }))
@@ -136,19 +138,20 @@ module _ {S E : Type 0} (i : Ghosts S E) (depth id : ℕ) (body : List ℕ) (hea
   -- ---- behind the push
 
   -- What is known where what stands in the scope was refused, or has no reading.
-  pub record Refuses (ceiling : ℕ) (s p m : S) (e : Error E) : Type 0 where
+  pub record Refuses (head : Tree → Tree) (ceiling : ℕ) (s p m : S) (e : Error E) : Type 0 where
     pub walks : (u : Tree) → reads u → e ≢ NoMemory → OwnInside (asks i) i.adds ceiling depth (room depth) frame_tree s m e ⊎ (weave_in (asks i) (added i.adds) ceiling p (head u) ≡ refused e m)
-    pub unread : IfFault e (λ x. ((u : Tree) → reads u → ⊥) × broken x)
+    pub unread : IfFault e (λ x. ((u : Tree) → reads u → ⊥) × NestedFault depth (room depth) frame_tree x)
+    pub cause : inner.cause ceiling p m e
     pub why : StopsNested (asks i) i.adds ceiling depth (room depth) frame_tree s m e
-    pub left : (e ≡ NoMemory → IsTrue i.sure) → (IsSize e → IsTrue i.adds_nothing) → Leaves (asks i) text p e m
-    pub bare : headless → m ≡ p
+    pub left : (e ≡ NoMemory → IsTrue i.sure) → (IsSize e → IsTrue i.adds_nothing) → Leaves (asks i) inner.text p e m
+    pub bare : inner.headless → m ≡ p
 
   -- What is known where all of it was mapped: the bytes of the new one.
-  pub record Accepts (ceiling : ℕ) (p m : S) (contents : List ℕ) : Type 0 where
+  pub record Accepts (head : Tree → Tree) (ceiling : ℕ) (p m : S) (contents : List ℕ) : Type 0 where
     pub walks : (u : Tree) → reads u → (v : Tree) × (weave_in (asks i) (added i.adds) ceiling p (head u) ≡ accepted v m) × (contents ≡ normal v)
     pub some : (u : Tree) × reads u
 
-  module _ (low : depth < 200) (kind : IsNested depth id body head reads broken) (s p : S) (old : Sections) (pushed : asks i s Push ≡ accepted 0 p) where
+  module _ {head : Tree → Tree} (low : depth < 200) (kind : IsNested depth id head inner.text) (s p : S) (old : Sections) (pushed : asks i s Push ≡ accepted 0 p) where
     push_ran : run (asks i) s (Push ∷ []) ≡ accepted (0 ∷ []) p
     push_ran = rw pushed refl
 
@@ -159,7 +162,7 @@ module _ {S E : Type 0} (i : Ghosts S E) (depth id : ℕ) (body : List ℕ) (hea
     visits_are : (t u : Tree) → t ≡ nested_tree id (head u) → Push ∷ visits u ++ Pop ∷ [] ≡ visits t
     visits_are t u e = ap (λ (z : List Visit). Push ∷ z ++ Pop ∷ []) (sym (kind.headed u)) ∙ sym (ap visits e)
 
-    module _ {m : S} (e : Error E) (g : IsTrue i.keeps_defaults → Refuses old.ceiling s p m e) where
+    module _ {m : S} (e : Error E) (g : IsTrue i.keeps_defaults → Refuses head old.ceiling s p m e) where
       walk_refused : IsTrue i.keeps_defaults → (t : Tree) → ReadsSection depth frame_tree t →
           RefusedOr (own_inside (asks i) i.adds old.ceiling depth frame_tree s m) (weave_in (asks i) (added i.adds) old.ceiling s t) e m
       walk_refused k t r other = let q = kind.forth t r in by q.0 q.1 ((g k).walks q.0 q.2 other)
@@ -178,19 +181,19 @@ module _ {S E : Type 0} (i : Ghosts S E) (depth id : ℕ) (body : List ℕ) (hea
       given at w reading unreadable refusal = record { reading = reading; readable = tt; unreadable = unreadable; refusal = refusal; unchanged = refl }
 
     -- an error of the section at its place
-    gives_refused : {m : S} (e : Error E) → IsTrue i.keeps_defaults → Refuses old.ceiling s p m e → (at : ℕ) → GivesSection (asks i) i.adds depth frame_tree at (s, old) (m, old) (Err (placed_at e at))
+    gives_refused : {m : S} (e : Error E) → IsTrue i.keeps_defaults → Refuses head old.ceiling s p m e → (at : ℕ) → GivesSection (asks i) i.adds depth frame_tree at (s, old) (m, old) (Err (placed_at e at))
     gives_refused (ParseError x) k g at =
         let none = no_reading g.unread.0 in
         given (ParseError x) (λ _. g) at (ParseError (record { at = at })) (λ t r. absurd (none t r))
-        (none, (refl, λ y handed q. subst IsHandedOut (nested_one depth (room depth) frame_tree y (fault.Read x) q (kind.faults (fault.Read x) g.unread.1)) handed)) tt
+        (none, (refl, λ y handed q. subst IsHandedOut (nested_one depth (room depth) frame_tree y (fault.Read x) q g.unread.1) handed)) tt
     gives_refused InvalidCodeSectionSize k g at =
-        given InvalidCodeSectionSize (λ _. g) at InvalidCodeSectionSize (walk_refused InvalidCodeSectionSize (λ _. g) k) (no_reading g.unread.0, (tt, kind.faults fault.CodeSize g.unread.1)) tt
+        given InvalidCodeSectionSize (λ _. g) at InvalidCodeSectionSize (walk_refused InvalidCodeSectionSize (λ _. g) k) (no_reading g.unread.0, (tt, g.unread.1)) tt
     gives_refused UnexpectedNonCoreModuleSection k g at =
         given UnexpectedNonCoreModuleSection (λ _. g) at UnexpectedNonCoreModuleSection (walk_refused UnexpectedNonCoreModuleSection (λ _. g) k)
-        (no_reading g.unread.0, (tt, kind.faults (fault.Header kinds.Component) g.unread.1)) tt
+        (no_reading g.unread.0, (tt, g.unread.1)) tt
     gives_refused UnexpectedNonComponentSection k g at =
         given UnexpectedNonComponentSection (λ _. g) at UnexpectedNonComponentSection (walk_refused UnexpectedNonComponentSection (λ _. g) k)
-        (no_reading g.unread.0, (tt, kind.faults (fault.Header kinds.Module) g.unread.1)) tt
+        (no_reading g.unread.0, (tt, g.unread.1)) tt
     gives_refused (UserError x) k g at = given (UserError x) (λ _. g) at (UserError x) (walk_refused (UserError x) (λ _. g) k) tt (inr (inr (inr g.why)))
     gives_refused (TooLarge x) k g at = given (TooLarge x) (λ _. g) at (TooLarge x) (walk_refused (TooLarge x) (λ _. g) k) tt (inr (inr (inr g.why)))
     gives_refused NoMemory k g at = given NoMemory (λ _. g) at NoMemory (walk_refused NoMemory (λ _. g) k) tt tt
@@ -199,7 +202,7 @@ module _ {S E : Type 0} (i : Ghosts S E) (depth id : ℕ) (body : List ℕ) (hea
     gives_refused UnsupportedCoreTypeInComponent k g at = absurd g.unread
 
     -- the push, and the visits behind it
-    pushed_leaves : {m : S} (e : Error E) → Leaves (asks i) text p e m → Leaves (asks i) (section_in depth frame_tree) s e m
+    pushed_leaves : {m : S} (e : Error E) → Leaves (asks i) inner.text p e m → Leaves (asks i) (section_in depth frame_tree) s e m
     pushed_leaves e l = record {
       made = Push ∷ l.made;
       ended = ended_behind (asks i) e (Push ∷ []) l.made push_ran l.ended;
@@ -208,7 +211,7 @@ module _ {S E : Type 0} (i : Ghosts S E) (depth id : ℕ) (body : List ℕ) (hea
       fault = λ none t rest x. absurd (no_up_to depth id body kind.no_rows t rest x);
     }
 
-    pub nested_refused : {m : S} (e : Error E) → (IsTrue i.keeps_defaults → Refuses old.ceiling s p m e) → (r : Result (Unit {0}) (Error E)) → IsErrAnd r (λ y. y ≡ e) → Clauses s old m old r
+    pub nested_refused : {m : S} (e : Error E) → (IsTrue i.keeps_defaults → Refuses head old.ceiling s p m e) → (r : Result (Unit {0}) (Error E)) → IsErrAnd r (λ y. y ≡ e) → Clauses s old m old r
     nested_refused {m = m} e g r q = let P : Result (Unit {0}) (Error E) → Type 0 = λ z. Clauses s old m old z in subst P (answers r q) (record {
       framed = λ at. record {
         kept = keeps_same old;
@@ -216,12 +219,12 @@ module _ {S E : Type 0} (i : Ghosts S E) (depth id : ℕ) (body : List ℕ) (hea
         after_error = λ k told size. leaves_placed (section_in depth frame_tree) e at (pushed_leaves e ((g k).left (λ h. told (wants_placed e at h)) (λ h. size (size_placed e at h))));
       };
       unchanged = refl;
-      told = λ k low. fault_map e (λ x h. h.1) (g k).unread;
+      cause = λ k low. inr (inr (record { at = p; push = pushed; inside = (g k).cause }));
       inside = λ k low none told size. inr (record { at = p; push = pushed; inside = ((g k).left told size, (g k).bare) });
       deep = λ h. absurd (omega (arith, low, h));
     })
 
-    module _ {m n : S} (contents : List ℕ) (g : IsTrue i.keeps_defaults → Accepts old.ceiling p m contents) (popped : asks i m Pop ≡ accepted 0 n) where
+    module _ {m n : S} (contents : List ℕ) (g : IsTrue i.keeps_defaults → Accepts head old.ceiling p m contents) (popped : asks i m Pop ≡ accepted 0 n) where
       -- all its visits were made
       all_ran : (u : Tree) (a : List ℕ) → run (asks i) p (visits u) ≡ accepted a m → run (asks i) s (Push ∷ visits u ++ Pop ∷ []) ≡ accepted ((0 ∷ []) ++ (a ++ 0 ∷ [])) n
       all_ran u a h =
@@ -259,7 +262,7 @@ module _ {S E : Type 0} (i : Ghosts S E) (depth id : ℕ) (body : List ℕ) (hea
           after_error = λ k. tt;
         };
         unchanged = tt;
-        told = λ k low. tt;
+        cause = λ k low. tt;
         inside = λ k low none. tt;
         deep = λ h. absurd (omega (arith, low, h));
       }
@@ -307,7 +310,7 @@ module _ {S E : Type 0} (i : Ghosts S E) (depth id : ℕ) (body : List ℕ) (hea
               after_error = λ k told size. popped_leaves k _ tt;
             };
             unchanged = refl;
-            told = λ k low. tt;
+            cause = λ k low. let t = (g k).some in inr (inl (tt, _, kind.back t.0 t.1, by k size h.0 h.1 _ t.0 refl t.1));
             inside = λ k low none. absurd (none _ (kind.back (g k).some.0 (g k).some.1));
             deep = λ h. absurd (omega (arith, low, h));
           }
@@ -318,7 +321,7 @@ module _ {S E : Type 0} (i : Ghosts S E) (depth id : ℕ) (body : List ℕ) (hea
               after_error = λ k told size. popped_leaves k NoMemory tt;
             };
             unchanged = refl;
-            told = λ k low. tt;
+            cause = λ k low. inl refl;
             inside = λ k low none. absurd (none _ (kind.back (g k).some.0 (g k).some.1));
             deep = λ h. absurd (omega (arith, low, h));
           }

@@ -136,3 +136,7 @@ inside asked adds c depth = StopsBy asked c depth (StopsNested asked adds c dept
 
 abbrev pub own_inside : {S E : Type 0} → Asks S E → Puts S SectionRow → ℕ → ℕ → Stops S E
 own_inside asked adds c depth = OwnInside asked adds c depth (room depth)
+
+-- why an error of a component comes
+abbrev pub ComponentCause : {S E : Type 0} → Asks S E → Puts S SectionRow → ℕ → ℕ → List ℕ → S → S → Error E → Type 0
+ComponentCause asked adds c depth bytes s m e = CauseBy asked (added adds) c depth (inside asked adds c depth) (own_inside asked adds c depth) bytes s m e

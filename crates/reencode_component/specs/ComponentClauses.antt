@@ -2,12 +2,8 @@
 -- its state and `old` what the component holds before the call, `m` and `new` are the same after it.
 use Rattle.std.specs.Prelude.{◌≡◌, ℕ, List, Result, Ok, Err, IsTrue}
 use Rattle.wasm_shapes.specs.Tree.{Tree}
-use Rattle.wasm_read_component.specs.declared.types.ComponentPayload.{ComponentPayload}
-use Rattle.wasm_read_component.specs.declared.types.ComponentPayload.TheVariants as payload
-use Rattle.wasm_read_component.specs.ComponentPayloads.{component_frame_tree, component_payload_at}
 use Rattle.wasm_write.specs.Sections.{Sections}
 use Rattle.reencode_hooks.specs.declared.error.Error.{Error}
-use Rattle.reencode_hooks.specs.declared.error.Error.TheVariants.{UnexpectedNonComponentSection}
 use Rattle.reencode_hooks.specs.declared.indices.ReencodeIndices.{Ghosts}
 use Rattle.reencode_core.specs.Clauses.{asks}
 use Rattle.reencode_core.specs.Errors.{placed_at}
@@ -29,11 +25,6 @@ FrameClauses i depth f at s old m new result =
       default : IsTrue i.keeps_defaults → GivesSection (asks i) i.adds depth f at (s, old) (m, new) result;
       after_error : IsTrue i.keeps_defaults → LeavesCore i.sure i.adds_nothing (asks i) (section_in depth f) s m result;
     }
-
--- The same of a payload: its section in its frame, at its place. One of a core module is refused, and nothing is asked.
-abbrev pub PayloadClauses : {S E : Type 0} → Ghosts S E → ℕ → ComponentPayload → S → Sections → S → Sections → Result (Unit {0}) (Error E) → Type 0
-PayloadClauses i depth (payload.Core id) s old m new result = (result ≡ Err UnexpectedNonComponentSection) × (m ≡ s) × (new ≡ old)
-PayloadClauses i depth p s old m new result = FrameClauses i depth (component_frame_tree p) (component_payload_at p) s old m new result
 
 -- A component is read, and what its sections become is added.
 abbrev pub ComponentClauses : {S E : Type 0} → Ghosts S E → ℕ → List ℕ → S → Sections → S → Sections → Result (Unit {0}) (Error E) → Type 0

@@ -1,8 +1,8 @@
 //! Whole components.
 ghost use Rattle.std.specs.Prelude.{◌≤◌};
 ghost use Rattle.wasm_shapes.specs.Module.{numbered_frame};
-ghost use Rattle.reencode_component.specs.ComponentClauses.{ComponentClauses, FrameClauses, PayloadClauses};
-ghost use Rattle.reencode_component.specs.NestedClauses.{SubcomponentClauses};
+ghost use Rattle.reencode_component.specs.ComponentClauses.{ComponentClauses, FrameClauses};
+ghost use Rattle.reencode_component.specs.NestedClauses.{PayloadClauses, SubcomponentClauses};
 
 use crate::component::ReencodeComponent;
 use crate::component_sections::{numbered, placed};
@@ -66,10 +66,12 @@ pub fn parse_component_payload<T: ReencodeComponent>(
             section(reencoder, alloc, component, id, at, body, depth)
         }
         r::ComponentPayload::Module { at, bytes } => {
-            section(reencoder, alloc, component, 1, at, bytes, depth)
+            let mapped = parse_component_submodule(reencoder, alloc, component, bytes, depth);
+            placed(mapped, at)
         }
         r::ComponentPayload::Component { at, bytes } => {
-            section(reencoder, alloc, component, 4, at, bytes, depth)
+            let mapped = parse_component_subcomponent(reencoder, alloc, component, bytes, depth);
+            placed(mapped, at)
         }
         r::ComponentPayload::Custom { at, section } => {
             let mapped = reencoder.parse_component_custom_section(alloc, component, section);

@@ -1,7 +1,5 @@
 use Rattle.std.proofs.Common.{◌+◌, refl}
-use Rattle.wasm_shapes.specs.Component.{component_tree}
-use Rattle.reencode_component.specs.ComponentLeaves.{ComponentUpTo, NoComponentHeading}
-use Rattle.reencode_component.specs.Components.{ComponentFault, ReadsComponent}
+use Rattle.reencode_component.specs.NestedClauses.{inner_component}
 use Rattle.reencode_component.proofs.CustomFrames.{custom_framed}
 use Rattle.reencode_component.proofs.EachComponent.{component_begun, component_headless, kept_ended, kept_more, kept_refused, kept_unframed}
 use Rattle.reencode_component.proofs.NestedComponent.{component_accepted, component_nested, component_no_rows, component_refused}
@@ -40,13 +38,13 @@ parse_component-returns-in-None g t c =
 pub parse_component_payload-returns-in-Custom : goal.parse_component_payload-returns-in-Custom
 parse_component_payload-returns-in-Custom g t c =
     let section = c.in-Custom.section in
-    rw (c.in-Custom.is, c.placed.ensures) (custom_framed g.T.ReencodeIndices c.args.depth c.requires section.name.now section.contents.now c.in-Custom.at _ c.parse_component_custom_section-mapped.ensures)
+    rw (c.in-Custom.is, c.placed-in-Custom.ensures) (custom_framed g.T.ReencodeIndices c.args.depth c.requires section.name.now section.contents.now c.in-Custom.at _ c.parse_component_custom_section-mapped.ensures)
 
 pub parse_component_payload-returns-in-Module : goal.parse_component_payload-returns-in-Module
-parse_component_payload-returns-in-Module g t c = rw c.in-Module.is c.section-in-Module.ensures
+parse_component_payload-returns-in-Module g t c = rw c.in-Module.is (record { mapped = _; call = c.parse_component_submodule-mapped.ensures; placed = c.placed.ensures })
 
 pub parse_component_payload-returns-in-Component : goal.parse_component_payload-returns-in-Component
-parse_component_payload-returns-in-Component g t c = rw c.in-Component.is c.section-in-Component.ensures
+parse_component_payload-returns-in-Component g t c = rw c.in-Component.is (record { mapped = _; call = c.parse_component_subcomponent-mapped.ensures; placed = c.placed-in-Component.ensures })
 
 pub section-returns-then-id-eq1 : goal.section-returns-then-id-eq1
 section-returns-then-id-eq1 g t c = rw (c.if-id-eq1.true, c.placed.ensures) (c.parse_component_submodule-mapped.ensures.framed c.args.at)
@@ -57,19 +55,19 @@ section-returns-then-id-eq4 g t c = rw (c.if-id-eq4.true, c.placed-then-id-eq4.e
 pub parse_component_subcomponent-returns-then-depth-ge-DEPTH : goal.parse_component_subcomponent-returns-then-depth-ge-DEPTH
 parse_component_subcomponent-returns-then-depth-ge-DEPTH g t c =
     let body = c.args.bytes.now in
-    nested_deep g.T.ReencodeIndices c.args.depth 4 body component_tree (ReadsComponent (c.args.depth + 1) body) (ComponentUpTo (c.args.depth + 1) body) (ComponentFault (c.args.depth + 1) body) (NoComponentHeading body) c.if-depth-ge-DEPTH.true
+    nested_deep g.T.ReencodeIndices c.args.depth 4 (inner_component g.T.ReencodeIndices (c.args.depth + 1) body) c.if-depth-ge-DEPTH.true
     (component_too_deep c.args.depth body c.if-depth-ge-DEPTH.true) component_no_rows _ _
 
 pub parse_component_subcomponent-returns-in_err-nested : goal.parse_component_subcomponent-returns-in_err-nested
 parse_component_subcomponent-returns-in_err-nested g t c =
     let body = c.args.bytes.now in
-    nested_unmade g.T.ReencodeIndices c.args.depth 4 body component_tree (ReadsComponent (c.args.depth + 1) body) (ComponentUpTo (c.args.depth + 1) body) (ComponentFault (c.args.depth + 1) body) (NoComponentHeading body) c.if-depth-ge-DEPTH.false _ _ _
+    nested_unmade g.T.ReencodeIndices c.args.depth 4 (inner_component g.T.ReencodeIndices (c.args.depth + 1) body) c.if-depth-ge-DEPTH.false _ _ _
     c.from_residual.ensures.1
 
 pub parse_component_subcomponent-returns-in_err-push_depth : goal.parse_component_subcomponent-returns-in_err-push_depth
 parse_component_subcomponent-returns-in_err-push_depth g t c =
     let body = c.args.bytes.now in
-    nested_unopened g.T.ReencodeIndices c.args.depth 4 body component_tree (ReadsComponent (c.args.depth + 1) body) (ComponentUpTo (c.args.depth + 1) body) (ComponentFault (c.args.depth + 1) body) (NoComponentHeading body) c.if-depth-ge-DEPTH.false _ _ _ _
+    nested_unopened g.T.ReencodeIndices c.args.depth 4 (inner_component g.T.ReencodeIndices (c.args.depth + 1) body) c.if-depth-ge-DEPTH.false _ _ _ _
     c.in_err-push_depth.ensures.answer c.in_err-push_depth.ensures.sure _ c.from_residual-in_err-push_depth.ensures.1
 
 pub parse_component_subcomponent-returns-in_err-parse_component : goal.parse_component_subcomponent-returns-in_err-parse_component
@@ -77,7 +75,7 @@ parse_component_subcomponent-returns-in_err-parse_component g t c =
     let body = c.args.bytes.now in
     let pushed = c.in_ok-push_depth.ensures.answer in
     let low = c.if-depth-ge-DEPTH.false in
-    nested_refused g.T.ReencodeIndices c.args.depth 4 body component_tree (ReadsComponent (c.args.depth + 1) body) (ComponentUpTo (c.args.depth + 1) body) (ComponentFault (c.args.depth + 1) body) (NoComponentHeading body) low (component_nested c.args.depth body low) _ _ _ pushed _
+    nested_refused g.T.ReencodeIndices c.args.depth 4 (inner_component g.T.ReencodeIndices (c.args.depth + 1) body) low (component_nested c.args.depth body) _ _ _ pushed _
     (component_refused g.T.ReencodeIndices c.args.depth body low _ _ _ _ _ _ (rw (← c.ceiling.ensures) c.in_ok-nested.ensures) pushed _ c.in_err-parse_component.ensures) _ c.from_residual-in_err-parse_component.ensures.1
 
 pub parse_component_subcomponent-returns-in_err-section : goal.parse_component_subcomponent-returns-in_err-section
@@ -85,7 +83,7 @@ parse_component_subcomponent-returns-in_err-section g t c =
     let body = c.args.bytes.now in
     let pushed = c.in_ok-push_depth.ensures.answer in
     let low = c.if-depth-ge-DEPTH.false in
-    nested_large g.T.ReencodeIndices c.args.depth 4 body component_tree (ReadsComponent (c.args.depth + 1) body) (ComponentUpTo (c.args.depth + 1) body) (ComponentFault (c.args.depth + 1) body) (NoComponentHeading body) low (component_nested c.args.depth body low) _ _ _ pushed _
+    nested_large g.T.ReencodeIndices c.args.depth 4 (inner_component g.T.ReencodeIndices (c.args.depth + 1) body) low (component_nested c.args.depth body) _ _ _ pushed _
     (component_accepted g.T.ReencodeIndices c.args.depth body low _ _ _ _ _ _ (rw (← c.ceiling.ensures) c.in_ok-nested.ensures) pushed c.in_ok-parse_component.ensures) c.pop_depth.ensures.answer c.in_err-section.ensures.err _ c.in_err-section.ensures.large _
     c.from_residual-in_err-section.ensures.1
 
@@ -94,5 +92,5 @@ parse_component_subcomponent-returns g t c =
     let body = c.args.bytes.now in
     let pushed = c.in_ok-push_depth.ensures.answer in
     let low = c.if-depth-ge-DEPTH.false in
-    nested_added g.T.ReencodeIndices c.args.depth 4 body component_tree (ReadsComponent (c.args.depth + 1) body) (ComponentUpTo (c.args.depth + 1) body) (ComponentFault (c.args.depth + 1) body) (NoComponentHeading body) low (component_nested c.args.depth body low) _ _ _ pushed _
+    nested_added g.T.ReencodeIndices c.args.depth 4 (inner_component g.T.ReencodeIndices (c.args.depth + 1) body) low (component_nested c.args.depth body) _ _ _ pushed _
     (component_accepted g.T.ReencodeIndices c.args.depth body low _ _ _ _ _ _ (rw (← c.ceiling.ensures) c.in_ok-nested.ensures) pushed c.in_ok-parse_component.ensures) c.pop_depth.ensures.answer c.in_ok-section.ensures.ok c.in_ok-section.ensures.fits
