@@ -20,6 +20,7 @@ pub mod SectionsDrawn
 pub mod NestedSections
 pub mod NestedModule
 pub mod NestedComponent
+pub mod WovenAnswered
 pub mod TypeParts
 pub mod ScopeCalls
 pub mod CoreGroups

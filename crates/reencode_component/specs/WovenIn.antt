@@ -12,7 +12,8 @@ use Rattle.reencode_hooks.specs.Run.{accepted, run, state_after}
 use Rattle.reencode_core.specs.Clauses.{asks}
 use Rattle.reencode_core.specs.Rows.{Asks}
 use Rattle.reencode_core.specs.Weave.{Puts, added, woven}
-use Rattle.reencode_component.specs.ComponentLaws.{Adds, OfCalls}
+use Rattle.reencode_core.specs.Woven.{AddsFit}
+use Rattle.reencode_component.specs.ComponentLaws.{Adds, AddsOrWants, OfCalls}
 use Rattle.reencode_component.specs.Components.{ReadsComponent}
 use Rattle.reencode_component.specs.WeaveIn.{weave_in}
 
@@ -71,3 +72,10 @@ IfWoven asked adds depth bytes s old m new (Err e) = Unit {0}
 -- woven frames fit; what was added is the normal spelling of the woven tree, and the state is the one that the run leaves.
 abbrev pub OkIsWoven : {S E : Type 0} → Ghosts S E → Type 0
 OkIsWoven i = OfCalls i (λ depth bytes s old m new result. IfWoven (asks i) i.adds depth bytes s old m new result)
+
+-- Whatever the section hook adds, bytes that are read as such a component come to that output and that state, or memory runs out, where no
+-- section that is added at a section visit of the run has a body above the ceiling.
+abbrev pub WovenIsAnswered : {S E : Type 0} → Ghosts S E → Type 0
+WovenIsAnswered {S} i =
+    OfCalls i (λ depth bytes s old m new result. (out : List ℕ) (n : S) (w : IsWoven (asks i) (added i.adds) old.ceiling depth bytes s n out) →
+    AddsFit (asks i) i.adds old.ceiling s (visits w.tree) → AddsOrWants out n old m new result)

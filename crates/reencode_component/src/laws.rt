@@ -19,7 +19,7 @@ ghost use Rattle.reencode_component.specs.WithinLaws.{
   of_binary,
   of_module,
 };
-ghost use Rattle.reencode_component.specs.WovenIn.{OkIsWoven, WeaveInIsRun};
+ghost use Rattle.reencode_component.specs.WovenIn.{OkIsWoven, WeaveInIsRun, WovenIsAnswered};
 
 use reencode_hooks::ReencodeIndices;
 
@@ -89,6 +89,15 @@ pub fn weave_in_is_run<T: ReencodeIndices>(_reencoder: &T)
 /// the one that the run over the visits leaves.
 pub fn component_is_woven<T: ReencodeIndices>(_reencoder: &T)
     ensures { OkIsWoven T.ReencodeIndices }
+{}
+
+/// A call with the clauses of `parse_component` is complete, also where the section hook adds to nested modules.
+///
+/// Where the reencoder keeps the defaults, bytes that are read as a component whose visits are accepted and whose frames fit, the added
+/// sections counted, give Ok with that output and that state, or out of memory, if no section that the hook adds at a visit of the run
+/// has a body above the ceiling.
+pub fn woven_component_is_answered<T: ReencodeIndices>(_reencoder: &T)
+    ensures { WovenIsAnswered T.ReencodeIndices }
 {}
 
 /// What `reencode_core` answers, in terms of the reading: of a call with its clauses, where the reencoder keeps the defaults.
