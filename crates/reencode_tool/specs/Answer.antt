@@ -228,6 +228,10 @@ StopsWith j texts left_old left_new fault = ForJob j (λ job. StopsAtReencoding 
 abbrev pub MakesModule : Option Job → Type 0
 MakesModule j = ForJob j (λ job. IsMaking job.command)
 
+-- the words ask for a command that reads the source
+abbrev pub ReadsSource : Option Job → Type 0
+ReadsSource j = ForJob j (λ job. functions job.command ≡ None)
+
 -- the words name no file
 abbrev pub NamesNone : Option Job → Type 0
 NamesNone j = ForJob j (λ job. files job.command ≡ [])

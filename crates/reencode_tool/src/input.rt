@@ -26,6 +26,7 @@ fn read_piece<S: Source>(
     piece: &mut [u8],
     bytes: &mut Vec<u8>,
 ) -> Result<usize, InputFault>
+    requires { S.can_read input.old }
     ensures rises { S.faults input.old ≤ S.faults input.new }
     ensures failed { IsErrOf result InputFault.Failed
         → Rose (S.faults input.old) (S.faults input.new) }
@@ -36,6 +37,7 @@ fn read_piece<S: Source>(
     ensures added { IfOk result (λ n. bytes.new.items ≡ bytes.old.items ++ take n piece.new) }
     ensures longer { IfOk result (λ n. vec_len bytes.new ≡ vec_len bytes.old + n) }
     ensures end { result ≡ Ok 0 → 0 < length piece.old → WhereTold (S.left input.new) (Some []) }
+    ensures more { IfOk result (λ n. 0 < n → S.can_read input.new) }
 {
     match input.read(piece) {
         Ok(n) => match bytes.extend_from_slice(&piece[..n]) {
@@ -53,7 +55,8 @@ fn read_pieces<S: Source>(
     most: u32,
     piece: &mut [u8],
 ) -> Result<Vec<u8>, InputFault>
-    requires { 0 < length piece.old }
+    requires room { 0 < length piece.old }
+    requires can_read { S.can_read input.old }
     ensures rises { S.faults input.old ≤ S.faults input.new }
     ensures all { IfOk result
         (λ bytes. GaveAll most (S.left input.old) (S.left input.new) bytes.items) }
@@ -78,6 +81,7 @@ fn read_pieces<S: Source>(
 /// The bytes of a source up to its end. Of a source that has more than `most` bytes, or does not end, one
 /// byte more than that is taken.
 pub fn read_all<S: Source>(alloc: Global, input: &mut S, most: u32) -> Result<Vec<u8>, InputFault>
+    requires { S.can_read input.old }
     ensures rises { S.faults input.old ≤ S.faults input.new }
     ensures all { IfOk result
         (λ bytes. GaveAll most (S.left input.old) (S.left input.new) bytes.items) }

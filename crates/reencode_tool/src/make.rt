@@ -7,7 +7,7 @@ ghost use Rattle.reencode_tool.specs.Generated.{generated};
 ghost use Rattle.reencode_tool.specs.Reencoded.{IsMakingFault, IsRefused};
 ghost use Rattle.reencode_tool.specs.Renamers.{AreCounts};
 ghost use Rattle.reencode_tool.specs.Report.{lengths_report, report};
-ghost use Rattle.reencode_tool.specs.Words.{command_seen, files, job_seen, taken};
+ghost use Rattle.reencode_tool.specs.Words.{command_seen, files, functions, job_seen, taken};
 
 use crate::answer::{Answer, FileFault, ReencodingFault, WritingFault};
 use crate::buffer::zeros;
@@ -98,6 +98,7 @@ fn renamers_of<F: Shelf>(
 
 /// The bytes that the input is, or is the hexadecimal text of.
 fn read_bytes<S: Source>(alloc: Global, is_text: bool, input: &mut S) -> Result<Vec<u8>, Answer>
+    requires { S.can_read input.old }
     ensures rises { S.faults input.old ≤ S.faults input.new }
     ensures ok { IfOk result
         (λ bytes. HasBytes is_text (S.left input.old) (S.left input.new) bytes.items) }
@@ -136,6 +137,7 @@ fn bytes_of<S: Source>(
     is_text: bool,
     input: &mut S,
 ) -> Result<Vec<u8>, Answer>
+    requires { functions (command_seen command) ≡ None → S.can_read input.old }
     ensures rises { S.faults input.old ≤ S.faults input.new }
     ensures takes { IfOk result
         (λ bytes. Takes (command_seen command.entry) is_text (S.left input.old) (S.left input.new)
@@ -231,6 +233,7 @@ pub fn make<F: Shelf, S: Source>(
     shelf: &mut F,
     input: &mut S,
 ) -> Result<Ready, Answer>
+    requires { functions (job_seen job).command ≡ None → S.can_read input.old }
     ensures shelf_rises { F.faults shelf.old ≤ F.faults shelf.new }
     ensures rises { S.faults input.old ≤ S.faults input.new }
     ensures made { IfOk result (λ ready. (made : Made (job_seen job.entry) (F.texts shelf.old)

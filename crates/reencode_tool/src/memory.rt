@@ -72,6 +72,8 @@ impl Source for MemSource {
 
     ghost faults = { λ s. s.faults };
 
+    ghost can_read = { λ _. Unit {0} };
+
     fn read(&mut self, buf: &mut [u8]) -> Result<usize, Failed>
         ensures rises { self.old.faults ≤ self.new.faults }
         ensures failed { OnErr result (Rose self.old.faults self.new.faults) }

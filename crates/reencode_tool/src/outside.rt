@@ -22,21 +22,27 @@ pub enum ShelfFault {
 /// Where bytes are read from.
 ///
 /// `left` are the bytes still to come, where they are told. `faults` counts the failures; it never
-/// falls, and stands still at 2^64 - 1.
+/// falls, and stands still at 2^64 - 1. A source is read only while `can_read` holds. Each source says when
+/// that is, and keeps it behind a read that gave bytes; so none is read again behind its end or a failure.
+/// Those of this crate may always be read.
 pub trait Source {
     ghost left: { Self → Option (List ℕ) };
 
     ghost faults: { Self → ℕ };
 
+    ghost can_read: { Self → Type 0 };
+
     /// Reads bytes into the front of a buffer, and answers how many. They are taken away from what
     /// is left. 0 for a buffer that is not empty means that nothing is left. What is left after a
     /// failure is for each source to say.
     fn read(&mut self, buf: &mut [u8]) -> Result<usize, Failed>
+        requires { can_read self.old }
         ensures rises { faults self.old ≤ faults self.new }
         ensures failed { OnErr result (Rose (faults self.old) (faults self.new)) }
         ensures within { IfOk result (λ n. n ≤ length buf.old) }
         ensures gives { IfOk result (λ n. left self.old ≡ before (take n buf.new) (left self.new)) }
-        ensures end { result ≡ Ok 0 → 0 < length buf.old → WhereTold (left self.new) (Some []) };
+        ensures end { result ≡ Ok 0 → 0 < length buf.old → WhereTold (left self.new) (Some []) }
+        ensures more { IfOk result (λ n. 0 < n → can_read self.new) };
 }
 
 /// Where bytes are written to.
@@ -48,9 +54,10 @@ pub trait Sink {
 
     ghost faults: { Self → ℕ };
 
-    /// Takes bytes from the front of a piece, and answers how many: at least 1 of a piece that is
-    /// not empty. A failure takes none.
+    /// Takes bytes from the front of a piece, which is not empty, and answers how many: at least 1. A
+    /// failure takes none.
     fn write(&mut self, piece: &[u8]) -> Result<usize, Failed>
+        requires { 0 < length piece.now }
         ensures rises { faults self.old ≤ faults self.new }
         ensures failed { OnErr result (Rose (faults self.old) (faults self.new)) }
         ensures within { IfOk result (λ n. n ≤ length piece.now) }

@@ -40,6 +40,8 @@ impl<R: Read> Source for StdSource<R> {
 
     ghost faults = { λ s. s.faults };
 
+    ghost can_read = { λ _. Unit {0} };
+
     fn read(&mut self, buf: &mut [u8]) -> Result<usize, Failed> {
         'tries: for _ in 0..u64::MAX {
             match self.reader.read(buf) {
@@ -56,8 +58,8 @@ impl<R: Read> Source for StdSource<R> {
     }
 }
 
-/// A sink over a writer of std. It counts each error as a failure, and a write that takes nothing of
-/// a piece that is not empty; it goes on after an interruption. It does not tell its content.
+/// A sink over a writer of std. It counts each error as a failure, and a write that takes nothing; it
+/// goes on after an interruption. It does not tell its content.
 #[derive(Drop)]
 pub struct StdSink<W> {
     writer: W,
@@ -82,7 +84,7 @@ impl<W: Write> Sink for StdSink<W> {
     fn write(&mut self, piece: &[u8]) -> Result<usize, Failed> {
         'tries: for _ in 0..u64::MAX {
             match self.writer.write(piece) {
-                Ok(n) if n > 0 || piece.is_empty() => return Ok(n),
+                Ok(n) if n > 0 => return Ok(n),
                 Ok(_) => {
                     self.faults = one_more(self.faults);
                     return Err(Failed);

@@ -43,6 +43,8 @@ impl Source for SureSource {
 
     ghost faults = { λ _. 0 };
 
+    ghost can_read = { λ _. Unit {0} };
+
     fn read(&mut self, buf: &mut [u8]) -> Result<usize, Failed>
         ensures count { result
             ≡ Ok (min (min (length buf.old) self.old.most) (length self.old.left)) }

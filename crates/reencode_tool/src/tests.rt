@@ -849,6 +849,8 @@ impl Source for Endless {
 
     ghost faults = { λ _. 0 };
 
+    ghost can_read = { λ _. Unit {0} };
+
     fn read(&mut self, buf: &mut [u8]) -> Result<usize, Failed> {
         buf.fill(b'0');
         Ok(buf.len())

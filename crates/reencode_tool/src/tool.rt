@@ -1,8 +1,8 @@
 //! The top call.
 ghost use Rattle.std.specs.Prelude.{None, Some, ℕ, [], ◌∷◌, ◌<◌, Contains, decimal, ◌≡◌, ◌≢◌, ◌≤◌, ◌++◌, ◌↔◌, ◌⊎◌, codes, map, length, string_bytes, vec_len, OnOk, OnErr};
 ghost use Rattle.hex.specs.Hex.{encode_lower};
-ghost use Rattle.reencode_tool.specs.Answer.{Ends, EndsFor, ForJob, HasNoDigits, IsBadFile, IsDecided, IsMaking, IsTooLong, IsUnfetched, IsUnread, Made, MakesModule, NamesNone, Says, StopsWith, message, report_of, status_of, text_of};
-ghost use Rattle.reencode_tool.specs.Words.{files, job, job_seen};
+ghost use Rattle.reencode_tool.specs.Answer.{Ends, EndsFor, ForJob, HasNoDigits, IsBadFile, IsDecided, IsMaking, IsTooLong, IsUnfetched, IsUnread, Made, MakesModule, NamesNone, ReadsSource, Says, StopsWith, message, report_of, status_of, text_of};
+ghost use Rattle.reencode_tool.specs.Words.{files, functions, job, job_seen};
 ghost use Rattle.reencode_tool.specs.declared.renamers.Refusal.{Refusal};
 ghost use Rattle.reencode_tool.specs.Renamers.{refusal_text};
 ghost use Rattle.reencode_tool.specs.Outside.{Rose, TookFront, WhereTold, followed};
@@ -65,6 +65,7 @@ fn perform<F: Shelf, S: Source, K: Sink>(
     input: &mut S,
     out: &mut K,
 ) -> Answer
+    requires { functions (job_seen job).command ≡ None → S.can_read input.old }
     ensures ends { Ends (job_seen job.entry) (record {
       texts = F.texts shelf.old;
       shelf_faults_old = F.faults shelf.old;
@@ -102,6 +103,7 @@ fn perform_words<F: Shelf, S: Source, K: Sink>(
     input: &mut S,
     out: &mut K,
 ) -> Answer
+    requires { ReadsSource (job (map string_bytes words.now)) → S.can_read input.old }
     ensures ends { EndsFor (job (map string_bytes words.now)) (record {
       texts = F.texts shelf.old;
       shelf_faults_old = F.faults shelf.old;
@@ -184,6 +186,10 @@ pub fn run<F: Shelf, S: Source, K: Sink, D: Sink>(
     out: &mut K,
     err: &mut D,
 ) -> u8
+    // A source is read only where the words ask for it, and no further behind its end or a failure: only
+    // bytes that it gave leave it readable. No piece that is written is empty.
+    requires { ReadsSource (job (map string_bytes words.now)) → S.can_read input.old }
+
     // With status 0 the report of the re-encoding stands behind what the sink held.
     ensures printed { result ≡ 0 → ForJob (job (map string_bytes words.now))
         (λ j. (made : Made j (F.texts shelf.old) (S.left input.old) (S.left input.new))

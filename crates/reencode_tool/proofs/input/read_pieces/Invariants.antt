@@ -5,6 +5,7 @@ use Rattle.reencode_tool.proofs.input.read_pieces.Given as goal
 abbrev pub invariant-pieces : goal.invariant-pieces
 invariant-pieces g l = record {
   rises : g.S.Source.faults l.initial.input ≤ g.S.Source.faults l.input;
+  can_read : g.S.Source.can_read l.input;
   gave : g.S.Source.left l.initial.input ≡ before l.bytes.items (g.S.Source.left l.input);
 }
 
