@@ -28,6 +28,14 @@ const REPORT: &[u8] =
 const SPACED: &[u8] =
     b"00 61 73 6D 01 00 00 00\r\n01070160027F7F017F\t0302010007\n05010166000 00A09010700200020016a0b\r\n";
 
+/// What is printed of it by `twice`, by `keep-report`, and of a made module.
+const TWICE: &[u8] =
+    b"0061736d0100000001070160027f7f017f03020100070501016600000a09010700200020016a0b\nasked function 1 type 1 section_hook 5\nasked function 1 type 1 section_hook 5\n";
+
+const KEPT: &[u8] = b"kept 32 39\nbytes 7 of 39\nasked function 1 type 1 section_hook 5\n";
+
+const MADE: &[u8] = b"functions 3 input 59 output 47\nasked function 3 type 3 section_hook 4\n";
+
 const USAGE: &[u8] =
     b"usage: [-x] [-m CEILING] plain | rename FILE | twice FILE FILE | generate N | keep-report\n";
 
@@ -35,7 +43,8 @@ const USAGE: &[u8] =
 const BINARY: &[u8] = b"\0asm\x01\0\0\0";
 
 /// What a case says by each field that it leaves out, and so all the fields.
-const USUAL: &str = "words=-x plain
+const USUAL: &str = "calls=1 1
+words=-x plain
 file={}
 second={}
 shelf_fails=
@@ -53,7 +62,8 @@ err=";
 /// that the shelf has of the name `r`, `second` that of the name `s`, and `text` the input. A read and a write take at most `most`
 /// bytes, and the calls of the numbers in a field of failures fail. The run ends with the status, and
 /// the sinks then hold `out` and `err`. A `/` stands for a line end, and a word in capitals for the
-/// constant of that name.
+/// constant of that name. A case is run for each number from the first to the last that `calls` says: a `K`
+/// stands for it among the failures, and in front of a text for the bytes of that which come before its K-th.
 const CASES: &str = r#"words=rename
 status=2
 err=USAGE
@@ -693,6 +703,132 @@ text=0061736d01000000 0a09
 status=5
 err=parse error at 8/"#;
 
+/// Runs in which the calls of the outside fail one after the other, as those above.
+const FAILING: &str = r#"# Each write of a byte fails in turn, and none.
+calls=1 118
+most=1
+write_fails=K
+status=4
+out=K REPORT
+err=write fault/
+
+most=1
+write_fails=119
+out=REPORT
+
+calls=1 157
+words=-x twice r s
+most=1
+write_fails=K
+status=4
+out=K TWICE
+err=write fault/
+
+words=-x twice r s
+most=1
+write_fails=158
+out=TWICE
+
+calls=1 64
+words=-x keep-report
+most=1
+write_fails=K
+status=4
+out=K KEPT
+err=write fault/
+
+words=-x keep-report
+most=1
+write_fails=65
+out=KEPT
+
+calls=1 70
+words=generate 3
+most=1
+write_fails=K
+status=4
+out=K MADE
+err=write fault/
+
+words=generate 3
+most=1
+write_fails=71
+out=MADE
+
+# Each read of a byte, the last of which gives none.
+calls=1 79
+most=1
+read_fails=K
+status=3
+err=read fault/
+
+most=1
+read_fails=80
+out=REPORT
+
+calls=1 79
+words=-x twice r s
+most=1
+read_fails=K
+status=3
+err=read fault/
+
+words=-x twice r s
+most=1
+read_fails=80
+out=TWICE
+
+calls=1 79
+words=-x keep-report
+most=1
+read_fails=K
+status=3
+err=read fault/
+
+words=-x keep-report
+most=1
+read_fails=80
+out=KEPT
+
+# Each file.
+calls=1 2
+words=-x twice r s
+shelf_fails=K
+status=12
+err=shelf fault/
+
+words=-x twice r s
+shelf_fails=3
+out=TWICE
+
+# Each byte that is said.
+calls=1 18
+text=0061736d01000000 03020101 0303010000
+most=1
+err_fails=K
+status=5
+err=K parse error at 12/
+
+text=0061736d01000000 03020101 0303010000
+err_fails=1
+status=5
+
+calls=1 12
+words=-x twice r s
+shelf_fails=2
+most=1
+err_fails=K
+status=12
+err=K shelf fault/
+
+calls=1 12
+words=-x keep-report
+write_fails=1
+most=1
+err_fails=K
+status=4
+err=K write fault/"#;
+
 /// The value of the first field of this name.
 fn field<'a>(lines: &'a str, name: &str) -> Option<&'a str> {
     for line in lines.lines() {
@@ -752,6 +888,9 @@ fn bytes_of(alloc: Global, value: &str) -> Result<List<u8>, NoMemory> {
     let text = match value {
         "MODULE" => MODULE,
         "REPORT" => REPORT,
+        "TWICE" => TWICE,
+        "KEPT" => KEPT,
+        "MADE" => MADE,
         "SPACED" => SPACED,
         "USAGE" => USAGE,
         "BINARY" => BINARY,
@@ -764,16 +903,21 @@ fn bytes_of(alloc: Global, value: &str) -> Result<List<u8>, NoMemory> {
     Ok(bytes)
 }
 
-fn numbers_of(alloc: Global, value: &str) -> Option<List<u64>> {
+/// The numbers of a value, in which `K` is this one.
+fn numbers_of(alloc: Global, value: &str, k: u64) -> Option<List<u64>> {
     let mut numbers = List::new(alloc);
     for word in value.split_whitespace() {
-        numbers.push(word.parse().ok()?).ok()?;
+        let number = match word {
+            "K" => k,
+            _ => word.parse().ok()?,
+        };
+        numbers.push(number).ok()?;
     }
     Some(numbers)
 }
 
-fn shelf_of(alloc: Global, case: &str) -> Option<MemShelf> {
-    let mut shelf = MemShelf::new(alloc, numbers_of(alloc, said(case, "shelf_fails"))?);
+fn shelf_of(alloc: Global, case: &str, k: u64) -> Option<MemShelf> {
+    let mut shelf = MemShelf::new(alloc, numbers_of(alloc, said(case, "shelf_fails"), k)?);
     shelf.put("r", b"older").ok()?;
     let text = bytes_of(alloc, said(case, "file")).ok()?;
     shelf.put("r", text.as_slice()).ok()?;
@@ -782,19 +926,26 @@ fn shelf_of(alloc: Global, case: &str) -> Option<MemShelf> {
     Some(shelf)
 }
 
-fn source_of(alloc: Global, case: &str, most: usize) -> Option<MemSource> {
+fn source_of(alloc: Global, case: &str, most: usize, k: u64) -> Option<MemSource> {
     let text = bytes_of(alloc, said(case, "text")).ok()?;
-    let fails = numbers_of(alloc, said(case, "read_fails"))?;
+    let fails = numbers_of(alloc, said(case, "read_fails"), k)?;
     Some(MemSource::new(text, most.max(1), fails))
 }
 
-fn sink_of(alloc: Global, room: usize, most: usize, fails: &str) -> Option<MemSink> {
-    MemSink::new(alloc, room, most.max(1), numbers_of(alloc, fails)?).ok()
+fn sink_of(alloc: Global, room: usize, most: usize, fails: List<u64>) -> Option<MemSink> {
+    MemSink::new(alloc, room, most.max(1), fails).ok()
 }
 
-/// Whether a sink holds the bytes of a value.
-fn holds(alloc: Global, sink: &MemSink, value: &str) -> Option<bool> {
-    Some(sink.held() == bytes_of(alloc, value).ok()?.as_slice())
+/// Whether a sink holds the bytes of a value, or behind a `K` those before the one of this number.
+fn holds(alloc: Global, sink: &MemSink, value: &str, k: u64) -> Option<bool> {
+    match value.strip_prefix("K ") {
+        Some(whole) => {
+            let whole = bytes_of(alloc, whole).ok()?;
+            let n = k.checked_sub(1)? as usize;
+            Some(sink.held() == whole.as_slice().get(..n)?)
+        }
+        None => Some(sink.held() == bytes_of(alloc, value).ok()?.as_slice()),
+    }
 }
 
 /// The status with which a case's run ends.
@@ -802,40 +953,75 @@ fn status_of(
     alloc: Global,
     case: &str,
     most: usize,
+    k: u64,
     out: &mut MemSink,
     err: &mut MemSink,
 ) -> Option<u8> {
     let words = words_of(alloc, said(case, "words"))?;
-    let mut shelf = shelf_of(alloc, case)?;
-    let mut input = source_of(alloc, case, most)?;
+    let mut shelf = shelf_of(alloc, case, k)?;
+    let mut input = source_of(alloc, case, most, k)?;
     Some(run(alloc, words.as_slice(), &mut shelf, &mut input, out, err))
 }
 
 /// Whether a case's run ends as the case says: its status, and what either sink holds.
-fn ends(alloc: Global, case: &str) -> Option<(bool, bool, bool)> {
+fn ends(alloc: Global, case: &str, k: u64) -> Option<(bool, bool, bool)> {
     let most = said(case, "most").parse().ok()?;
-    let mut out = sink_of(alloc, 1000, most, said(case, "write_fails"))?;
-    let mut err = sink_of(alloc, 100, most, said(case, "err_fails"))?;
-    let status = status_of(alloc, case, most, &mut out, &mut err)?;
+    let mut out = sink_of(
+        alloc,
+        1000,
+        most,
+        numbers_of(alloc, said(case, "write_fails"), k)?,
+    )?;
+    let mut err = sink_of(
+        alloc,
+        100,
+        most,
+        numbers_of(alloc, said(case, "err_fails"), k)?,
+    )?;
+    let status = status_of(alloc, case, most, k, &mut out, &mut err)?;
     Some((
         said(case, "status").parse() == Ok(status),
-        holds(alloc, &out, said(case, "out"))?,
-        holds(alloc, &err, said(case, "err"))?,
+        holds(alloc, &out, said(case, "out"), k)?,
+        holds(alloc, &err, said(case, "err"), k)?,
     ))
 }
 
-#[test]
-fn ends_of_runs(rt: HostRuntime) -> Result<(), Fail> {
-    let mut runs = 0u8;
-    for case in CASES.split("\n\n") {
+/// The first and the last number for which a case is run.
+fn calls_of(case: &str) -> Option<(u64, u64)> {
+    let (first, last) = said(case, "calls").split_once(' ')?;
+    Some((first.parse().ok()?, last.parse().ok()?))
+}
+
+/// Tries cases, and answers how many runs these were.
+fn try_cases(rt: &impl Abort, alloc: Global, cases: &str) -> u32 {
+    let mut runs = 0u32;
+    for case in cases.split("\n\n") {
         for line in case.lines() {
             assert!(rt; is_read(line), "{line}");
         }
-        assert_eq!(rt; ends(rt.alloc(), case), Some((true, true, true)), "{case}");
-        runs = runs.saturating_add(1);
+        let (first, last) = calls_of(case).unwrap_or((1, 0));
+        for k in first..=last {
+            assert_eq!(rt;
+                ends(alloc, case, k),
+                Some((true, true, true)),
+                "{case} at {k}"
+            );
+            runs = runs.saturating_add(1);
+        }
     }
+    runs
+}
+
+#[test]
+fn ends_of_runs(rt: HostRuntime) {
+    let runs = try_cases(&rt, rt.alloc(), CASES);
     assert_eq!(rt; runs, 128);
-    Ok(())
+}
+
+#[test]
+fn ends_of_failing_calls(rt: HostRuntime) {
+    let runs = try_cases(&rt, rt.alloc(), FAILING);
+    assert_eq!(rt; runs, 699);
 }
 
 /// A source that gives the digit 0 for ever.
