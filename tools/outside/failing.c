@@ -104,6 +104,8 @@ ssize_t write(int fd, const void *p, size_t n)
     return syscall(SYS_write, fd, p, is_short && n > 1 ? 1 : n);
 }
 
+ssize_t __write(int fd, const void *p, size_t n) { return write(fd, p, n); }
+
 ssize_t writev(int fd, const struct iovec *pieces, int n)
 {
     if ((fd == 1 || fd == 2) && fails(fd == 1 ? WRITE : SAY))
