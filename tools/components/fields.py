@@ -54,9 +54,13 @@ class Spelling:
         self.asked += 1
         return b""
 
+    def counted(self, count, inside):
+        """A count or a length, and what it counts, which is spelled behind it."""
+        return self.number(count) + inside()
+
     def frame(self, inside):
         self.frames.append((len(inside), self.asked))
-        return self.number(len(inside)) + inside
+        return self.counted(len(inside), lambda: inside)
 
 
 class Field:
@@ -86,9 +90,13 @@ def sx(space, index):
     return Field(lambda s: s.number(s.index(space, index), signed=True), [(space, index)])
 
 
+def content(data):
+    """Bytes behind their length."""
+    return Field(lambda s: s.counted(len(data), lambda: data))
+
+
 def name(text):
-    utf8 = text.encode()
-    return Field(lambda s: s.number(len(utf8)) + utf8)
+    return content(text.encode())
 
 
 def call(what):
@@ -104,7 +112,8 @@ def seq(*fields, order=None):
 
 
 def vec(*items):
-    return seq(num(len(items)), *items)
+    whole = seq(*items)
+    return Field(lambda s: s.counted(len(items), lambda: whole.spell(s)), whole.asks)
 
 
 def sized(body):
