@@ -1,27 +1,18 @@
-"""Runs of the program over bytes, fast and with the memory that each took: for tools/hostile and tools/mutated.
-It needs Linux, and Python 3.9 or later."""
+"""Runs of the program over bytes, each with a bound on its memory: for tools/hostile and tools/mutated.
+They need Linux, /bin/sh, and Python 3.9 or later."""
 import os
 import select
 import signal
-import threading
 
 
 class Run:
-    """How a run ended: its status, or the number of the signal that ended it with a minus before; what it wrote; and the most memory
-    that it had, in bytes."""
+    """How a run ended: its status, or the number of the signal that ended it with a minus before, and what it wrote."""
 
-    def __init__(self, status, out, err, peak):
-        self.status, self.out, self.err, self.peak = status, out, err, peak
-
-
-class Files:
-    """Three files in memory, which a thread keeps for its runs."""
-
-    def __init__(self):
-        self.given, self.out, self.err = (os.memfd_create(name) for name in ("given", "out", "err"))
+    def __init__(self, status, out, err):
+        self.status, self.out, self.err = status, out, err
 
 
-kept = threading.local()
+files = {}
 
 
 def taken(file):
@@ -31,23 +22,39 @@ def taken(file):
     return data
 
 
-def run(program, words, given, seconds=60):
-    """Runs the program on words over an input, with no environment. It is ended after so many seconds."""
-    if not hasattr(kept, "files"):
-        kept.files = Files()
-    files = kept.files
-    os.ftruncate(files.given, 0)
-    os.pwrite(files.given, given, 0)
-    for file in (files.given, files.out, files.err):
+def run(program, words, given, most, seconds=60):
+    """Runs the program on words over an input, with no environment and at most so many bytes of memory, its own included. It is
+    ended after so many seconds."""
+    # Those that a process began with are its parent's.
+    mine = files.setdefault(os.getpid(), [])
+    if not mine:
+        mine.extend(os.memfd_create(name) for name in ("given", "out", "err"))
+    os.ftruncate(mine[0], 0)
+    os.pwrite(mine[0], given, 0)
+    for file in mine:
         os.lseek(file, 0, os.SEEK_SET)
-    moved = [(os.POSIX_SPAWN_DUP2, file, at) for at, file in enumerate((files.given, files.out, files.err))]
-    child = os.posix_spawn(program, [program, *words], {}, file_actions=moved)
+    # A shell sets the bound, which is a small process: to copy this one would take longer.
+    child = os.posix_spawn("/bin/sh", ["sh", "-c", 'ulimit -v "$0" && exec "$@"', str(most >> 10), program, *words], {},
+                           file_actions=[(os.POSIX_SPAWN_DUP2, file, at) for at, file in enumerate(mine)])
     ended = os.pidfd_open(child)
     if not select.select([ended], [], [], seconds)[0]:
         os.kill(child, signal.SIGKILL)
     os.close(ended)
-    _, how, usage = os.wait4(child, 0)
-    return Run(os.waitstatus_to_exitcode(how), taken(files.out), taken(files.err), usage.ru_maxrss << 10)
+    _, how = os.waitpid(child, 0)
+    return Run(os.waitstatus_to_exitcode(how), taken(mine[1]), taken(mine[2]))
+
+
+def own(program):
+    """The least memory, in bytes, by which the program takes a module without sections: what a run takes beside what its input asks
+    for."""
+    low, high = 0, 1 << 32
+    while high - low > 1 << 12:
+        middle = (low + high) // 2
+        if run(program, ["plain"], b"\0asm\1\0\0\0", middle).status == 0:
+            high = middle
+        else:
+            low = middle
+    return high
 
 
 def verdict(run_, statuses):
