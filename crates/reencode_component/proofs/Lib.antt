@@ -33,3 +33,5 @@ pub mod ComponentLaws
 pub mod WithinLaws
 pub mod ComponentNameCalls
 pub mod CustomFrames
+pub mod ComponentFronts
+pub mod ModuleLaws

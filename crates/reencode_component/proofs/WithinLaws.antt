@@ -59,6 +59,17 @@ heading_or_not bytes = begins_or_not component_header bytes
 core_apart : (bytes x y : List ℕ) → bytes ≡ core_header ++ x → bytes ≡ component_header ++ y → ⊥
 core_apart bytes x y p q = let never : core_header ++ x ≡ component_header ++ y = sym p ∙ q in cc
 
+-- an error of a call that refuses no visit tells the fault, or it is a size that is too large, or out of memory
+pub answers_fault : {E : Type 0} (fault : Fault → Type 0) (e : Error E) → IfFault e fault → ((x : E) → e ≢ UserError x) → AnswersFault fault (Err e)
+answers_fault fault (UserError x) h none = none x refl
+answers_fault fault (ParseError x) h none = h
+answers_fault fault InvalidCodeSectionSize h none = h
+answers_fault fault UnexpectedNonCoreModuleSection h none = h
+answers_fault fault UnexpectedNonComponentSection h none = h
+answers_fault fault (TooLarge size) h none = h
+answers_fault fault NoMemory h none = h
+answers_fault fault _ h none = h
+
 -- ---- a core module
 
 module _ {S E A : Type 0} (i : Ghosts S E) (adds : KeepsAdds i.adds i.adds_nothing) (view : A → List ℕ) where
@@ -104,7 +115,7 @@ module _ {S E A : Type 0} (i : Ghosts S E) (adds : KeepsAdds i.adds i.adds_nothi
   core_caused c bytes s m NoMemory h = tt
   core_caused c bytes s m _ h = absurd h
 
-  woven_caused : (c : ℕ) (bytes : List ℕ) (s m : S) (e : Error E) → IsWovenCause (asks i) i.adds c bytes s m e → IfFault e (ModuleFault bytes)
+  pub woven_caused : (c : ℕ) (bytes : List ℕ) (s m : S) (e : Error E) → IsWovenCause (asks i) i.adds c bytes s m e → IfFault e (ModuleFault bytes)
   woven_caused c bytes s m e (inl h) = core_caused c bytes s m e h
   woven_caused c bytes s m e (inr own) = by e own.own
     where
@@ -124,9 +135,10 @@ module _ {S E A : Type 0} (i : Ghosts S E) (adds : KeepsAdds i.adds i.adds_nothi
   sections_filled : (c : ℕ) (s n : S) (read made : List Tree) (last : Option SectionId) → IsTrue i.adds_nothing → AcceptsSections (asks i) c s read made last n → Filled (asks i) c s (alsos read Tree.empty) n
   sections_filled c s n read made last nothing h = (filled_of i (none_added nothing) c s n (alsos read Tree.empty) (alsos made Tree.empty) (h Tree.empty)).0
 
-  core_accepted : (c : ℕ) (bytes : List ℕ) (s m : S) (e : Error E) → BytesClauses i c bytes s m (Err e) view → IsTrue i.keeps_defaults → IsTrue i.adds_nothing → IsOfBytes e → (t : Tree) (rest : List ℕ) →
-      CoreUpTo bytes t rest → (n : S) × Filled (asks i) c s t n
-  core_accepted c bytes s m e g keeps nothing tells t rest (CoreUpTo.sections before left f) = go e tells (g.default keeps nothing).cause
+  -- with an error of the bytes all sections before their fault were
+  pub cause_accepted : (c : ℕ) (bytes : List ℕ) (s m : S) (e : Error E) → IsCause (asks i) c bytes s m e → IsTrue i.adds_nothing → IsOfBytes e → (t : Tree) (rest : List ℕ) → CoreUpTo bytes t rest →
+      (n : S) × Filled (asks i) c s t n
+  cause_accepted c bytes s m e cause nothing tells t rest (CoreUpTo.sections before left f) = go e tells cause
     where
       same : (read : List Tree) (others : List ℕ) → FaultAt bytes read others → (n : S) → Filled (asks i) c s (alsos read Tree.empty) n → (k : S) × Filled (asks i) c s (alsos before Tree.empty) k
       same read others r n h =
@@ -140,6 +152,10 @@ module _ {S E A : Type 0} (i : Ghosts S E) (adds : KeepsAdds i.adds i.adds_nothi
       go (ParseError x) tells (inr h) = same h.0 h.1 h.2 h.7 (sections_filled c s h.7 h.0 h.5 h.6 nothing h.8)
       go UnexpectedNonComponentSection tells h = absurd h
       go _ tells h = absurd tells
+
+  core_accepted : (c : ℕ) (bytes : List ℕ) (s m : S) (e : Error E) → BytesClauses i c bytes s m (Err e) view → IsTrue i.keeps_defaults → IsTrue i.adds_nothing → IsOfBytes e → (t : Tree) (rest : List ℕ) →
+      CoreUpTo bytes t rest → (n : S) × Filled (asks i) c s t n
+  core_accepted c bytes s m e g keeps nothing tells t rest f = cause_accepted c bytes s m e (g.default keeps nothing).cause nothing tells t rest f
 
   core_leaves : (c : ℕ) (bytes : List ℕ) (s m : S) (x : E) → BytesClauses i c bytes s m (Err (UserError x)) view → IsTrue i.keeps_defaults → Leaves (asks i) (core_in bytes) s (UserError x) m
   core_leaves c bytes s m x g keeps = g.after_error keeps (λ h. absurd cc) (λ h. absurd h)
@@ -256,17 +272,7 @@ module _ {S E A : Type 0} (i : Ghosts S E) (adds : KeepsAdds i.adds i.adds_nothi
   unanswered : (fault : Fault → Type 0) (reads : Tree → Type 0) (result : Result A (Error E)) → ((t : Tree) → reads t → ⊥) → ((o : A) → result ≡ Ok o → (t : Tree) × reads t)
       → ((e : Error E) → result ≡ Err e → IfFault e fault) → ((e : Error E) → result ≡ Err e → (x : E) → e ≢ UserError x) → AnswersFault fault (ended result)
   unanswered fault reads (Ok o) bare ok err never = let t = ok o refl in absurd (bare t.0 t.1)
-  unanswered fault reads (Err e) bare ok err never = by e (err e refl) (never e refl)
-    where
-      by : (w : Error E) → IfFault w fault → ((x : E) → w ≢ UserError x) → AnswersFault fault (Err w)
-      by (UserError x) h none = none x refl
-      by (ParseError x) h none = h
-      by InvalidCodeSectionSize h none = h
-      by UnexpectedNonCoreModuleSection h none = h
-      by UnexpectedNonComponentSection h none = h
-      by (TooLarge size) h none = h
-      by NoMemory h none = h
-      by _ h none = h
+  unanswered fault reads (Err e) bare ok err never = answers_fault fault e (err e refl) (never e refl)
 
   pub module_error_tells : statements.ErrorTells as_module i (of_module i view)
   module_error_tells = record {

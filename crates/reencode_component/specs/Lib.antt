@@ -16,3 +16,5 @@ pub mod ComponentLaws
 pub mod Within
 pub mod WithinLaws
 pub mod WovenIn
+pub mod ComponentFronts
+pub mod ModuleLaws

@@ -14,6 +14,7 @@ mod components;
 mod core_types;
 mod default_bodies;
 mod defaults;
+mod fault_laws;
 mod hooked;
 mod indices;
 mod item_lists;
@@ -36,6 +37,7 @@ pub use answer::AnswerComponentVisits;
 pub use component::ReencodeComponent;
 pub use component_rows::ReencodeComponentRows;
 pub use defaults::{DefaultComponent, DefaultComponentItems, DefaultComponentRows};
+pub use fault_laws::{component_front_is_one, core_module_tells};
 pub use indices::ReencodeComponentIndices;
 pub use items::ReencodeComponentItems;
 pub use laws::{
