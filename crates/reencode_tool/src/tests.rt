@@ -660,10 +660,23 @@ text=0061736d0d000100 04080061736d01000000
 status=9
 err=There was a section that does not belong in a component/
 
-# The size of a code section of a nested module passes its end.
+# The size of a nested component passes the end, and one has no bytes.
+text=0061736d0d000100 04090061736d0d000100
+status=5
+err=parse error at 8/
+
+text=0061736d0d000100 0400
+status=5
+err=parse error at 8/
+
+# The size of a code section of a nested module passes its end: with a number behind it, and with none.
 text=0061736d0d000100 010b0061736d010000000a0901
 status=7
 err=invalid code section size/
+
+text=0061736d0d000100 010a0061736d010000000a09
+status=5
+err=parse error at 8/
 
 # Types of components: an instance type, a function type, and module types, of which the first has no declarations.
 text=0061736d0d000100 0709014201040101610100
