@@ -8,9 +8,10 @@ use Rattle.reencode_hooks.specs.Hooks.{IsAnswer, IsInRange, MayRefuse, index_of,
 abbrev pub next_call : ℕ → ℕ
 next_call calls = min (calls + 1) (2 ^ 32 - 1)
 
--- a visit of a core module
+-- a visit that asks an index of a core module, also so many scopes further out, or that of the section hook
 abbrev pub may_refuse : Visit → Bool
 may_refuse (Index s i) = not (is_of_components s)
+may_refuse (Outer s c i) = not (is_of_components s)
 may_refuse (Section after before) = true
 may_refuse _ = false
 
@@ -22,14 +23,14 @@ unless_due due at n = if due then Err at else Ok n
 abbrev pub refuses_call : (calls at : ℕ) → Visit → Result ℕ ℕ
 refuses_call calls at v = unless_due (nat_eq (next_call calls) at && may_refuse v) at (index_of v)
 
+of_core : (b : Bool) → not b ≡ true → b ≡ false
+of_core false h = refl
+of_core true h = absurd cc
+
 refusal_is : (v : Visit) → may_refuse v ≡ true → MayRefuse v
-refusal_is (Index s i) h = go (is_of_components s) refl h
-  where
-    go : (b : Bool) → is_of_components s ≡ b → not b ≡ true → is_of_components s ≡ false
-    go false e h = e
-    go true e h = absurd cc
+refusal_is (Index s i) h = of_core (is_of_components s) h
+refusal_is (Outer s c i) h = of_core (is_of_components s) h
 refusal_is (Section after before) h = tt
-refusal_is (Outer s c i) h = absurd cc
 refusal_is Push h = absurd cc
 refusal_is Pop h = absurd cc
 

@@ -14,6 +14,8 @@ mod payload_tests;
 #[cfg(test)]
 mod reader_tests;
 #[cfg(test)]
+mod refusing_tests;
+#[cfg(test)]
 mod section_tests;
 #[cfg(test)]
 mod type_calls_tests;

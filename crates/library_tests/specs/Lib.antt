@@ -1,2 +1,1 @@
 pub mod Hooks
-pub mod Refusing

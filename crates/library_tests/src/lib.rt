@@ -23,8 +23,6 @@ mod names_tests;
 #[cfg(test)]
 mod read_tests;
 #[cfg(test)]
-mod refusing_tests;
-#[cfg(test)]
 mod rules_tests;
 #[cfg(test)]
 mod shapes_tests;
