@@ -1,17 +1,14 @@
 -- What a refusal of a reencoder of a component comes of, where its bytes have no reading.
-use Rattle.std.proofs.Common.{◌≡◌, ℕ, zero, suc, ◌+◌, ◌≤◌, ◌<◌, ◌⊎◌, inl, inr, List, [], ◌∷◌, ◌++◌, length, length-append, true, refl, sym, ap, ◌∙◌, subst, arith}
-use mathlib.Core.Bool.{false≢true}
+use Rattle.std.proofs.Common.{◌≡◌, ℕ, zero, suc, ◌+◌, ◌≤◌, ◌⊎◌, inl, inr, List, [], true, sym, ◌∙◌, subst, arith}
 use Rattle.wasm_shapes.specs.declared.Visit.{Visit}
-use Rattle.wasm_shapes.specs.Component.{component_section, component_section_tree, component_tree}
+use Rattle.wasm_shapes.specs.Component.{component_section_tree, component_tree}
 use Rattle.wasm_shapes.specs.ComponentNames.{sort_bytes}
 use Rattle.wasm_shapes.specs.ComponentReadings.{InComponentFrame}
 use Rattle.wasm_shapes.specs.Depth.{opens}
 use Rattle.wasm_shapes.specs.Module.{component_header, core_tree, frame, numbered_frame, CoreReading}
 use Rattle.wasm_shapes.specs.Place.{Begins}
-use Rattle.wasm_shapes.specs.Sound.{nullable}
 use Rattle.wasm_shapes.specs.Tree.{Tree}
 use Rattle.wasm_shapes.specs.Types.{rows_tree}
-use Rattle.wasm_shapes.proofs.Fronts.{nullable_sound}
 use Rattle.wasm_shapes.proofs.Nested.{nested}
 use Rattle.wasm_read_component.specs.ComponentPayloads.{has_frame}
 use Rattle.reencode_hooks.specs.declared.error.Error.{Error}
@@ -27,41 +24,13 @@ use Rattle.reencode_core.specs.Woven.{IsWovenCause}
 use Rattle.reencode_core.proofs.AddsNothing.{no_own}
 use Rattle.reencode_component.specs.Causes.{BeforeFault, BehindFront, CauseBy, OwnInside, StopsBy, StopsInRows, StopsNested}
 use Rattle.reencode_component.specs.ComponentNames.{component_names}
-use Rattle.reencode_component.specs.Components.{BeginsNoSection, BeginsSection, FaultAt, Framed, ReadsComponent, ReadsSection, SectionsFirst}
+use Rattle.reencode_component.specs.Components.{FaultAt, Framed, ReadsComponent, ReadsSection}
 use Rattle.reencode_component.specs.WeaveIn.{AcceptsAll, RefusesAmong}
+use Rattle.reencode_component.proofs.ComponentFronts.{reads_or_fails}
 use Rattle.reencode_component.proofs.ComponentLaws.{is_walk, own_never}
-use Rattle.reencode_component.proofs.SectionsAhead.{none_first, one_more, section_there, whole_read}
+use Rattle.reencode_component.proofs.SectionsAhead.{section_there}
 use Rattle.reencode_tool.specs.Reencoded.{IsRefusal}
 use Rattle.reencode_tool.proofs.Refusals.{MapsWithin, Tells, custom, first_shorter, names_told, numbered, refusal_is_told, row_told, second_shorter}
-
--- ---- a component has a reading or a fault
-
--- a section takes a byte
-shorter : {depth : ℕ} {rest left : List ℕ} {t : Tree} → BeginsSection depth rest t left → length left < length rest
-shorter {rest = rest} {left = left} b = go b.there.begins.text refl
-  where
-    go : (x : List ℕ) → b.there.begins.text ≡ x → length left < length rest
-    go [] e =
-        let never : nullable component_section ≡ true = nullable_sound b.there.begins.spells.shaped b.there.begins.text b.there.begins.spells.spelled e in
-        absurd (false≢true never)
-    go (a ∷ x) e =
-        let whole : length rest ≡ length (b.there.begins.text ++ left) = ap length b.there.begins.reads in
-        let more : length b.there.begins.text ≡ suc (length x) = ap length e in omega (arith, length-append b.there.begins.text left)
-
-search : (most depth : ℕ) (bytes rest : List ℕ) (read : List Tree) → length rest ≤ most → SectionsFirst depth bytes read rest →
-    ((ts : List Tree) (left : List ℕ) → SectionsFirst depth bytes ts left → BeginsNoSection depth left → ⊥) → ⊥
-search zero depth bytes rest read short s none =
-    none read rest s (record { none = λ t left b. let less : length left < length rest = shorter b in absurd (omega (arith, short, less)) })
-search (suc most) depth bytes rest read short s none =
-    none read rest s (record { none = λ t left b. let less : length left < length rest = shorter b in search most depth bytes left (read ++ t ∷ []) (omega (arith, short, less)) (one_more s b) none })
-
-reads_or_fails : (depth : ℕ) (bytes start : List ℕ) → bytes ≡ component_header ++ start → depth ≤ 200 → ((t : Tree) → ReadsComponent depth bytes t → ⊥) →
-    ((before : List Tree) (rest : List ℕ) → FaultAt depth bytes before rest → ⊥) → ⊥
-reads_or_fails depth bytes start stands low bare fault = search (length start) depth bytes start [] (omega arith) (none_first depth bytes start stands low) (λ ts left s n. go ts left s n)
-  where
-    go : (ts : List Tree) (left : List ℕ) → SectionsFirst depth bytes ts left → BeginsNoSection depth left → ⊥
-    go ts [] s n = bare (rows_tree ts) (whole_read s refl)
-    go ts (b ∷ left) s n = fault ts (b ∷ left) (record { front = s; none = n; some = λ e. cc })
 
 -- ---- nested binaries
 
@@ -137,7 +106,7 @@ module _ {S E : Type 0} (i : Ghosts S E) (none : (s : S) (v : Visit) → MayAdd 
   component_by : (scopes : ℕ) → NestedTold scopes → ComponentTold scopes
   component_by scopes nested_by depth c e bytes s m whole is b cause bare never =
       let h = of_component scopes depth c e bytes s m is cause in
-      reads_or_fails depth bytes h.rest h.stands (omega (arith, whole)) bare (λ before rest f. at_fault before rest f (h.fault before rest f))
+      reads_or_fails depth bytes h.rest (omega (arith, whole)) h.stands bare (λ before rest f. at_fault before rest f (h.fault before rest f))
     where
       inside : (before : List Tree) (rest left : List ℕ) (f : FaultAt depth bytes before rest) (x : Tree) (n : S) → P n → Begins frame rest x left →
           StopsBy (asks i) c depth (StopsNested (asks i) i.adds c depth scopes) x n m e → ⊥
