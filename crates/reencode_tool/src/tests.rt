@@ -1028,7 +1028,7 @@ fn try_cases(rt: &impl Abort, alloc: Global, cases: &str) -> u32 {
 #[test]
 fn ends_of_runs(rt: HostRuntime) {
     let runs = try_cases(&rt, rt.alloc(), CASES);
-    assert_eq!(rt; runs, 128);
+    assert_eq!(rt; runs, 131);
 }
 
 #[test]
