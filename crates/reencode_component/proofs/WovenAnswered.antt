@@ -75,32 +75,32 @@ module _ {S E : Type 0} (asked : Asks S E) (adds : Puts S SectionRow) (c : ℕ) 
   own_never bytes t u s m e r fit walks own =
       let given : GivesWovenBytes {A = Unit {0}} asked adds c bytes s m (Err e) (λ _. []) = record { reading = λ v p other. inl own; readable = tt; cause = inr own } in
       let P : Error E → Type 0 = λ z. OwnTooLarge asked adds c bytes s z in
-      wanting (subst P (accepted_is_answered asked adds (λ (_ : Unit {0}). []) c bytes s m (Err e) given (core_tree t) u m (module_headed.forth bytes t r) fit walks) own)
+      wanting (subst P (accepted_is_answered asked adds (λ _. []) c bytes s m (Err e) given (core_tree t) u m (module_headed.forth bytes t r) fit walks) own)
     where
       wanting : OwnTooLarge asked adds c bytes s NoMemory → ⊥
       wanting o = go o.own
         where
-          go : OwnNext adds c o.front.last o.front.at o.front.rest NoMemory → ⊥
+          go : OwnNext {E = E} adds c o.front.last o.front.at o.front.rest NoMemory → ⊥
           go (inl q) = q.1
           go (inr q) = q.4
 
   -- behind sections that were accepted, where it holds of each that is read
   front_never : (depth : ℕ) (own : Stops S E) → ((f t : Tree) (s m : S) (e : Error E) → ReadsSection depth f t → AddsFit asked adds c s (visits t) → Goes s t → own f s m e → ⊥) →
       (bytes : List ℕ) (t : Tree) (s m : S) (e : Error E) → ReadsComponent depth bytes t → AddsFit asked adds c s (visits t) → Goes s t → BehindFront asked (added adds) c depth own bytes s m e → ⊥
-  front_never depth own never bytes t s m e r fit g (front, f, left, there, x) = let all = sections_of r in go all.0 all.1 (sections_ahead front.first all.2 (none_at_nil depth))
+  front_never depth own never bytes t s m e r fit g (front, framed) = let all = sections_of r in go all.0 all.1 (sections_ahead front.first all.2 (none_at_nil depth))
     where
       go : (read : List Tree) → t ≡ rows_tree read → SectionsAhead depth front.read front.rest read [] → ⊥
-      go read q (SectionsAhead.same is empty) = some_begun there (sym empty)
+      go read q (SectionsAhead.same is empty) = some_begun framed.2 (sym empty)
       go read q (SectionsAhead.more u others left' is b) =
           let whole : t ≡ rows_then front.read (Tree.cons u (rows_tree others)) = q ∙ ap rows_tree is ∙ rows_then-both front.read (u ∷ others) Tree.nil in
           let G : Tree → Type 0 = λ z. Goes s z in
           let onward = goes front.at u (λ w k h.
-          goes_not s k (rows_then front.read (Tree.cons u (rows_tree others))) w (subst G whole g) (all_refused asked (added adds) c s front.at front.read front.made w u (rows_tree others) front.accepts h)) in
+          goes_not s k (rows_then front.read (Tree.cons u (rows_tree others))) w (subst G whole g) (all_refused asked (added adds) c s front.at k front.read front.made w u (rows_tree others) front.accepts h)) in
           let parts : visits t ≡ visits (rows_tree front.read) ++ (visits u ++ visits (rows_tree others)) = ap visits (q ∙ ap rows_tree is) ∙ visits_more front.read u others in
           let ran = weave_in_ran asked (added adds) c s front.at (rows_tree front.read) (rows_tree front.made) (front.accepts Tree.nil) in
           let F : List Visit → Type 0 = λ z. AddsFit asked adds c s z in
           let behind = fit_behind s front.at (visits (rows_tree front.read)) (visits u ++ visits (rows_tree others)) ran.0 ran.1 (subst F parts fit) in
-          never f u front.at m e (section_of there b).0 (fit_first front.at (visits u) (visits (rows_tree others)) behind) onward x
+          never framed.0 u front.at m e (section_of framed.2 b).0 (fit_first front.at (visits u) (visits (rows_tree others)) behind) onward framed.3
 
   inside_never : (scopes depth : ℕ) (f t : Tree) (s m : S) (e : Error E) → ReadsSection depth f t → AddsFit asked adds c s (visits t) → Goes s t → OwnInside asked adds c depth scopes f s m e → ⊥
   inside_never zero depth f t s m e r fit g h = h
