@@ -12,6 +12,8 @@ mod nested_tests;
 #[cfg(test)]
 mod payload_tests;
 #[cfg(test)]
+mod pieces_tests;
+#[cfg(test)]
 mod reader_tests;
 #[cfg(test)]
 mod refusing_tests;

@@ -48,5 +48,5 @@ impl AnswerVisits for DefaultRenamer {
 impl DefaultItems for DefaultRenamer {}
 
 impl DefaultSections for DefaultRenamer {
-    const DIRECT_BODIES: bool = false;
+    const DIRECT: bool = false;
 }

@@ -51,5 +51,5 @@ impl ReencodeItems for Widened {
 }
 
 impl DefaultSections for Widened {
-    const DIRECT_BODIES: bool = false;
+    const DIRECT: bool = false;
 }

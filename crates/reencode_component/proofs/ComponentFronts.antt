@@ -8,28 +8,27 @@ use Rattle.wasm_shapes.specs.Tree.{Tree}
 use Rattle.wasm_shapes.specs.Types.{rows_tree}
 use Rattle.wasm_shapes.proofs.Fronts.{nullable_sound}
 use Rattle.reencode_component.specs.ComponentFronts as statements
-use Rattle.reencode_component.specs.ComponentFronts.{Front}
 use Rattle.reencode_component.specs.Components.{BeginsNoSection, BeginsSection, SectionsFirst}
 use Rattle.reencode_component.proofs.SectionsAhead.{SectionsAhead, none_first, one_more, sections_ahead, whole_read}
 
 -- a section takes a byte
 shorter : {depth : ℕ} {rest left : List ℕ} {t : Tree} → BeginsSection depth rest t left → length left < length rest
-shorter {rest = rest} {left = left} b = go b.there.begins.text refl
+shorter {rest = rest} {left = left} b = go b.begins.text refl
   where
-    go : (x : List ℕ) → b.there.begins.text ≡ x → length left < length rest
+    go : (x : List ℕ) → b.begins.text ≡ x → length left < length rest
     go [] e =
-        let never : nullable component_section ≡ true = nullable_sound b.there.begins.spells.shaped b.there.begins.text b.there.begins.spells.spelled e in
+        let never : nullable component_section ≡ true = nullable_sound b.begins.spells.shaped b.begins.text b.begins.spells.spelled e in
         absurd (false≢true never)
     go (a ∷ x) e =
-        let whole : length rest ≡ length (b.there.begins.text ++ left) = ap length b.there.begins.reads in
-        let more : length b.there.begins.text ≡ suc (length x) = ap length e in omega (arith, length-append b.there.begins.text left)
+        let whole : length rest ≡ length (b.begins.text ++ left) = ap length b.begins.reads in
+        let more : length b.begins.text ≡ suc (length x) = ap length e in omega (arith, length-append b.begins.text left)
 
 search : (most depth : ℕ) (bytes rest : List ℕ) (read : List Tree) → length rest ≤ most → SectionsFirst depth bytes read rest →
     ((ts : List Tree) (left : List ℕ) → SectionsFirst depth bytes ts left → BeginsNoSection depth left → ⊥) → ⊥
 search zero depth bytes rest read short s none =
-    none read rest s (record { none = λ t left b. let less : length left < length rest = shorter b in absurd (omega (arith, short, less)) })
+    none read rest s (record { none = λ left t b. let less : length left < length rest = shorter b in absurd (omega (arith, short, less)) })
 search (suc most) depth bytes rest read short s none =
-    none read rest s (record { none = λ t left b. let less : length left < length rest = shorter b in search most depth bytes left (read ++ t ∷ []) (omega (arith, short, less)) (one_more s b) none })
+    none read rest s (record { none = λ left t b. let less : length left < length rest = shorter b in search most depth bytes left (read ++ t ∷ []) (omega (arith, short, less)) (one_more s b) none })
 
 from_header : (depth : ℕ) (bytes start : List ℕ) → depth ≤ 200 → bytes ≡ component_header ++ start →
     ((ts : List Tree) (left : List ℕ) → SectionsFirst depth bytes ts left → BeginsNoSection depth left → ⊥) → ⊥
@@ -50,4 +49,4 @@ one_front depth bytes before others rest left a b = go (sections_ahead a.first b
   where
     go : SectionsAhead depth before rest others left → (before ≡ others) × (rest ≡ left)
     go (SectionsAhead.same e r) = (sym e, sym r)
-    go (SectionsAhead.more t us behind e begins) = absurd (a.none.none t behind begins)
+    go (SectionsAhead.more t us behind e begins) = absurd (a.none.none behind t begins)

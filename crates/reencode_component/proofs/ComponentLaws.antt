@@ -25,11 +25,11 @@ use Rattle.reencode_core.proofs.Usual.{stops_usual, usual_walk}
 use Rattle.reencode_component.specs.Causes.{BeforeFault, BehindFront, CauseBy, OwnInside, inside, own_inside, room}
 use Rattle.reencode_component.specs.ComponentClauses.{ComponentClauses}
 use Rattle.reencode_component.specs.ComponentLeaves.{ComponentUpTo, component_in}
-use Rattle.reencode_component.specs.Components.{ComponentFault, FaultAt, Framed, ReadsComponent}
+use Rattle.reencode_component.specs.Components.{ComponentFault, FaultAt, Framed, ComponentReading}
 use Rattle.reencode_component.specs.Gives.{GainsBefore}
 use Rattle.reencode_component.specs.WeaveIn.{AcceptsAll, RefusesAmong, weave_in}
 use Rattle.reencode_component.specs.ComponentLaws as statements
-use Rattle.reencode_component.specs.ComponentLaws.{AddsOrWants, Filled, AnswersFault, IsOfBytes, StopsBefore}
+use Rattle.reencode_component.specs.ComponentLaws.{Filled, AnswersFault, IsOfBytes, StopsBefore, Taking, as_component}
 use Rattle.reencode_component.proofs.FaultLaws.{at_fault, fault_is_one}
 use Rattle.reencode_component.proofs.SectionsAhead.{SectionsAhead, sections_ahead}
 use Rattle.reencode_component.proofs.WeavesIn.{weave_in_of_nothing}
@@ -43,8 +43,8 @@ module _ {S E : Type 0} (i : Ghosts S E) (none : (s : S) (v : Visit) → MayAdd 
   -- no section of a hook's own is too large
   pub own_never : (c depth scopes : ℕ) (f : Tree) (s m : S) (e : Error E) → OwnInside (asks i) i.adds c depth scopes f s m e → ⊥
   own_never c depth zero f s m e h = h
-  own_never c depth (suc scopes) f s m e (id, body, is, force, k, push, inl q) = no_own (asks i) i.adds none q.1
-  own_never c depth (suc scopes) f s m e (id, body, is, force, k, push, inr q) = let n = q.1.1 in own_never c (depth + 1) scopes n.0 q.1.0.at m e n.3
+  own_never c depth (suc scopes) f s m e (id, body, is, k, push, inl q) = no_own (asks i) i.adds none q.1
+  own_never c depth (suc scopes) f s m e (id, body, is, k, push, inr q) = let n = q.1.1 in own_never c (depth + 1) scopes n.0 q.1.0.at m e n.3
 
   behind_never : (c depth : ℕ) (bytes : List ℕ) (s m : S) (e : Error E) → BehindFront (asks i) (added i.adds) c depth (own_inside (asks i) i.adds c depth) bytes s m e → ⊥
   behind_never c depth bytes s m e h = let n = h.1 in own_never c depth (room depth) n.0 h.0.at m e n.3
@@ -62,7 +62,7 @@ module _ {S E : Type 0} (i : Ghosts S E) (none : (s : S) (v : Visit) → MayAdd 
   front_filled c s m read made a = filled_of c s m (rows_tree read) (rows_tree made) (sym (is_walk c s (rows_tree read)) ∙ a Tree.nil)
 
   -- an error of bytes that are read
-  walk_refused : (depth : ℕ) (bytes : List ℕ) (s m : S) (old new : Sections) (e : Error E) → ComponentClauses i depth bytes s old m new (Err e) → IsTrue i.keeps_defaults → (t : Tree) → ReadsComponent depth bytes t →
+  walk_refused : (depth : ℕ) (bytes : List ℕ) (s m : S) (old new : Sections) (e : Error E) → ComponentClauses i depth bytes s old m new (Err e) → IsTrue i.keeps_defaults → (t : Tree) → ComponentReading depth bytes t →
       e ≢ NoMemory → walk (asks i) old.ceiling s t ≡ refused e m
   walk_refused depth bytes s m old new e g keeps t r other = go ((g.default keeps).reading t r other)
     where
@@ -73,6 +73,28 @@ module _ {S E : Type 0} (i : Ghosts S E) (none : (s : S) (v : Visit) → MayAdd 
 
 -- ---- output
 
+module _ {S E : Type 0} (i : Ghosts S E) (none : (s : S) (v : Visit) → MayAdd v → i.adds s v ≡ []) (k : Taking) {bytes : List ℕ} {s : S} where
+  -- a walk that was accepted, and what was added by it
+  pub taken : {m : S} {old new : Sections} (t u : Tree) → k.reads bytes t → walk (asks i) old.ceiling s t ≡ accepted u m → statements.Adds old new (normal u) →
+      statements.IfTaken k (asks i) bytes s old m new (Ok tt)
+  taken {m = m} {old = old} t u reads walks adds =
+      let p = filled_of i none old.ceiling s m t u walks in (normal u, adds, record { tree = t; reads = reads; filled = p.0; spelled = ap normal p.1 })
+
+  module _ {c : ℕ} {n : S} {out : List ℕ} (h : statements.IsTaken k (asks i) c bytes s n out) (x : List ℕ) (p : Spelled h.tree x) {m : S} where
+    -- there is one such output
+    pub same_taken : (u : Tree) → walk (asks i) c s h.tree ≡ accepted u m → (normal u ≡ out) × (m ≡ n)
+    same_taken u walks =
+        let both : ◌≡◌ {A = Step S (Error E) Tree} (accepted u m) (accepted (fill h.tree h.filled.given) n) = sym walks ∙ walk_of i none c s n h.tree x p h.filled in
+        let trees : u ≡ fill h.tree h.filled.given = cc in
+        let states : m ≡ n = cc in (ap normal trees ∙ sym h.spelled, states)
+
+    -- and no error but out of memory
+    pub only_wants : (e : Error E) → (e ≢ NoMemory → walk (asks i) c s h.tree ≡ refused e m) → e ≡ NoMemory
+    only_wants NoMemory f = refl
+    only_wants e f =
+        let both : ◌≡◌ {A = Step S (Error E) Tree} (accepted (fill h.tree h.filled.given) n) (refused e m) = sym (walk_of i none c s n h.tree x p h.filled) ∙ f (λ same. absurd cc) in
+        absurd cc
+
 module _ {S E : Type 0} (i : Ghosts S E) (adds : KeepsAdds i.adds i.adds_nothing) where
   pub ok_is_reencoded : statements.OkIsReencoded i
   ok_is_reencoded depth bytes s m old new (Err e) g keeps nothing = tt
@@ -81,34 +103,17 @@ module _ {S E : Type 0} (i : Ghosts S E) (adds : KeepsAdds i.adds i.adds_nothing
       let t = d.readable.0 in
       let q = d.reading t d.readable.1 in
       let none = added_none adds nothing in
-      let p = filled_of i none old.ceiling s m t q.0 (sym (is_walk i none old.ceiling s t) ∙ q.2) in (
-        normal q.0,
-        record { rows = q.1; gains = q.3; spelled = q.4 },
-        record { tree = t; reads = d.readable.1; filled = p.0; spelled = ap normal p.1 },
-      )
+      taken i none (as_component depth) t q.0 d.readable.1 (sym (is_walk i none old.ceiling s t) ∙ q.2) (record { rows = q.1; gains = q.3; spelled = q.4 })
 
   pub reencoded_is_answered : statements.ReencodedIsAnswered i
-  reencoded_is_answered depth bytes s m old new result g keeps nothing out n h = go result g
-    where
-      none : (s : S) (v : Visit) → MayAdd v → i.adds s v ≡ []
-      none = added_none adds nothing
-
-      walks : walk (asks i) old.ceiling s h.tree ≡ accepted (fill h.tree h.filled.given) n
-      walks = walk_of i none old.ceiling s n h.tree h.reads.reading.rest h.reads.reading.spells.spelled h.filled
-
-      only : (w : Error E) → (w ≢ NoMemory → walk (asks i) old.ceiling s h.tree ≡ refused w m) → w ≡ NoMemory
-      only NoMemory f = refl
-      only w f =
-          let step : walk (asks i) old.ceiling s h.tree ≡ refused w m = f (λ same. absurd cc) in
-          let both : ◌≡◌ {A = Step S (Error E) Tree} (accepted (fill h.tree h.filled.given) n) (refused w m) = sym walks ∙ step in absurd cc
-
-      go : (r : Result (Unit {0}) (Error E)) → ComponentClauses i depth bytes s old m new r → AddsOrWants out n old m new r
-      go (Ok u) g =
-          let q = (g.default keeps).reading h.tree h.reads in
-          let both : ◌≡◌ {A = Step S (Error E) Tree} (accepted q.0 m) (accepted (fill h.tree h.filled.given) n) = sym q.2 ∙ is_walk i none old.ceiling s h.tree ∙ walks in
-          let trees : q.0 ≡ fill h.tree h.filled.given = cc in
-          let states : m ≡ n = cc in (record { rows = q.1; gains = q.3; spelled = q.4 ∙ ap normal trees ∙ sym h.spelled }, states)
-      go (Err e) g = only e (λ other. walk_refused i none depth bytes s m old new e g keeps h.tree h.reads other)
+  reencoded_is_answered depth bytes s m old new (Ok u) g keeps nothing out n h =
+      let none = added_none adds nothing in
+      let q = (g.default keeps).reading h.tree h.reads in
+      let same = same_taken i none (as_component depth) h _ h.reads.spells.spelled q.0 (sym (is_walk i none old.ceiling s h.tree) ∙ q.2) in
+      (record { rows = q.1; gains = q.3; spelled = q.4 ∙ same.0 }, same.1)
+  reencoded_is_answered depth bytes s m old new (Err e) g keeps nothing out n h =
+      let none = added_none adds nothing in
+      only_wants i none (as_component depth) h _ h.reads.spells.spelled e (λ other. walk_refused i none depth bytes s m old new e g keeps h.tree h.reads other)
 
 -- ---- bytes with a fault
 
@@ -123,7 +128,7 @@ unrefused {E = E} i depth bytes s m old new e g keeps none x is = by e g is
 
 module _ {S E : Type 0} (i : Ghosts S E) where
   faulty : (P : Fault → Type 0) (depth : ℕ) (bytes : List ℕ) (s m : S) (old new : Sections) (result : Result (Unit {0}) (Error E)) → ComponentClauses i depth bytes s old m new result → IsTrue i.keeps_defaults →
-      RefusesNone (asks i) → ((t : Tree) → ReadsComponent depth bytes t → ⊥) → ((x : Fault) → ComponentFault depth bytes x → P x) → AnswersFault P result
+      RefusesNone (asks i) → ((t : Tree) → ComponentReading depth bytes t → ⊥) → ((x : Fault) → ComponentFault depth bytes x → P x) → AnswersFault P result
   faulty P depth bytes s m old new (Ok u) g keeps all bare k = let t = (g.default keeps).readable in bare t.0 t.1
   faulty P depth bytes s m old new (Err e) g keeps all bare k = go e (g.default keeps).cause (unrefused i depth bytes s m old new e g keeps all)
     where
@@ -153,7 +158,7 @@ module _ {S E : Type 0} (i : Ghosts S E) (adds : KeepsAdds i.adds i.adds_nothing
   leaves depth bytes s m old new x g keeps = g.after_error keeps (λ h. absurd cc) (λ h. absurd h)
 
   refused_reading : (depth : ℕ) (bytes : List ℕ) (s m : S) (old new : Sections) (e : Error E) → ComponentClauses i depth bytes s old m new (Err e) → IsTrue i.keeps_defaults → (x : E) → e ≡ UserError x →
-      (t : Tree) → ReadsComponent depth bytes t → run (asks i) s (visits t) ≡ refused e m
+      (t : Tree) → ComponentReading depth bytes t → run (asks i) s (visits t) ≡ refused e m
   refused_reading depth bytes s m old new (UserError y) g keeps x is t r = let l = leaves depth bytes s m old new y g keeps in front_refused (asks i) s (l.reading t r) l.ended.by
   refused_reading depth bytes s m old new _ g keeps x is t r = absurd cc
 
@@ -229,5 +234,5 @@ module _ {S E : Type 0} (i : Ghosts S E) (adds : KeepsAdds i.adds i.adds_nothing
               let P : List Tree → Type 0 = λ z. statements.AddsFilled (asks i) s old (rows_tree z) new in
               subst P (sym e') (record { at = h.front.at; filled = p.0; adds = record { rows = h.rows; gains = h.gains; spelled = h.spelled ∙ ap normal p.1 } })
           by (SectionsAhead.more t others left e' b) =
-              let usual = usual_walk i.reply i.next old.ceiling None h.front.at t b.there.begins.text b.there.begins.spells.spelled in
+              let usual = usual_walk i.reply i.next old.ceiling None h.front.at t b.begins.text b.begins.spells.spelled in
               absurd (of_bytes e tells (stops_usual (λ at. ⊥) (walk (asks i) old.ceiling h.front.at t) e m usual (λ other. refuses t (h.there t left b other))))

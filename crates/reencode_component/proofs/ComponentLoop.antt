@@ -1,22 +1,20 @@
 -- The loop over the sections of a component, whatever the call that maps one gives of it.
-use Rattle.std.proofs.Common.{◌≡◌, ◌≢◌, ◌-◌, ◌≤◌, true, zero, suc, ℕ, List, [], ◌∷◌, ◌++◌, length, Ok, Err, refl, sym, ap, ◌∙◌, subst, append_assoc, append-nil, ◌⊎◌, inl, inr}
-use Rattle.std.proofs.lemmas.Bool.{le-leb}
+use Rattle.std.proofs.Common.{◌≡◌, ◌≢◌, ◌-◌, ◌≤◌, ℕ, List, [], ◌∷◌, ◌++◌, length, Ok, Err, refl, sym, ap, ◌∙◌, subst, append_assoc, append-nil, ◌⊎◌, inl, inr}
 use Rattle.wasm_leb.specs.declared.fault.Fault.{Fault}
 use Rattle.wasm_leb.specs.declared.fault.Fault.TheVariants as fault
 use Rattle.wasm_leb.specs.declared.fault.Kind.TheVariants as kinds
 use Rattle.wasm_shapes.specs.declared.Visit.{Visit}
 use Rattle.wasm_shapes.specs.Drawn.{Drawn}
-use Rattle.wasm_shapes.specs.ComponentReadings.{InComponentFrame}
 use Rattle.wasm_shapes.specs.Module.{core_header, component_header, frame}
-use Rattle.wasm_shapes.specs.Place.{Begins}
+use Rattle.wasm_shapes.specs.Place.{Begins, BeginsNone}
 use Rattle.wasm_shapes.specs.Rows.{rows_then}
-use Rattle.wasm_shapes.specs.Spells.{Is, Spelled, Spells}
+use Rattle.wasm_shapes.specs.Spells.{Is, Spelled}
 use Rattle.wasm_shapes.specs.Tree.{Tree, normal, visits}
 use Rattle.wasm_shapes.specs.Types.{rows_tree}
 use Rattle.wasm_shapes.proofs.ComponentFrames.{in_component_frame}
 use Rattle.wasm_shapes.proofs.Depth.{begins_unique}
 use Rattle.wasm_shapes.proofs.Drawn.{drawn_behind, drawn_front, drawn_joined, drawn_none}
-use Rattle.wasm_read_component.specs.ComponentPayloads.{has_frame, NoComponentFrame, NoComponentHeader, BeginsNoFrame}
+use Rattle.wasm_read_component.specs.ComponentPayloads.{NoComponentFrame, NoComponentHeader}
 use Rattle.wasm_write.specs.Sections.{Sections, SectionRow, section_bytes, sections_bytes}
 use Rattle.reencode_hooks.specs.declared.error.Error.{Error}
 use Rattle.reencode_hooks.specs.declared.error.Error.TheVariants.{CanonicalizedHeapTypeReference, InvalidConstExpr, InvalidCodeSectionSize, UnexpectedNonCoreModuleSection, UnexpectedNonComponentSection, UnsupportedCoreTypeInComponent, ParseError, UserError, TooLarge, NoMemory}
@@ -31,7 +29,7 @@ use Rattle.reencode_core.proofs.Group.{rows_then-both}
 use Rattle.reencode_core.proofs.Known.{gains_none, some_begun}
 use Rattle.reencode_core.proofs.Made.{ended_all, ended_behind, front_first, front_same, front_then}
 use Rattle.reencode_core.proofs.RowsMade.{visits_more}
-use Rattle.reencode_component.specs.Components.{BeginsNoSection, BeginsSection, ComponentFault, FaultAt, Framed, IsInForce, NestedFault, ReadsComponent, ReadsSection, SectionsFirst}
+use Rattle.reencode_component.specs.Components.{BeginsNoSection, BeginsSection, ComponentFault, FaultAt, Framed, NestedFault, ComponentReading, ReadsSection, SectionsFirst}
 use Rattle.reencode_component.specs.WeaveIn.{weave_in, AcceptsAll, RefusesAmong}
 use Rattle.reencode_component.specs.Causes.{AcceptedFront, BeforeFault, BehindFront, CauseBy, IsFault, Stops, room}
 use Rattle.reencode_component.specs.Gives.{FaultIn, GainsBefore, GivesBy, GivesSectionBy, GivesSections, RefusedOr}
@@ -69,29 +67,15 @@ frame_drawn {f = f} {bytes = bytes} {left = left} {vs = vs} there p = go f there
         drawn_front there.text left there.reads (drawn_behind q.0 q.1 q.2 (drawn_behind t.0 t.1 t.2 (subst P (sym t.4) h)))
     go g (Is.later (Is.later d)) q h = elim d [ ]
 
--- ---- no frame of an id in force
+-- ---- no frame
 
--- ids up to 127 are in force
-pub below_in_force : (id : ℕ) → id ≤ 127 → has_frame id ≡ true
-below_in_force id high = le-leb id 127 high
+unframed : (depth : ℕ) {bytes : List ℕ} → BeginsNone frame bytes → BeginsNoSection depth bytes
+unframed depth n = record {
+  none = λ left t b. let f = in_component_frame t b.begins.text b.begins.spells.shaped b.begins.spells.spelled in n.none b.begins.text left f.0 f.2 b.begins.reads;
+}
 
-unframed : (depth : ℕ) {bytes : List ℕ} → BeginsNoFrame bytes → BeginsNoSection depth bytes
-unframed depth {bytes = bytes} n = record { none = λ t left b. go t left b (in_component_frame t b.there.begins.text b.there.begins.spells.shaped b.there.begins.spells.spelled) }
-  where
-    by : (t f : Tree) (text left : List ℕ) → InComponentFrame t f → IsInForce t → Spells frame text f → bytes ≡ text ++ left → ⊥
-    by t f text left (InComponentFrame.of_id id u body low high r) known p e = n.none id body left known.0 (record { text = text; spells = p; reads = e })
-    by t f text left (InComponentFrame.of_custom name contents u r) known p e = n.no_custom name contents left (record { text = text; spells = p; reads = e })
-    by t f text left (InComponentFrame.of_unknown id contents low high) known p e = n.none id contents left (below_in_force id high) (record { text = text; spells = p; reads = e })
-
-    go : (t : Tree) (left : List ℕ) (b : BeginsSection depth bytes t left) → (f : Tree) × InComponentFrame t f × Spells frame b.there.begins.text f → ⊥
-    go t left b g = by t g.0 b.there.begins.text left g.1 b.in_force g.2 b.there.begins.reads
-
-unnested : (depth room : ℕ) {bytes : List ℕ} (x : Fault) → BeginsNoFrame bytes → Framed (λ f. NestedFault depth room f x) bytes → ⊥
-unnested depth zero x n q = q.3
-unnested depth (suc room) {bytes = bytes} x n q =
-    let h = q.3 in
-    let P : Tree → Type 0 = λ z. Begins frame bytes z q.1 in
-    n.none h.0 h.1 q.1 h.3 (subst P h.2 q.2)
+unnested : {P : Tree → Type 0} {bytes : List ℕ} → BeginsNone frame bytes → Framed P bytes → ⊥
+unnested n q = n.none q.2.text q.1 q.0 q.2.spells q.2.reads
 
 -- ---- the loop
 
@@ -152,22 +136,22 @@ module _ {S E : Type 0} (asked : Asks S E) (adds : Puts S SectionRow) (depth : �
     front = record { read = d.read; rest = rest; made = d.made; at = s; first = d.first; accepts = d.accepts }
 
     -- what is read of the whole, beside the sections so far
-    read_ahead : (t : Tree) → ReadsComponent depth bytes t → (read : List Tree) × (t ≡ rows_tree read) × SectionsAhead depth d.read rest read []
+    read_ahead : (t : Tree) → ComponentReading depth bytes t → (read : List Tree) × (t ≡ rows_tree read) × SectionsAhead depth d.read rest read []
     read_ahead t r = let l = sections_of r in (l.0, l.1, sections_ahead d.first l.2 (none_at_nil depth))
 
     fault_ahead : {before : List Tree} {left : List ℕ} → FaultAt depth bytes before left → SectionsAhead depth d.read rest before left
     fault_ahead f = sections_ahead d.first f.front f.none
 
     none_left : {t : Tree} {left : List ℕ} → rest ≡ [] → BeginsSection depth rest t left → ⊥
-    none_left {t = t} {left = left} empty b = let P : List ℕ → Type 0 = λ z. BeginsSection depth z t left in (none_at_nil depth).none t left (subst P empty b)
+    none_left {t = t} {left = left} empty b = let P : List ℕ → Type 0 = λ z. BeginsSection depth z t left in (none_at_nil depth).none left t (subst P empty b)
 
     -- no section begins, though bytes are left: there is no reading, and the fault is here
-    no_reading : BeginsNoSection depth rest → rest ≢ [] → (t : Tree) → ReadsComponent depth bytes t → ⊥
+    no_reading : BeginsNoSection depth rest → rest ≢ [] → (t : Tree) → ComponentReading depth bytes t → ⊥
     no_reading none some t r = let a = read_ahead t r in go a.0 a.2
       where
         go : (read : List Tree) → SectionsAhead depth d.read rest read [] → ⊥
         go read (SectionsAhead.same e empty) = some (sym empty)
-        go read (SectionsAhead.more u others left e b) = none.none u left b
+        go read (SectionsAhead.more u others left e b) = none.none left u b
 
     fault_here : BeginsNoSection depth rest → rest ≢ [] → FaultAt depth bytes d.read rest
     fault_here none some = record { front = d.first; none = none; some = some }
@@ -177,7 +161,7 @@ module _ {S E : Type 0} (asked : Asks S E) (adds : Puts S SectionRow) (depth : �
       where
         go : SectionsAhead depth d.read rest before left → (before ≡ d.read) × (left ≡ rest)
         go (SectionsAhead.same e r) = (e, r)
-        go (SectionsAhead.more u others left' e b) = absurd (none.none u left' b)
+        go (SectionsAhead.more u others left' e b) = absurd (none.none left' u b)
 
     accepts_before : {before : List Tree} → before ≡ d.read → AcceptsAll asked (added adds) old.ceiling s0 before d.made s
     accepts_before e = let P : List Tree → Type 0 = λ z. AcceptsAll asked (added adds) old.ceiling s0 z d.made s in subst P (sym e) d.accepts
@@ -239,8 +223,8 @@ module _ {S E : Type 0} (asked : Asks S E) (adds : Puts S SectionRow) (depth : �
         let none = unframed depth h.1 in record {
           reading = λ t r. absurd (no_reading none h.2 t r);
           readable = tt;
-          cause = is_fault (fault.Read e) none h.2 (inr (d.read, rest, fault_here none h.2, h.0 ∙ place, λ y handed q. unnested depth (room depth) y h.1 q));
-          gained = gained refl (λ t left b. absurd (none.none t left b));
+          cause = is_fault (fault.Read e) none h.2 (inr (d.read, rest, fault_here none h.2, h.0 ∙ place, λ y handed q. unnested h.1 q));
+          gained = gained refl (λ t left b. absurd (none.none left t b));
         }
     component_unframed fault.CodeSize at h place = absurd h
     component_unframed (fault.Header k) at h place = absurd h
@@ -258,7 +242,7 @@ module _ {S E : Type 0} (asked : Asks S E) (adds : Puts S SectionRow) (depth : �
           let W : ℕ → Type 0 = λ c. RefusedOr (own f s m) (weave_in asked (added adds) c s t) e m in
           subst W ceiling (g.reading t r)
 
-      read_refused : (e : Error E) → Given e → (t : Tree) → ReadsComponent depth bytes t →
+      read_refused : (e : Error E) → Given e → (t : Tree) → ComponentReading depth bytes t →
           RefusedOr (BehindFront asked (added adds) old.ceiling depth own bytes s0 m) (weave_in asked (added adds) old.ceiling s0 t) e m
       read_refused e g t r other = let a = read_ahead t r in go a.0 a.1 a.2
         where
@@ -305,7 +289,7 @@ module _ {S E : Type 0} (asked : Asks S E) (adds : Puts S SectionRow) (depth : �
               by : ((t : Tree) × ReadsSection depth f t) ⊎ inner f s m e → Why e before left'
               by (inl r) =
                   let P : List ℕ → Type 0 = λ z. BeginsSection depth z r.0 left in
-                  absurd (x.none.none r.0 left (subst P (sym q) (section_there r.1 there)))
+                  absurd (x.none.none left r.0 (subst P (sym q) (section_there r.1 there)))
               by (inr h) =
                   let P : List ℕ → Type 0 = λ z. Framed (λ w. inner w s m e) z in
                   inr (inl (d.made, s, accepts_before p, subst P (sym q) (f, left, there, h)))
@@ -369,7 +353,7 @@ module _ {S E : Type 0} (asked : Asks S E) (adds : Puts S SectionRow) (depth : �
     pub component_unframed_leaves : (x : Fault) (at : ℕ) → NoComponentFrame x rest at → Leaves asked (component_in depth bytes) s0 (error_of_fault x) s
     component_unframed_leaves (fault.Read e) at h =
         let none = unframed depth h.1 in
-        component_leaves (ParseError e) [] h.2 (ended_all {a = []} (ParseError e) tt refl) drawn_none (λ t left b. absurd (none.none t left b))
+        component_leaves (ParseError e) [] h.2 (ended_all {a = []} (ParseError e) tt refl) drawn_none (λ t left b. absurd (none.none left t b))
     component_unframed_leaves fault.CodeSize at h = absurd h
     component_unframed_leaves (fault.Header k) at h = absurd h
     component_unframed_leaves fault.NoMemory at h = absurd h
@@ -406,7 +390,7 @@ module _ {S E : Type 0} (asked : Asks S E) (adds : Puts S SectionRow) (depth : �
   pub header_wrong : {inner own : Stops S E} {bytes : List ℕ} (s : S) (old : Sections) (x : Fault) → NoComponentHeader x bytes →
       GivesBy asked adds depth inner own bytes (s, old) (s, old) (Err (error_of_fault x))
   header_wrong {bytes = bytes} s old (fault.Header kinds.Module) there = record {
-    reading = λ t r. absurd (never r.reading.rest r.reading.stands);
+    reading = λ t r. absurd (never r.rest r.stands);
     readable = tt;
     cause = record { fault = inl there; accepted = λ before left f. absurd (never f.front.start f.front.stands) };
     gained = inl (never, refl);
@@ -415,7 +399,7 @@ module _ {S E : Type 0} (asked : Asks S E) (adds : Puts S SectionRow) (depth : �
       never : (rest : List ℕ) → bytes ≡ component_header ++ rest → ⊥
       never rest stands = let e : component_header ++ rest ≡ core_header ++ there.0 = sym stands ∙ there.1 in cc
   header_wrong s old (fault.Read e) none = record {
-    reading = λ t r. absurd ((none.1 r.reading.rest).1 r.reading.stands);
+    reading = λ t r. absurd ((none.1 r.rest).1 r.stands);
     readable = tt;
     cause = record { fault = inl (none.1, none.0); accepted = λ before left f. absurd ((none.1 f.front.start).1 f.front.stands) };
     gained = inl ((λ rest. (none.1 rest).1), refl);

@@ -152,6 +152,7 @@ sorted_map {n = n} {m = m} p is = record {
       (t, subst Q (sym is) (es.0, subst L es.1 w, refl));
   item = IsItem.sort_entry p;
   of_map = λ P h. let Q : Content → Type 0 = λ z. OfSortedMap z P in subst Q (sym is) h;
+  in_map = λ P h. let Q : Content → Type 0 = λ z. OfSortedMap z P in subst Q is h;
   bytes = ap entries_bytes is;
   one = λ t u p_t p_u.
       let Q : Tree → Content → Type 0 = λ v z. Reads z v in

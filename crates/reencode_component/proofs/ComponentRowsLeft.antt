@@ -53,7 +53,7 @@ module _ {S E : Type 0} (asked : Asks S E) (depth : ℕ) (deep : depth ≤ 200) 
       go f t rest (SectionUpTo.rows id' body' row' reader u rest' e there r) q =
           let same : body' ≡ body = cc in
           let number : id' ≡ id = cc in
-          let vecs : Shape.vec row' ≡ Shape.vec row = sym e.body ∙ ap component_body_of number ∙ kind.are_rows in
+          let vecs : Shape.vec row' ≡ Shape.vec row = sym e ∙ ap component_body_of number ∙ kind.are_rows in
           let rows : row' ≡ row = cc in
           let P : List ℕ → Type 0 = λ z. CountRead z reader in
           let R : Shape → Type 0 = λ z. ShallowUpTo z (standing_at depth reader) t rest in

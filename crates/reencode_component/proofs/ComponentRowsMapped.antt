@@ -15,7 +15,6 @@ use Rattle.wasm_shapes.specs.Tree.{Tree, count, normal}
 use Rattle.wasm_shapes.specs.Types.{rows_tree, vector_tree}
 use Rattle.wasm_shapes.proofs.Rows.{vec_counted, vec_spelled}
 use Rattle.wasm_read.specs.Reading.{Standing, CountRead}
-use Rattle.wasm_read_component.specs.ComponentPayloads.{has_frame}
 use Rattle.wasm_write.specs.declared.fault.WriteFault.{WriteFault}
 use Rattle.wasm_write.specs.declared.fault.WriteFault.TheVariants as write
 use Rattle.wasm_write.specs.Faults.{IfTooLarge}
@@ -29,7 +28,7 @@ use Rattle.reencode_core.specs.Errors.{placed_at}
 use Rattle.reencode_core.specs.Rows.{AcceptedHooks, Asks, RefusesFirst, RefusesInside, RefusesRow, RefusesWhole, StopsAtRow, StopsDue, StopsRows, TooMany, onto_rows}
 use Rattle.reencode_core.specs.Weave.{Puts, added}
 use Rattle.reencode_core.proofs.Known.{closed_fits, closed_large, vec_is}
-use Rattle.reencode_component.specs.Components.{FaultBy, ModuleFault, NestedFault, ReadsSection}
+use Rattle.reencode_component.specs.Components.{NestedFault, ReadsSection}
 use Rattle.reencode_component.specs.WeaveIn.{weave_in}
 use Rattle.reencode_component.specs.Causes.{Stops, StopsInRows, room}
 use Rattle.reencode_component.specs.Gives.{FaultIn, GivesSectionBy}
@@ -133,27 +132,37 @@ module _ {S E : Type 0} (asked : Asks S E) where
 
 -- ---- a section of rows
 
--- Sections of the id are read, and have these rows.
+-- no nested section stands in a frame of another id
+pub unnested : (depth : ℕ) {id : ℕ} (body : List ℕ) → id ≢ 1 → id ≢ 4 → (scopes : ℕ) (x : Fault) → NestedFault depth scopes (numbered_frame id body) x → ⊥
+unnested depth body no_module no_component zero x h = h
+unnested depth {id = id} body no_module no_component (suc scopes) x h = go h.3
+  where
+    same : id ≡ h.0
+    same = let e : numbered_frame id body ≡ numbered_frame h.0 h.1 = h.2 in cc
+
+    go : {A B : Type 0} → ((h.0 ≡ 1) × A) ⊎ ((h.0 ≡ 4) × B) → ⊥
+    go (inl q) = no_module (same ∙ q.0)
+    go (inr q) = no_component (same ∙ q.0)
+
+-- Sections of the id have these rows.
 pub record SectionRows (id : ℕ) (row : Shape) : Type 0 where
   pub are_rows : component_body_of id ≡ Shape.vec row
-  pub known : has_frame id ≡ true
   pub low : 1 ≤ id
   pub high : id ≤ 11
   pub is_sound : sound (Shape.vec row) ≡ true
 
-at_row : (ss : List Shape) (k : ℕ) {row : Shape} → row_at ss k ≡ Shape.vec row → k < length ss
+pub at_row : (ss : List Shape) (k : ℕ) {row : Shape} → row_at ss k ≡ Shape.vec row → k < length ss
 at_row [] k e = absurd cc
 at_row (s ∷ ss) zero e = omega arith
 at_row (s ∷ ss) (suc k) e = let less : k < length ss = at_row ss k e in omega (arith, less)
 
-above_custom : (id : ℕ) {row : Shape} → component_body_of id ≡ Shape.vec row → 1 ≤ id
+pub above_custom : (id : ℕ) {row : Shape} → component_body_of id ≡ Shape.vec row → 1 ≤ id
 above_custom zero e = absurd cc
 above_custom (suc n) e = omega arith
 
-pub section_rows : {id : ℕ} {row : Shape} → component_body_of id ≡ Shape.vec row → has_frame id ≡ true → sound row ≡ true → closed row ≡ true → SectionRows id row
-section_rows {id = id} are known is_sound is_closed = record {
+pub section_rows : {id : ℕ} {row : Shape} → component_body_of id ≡ Shape.vec row → sound row ≡ true → closed row ≡ true → SectionRows id row
+section_rows {id = id} are is_sound is_closed = record {
   are_rows = are;
-  known = known;
   low = above_custom id are;
   high = let less : id < 12 = at_row component_bodies id are in omega (arith, less);
   is_sound = rw (is_closed, is_sound) refl;
@@ -187,29 +196,14 @@ module _ (depth : ℕ) {id : ℕ} {row : Shape} (kind : SectionRows id row) (bod
       record {
         framed = InComponentFrame.of_id id (Tree.vec rows) body kind.low kind.high (subst P (sym kind.are_rows) spelled);
         shallow = let most : opens rows + depth ≤ 200 = shallow_rows rows r.left.shaped deep r.shallow in record { most = omega (arith, most) };
-        in_force = (kind.known, λ q. absurd (no_component q));
       }
-    where
-      no_component : id ≡ 4 → ⊥
-      no_component q = let rows : component_body_of 4 ≡ Shape.vec row = sym (ap component_body_of q) ∙ kind.are_rows in cc
 
   -- no nested section stands there
-  unnested_rows : (room : ℕ) (x : Fault) → NestedFault depth room (numbered_frame id body) x → ⊥
-  unnested_rows zero x h = h
-  unnested_rows (suc room) x h = go h.4
-    where
-      same : h.0 ≡ id
-      same = let e : numbered_frame id body ≡ numbered_frame h.0 h.1 = h.2 in cc
-
-      is_body : {n : ℕ} → h.0 ≡ n → component_body_of n ≡ Shape.vec row
-      is_body e = let P : ℕ → Type 0 = λ z. component_body_of z ≡ Shape.vec row in subst P (sym same ∙ e) kind.are_rows
-
-      go : ((h.0 ≡ 1) × ModuleFault h.1 x) ⊎ ((h.0 ≡ 4) × FaultBy (depth + 1) (NestedFault (depth + 1) room) h.1 x) → ⊥
-      go (inl q) = let e = is_body q.0 in cc
-      go (inr q) = let e = is_body q.0 in cc
+  rows_not : {n : ℕ} → (component_body_of n ≡ Shape.vec row → ⊥) → id ≢ n
+  rows_not none e = none (sym (ap component_body_of e) ∙ kind.are_rows)
 
   bytes_fault : {A : Type 0} (at : ℕ) → A → A × FaultIn (NestedFault depth (room depth) (numbered_frame id body)) at (fault.Read (record { at = at }))
-  bytes_fault at none = (none, (refl, λ y handed q. unnested_rows (room depth) y q))
+  bytes_fault at none = (none, (refl, λ y handed q. unnested depth body (rows_not {n = 1} (λ e. cc)) (rows_not {n = 4} (λ e. cc)) (room depth) y q))
 
 module _ {S E : Type 0} (asked : Asks S E) (adds : Puts S SectionRow) (depth : ℕ) (deep : depth ≤ 200) {id : ℕ} {row : Shape} (kind : SectionRows id row) (body : List ℕ) (at : ℕ) where
   module _ (own inner : Stops S E) (s m : S) (old : Sections) (stops_in : (e : Error E) → StopsInRows asked old.ceiling depth id body s m e → inner (numbered_frame id body) s m e) where

@@ -62,7 +62,6 @@ custom_back depth deep name contents t r =
     subst P (sym r.1) (record {
       framed = InComponentFrame.of_custom name contents r.0 r.2;
       shallow = let most : max zero (max zero (opens r.0)) + depth ≤ 200 = omega (arith, none, deep) in record { most = most };
-      in_force = (refl, λ q. absurd cc);
     })
 
 -- ---- the walk

@@ -1,6 +1,5 @@
 -- A section of a component whose rows were mapped, as it is added.
 use Rattle.std.proofs.Common.{◌≡◌, ◌+◌, ◌≢◌, ◌<◌, ◌≤◌, lit≤, zero, suc, ℕ, List, [], ◌∷◌, true, Result, Ok, Err, IfErr, IsTrue, refl, sym, ap, ◌∙◌, subst, arith, ◌⊎◌, inl, inr}
-use Rattle.std.proofs.lemmas.Bool.{leb-true}
 use Rattle.wasm_leb.specs.declared.fault.Fault.{Fault}
 use Rattle.wasm_leb.specs.declared.fault.Fault.TheVariants as fault
 use Rattle.wasm_leb.specs.Place.{BeginsNoNumber}
@@ -19,7 +18,6 @@ use Rattle.wasm_shapes.proofs.Laws.{one_tree}
 use Rattle.wasm_shapes.proofs.Unscoped.{unscoped_is}
 use Rattle.wasm_read_component.specs.declared.types.ComponentStartFunction.{ComponentStartFunction}
 use Rattle.wasm_read_component.specs.ComponentRows.{start_tree}
-use Rattle.wasm_read_component.specs.ComponentPayloads.{has_frame}
 use Rattle.wasm_read_component.specs.Scoped.{ScopedStanding}
 use Rattle.wasm_read.specs.Reading.{Standing, CountRead, ReadsNone}
 use Rattle.wasm_write.specs.Sections.{Sections, section_row}
@@ -39,15 +37,14 @@ use Rattle.reencode_core.proofs.Known.{keeps_same}
 use Rattle.reencode_core.proofs.Usual.{unless_wanting}
 use Rattle.reencode_core.proofs.Made.{drawn_made, either_made, ended_all, ended_placed, front_none, front_same, tells_placed, wants_placed, write_unasked}
 use Rattle.reencode_component.specs.Causes.{IfFault, inside, own_inside, room}
-use Rattle.reencode_component.specs.Components.{IsInForce, NestedFault, ReadsSection}
+use Rattle.reencode_component.specs.Components.{NestedFault, ReadsSection}
 use Rattle.reencode_component.specs.Gives.{GivesAddedIn, GivesSection}
 use Rattle.reencode_component.specs.WeaveIn.{weave_in}
 use Rattle.reencode_component.specs.Clauses.{AddedClauses}
 use Rattle.reencode_component.specs.ComponentClauses.{FrameClauses, placed_in}
 use Rattle.reencode_component.specs.ComponentLeaves.{SectionUpTo, bytes_in, section_in}
 use Rattle.reencode_component.specs.ScopedRows.{ShallowRowsClauses, standing_at}
-use Rattle.reencode_component.proofs.ComponentLoop.{below_in_force}
-use Rattle.reencode_component.proofs.ComponentRowsMapped.{SectionRows, in_numbered, section_added, section_not_added, section_stops, section_uncounted}
+use Rattle.reencode_component.proofs.ComponentRowsMapped.{SectionRows, above_custom, at_row, in_numbered, section_added, section_not_added, section_stops, section_uncounted, unnested}
 use Rattle.reencode_component.proofs.ComponentRowsLeft.{section_leaves, section_leaves_all, section_untouched}
 
 -- ---- the same error at another place
@@ -193,7 +190,6 @@ module _ {S E : Type 0} (i : Ghosts S E) (depth : ℕ) (deep : depth ≤ 200) (i
       reads = record {
         framed = InComponentFrame.of_unknown id contents low high;
         shallow = let most : opens (table.unknown_component_tree id contents) + depth ≤ 200 = omega (arith, deep) in record { most = most };
-        in_force = (refl, λ q. absurd cc);
       }
 
       is : (u f : Tree) → InComponentFrame u f → f ≡ numbered_frame id contents → u ≡ table.unknown_component_tree id contents
@@ -205,6 +201,15 @@ module _ {S E : Type 0} (i : Ghosts S E) (depth : ℕ) (deep : depth ≤ 200) (i
       one u q = is u (numbered_frame id contents) q.framed refl
 
 -- ---- a section that is not read
+
+-- the section has no rows
+pub no_up_to : (depth id : ℕ) (body : List ℕ) → ((row : Shape) → table.component_body_of id ≡ Shape.vec row → ⊥) → (t : Tree) (rest : List ℕ) → SectionUpTo depth (numbered_frame id body) t rest → ⊥
+no_up_to depth id body none t rest x = go (numbered_frame id body) t rest x refl
+  where
+    go : (f t : Tree) (rest : List ℕ) → SectionUpTo depth f t rest → f ≡ numbered_frame id body → ⊥
+    go f t rest (SectionUpTo.uncounted id' body' row e n) q = let number : id' ≡ id = cc in none row (sym (ap table.component_body_of number) ∙ e)
+    go f t rest (SectionUpTo.rows id' body' row reader u rest' e there r) q = let number : id' ≡ id = cc in none row (sym (ap table.component_body_of number) ∙ e)
+    go f t rest (SectionUpTo.names name contents u rest' is r) q = cc
 
 module _ {S E : Type 0} (i : Ghosts S E) (depth : ℕ) (f : Tree) (none : (t : Tree) → ReadsSection depth f t → ⊥) (unnested : (x : Fault) → NestedFault depth (room depth) f x → ⊥)
     (unknown : (t : Tree) (rest : List ℕ) → SectionUpTo depth f t rest → ⊥) (at : ℕ) (s : S) (old : Sections) where
@@ -241,43 +246,27 @@ frame_wanted i depth f at s old = record {
   };
 }
 
--- sections that have rows are of no id below 1
-rows_from : (id : ℕ) {row : Shape} → table.component_body_of id ≡ Shape.vec row → 1 ≤ id
-rows_from zero e = absurd cc
-rows_from (suc n) e = omega arith
+-- one of an id that has no rows, and is of no nested section
+pub number_not_read : {S E : Type 0} (i : Ghosts S E) (depth at : ℕ) (s : S) (old : Sections) (id : ℕ) (body : List ℕ) → id ≢ 1 → id ≢ 4 → ((row : Shape) → table.component_body_of id ≡ Shape.vec row → ⊥) →
+    ((t : Tree) → ReadsSection depth (numbered_frame id body) t → ⊥) → FrameClauses i depth (numbered_frame id body) at s old s old (Err (ParseError (record { at = at })))
+number_not_read i depth at s old id body no_module no_component no_rows none =
+    not_read i depth (numbered_frame id body) none (unnested depth body no_module no_component (room depth)) (no_up_to depth id body no_rows) at s old
 
--- those of an id that is not in force, and of the id 0 where no name stands
-pub number_not_read : {S E : Type 0} (i : Ghosts S E) (depth : ℕ) (at : ℕ) (s : S) (old : Sections) (id : ℕ) (body : List ℕ) → (1 ≤ id → has_frame id ≡ true → ⊥) →
+-- one of the id 0 where no name stands, or of an id above 127
+pub unknown_not_read : {S E : Type 0} (i : Ghosts S E) (depth at : ℕ) (s : S) (old : Sections) (id : ℕ) (body : List ℕ) → (1 ≤ id → id ≤ 127 → ⊥) →
     FrameClauses i depth (numbered_frame id body) at s old s old (Err (ParseError (record { at = at })))
-number_not_read i depth at s old id body off =
-    not_read i depth (numbered_frame id body) (λ t r. none t (numbered_frame id body) r.framed r.in_force refl) (unnested (room depth)) (λ t rest x. up_to (numbered_frame id body) t rest x refl) at s old
+unknown_not_read i depth at s old id body off =
+    number_not_read i depth at s old id body (λ e. off (omega (arith, e)) (omega (arith, e))) (λ e. off (omega (arith, e)) (omega (arith, e))) rows (λ t r. none t (numbered_frame id body) r.framed refl)
   where
-    never : {n : ℕ} → n ≡ id → 1 ≤ n → has_frame n ≡ true → ⊥
-    never {n = n} e low k = let P : ℕ → Type 0 = λ z. has_frame z ≡ true in off (omega (arith, e, low)) (subst P e k)
+    rows : (row : Shape) → table.component_body_of id ≡ Shape.vec row → ⊥
+    rows row e = let low : 1 ≤ id = above_custom id e in let high : id < 12 = at_row table.component_bodies id e in off low (omega (arith, high))
 
-    none : (t f : Tree) → InComponentFrame t f → IsInForce t → f ≡ numbered_frame id body → ⊥
-    none t f (InComponentFrame.of_id id' v body' low' high' q) k e = let number : id' ≡ id = cc in never number low' k.0
-    none t f (InComponentFrame.of_custom name contents v q) k e = cc
-    none t f (InComponentFrame.of_unknown id' contents' low' high') k e = let number : id' ≡ id = cc in never number (omega (arith, low')) (below_in_force id' high')
-
-    nested_from : {n : ℕ} {A B : Type 0} → ((n ≡ 1) × A) ⊎ ((n ≡ 4) × B) → 1 ≤ n
-    nested_from {n = n} (inl p) = let one : n ≡ 1 = p.0 in omega (arith, one)
-    nested_from {n = n} (inr p) = let four : n ≡ 4 = p.0 in omega (arith, four)
-
-    unnested : (room : ℕ) (x : Fault) → NestedFault depth room (numbered_frame id body) x → ⊥
-    unnested zero x h = h
-    unnested (suc room) x h = let e : numbered_frame id body ≡ numbered_frame h.0 h.1 = h.2 in let number : h.0 ≡ id = cc in never number (nested_from h.4) h.3
-
-    up_to : (f t : Tree) (rest : List ℕ) → SectionUpTo depth f t rest → f ≡ numbered_frame id body → ⊥
-    up_to f t rest (SectionUpTo.uncounted id' body' row e n) q = let number : id' ≡ id = cc in never number (rows_from id' e.body) e.in_force
-    up_to f t rest (SectionUpTo.rows id' body' row reader u rest' e there r) q = let number : id' ≡ id = cc in never number (rows_from id' e.body) e.in_force
-    up_to f t rest (SectionUpTo.names name contents u rest' is r) q = cc
+    none : (t f : Tree) → InComponentFrame t f → f ≡ numbered_frame id body → ⊥
+    none t f (InComponentFrame.of_id id' v body' low high q) e = let number : id' ≡ id = cc in off (omega (arith, number, low)) (omega (arith, number, high))
+    none t f (InComponentFrame.of_custom name contents v q) e = cc
+    none t f (InComponentFrame.of_unknown id' contents low high) e = let number : id' ≡ id = cc in off (omega (arith, number, low)) (omega (arith, number, high))
 
 -- ---- the start
-
-not_nested : {id : ℕ} {A B : Type 0} → id ≡ 9 → ((id ≡ 1) × A) ⊎ ((id ≡ 4) × B) → ⊥
-not_nested {id = id} q (inl p) = let one : id ≡ 1 = p.0 in omega (arith, one, q)
-not_nested {id = id} q (inr p) = let four : id ≡ 4 = p.0 in omega (arith, four, q)
 
 start_is : (depth : ℕ) (body : List ℕ) (t : Tree) → ReadsSection depth (numbered_frame 9 body) t → (u : Tree) × (t ≡ table.component_section_tree 9 u) × Spells table.component_start body u
 start_is depth body t r = in_numbered 9 body t (lit≤ tt) r.framed
@@ -286,18 +275,7 @@ module _ {S E : Type 0} (i : Ghosts S E) (depth : ℕ) (deep : depth ≤ 200) (b
   -- none is there
   pub start_unread : ((t : Tree) → Spells table.component_start body t → ⊥) → FrameClauses i depth (numbered_frame 9 body) at s old s old (Err (ParseError (record { at = at })))
   start_unread none =
-      not_read i depth (numbered_frame 9 body) (λ t r. let u = start_is depth body t r in none u.0 u.2) (unnested (room depth)) (λ t rest x. up_to (numbered_frame 9 body) t rest x refl) at s old
-    where
-      unnested : (room : ℕ) (x : Fault) → NestedFault depth room (numbered_frame 9 body) x → ⊥
-      unnested zero x h = h
-      unnested (suc room) x h = let e : numbered_frame 9 body ≡ numbered_frame h.0 h.1 = h.2 in let number : h.0 ≡ 9 = cc in not_nested number h.4
-
-      up_to : (f t : Tree) (rest : List ℕ) → SectionUpTo depth f t rest → f ≡ numbered_frame 9 body → ⊥
-      up_to f t rest (SectionUpTo.uncounted id' body' row e n) q =
-          let number : id' ≡ 9 = cc in let start : table.component_start ≡ Shape.vec row = sym (ap table.component_body_of number) ∙ e.body in cc
-      up_to f t rest (SectionUpTo.rows id' body' row reader u rest' e there r) q =
-          let number : id' ≡ 9 = cc in let start : table.component_start ≡ Shape.vec row = sym (ap table.component_body_of number) ∙ e.body in cc
-      up_to f t rest (SectionUpTo.names name contents u rest' is r) q = cc
+      number_not_read i depth at s old 9 body (λ e. omega (arith, e)) (λ e. omega (arith, e)) (λ row e. cc) (λ t r. let u = start_is depth body t r in none u.0 u.2)
 
   -- it was mapped
   pub start_added : (f : ComponentStartFunction) → Spells table.component_start body (start_tree f) → {m : S} {new : Sections} (r : Result (Unit {0}) (Error E)) →
@@ -308,30 +286,8 @@ module _ {S E : Type 0} (i : Ghosts S E) (depth : ℕ) (deep : depth ≤ 200) (b
       reads = record {
         framed = InComponentFrame.of_id 9 (start_tree f) body (lit≤ tt) (lit≤ tt) p;
         shallow = let none : opens (start_tree f) ≡ 0 = (unscoped_is p.shaped refl).opens in record { most = omega (arith, none, deep) };
-        in_force = (refl, λ q. absurd cc);
       }
 
       one : (u : Tree) → ReadsSection depth (numbered_frame 9 body) u → u ≡ table.component_section_tree 9 (start_tree f)
       one u q =
           let v = start_is depth body u q in v.1 ∙ ap (table.component_section_tree 9) (one_tree table.component_start refl body v.0 (start_tree f) v.2 p)
-
--- ---- ids that are not in force
-
-pub low_off : (id : ℕ) → id < 12 → id ≢ 1 → id ≢ 4 → id ≢ 2 → id ≢ 3 → id ≢ 5 → id ≢ 6 → id ≢ 7 → id ≢ 8 → id ≢ 9 → id ≢ 10 → id ≢ 11 → 1 ≤ id → has_frame id ≡ true → ⊥
-low_off zero low y z a b c d e f g h j from k = omega (arith, from)
-low_off (suc zero) low y z a b c d e f g h j from k = y refl
-low_off (suc (suc zero)) low y z a b c d e f g h j from k = a refl
-low_off (suc (suc (suc zero))) low y z a b c d e f g h j from k = b refl
-low_off (suc (suc (suc (suc zero)))) low y z a b c d e f g h j from k = z refl
-low_off (suc (suc (suc (suc (suc zero))))) low y z a b c d e f g h j from k = c refl
-low_off (suc (suc (suc (suc (suc (suc zero)))))) low y z a b c d e f g h j from k = d refl
-low_off (suc (suc (suc (suc (suc (suc (suc zero))))))) low y z a b c d e f g h j from k = e refl
-low_off (suc (suc (suc (suc (suc (suc (suc (suc zero)))))))) low y z a b c d e f g h j from k = f refl
-low_off (suc (suc (suc (suc (suc (suc (suc (suc (suc zero))))))))) low y z a b c d e f g h j from k = g refl
-low_off (suc (suc (suc (suc (suc (suc (suc (suc (suc (suc zero)))))))))) low y z a b c d e f g h j from k = h refl
-low_off (suc (suc (suc (suc (suc (suc (suc (suc (suc (suc (suc zero))))))))))) low y z a b c d e f g h j from k = j refl
-low_off (suc (suc (suc (suc (suc (suc (suc (suc (suc (suc (suc (suc n)))))))))))) low y z a b c d e f g h j from k = omega (arith, low)
-
--- none of these is above 127
-pub high_off : (id : ℕ) → 127 < id → 1 ≤ id → has_frame id ≡ true → ⊥
-high_off id h from k = let most : id ≤ 127 = leb-true _ _ k in omega (arith, h, most)

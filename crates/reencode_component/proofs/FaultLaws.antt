@@ -11,7 +11,7 @@ use Rattle.wasm_shapes.specs.Tree.{Tree}
 use Rattle.wasm_shapes.proofs.Depth.{begins_unique}
 use Rattle.reencode_core.specs.Core.{NoHeader}
 use Rattle.reencode_core.proofs.CoreLoop as loop
-use Rattle.reencode_component.specs.Components.{FaultAt, FaultBy, Framed, IsHandedOut, ModuleFault, NestedFault, ReadsComponent}
+use Rattle.reencode_component.specs.Components.{FaultAt, FaultBy, Framed, IsHandedOut, ModuleFault, NestedFault, ComponentReading}
 use Rattle.reencode_component.specs.ComponentFaults as statements
 use Rattle.reencode_component.proofs.SectionsAhead.{SectionsAhead, none_at_nil, sections_ahead, sections_of}
 
@@ -31,7 +31,7 @@ same_place {depth = depth} {before = before} {ts = ts} {rest = rest} {left = lef
   where
     go : SectionsAhead depth before rest ts left → left ≡ rest
     go (SectionsAhead.same e r) = r
-    go (SectionsAhead.more t others behind e b) = absurd (f.none.none t behind b)
+    go (SectionsAhead.more t others behind e b) = absurd (f.none.none behind t b)
 
 -- ---- headers
 
@@ -124,7 +124,7 @@ module _ (depth : ℕ) (nested : Tree → Fault → Type 0) (one : (f : Tree) (x
 -- in one frame stands one section
 pub nested_one : (depth room : ℕ) (f : Tree) (x y : Fault) → NestedFault depth room f x → NestedFault depth room f y → x ≡ y
 nested_one depth zero f x y p q = absurd p
-nested_one depth (suc room) f x y p q = go (nested_one (depth + 1) room) p.4 q.4
+nested_one depth (suc room) f x y p q = go (nested_one (depth + 1) room) p.3 q.3
   where
     frames : numbered_frame p.0 p.1 ≡ numbered_frame q.0 q.1
     frames = sym p.2 ∙ q.2
@@ -146,12 +146,12 @@ nested_one depth (suc room) f x y p q = go (nested_one (depth + 1) room) p.4 q.4
         (seen (depth + 1) (NestedFault (depth + 1) room) p.1 y (subst P bodies k.1))
 
 -- bytes with a fault behind their header have no reading
-pub at_fault : (depth : ℕ) (bytes : List ℕ) (before : List Tree) (rest : List ℕ) → FaultAt depth bytes before rest → (t : Tree) → ReadsComponent depth bytes t → ⊥
+pub at_fault : (depth : ℕ) (bytes : List ℕ) (before : List Tree) (rest : List ℕ) → FaultAt depth bytes before rest → (t : Tree) → ComponentReading depth bytes t → ⊥
 at_fault depth bytes before rest f t r = let l = sections_of r in go l.0 (sections_ahead f.front l.2 (none_at_nil depth))
   where
     go : (read : List Tree) → SectionsAhead depth before rest read [] → ⊥
     go read (SectionsAhead.same e empty) = f.some (sym empty)
-    go read (SectionsAhead.more u others left e b) = f.none.none u left b
+    go read (SectionsAhead.more u others left e b) = f.none.none left u b
 
 pub fault_is_one : statements.FaultIsOne
 fault_is_one = record {
@@ -161,8 +161,8 @@ fault_is_one = record {
   none = λ depth bytes x p t r. no_reading depth bytes x (seen depth (NestedFault depth (200 - depth)) bytes x p) t r;
 }
   where
-    no_reading : (depth : ℕ) (bytes : List ℕ) (x : Fault) → Seen depth (NestedFault depth (200 - depth)) bytes x → (t : Tree) → ReadsComponent depth bytes t → ⊥
-    no_reading depth bytes x (bare h e) t r = no_component h r.reading.stands
-    no_reading depth bytes x (of_core rest p e) t r = clash p r.reading.stands
+    no_reading : (depth : ℕ) (bytes : List ℕ) (x : Fault) → Seen depth (NestedFault depth (200 - depth)) bytes x → (t : Tree) → ComponentReading depth bytes t → ⊥
+    no_reading depth bytes x (bare h e) t r = no_component h r.stands
+    no_reading depth bytes x (of_core rest p e) t r = clash p r.stands
     no_reading depth bytes x (place b rest f e n) t r = at_fault depth bytes b rest f t r
     no_reading depth bytes x (within b rest f o n) t r = at_fault depth bytes b rest f t r

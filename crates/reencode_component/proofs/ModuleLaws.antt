@@ -3,7 +3,7 @@ use Rattle.std.proofs.Common.{◌≡◌, ◌≢◌, ℕ, List, [], Option, Resul
 use Rattle.wasm_shapes.specs.declared.SectionId.{SectionId}
 use Rattle.wasm_shapes.specs.declared.Visit.{Visit}
 use Rattle.wasm_shapes.specs.Module.{CoreReading, alsos}
-use Rattle.wasm_shapes.specs.Tree.{Tree, fill, kind, normal}
+use Rattle.wasm_shapes.specs.Tree.{Tree, kind}
 use Rattle.wasm_write.specs.Sections.{Sections}
 use Rattle.reencode_hooks.specs.declared.error.Error.{Error}
 use Rattle.reencode_hooks.specs.declared.error.Error.TheVariants.{UserError, NoMemory}
@@ -20,12 +20,11 @@ use Rattle.reencode_core.specs.Rows.{Asks}
 use Rattle.reencode_core.proofs.AddsNothing.{added_none}
 use Rattle.reencode_core.proofs.Refusals.{never_refused}
 use Rattle.reencode_component.specs.Causes.{IfFault}
-use Rattle.reencode_component.specs.ComponentLaws.{AddsOrWants, AnswersFault, Filled, IsOfBytes, StopsOn}
+use Rattle.reencode_component.specs.ComponentLaws.{AddsOrWants, AnswersFault, Filled, IfTaken, IsOfBytes, IsTaken, StopsOn}
 use Rattle.reencode_component.specs.Components.{ModuleFault}
 use Rattle.reencode_component.specs.ModuleLaws as statements
-use Rattle.reencode_component.specs.ModuleLaws.{IfTaken, as_sections}
-use Rattle.reencode_component.specs.WithinLaws.{IsTaken}
-use Rattle.reencode_component.proofs.ComponentLaws.{filled_of, walk_of}
+use Rattle.reencode_component.specs.ModuleLaws.{as_sections}
+use Rattle.reencode_component.proofs.ComponentLaws.{only_wants, same_taken, taken}
 use Rattle.reencode_component.proofs.WithinLaws as laws
 
 -- where a section is refused, or the hook before it, so are sections that begin with it
@@ -61,17 +60,13 @@ module _ {S E : Type 0} (i : Ghosts S E) (adds : KeepsAdds i.adds i.adds_nothing
   view u = []
 
   output : (bytes : List ℕ) (s m : S) (old new : Sections) (result : Result (Unit {0}) (Error E)) → ModuleClauses i bytes s old m new result → IsTrue i.keeps_defaults → IsTrue i.adds_nothing →
-      IfTaken (asks i) bytes s old m new result
+      IfTaken as_sections (asks i) bytes s old m new result
   output bytes s m old new (Err e) g keeps nothing = tt
   output bytes s m old new (Ok u) g keeps nothing =
       let d = g.default keeps nothing in
       let t = d.readable.0 in
       let q = d.reading t d.readable.1 in
-      let p = filled_of i (none_added nothing) old.ceiling s m t q.0 q.2 in (
-        normal (fill t p.0.given),
-        record { rows = q.1; gains = q.3; spelled = q.4 ∙ ap normal p.1 },
-        record { tree = t; reads = d.readable.1; filled = p.0; spelled = refl },
-      )
+      taken i (none_added nothing) as_sections t q.0 d.readable.1 q.2 (record { rows = q.1; gains = q.3; spelled = q.4 })
 
   stopped : (bytes : List ℕ) (s m : S) (old new : Sections) (e : Error E) → ModuleClauses i bytes s old m new (Err e) → IsTrue i.keeps_defaults → IsTrue i.adds_nothing → (t : Tree) →
       CoreReading bytes t → e ≢ NoMemory → walk (asks i) old.ceiling s t ≡ refused e m
@@ -79,24 +74,11 @@ module _ {S E : Type 0} (i : Ghosts S E) (adds : KeepsAdds i.adds i.adds_nothing
 
   complete : (bytes : List ℕ) (s m : S) (old new : Sections) (result : Result (Unit {0}) (Error E)) → ModuleClauses i bytes s old m new result → IsTrue i.keeps_defaults → IsTrue i.adds_nothing →
       (out : List ℕ) (n : S) → IsTaken as_sections (asks i) old.ceiling bytes s n out → AddsOrWants out n old m new result
-  complete bytes s m old new result g keeps nothing out n h = go result g
-    where
-      walks : walk (asks i) old.ceiling s h.tree ≡ accepted (fill h.tree h.filled.given) n
-      walks = walk_of i (none_added nothing) old.ceiling s n h.tree h.reads.rest h.reads.spells.spelled h.filled
-
-      only : (w : Error E) → (w ≢ NoMemory → walk (asks i) old.ceiling s h.tree ≡ refused w m) → w ≡ NoMemory
-      only NoMemory f = refl
-      only w f =
-          let step : walk (asks i) old.ceiling s h.tree ≡ refused w m = f (λ same. absurd cc) in
-          let both : ◌≡◌ {A = Step S (Error E) Tree} (accepted (fill h.tree h.filled.given) n) (refused w m) = sym walks ∙ step in absurd cc
-
-      go : (r : Result (Unit {0}) (Error E)) → ModuleClauses i bytes s old m new r → AddsOrWants out n old m new r
-      go (Ok u) g =
-          let q = (g.default keeps nothing).reading h.tree h.reads in
-          let both : ◌≡◌ {A = Step S (Error E) Tree} (accepted q.0 m) (accepted (fill h.tree h.filled.given) n) = sym q.2 ∙ walks in
-          let trees : q.0 ≡ fill h.tree h.filled.given = cc in
-          let states : m ≡ n = cc in (record { rows = q.1; gains = q.3; spelled = q.4 ∙ ap normal trees ∙ sym h.spelled }, states)
-      go (Err e) g = only e (λ other. stopped bytes s m old new e g keeps nothing h.tree h.reads other)
+  complete bytes s m old new (Ok u) g keeps nothing out n h =
+      let q = (g.default keeps nothing).reading h.tree h.reads in
+      let same = same_taken i (none_added nothing) as_sections h _ h.reads.spells.spelled q.0 q.2 in (record { rows = q.1; gains = q.3; spelled = q.4 ∙ same.0 }, same.1)
+  complete bytes s m old new (Err e) g keeps nothing out n h =
+      only_wants i (none_added nothing) as_sections h _ h.reads.spells.spelled e (λ other. stopped bytes s m old new e g keeps nothing h.tree h.reads other)
 
   fault : (bytes : List ℕ) (s m : S) (old new : Sections) (e : Error E) → ModuleClauses i bytes s old m new (Err e) → IsTrue i.keeps_defaults → IfFault e (ModuleFault bytes)
   fault bytes s m old new e g keeps = laws.woven_caused i adds view old.ceiling bytes s m e (g.woven keeps).cause

@@ -21,7 +21,7 @@ use Rattle.reencode_core.specs.Weave.{Puts, added}
 use Rattle.reencode_component.specs.Causes.{BehindFront, CauseBy, ComponentCause, IfFault, IsFault, OwnInside, Stops, StopsNested, inside, own_inside, room}
 use Rattle.reencode_component.specs.ComponentClauses.{ComponentClauses}
 use Rattle.reencode_component.specs.ComponentLeaves.{component_in}
-use Rattle.reencode_component.specs.Components.{ComponentFault, NestedFault, ReadsComponent}
+use Rattle.reencode_component.specs.Components.{ComponentFault, NestedFault, ComponentReading}
 use Rattle.reencode_component.specs.NestedClauses.{inner_component}
 use Rattle.reencode_component.specs.WeaveIn.{weave_in}
 use Rattle.reencode_component.proofs.FaultLaws.{fault_is_one}
@@ -39,7 +39,7 @@ pub component_nested : (depth : ℕ) (body : List ℕ) → IsNested depth 4 comp
 component_nested depth body = record {
   forth = λ t r. component_forth depth body t r;
   back = λ u r. component_back depth body u r;
-  one = λ u v p q. one_reading.component (depth + 1) (depth + 1) body u v p.reading q.reading;
+  one = λ u v p q. one_reading.component (depth + 1) (depth + 1) body u v p q;
   headed = λ u. refl;
   drawn = λ u r. component_drawn (depth + 1) body u r;
   no_rows = component_no_rows;
@@ -48,10 +48,10 @@ component_nested depth body = record {
 -- ---- errors of its bytes
 
 module _ {S E : Type 0} (asked : Asks S E) (put : Puts S Tree) (c depth : ℕ) (inner own : Stops S E) (bytes : List ℕ) (s m : S) where
-  unread : (x : Fault) → IsFault asked put c depth bytes s x → ((u : Tree) → ReadsComponent depth bytes u → ⊥) × ComponentFault depth bytes x
+  unread : (x : Fault) → IsFault asked put c depth bytes s x → ((u : Tree) → ComponentReading depth bytes u → ⊥) × ComponentFault depth bytes x
   unread x h = ((λ u r. fault_is_one.none depth bytes x h.fault u r), h.fault)
 
-  component_unread : (e : Error E) → CauseBy asked put c depth inner own bytes s m e → IfFault e (λ x. ((u : Tree) → ReadsComponent depth bytes u → ⊥) × ComponentFault depth bytes x)
+  component_unread : (e : Error E) → CauseBy asked put c depth inner own bytes s m e → IfFault e (λ x. ((u : Tree) → ComponentReading depth bytes u → ⊥) × ComponentFault depth bytes x)
   component_unread (ParseError x) h = unread (fault.Read x) h
   component_unread InvalidCodeSectionSize h = unread fault.CodeSize h
   component_unread UnexpectedNonCoreModuleSection h = unread (fault.Header kinds.Component) h
@@ -79,7 +79,7 @@ module _ {S E : Type 0} (i : Ghosts S E) (depth : ℕ) (body : List ℕ) (low : 
         by u (subst P ceiling ((g.default k).reading u r other));
     unread = fault_map e (λ x h. (h.0, faults x h.1)) (component_unread (asks i) (added i.adds) top (depth + 1) (inside (asks i) i.adds top (depth + 1)) (own_inside (asks i) i.adds top (depth + 1)) body p m e cause);
     cause = cause;
-    why = let P : ℕ → Type 0 = λ z. StopsNested (asks i) i.adds top depth z (numbered_frame 4 body) s m e in subst P (next_room depth low) (4, body, refl, refl, p, pushed, inr (refl, cause));
+    why = let P : ℕ → Type 0 = λ z. StopsNested (asks i) i.adds top depth z (numbered_frame 4 body) s m e in subst P (next_room depth low) (4, body, refl, p, pushed, inr (refl, cause));
     left = g.after_error k;
     bare = g.headless k;
   }
@@ -88,13 +88,13 @@ module _ {S E : Type 0} (i : Ghosts S E) (depth : ℕ) (body : List ℕ) (low : 
       cause = let P : ℕ → Type 0 = λ z. ComponentCause (asks i) i.adds z (depth + 1) body p m e in subst P ceiling (g.default k).cause
 
       faults : (x : Fault) → ComponentFault (depth + 1) body x → NestedFault depth (room depth) (numbered_frame 4 body) x
-      faults x h = let P : ℕ → Type 0 = λ z. NestedFault depth z (numbered_frame 4 body) x in subst P (next_room depth low) (4, body, refl, refl, inr (refl, h))
+      faults x h = let P : ℕ → Type 0 = λ z. NestedFault depth z (numbered_frame 4 body) x in subst P (next_room depth low) (4, body, refl, inr (refl, h))
 
       by : (u : Tree) → BehindFront (asks i) (added i.adds) top (depth + 1) (own_inside (asks i) i.adds top (depth + 1)) body p m e ⊎ (weave_in (asks i) (added i.adds) top p u ≡ refused e m) →
           OwnInside (asks i) i.adds top depth (room depth) (numbered_frame 4 body) s m e ⊎ (weave_in (asks i) (added i.adds) top p (component_tree u) ≡ refused e m)
       by u (inl own) =
           let P : ℕ → Type 0 = λ z. OwnInside (asks i) i.adds top depth z (numbered_frame 4 body) s m e in
-          inl (subst P (next_room depth low) (4, body, refl, refl, p, pushed, inr (refl, own)))
+          inl (subst P (next_room depth low) (4, body, refl, p, pushed, inr (refl, own)))
       by u (inr h) = inr (headed_refused (asks i) (added i.adds) component_header top p m e u h)
 
   pub component_accepted : ComponentClauses i (depth + 1) body p fresh m new (Ok tt) → IsTrue i.keeps_defaults →

@@ -95,13 +95,13 @@ module _ {S E : Type 0} (i : Ghosts S E) (depth : ℕ) (body : List ℕ) (low : 
     walks = λ u r other. by u r (b.reading (core_tree u) (module_headed.forth body u r) other);
     unread = fault_map e (λ x h. (h.0, faults x h.1)) (module_unread (asks i) i.adds top body p m e b.cause);
     cause = b.cause;
-    why = let P : ℕ → Type 0 = λ z. StopsNested (asks i) i.adds top depth z (numbered_frame 1 body) s m e in subst P (next_room depth low) (1, body, refl, refl, p, pushed, inl (refl, b.cause));
+    why = let P : ℕ → Type 0 = λ z. StopsNested (asks i) i.adds top depth z (numbered_frame 1 body) s m e in subst P (next_room depth low) (1, body, refl, p, pushed, inl (refl, b.cause));
     left = g.after_error k;
     bare = g.headless k;
   }
     where
       faults : (x : Fault) → ModuleFault body x → NestedFault depth (room depth) (numbered_frame 1 body) x
-      faults x h = let P : ℕ → Type 0 = λ z. NestedFault depth z (numbered_frame 1 body) x in subst P (next_room depth low) (1, body, refl, refl, inl (refl, h))
+      faults x h = let P : ℕ → Type 0 = λ z. NestedFault depth z (numbered_frame 1 body) x in subst P (next_room depth low) (1, body, refl, inl (refl, h))
 
       b : GivesWovenBytes {A = Unit {0}} (asks i) i.adds top body p m (Err e) (λ _. [])
       b = bytes_refused (asks i) i.adds body top p m fresh new e (λ _. []) is_fresh (g.woven k)
@@ -110,7 +110,7 @@ module _ {S E : Type 0} (i : Ghosts S E) (depth : ℕ) (body : List ℕ) (low : 
           OwnInside (asks i) i.adds top depth (room depth) (numbered_frame 1 body) s m e ⊎ (weave_in (asks i) (added i.adds) top p (core_tree u) ≡ refused e m)
       by u r (inl own) =
           let P : ℕ → Type 0 = λ z. OwnInside (asks i) i.adds top depth z (numbered_frame 1 body) s m e in
-          inl (subst P (next_room depth low) (1, body, refl, refl, p, pushed, inl (refl, own)))
+          inl (subst P (next_room depth low) (1, body, refl, p, pushed, inl (refl, own)))
       by u r (inr h) = inr (core_same (asks i) (added i.adds) top p u r ∙ h)
 
   pub module_accepted : ModuleClauses i body p fresh m new (Ok tt) → IsTrue i.keeps_defaults →

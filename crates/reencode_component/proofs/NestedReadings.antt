@@ -6,7 +6,7 @@ use Rattle.wasm_shapes.specs.Depth.{Shallow, opens}
 use Rattle.wasm_shapes.specs.Module.{CoreReading, core_tree, numbered_frame}
 use Rattle.wasm_shapes.specs.Tree.{Tree}
 use Rattle.wasm_shapes.proofs.Nested.{nested}
-use Rattle.reencode_component.specs.Components.{IsInForce, ReadsComponent, ReadsSection}
+use Rattle.reencode_component.specs.Components.{ComponentReading, ReadsSection}
 use Rattle.reencode_component.proofs.ComponentRowsMapped.{in_numbered}
 use Rattle.reencode_component.proofs.NestedSteps.{nested_tree}
 
@@ -33,7 +33,6 @@ module_back depth body low u r =
     let p = nested.module_forth depth body u (omega (arith, low)) r in record {
       framed = InComponentFrame.of_id 1 (Tree.scope (core_tree u)) body (lit≤ tt) (lit≤ tt) p.0;
       shallow = section_shallow 1 p.1;
-      in_force = (refl, λ q. absurd cc);
     }
 
 -- where no further scope may be opened there is none
@@ -43,22 +42,19 @@ module_too_deep depth body deep t r = let q = module_forth depth body t r in let
 -- ---- a component
 
 pub component_forth : (depth : ℕ) (body : List ℕ) (t : Tree) → ReadsSection depth (numbered_frame 4 body) t →
-    (u : Tree) × (t ≡ nested_tree 4 (component_tree u)) × ReadsComponent (depth + 1) body u
+    (u : Tree) × (t ≡ nested_tree 4 (component_tree u)) × ComponentReading (depth + 1) body u
 component_forth depth body t r =
     let v = in_numbered 4 body t (lit≤ tt) r.framed in
     let q = nested.component_back depth body v.0 v.2 (body_shallow v.1 r.shallow) in
-    let e : t ≡ nested_tree 4 (component_tree q.0) = v.1 ∙ ap (λ (z : Tree). component_section_tree 4 z) q.1 in
-    let P : Tree → Type 0 = λ z. IsInForce z in
-    (q.0, e, record { reading = q.2; in_force = (subst P e r.in_force).1 refl })
+    (q.0, v.1 ∙ ap (λ (z : Tree). component_section_tree 4 z) q.1, q.2)
 
-pub component_back : (depth : ℕ) (body : List ℕ) (u : Tree) → ReadsComponent (depth + 1) body u → ReadsSection depth (numbered_frame 4 body) (nested_tree 4 (component_tree u))
+pub component_back : (depth : ℕ) (body : List ℕ) (u : Tree) → ComponentReading (depth + 1) body u → ReadsSection depth (numbered_frame 4 body) (nested_tree 4 (component_tree u))
 component_back depth body u r =
-    let p = nested.component_forth depth body u r.reading in record {
+    let p = nested.component_forth depth body u r in record {
       framed = InComponentFrame.of_id 4 (Tree.scope (component_tree u)) body (lit≤ tt) (lit≤ tt) p.0;
       shallow = section_shallow 4 p.1;
-      in_force = (refl, λ q. r.in_force);
     }
 
 pub component_too_deep : (depth : ℕ) (body : List ℕ) → 200 ≤ depth → (t : Tree) → ReadsSection depth (numbered_frame 4 body) t → ⊥
 component_too_deep depth body deep t r =
-    let q = component_forth depth body t r in let most : opens q.0 + (depth + 1) ≤ 200 = q.2.reading.shallow.most in omega (arith, deep, most)
+    let q = component_forth depth body t r in let most : opens q.0 + (depth + 1) ≤ 200 = q.2.shallow.most in omega (arith, deep, most)

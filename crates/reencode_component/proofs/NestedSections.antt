@@ -34,7 +34,7 @@ use Rattle.reencode_component.specs.Components.{IsHandedOut, NestedFault, ReadsS
 use Rattle.reencode_component.specs.Gives.{FaultIn, GivesAddedIn, GivesSection, RefusedOr}
 use Rattle.reencode_component.specs.NestedClauses.{Inner, NestedClauses}
 use Rattle.reencode_component.specs.WeaveIn.{weave_in}
-use Rattle.reencode_component.proofs.EachComponentSection.{frame_wanted, leaves_placed, not_read}
+use Rattle.reencode_component.proofs.EachComponentSection.{frame_wanted, leaves_placed, no_up_to, not_read}
 use Rattle.reencode_component.proofs.FaultLaws.{nested_one}
 use Rattle.reencode_component.proofs.NestedSteps.{nested_tree, walk_fits, walk_large, walk_stopped}
 use Rattle.reencode_component.proofs.WeavesIn.{weave_in_ran}
@@ -69,15 +69,6 @@ fault_map UnsupportedCoreTypeInComponent f h = h
 size_placed : {E : Type 0} (e : Error E) (at : ℕ) → IsSize e → IsSize (placed_at e at)
 size_placed (TooLarge x) at h = h
 size_placed _ at h = absurd h
-
--- the section has no rows
-no_up_to : (depth id : ℕ) (body : List ℕ) → ((row : Shape) → component_body_of id ≡ Shape.vec row → ⊥) → (t : Tree) (rest : List ℕ) → SectionUpTo depth (numbered_frame id body) t rest → ⊥
-no_up_to depth id body none t rest x = go (numbered_frame id body) t rest x refl
-  where
-    go : (f t : Tree) (rest : List ℕ) → SectionUpTo depth f t rest → f ≡ numbered_frame id body → ⊥
-    go f t rest (SectionUpTo.uncounted id' body' row e n) q = let number : id' ≡ id = cc in none row (sym (ap component_body_of number) ∙ e.body)
-    go f t rest (SectionUpTo.rows id' body' row reader u rest' e there r) q = let number : id' ≡ id = cc in none row (sym (ap component_body_of number) ∙ e.body)
-    go f t rest (SectionUpTo.names name contents u rest' is r) q = cc
 
 module _ {S E : Type 0} (i : Ghosts S E) (depth id : ℕ) (inner : Inner S E) where
   abbrev body : List ℕ

@@ -6,7 +6,6 @@ use Rattle.wasm_shapes.specs.ComponentReadings.{InComponentFrame}
 use Rattle.wasm_shapes.specs.Depth.{Shallow, opens}
 use Rattle.wasm_shapes.specs.Module.{component_header, frame}
 use Rattle.wasm_shapes.specs.Place.{Begins, BeginsNone}
-use Rattle.wasm_shapes.specs.Rows.{rows_then}
 use Rattle.wasm_shapes.specs.Shape.{Shape}
 use Rattle.wasm_shapes.specs.Spells.{Is, Spelled}
 use Rattle.wasm_shapes.specs.Tree.{Tree}
@@ -19,47 +18,30 @@ use Rattle.reencode_core.specs.Rows.{RowsBefore}
 use Rattle.reencode_core.proofs.Group.{rows_then-both}
 use Rattle.reencode_core.proofs.RowLoop.{before_more}
 use Rattle.reencode_core.proofs.RowsMade.{RowsAhead, rows_ahead}
-use Rattle.reencode_component.specs.Components.{BeginsNoSection, BeginsSection, IsInForce, ReadsComponent, ReadsSection, SectionsFirst}
-
--- ---- ids in force
-
-force_behind : (ts : List Tree) (u : Tree) → IsInForce (rows_then ts u) → IsInForce u
-force_behind [] u h = h
-force_behind (t ∷ ts) u h = force_behind ts u h.1
-
-force_then : (ts : List Tree) (u : Tree) → IsInForce (rows_tree ts) → IsInForce u → IsInForce (rows_then ts u)
-force_then [] u h k = k
-force_then (t ∷ ts) u h k = (h.0, force_then ts u h.1 k)
+use Rattle.reencode_component.specs.Components.{BeginsNoSection, BeginsSection, ComponentReading, ReadsSection, SectionsFirst}
 
 -- ---- a section and its frame
 
 -- where its frame stands, so does the section
 pub section_there : {depth : ℕ} {f t : Tree} {bytes left : List ℕ} → ReadsSection depth f t → Begins frame bytes f left → BeginsSection depth bytes t left
-section_there r there = record {
-  there = record { begins = record { text = there.text; spells = of_component_frame r.framed there.spells; reads = there.reads }; shallow = r.shallow };
-  in_force = r.in_force;
-}
+section_there r there = record { begins = record { text = there.text; spells = of_component_frame r.framed there.spells; reads = there.reads }; shallow = r.shallow }
 
 -- a section that begins there is one of the frame that stands there, and ends where it ends
 pub section_of : {depth : ℕ} {f t : Tree} {bytes left left' : List ℕ} → Begins frame bytes f left → BeginsSection depth bytes t left' → ReadsSection depth f t × (left ≡ left')
 section_of {depth = depth} {f = f} {t = t} {left' = left'} there here =
-    let b = here.there.begins in
+    let b = here.begins in
     let g = in_component_frame t b.text b.spells.shaped b.spells.spelled in
     let own : Begins frame _ g.0 left' = record { text = b.text; spells = g.2; reads = b.reads } in
     let same = begins_unique refl refl there own in
     let P : Tree → Type 0 = λ z. InComponentFrame t z in
-    (record { framed = subst P (sym same.0) g.1; shallow = here.there.shallow; in_force = here.in_force }, same.1)
+    (record { framed = subst P (sym same.0) g.1; shallow = here.shallow }, same.1)
 
 -- none begins where its frame has no reading
 pub none_framed : {depth : ℕ} {f : Tree} {bytes left : List ℕ} → Begins frame bytes f left → ((t : Tree) → ReadsSection depth f t → ⊥) → BeginsNoSection depth bytes
-none_framed there none = record { none = λ t left' b. none t (section_of there b).0 }
+none_framed there none = record { none = λ left' t b. none t (section_of there b).0 }
 
 pub none_at_nil : (depth : ℕ) → BeginsNoSection depth []
-none_at_nil depth = record {
-  none = λ t left b.
-      let none : BeginsNone component_section [] = none_at_end refl in
-      none.none b.there.begins.text left t b.there.begins.spells b.there.begins.reads;
-}
+none_at_nil depth = let none : BeginsNone component_section [] = none_at_end refl in record { none = λ left t b. none.none b.begins.text left t b.begins.spells b.begins.reads }
 
 -- ---- sections one behind another
 
@@ -69,28 +51,24 @@ none_first depth bytes start reads low = record {
   stands = reads;
   rows = record { text = []; shaped = Is.nil; spelled = refl; stands = refl };
   shallow = let most : zero + depth ≤ 200 = omega (arith, low) in record { most = most };
-  in_force = tt;
 }
 
 pub one_more : {depth : ℕ} {bytes rest left : List ℕ} {read : List Tree} {t : Tree} → SectionsFirst depth bytes read rest → BeginsSection depth rest t left → SectionsFirst depth bytes (read ++ t ∷ []) left
 one_more {depth = depth} {read = read} {t = t} d b = record {
   start = d.start;
   stands = d.stands;
-  rows = before_more d.rows b.there.begins;
-  shallow = rw (rows_then-append read t Tree.nil) (shallow_then depth read (Tree.cons t Tree.nil) d.shallow (shallow_cons b.there.shallow (none_open b.there.shallow)));
-  in_force = rw (rows_then-append read t Tree.nil) (force_then read (Tree.cons t Tree.nil) d.in_force (b.in_force, tt));
+  rows = before_more d.rows b.begins;
+  shallow = rw (rows_then-append read t Tree.nil) (shallow_then depth read (Tree.cons t Tree.nil) d.shallow (shallow_cons b.shallow (none_open b.shallow)));
 }
   where
     none_open : Shallow depth t → Shallow depth Tree.nil
     none_open s = let most : opens t + depth ≤ 200 = s.most in let none : zero + depth ≤ 200 = omega arith in record { most = none }
 
 -- one among them is read
-among : {depth : ℕ} (ts us : List Tree) (t : Tree) → Shallow depth (rows_tree (ts ++ t ∷ us)) → IsInForce (rows_tree (ts ++ t ∷ us)) → Shallow depth t × IsInForce t
-among {depth = depth} ts us t s h =
-    let e : rows_tree (ts ++ t ∷ us) ≡ rows_then ts (Tree.cons t (rows_tree us)) = rows_then-both ts (t ∷ us) Tree.nil in
+among : {depth : ℕ} (ts us : List Tree) (t : Tree) → Shallow depth (rows_tree (ts ++ t ∷ us)) → Shallow depth t
+among {depth = depth} ts us t s =
     let P : Tree → Type 0 = λ z. Shallow depth z in
-    let Q : Tree → Type 0 = λ z. IsInForce z in
-    ((shallow_first (shallow_behind depth ts (Tree.cons t (rows_tree us)) (subst P e s))).0, (force_behind ts (Tree.cons t (rows_tree us)) (subst Q e h)).0)
+    (shallow_first (shallow_behind depth ts (Tree.cons t (rows_tree us)) (subst P (rows_then-both ts (t ∷ us) Tree.nil) s))).0
 
 -- the second sections are the first; or the first and others behind them, of which one begins where these end
 pub data SectionsAhead (depth : ℕ) (read : List Tree) (rest : List ℕ) (read' : List Tree) (rest' : List ℕ) : Type 0 where
@@ -111,9 +89,7 @@ sections_ahead {depth = depth} {rest = rest} {rest' = rest'} {read = read} {read
     next (RowsAhead.same e r) fewer = let same : length read ≡ length read' = ap length e in omega arith
     next (RowsAhead.more t others left e begins) fewer =
         let P : List Tree → Type 0 = λ z. Shallow depth (rows_tree z) in
-        let Q : List Tree → Type 0 = λ z. IsInForce (rows_tree z) in
-        let is = among read' others t (subst P e a.shallow) (subst Q e a.in_force) in
-        none.none t left (record { there = record { begins = begins; shallow = is.0 }; in_force = is.1 })
+        none.none left t (record { begins = begins; shallow = among read' others t (subst P e a.shallow) })
 
     never : length read' < length read → length read < length read' → BeginsNone component_section rest
     never fewer further = absurd (omega (arith, fewer, further))
@@ -125,9 +101,7 @@ sections_ahead {depth = depth} {rest = rest} {rest' = rest'} {read = read} {read
     go (RowsAhead.same e r) = same e r
     go (RowsAhead.more t others left e begins) =
         let P : List Tree → Type 0 = λ z. Shallow depth (rows_tree z) in
-        let Q : List Tree → Type 0 = λ z. IsInForce (rows_tree z) in
-        let is = among read others t (subst P e b.shallow) (subst Q e b.in_force) in
-        more t others left e (record { there = record { begins = begins; shallow = is.0 }; in_force = is.1 })
+        more t others left e (record { begins = begins; shallow = among read others t (subst P e b.shallow) })
 
 -- ---- a whole component
 
@@ -136,14 +110,12 @@ list_of t Is.nil = ([], refl)
 list_of t (Is.cons {t = v} {u = u} d d') = let others = list_of u d' in (v ∷ others.0, ap (λ (z : Tree). Tree.cons v z) others.1)
 
 -- what is read is some sections with nothing behind them
-pub sections_of : {depth : ℕ} {bytes : List ℕ} {t : Tree} → ReadsComponent depth bytes t → (read : List Tree) × (t ≡ rows_tree read) × SectionsFirst depth bytes read []
-sections_of {depth = depth} {t = t} r =
-    let c = r.reading in
+pub sections_of : {depth : ℕ} {bytes : List ℕ} {t : Tree} → ComponentReading depth bytes t → (read : List Tree) × (t ≡ rows_tree read) × SectionsFirst depth bytes read []
+sections_of {depth = depth} {t = t} c =
     let l = list_of t c.spells.shaped in
     let P : Tree → Type 0 = λ z. Is (Shape.many component_section) z in
     let Q : Tree → Type 0 = λ z. Spelled z c.rest in
-    let R : Tree → Type 0 = λ z. Shallow depth z in
-    let F : Tree → Type 0 = λ z. IsInForce z in (
+    let R : Tree → Type 0 = λ z. Shallow depth z in (
       l.0,
       l.1,
       record {
@@ -151,16 +123,12 @@ sections_of {depth = depth} {t = t} r =
         stands = c.stands;
         rows = record { text = c.rest; shaped = subst P l.1 c.spells.shaped; spelled = subst Q l.1 c.spells.spelled; stands = sym (append-nil c.rest) };
         shallow = subst R l.1 c.shallow;
-        in_force = subst F l.1 r.in_force;
       },
     )
 
 -- and such sections are read
-pub whole_read : {depth : ℕ} {bytes rest : List ℕ} {read : List Tree} → SectionsFirst depth bytes read rest → rest ≡ [] → ReadsComponent depth bytes (rows_tree read)
+pub whole_read : {depth : ℕ} {bytes rest : List ℕ} {read : List Tree} → SectionsFirst depth bytes read rest → rest ≡ [] → ComponentReading depth bytes (rows_tree read)
 whole_read {rest = rest} {read = read} d empty =
     let all : d.start ≡ d.rows.text = d.rows.stands ∙ ap (λ (z : List ℕ). d.rows.text ++ z) empty ∙ append-nil d.rows.text in
     let P : List ℕ → Type 0 = λ z. Spelled (rows_tree read) z in
-    record {
-      reading = record { rest = d.start; stands = d.stands; spells = record { shaped = d.rows.shaped; spelled = subst P (sym all) d.rows.spelled }; shallow = d.shallow };
-      in_force = d.in_force;
-    }
+    record { rest = d.start; stands = d.stands; spells = record { shaped = d.rows.shaped; spelled = subst P (sym all) d.rows.spelled }; shallow = d.shallow }

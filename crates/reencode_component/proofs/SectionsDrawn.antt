@@ -19,7 +19,7 @@ use Rattle.reencode_core.proofs.Left.{module_drawn}
 use Rattle.reencode_core.proofs.RowsMade.{drawn_rows}
 use Rattle.reencode_core.proofs.SectionMade.{custom_drawn, numbered_drawn}
 use Rattle.reencode_component.specs.ComponentNames.{component_custom}
-use Rattle.reencode_component.specs.Components.{IsInForce, ReadsComponent, ReadsSection}
+use Rattle.reencode_component.specs.Components.{ComponentReading, ReadsSection}
 use Rattle.reencode_component.proofs.ComponentNameCalls.{component_laws}
 use Rattle.reencode_component.proofs.NestedReadings.{component_forth, module_forth}
 use Rattle.reencode_component.proofs.NestedSteps.{nested_tree}
@@ -50,7 +50,7 @@ inner_drawn {id = id} {u = u} {x = x} k v e d =
     let is : u ≡ Tree.scope v = cc in let P : Tree → Type 0 = λ z. Drawn x (visits z) in subst P (sym is) (drawn_scope v d)
 
 -- by what a nested component asks
-section_drawn_by : (depth : ℕ) → ((body : List ℕ) (t : Tree) → ReadsComponent (depth + 1) body t → Drawn body (visits t)) → {f t : Tree} {bytes left : List ℕ} → Begins frame bytes f left →
+section_drawn_by : (depth : ℕ) → ((body : List ℕ) (t : Tree) → ComponentReading (depth + 1) body t → Drawn body (visits t)) → {f t : Tree} {bytes left : List ℕ} → Begins frame bytes f left →
     ReadsSection depth f t → Drawn bytes (visits t)
 section_drawn_by depth inner {f = f} {t = t} {bytes = bytes} {left = left} there r = go t f r.framed r there
   where
@@ -68,27 +68,26 @@ section_drawn_by depth inner {f = f} {t = t} {bytes = bytes} {left = left} there
 
 -- ---- sections one behind another
 
-list_drawn : (depth : ℕ) → ((body : List ℕ) (t : Tree) → ReadsComponent (depth + 1) body t → Drawn body (visits t)) → (t : Tree) (x : List ℕ) → Is (Shape.many table.component_section) t → Spelled t x →
-    Shallow depth t → IsInForce t → Drawn x (visits t)
-list_drawn depth inner t x Is.nil s h k = drawn_none
-list_drawn depth inner t x (Is.cons {t = v} {u = u} d e) s h k =
+list_drawn : (depth : ℕ) → ((body : List ℕ) (t : Tree) → ComponentReading (depth + 1) body t → Drawn body (visits t)) → (t : Tree) (x : List ℕ) → Is (Shape.many table.component_section) t → Spelled t x →
+    Shallow depth t → Drawn x (visits t)
+list_drawn depth inner t x Is.nil s h = drawn_none
+list_drawn depth inner t x (Is.cons {t = v} {u = u} d e) s h =
     let f = in_component_frame v s.0 d s.3 in
     let own : Begins frame s.0 f.0 [] = record { text = s.0; spells = f.2; reads = sym (append-nil s.0) } in
     let parts = shallow_first h in
-    let one : Drawn s.0 (visits v) = section_drawn_by depth inner own (record { framed = f.1; shallow = parts.0; in_force = k.0 }) in
-    drawn_joined x (visits v) (visits u) (drawn_front s.0 s.1 s.2 one) (drawn_behind s.0 s.1 s.2 (list_drawn depth inner u s.1 e s.4 parts.1 k.1))
+    let one : Drawn s.0 (visits v) = section_drawn_by depth inner own (record { framed = f.1; shallow = parts.0 }) in
+    drawn_joined x (visits v) (visits u) (drawn_front s.0 s.1 s.2 one) (drawn_behind s.0 s.1 s.2 (list_drawn depth inner u s.1 e s.4 parts.1))
 
-whole_drawn : (depth : ℕ) → ((body : List ℕ) (t : Tree) → ReadsComponent (depth + 1) body t → Drawn body (visits t)) → (bytes : List ℕ) (t : Tree) → ReadsComponent depth bytes t → Drawn bytes (visits t)
-whole_drawn depth inner bytes t r =
-    let c = r.reading in drawn_behind component_header c.rest c.stands (list_drawn depth inner t c.rest c.spells.shaped c.spells.spelled c.shallow r.in_force)
+whole_drawn : (depth : ℕ) → ((body : List ℕ) (t : Tree) → ComponentReading (depth + 1) body t → Drawn body (visits t)) → (bytes : List ℕ) (t : Tree) → ComponentReading depth bytes t → Drawn bytes (visits t)
+whole_drawn depth inner bytes t c = drawn_behind component_header c.rest c.stands (list_drawn depth inner t c.rest c.spells.shaped c.spells.spelled c.shallow)
 
 -- with so many scopes that may still be opened
-component_drawn_at : (scopes depth : ℕ) → 200 ≤ scopes + depth → (bytes : List ℕ) (t : Tree) → ReadsComponent depth bytes t → Drawn bytes (visits t)
+component_drawn_at : (scopes depth : ℕ) → 200 ≤ scopes + depth → (bytes : List ℕ) (t : Tree) → ComponentReading depth bytes t → Drawn bytes (visits t)
 component_drawn_at zero depth deep bytes t r =
-    whole_drawn depth (λ body u q. let most : opens u + (depth + 1) ≤ 200 = q.reading.shallow.most in absurd (omega (arith, deep, most))) bytes t r
+    whole_drawn depth (λ body u q. let most : opens u + (depth + 1) ≤ 200 = q.shallow.most in absurd (omega (arith, deep, most))) bytes t r
 component_drawn_at (suc scopes) depth deep bytes t r = whole_drawn depth (component_drawn_at scopes (depth + 1) (omega (arith, deep))) bytes t r
 
-pub component_drawn : (depth : ℕ) (bytes : List ℕ) (t : Tree) → ReadsComponent depth bytes t → Drawn bytes (visits t)
+pub component_drawn : (depth : ℕ) (bytes : List ℕ) (t : Tree) → ComponentReading depth bytes t → Drawn bytes (visits t)
 component_drawn depth bytes t r = component_drawn_at 200 depth (omega arith) bytes t r
 
 pub section_drawn : {depth : ℕ} {f t : Tree} {bytes left : List ℕ} → Begins frame bytes f left → ReadsSection depth f t → Drawn bytes (visits t)

@@ -1,6 +1,5 @@
 -- Types of components as rows, and what these declare: by the tree that one stands for.
-use Rattle.std.proofs.Common.{◌≡◌, ◌≤◌, ◌<◌, ◌+◌, ◌^◌, max, zero, suc, ℕ, List, [], Result, Ok, Err, refl, sym, ap, ◌∙◌, subst, arith, inr}
-use Rattle.std.proofs.Math.Seq.{take-length}
+use Rattle.std.proofs.Common.{◌≡◌, ◌≤◌, ◌<◌, ◌+◌, ◌^◌, max, zero, suc, ℕ, List, [], Result, Ok, Err, refl, sym, ap, ◌∙◌, subst, arith}
 use Rattle.wasm_shapes.specs.Component.{component_declaration, instance_declaration}
 use Rattle.wasm_shapes.specs.Spells.{Spelled}
 use Rattle.wasm_shapes.specs.Tree.{Tree, count, visits}
@@ -28,12 +27,11 @@ use Rattle.reencode_hooks.specs.declared.error.Error.{Error}
 use Rattle.reencode_hooks.specs.declared.indices.ReencodeIndices.{Ghosts}
 use Rattle.reencode_items.specs.Clauses.{ListClauses}
 use Rattle.reencode_core.specs.Clauses.{RowClauses, asks}
-use Rattle.reencode_items.proofs.Leaving.{accepted_visited}
-use Rattle.reencode_core.proofs.OneRow.{row_mapped, row_unmapped}
-use Rattle.reencode_component.specs.DeclarationClauses.{ComponentDeclarationClauses, ComponentRowClauses, ComponentTypeClauses, InstanceDeclarationClauses, InstanceRowClauses, MapsAndAdds, ShallowScopeClauses, ThenAdded, TypeRowClauses, TypeWithin}
+use Rattle.reencode_component.specs.DeclarationClauses.{ComponentDeclarationClauses, ComponentRowClauses, ComponentTypeClauses, InstanceDeclarationClauses, InstanceRowClauses, MapsAndAdds, ShallowScopeClauses, TypeRowClauses, TypeWithin}
 use Rattle.reencode_component.specs.ScopedRows.{ShallowFault, ShallowRows, StopsShallow, shallow_rows_in}
 use Rattle.reencode_component.specs.TypeClauses.{CoreTypeWithin}
 use Rattle.reencode_component.proofs.CoreTypeCalls.{core_listed, scope_listed}
+use Rattle.reencode_component.proofs.RowAdded.{list_added}
 
 -- ---- a type that stands for a tree
 
@@ -123,20 +121,7 @@ module _ {S E : Type 0} (i : Ghosts S E) (s m : S) (depth : ℕ) where
 module _ {S E A : Type 0} (i : Ghosts S E) (s m : S) (view : A → Tree) (maps : Result A (Error E) → Type 0) (t : Tree) (listed : (r : Result A (Error E)) → maps r → ListClauses i t view s m r)
     {old new : List Tree} where
   pub row_of : (r : Result (Unit {0}) (Error E)) → MapsAndAdds view maps old new r → RowClauses i t s old m new r
-  row_of r given = go given.mapped r (listed given.mapped given.maps_it) given.adds
-    where
-      go : (mapped : Result A (Error E)) (r : Result (Unit {0}) (Error E)) → ListClauses i t view s m mapped → ThenAdded view mapped old new r → RowClauses i t s old m new r
-      go (Ok a) (Ok _) p added = row_mapped i t view s m a p.default added
-      go (Ok a) (Err e) p added =
-          let Q : List Tree → Type 0 = λ z. RowClauses i t s old m z (Err e) in
-          subst Q (sym added.0) (record {
-            kept = take-length old;
-            default = λ k c. (refl, λ other. inr (record { accepts = record { ceiling = c; made = view a; walked = p.default k c }; large = added.1 other }));
-            after_error = λ k sure. accepted_visited 0 t (p.default k 0);
-          })
-      go (Err e) r p added =
-          let P : Result (Unit {0}) (Error E) → Type 0 = λ z. RowClauses i t s old m new z in
-          subst P (sym added.1) (row_unmapped i t view s m e p.default p.after_error added.0 (Err e) refl)
+  row_of r given = list_added i t view s m old new given.mapped (listed given.mapped given.maps_it) r given.adds
 
 module _ {S E : Type 0} (i : Ghosts S E) (s m : S) (reader : ScopedStanding) {reader' : ScopedStanding} {old new : List Tree} where
   -- a declaration that a reader gave

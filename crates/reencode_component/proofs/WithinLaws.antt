@@ -15,28 +15,28 @@ use Rattle.reencode_hooks.specs.declared.error.Error.{Error}
 use Rattle.reencode_hooks.specs.declared.error.Error.TheVariants.{InvalidCodeSectionSize, UnexpectedNonCoreModuleSection, UnexpectedNonComponentSection, ParseError, UserError, TooLarge, NoMemory}
 use Rattle.reencode_hooks.specs.declared.indices.ReencodeIndices.{Ghosts}
 use Rattle.reencode_hooks.specs.Hooks.{KeepsAdds, MayAdd}
-use Rattle.reencode_hooks.specs.Run.{Step, accepted, refused, run}
-use Rattle.reencode_hooks.specs.Walk.{walk}
+use Rattle.reencode_hooks.specs.Run.{refused, run}
 use Rattle.reencode_hooks.proofs.Walks.{walk_stops}
 use Rattle.reencode_core.specs.Clauses.{BytesClauses, asks}
 use Rattle.reencode_core.specs.Core.{AcceptsSections, IsCause}
 use Rattle.reencode_core.specs.Leaves.{CoreUpTo, Leaves, core_in}
 use Rattle.reencode_core.specs.Refusals.{RefusedUpTo, RefusesNone}
 use Rattle.reencode_core.specs.Weave.{added}
-use Rattle.reencode_core.specs.Woven.{IsWovenCause, OwnNext}
+use Rattle.reencode_core.specs.Woven.{IsOrWants, IsWovenCause, OwnNext}
 use Rattle.reencode_core.proofs.AddsNothing.{added_none}
 use Rattle.reencode_core.proofs.Fronts.{one_front}
 use Rattle.reencode_core.proofs.Refusals.{never_refused, refusal_tells}
 use Rattle.reencode_component.specs.Causes.{CauseBy, IfFault, inside, own_inside}
 use Rattle.reencode_component.specs.ComponentClauses.{ComponentClauses}
-use Rattle.reencode_component.specs.ComponentLaws.{AnswersFault, Filled, IsOfBytes, StopsOn}
+use Rattle.reencode_component.specs.ComponentLaws.{AnswersFault, Filled, IsOfBytes, IsTaken, StopsOn}
 use Rattle.reencode_component.specs.ComponentLeaves.{ComponentUpTo, NoComponentHeading}
-use Rattle.reencode_component.specs.Components.{ComponentFault, ModuleFault, ReadsComponent}
+use Rattle.reencode_component.specs.Components.{ComponentFault, ModuleFault, ComponentReading}
 use Rattle.reencode_component.specs.Within.{ComponentBytesClauses, HasComponentHeading, WithinClauses, ended}
 use Rattle.reencode_component.specs.WithinLaws as statements
-use Rattle.reencode_component.specs.WithinLaws.{AnswersOrWants, BinaryFault, IsTaken, ReadsBinary, as_binary, as_module, of_binary, of_module}
+use Rattle.reencode_component.specs.WithinLaws.{BinaryFault, ReadsBinary, as_binary, as_module, of_binary, of_module}
 use Rattle.reencode_component.proofs.ComponentLaws as components
-use Rattle.reencode_component.proofs.ComponentLaws.{filled_of, walk_of}
+use Rattle.reencode_component.proofs.ComponentLaws.{filled_of, only_wants, same_taken}
+use Rattle.reencode_component.proofs.NestedSections.{fault_map}
 
 -- ---- headers
 
@@ -85,25 +85,12 @@ module _ {S E A : Type 0} (i : Ghosts S E) (adds : KeepsAdds i.adds i.adds_nothi
       record { tree = t; reads = d.readable.1; filled = p.0; spelled = q.2 ∙ ap normal p.1 }
 
   core_complete : (c : ℕ) (bytes : List ℕ) (s m : S) (result : Result A (Error E)) → BytesClauses i c bytes s m result view → IsTrue i.keeps_defaults → IsTrue i.adds_nothing → (out : List ℕ) (n : S) →
-      IsTaken as_module (asks i) c bytes s n out → AnswersOrWants out n m result view
-  core_complete c bytes s m result g keeps nothing out n h = go result g
-    where
-      walks : walk (asks i) c s h.tree ≡ accepted (fill h.tree h.filled.given) n
-      walks = walk_of i (none_added nothing) c s n h.tree bytes h.reads.spelled h.filled
-
-      only : (w : Error E) → (w ≢ NoMemory → walk (asks i) c s h.tree ≡ refused w m) → w ≡ NoMemory
-      only NoMemory f = refl
-      only w f =
-          let step : walk (asks i) c s h.tree ≡ refused w m = f (λ same. absurd cc) in
-          let both : ◌≡◌ {A = Step S (Error E) Tree} (accepted (fill h.tree h.filled.given) n) (refused w m) = sym walks ∙ step in absurd cc
-
-      go : (r : Result A (Error E)) → BytesClauses i c bytes s m r view → AnswersOrWants out n m r view
-      go (Ok o) g =
-          let q = (g.default keeps nothing).reading h.tree h.reads in
-          let both : ◌≡◌ {A = Step S (Error E) Tree} (accepted q.0 m) (accepted (fill h.tree h.filled.given) n) = sym q.1 ∙ walks in
-          let trees : q.0 ≡ fill h.tree h.filled.given = cc in
-          let states : m ≡ n = cc in (q.2 ∙ ap normal trees ∙ sym h.spelled, states)
-      go (Err e) g = only e (λ other. (g.default keeps nothing).reading h.tree h.reads other)
+      IsTaken as_module (asks i) c bytes s n out → IsOrWants out n m result view
+  core_complete c bytes s m (Ok o) g keeps nothing out n h =
+      let q = (g.default keeps nothing).reading h.tree h.reads in
+      let same = same_taken i (none_added nothing) as_module h _ h.reads.spelled q.0 q.1 in (q.2 ∙ same.0, same.1)
+  core_complete c bytes s m (Err e) g keeps nothing out n h =
+      only_wants i (none_added nothing) as_module h _ h.reads.spelled e (λ other. (g.default keeps nothing).reading h.tree h.reads other)
 
   core_caused : (c : ℕ) (bytes : List ℕ) (s m : S) (e : Error E) → IsCause (asks i) c bytes s m e → IfFault e (ModuleFault bytes)
   core_caused c bytes s m InvalidCodeSectionSize h = (h.0, h.1, h.2, h.3)
@@ -203,7 +190,7 @@ module _ {S E A : Type 0} (i : Ghosts S E) (adds : KeepsAdds i.adds i.adds_nothi
       }
 
   component_complete : (c : ℕ) (bytes : List ℕ) (s m : S) (result : Result A (Error E)) → ComponentBytesClauses i c bytes s m result view → IsTrue i.keeps_defaults → IsTrue i.adds_nothing →
-      (out : List ℕ) (n : S) (t : Tree) → ReadsComponent 0 bytes t → (f : Filled (asks i) c s t n) → out ≡ component_header ++ normal (fill t f.given) → AnswersOrWants out n m result view
+      (out : List ℕ) (n : S) (t : Tree) → ComponentReading 0 bytes t → (f : Filled (asks i) c s t n) → out ≡ component_header ++ normal (fill t f.given) → IsOrWants out n m result view
   component_complete c bytes s m (Ok o) (inl h) keeps nothing out n t r f is = let never : ◌≡◌ {A = Result A (Error E)} (Ok o) (Err NoMemory) = h.0 in absurd cc
   component_complete c bytes s m (Err e) (inl h) keeps nothing out n t r f is = cc h.0
   component_complete c bytes s m (Ok o) (inr h) keeps nothing out n t r f is =
@@ -238,7 +225,7 @@ module _ {S E A : Type 0} (i : Ghosts S E) (adds : KeepsAdds i.adds i.adds_nothi
       let p = components.fault_gains i adds 0 bytes s m (record { ceiling = c; sections = [] }) h.made e h.gives keeps nothing tells before left f in (p.at, p.filled)
 
   component_reading : (c : ℕ) (bytes : List ℕ) (s m : S) (e : Error E) → ComponentBytesClauses i c bytes s m (Err e) view → IsTrue i.keeps_defaults → (x : E) → e ≡ UserError x → (t : Tree) →
-      ReadsComponent 0 bytes t → run (asks i) s (visits t) ≡ refused e m
+      ComponentReading 0 bytes t → run (asks i) s (visits t) ≡ refused e m
   component_reading c bytes s m e (inl h) keeps x is t r = wanted e h.0 (λ same. cc)
   component_reading c bytes s m e (inr h) keeps x is t r =
       (components.refusal_tells i adds).reading 0 bytes s m (record { ceiling = c; sections = [] }) h.made e h.gives keeps x is t r
@@ -261,18 +248,12 @@ module _ {S E A : Type 0} (i : Ghosts S E) (adds : KeepsAdds i.adds i.adds_nothi
       (components.refusal_tells i adds).never 0 bytes s m (record { ceiling = c; sections = [] }) h.made e h.gives keeps none x is
 
   component_stops : (c : ℕ) (bytes : List ℕ) (s m : S) (e : Error E) → ComponentBytesClauses i c bytes s m (Err e) view → IsTrue i.keeps_defaults → IsTrue i.adds_nothing → e ≢ NoMemory → (t : Tree) →
-      ReadsComponent 0 bytes t → StopsOn (asks i) c s t e m
+      ComponentReading 0 bytes t → StopsOn (asks i) c s t e m
   component_stops c bytes s m e (inl h) keeps nothing other t r = wanted e h.0 other
   component_stops c bytes s m e (inr h) keeps nothing other t r =
       (components.refusal_tells i adds).stops 0 bytes s m (record { ceiling = c; sections = [] }) h.made e h.gives keeps nothing other t r
 
   -- ---- what is said of calls with such promises
-
-  -- bytes without a reading come to their fault where no visit is refused
-  unanswered : (fault : Fault → Type 0) (reads : Tree → Type 0) (result : Result A (Error E)) → ((t : Tree) → reads t → ⊥) → ((o : A) → result ≡ Ok o → (t : Tree) × reads t)
-      → ((e : Error E) → result ≡ Err e → IfFault e fault) → ((e : Error E) → result ≡ Err e → (x : E) → e ≢ UserError x) → AnswersFault fault (ended result)
-  unanswered fault reads (Ok o) bare ok err never = let t = ok o refl in absurd (bare t.0 t.1)
-  unanswered fault reads (Err e) bare ok err never = answers_fault fault e (err e refl) (never e refl)
 
   pub module_error_tells : statements.ErrorTells as_module i (of_module i view)
   module_error_tells = record {
@@ -299,10 +280,8 @@ module _ {S E A : Type 0} (i : Ghosts S E) (adds : KeepsAdds i.adds i.adds_nothi
 
       unread : (c : ℕ) (bytes : List ℕ) (s m : S) (result : Result A (Error E)) → BytesClauses i c bytes s m result view → IsTrue i.keeps_defaults → RefusesNone (asks i) →
           ((t : Tree) → Spells core_module bytes t → ⊥) → AnswersFault (ModuleFault bytes) (ended result)
-      unread c bytes s m (Ok o) g keeps none bare = unanswered (ModuleFault bytes) (Spells core_module bytes) (Ok o) bare (λ o e. (g.woven keeps).readable) (λ e q. absurd cc) (λ e q. absurd cc)
-      unread c bytes s m (Err e) g keeps none bare =
-          unanswered (ModuleFault bytes) (Spells core_module bytes) (Err e) bare (λ o q. absurd cc) (λ w q. let same : e ≡ w = cc in subst (λ (z : Error E). IfFault z (ModuleFault bytes)) same (core_fault c bytes s m e g keeps))
-          (λ w q. let same : e ≡ w = cc in subst (λ (z : Error E). (x : E) → z ≢ UserError x) same (core_never c bytes s m e g keeps none))
+      unread c bytes s m (Ok o) g keeps none bare = let t = (g.woven keeps).readable in absurd (bare t.0 t.1)
+      unread c bytes s m (Err e) g keeps none bare = answers_fault (ModuleFault bytes) e (core_fault c bytes s m e g keeps) (core_never c bytes s m e g keeps none)
 
   -- by the header
   abbrev Within : ℕ → List ℕ → S → S → Result A (Error E) → Type 0
@@ -314,8 +293,8 @@ module _ {S E A : Type 0} (i : Ghosts S E) (adds : KeepsAdds i.adds i.adds_nothi
   no_core_fault : (bytes : List ℕ) → HasComponentHeading bytes → {P : Type 0} (t : Tree) (rest : List ℕ) → CoreUpTo bytes t rest → P
   no_core_fault bytes h t rest (CoreUpTo.sections before left f) = absurd (core_apart bytes (f.front.text ++ left) h.0 f.front.stands h.1)
 
-  no_component : (bytes : List ℕ) → NoComponentHeading bytes → {P : Type 0} (t : Tree) → ReadsComponent 0 bytes t → P
-  no_component bytes n t r = absurd (n r.reading.rest r.reading.stands)
+  no_component : (bytes : List ℕ) → NoComponentHeading bytes → {P : Type 0} (t : Tree) → ComponentReading 0 bytes t → P
+  no_component bytes n t r = absurd (n r.rest r.stands)
 
   no_component_fault : (bytes : List ℕ) → NoComponentHeading bytes → {P : Type 0} (t : Tree) (rest : List ℕ) → ComponentUpTo 0 bytes t rest → P
   no_component_fault bytes n t rest (ComponentUpTo.sections before left f) = absurd (n f.front.start f.front.stands)
@@ -331,19 +310,9 @@ module _ {S E A : Type 0} (i : Ghosts S E) (adds : KeepsAdds i.adds i.adds_nothi
     stops = λ c bytes s m e g keeps nothing other t r. stops c bytes s m e g keeps nothing other t r (heading_or_not bytes);
   }
     where
-      lift : (P Q : Fault → Type 0) → ((x : Fault) → P x → Q x) → (e : Error E) → IfFault e P → IfFault e Q
-      lift P Q f (ParseError x) h = f _ h
-      lift P Q f InvalidCodeSectionSize h = f _ h
-      lift P Q f UnexpectedNonCoreModuleSection h = f _ h
-      lift P Q f UnexpectedNonComponentSection h = f _ h
-      lift P Q f (UserError x) h = tt
-      lift P Q f (TooLarge size) h = tt
-      lift P Q f NoMemory h = tt
-      lift P Q f _ h = h
-
       fault : (c : ℕ) (bytes : List ℕ) (s m : S) (e : Error E) → Within c bytes s m (Err e) → IsTrue i.keeps_defaults → HasComponentHeading bytes ⊎ NoComponentHeading bytes → IfFault e (BinaryFault bytes)
-      fault c bytes s m e g keeps (inl h) = lift (ComponentFault 0 bytes) (BinaryFault bytes) (λ x p. inr (h, p)) e (component_fault c bytes s m e (g.component h) keeps)
-      fault c bytes s m e g keeps (inr n) = lift (ModuleFault bytes) (BinaryFault bytes) (λ x p. inl (n, p)) e (core_fault c bytes s m e (g.core n) keeps)
+      fault c bytes s m e g keeps (inl h) = fault_map e (λ x p. inr (h, p)) (component_fault c bytes s m e (g.component h) keeps)
+      fault c bytes s m e g keeps (inr n) = fault_map e (λ x p. inl (n, p)) (core_fault c bytes s m e (g.core n) keeps)
 
       accepted_there : (c : ℕ) (bytes : List ℕ) (s m : S) (e : Error E) → Within c bytes s m (Err e) → IsTrue i.keeps_defaults → IsTrue i.adds_nothing → IsOfBytes e → (t : Tree) (rest : List ℕ) →
           CoreUpTo bytes t rest ⊎ ComponentUpTo 0 bytes t rest → HasComponentHeading bytes ⊎ NoComponentHeading bytes → (n : S) × Filled (asks i) c s t n
@@ -403,7 +372,7 @@ module _ {S E A : Type 0} (i : Ghosts S E) (adds : KeepsAdds i.adds i.adds_nothi
       go c bytes s m (Err e) g keeps nothing heading = tt
 
       whole : (c : ℕ) (bytes : List ℕ) (s m : S) (result : Result A (Error E)) → Within c bytes s m result → IsTrue i.keeps_defaults → IsTrue i.adds_nothing → (out : List ℕ) (n : S) →
-          (h : IsTaken as_binary (asks i) c bytes s n out) → ReadsBinary bytes h.tree → HasComponentHeading bytes ⊎ NoComponentHeading bytes → AnswersOrWants out n m result view
+          (h : IsTaken as_binary (asks i) c bytes s n out) → ReadsBinary bytes h.tree → HasComponentHeading bytes ⊎ NoComponentHeading bytes → IsOrWants out n m result view
       whole c bytes s m result g keeps nothing out n h (inl p) (inl head) = no_core bytes head h.tree p
       whole c bytes s m result g keeps nothing out n h (inr (u, q, r)) (inl head) =
           let P : Tree → Type 0 = λ z. (f : Filled (asks i) c s z n) × (out ≡ normal (fill z f.given)) in
@@ -422,9 +391,7 @@ module _ {S E A : Type 0} (i : Ghosts S E) (adds : KeepsAdds i.adds i.adds_nothi
           component_read (inr h) = let t = (h.gives.default keeps).readable in bare (component_tree t.0) (inr (t.0, refl, t.1))
       unread c bytes s m (Ok o) g keeps none bare (inr other) = let t = ((g.core other).woven keeps).readable in bare t.0 (inl t.1)
       unread c bytes s m (Err e) g keeps none bare heading =
-          unanswered (BinaryFault bytes) (ReadsBinary bytes) (Err e) bare (λ o q. absurd cc)
-          (λ w q. let same : e ≡ w = cc in subst (λ (z : Error E). IfFault z (BinaryFault bytes)) same (binary_error_tells.fault c bytes s m e g keeps))
-          (λ w q. let same : e ≡ w = cc in subst (λ (z : Error E). (x : E) → z ≢ UserError x) same (binary_error_tells.never c bytes s m e g keeps none))
+          answers_fault (BinaryFault bytes) e (binary_error_tells.fault c bytes s m e g keeps) (binary_error_tells.never c bytes s m e g keeps none)
 
   pub kind_tells : statements.KindTells i (of_binary i view)
   kind_tells c bytes s m e g keeps none is = by e is (core_fault c bytes s m e (g.core none) keeps)

@@ -26,7 +26,7 @@ use Rattle.reencode_core.proofs.RowsMade.{visits_more}
 use Rattle.reencode_component.specs.Causes.{BehindFront, OwnInside, Stops, own_inside, room}
 use Rattle.reencode_component.specs.ComponentClauses.{ComponentClauses}
 use Rattle.reencode_component.specs.ComponentLaws.{AddsOrWants}
-use Rattle.reencode_component.specs.Components.{ReadsComponent, ReadsSection}
+use Rattle.reencode_component.specs.Components.{ComponentReading, ReadsSection}
 use Rattle.reencode_component.specs.WeaveIn.{weave_in}
 use Rattle.reencode_component.specs.WovenIn.{WovenIsAnswered}
 use Rattle.reencode_component.proofs.NestedReadings.{component_forth, module_forth}
@@ -86,7 +86,7 @@ module _ {S E : Type 0} (asked : Asks S E) (adds : Puts S SectionRow) (c : ℕ) 
 
   -- behind sections that were accepted, where it holds of each that is read
   front_never : (depth : ℕ) (own : Stops S E) → ((f t : Tree) (s m : S) (e : Error E) → ReadsSection depth f t → AddsFit asked adds c s (visits t) → Goes s t → own f s m e → ⊥) →
-      (bytes : List ℕ) (t : Tree) (s m : S) (e : Error E) → ReadsComponent depth bytes t → AddsFit asked adds c s (visits t) → Goes s t → BehindFront asked (added adds) c depth own bytes s m e → ⊥
+      (bytes : List ℕ) (t : Tree) (s m : S) (e : Error E) → ComponentReading depth bytes t → AddsFit asked adds c s (visits t) → Goes s t → BehindFront asked (added adds) c depth own bytes s m e → ⊥
   front_never depth own never bytes t s m e r fit g (front, framed) = let all = sections_of r in go all.0 all.1 (sections_ahead front.first all.2 (none_at_nil depth))
     where
       go : (read : List Tree) → t ≡ rows_tree read → SectionsAhead depth front.read front.rest read [] → ⊥
@@ -104,14 +104,14 @@ module _ {S E : Type 0} (asked : Asks S E) (adds : Puts S SectionRow) (c : ℕ) 
 
   inside_never : (scopes depth : ℕ) (f t : Tree) (s m : S) (e : Error E) → ReadsSection depth f t → AddsFit asked adds c s (visits t) → Goes s t → OwnInside asked adds c depth scopes f s m e → ⊥
   inside_never zero depth f t s m e r fit g h = h
-  inside_never (suc scopes) depth f t s m e r fit g (id, body, is, force, k, push, inl (number, own)) =
+  inside_never (suc scopes) depth f t s m e r fit g (id, body, is, k, push, inl (number, own)) =
       let R : Tree → Type 0 = λ z. ReadsSection depth z t in
       let q = module_forth depth body t (subst R (is ∙ ap (λ (z : ℕ). numbered_frame z body) number) r) in
       let F : Tree → Type 0 = λ z. AddsFit asked adds c s (visits z) in
       let G : Tree → Type 0 = λ z. Goes s z in
       let onward = goes k (core_tree q.0) (λ w n h. goes_not s n (nested_tree 1 (core_tree q.0)) w (subst G q.1 g) (walk_stopped asked (added adds) c s k n w 1 (core_tree q.0) push h)) in
       own_never body q.0 onward.0 k onward.1 e q.2 (fit_inside s k (visits q.0) push (subst F q.1 fit)) (sym (core_same asked (added adds) c k q.0 q.2) ∙ onward.2) own
-  inside_never (suc scopes) depth f t s m e r fit g (id, body, is, force, k, push, inr (number, own)) =
+  inside_never (suc scopes) depth f t s m e r fit g (id, body, is, k, push, inr (number, own)) =
       let R : Tree → Type 0 = λ z. ReadsSection depth z t in
       let q = component_forth depth body t (subst R (is ∙ ap (λ (z : ℕ). numbered_frame z body) number) r) in
       let F : Tree → Type 0 = λ z. AddsFit asked adds c s (visits z) in
@@ -124,7 +124,7 @@ pub woven_is_answered : {S E : Type 0} (i : Ghosts S E) → WovenIsAnswered i
 woven_is_answered {S = S} {E = E} i depth bytes s m old new result g keeps out n w fit = go result g
   where
     walks : weave_in (asks i) (added i.adds) old.ceiling s w.tree ≡ accepted w.made n
-    walks = (weave_in_is_run (asks i)).back (added i.adds) old.ceiling s n w.tree w.made w.reads.reading.rest w.reads.reading.spells.spelled w.accepts
+    walks = (weave_in_is_run (asks i)).back (added i.adds) old.ceiling s n w.tree w.made w.reads.rest w.reads.spells.spelled w.accepts
 
     stops : (e : Error E) → BehindFront (asks i) (added i.adds) old.ceiling depth (own_inside (asks i) i.adds old.ceiling depth) bytes s m e ⊎ (weave_in (asks i) (added i.adds) old.ceiling s w.tree ≡ refused e m) → ⊥
     stops e (inl own) =

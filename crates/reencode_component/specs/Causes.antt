@@ -1,5 +1,5 @@
 -- Why an error of a component comes, and what was asked by then.
-use Rattle.std.specs.Prelude.{◌≡◌, ◌⊎◌, ◌+◌, ◌-◌, ℕ, zero, suc, List, ◌++◌, true}
+use Rattle.std.specs.Prelude.{◌≡◌, ◌⊎◌, ◌+◌, ◌-◌, ℕ, zero, suc, List, ◌++◌}
 use Rattle.wasm_leb.specs.declared.fault.Fault.{Fault}
 use Rattle.wasm_leb.specs.declared.fault.Fault.TheVariants as fault
 use Rattle.wasm_leb.specs.declared.fault.Kind.TheVariants as kind
@@ -12,7 +12,6 @@ use Rattle.wasm_shapes.specs.Shape.{Shape}
 use Rattle.wasm_shapes.specs.Tree.{Tree}
 use Rattle.wasm_shapes.specs.Types.{rows_tree}
 use Rattle.wasm_read.specs.Reading.{Standing, CountRead}
-use Rattle.wasm_read_component.specs.ComponentPayloads.{has_frame}
 use Rattle.wasm_write.specs.Sections.{SectionRow}
 use Rattle.reencode_hooks.specs.declared.error.Error.{Error}
 use Rattle.reencode_hooks.specs.declared.error.Error.TheVariants.{InvalidCodeSectionSize, UnexpectedNonCoreModuleSection, UnexpectedNonComponentSection, ParseError, UserError, TooLarge, NoMemory}
@@ -98,7 +97,7 @@ pub record StopsInRows {S E : Type 0} (asked : Asks S E) (c depth id : ℕ) (bod
 -- a component the second. No pop follows.
 abbrev pub Pushed : {S E : Type 0} → Asks S E → (module_by component_by : List ℕ → S → S → Error E → Type 0) → Stops S E
 Pushed {S} asked module_by component_by f s m e =
-    (id : ℕ) × (body : List ℕ) × (f ≡ numbered_frame id body) × (has_frame id ≡ true) × (k : S) × (asked s Push ≡ accepted 0 k)
+    (id : ℕ) × (body : List ℕ) × (f ≡ numbered_frame id body) × (k : S) × (asked s Push ≡ accepted 0 k)
     × (((id ≡ 1) × module_by body k m e) ⊎ ((id ≡ 4) × component_by body k m e))
 
 -- A section hook in a nested module was to add a section above the ceiling; so many scopes may still be opened.

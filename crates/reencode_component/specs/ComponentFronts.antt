@@ -3,7 +3,7 @@
 use Rattle.std.specs.Prelude.{◌≡◌, ◌≤◌, ◌++◌, ℕ, List}
 use Rattle.wasm_shapes.specs.Module.{component_header}
 use Rattle.wasm_shapes.specs.Tree.{Tree}
-use Rattle.reencode_component.specs.Components.{BeginsNoSection, FaultAt, ReadsComponent, SectionsFirst}
+use Rattle.reencode_component.specs.Components.{BeginsNoSection, FaultAt, ComponentReading, SectionsFirst}
 
 -- These sections stand there, and none that is read begins behind them.
 pub record Front (depth : ℕ) (bytes : List ℕ) (before : List Tree) (rest : List ℕ) : Type 0 where
@@ -17,12 +17,12 @@ HasFront = (depth : ℕ) (bytes start : List ℕ) → depth ≤ 200 → bytes �
 -- They have a reading, or a fault behind their header: it is refuted that there is neither.
 abbrev pub ReadsOrFails : Type 0
 ReadsOrFails =
-    (depth : ℕ) (bytes start : List ℕ) → depth ≤ 200 → bytes ≡ component_header ++ start → ((t : Tree) → ReadsComponent depth bytes t → ⊥) →
+    (depth : ℕ) (bytes start : List ℕ) → depth ≤ 200 → bytes ≡ component_header ++ start → ((t : Tree) → ComponentReading depth bytes t → ⊥) →
     ¬ ((before : List Tree) (rest : List ℕ) → ¬ FaultAt depth bytes before rest)
 
 -- With such a fault they have no reading.
 abbrev pub FaultIsUnread : Type 0
-FaultIsUnread = (depth : ℕ) (bytes : List ℕ) (before : List Tree) (rest : List ℕ) → FaultAt depth bytes before rest → (t : Tree) → ReadsComponent depth bytes t → ⊥
+FaultIsUnread = (depth : ℕ) (bytes : List ℕ) (before : List Tree) (rest : List ℕ) → FaultAt depth bytes before rest → (t : Tree) → ComponentReading depth bytes t → ⊥
 
 -- Two fronts of the same bytes are one.
 abbrev pub OneFront : Type 0

@@ -19,7 +19,8 @@ use Rattle.reencode_core.specs.Refusals.{RefusedUpTo, RefusesNone}
 use Rattle.reencode_core.specs.Rows.{Asks}
 use Rattle.reencode_component.specs.Causes.{IfFault, inside}
 use Rattle.reencode_component.specs.ComponentClauses.{ComponentClauses}
-use Rattle.reencode_component.specs.Components.{ComponentFault, FaultAt, Framed, ReadsComponent}
+use Rattle.reencode_component.specs.ComponentLeaves.{ComponentUpTo}
+use Rattle.reencode_component.specs.Components.{ComponentFault, FaultAt, Framed, ComponentReading}
 
 -- What a law says of every call that answered this, from its clauses: the depth, the bytes, and what stood before and after it.
 abbrev pub OfCalls : {S E : Type 0} → Ghosts S E → (ℕ → List ℕ → S → Sections → S → Sections → Result (Unit {0}) (Error E) → Type 0) → Type 0
@@ -42,10 +43,22 @@ pub record Filled {S E : Type 0} (asked : Asks S E) (ceiling : ℕ) (s : S) (t :
   pub ran : run asked s (visits t) ≡ accepted given m
   pub fits : Fits (fill t given) ceiling
 
--- The bytes are read as this component, whose sections were accepted; the output is the normal spelling of its filled tree.
-pub record IsReencoded {S E : Type 0} (asked : Asks S E) (ceiling depth : ℕ) (bytes : List ℕ) (s m : S) (out : List ℕ) : Type 0 where
+-- How a call takes its bytes: which trees they are read as; which sections stand in front of the first place where none begins that is read,
+-- where bytes are left, which are these; and what is wrong with them.
+pub record Taking : Type 1 where
+  pub reads : List ℕ → Tree → Type 0
+  pub faulty : List ℕ → Tree → List ℕ → Type 0
+  pub fault : List ℕ → Fault → Type 0
+
+-- as a component
+abbrev pub as_component : ℕ → Taking
+as_component depth = record { reads = ComponentReading depth; faulty = ComponentUpTo depth; fault = ComponentFault depth }
+
+-- The bytes are read as this tree, whose visits were accepted and whose filled frames fit; the output is the normal spelling of the filled
+-- tree, and the state is the one that the run leaves.
+pub record IsTaken {S E : Type 0} (k : Taking) (asked : Asks S E) (ceiling : ℕ) (bytes : List ℕ) (s m : S) (out : List ℕ) : Type 0 where
   pub tree : Tree
-  pub reads : ReadsComponent depth bytes tree
+  pub reads : k.reads bytes tree
   pub filled : Filled asked ceiling s tree m
   pub spelled : out ≡ normal (fill tree filled.given)
 
@@ -55,15 +68,15 @@ pub record Adds (old new : Sections) (out : List ℕ) : Type 0 where
   pub gains : Gains old new rows
   pub spelled : sections_bytes rows ≡ out
 
--- with Ok, what was added is the bytes' component reencoded
-abbrev pub IfReencoded : {S E : Type 0} → Asks S E → ℕ → List ℕ → S → Sections → S → Sections → Result (Unit {0}) (Error E) → Type 0
-IfReencoded asked depth bytes s old m new (Ok _) = (out : List ℕ) × Adds old new out × IsReencoded asked old.ceiling depth bytes s m out
-IfReencoded asked depth bytes s old m new (Err e) = Unit {0}
+-- with Ok, what was added is what the bytes' reading becomes
+abbrev pub IfTaken : {S E : Type 0} → Taking → Asks S E → List ℕ → S → Sections → S → Sections → Result (Unit {0}) (Error E) → Type 0
+IfTaken k asked bytes s old m new (Ok _) = (out : List ℕ) × Adds old new out × IsTaken k asked old.ceiling bytes s m out
+IfTaken k asked bytes s old m new (Err e) = Unit {0}
 
 -- Where the section hook adds nothing, Ok comes only where the bytes are read as a component at this depth, whose visits are accepted and
 -- whose filled frames fit; what was added is the normal spelling of the filled tree, and the state is the one that the run leaves.
 abbrev pub OkIsReencoded : {S E : Type 0} → Ghosts S E → Type 0
-OkIsReencoded i = OfCalls i (λ depth bytes s old m new result. IsTrue i.adds_nothing → IfReencoded (asks i) depth bytes s old m new result)
+OkIsReencoded i = OfCalls i (λ depth bytes s old m new result. IsTrue i.adds_nothing → IfTaken (as_component depth) (asks i) bytes s old m new result)
 
 -- sections of this spelling were added, and this is the state that is left; or memory ran out
 abbrev pub AddsOrWants : {S E : Type 0} → List ℕ → S → Sections → S → Sections → Result (Unit {0}) (Error E) → Type 0
@@ -73,7 +86,7 @@ AddsOrWants out n old m new (Err e) = e ≡ NoMemory
 -- Where the section hook adds nothing, bytes that are read as such a component come to that output and that state, or memory runs out.
 abbrev pub ReencodedIsAnswered : {S E : Type 0} → Ghosts S E → Type 0
 ReencodedIsAnswered {S} i =
-    OfCalls i (λ depth bytes s old m new result. IsTrue i.adds_nothing → (out : List ℕ) (n : S) → IsReencoded (asks i) old.ceiling depth bytes s n out → AddsOrWants out n old m new result)
+    OfCalls i (λ depth bytes s old m new result. IsTrue i.adds_nothing → (out : List ℕ) (n : S) → IsTaken (as_component depth) (asks i) old.ceiling bytes s n out → AddsOrWants out n old m new result)
 
 -- ---- bytes with a fault
 
@@ -86,7 +99,7 @@ AnswersFault P (Err e) = IfFault e P
 -- Where no visit is refused, bytes that are read as no component come to the error of their fault, or to a size that is too large, or
 -- memory runs out; and the fault is the one that they have.
 pub record UnreadIsAnswered {S E : Type 0} (i : Ghosts S E) : Type 0 where
-  pub unread : OfCalls i (λ depth bytes s old m new result. RefusesNone (asks i) → ((t : Tree) → ReadsComponent depth bytes t → ⊥) → AnswersFault (ComponentFault depth bytes) result)
+  pub unread : OfCalls i (λ depth bytes s old m new result. RefusesNone (asks i) → ((t : Tree) → ComponentReading depth bytes t → ⊥) → AnswersFault (ComponentFault depth bytes) result)
   pub fault : OfCalls i (λ depth bytes s old m new result. RefusesNone (asks i) → (x : Fault) → ComponentFault depth bytes x → AnswersFault (λ y. y ≡ x) result)
 
 -- ---- refusals
@@ -110,11 +123,11 @@ StopsBefore {S} i ceiling depth s before rest e m =
 -- refused, and all visits before a frame above the ceiling are accepted. Where they have a fault, so is a refusal, or a size that is too
 -- large, that comes of the sections before it.
 pub record ComponentRefusalTells {S E : Type 0} (i : Ghosts S E) : Type 0 where
-  pub reading : OfErrors i (λ depth bytes s old m new e. (x : E) → e ≡ UserError x → (t : Tree) → ReadsComponent depth bytes t → run (asks i) s (visits t) ≡ refused e m)
+  pub reading : OfErrors i (λ depth bytes s old m new e. (x : E) → e ≡ UserError x → (t : Tree) → ComponentReading depth bytes t → run (asks i) s (visits t) ≡ refused e m)
   pub fault : OfErrors i (λ depth bytes s old m new e. (x : E) → e ≡ UserError x → (before : List Tree) (rest : List ℕ) → FaultAt depth bytes before rest →
       RefusedUpTo (asks i) s (visits (rows_tree before)) rest e m)
   pub never : OfErrors i (λ depth bytes s old m new e. RefusesNone (asks i) → (x : E) → e ≢ UserError x)
-  pub stops : OfErrors i (λ depth bytes s old m new e. IsTrue i.adds_nothing → e ≢ NoMemory → (t : Tree) → ReadsComponent depth bytes t → StopsOn (asks i) old.ceiling s t e m)
+  pub stops : OfErrors i (λ depth bytes s old m new e. IsTrue i.adds_nothing → e ≢ NoMemory → (t : Tree) → ComponentReading depth bytes t → StopsOn (asks i) old.ceiling s t e m)
   pub stops_before : OfErrors i (λ depth bytes s old m new e. IsTrue i.adds_nothing → (before : List Tree) (rest : List ℕ) → FaultAt depth bytes before rest →
       IfRefused e (StopsBefore i old.ceiling depth s before rest e m))
 

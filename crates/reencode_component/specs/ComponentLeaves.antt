@@ -1,5 +1,5 @@
 -- What a component, or a section of one, is read as and where it is at fault, for what an error leaves.
-use Rattle.std.specs.Prelude.{◌≡◌, ◌≢◌, ℕ, List, [], ◌++◌, true, Result}
+use Rattle.std.specs.Prelude.{◌≡◌, ◌≢◌, ℕ, List, [], ◌++◌, Result}
 use Rattle.wasm_leb.specs.Place.{BeginsNoNumber}
 use Rattle.wasm_shapes.specs.Component.{component_body_of, component_name_subsection, component_names_name}
 use Rattle.wasm_shapes.specs.Module.{component_header, custom_frame, frame, numbered_frame}
@@ -9,7 +9,6 @@ use Rattle.wasm_shapes.specs.Shape.{Shape}
 use Rattle.wasm_shapes.specs.Tree.{Tree, normal}
 use Rattle.wasm_shapes.specs.Types.{rows_tree}
 use Rattle.wasm_read.specs.Reading.{Standing, CountRead}
-use Rattle.wasm_read_component.specs.ComponentPayloads.{has_frame}
 use Rattle.wasm_write.specs.Sections.{Sections, SectionRow, sections_bytes}
 use Rattle.reencode_hooks.specs.declared.error.Error.{Error}
 use Rattle.reencode_hooks.specs.declared.error.Error.TheVariants.{NoMemory}
@@ -18,14 +17,9 @@ use Rattle.reencode_core.specs.Holds.{IfWants}
 use Rattle.reencode_core.specs.Leaves.{Leaves, ManyUpTo, Text}
 use Rattle.reencode_core.specs.Rows.{Asks}
 use Rattle.reencode_core.specs.Weave.{Puts, added}
-use Rattle.reencode_component.specs.Components.{FaultAt, ReadsComponent, ReadsSection}
+use Rattle.reencode_component.specs.Components.{FaultAt, ComponentReading, ReadsSection}
 use Rattle.reencode_component.specs.Causes.{AcceptedFront}
 use Rattle.reencode_component.specs.ScopedRows.{ShallowUpTo, standing_at}
-
--- sections of the id are read, and have these rows
-pub record HasRows (id : ℕ) (row : Shape) : Type 0 where
-  pub in_force : has_frame id ≡ true
-  pub body : component_body_of id ≡ Shape.vec row
 
 -- the bytes in a frame
 abbrev pub bytes_in : Tree → List ℕ
@@ -36,8 +30,8 @@ bytes_in _ = []
 -- The count of the rows is due and none begins; or rows, of which none opens a scope too many, stand behind their count up to where such a
 -- one is missing; or subsections of names stand up to where one is missing. Of other sections nothing is said.
 pub data SectionUpTo (depth : ℕ) : Tree → Tree → List ℕ → Type 0 where
-  uncounted : (id : ℕ) (body : List ℕ) (row : Shape) → HasRows id row → BeginsNoNumber 128 32 32 body → SectionUpTo depth (numbered_frame id body) Tree.nil body
-  rows : (id : ℕ) (body : List ℕ) (row : Shape) (reader : Standing) (t : Tree) (rest : List ℕ) → HasRows id row → CountRead body reader → ShallowUpTo row (standing_at depth reader) t rest →
+  uncounted : (id : ℕ) (body : List ℕ) (row : Shape) → component_body_of id ≡ Shape.vec row → BeginsNoNumber 128 32 32 body → SectionUpTo depth (numbered_frame id body) Tree.nil body
+  rows : (id : ℕ) (body : List ℕ) (row : Shape) (reader : Standing) (t : Tree) (rest : List ℕ) → component_body_of id ≡ Shape.vec row → CountRead body reader → ShallowUpTo row (standing_at depth reader) t rest →
       SectionUpTo depth (numbered_frame id body) t rest
   names : (name contents : List ℕ) (t : Tree) (rest : List ℕ) → name ≡ component_names_name → ManyUpTo component_name_subsection contents t rest → SectionUpTo depth (custom_frame name contents) t rest
 
@@ -51,7 +45,7 @@ pub data ComponentUpTo (depth : ℕ) (bytes : List ℕ) : Tree → List ℕ → 
 
 -- the bytes of a component, read as its sections behind the header
 abbrev pub component_in : ℕ → List ℕ → Text
-component_in depth bytes = record { bytes = bytes; reads = ReadsComponent depth bytes; faulty = ComponentUpTo depth bytes }
+component_in depth bytes = record { bytes = bytes; reads = ComponentReading depth bytes; faulty = ComponentUpTo depth bytes }
 
 -- the header of a component does not stand there
 abbrev pub NoComponentHeading : List ℕ → Type 0
@@ -63,7 +57,7 @@ NoComponentHeading bytes = (rest : List ℕ) → bytes ≢ component_header ++ r
 -- was asked in part. Of a reading they are the first sections.
 pub record HoldsFront {S E : Type 0} (asked : Asks S E) (adds : Puts S SectionRow) (depth : ℕ) (bytes : List ℕ) (before after : S × Sections) : Type 0 where
   pub front : AcceptedFront asked (added adds) before.1.ceiling depth bytes before.0
-  pub parts : (t : Tree) → ReadsComponent depth bytes t → (others : Tree) × (t ≡ rows_then front.read others)
+  pub parts : (t : Tree) → ComponentReading depth bytes t → (others : Tree) × (t ≡ rows_then front.read others)
   pub rows : List SectionRow
   pub next : Tree
   pub left : List ℕ

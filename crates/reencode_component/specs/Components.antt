@@ -1,51 +1,34 @@
 -- What the bytes of a component are read as where so many scopes are open round it, and what is wrong with bytes that are none.
-use Rattle.std.specs.Prelude.{◌≡◌, ◌≢◌, ◌⊎◌, ◌+◌, ◌-◌, ℕ, zero, suc, List, [], ◌++◌, length, true}
+use Rattle.std.specs.Prelude.{◌≡◌, ◌≢◌, ◌⊎◌, ◌+◌, ◌-◌, ℕ, zero, suc, List, [], ◌++◌, length}
 use Rattle.wasm_leb.specs.declared.fault.Fault.{Fault}
 use Rattle.wasm_leb.specs.declared.fault.Fault.TheVariants as fault
 use Rattle.wasm_leb.specs.declared.fault.Kind.TheVariants as kind
 use Rattle.wasm_shapes.specs.CodeSize.{InvalidCodeSize}
 use Rattle.wasm_shapes.specs.Component.{component_section}
-use Rattle.wasm_shapes.specs.ComponentReadings.{ComponentReading, InComponentFrame}
-use Rattle.wasm_shapes.specs.Depth.{BeginsAt, Shallow}
+use Rattle.wasm_shapes.specs.ComponentReadings.{InComponentFrame}
+pub use Rattle.wasm_shapes.specs.ComponentReadings.{ComponentReading}
+use Rattle.wasm_shapes.specs.Depth.{BeginsAt, BeginsNoneAt, Shallow}
 use Rattle.wasm_shapes.specs.Module as core
 use Rattle.wasm_shapes.specs.Module.{core_header, component_header, frame, numbered_frame}
 use Rattle.wasm_shapes.specs.Place.{Begins}
 use Rattle.wasm_shapes.specs.Tree.{Tree}
 use Rattle.wasm_shapes.specs.Types.{rows_tree}
-use Rattle.wasm_read_component.specs.ComponentPayloads.{has_frame}
 use Rattle.reencode_core.specs.Core.{NoHeader}
 use Rattle.reencode_core.specs.Rows.{RowsBefore}
 
 -- ---- readings
 
--- Sections of this one's id are read, as those of each id below 128 are, and where it is a component, so are those in it: of sections
--- one behind another each, and of what stands in a frame those behind the header.
-abbrev pub IsInForce : Tree → Type 0
-IsInForce (Tree.row id t) = (has_frame id ≡ true) × (id ≡ 4 → IsInForce t)
-IsInForce (Tree.cons t u) = IsInForce t × IsInForce u
-IsInForce (Tree.pair b t) = IsInForce t
-IsInForce (Tree.sized t) = IsInForce t
-IsInForce (Tree.scope t) = IsInForce t
-IsInForce _ = Unit {0}
-
--- the bytes are a component whose sections are of ids in force, those of nested components too
-pub record ReadsComponent (depth : ℕ) (bytes : List ℕ) (t : Tree) : Type 0 where
-  pub reading : ComponentReading depth bytes t
-  pub in_force : IsInForce t
-
 -- the tree is what a section in this frame is read as
 pub record ReadsSection (depth : ℕ) (f t : Tree) : Type 0 where
   pub framed : InComponentFrame t f
   pub shallow : Shallow depth t
-  pub in_force : IsInForce t
 
 -- a section begins there that is read
-pub record BeginsSection (depth : ℕ) (bytes : List ℕ) (t : Tree) (left : List ℕ) : Type 0 where
-  pub there : BeginsAt component_section depth bytes t left
-  pub in_force : IsInForce t
+abbrev pub BeginsSection : ℕ → List ℕ → Tree → List ℕ → Type 0
+BeginsSection depth = BeginsAt component_section depth
 
-pub record BeginsNoSection (depth : ℕ) (bytes : List ℕ) : Type 0 where
-  pub none : (t : Tree) (left : List ℕ) → BeginsSection depth bytes t left → ⊥
+abbrev pub BeginsNoSection : ℕ → List ℕ → Type 0
+BeginsNoSection depth = BeginsNoneAt component_section depth
 
 -- ---- the front and the fault
 
@@ -55,7 +38,6 @@ pub record SectionsFirst (depth : ℕ) (bytes : List ℕ) (read : List Tree) (re
   pub stands : bytes ≡ component_header ++ start
   pub rows : RowsBefore component_section start read rest
   pub shallow : Shallow depth (rows_tree read)
-  pub in_force : IsInForce (rows_tree read)
 
 -- Bytes are left at the first place where no section begins that is read; these stand before it.
 pub record FaultAt (depth : ℕ) (bytes : List ℕ) (before : List Tree) (rest : List ℕ) : Type 0 where
@@ -103,7 +85,7 @@ FaultBy depth nested bytes x = FaultHere depth nested bytes x
 abbrev pub NestedFault : ℕ → ℕ → Tree → Fault → Type 0
 NestedFault depth zero f x = ⊥
 NestedFault depth (suc room) f x =
-    (id : ℕ) × (body : List ℕ) × (f ≡ numbered_frame id body) × (has_frame id ≡ true)
+    (id : ℕ) × (body : List ℕ) × (f ≡ numbered_frame id body)
     × (((id ≡ 1) × ModuleFault body x) ⊎ ((id ≡ 4) × FaultBy (depth + 1) (NestedFault (depth + 1) room) body x))
 
 -- of bytes that are read as a component

@@ -1,6 +1,6 @@
 -- What a call that maps a type of a component, or what such a type declares, promises, whole: one record for each kind of call. `i` are
 -- the meanings of the reencoder; `s` is its state and `old` what a scope declares before the call, `m` and `new` are the same after it.
-use Rattle.std.specs.Prelude.{◌≡◌, ◌≢◌, List, [], ◌∷◌, ◌++◌, length, Result, Ok, Err}
+use Rattle.std.specs.Prelude.{List, [], Result}
 use Rattle.wasm_shapes.specs.Tree.{Tree}
 use Rattle.wasm_shapes.specs.Types.{led}
 use Rattle.wasm_shapes.specs.Shape.{Shape}
@@ -21,11 +21,10 @@ use Rattle.wasm_write_component.specs.declared.declarations.ComponentTypeDeclara
 use Rattle.wasm_write_component.specs.declared.declarations.InstanceTypeDeclaration as made_instance
 use Rattle.wasm_write_component.specs.TypeRows as write
 use Rattle.reencode_hooks.specs.declared.error.Error.{Error}
-use Rattle.reencode_hooks.specs.declared.error.Error.TheVariants.{NoMemory}
 use Rattle.reencode_hooks.specs.declared.indices.ReencodeIndices.{Ghosts}
 use Rattle.reencode_items.specs.Clauses.{ListClauses}
 use Rattle.reencode_core.specs.Clauses.{asks}
-use Rattle.reencode_core.specs.Rows.{TooLargeRow}
+use Rattle.reencode_component.specs.Clauses.{AddsRow}
 use Rattle.reencode_component.specs.ScopedRows.{ShallowFault, StopsShallow, shallow_rows_in}
 use Rattle.reencode_component.specs.TypeClauses.{CoreTypeWithin, ScopeBy}
 
@@ -71,18 +70,11 @@ InstanceDeclarationClauses i (in_instance.Export name ty) s m result =
 
 -- ---- the same, added
 
--- What was mapped is added as the last row; or there is no memory for that, or a number in it is too large, or it would be one row too
--- many, and nothing changes. What was not mapped is not added, and its error is the answer.
-abbrev pub ThenAdded : {E A : Type 0} → (A → Tree) → Result A (Error E) → List Tree → List Tree → Result (Unit {0}) (Error E) → Type 0
-ThenAdded view (Ok a) old new (Ok _) = new ≡ old ++ view a ∷ []
-ThenAdded view (Ok a) old new (Err e) = (new ≡ old) × (e ≢ NoMemory → TooLargeRow e (view a) (length old))
-ThenAdded view (Err e) old new result = (new ≡ old) × (result ≡ Err e)
-
 -- An item is mapped, of which this holds, and then added.
 pub record MapsAndAdds {E A : Type 0} (view : A → Tree) (maps : Result A (Error E) → Type 0) (old new : List Tree) (result : Result (Unit {0}) (Error E)) : Type 0 where
   pub mapped : Result A (Error E)
   pub maps_it : maps mapped
-  pub adds : ThenAdded view mapped old new result
+  pub adds : AddsRow view mapped old new result
 
 abbrev pub ComponentRowClauses : {S E : Type 0} → Ghosts S E → ComponentTypeDeclaration → S → List Tree → S → List Tree → Result (Unit {0}) (Error E) → Type 0
 ComponentRowClauses i decl s old m new result = MapsAndAdds write.component_declaration_tree (λ made. ComponentDeclarationClauses i decl s m made) old new result

@@ -13,7 +13,7 @@ use Rattle.reencode_hooks.specs.Run.{Step, accepted, refused}
 use Rattle.reencode_core.specs.Errors.{IfRefused}
 use Rattle.reencode_core.specs.Rows.{Asks}
 use Rattle.reencode_core.specs.Weave.{Puts, added}
-use Rattle.reencode_component.specs.Components.{BeginsSection, Framed, IsHandedOut, NestedFault, ReadsComponent, ReadsSection}
+use Rattle.reencode_component.specs.Components.{BeginsSection, Framed, IsHandedOut, NestedFault, ComponentReading, ReadsSection}
 use Rattle.reencode_component.specs.WeaveIn.{weave_in}
 use Rattle.reencode_component.specs.Causes.{AcceptedFront, BehindFront, CauseBy, IfFault, Stops, inside, own_inside, room}
 
@@ -74,9 +74,9 @@ GainsBefore asked adds depth own bytes before after e =
 
 pub record GivesBy {S E : Type 0} (asked : Asks S E) (adds : Puts S SectionRow) (depth : ℕ) (inner own : Stops S E) (bytes : List ℕ)
     (before after : S × Sections) (result : Result (Unit {0}) (Error E)) : Type 0 where
-  pub reading : (t : Tree) → ReadsComponent depth bytes t →
+  pub reading : (t : Tree) → ComponentReading depth bytes t →
       GivesSections asked adds (BehindFront asked (added adds) before.1.ceiling depth own bytes before.0 after.0) before t after result
-  pub readable : IfOk result (λ _. (t : Tree) × ReadsComponent depth bytes t)
+  pub readable : IfOk result (λ _. (t : Tree) × ComponentReading depth bytes t)
   pub cause : IfErr result (CauseBy asked (added adds) before.1.ceiling depth inner own bytes before.0 after.0)
   pub gained : IfErr result (GainsBefore asked adds depth own bytes before after)
 

@@ -11,11 +11,9 @@ use Rattle.reencode_hooks.specs.declared.indices.ReencodeIndices.{Ghosts}
 use Rattle.reencode_core.specs.Clauses.{ModuleClauses, asks}
 use Rattle.reencode_core.specs.Leaves.{CoreUpTo}
 use Rattle.reencode_core.specs.Refusals.{RefusesNone}
-use Rattle.reencode_core.specs.Rows.{Asks}
 use Rattle.reencode_component.specs.Causes.{IfFault}
-use Rattle.reencode_component.specs.ComponentLaws.{Adds, AddsOrWants, AnswersFault, Filled, IsOfBytes, StopsOn}
+use Rattle.reencode_component.specs.ComponentLaws.{AddsOrWants, AnswersFault, Filled, IfTaken, IsOfBytes, IsTaken, StopsOn, Taking}
 use Rattle.reencode_component.specs.Components.{ModuleFault}
-use Rattle.reencode_component.specs.WithinLaws.{IsTaken, Taking}
 
 -- bytes are read as the sections of a core module behind its header
 abbrev pub as_sections : Taking
@@ -27,18 +25,13 @@ OfModules {S} {E} i P =
     (bytes : List ℕ) (s m : S) (old new : Sections) (result : Result (Unit {0}) (Error E)) → ModuleClauses i bytes s old m new result → IsTrue i.keeps_defaults →
     P bytes s old m new result
 
--- with Ok, what was added is the bytes' module reencoded
-abbrev pub IfTaken : {S E : Type 0} → Asks S E → List ℕ → S → Sections → S → Sections → Result (Unit {0}) (Error E) → Type 0
-IfTaken asked bytes s old m new (Ok _) = (out : List ℕ) × Adds old new out × IsTaken as_sections asked old.ceiling bytes s m out
-IfTaken asked bytes s old m new (Err e) = Unit {0}
-
 -- Where the section hook adds nothing, Ok comes only with what the reading becomes, and it comes wherever there is one that is accepted, or
 -- memory runs out; any other error of bytes that are read is of the first moment of the walk that is not passed. An error tells the fault
 -- of the bytes, unless it is a refusal, a size that is too large, or out of memory, and no other comes; where the section hook adds nothing,
 -- all sections before the fault were then accepted. Where no visit is refused, bytes without a reading give the error of their fault, or a
 -- size that is too large, or memory runs out.
 pub record ModuleTells {S E : Type 0} (i : Ghosts S E) : Type 0 where
-  pub output : OfModules i (λ bytes s old m new result. IsTrue i.adds_nothing → IfTaken (asks i) bytes s old m new result)
+  pub output : OfModules i (λ bytes s old m new result. IsTrue i.adds_nothing → IfTaken as_sections (asks i) bytes s old m new result)
   pub complete : OfModules i (λ bytes s old m new result. IsTrue i.adds_nothing → (out : List ℕ) (n : S) → IsTaken as_sections (asks i) old.ceiling bytes s n out →
       AddsOrWants out n old m new result)
   pub stops : OfModules i (λ bytes s old m new result. IfErr result (λ e. IsTrue i.adds_nothing → e ≢ NoMemory → (t : Tree) → CoreReading bytes t → StopsOn (asks i) old.ceiling s t e m))

@@ -7,7 +7,7 @@ use Rattle.wasm_shapes.specs.declared.Visit.{Visit}
 use Rattle.wasm_shapes.specs.Component.{component_tree}
 use Rattle.wasm_shapes.specs.Module.{core_module}
 use Rattle.wasm_shapes.specs.Spells.{Spells}
-use Rattle.wasm_shapes.specs.Tree.{Tree, fill, normal, visits}
+use Rattle.wasm_shapes.specs.Tree.{Tree, visits}
 use Rattle.reencode_hooks.specs.declared.error.Error.{Error}
 use Rattle.reencode_hooks.specs.declared.error.Error.TheVariants.{UnexpectedNonCoreModuleSection, UserError, NoMemory}
 use Rattle.reencode_hooks.specs.declared.indices.ReencodeIndices.{Ghosts}
@@ -15,21 +15,14 @@ use Rattle.reencode_hooks.specs.Run.{refused, run}
 use Rattle.reencode_core.specs.Clauses.{BytesClauses, asks}
 use Rattle.reencode_core.specs.Leaves.{CoreUpTo}
 use Rattle.reencode_core.specs.Refusals.{RefusedUpTo, RefusesNone}
-use Rattle.reencode_core.specs.Rows.{Asks}
+use Rattle.reencode_core.specs.Woven.{IsOrWants}
 use Rattle.reencode_component.specs.Causes.{IfFault}
-use Rattle.reencode_component.specs.ComponentLaws.{AnswersFault, Filled, IsOfBytes, StopsOn}
+use Rattle.reencode_component.specs.ComponentLaws.{AnswersFault, Filled, IsOfBytes, IsTaken, StopsOn, Taking}
 use Rattle.reencode_component.specs.ComponentLeaves.{ComponentUpTo, NoComponentHeading}
-use Rattle.reencode_component.specs.Components.{ComponentFault, ModuleFault, ReadsComponent}
+use Rattle.reencode_component.specs.Components.{ComponentFault, ModuleFault, ComponentReading}
 use Rattle.reencode_component.specs.Within.{HasComponentHeading, WithinClauses, ended}
 
 -- ---- what bytes are taken as
-
--- How a call takes its bytes: which trees they are read as; which sections stand in front of the first place where none begins that is read,
--- where bytes are left, which are these; and what is wrong with them.
-pub record Taking : Type 1 where
-  pub reads : List ℕ → Tree → Type 0
-  pub faulty : List ℕ → Tree → List ℕ → Type 0
-  pub fault : List ℕ → Fault → Type 0
 
 -- as a core module
 abbrev pub as_module : Taking
@@ -37,7 +30,7 @@ as_module = record { reads = Spells core_module; faulty = CoreUpTo; fault = Modu
 
 -- the bytes are a core module, or a component with no scope open round it
 abbrev pub ReadsBinary : List ℕ → Tree → Type 0
-ReadsBinary bytes t = Spells core_module bytes t ⊎ ((u : Tree) × (t ≡ component_tree u) × ReadsComponent 0 bytes u)
+ReadsBinary bytes t = Spells core_module bytes t ⊎ ((u : Tree) × (t ≡ component_tree u) × ComponentReading 0 bytes u)
 
 -- bytes that begin with the header of a component have the fault of one, and all others that of a core module
 abbrev pub BinaryFault : List ℕ → Fault → Type 0
@@ -72,26 +65,13 @@ OfRefusals {S} {E} i promised P =
 
 -- ---- output
 
--- The bytes are read as this tree, whose visits were accepted and whose filled frames fit; the output is the normal spelling of the filled
--- tree, and the state is the one that the run leaves.
-pub record IsTaken {S E : Type 0} (k : Taking) (asked : Asks S E) (ceiling : ℕ) (bytes : List ℕ) (s m : S) (out : List ℕ) : Type 0 where
-  pub tree : Tree
-  pub reads : k.reads bytes tree
-  pub filled : Filled asked ceiling s tree m
-  pub spelled : out ≡ normal (fill tree filled.given)
-
--- this output and this state; or memory ran out
-abbrev pub AnswersOrWants : {S E A : Type 0} → List ℕ → S → S → Result A (Error E) → (A → List ℕ) → Type 0
-AnswersOrWants out n m (Ok o) view = (view o ≡ out) × (m ≡ n)
-AnswersOrWants out n m (Err e) view = e ≡ NoMemory
-
 -- Where the section hook adds nothing, Ok comes only with the output of the bytes' reading, and it comes wherever there is one, or
 -- memory runs out. Bytes without a reading give, where no visit is refused, the error of their fault, or a size that is too large, or
 -- memory runs out.
 pub record OutputIsTaken {S E A : Type 0} (k : Taking) (i : Ghosts S E) (promised : Promises S E A) (view : A → List ℕ) : Type 0 where
   pub output : OfAnswers i promised (λ ceiling bytes s m result. IsTrue i.adds_nothing → IfOk result (λ out. IsTaken k (asks i) ceiling bytes s m (view out)))
   pub complete : OfAnswers i promised (λ ceiling bytes s m result. IsTrue i.adds_nothing → (out : List ℕ) (n : S) → IsTaken k (asks i) ceiling bytes s n out →
-      AnswersOrWants out n m result view)
+      IsOrWants out n m result view)
   pub unread : OfAnswers i promised (λ ceiling bytes s m result. RefusesNone (asks i) → ((t : Tree) → k.reads bytes t → ⊥) → AnswersFault (k.fault bytes) (ended result))
 
 -- ---- errors

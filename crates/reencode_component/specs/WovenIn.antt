@@ -14,7 +14,7 @@ use Rattle.reencode_core.specs.Rows.{Asks}
 use Rattle.reencode_core.specs.Weave.{Puts, added, woven}
 use Rattle.reencode_core.specs.Woven.{AddsFit}
 use Rattle.reencode_component.specs.ComponentLaws.{Adds, AddsOrWants, OfCalls}
-use Rattle.reencode_component.specs.Components.{ReadsComponent}
+use Rattle.reencode_component.specs.Components.{ComponentReading}
 use Rattle.reencode_component.specs.WeaveIn.{weave_in}
 
 -- the answers to a tree's own visits
@@ -58,7 +58,7 @@ pub record WeaveInIsRun {S E : Type 0} (asked : Asks S E) : Type 0 where
 -- The bytes are read as this component, whose sections were accepted; the output is the normal spelling of its woven tree.
 pub record IsWoven {S E : Type 0} (asked : Asks S E) (put : Puts S Tree) (ceiling depth : ℕ) (bytes : List ℕ) (s m : S) (out : List ℕ) : Type 0 where
   pub tree : Tree
-  pub reads : ReadsComponent depth bytes tree
+  pub reads : ComponentReading depth bytes tree
   pub made : Tree
   pub accepts : AcceptsIn asked put ceiling s tree made m
   pub spelled : out ≡ normal made

@@ -5,7 +5,6 @@ ghost use Rattle.wasm_shapes.specs.Tree.{normal};
 ghost use Rattle.wasm_shapes.specs.Types.{vector_tree};
 ghost use Rattle.wasm_shapes.proofs.Unscoped.{unscoped};
 ghost use Rattle.wasm_read.specs.Reading.{Standing};
-ghost use Rattle.wasm_read_component.specs.ComponentPayloads.{has_frame};
 ghost use Rattle.wasm_read_component.specs.Scoped.{ScopedStanding};
 ghost use Rattle.wasm_write.specs.Sections.{section_row};
 ghost use Rattle.reencode_core.specs.Clauses.{RowsClauses};
@@ -82,7 +81,6 @@ where
     T: ReencodeIndices,
     K: MapSection<T, w::Of<K>, SectionReader<'a, r::Of<K>>>,
     requires deep { depth ≤ 200 }
-    requires in_force { has_frame K.SectionKind.ID ≡ true }
     requires flat { unscoped K.shape ≡ true }
     requires same { (reader : Standing) → K.standing reader ≡ reader }
     ensures { FrameClauses T.ReencodeIndices depth (numbered_frame K.SectionKind.ID body.now) at
@@ -226,7 +224,6 @@ where
     T: ReencodeIndices,
     K: MapScopedSection<T, w::Of<K>, ScopedReader<'a, r::Of<K>>>,
     requires deep { depth ≤ 200 }
-    requires in_force { has_frame K.SectionKind.ID ≡ true }
     requires same { (reader : ScopedStanding) → K.standing reader ≡ reader }
     ensures { FrameClauses T.ReencodeIndices depth (numbered_frame K.SectionKind.ID body.now) at
         reencoder.old «component».old reencoder.new «component».new result }
@@ -311,48 +308,21 @@ pub(crate) fn numbered<T: ReencodeComponent>(
     ensures { FrameClauses T.ReencodeIndices depth (numbered_frame id body.now) at
         reencoder.old «component».old reencoder.new «component».new result }
 {
-    if id == 2 {
-        return flat_rows::<T, kinds::Instances>(reencoder, alloc, component, at, body, depth);
-    }
-    if id == 3 {
-        return scoped_rows::<T, kinds::CoreTypes>(reencoder, alloc, component, at, body, depth);
-    }
-    if id == 5 {
-        return flat_rows::<T, kinds::ComponentInstances>(
+    match id {
+        2 => flat_rows::<T, kinds::Instances>(reencoder, alloc, component, at, body, depth),
+        3 => scoped_rows::<T, kinds::CoreTypes>(reencoder, alloc, component, at, body, depth),
+        5 => flat_rows::<T, kinds::ComponentInstances>(
             reencoder, alloc, component, at, body, depth,
-        );
-    }
-    if id == 6 {
-        return flat_rows::<T, kinds::Aliases>(reencoder, alloc, component, at, body, depth);
-    }
-    if id == 7 {
-        return scoped_rows::<T, kinds::ComponentTypes>(
+        ),
+        6 => flat_rows::<T, kinds::Aliases>(reencoder, alloc, component, at, body, depth),
+        7 => scoped_rows::<T, kinds::ComponentTypes>(reencoder, alloc, component, at, body, depth),
+        8 => flat_rows::<T, kinds::CanonicalFunctions>(
             reencoder, alloc, component, at, body, depth,
-        );
+        ),
+        9 => start(reencoder, alloc, component, at, body, depth),
+        10 => flat_rows::<T, kinds::ComponentImports>(reencoder, alloc, component, at, body, depth),
+        11 => flat_rows::<T, kinds::ComponentExports>(reencoder, alloc, component, at, body, depth),
+        12..=127 => reencoder.parse_unknown_component_section(component, id, body),
+        _ => Err(Error::ParseError(ReadError { at })),
     }
-    if id == 8 {
-        return flat_rows::<T, kinds::CanonicalFunctions>(
-            reencoder, alloc, component, at, body, depth,
-        );
-    }
-    if id == 9 {
-        return start(reencoder, alloc, component, at, body, depth);
-    }
-    if id == 10 {
-        return flat_rows::<T, kinds::ComponentImports>(
-            reencoder, alloc, component, at, body, depth,
-        );
-    }
-    if id == 11 {
-        return flat_rows::<T, kinds::ComponentExports>(
-            reencoder, alloc, component, at, body, depth,
-        );
-    }
-    if id < 12 {
-        return Err(Error::ParseError(ReadError { at }));
-    }
-    if id > 127 {
-        return Err(Error::ParseError(ReadError { at }));
-    }
-    reencoder.parse_unknown_component_section(component, id, body)
 }

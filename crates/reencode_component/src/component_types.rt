@@ -10,6 +10,7 @@ ghost use Rattle.reencode_component.specs.ScopedRows.{ShallowRowsClauses};
 
 use crate::component::ReencodeComponent;
 use crate::items::ReencodeComponentItems;
+use crate::rows::add_row;
 use crate::scoped_sections::{MapScopedRow, map_scoped_rows};
 use crate::{mapped, type_bodies};
 use reencode_hooks::Error;
@@ -167,9 +168,8 @@ pub fn parse_component_type_declaration<T: ReencodeComponent>(
     ensures { ComponentRowClauses T.ReencodeIndices decl.entry
         reencoder.old «component».old reencoder.new «component».new result }
 {
-    let row = component_declaration(reencoder, alloc, decl)?;
-    component.add(&row)?;
-    Ok(())
+    let row = component_declaration(reencoder, alloc, decl);
+    add_row(component, row)
 }
 
 /// Maps what an instance type declares (`instancedecl`) and adds it: core types by `parse_component_core_type`, types by
@@ -184,9 +184,8 @@ pub fn parse_component_instance_type_declaration<T: ReencodeComponent>(
     ensures { InstanceRowClauses T.ReencodeIndices decl.entry
         reencoder.old ty.old reencoder.new ty.new result }
 {
-    let row = instance_declaration(reencoder, alloc, decl)?;
-    ty.add(&row)?;
-    Ok(())
+    let row = instance_declaration(reencoder, alloc, decl);
+    add_row(ty, row)
 }
 
 /// Maps a type by `parse_component_type`, and adds it.
@@ -199,9 +198,8 @@ fn add_type<T: ReencodeComponent>(
     ensures { TypeRowClauses T.ReencodeIndices ty.entry
         reencoder.old types.old reencoder.new types.new result }
 {
-    let row = parse_component_type(reencoder, alloc, ty)?;
-    types.add(&row)?;
-    Ok(())
+    let row = parse_component_type(reencoder, alloc, ty);
+    add_row(types, row)
 }
 
 impl<'a, T: ReencodeComponent> MapScopedRow<T, w::Of<kinds::ComponentTypes>, r::ComponentType<'a>>

@@ -10,7 +10,7 @@ use Rattle.wasm_shapes.proofs.Drawn.{drawn_none}
 use Rattle.wasm_shapes.specs.Tree.{Tree, count, normal, visits}
 use Rattle.wasm_shapes.specs.Shape.{Shape}
 use Rattle.wasm_shapes.specs.Types.{is_core, rows_tree, vector_tree}
-use Rattle.wasm_shapes.specs.Module.{plain_naming}
+use Rattle.wasm_shapes.specs.Module.{plain_naming, subsection}
 use Rattle.wasm_shapes.specs.Namings.{Entry, Outer, asked_in, entries_trees, module_name_tree, names_tree, outers_trees, raw_names_tree}
 use Rattle.wasm_read.specs.declared.types.Name.{Name}
 use Rattle.wasm_read.specs.Names.{EntriesLeft, MapStanding}
@@ -37,7 +37,7 @@ use Rattle.reencode_core.specs.Rows.{Asks}
 use Rattle.reencode_core.proofs.BodyLoop.{keeps_code}
 use Rattle.reencode_core.proofs.InFrame.{framed, framed_fits, framed_large, framed_refused}
 use Rattle.reencode_core.proofs.NameCalls.{GivesMap, MapLeaves, Quiet, due_drawn, gives_map_at, map_leaves_at, maps_kept}
-use Rattle.reencode_core.specs.Leaves.{Leaves, LeavesMade, subsection_of}
+use Rattle.reencode_core.specs.Leaves.{EntriesUpTo, Leaves, LeavesMade, subsection_of}
 use Rattle.reencode_core.specs.Clauses.{SubsectionClauses, SubsectionClausesOf, asks}
 use Rattle.reencode_core.proofs.Made.{PartMade, drawn_made, front_same, one_ended, tree_made, write_unasked}
 use Rattle.reencode_core.proofs.RowsMade.{drawn_rows}
@@ -133,7 +133,7 @@ module _ {V : Type 0} (form : NameFormat V) {S E : Type 0} (i : Ghosts S E) (n :
             ended = p.ended;
             drawn = drawn_made p.front (known.drawn t b.reading.1);
             reading = λ u reads. front_same (ap visits (known.one t u b.reading.1 reads)) p.front;
-            fault = λ none u rest x. absurd x;
+            fault = λ none u rest x. absurd (none t b.reading.1);
           }
 
       kept : (w : Result (Unit {0}) WriteFault) → OnOk w (new ≡ with_row old (framed row head made)) → OnErr w (new ≡ old) → KeepsCode old new
@@ -210,6 +210,7 @@ pub record IsMap {V : Type 0} (form : NameFormat V) (n : V) (id : ℕ) (wrap : T
   pub read : (ts : List Tree) → EntriesLeft (plain_row body) m (rows_tree ts) → (t : Tree) × form.reads n t
   pub item : IsItem (asked_row p body)
   pub of_map : (P : Shape → MapStanding → Type 0) → P (asked_row p body) m → form.of_map n P
+  pub in_map : (P : Shape → MapStanding → Type 0) → form.of_map n P → P (asked_row p body) m
   pub bytes : form.entries n ≡ m.rest
   pub one : (t u : Tree) → form.reads n t → form.reads n u → t ≡ u
 
@@ -222,6 +223,10 @@ pub record IsWrap {S E : Type 0} (asked : Asks S E) (wrap : Tree → Tree) : Typ
 pub no_wrap : {S E : Type 0} (asked : Asks S E) → IsWrap asked (λ t. t)
 no_wrap asked = record { accepts = λ c s m t u h. h; refuses = λ c s m t e h. h; asks_same = λ t. refl }
 
+-- a subsection of an id has rows of one shape
+one_row : (id : ℕ) (r r' : Shape) → MapRow id r → MapRow id r' → r ≡ r'
+one_row id r r' p q = let same : subsection id (Shape.vec r) ≡ subsection id (Shape.vec r') = sym p ∙ q in cc
+
 pub direct_map : {n : Name} {m : MapStanding} (id : ℕ) (p : Space) → MapRow id (asked_row p Shape.name) → content_of n ≡ Content.direct id p m → IsMap core_names n id (λ t. t) p Shape.name m
 direct_map {n = n} {m = m} id p row is = record {
   entries = λ t reads. let Q : Content → Type 0 = λ z. ReadsContent z t in let q = subst Q is reads in (entries_trees q.0, q.1, q.2);
@@ -233,6 +238,11 @@ direct_map {n = n} {m = m} id p row is = record {
       (t, subst Q (sym is) (es.0, subst L es.1 w, refl));
   item = IsItem.entry id _ row;
   of_map = λ P h. let Q : Content → Type 0 = λ z. OfMap z P in subst Q (sym is) (_, row, h);
+  in_map = λ P h.
+      let Q : Content → Type 0 = λ z. OfMap z P in
+      let q = subst Q is h in
+      let R : Shape → Type 0 = λ z. P z m in
+      subst R (one_row id q.0 (asked_row p Shape.name) q.1 row) q.2;
   bytes = ap entries_bytes is;
   one = λ t u p_t p_u.
       let Q : Tree → Content → Type 0 = λ v z. ReadsContent z v in
@@ -252,6 +262,11 @@ indirect_map {n = n} {m = m} id p row is = record {
       (t, subst Q (sym is) (os.0, subst L os.1 w, refl));
   item = IsItem.entry id _ row;
   of_map = λ P h. let Q : Content → Type 0 = λ z. OfMap z P in subst Q (sym is) (_, row, h);
+  in_map = λ P h.
+      let Q : Content → Type 0 = λ z. OfMap z P in
+      let q = subst Q is h in
+      let R : Shape → Type 0 = λ z. P z m in
+      subst R (one_row id q.0 (asked_row p (Shape.vec plain_naming)) q.1 row) q.2;
   bytes = ap entries_bytes is;
   one = λ t u p_t p_u.
       let Q : Tree → Content → Type 0 = λ v z. ReadsContent z v in
@@ -319,7 +334,7 @@ module _ {S E : Type 0} (i : Ghosts S E) {V : Type 0} {form : NameFormat V} {n :
             ended = l.ended;
             drawn = subst P (sym is.bytes) l.drawn;
             reading = λ t reads. let b = is.entries t reads in front_same (sym (ap visits b.2 ∙ wraps.asks_same (inner p b.0))) (l.reading b.0 b.1);
-            fault = λ none t rest f. absurd f;
+            fault = λ none t rest f. l.fault t rest (is.in_map (λ row map. EntriesUpTo row map t rest) f);
           }
 
   -- all entries were accepted, and the map, which takes so many bytes, was added or not

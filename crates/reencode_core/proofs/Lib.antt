@@ -3,6 +3,7 @@ pub mod Known
 pub mod Counts
 pub mod RowLoop
 pub mod NameWalks
+pub mod EntriesAhead
 pub mod NameCalls
 pub mod EachItem
 pub mod EachRow
@@ -17,6 +18,7 @@ pub mod WholeBytes
 pub mod CompactRows
 pub mod Completeness
 pub mod OneRow
+pub mod TypeRow
 pub mod DataRow
 pub mod Group
 pub mod ElementWalks

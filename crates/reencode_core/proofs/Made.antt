@@ -19,7 +19,7 @@ use Rattle.reencode_hooks.proofs.Agrees.{asked_in-append, inv, given}
 use Rattle.reencode_hooks.proofs.Leaving.{never_wants}
 use Rattle.reencode_hooks.proofs.Walks.{moments_asked, walk_is_run, walk_stops}
 use Rattle.reencode_core.specs.Errors.{IfParse, placed_at}
-use Rattle.reencode_core.specs.Leaves.{Ended, EndsBy, IsFront, TellsFault}
+use Rattle.reencode_core.specs.Leaves.{Ended, EndsBy, IsFront, MadeUpTo, TellsFault}
 use Rattle.reencode_core.specs.Rows.{Asks}
 use Rattle.reencode_core.proofs.Counts.{run_then}
 use Rattle.reencode_core.proofs.Usual.{IfParse-map}
@@ -96,6 +96,11 @@ front_first {made = made} ys f = record { rest = f.rest ++ ys; parts = ap (λ (z
 -- of the second, behind the first
 pub front_then : (xs : List Visit) {made ys : List Visit} → IsFront made ys → IsFront (xs ++ made) (xs ++ ys)
 front_then xs {made = made} f = record { rest = f.rest; parts = ap (λ (z : List Visit). xs ++ z) f.parts ∙ sym (append_assoc xs made f.rest) }
+
+-- others behind them, up to a fault
+pub made_then : {E : Type 0} (e : Error E) (xs : List Visit) {made all : List Visit} {rest : List ℕ} → MadeUpTo e made all rest → MadeUpTo e (xs ++ made) (xs ++ all) rest
+made_then e xs (inl h) = inl (h.0, front_then xs h.1)
+made_then e xs {made = made} {all = all} (inr h) = inr (h.0, ap (λ (z : List Visit). xs ++ z) h.1 ∙ sym (append_assoc xs all h.0), h.2)
 
 pub drawn_made : {bytes : List ℕ} {made all : List Visit} → IsFront made all → Drawn bytes all → Drawn bytes made
 drawn_made {bytes = bytes} {made = made} f d = let P : List Visit → Type 0 = λ z. Drawn bytes z in drawn_part made f.rest (subst P f.parts d)

@@ -31,8 +31,9 @@ use Rattle.reencode_core.specs.Rows.{Asks, AcceptsRows, RowsBefore, onto_rows}
 use Rattle.reencode_core.specs.NameMaps.{Asked, entry_of, entries_of, renamed, Calls, ReadTo, CallRefused, Unread, Wants, MapsEntries}
 use Rattle.reencode_core.specs.Names.{EntriesRead, MapFault, StopsMap}
 use Rattle.reencode_core.proofs.BodyLoop.{rows_missing}
-use Rattle.reencode_core.specs.Leaves.{EndsBy, IsFront}
-use Rattle.reencode_core.proofs.Made.{Unasked, ended_all, ended_behind, front_none, front_same, front_then}
+use Rattle.reencode_core.specs.Leaves.{EndsBy, EntriesUpTo, IsFront, MadeUpTo, TellsFault}
+use Rattle.reencode_core.proofs.EntriesAhead.{ahead_one, entries_ahead, none_ahead}
+use Rattle.reencode_core.proofs.Made.{Unasked, ended_all, ended_behind, front_none, front_same, front_then, made_then, tells_none, wants_tells_none}
 use Rattle.reencode_core.proofs.RowsMade.{visits_behind}
 use Rattle.reencode_core.proofs.NameWalks.{left_front}
 use Rattle.reencode_core.proofs.RowLoop.{onto_nothing}
@@ -54,12 +55,14 @@ pub record Quiet {S E : Type 0} (asked : Asks S E) (body : Shape) : Type 0 where
   pub ends : closed (plain_row body) ≡ true
   pub walks : (c : ℕ) (s : S) (t : Tree) → Is body t → walk asked c s t ≡ accepted t s
 
--- These visits were made when an error came: drawn from what the map has left, and of its entries, if it is such, a front part.
+-- These visits were made when an error came: drawn from what the map has left, and of its entries, if it is such, a front part; if it is
+-- none, a front part of those of the entries in front of the fault, or all of these and then some that are drawn from what is left there.
 pub record MapLeaves {S E : Type 0} (asked : Asks S E) (p : Space) (body : Shape) (m : MapStanding) (s : S) (e : Error E) (k : S) : Type 0 where
   pub made : List Visit
   pub ended : EndsBy asked s made e k
   pub drawn : Drawn m.rest made
   pub reading : (ts : List Tree) → EntriesLeft (plain_row body) m (rows_tree ts) → IsFront made (visits (rows_tree (map (asked_in p) ts)))
+  pub fault : (t : Tree) (rest : List ℕ) → EntriesUpTo (asked_row p body) m t rest → MadeUpTo e made (visits t) rest
 
 -- what is drawn from where entries are due is drawn from what the map has left
 pub due_drawn : (m : MapStanding) (n : ℕ) (bytes : List ℕ) (vs : List Visit) → Due m n bytes → Drawn bytes vs → Drawn m.rest vs
@@ -181,12 +184,15 @@ reads_are : {body : Shape} (asks : List Asked) (m n : MapStanding) → ReadTo (p
 reads_are [] m n r = Is.nil
 reads_are (a ∷ asks) m n r = let one = r.1 in Is.cons one.begins.spells.shaped (reads_are asks r.0 n r.2)
 
--- entries that were read, by rows whose index is asked for
+-- an entry that was read, by a row whose index is asked for
+entry_asked : {body : Shape} (p : Space) {m n : MapStanding} {i : ℕ} {t : Tree} → EntryRead (plain_row body) m (entry_of i t) n → EntryRead (asked_row p body) m (Tree.pair (Tree.ix p i) t) n
+entry_asked p one = record { left = one.left; bytes = one.bytes; due = one.due; fits = one.fits; begins = begins_asked p one.begins; counts = one.counts; len = one.len }
+
+-- the same of all that were read
 read_asked : (p : Space) (body : Shape) (asks : List Asked) (m n : MapStanding) → ReadTo (plain_row body) m asks n → EntriesRead (asked_row p body) m (map (asked_in p) (entries_of asks)) n
 read_asked p body [] m n r = r
 read_asked p body (a ∷ asks) m n r =
-    let one = r.1 in
-    (r.0, record { left = one.left; bytes = one.bytes; due = one.due; fits = one.fits; begins = begins_asked p one.begins; counts = one.counts; len = one.len }, read_asked p body asks r.0 n r.2)
+    (r.0, entry_asked p r.1, read_asked p body asks r.0 n r.2)
 
 -- none begins as such a row either, and none are left
 none_asked : {body : Shape} (p : Space) {bytes : List ℕ} → BeginsNone (plain_row body) bytes → BeginsNone (asked_row p body) bytes
@@ -414,8 +420,9 @@ module _ {F S E : Type 0} (step : F → ℕ → Result ℕ (Error E) → F → T
     where
       -- behind the entries that were asked for
       build : (mid : List Visit) → EndsBy asked (see h.between) mid e (see g) → Drawn h.rest.rest mid →
-          ((us : List Tree) → EntriesLeft (plain_row body) h.rest (rows_tree us) → IsFront mid (visits (rows_tree (map (asked_in p) us)))) → MapLeaves asked p body m (see f) e (see g)
-      build mid ended drawn whole =
+          ((us : List Tree) → EntriesLeft (plain_row body) h.rest (rows_tree us) → IsFront mid (visits (rows_tree (map (asked_in p) us)))) →
+          ((u : Tree) (rest : List ℕ) → EntriesUpTo (asked_row p body) h.rest u rest → MadeUpTo e mid (visits u) rest) → MapLeaves asked p body m (see f) e (see g)
+      build mid ended drawn whole up_to =
           let front : List Tree = map (asked_in p) (entries_of h.asked) in
           let walked : walk asked 0 (see f) (rows_tree front) ≡ accepted (rows_tree (map (asked_in p) (renamed h.asked))) (see h.between) =
           calls_walk 0 h.asked f h.between (reads_are h.asked m h.rest h.reads) h.calls Tree.nil in record {
@@ -425,26 +432,38 @@ module _ {F S E : Type 0} (step : F → ℕ → Result ℕ (Error E) → F → T
             reading = λ ts w.
                 let q = parts m h.rest h.asked ts h.reads w in
                 front_same (sym (visits_behind front (rows_tree (map (asked_in p) q.0))) ∙ ap visits q.2) (front_then (visits (rows_tree front)) (whole q.0 q.1));
+            fault = λ t rest at.
+                let a = entries_ahead {row = asked_row p body} quiet.passes quiet.ends front (read_asked p body h.asked m h.rest h.reads) at in
+                let P : List Visit → Type 0 = λ z. MadeUpTo e (visits (rows_tree front) ++ mid) z rest in
+                subst P (sym (ap visits a.1 ∙ visits_behind front a.0)) (made_then e (visits (rows_tree front)) (up_to a.0 rest a.2));
           }
 
       -- nothing more was asked for
-      stands : Unasked e → g ≡ h.between → MapLeaves asked p body m (see f) e (see g)
-      stands u same =
+      stands : Unasked e → g ≡ h.between → ((u : Tree) (rest : List ℕ) → EntriesUpTo (asked_row p body) h.rest u rest → MadeUpTo e [] (visits u) rest) → MapLeaves asked p body m (see f) e (see g)
+      stands u same up_to =
           let ran : run asked (see h.between) [] ≡ accepted [] (see g) = ap (λ (z : F). accepted [] (see z)) (sym same) in
-          build [] (ended_all e u ran) drawn_none (λ us w. front_none (visits (rows_tree (map (asked_in p) us))))
+          build [] (ended_all e u ran) drawn_none (λ us w. front_none (visits (rows_tree (map (asked_in p) us)))) up_to
 
       refused_by : CallRefused (plain_row body) step h.rest h.between g e → MapLeaves asked p body m (see f) e (see g)
       refused_by r =
           let wants : e ≢ NoMemory = λ same. never same h.between r.index g (subst (λ (x : Error E). step h.between r.index (Err x) g) same r.call) in
           let v : Visit = Index p r.index in
+          let call = (one h.between r.index (Err e) g r.call).0 in
+          let tells : ¬ TellsFault e = tells_none e (stops_usual (λ at. ⊥) (asked (see h.between) v) e (see g) (usual (see h.between) r.index) call) in
           build (v ∷ []) (ends (see h.between) (see g) v e ((one h.between r.index (Err e) g r.call).0 wants))
           (due_drawn h.rest (r.read.left + 1) r.read.bytes (v ∷ []) r.read.due (drawn_part (v ∷ []) (visits r.named) (drawn_begun item (begins_asked p r.read.begins))))
           (λ us w. let z = next_part h.rest r.behind r.index r.named us r.read w in front_same (ap visits z.1) (record { rest = visits r.named ++ visits z.0; parts = refl }))
+          (λ u rest at. let a = ahead_one {row = asked_row p body} quiet.passes quiet.ends (entry_asked p r.read) at in inl (tells, front_same (sym (ap visits a.1)) (record { rest = visits r.named ++ visits a.0; parts = refl })))
 
       by : CallRefused (plain_row body) step h.rest h.between g e ⊎ Unread (plain_row body) m h.rest h.between g e ⊎ Wants h.between g e → MapLeaves asked p body m (see f) e (see g)
       by (inl r) = refused_by r
-      by (inr (inl u)) = let P : Error E → Type 0 = λ z. Unasked z in stands (subst P (sym u.parse) tt) u.state
-      by (inr (inr k)) = let P : Error E → Type 0 = λ z. Unasked z in stands (subst P (sym k.memory) tt) k.state
+      by (inr (inl u)) =
+          let P : Error E → Type 0 = λ z. Unasked z in
+          stands (subst P (sym u.parse) tt) u.state (λ t rest at. inr ([], sym (ap (λ (z : Tree). visits z ++ []) (none_ahead (missing_asked p u.missing) at)), drawn_none))
+      by (inr (inr k)) =
+          let P : Error E → Type 0 = λ z. Unasked z in
+          let Q : Error E → Type 0 = λ z. ¬ TellsFault z in
+          stands (subst P (sym k.memory) tt) k.state (λ t rest at. inl (subst Q (sym k.memory) (wants_tells_none E), front_none (visits t)))
 
   -- the same, where the reencoder's last value is known by the name of its reference
   pub gives_map_at : (c : ℕ) (m : MapStanding) (f g : F) (result : Result (List Tree) (Error E)) (last : S) → MapsEntries (plain_row body) step m f g result →

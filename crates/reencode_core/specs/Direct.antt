@@ -1,15 +1,18 @@
 -- The front of a body that was mapped, and what is done with the next operator.
-use Rattle.std.specs.Prelude.{◌≡◌, ℕ, List, true}
-use Rattle.wasm_shapes.specs.Shape.{Shape}
+use Rattle.std.specs.Prelude.{◌≡◌, ℕ, List, IsTrue, true}
+use Rattle.wasm_shapes.specs.Shape.{Shape, Named}
 use Rattle.wasm_shapes.specs.Tree.{Tree}
 use Rattle.wasm_shapes.specs.Place.{Begins}
 use Rattle.wasm_shapes.specs.Types.{vector_tree}
 use Rattle.wasm_read.specs.Operations.{Reading, rest_of}
 use Rattle.wasm_write.specs.Bodies.{Body}
-use Rattle.reencode_hooks.specs.Run.{accepted}
+use Rattle.reencode_hooks.specs.declared.error.Error.{Error}
+use Rattle.reencode_hooks.specs.declared.indices.ReencodeIndices.{Ghosts}
+use Rattle.reencode_hooks.specs.Run.{accepted, ask}
 use Rattle.reencode_hooks.specs.Walk.{walk}
 use Rattle.reencode_items.specs.declared.direct.passing.Next.{Next}
 use Rattle.reencode_items.specs.Direct.{PassesNext}
+use Rattle.reencode_items.specs.Streams.{Stops}
 use Rattle.reencode_core.specs.Rows.{Asks, AcceptsRows, RowsBefore, locals as locals_shape}
 
 -- this is done with the operator at the front of some bytes, by some state in front of it
@@ -34,3 +37,12 @@ pub record MapsFront {S E : Type 0} (asked : Asks S E) (bytes : List ℕ) (first
   pub mid : S
   pub front : (c : ℕ) → AcceptsFront asked c start behind_locals (rest_of reader) mid f.operators
   pub onward : PassesNext asked mid (rest_of reader) s next
+
+-- Whatever group of types stands at the front of some bytes is walked to this one.
+abbrev pub GroupMapped : {S E : Type 0} → Ghosts S E → List ℕ → S → Tree → S → Type 0
+GroupMapped i bytes s made m =
+    IsTrue i.keeps_defaults → (t : Tree) (left : List ℕ) → Begins (Shape.ref Named.group) bytes t left → (c : ℕ) → walk (ask i.reply i.next) c s t ≡ accepted made m
+
+-- Whatever group of types stands there is refused.
+abbrev pub GroupRefused : {S E : Type 0} → Ghosts S E → List ℕ → S → Error E → S → Type 0
+GroupRefused i bytes s e m = Stops i (λ t left. Begins (Shape.ref Named.group) bytes t left) s m e

@@ -1,5 +1,5 @@
 -- What an error leaves: the visits that were made, and the state after them.
-use Rattle.std.specs.Prelude.{◌≡◌, ◌≢◌, ◌⊎◌, ◌<◌, List, [], ◌++◌, ℕ, length, true, Bool, Result, IfErr, IsTrue}
+use Rattle.std.specs.Prelude.{◌≡◌, ◌≢◌, ◌⊎◌, ◌<◌, List, [], ◌++◌, ℕ, length, true, Bool, None, Result, IfErr, IsTrue}
 use Rattle.wasm_leb.specs.Place.{BeginsNoNumber}
 use Rattle.wasm_shapes.specs.declared.SectionId.{SectionId}
 use Rattle.wasm_shapes.specs.declared.Space.{Space}
@@ -13,7 +13,7 @@ use Rattle.wasm_shapes.specs.Types.{rows_tree}
 use Rattle.wasm_shapes.specs.Spells.{Spells}
 use Rattle.wasm_shapes.specs.Module.{body, core_header, row_of, alsos, CoreReading, FaultAt, core_module, name_subsection}
 use Rattle.wasm_read.specs.declared.types.Name.{Name}
-use Rattle.wasm_read.specs.Names.{NamesStanding}
+use Rattle.wasm_read.specs.Names.{Due, MapStanding, NamesStanding, standing_due}
 use Rattle.wasm_read.specs.Reading.{Standing, CountRead}
 use Rattle.reencode_hooks.specs.declared.error.Error.{Error}
 use Rattle.reencode_hooks.specs.declared.error.Error.TheVariants.{InvalidCodeSectionSize, UnexpectedNonCoreModuleSection, UnexpectedNonComponentSection, ParseError, UserError, TooLarge, NoMemory}
@@ -138,9 +138,15 @@ section_in kind bytes = record { bytes = bytes; reads = ReadsAs kind bytes; faul
 
 -- ---- name sections and custom sections
 
+-- Entries of a map stand there one behind another, and then the next one is due and none begins, or bytes are left behind the last; or
+-- the count of the entries is due and none begins.
+pub data EntriesUpTo (row : Shape) (map : MapStanding) : Tree → List ℕ → Type 0 where
+  uncounted : map.left ≡ None → BeginsNoNumber 128 32 32 map.rest → EntriesUpTo row map Tree.nil map.rest
+  entries : (count : ℕ) (start : List ℕ) (t : Tree) (rest : List ℕ) → Due map count start → RowsUpTo row (standing_due map count start) t rest → EntriesUpTo row map t rest
+
 -- one subsection of a format
 abbrev pub subsection_of : {N : Type 0} → NameFormat N → N → Text
-subsection_of f n = record { bytes = f.entries n; reads = f.reads n; faulty = λ t rest. ⊥ }
+subsection_of f n = record { bytes = f.entries n; reads = f.reads n; faulty = λ t rest. f.of_map n (λ row map. EntriesUpTo row map t rest) }
 
 -- one subsection of a name section
 abbrev pub subsection_in : Name → Text

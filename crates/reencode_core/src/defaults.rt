@@ -14,19 +14,33 @@ use wasm_write as w;
 /// To implement it beside `ReencodeItems` is all that is needed, and costs no proof; `impl Reencode for X {}` proves each default
 /// once more for `X`. A reencoder that overrides a method of `Reencode` implements `Reencode` itself.
 pub trait DefaultSections: ReencodeItems {
-    /// Whether function bodies are mapped by `direct::parse_function_body`, which may pass by a method of `ReencodeItems` that is
-    /// overridden. Else they are mapped by these methods: a reencoder that overrides one says `false`.
-    const DIRECT_BODIES: bool;
+    /// Whether function bodies and types are mapped by `direct::parse_function_body` and `direct::parse_type_section`, which may pass
+    /// by a method of `ReencodeItems` that is overridden. Else they are mapped by these methods: a reencoder that overrides one says
+    /// `false`.
+    const DIRECT: bool;
 }
 
 impl<T: DefaultSections> Reencode for T {
+    fn parse_type_section(
+        &mut self,
+        alloc: Global,
+        types: &mut w::TypeSection,
+        section: r::TypeSectionReader<'_>,
+    ) -> Result<(), Error<Self::Error>> {
+        if T::DIRECT {
+            direct::parse_type_section(self, types, section)
+        } else {
+            rows::parse_type_section(self, alloc, types, section)
+        }
+    }
+
     fn parse_function_body(
         &mut self,
         alloc: Global,
         code: &mut w::CodeSection,
         func: r::FunctionBody<'_>,
     ) -> Result<(), Error<Self::Error>> {
-        if T::DIRECT_BODIES {
+        if T::DIRECT {
             direct::parse_function_body(self, alloc, code, func)
         } else {
             rows::parse_function_body(self, alloc, code, func)
@@ -42,7 +56,7 @@ impl<T: DefaultSections> Reencode for T {
 pub trait DefaultReencode: DefaultItems {}
 
 impl<T: DefaultReencode> DefaultSections for T {
-    const DIRECT_BODIES: bool = true;
+    const DIRECT: bool = true;
 }
 
 impl DefaultReencode for RoundtripReencoder {}

@@ -8,19 +8,26 @@ ghost use Rattle.wasm_write.specs.Instructions.{imm_kind, operator_tree};
 ghost use Rattle.wasm_write.specs.declared.fault.WriteFault.TheVariants as write;
 ghost use Rattle.reencode_hooks.specs.Run.{ask};
 ghost use Rattle.reencode_core.specs.Bodies.{GivesBody, KeepsCode};
-ghost use Rattle.reencode_core.specs.Clauses.{BodyClauses};
+ghost use Rattle.reencode_core.specs.Clauses.{BodyClauses, RowClauses, RowsClauses};
+ghost use Rattle.wasm_shapes.specs.declared.SectionId.TheVariants as ids;
+ghost use Rattle.wasm_shapes.specs.Module.{row_of};
+ghost use Rattle.wasm_shapes.specs.Place.{Begins};
+ghost use Rattle.wasm_shapes.specs.Shape.{Shape, Named};
+ghost use Rattle.wasm_shapes.specs.Tree.{Tree};
 ghost use Rattle.reencode_items.specs.Direct.{imm_of};
-ghost use Rattle.reencode_core.specs.Direct.{DealsWith, MapsFront};
+ghost use Rattle.reencode_core.specs.Direct.{DealsWith, GroupMapped, GroupRefused, MapsFront};
 ghost use Rattle.reencode_core.specs.Leaves.{LeavesMade, body_in};
 
 use crate::rows::new_function_with_parsed_locals;
 use reencode_hooks::Error;
 use reencode_items::ReencodeItems;
-use reencode_items::direct::{Fresh, Next, pass_run, skip_locals};
+use reencode_items::direct::{Fresh, Next, pass_run, skip_locals, stream_group};
 use std::alloc::Global;
+use wasm_leb::ReadError;
 use wasm_read as r;
-use wasm_shapes::Opcode;
+use wasm_shapes::{Opcode, kinds};
 use wasm_write as w;
+use wasm_write::AppendRow;
 
 /// Adds the operator of an opcode and an immediate.
 #[inline(always)]
@@ -109,4 +116,60 @@ pub fn parse_function_body<R: ReencodeItems>(
     let mut reader = func.operators()?;
     reader.pass(kept);
     map_rest(reencoder, alloc, code, function, reader, next)
+}
+
+/// The bytes from a group of types on.
+#[derive(Drop)]
+struct Group<'a> {
+    bytes: &'a [u8],
+}
+
+impl<'a, R: ReencodeItems> AppendRow<kinds::Types, R, Error<R::Error>> for Group<'a> {
+    ghost appends = { λ row s t m. GroupMapped R.ReencodeIndices row.bytes.now s t m };
+
+    ghost refuses = { λ row s e m. GroupRefused R.ReencodeIndices row.bytes.now s e m };
+
+    fn append(&self, reencoder: &mut R, out: &mut Vec<u8>) -> Result<(), Error<R::Error>> {
+        match stream_group(reencoder, self.bytes, out) {
+            Ok(Some(_)) => Ok(()),
+            Ok(None) => Err(Error::ParseError(ReadError { at: 0 })),
+            Err(e) => Err(e),
+        }
+    }
+}
+
+/// Maps the group of types that stands at the front of some bytes, and adds it.
+fn parse_group<R: ReencodeItems>(
+    reencoder: &mut R,
+    types: &mut w::TypeSection,
+    bytes: &[u8],
+) -> Result<(), Error<R::Error>>
+    ensures { (t : Tree) (left : List ℕ) → Begins (Shape.ref Named.group) bytes.now t left
+        → RowClauses R.ReencodeIndices t reencoder.old types.old reencoder.new types.new result }
+{
+    match types.append(&Group { bytes }, reencoder) {
+        Ok(true) => Ok(()),
+        Ok(false) => Err(Error::TooLarge { size: 1 << 32 }),
+        Err(e) => Err(e),
+    }
+}
+
+/// Maps the rows that the reader still has as `Reencode::parse_type_section` does by default, and without lists: each group from the
+/// bytes that it stands in to those that it becomes, type by type and parameter by parameter.
+///
+/// A reencoder that keeps the default methods overrides that method by this function, as `DefaultReencode` does. It asks the methods
+/// of `ReencodeItems` for value types, fields, and indices of types, and none of those that hold lists.
+pub fn parse_type_section<R: ReencodeItems>(
+    reencoder: &mut R,
+    types: &mut w::TypeSection,
+    section: r::TypeSectionReader<'_>,
+) -> Result<(), Error<R::Error>>
+    ensures { RowsClauses R.ReencodeIndices (row_of ids.Type_) section.entry
+        reencoder.old types.old reencoder.new types.new result }
+{
+    let mut rows = section;
+    'rows: while let Some(bytes) = rows.next_group()? {
+        parse_group(reencoder, types, bytes)?;
+    }
+    Ok(())
 }

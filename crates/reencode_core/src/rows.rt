@@ -1,11 +1,13 @@
 //! The bodies that call methods of the traits below alone, each once: `utils` has them, and the methods call them.
 ghost use Rattle.std.specs.Prelude.{◌≡◌, ◌≤◌};
 ghost use Rattle.wasm_read.specs.Types as read;
+ghost use Rattle.wasm_shapes.specs.declared.SectionId.TheVariants as ids;
+ghost use Rattle.wasm_shapes.specs.Module.{row_of};
 ghost use Rattle.wasm_write.specs.Rows.{elements_tree};
 ghost use Rattle.wasm_write.specs.Types as write;
 ghost use Rattle.reencode_items.specs.Clauses.{ListClauses};
 ghost use Rattle.reencode_core.specs.Elements.{answered_table, asked_table};
-ghost use Rattle.reencode_core.specs.Clauses.{BodyClauses, LocalsClauses, RowClauses, UnknownClauses};
+ghost use Rattle.reencode_core.specs.Clauses.{BodyClauses, LocalsClauses, RowClauses, RowsClauses, UnknownClauses};
 
 use crate::default_bodies;
 use crate::imports::{compact_items, compact_names};
@@ -36,6 +38,19 @@ pub fn parse_recursive_type_group<T: ReencodeItems>(
         explicit: rec_group.explicit,
         types,
     })
+}
+
+/// Maps the rows that the reader still has, each by `parse_recursive_type_group`, and adds each row once it is mapped.
+pub(crate) fn parse_type_section<T: ReencodeItems>(
+    reencoder: &mut T,
+    alloc: Global,
+    types: &mut w::TypeSection,
+    section: r::TypeSectionReader<'_>,
+) -> Result<(), Error<T::Error>>
+    ensures { RowsClauses T.ReencodeIndices (row_of ids.Type_) section.entry
+        reencoder.old types.old reencoder.new types.new result }
+{
+    default_bodies::each_row!(section, alloc, row => types.group(&parse_recursive_type_group(reencoder, alloc, row)?))
 }
 
 /// Maps an entry of an import section, each type in it by `entity_type`, and adds it.

@@ -11,3 +11,5 @@ pub mod Passing
 pub mod Runs
 pub mod SkippedLocals
 pub mod DirectExpressions
+pub mod TypeParts
+pub mod Streaming

@@ -8,7 +8,9 @@ mod fronts;
 mod passing;
 mod runs;
 mod skipping;
+mod types;
 
 pub use crate::direct::passing::{Fresh, Next};
 pub use crate::direct::runs::pass_run;
 pub use crate::direct::skipping::skip_locals;
+pub use crate::direct::types::stream_group;

@@ -1,16 +1,12 @@
 -- What a refusal of a reencoder of a component comes of, where its bytes have no reading.
-use Rattle.std.proofs.Common.{◌≡◌, ℕ, zero, suc, ◌+◌, ◌≤◌, ◌⊎◌, inl, inr, List, [], true, sym, ◌∙◌, subst, arith}
+use Rattle.std.proofs.Common.{◌≡◌, ℕ, zero, suc, ◌+◌, ◌≤◌, ◌⊎◌, inl, inr, List, [], sym, ◌∙◌, subst, arith}
 use Rattle.wasm_shapes.specs.declared.Visit.{Visit}
-use Rattle.wasm_shapes.specs.Component.{component_section_tree, component_tree}
+use Rattle.wasm_shapes.specs.Component.{component_tree}
 use Rattle.wasm_shapes.specs.ComponentNames.{sort_bytes}
-use Rattle.wasm_shapes.specs.ComponentReadings.{InComponentFrame}
-use Rattle.wasm_shapes.specs.Depth.{opens}
-use Rattle.wasm_shapes.specs.Module.{component_header, core_tree, frame, numbered_frame, CoreReading}
+use Rattle.wasm_shapes.specs.Module.{component_header, core_tree, frame, numbered_frame}
 use Rattle.wasm_shapes.specs.Place.{Begins}
 use Rattle.wasm_shapes.specs.Tree.{Tree}
 use Rattle.wasm_shapes.specs.Types.{rows_tree}
-use Rattle.wasm_shapes.proofs.Nested.{nested}
-use Rattle.wasm_read_component.specs.ComponentPayloads.{has_frame}
 use Rattle.reencode_hooks.specs.declared.error.Error.{Error}
 use Rattle.reencode_hooks.specs.declared.error.Error.TheVariants.{UserError, TooLarge}
 use Rattle.reencode_hooks.specs.declared.indices.ReencodeIndices.{Ghosts}
@@ -24,32 +20,15 @@ use Rattle.reencode_core.specs.Woven.{IsWovenCause}
 use Rattle.reencode_core.proofs.AddsNothing.{no_own}
 use Rattle.reencode_component.specs.Causes.{BeforeFault, BehindFront, CauseBy, OwnInside, StopsBy, StopsInRows, StopsNested}
 use Rattle.reencode_component.specs.ComponentNames.{component_names}
-use Rattle.reencode_component.specs.Components.{FaultAt, Framed, ReadsComponent, ReadsSection}
+use Rattle.reencode_component.specs.Components.{FaultAt, Framed, ComponentReading, ReadsSection}
 use Rattle.reencode_component.specs.WeaveIn.{AcceptsAll, RefusesAmong}
 use Rattle.reencode_component.proofs.ComponentFronts.{reads_or_fails}
 use Rattle.reencode_component.proofs.ComponentLaws.{is_walk, own_never}
+use Rattle.reencode_component.proofs.NestedReadings.{component_back, module_back}
+use Rattle.reencode_component.proofs.NestedSteps.{nested_tree}
 use Rattle.reencode_component.proofs.SectionsAhead.{section_there}
 use Rattle.reencode_tool.specs.Reencoded.{IsRefusal}
 use Rattle.reencode_tool.proofs.Refusals.{MapsWithin, Tells, custom, first_shorter, names_told, numbered, refusal_is_told, row_told, second_shorter}
-
--- ---- nested binaries
-
--- a section that holds a core module, or a component, is read where that has a reading
-module_read : (depth : ℕ) (body : List ℕ) (u : Tree) → depth + 1 ≤ 200 → has_frame 1 ≡ true → CoreReading body u → (t : Tree) × ReadsSection depth (numbered_frame 1 body) t
-module_read depth body u low force r =
-    let p = nested.module_forth depth body u low r in
-    let most : opens (Tree.scope (core_tree u)) + depth ≤ 200 = p.1.most in (
-      component_section_tree 1 (Tree.scope (core_tree u)),
-      record { framed = InComponentFrame.of_id 1 (Tree.scope (core_tree u)) body (omega arith) (omega arith) p.0; shallow = record { most = omega (arith, most) }; in_force = (force, λ q. absurd cc) },
-    )
-
-component_read : (depth : ℕ) (body : List ℕ) (u : Tree) → has_frame 4 ≡ true → ReadsComponent (depth + 1) body u → (t : Tree) × ReadsSection depth (numbered_frame 4 body) t
-component_read depth body u force r =
-    let p = nested.component_forth depth body u r.reading in
-    let most : opens (Tree.scope (component_tree u)) + depth ≤ 200 = p.1.most in (
-      component_section_tree 4 (Tree.scope (component_tree u)),
-      record { framed = InComponentFrame.of_id 4 (Tree.scope (component_tree u)) body (omega arith) (omega arith) p.0; shallow = record { most = omega (arith, most) }; in_force = (force, λ q. r.in_force) },
-    )
 
 -- ---- names
 
@@ -101,7 +80,7 @@ module _ {S E : Type 0} (i : Ghosts S E) (none : (s : S) (v : Visit) → MayAdd 
   abbrev ComponentTold : ℕ → Type 0
   ComponentTold scopes = (depth c : ℕ) (e : Error E) (bytes : List ℕ) (s m : S) → depth + scopes ≡ 200 → IsRefusal e → P s →
       CauseBy (asks i) (added i.adds) c depth (StopsBy (asks i) c depth (StopsNested (asks i) i.adds c depth scopes)) (OwnInside (asks i) i.adds c depth scopes) bytes s m e →
-      ((t : Tree) → ReadsComponent depth bytes t → ⊥) → (Q c bytes e → ⊥) → ⊥
+      ((t : Tree) → ComponentReading depth bytes t → ⊥) → (Q c bytes e → ⊥) → ⊥
 
   component_by : (scopes : ℕ) → NestedTold scopes → ComponentTold scopes
   component_by scopes nested_by depth c e bytes s m whole is b cause bare never =
@@ -117,7 +96,7 @@ module _ {S E : Type 0} (i : Ghosts S E) (none : (s : S) (v : Visit) → MayAdd 
           let B : Tree → Type 0 = λ z. Begins frame rest z left in
           never (behind c depth bytes e before rest f (tells.larger (custom (subst B framed there)) (names_told tells component_names sorted_within p h.1)))
       inside before rest left f x n p there (inr (inr h)) =
-          nested_by depth c e x rest left n m whole is p there (λ t r. f.none.none t left (section_there r there)) h (λ q. never (behind c depth bytes e before rest f q))
+          nested_by depth c e x rest left n m whole is p there (λ t r. f.none.none left t (section_there r there)) h (λ q. never (behind c depth bytes e before rest f q))
 
       own : BehindFront (asks i) (added i.adds) c depth (OwnInside (asks i) i.adds c depth scopes) bytes s m e → ⊥
       own h = let n = h.1 in own_never i none c depth scopes n.0 h.0.at m e n.3
@@ -132,23 +111,21 @@ module _ {S E : Type 0} (i : Ghosts S E) (none : (s : S) (v : Visit) → MayAdd 
 
   nested_told : (scopes : ℕ) → NestedTold scopes
   nested_told zero depth c e f rest left s m whole is b there bare h never = h
-  nested_told (suc scopes) depth c e f rest left s m whole is b there bare (id, body, framed, force, k, push, inl (one, cause)) never =
+  nested_told (suc scopes) depth c e f rest left s m whole is b there bare (id, body, framed, k, push, inl (one, cause)) never =
       let B : Tree → Type 0 = λ z. Begins frame rest z left in
       let R : Tree → Type 0 = λ z. (t : Tree) → ReadsSection depth z t → ⊥ in
       let N : ℕ → Type 0 = λ z. (t : Tree) → ReadsSection depth (numbered_frame z body) t → ⊥ in
-      let F : ℕ → Type 0 = λ z. has_frame z ≡ true in
       let unread : (t : Tree) → ReadsSection depth (numbered_frame 1 body) t → ⊥ = subst N one (subst R framed bare) in
       refusal_is_told tells (tells.opened s k 0 b push) (of_module c e body k m is cause)
-      (λ t r. let p = module_read depth body t (omega (arith, whole)) (subst F one force) r in absurd (unread p.0 p.1))
+      (λ t r. absurd (unread (nested_tree 1 (core_tree t)) (module_back depth body (omega (arith, whole)) t r)))
       (λ q. never (tells.larger (numbered (subst B framed there)) q))
-  nested_told (suc scopes) depth c e f rest left s m whole is b there bare (id, body, framed, force, k, push, inr (four, cause)) never =
+  nested_told (suc scopes) depth c e f rest left s m whole is b there bare (id, body, framed, k, push, inr (four, cause)) never =
       let B : Tree → Type 0 = λ z. Begins frame rest z left in
       let R : Tree → Type 0 = λ z. (t : Tree) → ReadsSection depth z t → ⊥ in
       let N : ℕ → Type 0 = λ z. (t : Tree) → ReadsSection depth (numbered_frame z body) t → ⊥ in
-      let F : ℕ → Type 0 = λ z. has_frame z ≡ true in
       let unread : (t : Tree) → ReadsSection depth (numbered_frame 4 body) t → ⊥ = subst N four (subst R framed bare) in
       component_by scopes (nested_told scopes) (depth + 1) c e body k m (omega (arith, whole)) is (tells.opened s k 0 b push) cause
-      (λ t r. let p = component_read depth body t (subst F four force) r in unread p.0 p.1)
+      (λ t r. unread (nested_tree 4 (component_tree t)) (component_back depth body t r))
       (λ q. never (tells.larger (numbered (subst B framed there)) q))
 
   -- a refusal is told, whether the bytes have a reading or not

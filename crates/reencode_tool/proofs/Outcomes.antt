@@ -30,7 +30,7 @@ use Rattle.reencode_core.specs.Weave.{added}
 use Rattle.reencode_component.specs.Causes.{CauseBy, IfFault, inside, own_inside}
 use Rattle.reencode_component.specs.ComponentLaws.{IsOfBytes}
 use Rattle.reencode_component.specs.ComponentLeaves.{NoComponentHeading}
-use Rattle.reencode_component.specs.Components.{ReadsComponent}
+use Rattle.reencode_component.specs.Components.{ComponentReading}
 use Rattle.reencode_component.specs.Within.{ComponentBytesClauses, HasComponentHeading}
 use Rattle.reencode_component.specs.WithinLaws.{ErrorTells, OutputIsTaken}
 use Rattle.reencode_component.proofs.ComponentLaws as components
@@ -232,7 +232,7 @@ module _ {A : Type 0} (c : ℕ) (rs : Renamers) (bytes : List ℕ) {m : State rs
 spelled_by : (k : Taken) (bytes : List ℕ) (t : Tree) → Reads k bytes t → Spelled t bytes
 spelled_by Modules bytes t p = p.spelled
 spelled_by Binaries bytes t (inl p) = p.spelled
-spelled_by Binaries bytes t (inr (u, q, r)) = let P : Tree → Type 0 = λ z. Spelled z bytes in subst P (sym q) (component_headed.forth 0 bytes u r.reading).0.spelled
+spelled_by Binaries bytes t (inr (u, q, r)) = let P : Tree → Type 0 = λ z. Spelled z bytes in subst P (sym q) (component_headed.forth 0 bytes u r).0.spelled
 
 module _ {A : Type 0} (k : Taken) (c : ℕ) (rs : Renamers) (bytes : List ℕ) (m : State rs) (view : A → List ℕ) where
   -- the walk over a reading was refused
@@ -311,7 +311,7 @@ Caused c rs bytes m e =
 -- where nothing is renamed, a component's bytes are longer than the ceiling
 abbrev IsLong : ℕ → List ℕ → Renamers → Type 0
 IsLong c bytes rs =
-    (m : State rs) (e : Error (Lack rs)) → IsRefusal e → Caused c rs bytes m e → ((t : Tree) → ReadsComponent 0 bytes t → walk (asks_of rs) c (begun rs) (component_tree t) ≡ refused e m) → c < length bytes
+    (m : State rs) (e : Error (Lack rs)) → IsRefusal e → Caused c rs bytes m e → ((t : Tree) → ComponentReading 0 bytes t → walk (asks_of rs) c (begun rs) (component_tree t) ≡ refused e m) → c < length bytes
 
 long_alone : (c : ℕ) (bytes : List ℕ) → IsLong c bytes (Alone no_renaming)
 long_alone c bytes m e is cause reads = go (less_or_not c (length bytes))
@@ -320,7 +320,7 @@ long_alone c bytes m e is cause reads = go (less_or_not c (length bytes))
     go (inr t) = t
     go (inl never) =
         absurd (component_is_told (hooks_of (Alone no_renaming)) (λ s v h. refl) blank_tells 200 0 c e bytes no_renaming m refl is blank_new cause
-        (λ t r. never (only_large c (component_tree t) bytes blank_new (component_headed.forth 0 bytes t r.reading).0.spelled (reads t r)).long)
+        (λ t r. never (only_large c (component_tree t) bytes blank_new (component_headed.forth 0 bytes t r).0.spelled (reads t r)).long)
         (λ l. never l.long))
 
 module _ {A : Type 0} (c : ℕ) (rs : Renamers) (bytes : List ℕ) (m : State rs) (view : A → List ℕ) where
@@ -334,7 +334,7 @@ module _ {A : Type 0} (c : ℕ) (rs : Renamers) (bytes : List ℕ) (m : State rs
       cause : Caused c rs bytes m (error.TooLarge size)
       cause = caused (g.component h)
 
-      reads : (t : Tree) → ReadsComponent 0 bytes t → walk (asks_of rs) c (begun rs) (component_tree t) ≡ refused (error.TooLarge size) m
+      reads : (t : Tree) → ComponentReading 0 bytes t → walk (asks_of rs) c (begun rs) (component_tree t) ≡ refused (error.TooLarge size) m
       reads t r = walked Binaries c rs bytes m view (error.TooLarge size) g (λ same. cc) (component_tree t) (inr (t, refl, r))
 
       go : (Told rs c (error.TooLarge size) → ⊥) ⊎ Told rs c (error.TooLarge size) → Told rs c (error.TooLarge size)

@@ -3,7 +3,8 @@ use Rattle.std.specs.Prelude.{ℕ, List}
 use Rattle.wasm_leb.specs.declared.fault.Fault.{Fault}
 use Rattle.wasm_shapes.specs.Tree.{Tree}
 use Rattle.reencode_hooks.specs.declared.indices.ReencodeIndices.{Ghosts}
-use Rattle.reencode_component.specs.WithinLaws.{Promises, Taking, as_binary, as_module, of_binary, of_module}
+use Rattle.reencode_component.specs.ComponentLaws.{Taking}
+use Rattle.reencode_component.specs.WithinLaws.{Promises, as_binary, as_module, of_binary, of_module}
 use Rattle.reencode_tool.specs.declared.taken.Taken.{Taken}
 use Rattle.reencode_tool.specs.declared.taken.Taken.TheVariants.{Modules, Binaries}
 

@@ -14,6 +14,7 @@ pub mod Missing
 pub mod HeapTypes
 pub mod Limits
 pub mod TypeRows
+pub mod BehindTypes
 pub mod DataSegments
 pub mod NameMaps
 pub mod Subsections

@@ -1,6 +1,7 @@
 //! Readers of a core module. They borrow the bytes, and copy none of them.
 #![tactic(auto)]
 
+mod behind_groups;
 mod code;
 mod compact;
 mod data_segments;
@@ -21,6 +22,7 @@ mod types;
 mod value_types;
 mod vector_items;
 
+pub use behind_groups::behind_group;
 pub use compact::{CompactItems, CompactNames, VecItems};
 pub use expressions::ConstExpr;
 pub use externals::{front_type_ref, read_type_ref};
@@ -45,5 +47,5 @@ pub use types::{
     Payload, RecGroup, RefType, StorageType, StructType, SubType, Table, TableInit, TableType,
     TagKind, TagType, TypeRef, UnpackedIndex, ValType,
 };
-pub use value_types::{front_val_type, read_val_type};
+pub use value_types::{front_field_type, front_val_type, read_val_type};
 pub use vector_items::{Entry, SmallEntry, behind_rows, front_rows};

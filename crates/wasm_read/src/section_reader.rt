@@ -2,13 +2,16 @@
 ghost use Rattle.std.specs.Prelude.{◌≡◌, ℕ, List, Bool, true, false, IfOk, IfErr, IfSome, IfNone, IsTrue};
 ghost use Rattle.wasm_leb.specs.Place.{BeginsNoNumber};
 ghost use Rattle.wasm_shapes.specs.Place.{Begins, BeginsNone};
+ghost use Rattle.wasm_shapes.specs.Shape.{Shape, Named};
 ghost use Rattle.wasm_shapes.specs.Tree.{Tree};
 ghost use Rattle.wasm_read.specs.Reading.{place_of, ReadsNone, ReadsNoneIf, CountRead, RowRead, RowMissing, RowsEnded};
 
+use crate::behind_groups::behind_group;
 use crate::rows::Rows;
 use std::alloc::Global;
 use std::marker::{Model, PhantomData};
 use wasm_leb::{Fault, NoMemory};
+use wasm_shapes::kinds;
 use wasm_shapes::kinds::RowKind;
 
 /// A kind of rows that can be read.
@@ -105,6 +108,30 @@ impl<'a, K: ReadRow<'a>> SectionReader<'a, K> {
                 }
                 Ok(None) => Err(self.rows.refusal()),
                 Err(NoMemory) => Err(Fault::NoMemory),
+            },
+            Ok(None) => Ok(None),
+            Err(fault) => Err(fault),
+        }
+    }
+}
+
+impl<'a> SectionReader<'a, kinds::Types> {
+    /// As `next_row`, but the row is answered by the bytes from it on, and takes no memory.
+    pub fn next_group(&mut self) -> Result<Option<&'a [u8]>, Fault>
+        ensures row { IfOk result (λ o. IfSome o (λ bytes. (bytes.now ≡ self.old.rest)
+            × ((t : Tree) × RowRead (Shape.ref Named.group) self.old t self.new))) }
+        ensures ended { IfOk result (λ o. IfNone o (RowsEnded self.old self.new)) }
+        ensures err { IfErr result (λ e. ReadsNone e (place_of self.old)
+            (RowMissing (Shape.ref Named.group) self.old)) }
+        ensures stays { IfErr result (λ _. self.new ≡ self.old) }
+    {
+        match self.rows.due() {
+            Ok(Some(bytes)) => match behind_group(bytes) {
+                Some(rest) => {
+                    self.rows.advance(rest);
+                    Ok(Some(bytes))
+                }
+                None => Err(self.rows.refusal()),
             },
             Ok(None) => Ok(None),
             Err(fault) => Err(fault),

@@ -61,6 +61,22 @@ impl<'a> SmallEntry<'a> for ValType {
     }
 }
 
+impl<'a> SmallEntry<'a> for FieldType {
+    fn small(bytes: &'a [u8]) -> Option<(FieldType, &'a [u8])> {
+        front_field_type(bytes)
+    }
+}
+
+impl<'a> SmallEntry<'a> for UnpackedIndex {
+    #[tactic(auto, using(wasm_shapes::proofs::Begins::begins_ix))]
+    fn small(bytes: &'a [u8]) -> Option<(UnpackedIndex, &'a [u8])> {
+        match front_u32(bytes) {
+            Some((index, rest)) => Some((UnpackedIndex::Module(index), rest)),
+            None => None,
+        }
+    }
+}
+
 impl<'a> SmallEntry<'a> for (u32, ValType) {
     fn small(bytes: &'a [u8]) -> Option<((u32, ValType), &'a [u8])> {
         front_local(bytes)

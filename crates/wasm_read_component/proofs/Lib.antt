@@ -7,5 +7,4 @@ pub mod CoreTypeRows
 pub mod NestedRows
 pub mod ScopeRows
 pub mod ScopedRows
-pub mod PayloadFrames
 pub mod TypeDepth

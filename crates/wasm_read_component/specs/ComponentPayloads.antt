@@ -1,13 +1,12 @@
 -- The frames of the sections of a component: what a payload stands for, and what the reader of payloads promises.
-use Rattle.std.specs.Prelude.{◌≡◌, ◌≢◌, ℕ, ◌<◌, ◌≤◌, List, [], ◌++◌, length, Bool, true, nat_le}
+use Rattle.std.specs.Prelude.{◌≡◌, ◌≢◌, ℕ, ◌<◌, ◌≤◌, List, [], ◌++◌, length}
 use Rattle.wasm_leb.specs.declared.fault.Fault.{Fault}
 use Rattle.wasm_leb.specs.declared.fault.Fault.TheVariants as fault
 use Rattle.wasm_leb.specs.declared.fault.Kind.TheVariants as kind
 use Rattle.wasm_shapes.specs.Tree.{Tree}
-use Rattle.wasm_shapes.specs.Place.{Begins}
+use Rattle.wasm_shapes.specs.Place.{BeginsNone}
 use Rattle.wasm_shapes.specs.Module.{component_header, core_header, custom_frame, frame, numbered_frame}
-use Rattle.wasm_read.specs.Frames.{Sections, frame_tree}
-use Rattle.wasm_read.specs.declared.types.Payload.{Payload}
+use Rattle.wasm_read.specs.Frames.{Sections}
 use Rattle.wasm_read_component.specs.declared.types.ComponentPayload.{ComponentPayload}
 use Rattle.wasm_read_component.specs.declared.types.ComponentPayload.TheVariants as payload
 
@@ -29,33 +28,18 @@ component_payload_at (payload.Component at bytes) = at
 component_payload_at (payload.Custom at section) = at
 component_payload_at (payload.Unknown at id contents) = at
 
--- whether a section may have this id
-abbrev pub has_frame : ℕ → Bool
-has_frame id = nat_le id 127
-
 -- a payload that a reader gives: a core module or a component, another of a kind below 12, a custom one, or of an id that no table knows
 abbrev pub IsGiven : ComponentPayload → Type 0
 IsGiven (payload.Module at bytes) = Unit {0}
 IsGiven (payload.Component at bytes) = Unit {0}
 IsGiven (payload.Custom at section) = Unit {0}
-IsGiven (payload.Section id at body) = (has_frame id ≡ true) × (id < 12) × (id ≢ 1) × (id ≢ 4)
-IsGiven (payload.Unknown at id contents) = (has_frame id ≡ true) × (12 ≤ id)
+IsGiven (payload.Section id at body) = (id < 12) × (id ≢ 1) × (id ≢ 4)
+IsGiven (payload.Unknown at id contents) = 12 ≤ id
 IsGiven _ = ⊥
 
--- no frame of such an id begins there
-pub record BeginsNoFrame (bytes : List ℕ) : Type 0 where
-  pub none : (id : ℕ) (body left : List ℕ) → has_frame id ≡ true → Begins frame bytes (numbered_frame id body) left → ⊥
-  pub no_custom : (name contents left : List ℕ) → Begins frame bytes (custom_frame name contents) left → ⊥
-
--- what a frame holds is of no such id
-abbrev pub HasNoFrame : Payload → Type 0
-HasNoFrame p =
-    ((id : ℕ) (body : List ℕ) → has_frame id ≡ true → frame_tree p ≢ numbered_frame id body)
-    × ((name contents : List ℕ) → frame_tree p ≢ custom_frame name contents)
-
--- none begins where bytes are left, and the error holds the place
+-- no frame begins where bytes are left, and the error holds the place
 abbrev pub NoComponentFrame : Fault → List ℕ → ℕ → Type 0
-NoComponentFrame (fault.Read e) bytes at = (e.at ≡ at) × BeginsNoFrame bytes × (bytes ≢ [])
+NoComponentFrame (fault.Read e) bytes at = (e.at ≡ at) × BeginsNone frame bytes × (bytes ≢ [])
 NoComponentFrame _ bytes at = ⊥
 
 -- The header was read, and the sections are left behind it.

@@ -1,9 +1,9 @@
 //! The sections of a component, frame by frame.
-ghost use Rattle.std.specs.Prelude.{◌≡◌, [], false, IfOk, IfErr, IfSome, IfNone};
+ghost use Rattle.std.specs.Prelude.{◌≡◌, [], IfOk, IfErr, IfSome, IfNone};
 ghost use Rattle.wasm_shapes.specs.Module.{frame, numbered_frame};
 ghost use Rattle.wasm_shapes.specs.Place.{Begins};
 ghost use Rattle.wasm_read.specs.Frames.{frame_tree, payload_at, section_number, sections_place};
-ghost use Rattle.wasm_read_component.specs.ComponentPayloads.{component_frame_tree, component_payload_at, has_frame, BeginsNoFrame, ComponentHeaderRead, HasNoFrame, IsGiven, NoComponentFrame, NoComponentHeader};
+ghost use Rattle.wasm_read_component.specs.ComponentPayloads.{component_frame_tree, component_payload_at, ComponentHeaderRead, IsGiven, NoComponentFrame, NoComponentHeader};
 
 use crate::types::ComponentPayload;
 use std::marker::Model;
@@ -75,10 +75,10 @@ impl<'a> ComponentPayloads<'a> {
             return Ok(None);
         }
         let at = self.place();
-        match front_payload(self.rest, at) {
+        match front_frame(self.rest, at) {
             Some((payload, rest)) => {
                 self.rest = rest;
-                Ok(Some(payload))
+                Ok(Some(of_frame(payload)))
             }
             None => Err(Fault::Read(ReadError { at })),
         }
@@ -92,70 +92,33 @@ fn id_of_kind(kind: SectionId) -> u8
     kind as u8
 }
 
-/// Whether a section may have this id.
-fn has_frame(id: u8) -> bool
-    ensures { result ≡ has_frame id }
+/// The section of this id.
+fn of_id(id: u8, at: usize, body: &[u8]) -> ComponentPayload<'_>
+    ensures tree { component_frame_tree result ≡ numbered_frame id body.now }
+    ensures at { component_payload_at result ≡ at }
+    ensures given { IsGiven result }
 {
-    id <= 127
-}
-
-/// The section of this id, where it is below 128.
-fn of_id(id: u8, at: usize, body: &[u8]) -> Option<ComponentPayload<'_>>
-    ensures tree { IfSome result (λ p. component_frame_tree p ≡ numbered_frame id body.now) }
-    ensures at { IfSome result (λ p. component_payload_at p ≡ at) }
-    ensures given { IfSome result (λ p. IsGiven p) }
-    ensures none { IfNone result (has_frame id ≡ false) }
-{
-    if !has_frame(id) {
-        return None;
-    }
+    let (bytes, contents) = (body, body);
     if id == 1 {
-        let bytes = body;
-        return Some(ComponentPayload::Module { at, bytes });
+        ComponentPayload::Module { at, bytes }
+    } else if id == 4 {
+        ComponentPayload::Component { at, bytes }
+    } else if id < 12 {
+        ComponentPayload::Section { id, at, body }
+    } else {
+        ComponentPayload::Unknown { at, id, contents }
     }
-    if id == 4 {
-        let bytes = body;
-        return Some(ComponentPayload::Component { at, bytes });
-    }
-    if id < 12 {
-        return Some(ComponentPayload::Section { id, at, body });
-    }
-    let contents = body;
-    Some(ComponentPayload::Unknown { at, id, contents })
 }
 
-/// The section that stands in a frame, where its id is below 128.
-fn of_frame(payload: Payload<'_>) -> Option<ComponentPayload<'_>>
-    ensures tree { IfSome result (λ p. component_frame_tree p ≡ frame_tree payload.entry) }
-    ensures at { IfSome result (λ p. component_payload_at p ≡ payload_at payload.entry) }
-    ensures given { IfSome result (λ p. IsGiven p) }
-    ensures none { IfNone result (HasNoFrame payload.entry) }
+/// The section that stands in a frame.
+fn of_frame(payload: Payload<'_>) -> ComponentPayload<'_>
+    ensures tree { component_frame_tree result ≡ frame_tree payload.entry }
+    ensures at { component_payload_at result ≡ payload_at payload.entry }
+    ensures given { IsGiven result }
 {
     match payload {
-        Payload::Section { id, at, body } => match of_id(id_of_kind(id), at, body) {
-            Some(payload) => Some(payload),
-            None => None,
-        },
-        Payload::Unknown { at, id, contents } => match of_id(id, at, contents) {
-            Some(payload) => Some(payload),
-            None => None,
-        },
-        Payload::Custom { at, section } => Some(ComponentPayload::Custom { at, section }),
-    }
-}
-
-/// The section at the front of some bytes, which stand at a place, and the bytes behind it.
-fn front_payload(bytes: &[u8], at: usize) -> Option<(ComponentPayload<'_>, &[u8])>
-    ensures some { IfSome result (λ r. Begins frame bytes.now (component_frame_tree r.0) r.1.now) }
-    ensures at { IfSome result (λ r. component_payload_at r.0 ≡ at) }
-    ensures given { IfSome result (λ r. IsGiven r.0) }
-    ensures none { IfNone result (BeginsNoFrame bytes.now) }
-{
-    let Some((payload, rest)) = front_frame(bytes, at) else {
-        return None;
-    };
-    match of_frame(payload) {
-        Some(payload) => Some((payload, rest)),
-        None => None,
+        Payload::Section { id, at, body } => of_id(id_of_kind(id), at, body),
+        Payload::Unknown { at, id, contents } => of_id(id, at, contents),
+        Payload::Custom { at, section } => ComponentPayload::Custom { at, section },
     }
 }

@@ -84,7 +84,7 @@ mutable_is : (m : Bool) → Is (Shape.or (Shape.fixed 0) (Shape.or (Shape.fixed 
 mutable_is false = Is.first Is.fixed
 mutable_is true = Is.later {k = 0} (Is.first Is.fixed)
 
-field_is : (ty : FieldType) → Is field (field_type_tree ty)
+pub field_is : (ty : FieldType) → Is field (field_type_tree ty)
 field_is ty = Is.seq (storage_is ty.element_type) (mutable_is ty.mutable)
 
 -- ---- composite types

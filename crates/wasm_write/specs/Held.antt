@@ -1,5 +1,5 @@
 -- The rows that some bytes spell.
-use Rattle.std.specs.Prelude.{◌≡◌, ℕ, List, length, true}
+use Rattle.std.specs.Prelude.{◌≡◌, ℕ, ◌+◌, ◌^◌, ◌<◌, Bool, List, [], ◌∷◌, ◌++◌, length, true, false}
 use Rattle.std.specs.Coded.{Coded-set}
 use Rattle.std.proofs.Common.{sym, ap, ◌∙◌}
 use mathlib.Core.HLevel.{Σ_prop_path}
@@ -28,6 +28,11 @@ pub record AreHeld (shape : Shape) (count : ℕ) (bytes : List ℕ) (rows : List
 -- there are such rows
 abbrev pub Held : Shape → ℕ → List ℕ → Type 0
 Held shape count bytes = (rows : List Tree) × ∥ AreHeld shape count bytes rows ∥₁
+
+-- A row of which a fact holds was added; or it is one too many, and nothing was.
+abbrev pub AddsIf : (Tree → Type 0) → List Tree → List Tree → Bool → Type 0
+AddsIf P old new true = (t : Tree) × P t × (new ≡ old ++ t ∷ []) × (length old + 1 < 2 ^ 32)
+AddsIf P old new false = (t : Tree) × P t × (new ≡ old) × (length old + 1 ≡ 2 ^ 32)
 
 -- where a shape passes the test, its rows are told apart by their bytes
 pub rows_are_one : {shape : Shape} {n m : ℕ} {bytes : List ℕ} {rows others : List Tree} → sound (Shape.many shape) ≡ true →

@@ -36,7 +36,7 @@ pub use instructions::Instruction;
 pub use module::Module;
 pub use name_section::NameSection;
 pub use names::{IndirectNameMap, NameMap};
-pub use row_section::{RowOf, RowSection};
+pub use row_section::{AppendRow, RowOf, RowSection};
 pub use section::Section;
 pub use sections::{
     DataSection, ElementSection, ExportSection, FunctionSection, GlobalSection, ImportSection,
@@ -51,5 +51,5 @@ pub use types::{
     Ordering, RecGroup, RefType, StorageType, StructType, SubType, TableType, TagKind, TagType,
     ValType,
 };
-pub use value_types::write_val_type;
+pub use value_types::{write_byte, write_field_type, write_val_type};
 pub use vectors::{ItemOf, write_rows, write_vec};

@@ -7,7 +7,7 @@ ghost use Rattle.wasm_shapes.specs.Spells.{Spells};
 ghost use Rattle.wasm_shapes.specs.Fits.{InRange};
 ghost use Rattle.wasm_write.specs.Counts.{counts, IsTooLarge};
 ghost use Rattle.wasm_write.specs.Faults.{IfTooLarge};
-ghost use Rattle.wasm_write.specs.Held.{BodySpells, Held, Held-prop};
+ghost use Rattle.wasm_write.specs.Held.{AddsIf, BodySpells, Held, Held-prop};
 
 use crate::fault::WriteFault;
 use crate::fields::write_behind;
@@ -32,6 +32,22 @@ pub trait RowOf<K: RowKind> {
             (∥ Spells K.shape (normal (tree self.now)) (tree self.now) ∥₁) }
         ensures err { OnErr result (take (vec_len out.old) out.new.items ≡ out.old.items) }
         ensures large { IfErr result (λ e. IfTooLarge e (IsTooLarge (counts (tree self.now)))) };
+}
+
+/// What appends a row of a kind with the help of a context, as of a reencoder that it asks.
+pub trait AppendRow<K: RowKind, C, E> {
+    // What the context was, the row that was appended, and what the context is then.
+    ghost appends: { Self → C → Tree → C → Type 0 };
+
+    // What the context was, the refusal, and what the context is then.
+    ghost refuses: { Self → C → E → C → Type 0 };
+
+    /// Appends a row, or a part of it where that is refused.
+    fn append(&self, context: &mut C, out: &mut Vec<u8>) -> Result<(), E>
+        ensures ok { OnOk result ((t : Tree) × (out.new.items ≡ out.old.items ++ normal t)
+            × ∥ Spells K.shape (normal t) t ∥₁ × appends self.now context.old t context.new) }
+        ensures err { OnErr result (take (vec_len out.old) out.new.items ≡ out.old.items) }
+        ensures refused { IfErr result (λ e. refuses self.now context.old e context.new) };
 }
 
 /// A section whose body is a vector of rows (WebAssembly Core Specification 3.0, section 5.5.2).
@@ -121,6 +137,38 @@ impl<K: RowKind> RowSection<K> {
             Err(fault) => {
                 self.bytes.truncate(len);
                 Err(fault)
+            }
+        }
+    }
+}
+
+impl<K: RowKind> RowSection<K> {
+    /// Adds the row that is appended, and says whether: not where the number of rows would be above 2^32 - 1. A refusal changes
+    /// nothing.
+    pub fn append<C, E, A: AppendRow<K, C, E>>(
+        &mut self,
+        row: &A,
+        context: &mut C,
+    ) -> Result<bool, E>
+        ensures ok { IfOk result
+            (λ added. AddsIf (λ t. A.appends row.now context.old t context.new)
+            self.old self.new added) }
+        ensures err { OnErr result (self.new ≡ self.old) }
+        ensures refused { IfErr result (λ e. A.refuses row.now context.old e context.new) }
+    {
+        let len = self.bytes.len();
+        match row.append(context, &mut self.bytes) {
+            Ok(()) => {
+                if self.count == u32::MAX {
+                    self.bytes.truncate(len);
+                    return Ok(false);
+                }
+                self.count += 1;
+                Ok(true)
+            }
+            Err(e) => {
+                self.bytes.truncate(len);
+                Err(e)
             }
         }
     }

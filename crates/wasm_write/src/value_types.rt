@@ -102,7 +102,7 @@ fn write_nullable(out: &mut Vec<u8>, ty: HeapType) -> Result<(), NoMemory>
 
 /// Appends a byte, or nothing.
 #[inline(always)]
-pub(crate) fn write_byte(out: &mut Vec<u8>, byte: u8) -> Result<(), NoMemory>
+pub fn write_byte(out: &mut Vec<u8>, byte: u8) -> Result<(), NoMemory>
     ensures ok { OnOk result (out.new.items ≡ out.old.items ++ byte ∷ []) }
     ensures err { OnErr result (out.new.items ≡ out.old.items) }
 {
@@ -155,7 +155,7 @@ fn write_storage_type(out: &mut Vec<u8>, ty: StorageType) -> Result<(), NoMemory
 }
 
 /// Appends a field, or a part of it where memory runs out.
-pub(crate) fn write_field_type(out: &mut Vec<u8>, ty: FieldType) -> Result<(), NoMemory>
+pub fn write_field_type(out: &mut Vec<u8>, ty: FieldType) -> Result<(), NoMemory>
     ensures ok { OnOk result (out.new.items ≡ out.old.items ++ normal (field_type_tree ty)) }
     ensures in_range { OnOk result (InRange (field_type_tree ty)) }
     ensures err { OnErr result (take (vec_len out.old) out.new.items ≡ out.old.items) }

@@ -4,11 +4,11 @@ use Rattle.reencode_component.proofs.component_sections.scoped_rows.Goals as goa
 
 pub returns-in-Ok : goal.returns-in-Ok
 returns-in-Ok g c =
-    let kind = section_rows g.met.K.ComponentSectionKind.is_body c.requires.in_force g.K.RowKind.is_sound g.K.RowKind.is_closed in
+    let kind = section_rows g.met.K.ComponentSectionKind.is_body g.K.RowKind.is_sound g.K.RowKind.is_closed in
     let read = c.in-Ok.ensures.ok in
     scoped_mapped g.T.ReencodeIndices c.args.depth c.requires.deep kind c.args.body.now c.args.at _ _ c.new-section.ensures read.0 read.1 (rw c.requires.same at c.map-mapped.ensures) c.add_rows.ensures
 
 pub returns-in-Err : goal.returns-in-Err
 returns-in-Err g c =
-    let kind = section_rows g.met.K.ComponentSectionKind.is_body c.requires.in_force g.K.RowKind.is_sound g.K.RowKind.is_closed in
+    let kind = section_rows g.met.K.ComponentSectionKind.is_body g.K.RowKind.is_sound g.K.RowKind.is_closed in
     section_unread g.T.ReencodeIndices c.args.depth c.requires.deep kind c.args.body.now c.args.at _ c.in-Err.ensures.err

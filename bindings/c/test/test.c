@@ -1,0 +1,346 @@
+/* Runs cases through the calls, in room of exactly the wanted length.
+
+   test cases          lines of standard input, each CALL CEILING STRICT ENTRIES HEX, are run, and what came is printed: the status,
+                       the length, the place, the size, the space, the index, and the output in hexadecimal. CALL is plain, rename,
+                       answer (by the entries, at each visit) or visits (printed as KIND:SPACE:COUNT:INDEX); ENTRIES are
+                       SPACE:FROM:TO behind commas, or -; HEX is the digits, - for none, or @FILE for a binary
+   test memory         the same lines; each request for memory of a call is refused in turn (built with -DREFUSING)
+   test threads        the same lines, in four threads at once
+
+   It ends with status 1 where room was written that is not to be, a length was wrong, a block was left, or runs differ. */
+#define _POSIX_C_SOURCE 200809L
+#include "hyssopplinth.h"
+#include <ctype.h>
+#include <pthread.h>
+#include <string.h>
+
+/* ---- What the header says of the structs: that they lie as the library has them shows each run. */
+#if defined(__STDC_VERSION__) && __STDC_VERSION__ >= 201112L
+_Static_assert(sizeof(struct reencode_entry) == 12, "entry");
+_Static_assert(offsetof(struct reencode_entry, from) == 4 && offsetof(struct reencode_entry, to) == 8, "entry");
+_Static_assert(sizeof(struct reencode_visit) == 16, "visit");
+_Static_assert(offsetof(struct reencode_visit, space) == 4 && offsetof(struct reencode_visit, count) == 8, "visit");
+_Static_assert(offsetof(struct reencode_visit, index) == 12, "visit");
+_Static_assert(sizeof(struct reencode_outcome) == 64 && sizeof(size_t) == 8, "outcome");
+_Static_assert(offsetof(struct reencode_outcome, length) == 0 && offsetof(struct reencode_outcome, place) == 8, "outcome");
+_Static_assert(offsetof(struct reencode_outcome, size) == 16 && offsetof(struct reencode_outcome, status) == 24, "outcome");
+_Static_assert(offsetof(struct reencode_outcome, space) == 28 && offsetof(struct reencode_outcome, index) == 32, "outcome");
+_Static_assert(offsetof(struct reencode_outcome, spare) == 36 && offsetof(struct reencode_outcome, spares) == 40, "outcome");
+#endif
+
+static int failed;
+
+static void fail(const char *what, unsigned long line) {
+    fprintf(stderr, "case %lu: %s\n", line, what);
+    failed = 1;
+}
+
+#ifdef REFUSING
+/* The library's three calls for memory, of which one is refused. */
+struct given {
+    uint64_t some;
+    void *at;
+};
+struct given rattle_alloc(size_t size, size_t align);
+struct given rattle_realloc(void *at, size_t old, size_t size, size_t align);
+void rattle_dealloc(void *at);
+
+static char nothing[16];
+static long requests, refused = -1, live;
+
+static struct given given(void *at) {
+    struct given it;
+    it.some = at != NULL;
+    it.at = at ? at : nothing;
+    return it;
+}
+
+struct given rattle_alloc(size_t size, size_t align) {
+    if (requests++ == refused) return given(NULL);
+    live++;
+    return given(malloc(size ? size : align));
+}
+
+struct given rattle_realloc(void *at, size_t old, size_t size, size_t align) {
+    (void)old;
+    if (requests++ == refused) return given(NULL);
+    return given(realloc(at, size ? size : align));
+}
+
+void rattle_dealloc(void *at) {
+    live--;
+    free(at);
+}
+#endif
+
+/* ---- A case. */
+enum { PLAIN, RENAME, ANSWER, VISITS };
+
+struct test_case {
+    int call;
+    uint32_t ceiling, strict;
+    struct reencode_entry *entries;
+    size_t entry_count;
+    uint8_t *bytes;
+    size_t length;
+    unsigned long line;
+};
+
+/* What came of a call, and the output where there is one. */
+struct result {
+    struct reencode_outcome outcome;
+    uint8_t *made;
+    size_t size;
+};
+
+static uint32_t answer_of(const struct test_case *it, const struct reencode_visit *visit) {
+    size_t i;
+    if (visit->kind == REENCODE_PUSH || visit->kind == REENCODE_POP) return 0;
+    for (i = it->entry_count; i-- > 0;)
+        if (it->entries[i].space == visit->space && it->entries[i].from == visit->index) return it->entries[i].to;
+    return visit->index;
+}
+
+/* One call with room of so many items, which lies between nothing else: a tool sees what is read or written outside. */
+static uint32_t call(const struct test_case *it, int which, const uint32_t *answers, size_t answer_count, void *room, size_t count,
+                     struct reencode_outcome *outcome) {
+    memset(outcome, 0xA5, sizeof *outcome);
+    switch (which) {
+    case PLAIN: return reencode_plain(it->bytes, it->length, it->ceiling, room, count, outcome);
+    case RENAME:
+        return reencode_rename(it->bytes, it->length, it->entries, it->entry_count, it->strict, it->ceiling, room, count, outcome);
+    case VISITS: return reencode_visits(it->bytes, it->length, room, count, outcome);
+    default: return reencode_answer(it->bytes, it->length, answers, answer_count, it->ceiling, room, count, outcome);
+    }
+}
+
+static int is_cleared(const struct reencode_outcome *outcome) {
+    return !outcome->spare && !outcome->spares[0] && !outcome->spares[1] && !outcome->spares[2];
+}
+
+/* A call without room, one with too little, and one with exactly the wanted room. */
+static struct result in_room(const struct test_case *it, int which, const uint32_t *answers, size_t answer_count) {
+    struct result result = {0};
+    size_t item = which == VISITS ? sizeof(struct reencode_visit) : 1, wanted, i;
+    uint8_t *room;
+    uint32_t status = call(it, which, answers, answer_count, NULL, 0, &result.outcome);
+    if (status != result.outcome.status || !is_cleared(&result.outcome)) fail("the outcome is not as answered", it->line);
+    if (status != REENCODE_TOO_SMALL) return result;
+    wanted = result.outcome.length;
+    room = malloc(wanted * item);
+    if (!room) {
+        result.outcome.status = REENCODE_NO_MEMORY;
+        return result;
+    }
+    memset(room, 0x5A, wanted * item);
+    status = call(it, which, answers, answer_count, room, wanted - 1, &result.outcome);
+    if (status == REENCODE_TOO_SMALL && result.outcome.length != wanted) fail("another room is wanted", it->line);
+    for (i = 0; i < wanted * item; i++)
+        if (room[i] != 0x5A) {
+            fail("room was written that is too small", it->line);
+            break;
+        }
+    status = call(it, which, answers, answer_count, room, wanted, &result.outcome);
+    if (status == REENCODE_DONE && result.outcome.length == wanted) {
+        result.made = room;
+        result.size = wanted * item;
+    } else {
+        for (i = 0; i < wanted * item && room[i] == 0x5A; i++) {}
+        if (i < wanted * item) fail("room was written with a status that is not 0", it->line);
+        if (status == REENCODE_DONE) fail("another length came", it->line);
+        free(room);
+    }
+    return result;
+}
+
+static struct result run(const struct test_case *it) {
+    struct result listed, result;
+    struct reencode_visit *visits;
+    uint32_t *answers;
+    size_t count, i;
+    if (it->call != ANSWER) return in_room(it, it->call, NULL, 0);
+    listed = in_room(it, VISITS, NULL, 0);
+    if (listed.outcome.status != REENCODE_DONE) return listed;
+    visits = (struct reencode_visit *)(void *)listed.made;
+    count = listed.outcome.length;
+    answers = malloc((count + 1) * sizeof *answers);
+    if (!answers) {
+        free(listed.made);
+        listed.made = NULL;
+        listed.outcome.status = REENCODE_NO_MEMORY;
+        return listed;
+    }
+    for (i = 0; i < count; i++) answers[i] = answer_of(it, &visits[i]);
+    answers[count] = 0;
+    result = in_room(it, ANSWER, answers, count);
+    if (result.outcome.status == REENCODE_DONE) {
+        /* One more and one fewer are refused, and the number that is wanted is told. */
+        struct reencode_outcome outcome;
+        uint32_t status = call(it, ANSWER, answers, count + 1, NULL, 0, &outcome);
+        if (status != REENCODE_NO_MEMORY && (status != REENCODE_MISCOUNTED || outcome.length != count)) fail("one answer more", it->line);
+        status = count ? call(it, ANSWER, answers, count - 1, NULL, 0, &outcome) : (uint32_t)REENCODE_NO_MEMORY;
+        if (status != REENCODE_NO_MEMORY && status != REENCODE_TOO_LARGE && (status != REENCODE_MISCOUNTED || outcome.length != count))
+            fail("one answer fewer", it->line);
+    }
+    free(answers);
+    free(listed.made);
+    return result;
+}
+
+/* ---- Lines. */
+static int digit(int c) { return isdigit(c) ? c - '0' : tolower(c) - 'a' + 10; }
+
+static uint8_t *read_file(const char *path, size_t *length) {
+    FILE *file = fopen(path, "rb");
+    uint8_t *bytes = NULL;
+    long size;
+    if (file && !fseek(file, 0, SEEK_END) && (size = ftell(file)) >= 0 && !fseek(file, 0, SEEK_SET)) {
+        *length = (size_t)size;
+        bytes = malloc(*length ? *length : 1);
+        if (bytes && fread(bytes, 1, *length, file) != *length) exit(3);
+    }
+    if (!file || !bytes) exit(3);
+    fclose(file);
+    return bytes;
+}
+
+static int read_case(char *line, struct test_case *it) {
+    static const char *const names[4] = {"plain", "rename", "answer", "visits"};
+    char *word = strtok(line, " \n"), *at;
+    size_t i;
+    if (!word) return 0;
+    for (it->call = 0; it->call < 4 && strcmp(names[it->call], word); it->call++) {}
+    if (it->call == 4) exit(2);
+    it->ceiling = (uint32_t)strtoul(strtok(NULL, " \n"), NULL, 10);
+    it->strict = (uint32_t)strtoul(strtok(NULL, " \n"), NULL, 10);
+    word = strtok(NULL, " \n");
+    it->entry_count = 0;
+    it->entries = NULL;
+    if (strcmp(word, "-")) {
+        for (it->entry_count = 1, at = word; *at; at++) it->entry_count += *at == ',';
+        it->entries = malloc(it->entry_count * sizeof *it->entries);
+        for (i = 0, at = word; i < it->entry_count; i++) {
+            it->entries[i].space = (uint32_t)strtoul(at, &at, 10);
+            it->entries[i].from = (uint32_t)strtoul(at + 1, &at, 10);
+            it->entries[i].to = (uint32_t)strtoul(at + 1, &at, 10);
+            at++;
+        }
+    }
+    word = strtok(NULL, " \n");
+    if (*word == '@') {
+        it->bytes = read_file(word + 1, &it->length);
+    } else {
+        /* null where there are no bytes */
+        it->length = strcmp(word, "-") ? strlen(word) / 2 : 0;
+        it->bytes = it->length ? malloc(it->length) : NULL;
+        for (i = 0; i < it->length; i++) it->bytes[i] = (uint8_t)(16 * digit(word[2 * i]) + digit(word[2 * i + 1]));
+    }
+    return 1;
+}
+
+static void print_result(const struct test_case *it, const struct result *result) {
+    const struct reencode_outcome *o = &result->outcome;
+    size_t i;
+    printf("%u %zu %llu %llu %u %u ", o->status, o->length, (unsigned long long)o->place, (unsigned long long)o->size, o->space, o->index);
+    if (it->call == VISITS && o->status == REENCODE_DONE) {
+        const struct reencode_visit *visits = (const struct reencode_visit *)(const void *)result->made;
+        for (i = 0; i < o->length; i++) printf("%s%u:%u:%u:%u", i ? "," : "", visits[i].kind, visits[i].space, visits[i].count, visits[i].index);
+    } else {
+        static const char digits[] = "0123456789abcdef";
+        for (i = 0; i < result->size; i++) {
+            putchar(digits[result->made[i] >> 4]);
+            putchar(digits[result->made[i] & 15]);
+        }
+    }
+    printf("%s\n", result->size ? "" : "-");
+}
+
+static int is_same(const struct result *one, const struct result *other) {
+    return !memcmp(&one->outcome, &other->outcome, sizeof one->outcome) && one->size == other->size &&
+           (!one->size || !memcmp(one->made, other->made, one->size));
+}
+
+#ifdef REFUSING
+/* Each request for memory is refused in turn: the status is then 1, or all is as it was before. */
+static void refuse_each(const struct test_case *it, const struct result *whole) {
+    for (refused = 0;; refused++) {
+        struct result result;
+        long before = live;
+        requests = 0;
+        result = run(it);
+        if (live != before) fail("a block was left", it->line);
+        if (result.outcome.status != REENCODE_NO_MEMORY && !is_same(&result, whole)) fail("another result where memory ran out", it->line);
+        free(result.made);
+        if (requests <= refused) break;
+    }
+    refused = -1;
+}
+#endif
+
+/* ---- Threads. */
+static struct test_case *cases;
+static struct result *results;
+static size_t case_count;
+
+static void *all_again(void *at) {
+    size_t i, n;
+    for (n = 0; n < 3; n++)
+        for (i = 0; i < case_count; i++) {
+            struct result result = run(&cases[i]);
+            if (!is_same(&result, &results[i])) *(int *)at = 1;
+            free(result.made);
+        }
+    return NULL;
+}
+
+static void in_threads(void) {
+    pthread_t threads[4];
+    int differs[4] = {0, 0, 0, 0}, i;
+    for (i = 0; i < 4; i++)
+        if (pthread_create(&threads[i], NULL, all_again, &differs[i])) exit(3);
+    for (i = 0; i < 4; i++) {
+        pthread_join(threads[i], NULL);
+        if (differs[i]) fail("another result in a thread", 0);
+    }
+}
+
+int main(int argc, char **argv) {
+    const char *what = argc == 2 ? argv[1] : "";
+    char *line = NULL;
+    size_t room = 0, i;
+    unsigned long number = 0;
+    if (strcmp(what, "cases") && strcmp(what, "memory") && strcmp(what, "threads")) return 2;
+    while (getline(&line, &room, stdin) > 0) {
+        struct test_case it = {0};
+        struct result result;
+        it.line = ++number;
+        if (!read_case(line, &it)) continue;
+        result = run(&it);
+        if (!strcmp(what, "cases")) print_result(&it, &result);
+#ifdef REFUSING
+        if (!strcmp(what, "memory")) refuse_each(&it, &result);
+#endif
+        if (!strcmp(what, "threads")) {
+            cases = realloc(cases, (case_count + 1) * sizeof *cases);
+            results = realloc(results, (case_count + 1) * sizeof *results);
+            if (!cases || !results) return 3;
+            cases[case_count] = it;
+            results[case_count++] = result;
+            continue;
+        }
+        free(result.made);
+        free(it.entries);
+        free(it.bytes);
+    }
+    free(line);
+    if (!strcmp(what, "threads")) in_threads();
+    for (i = 0; i < case_count; i++) {
+        free(results[i].made);
+        free(cases[i].entries);
+        free(cases[i].bytes);
+    }
+    free(cases);
+    free(results);
+    if (strcmp(what, "cases")) printf("%lu cases\n", number);
+    return failed;
+}

@@ -1,0 +1,243 @@
+//! Which way a whole core module goes.
+ghost use Rattle.std.specs.Prelude.{◌≡◌};
+
+use examples::Marks;
+use reencode_component::{
+    DefaultComponent, DefaultComponentItems, DefaultComponentRows, ReencodeComponentIndices,
+    reencode, reencode_within,
+};
+use reencode_core::{Adding, Reencode, reencode_core};
+use reencode_hooks::{Error, ReencodeIndices, RoundtripReencoder};
+use reencode_items::DefaultItems;
+use std::alloc::Global;
+use std::convert::Infallible;
+use std::marker::Model;
+use wasm_shapes::SectionId;
+use wasm_write as w;
+
+/// Answers each index as it is, notes how long the module is that its section hook is handed, and refuses whole core modules.
+#[derive(Drop)]
+struct Watching {
+    calls: usize,
+    lens: [usize; 8],
+}
+
+// What it noted is no part of what its answers depend on.
+impl Model for Watching {
+    ghost use Rattle.std.specs.Prelude.{ℕ};
+
+    ghost Value = { ℕ };
+
+    ghost view = { λ _. 0 };
+}
+
+impl Watching {
+    fn new() -> Watching {
+        Watching {
+            calls: 0,
+            lens: [0; 8],
+        }
+    }
+
+    /// Notes a length. The ninth and further ones go nowhere.
+    fn note(&mut self, len: usize)
+        ensures { self.new ≡ self.old }
+    {
+        if let Some(place) = self.lens.get_mut(self.calls) {
+            *place = len;
+        }
+        self.calls = self.calls.saturating_add(1);
+    }
+}
+
+impl ReencodeIndices for Watching {
+    ghost use Rattle.std.specs.Prelude.{true, false, Ok, refl, []};
+    ghost use Rattle.reencode_hooks.specs.Hooks.{index_of, index_of-given};
+
+    type Error = u32;
+
+    ghost reply = { λ _ visit. Ok (index_of visit) };
+
+    ghost next = { λ s _. s };
+
+    ghost adds = { λ _ _. [] };
+
+    ghost keeps_defaults = { false };
+
+    ghost adds_nothing = { true };
+
+    ghost sure = { true };
+
+    ghost answers_ok = { λ _ visit h. index_of-given visit h };
+
+    ghost adds_ok = { λ _ _ _. refl };
+
+    fn data_index(&mut self, index: u32) -> Result<u32, Error<u32>> {
+        Ok(index)
+    }
+
+    fn element_index(&mut self, index: u32) -> Result<u32, Error<u32>> {
+        Ok(index)
+    }
+
+    fn function_index(&mut self, index: u32) -> Result<u32, Error<u32>> {
+        Ok(index)
+    }
+
+    fn global_index(&mut self, index: u32) -> Result<u32, Error<u32>> {
+        Ok(index)
+    }
+
+    fn memory_index(&mut self, index: u32) -> Result<u32, Error<u32>> {
+        Ok(index)
+    }
+
+    fn table_index(&mut self, index: u32) -> Result<u32, Error<u32>> {
+        Ok(index)
+    }
+
+    fn tag_index(&mut self, index: u32) -> Result<u32, Error<u32>> {
+        Ok(index)
+    }
+
+    fn type_index(&mut self, index: u32) -> Result<u32, Error<u32>> {
+        Ok(index)
+    }
+
+    fn data_count(&mut self, count: u32) -> Result<u32, Error<u32>> {
+        Ok(count)
+    }
+
+    fn intersperse_section_hook(
+        &mut self,
+        module: &mut w::Module,
+        _after: Option<SectionId>,
+        _before: Option<SectionId>,
+    ) -> Result<(), Error<u32>> {
+        self.note(module.len());
+        Ok(())
+    }
+}
+
+impl DefaultItems for Watching {}
+
+impl Reencode for Watching {
+    fn parse_core_module(
+        &mut self,
+        _alloc: Global,
+        _module: &mut w::Module,
+        _bytes: &[u8],
+    ) -> Result<(), Error<u32>> {
+        Err(Error::UserError(7))
+    }
+}
+
+impl ReencodeComponentIndices for Watching {
+    fn component_type_index(&mut self, index: u32) -> u32 {
+        index
+    }
+
+    fn component_instance_index(&mut self, index: u32) -> u32 {
+        index
+    }
+
+    fn component_func_index(&mut self, index: u32) -> u32 {
+        index
+    }
+
+    fn component_index(&mut self, index: u32) -> u32 {
+        index
+    }
+
+    fn module_index(&mut self, index: u32) -> u32 {
+        index
+    }
+
+    fn instance_index(&mut self, index: u32) -> u32 {
+        index
+    }
+
+    fn component_value_index(&mut self, index: u32) -> u32 {
+        index
+    }
+
+    fn outer_component_type_index(&mut self, _count: u32, index: u32) -> u32 {
+        index
+    }
+
+    fn outer_component_index(&mut self, _count: u32, index: u32) -> u32 {
+        index
+    }
+
+    fn outer_module_index(&mut self, _count: u32, index: u32) -> u32 {
+        index
+    }
+
+    fn outer_type_index(&mut self, _count: u32, index: u32) -> Result<u32, Error<u32>> {
+        Ok(index)
+    }
+
+    fn push_depth(&mut self) -> Result<(), Error<u32>> {
+        Ok(())
+    }
+
+    fn pop_depth(&mut self) {}
+}
+
+impl DefaultComponentItems for Watching {}
+
+impl DefaultComponentRows for Watching {}
+
+impl DefaultComponent for Watching {}
+
+/// A core module with one function that adds two numbers.
+const MODULE: [u8; 39] = [
+    0x00, 0x61, 0x73, 0x6d, 0x01, 0x00, 0x00, 0x00, 0x01, 0x07, 0x01, 0x60, 0x02, 0x7f, 0x7f, 0x01,
+    0x7f, 0x03, 0x02, 0x01, 0x00, 0x07, 0x05, 0x01, 0x01, 0x66, 0x00, 0x00, 0x0a, 0x09, 0x01, 0x07,
+    0x00, 0x20, 0x00, 0x20, 0x01, 0x6a, 0x0b,
+];
+
+/// Whether the module came out as it is, and the section hook was handed no section in each of its five calls.
+fn is_joined(joined: Result<Vec<u8>, Error<u32>>, watching: Watching) -> bool {
+    let same = matches!(&joined, Ok(bytes) if bytes.as_slice() == MODULE.as_slice());
+    same && watching.calls == 5 && watching.lens == [0; 8]
+}
+
+#[test]
+fn a_core_module_goes_by_pieces(rt: HostRuntime) {
+    let mut watching = Watching::new();
+    let result = reencode(rt.alloc(), &mut watching, &MODULE);
+    assert!(rt; is_joined(result, watching));
+    let mut watching = Watching::new();
+    let result = reencode_within(rt.alloc(), &mut watching, &MODULE, u32::MAX);
+    assert!(rt; is_joined(result, watching));
+}
+
+#[test]
+fn a_core_module_goes_by_its_method(rt: HostRuntime) {
+    let mut watching = Watching::new();
+    let result = reencode_core(rt.alloc(), &mut watching, &MODULE, u32::MAX);
+    assert!(rt; matches!(result, Err(Error::UserError(7))) && watching.calls == 0);
+}
+
+/// The same module with the custom section `x` before its code.
+const MARKED: [u8; 43] = [
+    0x00, 0x61, 0x73, 0x6d, 0x01, 0x00, 0x00, 0x00, 0x01, 0x07, 0x01, 0x60, 0x02, 0x7f, 0x7f, 0x01,
+    0x7f, 0x03, 0x02, 0x01, 0x00, 0x07, 0x05, 0x01, 0x01, 0x66, 0x00, 0x00, 0x00, 0x02, 0x01, 0x78,
+    0x0a, 0x09, 0x01, 0x07, 0x00, 0x20, 0x00, 0x20, 0x01, 0x6a, 0x0b,
+];
+
+#[test]
+fn sections_are_added_by_pieces(rt: HostRuntime) -> Result<(), Error<Infallible>> {
+    let mut adding = Adding {
+        reencoder: RoundtripReencoder,
+        sections: Marks {
+            behind: SectionId::Export,
+            name: "x",
+            contents: &[],
+        },
+    };
+    let bytes = reencode(rt.alloc(), &mut adding, &MODULE)?;
+    assert!(rt; bytes.as_slice() == MARKED.as_slice());
+    Ok(())
+}

@@ -1,0 +1,285 @@
+-- How calls end, from the clauses of the re-encoding of a whole binary.
+use Rattle.std.proofs.Common.{◌≡◌, ◌≢◌, ◌⊎◌, inl, inr, ℕ, ◌+◌, ◌<◌, ◌≤◌, ◌++◌, List, [], ◌∷◌, length, take, Vec, Bool, true, false, nat_lt, ltb-true, ltb-false, Result, Ok, Err, refl, sym, ap, ap₂, ◌∙◌, subst, arith}
+use Rattle.std.proofs.Math.Nat.{min-eq_left, min-eq_right}
+use Rattle.std.specs.Global.{Global}
+use Rattle.wasm_shapes.specs.declared.Visit.{Visit}
+use Rattle.wasm_shapes.specs.Fits.{Fits}
+use Rattle.wasm_shapes.specs.Tree.{Tree, fill, normal, visits}
+use Rattle.reencode_hooks.specs.declared.asked.Unmapped.{Unmapped}
+use Rattle.reencode_hooks.specs.declared.error.Error.{Error}
+use Rattle.reencode_hooks.specs.declared.error.Error.TheVariants as error
+use Rattle.reencode_hooks.specs.declared.indices.ReencodeIndices.{Ghosts}
+use Rattle.reencode_core.specs.Clauses.{asks}
+use Rattle.reencode_component.specs.Causes.{IfFault}
+use Rattle.reencode_component.specs.ComponentLaws.{IsTaken}
+use Rattle.reencode_component.specs.Within.{WithinClauses}
+use Rattle.reencode_component.specs.WithinLaws.{BinaryFault, as_binary}
+use Rattle.reencode_component.proofs.WithinLaws.{binary_error_tells, binary_output}
+use Rattle.reencode_c.specs.declared.entries.EntryFault.{EntryFault}
+use Rattle.reencode_c.specs.declared.entries.EntryFault.TheVariants.{NoSpace, NoMemory}
+use Rattle.reencode_c.specs.declared.outcome.Entry.{Entry}
+use Rattle.reencode_c.specs.declared.outcome.ListedVisit.{ListedVisit}
+use Rattle.reencode_c.specs.declared.outcome.Outcome.{Outcome}
+use Rattle.reencode_c.specs.Ends.{Ends, HasStatus, IsErrorOf, Tells, hooks_by}
+use Rattle.reencode_c.specs.Entries.{FirstWithoutSpace, IsBad, IsBadRenaming, Renaming, TellsFault, renaming_reply}
+use Rattle.reencode_c.specs.Outputs.{AreVisits, IsAnswered, IsMiscounted, IsPlain, IsRenamed}
+use Rattle.reencode_c.specs.Visits.{Answering, Listing, all_listed, answers_next, answers_reply, lister_next, lister_reply, put_all, tally}
+use Rattle.reencode_c.proofs.Lists.{put_count, put_front, put_length}
+use Rattle.reencode_c.proofs.Runs.{Dealt, dealt_run, listed_run, renamed_run, unchanged}
+
+-- ---- any reencoder that answers by one method
+
+module _ {S : Type 0} (reply : S → Visit → Result ℕ Unmapped) (next : S → Visit → S) (c : ℕ) (bytes : List ℕ) (begun m : S) where
+  pub stopped : (e : Error Unmapped) → WithinClauses {A = Vec ℕ Global} (hooks_by reply next) c bytes begun m (Err e) (λ out. out.items) → IsErrorOf (hooks_by reply next) begun c bytes e
+  stopped e g =
+      let tells = binary_error_tells {A = Vec ℕ Global} (hooks_by reply next) (λ s v h. refl) (λ out. out.items) in
+      let output = binary_output {A = Vec ℕ Global} (hooks_by reply next) (λ s v h. refl) (λ out. out.items) in
+      record {
+        after = m;
+        allowed = g;
+        fault = tells.fault c bytes begun m e g refl;
+        before = λ is t rest f. tells.accepted c bytes begun m e g refl refl is t rest f;
+        first = λ x is t r. tells.reading c bytes begun m e g refl x is t r;
+        further = λ x is t rest f. tells.further c bytes begun m e g refl x is t rest f;
+        last = λ x is. tells.last c bytes begun m e g refl x is;
+        never = λ none x. tells.never c bytes begun m e g refl none x;
+        walked = λ other t r. tells.stops c bytes begun m e g refl refl other t r;
+        unmade = λ other out n h. other (output.complete c bytes begun m (Err e) g refl refl out n h);
+      }
+
+  pub taken : (out : Vec ℕ Global) → WithinClauses {A = Vec ℕ Global} (hooks_by reply next) c bytes begun m (Ok out) (λ v. v.items) →
+      IsTaken as_binary (asks (hooks_by reply next)) c bytes begun m out.items
+  taken out g = (binary_output {A = Vec ℕ Global} (hooks_by reply next) (λ s v h. refl) (λ v. v.items)).output c bytes begun m (Ok out) g refl refl
+
+-- ---- errors
+
+with_status : (e : Error Unmapped) (bytes : List ℕ) → IfFault e (BinaryFault bytes) → HasStatus e
+with_status error.CanonicalizedHeapTypeReference bytes h = h
+with_status error.InvalidConstExpr bytes h = h
+with_status error.UnsupportedCoreTypeInComponent bytes h = h
+with_status error.InvalidCodeSectionSize bytes h = tt
+with_status error.UnexpectedNonCoreModuleSection bytes h = tt
+with_status error.UnexpectedNonComponentSection bytes h = tt
+with_status (error.ParseError e) bytes h = tt
+with_status (error.UserError u) bytes h = tt
+with_status (error.TooLarge size) bytes h = tt
+with_status error.NoMemory bytes h = tt
+
+pub has_status : {S : Type 0} {i : Ghosts S Unmapped} {begun : S} {c : ℕ} {bytes : List ℕ} {e : Error Unmapped} → IsErrorOf i begun c bytes e → HasStatus e
+has_status {bytes = bytes} {e = e} h = with_status e bytes h.fault
+
+module _ {X : Type 0} (Done : List X → Type 0) (Bad Miscounted : Type 0) (Why : Error Unmapped → Type 0) (o : Outcome) (room : List X) where
+  at : {n : ℕ} → o.status ≡ n → Ends Done Bad Miscounted Why o room n → Ends Done Bad Miscounted Why o room o.status
+  at e h = subst (λ (z : ℕ). Ends Done Bad Miscounted Why o room z) (sym e) h
+
+  -- an error that is told
+  pub told : (e : Error Unmapped) → Why e → Tells e o → Ends Done Bad Miscounted Why o room o.status
+  told error.NoMemory w t = at t Ends.no_memory
+  told (error.ParseError e) w t = at t.0 (Ends.parse_error (subst (λ (n : ℕ). Why (error.ParseError (record { at = n }))) (sym t.1) w))
+  told (error.UserError u) w t = at t.0 (Ends.unmapped u t.1 t.2 w)
+  told error.InvalidCodeSectionSize w t = at t (Ends.code_size w)
+  told error.UnexpectedNonCoreModuleSection w t = at t (Ends.component w)
+  told error.UnexpectedNonComponentSection w t = at t (Ends.core_module w)
+  told (error.TooLarge size) w t = at t.0 (Ends.too_large (subst (λ (n : ℕ). Why (error.TooLarge n)) (sym t.1) w))
+  told error.CanonicalizedHeapTypeReference w t = absurd t
+  told error.InvalidConstExpr w t = absurd t
+  told error.UnsupportedCoreTypeInComponent w t = absurd t
+
+  -- an output that was put, or not
+  pub put_ends : (out : List X) → Done out → (o.status ≡ 0 → take o.length room ≡ out) → (o.status ≡ 16 → (o.length ≡ tally (length out)) × (length room < o.length)) →
+      (o.status ≡ 0) ⊎ (o.status ≡ 16) → Ends Done Bad Miscounted Why o room o.status
+  put_ends out d done small (inl e) = at e (Ends.done (subst Done (sym (done e)) d))
+  put_ends out d done small (inr e) = let h = small e in at e (Ends.too_small out d h.0 h.1)
+
+  -- the same of an output that is seen another way
+  pub put_as : (out seen : List X) → seen ≡ out → Done out → (o.status ≡ 0 → take o.length room ≡ seen)
+      → (o.status ≡ 16 → (o.length ≡ tally (length seen)) × (length room < o.length)) → (o.status ≡ 0) ⊎ (o.status ≡ 16) → Ends Done Bad Miscounted Why o room o.status
+  put_as out seen same d done small other = put_ends seen (subst Done (sym same) d) done small other
+
+  pub wanting : o.status ≡ 1 → Ends Done Bad Miscounted Why o room o.status
+  wanting e = at e Ends.no_memory
+
+  pub bad : o.status ≡ 11 → Bad → Ends Done Bad Miscounted Why o room o.status
+  bad e h = at e (Ends.bad_renaming h)
+
+  pub wrong_number : o.status ≡ 15 → Miscounted → Ends Done Bad Miscounted Why o room o.status
+  wrong_number e h = at e (Ends.miscounted h)
+
+-- the first entry without a space, as it is told
+pub bad_told : {entries : List Entry} {place space index : ℕ} (o : Outcome) → FirstWithoutSpace entries place space index → o.place ≡ place → o.space ≡ space → o.index ≡ index →
+    FirstWithoutSpace entries o.place o.space o.index
+bad_told o h place space index = record {
+  front = h.front;
+  entry = h.entry;
+  rest = h.rest;
+  parts = h.parts;
+  place_is = h.place_is ∙ sym place;
+  known = h.known;
+  unknown = h.unknown;
+  space_is = h.space_is ∙ sym space;
+  index_is = h.index_is ∙ sym index;
+}
+
+-- a fault of entries that is told
+pub told_fault : {X : Type 0} (Done : List X → Type 0) (Why : Error Unmapped → Type 0) (o : Outcome) (room : List X) (entries : List Entry) (fault : EntryFault) → IsBad entries fault →
+    TellsFault fault o → Ends Done (IsBadRenaming entries o) ⊥ Why o room o.status
+told_fault Done Why o room entries (NoSpace place entry) h t = bad Done (IsBadRenaming entries o) ⊥ Why o room t.0 (bad_told o h t.1 t.2 t.3)
+told_fault Done Why o room entries NoMemory h t = wanting Done (IsBadRenaming entries o) ⊥ Why o room t
+
+-- ---- outputs
+
+pub is_renamed : {c : ℕ} {bytes out : List ℕ} {r m : Renaming} → IsTaken as_binary (asks (hooks_by renaming_reply (λ k _. k))) c bytes r m out → IsRenamed r c bytes out
+is_renamed {r = r} h = record {
+  tree = h.tree;
+  reading = h.reads;
+  answers = h.filled.given;
+  answered = renamed_run (visits h.tree) r h.filled.ran;
+  fits = h.filled.fits;
+  spelled = h.spelled;
+}
+
+pub is_plain : {c : ℕ} {bytes out : List ℕ} → IsRenamed (record { entries = []; strict = false }) c bytes out → IsPlain c bytes out
+is_plain {c} {bytes} {out} h =
+    let same = unchanged h.tree h.answers h.answered in
+    record {
+      tree = h.tree;
+      reading = h.reading;
+      fits = subst (λ (t : Tree). Fits t c) same h.fits;
+      spelled = h.spelled ∙ ap normal same;
+    }
+
+-- what renames by no entries spells the reading, and no entry lacks a space
+pub plain_ends : {c : ℕ} {bytes room : List ℕ} {o : Outcome} {n : ℕ} {Why : Error Unmapped → Type 0} →
+    Ends (IsRenamed (record { entries = []; strict = false }) c bytes) (FirstWithoutSpace [] o.place o.space o.index) ⊥ Why o room n → Ends (IsPlain c bytes) ⊥ ⊥ Why o room n
+plain_ends (Ends.done d) = Ends.done (is_plain d)
+plain_ends Ends.no_memory = Ends.no_memory
+plain_ends (Ends.parse_error w) = Ends.parse_error w
+plain_ends (Ends.unmapped u p i w) = Ends.unmapped u p i w
+plain_ends (Ends.code_size w) = Ends.code_size w
+plain_ends (Ends.component w) = Ends.component w
+plain_ends (Ends.core_module w) = Ends.core_module w
+plain_ends (Ends.too_large w) = Ends.too_large w
+plain_ends (Ends.bad_renaming b) = Ends.bad_renaming (no_front b.front b.entry b.rest b.parts)
+  where
+    no_front : (front : List Entry) (e : Entry) (rest : List Entry) → [] ≡ front ++ e ∷ rest → ⊥
+    no_front [] e rest p = absurd cc
+    no_front (x ∷ xs) e rest p = absurd cc
+plain_ends (Ends.miscounted m) = absurd m
+plain_ends (Ends.too_small out d l s) = Ends.too_small out (is_plain d) l s
+
+-- ---- the visits
+
+-- what is counted below the end is as many
+below : (n : ℕ) → tally n < 18446744073709551615 → tally n ≡ n
+below n h = go (nat_lt n 18446744073709551615) refl
+  where
+    go : (b : Bool) → nat_lt n 18446744073709551615 ≡ b → tally n ≡ n
+    go true e =
+        let less : n < 18446744073709551615 = ltb-true n 18446744073709551615 e in
+        let low : n ≤ 18446744073709551615 = omega arith in min-eq_left low
+    go false e =
+        let high : 18446744073709551615 ≤ n = ltb-false n 18446744073709551615 e in
+        let all : tally n ≡ 18446744073709551615 = min-eq_right high in
+        absurd (omega (arith, all, h))
+
+module _ {c : ℕ} {bytes out : List ℕ} {list : List ListedVisit} {m : Listing}
+    (h : IsTaken as_binary (asks (hooks_by lister_reply lister_next)) c bytes (record { list = list; count = 0 }) m out) where
+  all : List ListedVisit
+  all = all_listed (visits h.tree)
+
+  state : m ≡ put_all (record { list = list; count = 0 }) (all_listed (visits h.tree))
+  state = listed_run (visits h.tree) (record { list = list; count = 0 }) h.filled.ran
+
+  there_are : AreVisits bytes (all_listed (visits h.tree))
+  there_are = record { tree = h.tree; reading = h.reads; are = refl }
+
+  counted : m.count ≡ tally (length (all_listed (visits h.tree)))
+  counted =
+      let same : 0 + length (all_listed (visits h.tree)) ≡ length (all_listed (visits h.tree)) = omega arith in
+      ap (λ (l : Listing). l.count) state ∙ put_count (all_listed (visits h.tree)) (record { list = list; count = 0 }) (omega arith) ∙ ap tally same
+
+  pub as_long : length m.list ≡ length list
+  as_long = ap (λ (l : Listing). length l.list) state ∙ put_length (all_listed (visits h.tree)) (record { list = list; count = 0 })
+
+  front : m.count ≤ length m.list → m.count < 18446744073709551615 → take m.count m.list ≡ all_listed (visits h.tree)
+  front fits low =
+      let many : m.count ≡ length (all_listed (visits h.tree)) =
+      counted ∙ below (length (all_listed (visits h.tree))) (subst (λ (n : ℕ). n < 18446744073709551615) counted low) in
+      let zero : 0 + length (all_listed (visits h.tree)) ≡ length (all_listed (visits h.tree)) = omega arith in
+      let room : 0 + length (all_listed (visits h.tree)) ≤ length list = omega (arith, many, fits, as_long) in
+      let less : 0 + length (all_listed (visits h.tree)) ≤ 18446744073709551615 = omega (arith, many, low) in
+      ap (λ (n : ℕ). take n m.list) (many ∙ sym zero) ∙ ap (λ (l : Listing). take (0 + length (all_listed (visits h.tree))) l.list) state
+      ∙ put_front (all_listed (visits h.tree)) (record { list = list; count = 0 }) room less
+
+  pub listed_ends : (Bad Miscounted : Type 0) (Why : Error Unmapped → Type 0) (o : Outcome) (room seen : List ListedVisit) (n : ℕ) → seen ≡ m.list → n ≡ m.count →
+      (o.status ≡ 0 → (room ≡ seen) × (o.length ≡ n) × (n ≤ length seen) × (n < 18446744073709551615)) →
+      (o.status ≡ 16 → (o.length ≡ n) × (length room < n)) → (o.status ≡ 0) ⊎ (o.status ≡ 16) → Ends (AreVisits bytes) Bad Miscounted Why o room o.status
+  listed_ends Bad Miscounted Why o room seen n same many done small other =
+      put_ends (AreVisits bytes) Bad Miscounted Why o room (all_listed (visits h.tree)) there_are
+      (λ e.
+      let d = done e in
+      let fits : m.count ≤ length m.list = subst (λ (k : ℕ). k ≤ length m.list) many (subst (λ (xs : List ListedVisit). n ≤ length xs) same d.2) in
+      let low : m.count < 18446744073709551615 = subst (λ (k : ℕ). k < 18446744073709551615) many d.3 in
+      ap₂ (λ (k : ℕ) (xs : List ListedVisit). take k xs) (d.1 ∙ many) (d.0 ∙ same) ∙ front fits low)
+      (λ e. let s = small e in (s.0 ∙ many ∙ counted, subst (λ (k : ℕ). length room < k) (sym s.0) s.1)) other
+
+-- ---- answers
+
+module _ {c : ℕ} {bytes out : List ℕ} {answers : List ℕ} {m : Answering}
+    (h : IsTaken as_binary (asks (hooks_by answers_reply answers_next)) c bytes (record { left = answers; count = 0 }) m out) where
+  deal : Dealt (record { left = answers; count = 0 }) m (visits h.tree) h.filled.given
+  deal = dealt_run (visits h.tree) (record { left = answers; count = 0 }) (omega arith) h.filled.ran
+
+  zero : 0 + length (all_listed (visits h.tree)) ≡ length (all_listed (visits h.tree))
+  zero = omega arith
+
+  pub is_answered : m.count ≡ length answers → IsAnswered answers c bytes out
+  is_answered e = record {
+    tree = h.tree;
+    reading = h.reads;
+    enough = ap tally (sym zero) ∙ sym deal.count ∙ e;
+    fits = subst (λ (a : List ℕ). Fits (fill h.tree a) c) deal.answers h.filled.fits;
+    spelled = h.spelled ∙ ap (λ (a : List ℕ). normal (fill h.tree a)) deal.answers;
+  }
+
+  pub is_miscounted : m.count ≢ length answers → IsMiscounted answers bytes m.count
+  is_miscounted other = record { tree = h.tree; reading = h.reads; counted = deal.count ∙ ap tally zero; differs = other }
+
+  pub answered_ends : (Bad : Type 0) (Why : Error Unmapped → Type 0) (o : Outcome) (room seen : List ℕ) → seen ≡ out → m.count ≡ length answers →
+      (o.status ≡ 0 → take o.length room ≡ seen) → (o.status ≡ 16 → (o.length ≡ tally (length seen)) × (length room < o.length)) → (o.status ≡ 0) ⊎ (o.status ≡ 16) →
+      Ends (IsAnswered answers c bytes) Bad (IsMiscounted answers bytes o.length) Why o room o.status
+  answered_ends Bad Why o room seen same enough done small other =
+      put_as (IsAnswered answers c bytes) Bad (IsMiscounted answers bytes o.length) Why o room out seen same (is_answered enough) done small other
+
+  pub miscounted_ends : (Bad : Type 0) (Why : Error Unmapped → Type 0) (o : Outcome) (room : List ℕ) (n : ℕ) → n ≡ m.count → m.count ≢ length answers →
+      o.status ≡ 15 → o.length ≡ n → Ends (IsAnswered answers c bytes) Bad (IsMiscounted answers bytes o.length) Why o room o.status
+  miscounted_ends Bad Why o room n same other status long =
+      wrong_number (IsAnswered answers c bytes) Bad (IsMiscounted answers bytes o.length) Why o room status
+      (subst (λ (k : ℕ). IsMiscounted answers bytes k) (sym (long ∙ same)) (is_miscounted other))
+
+-- ---- from the states of the calls, of which it is known that nothing was counted before
+
+module _ {c : ℕ} {bytes out : List ℕ} {m : Listing} (l : Listing) (none : l.count ≡ 0) (h : IsTaken as_binary (asks (hooks_by lister_reply lister_next)) c bytes l m out) where
+  from_none : IsTaken as_binary (asks (hooks_by lister_reply lister_next)) c bytes (record { list = l.list; count = 0 }) m out
+  from_none = subst (λ (n : ℕ). IsTaken as_binary (asks (hooks_by lister_reply lister_next)) c bytes (record { list = l.list; count = n }) m out) none h
+
+  pub long : length m.list ≡ length l.list
+  long = as_long from_none
+
+  pub visits_ends : (Bad Miscounted : Type 0) (Why : Error Unmapped → Type 0) (o : Outcome) (room seen : List ListedVisit) (n : ℕ) → seen ≡ m.list → n ≡ m.count →
+      (o.status ≡ 0 → (room ≡ seen) × (o.length ≡ n) × (n ≤ length seen) × (n < 18446744073709551615)) →
+      (o.status ≡ 16 → (o.length ≡ n) × (length room < n)) → (o.status ≡ 0) ⊎ (o.status ≡ 16) → Ends (AreVisits bytes) Bad Miscounted Why o room o.status
+  visits_ends = listed_ends from_none
+
+module _ {c : ℕ} {bytes out : List ℕ} {m : Answering} (a : Answering) (none : a.count ≡ 0) (h : IsTaken as_binary (asks (hooks_by answers_reply answers_next)) c bytes a m out) where
+  begun_none : IsTaken as_binary (asks (hooks_by answers_reply answers_next)) c bytes (record { left = a.left; count = 0 }) m out
+  begun_none = subst (λ (n : ℕ). IsTaken as_binary (asks (hooks_by answers_reply answers_next)) c bytes (record { left = a.left; count = n }) m out) none h
+
+  pub enough_ends : (Bad : Type 0) (Why : Error Unmapped → Type 0) (o : Outcome) (room seen : List ℕ) → seen ≡ out → m.count ≡ length a.left →
+      (o.status ≡ 0 → take o.length room ≡ seen) → (o.status ≡ 16 → (o.length ≡ tally (length seen)) × (length room < o.length)) → (o.status ≡ 0) ⊎ (o.status ≡ 16) →
+      Ends (IsAnswered a.left c bytes) Bad (IsMiscounted a.left bytes o.length) Why o room o.status
+  enough_ends = answered_ends begun_none
+
+  pub wrong_ends : (Bad : Type 0) (Why : Error Unmapped → Type 0) (o : Outcome) (room : List ℕ) (n : ℕ) → n ≡ m.count → m.count ≢ length a.left →
+      o.status ≡ 15 → o.length ≡ n → Ends (IsAnswered a.left c bytes) Bad (IsMiscounted a.left bytes o.length) Why o room o.status
+  wrong_ends = miscounted_ends begun_none

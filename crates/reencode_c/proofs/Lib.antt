@@ -1,0 +1,3 @@
+mod Endings
+mod Lists
+mod Runs

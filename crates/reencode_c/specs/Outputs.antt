@@ -1,0 +1,47 @@
+-- What each call makes of some bytes, in terms of their reading as a core module or a component.
+use Rattle.std.specs.Prelude.{◌≡◌, ◌≢◌, ℕ, List, length, map, Ok}
+use Rattle.wasm_shapes.specs.Fits.{Fits}
+use Rattle.wasm_shapes.specs.Tree.{Tree, fill, normal, visits}
+use Rattle.reencode_component.specs.WithinLaws.{ReadsBinary}
+use Rattle.reencode_c.specs.declared.outcome.ListedVisit.{ListedVisit}
+use Rattle.reencode_c.specs.Entries.{Renaming, renaming_reply}
+use Rattle.reencode_c.specs.Visits.{all_listed, dealt, tally}
+
+-- The bytes have a reading, and the output is its normal spelling, of which no frame is above the ceiling.
+pub record IsPlain (ceiling : ℕ) (bytes output : List ℕ) : Type 0 where
+  pub tree : Tree
+  pub reading : ReadsBinary bytes tree
+  pub fits : Fits tree ceiling
+  pub spelled : output ≡ normal tree
+
+-- The bytes have a reading, the renaming has an answer to each visit of it, in order, and the output is the normal spelling of the reading
+-- with each index replaced by its answer. No frame of it is above the ceiling.
+pub record IsRenamed (r : Renaming) (ceiling : ℕ) (bytes output : List ℕ) : Type 0 where
+  pub tree : Tree
+  pub reading : ReadsBinary bytes tree
+  pub answers : List ℕ
+  pub answered : map (renaming_reply r) (visits tree) ≡ map Ok answers
+  pub fits : Fits (fill tree answers) ceiling
+  pub spelled : output ≡ normal (fill tree answers)
+
+-- The bytes have a reading, and these are its visits.
+pub record AreVisits (bytes : List ℕ) (list : List ListedVisit) : Type 0 where
+  pub tree : Tree
+  pub reading : ReadsBinary bytes tree
+  pub are : list ≡ all_listed (visits tree)
+
+-- The bytes have a reading, and the output is the normal spelling of it with these answers in the places of its visits, one for each visit
+-- that is listed, in order. No frame of it is above the ceiling.
+pub record IsAnswered (answers : List ℕ) (ceiling : ℕ) (bytes output : List ℕ) : Type 0 where
+  pub tree : Tree
+  pub reading : ReadsBinary bytes tree
+  pub enough : tally (length (all_listed (visits tree))) ≡ length answers
+  pub fits : Fits (fill tree (dealt (visits tree) answers)) ceiling
+  pub spelled : output ≡ normal (fill tree (dealt (visits tree) answers))
+
+-- The bytes have a reading, so many of its visits are listed, and the answers are more or fewer.
+pub record IsMiscounted (answers : List ℕ) (bytes : List ℕ) (wanted : ℕ) : Type 0 where
+  pub tree : Tree
+  pub reading : ReadsBinary bytes tree
+  pub counted : wanted ≡ tally (length (all_listed (visits tree)))
+  pub differs : wanted ≢ length answers
