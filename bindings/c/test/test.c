@@ -36,41 +36,29 @@ static void fail(const char *what, unsigned long line) {
 }
 
 #ifdef REFUSING
-/* The library's three calls for memory, of which one is refused. */
-struct given {
-    uint64_t some;
-    void *at;
-};
-struct given rattle_alloc(size_t size, size_t align);
-struct given rattle_realloc(void *at, size_t old, size_t size, size_t align);
-void rattle_dealloc(void *at);
-
-static char nothing[16];
+/* The library's three functions for memory, of which one request is refused. */
 static long requests, refused = -1, live;
 
-static struct given given(void *at) {
-    struct given it;
-    it.some = at != NULL;
-    it.at = at ? at : nothing;
-    return it;
-}
-
-struct given rattle_alloc(size_t size, size_t align) {
-    if (requests++ == refused) return given(NULL);
+static void *refusing_malloc(size_t size) {
+    if (requests++ == refused) return NULL;
     live++;
-    return given(malloc(size ? size : align));
+    return malloc(size);
 }
 
-struct given rattle_realloc(void *at, size_t old, size_t size, size_t align) {
-    (void)old;
-    if (requests++ == refused) return given(NULL);
-    return given(realloc(at, size ? size : align));
-}
+static void *refusing_realloc(void *at, size_t size) { return requests++ == refused ? NULL : realloc(at, size); }
 
-void rattle_dealloc(void *at) {
+static void counting_free(void *at) {
     live--;
     free(at);
 }
+
+#define malloc refusing_malloc
+#define realloc refusing_realloc
+#define free counting_free
+#include "../heap.c"
+#undef malloc
+#undef realloc
+#undef free
 #endif
 
 /* ---- A case. */
@@ -114,8 +102,14 @@ static uint32_t call(const struct test_case *it, int which, const uint32_t *answ
     }
 }
 
-static int is_cleared(const struct reencode_outcome *outcome) {
-    return !outcome->spare && !outcome->spares[0] && !outcome->spares[1] && !outcome->spares[2];
+/* Whether what does not go with the status is 0. */
+static int is_cleared(const struct reencode_outcome *it) {
+    uint32_t status = it->status;
+    if (it->spare || it->spares[0] || it->spares[1] || it->spares[2]) return 0;
+    if (it->length && status != REENCODE_DONE && status != REENCODE_TOO_SMALL && status != REENCODE_MISCOUNTED) return 0;
+    if (it->place && status != REENCODE_PARSE_ERROR && status != REENCODE_BAD_RENAMING) return 0;
+    if (it->size && status != REENCODE_TOO_LARGE) return 0;
+    return (!it->space && !it->index) || status == REENCODE_REFUSED || status == REENCODE_BAD_RENAMING;
 }
 
 /* A call without room, one with too little, and one with exactly the wanted room. */

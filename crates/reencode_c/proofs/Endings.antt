@@ -20,7 +20,7 @@ use Rattle.reencode_c.specs.declared.entries.EntryFault.TheVariants.{NoSpace, No
 use Rattle.reencode_c.specs.declared.outcome.Entry.{Entry}
 use Rattle.reencode_c.specs.declared.outcome.ListedVisit.{ListedVisit}
 use Rattle.reencode_c.specs.declared.outcome.Outcome.{Outcome}
-use Rattle.reencode_c.specs.Ends.{Ends, HasStatus, IsErrorOf, Tells, hooks_by}
+use Rattle.reencode_c.specs.Ends.{Ends, HasStatus, IsErrorOf, IsPut, IsTooSmall, Tells, bare, hooks_by}
 use Rattle.reencode_c.specs.Entries.{FirstWithoutSpace, IsBad, IsBadRenaming, Renaming, TellsFault, renaming_reply}
 use Rattle.reencode_c.specs.Outputs.{AreVisits, IsAnswered, IsMiscounted, IsPlain, IsRenamed}
 use Rattle.reencode_c.specs.Visits.{Answering, Listing, all_listed, answers_next, answers_reply, lister_next, lister_reply, put_all, tally}
@@ -74,36 +74,43 @@ module _ {X : Type 0} (Done : List X → Type 0) (Bad Miscounted : Type 0) (Why 
 
   -- an error that is told
   pub told : (e : Error Unmapped) → Why e → Tells e o → Ends Done Bad Miscounted Why o room o.status
-  told error.NoMemory w t = at t Ends.no_memory
-  told (error.ParseError e) w t = at t.0 (Ends.parse_error (subst (λ (n : ℕ). Why (error.ParseError (record { at = n }))) (sym t.1) w))
-  told (error.UserError u) w t = at t.0 (Ends.unmapped u t.1 t.2 w)
-  told error.InvalidCodeSectionSize w t = at t (Ends.code_size w)
-  told error.UnexpectedNonCoreModuleSection w t = at t (Ends.component w)
-  told error.UnexpectedNonComponentSection w t = at t (Ends.core_module w)
-  told (error.TooLarge size) w t = at t.0 (Ends.too_large (subst (λ (n : ℕ). Why (error.TooLarge n)) (sym t.1) w))
+  told error.NoMemory w t = at (ap (λ (x : Outcome). x.status) t) (Ends.no_memory t)
+  told (error.ParseError e) w t =
+      let place = ap (λ (x : Outcome). x.place) t in
+      at (ap (λ (x : Outcome). x.status) t)
+      (Ends.parse_error (t ∙ ap (λ (n : ℕ). record (bare 5) { place = n }) (sym place))
+      (subst (λ (n : ℕ). Why (error.ParseError (record { at = n }))) (sym place) w))
+  told (error.UserError u) w t = at (ap (λ (x : Outcome). x.status) t) (Ends.unmapped u t w)
+  told error.InvalidCodeSectionSize w t = at (ap (λ (x : Outcome). x.status) t) (Ends.code_size t w)
+  told error.UnexpectedNonCoreModuleSection w t = at (ap (λ (x : Outcome). x.status) t) (Ends.component t w)
+  told error.UnexpectedNonComponentSection w t = at (ap (λ (x : Outcome). x.status) t) (Ends.core_module t w)
+  told (error.TooLarge size) w t =
+      let large = ap (λ (x : Outcome). x.size) t in
+      at (ap (λ (x : Outcome). x.status) t)
+      (Ends.too_large (t ∙ ap (λ (n : ℕ). record (bare 10) { size = n }) (sym large)) (subst (λ (n : ℕ). Why (error.TooLarge n)) (sym large) w))
   told error.CanonicalizedHeapTypeReference w t = absurd t
   told error.InvalidConstExpr w t = absurd t
   told error.UnsupportedCoreTypeInComponent w t = absurd t
 
   -- an output that was put, or not
-  pub put_ends : (out : List X) → Done out → (o.status ≡ 0 → take o.length room ≡ out) → (o.status ≡ 16 → (o.length ≡ tally (length out)) × (length room < o.length)) →
-      (o.status ≡ 0) ⊎ (o.status ≡ 16) → Ends Done Bad Miscounted Why o room o.status
-  put_ends out d done small (inl e) = at e (Ends.done (subst Done (sym (done e)) d))
-  put_ends out d done small (inr e) = let h = small e in at e (Ends.too_small out d h.0 h.1)
+  pub put_ends : (out : List X) → Done out → (o.status ≡ 0 → IsPut o room out) → (o.status ≡ 16 → IsTooSmall o room (tally (length out))) → (o.status ≡ 0) ⊎ (o.status ≡ 16) →
+      Ends Done Bad Miscounted Why o room o.status
+  put_ends out d done small (inl e) = at e (Ends.done out (done e) d)
+  put_ends out d done small (inr e) = at e (Ends.too_small out (small e) d)
 
   -- the same of an output that is seen another way
-  pub put_as : (out seen : List X) → seen ≡ out → Done out → (o.status ≡ 0 → take o.length room ≡ seen)
-      → (o.status ≡ 16 → (o.length ≡ tally (length seen)) × (length room < o.length)) → (o.status ≡ 0) ⊎ (o.status ≡ 16) → Ends Done Bad Miscounted Why o room o.status
+  pub put_as : (out seen : List X) → seen ≡ out → Done out → (o.status ≡ 0 → IsPut o room seen) → (o.status ≡ 16 → IsTooSmall o room (tally (length seen))) →
+      (o.status ≡ 0) ⊎ (o.status ≡ 16) → Ends Done Bad Miscounted Why o room o.status
   put_as out seen same d done small other = put_ends seen (subst Done (sym same) d) done small other
 
-  pub wanting : o.status ≡ 1 → Ends Done Bad Miscounted Why o room o.status
-  wanting e = at e Ends.no_memory
+  pub wanting : o ≡ bare 1 → Ends Done Bad Miscounted Why o room o.status
+  wanting e = at (ap (λ (x : Outcome). x.status) e) (Ends.no_memory e)
 
-  pub bad : o.status ≡ 11 → Bad → Ends Done Bad Miscounted Why o room o.status
-  bad e h = at e (Ends.bad_renaming h)
+  pub bad : o ≡ record (bare 11) { place = o.place; space = o.space; index = o.index } → Bad → Ends Done Bad Miscounted Why o room o.status
+  bad e h = at (ap (λ (x : Outcome). x.status) e) (Ends.bad_renaming e h)
 
-  pub wrong_number : o.status ≡ 15 → Miscounted → Ends Done Bad Miscounted Why o room o.status
-  wrong_number e h = at e (Ends.miscounted h)
+  pub wrong_number : o ≡ record (bare 15) { length = o.length } → Miscounted → Ends Done Bad Miscounted Why o room o.status
+  wrong_number e h = at (ap (λ (x : Outcome). x.status) e) (Ends.miscounted e h)
 
 -- the first entry without a space, as it is told
 pub bad_told : {entries : List Entry} {place space index : ℕ} (o : Outcome) → FirstWithoutSpace entries place space index → o.place ≡ place → o.space ≡ space → o.index ≡ index →
@@ -123,7 +130,15 @@ bad_told o h place space index = record {
 -- a fault of entries that is told
 pub told_fault : {X : Type 0} (Done : List X → Type 0) (Why : Error Unmapped → Type 0) (o : Outcome) (room : List X) (entries : List Entry) (fault : EntryFault) → IsBad entries fault →
     TellsFault fault o → Ends Done (IsBadRenaming entries o) ⊥ Why o room o.status
-told_fault Done Why o room entries (NoSpace place entry) h t = bad Done (IsBadRenaming entries o) ⊥ Why o room t.0 (bad_told o h t.1 t.2 t.3)
+told_fault Done Why o room entries (NoSpace place entry) h t =
+    let place_is = ap (λ (x : Outcome). x.place) t in
+    let space_is = ap (λ (x : Outcome). x.space) t in
+    let index_is = ap (λ (x : Outcome). x.index) t in
+    bad Done (IsBadRenaming entries o) ⊥ Why o room
+    (t ∙ ap (λ (n : ℕ). record (bare 11) { place = n; space = entry.space; index = entry.from }) (sym place_is)
+    ∙ ap (λ (n : ℕ). record (bare 11) { place = o.place; space = n; index = entry.from }) (sym space_is)
+    ∙ ap (λ (n : ℕ). record (bare 11) { place = o.place; space = o.space; index = n }) (sym index_is))
+    (bad_told o h place_is space_is index_is)
 told_fault Done Why o room entries NoMemory h t = wanting Done (IsBadRenaming entries o) ⊥ Why o room t
 
 -- ---- outputs
@@ -151,21 +166,21 @@ is_plain {c} {bytes} {out} h =
 -- what renames by no entries spells the reading, and no entry lacks a space
 pub plain_ends : {c : ℕ} {bytes room : List ℕ} {o : Outcome} {n : ℕ} {Why : Error Unmapped → Type 0} →
     Ends (IsRenamed (record { entries = []; strict = false }) c bytes) (FirstWithoutSpace [] o.place o.space o.index) ⊥ Why o room n → Ends (IsPlain c bytes) ⊥ ⊥ Why o room n
-plain_ends (Ends.done d) = Ends.done (is_plain d)
-plain_ends Ends.no_memory = Ends.no_memory
-plain_ends (Ends.parse_error w) = Ends.parse_error w
-plain_ends (Ends.unmapped u p i w) = Ends.unmapped u p i w
-plain_ends (Ends.code_size w) = Ends.code_size w
-plain_ends (Ends.component w) = Ends.component w
-plain_ends (Ends.core_module w) = Ends.core_module w
-plain_ends (Ends.too_large w) = Ends.too_large w
-plain_ends (Ends.bad_renaming b) = Ends.bad_renaming (no_front b.front b.entry b.rest b.parts)
+plain_ends (Ends.done out p d) = Ends.done out p (is_plain d)
+plain_ends (Ends.no_memory e) = Ends.no_memory e
+plain_ends (Ends.parse_error e w) = Ends.parse_error e w
+plain_ends (Ends.unmapped u e w) = Ends.unmapped u e w
+plain_ends (Ends.code_size e w) = Ends.code_size e w
+plain_ends (Ends.component e w) = Ends.component e w
+plain_ends (Ends.core_module e w) = Ends.core_module e w
+plain_ends (Ends.too_large e w) = Ends.too_large e w
+plain_ends (Ends.bad_renaming e b) = Ends.bad_renaming e (no_front b.front b.entry b.rest b.parts)
   where
     no_front : (front : List Entry) (e : Entry) (rest : List Entry) → [] ≡ front ++ e ∷ rest → ⊥
     no_front [] e rest p = absurd cc
     no_front (x ∷ xs) e rest p = absurd cc
-plain_ends (Ends.miscounted m) = absurd m
-plain_ends (Ends.too_small out d l s) = Ends.too_small out (is_plain d) l s
+plain_ends (Ends.miscounted e m) = absurd m
+plain_ends (Ends.too_small out s d) = Ends.too_small out s (is_plain d)
 
 -- ---- the visits
 
@@ -212,16 +227,18 @@ module _ {c : ℕ} {bytes out : List ℕ} {list : List ListedVisit} {m : Listing
       ∙ put_front (all_listed (visits h.tree)) (record { list = list; count = 0 }) room less
 
   pub listed_ends : (Bad Miscounted : Type 0) (Why : Error Unmapped → Type 0) (o : Outcome) (room seen : List ListedVisit) (n : ℕ) → seen ≡ m.list → n ≡ m.count →
-      (o.status ≡ 0 → (room ≡ seen) × (o.length ≡ n) × (n ≤ length seen) × (n < 18446744073709551615)) →
-      (o.status ≡ 16 → (o.length ≡ n) × (length room < n)) → (o.status ≡ 0) ⊎ (o.status ≡ 16) → Ends (AreVisits bytes) Bad Miscounted Why o room o.status
+      (o.status ≡ 0 → (room ≡ seen) × (o ≡ record (bare 0) { length = n }) × (n ≤ length seen) × (n < 18446744073709551615)) →
+      (o.status ≡ 16 → IsTooSmall o room n) → (o.status ≡ 0) ⊎ (o.status ≡ 16) → Ends (AreVisits bytes) Bad Miscounted Why o room o.status
   listed_ends Bad Miscounted Why o room seen n same many done small other =
       put_ends (AreVisits bytes) Bad Miscounted Why o room (all_listed (visits h.tree)) there_are
       (λ e.
       let d = done e in
       let fits : m.count ≤ length m.list = subst (λ (k : ℕ). k ≤ length m.list) many (subst (λ (xs : List ListedVisit). n ≤ length xs) same d.2) in
       let low : m.count < 18446744073709551615 = subst (λ (k : ℕ). k < 18446744073709551615) many d.3 in
-      ap₂ (λ (k : ℕ) (xs : List ListedVisit). take k xs) (d.1 ∙ many) (d.0 ∙ same) ∙ front fits low)
-      (λ e. let s = small e in (s.0 ∙ many ∙ counted, subst (λ (k : ℕ). length room < k) (sym s.0) s.1)) other
+      let long = ap (λ (x : Outcome). x.length) d.1 in
+      (d.1 ∙ ap (λ (k : ℕ). record (bare 0) { length = k }) (sym long), (subst (λ (k : ℕ). k ≤ length room) (sym long) (subst (λ (xs : List ListedVisit). n ≤ length xs) (sym d.0) d.2),
+      ap₂ (λ (k : ℕ) (xs : List ListedVisit). take k xs) (long ∙ many) (d.0 ∙ same) ∙ front fits low)))
+      (λ e. subst (λ (k : ℕ). IsTooSmall o room k) (many ∙ counted) (small e)) other
 
 -- ---- answers
 
@@ -246,15 +263,16 @@ module _ {c : ℕ} {bytes out : List ℕ} {answers : List ℕ} {m : Answering}
   is_miscounted other = record { tree = h.tree; reading = h.reads; counted = deal.count ∙ ap tally zero; differs = other }
 
   pub answered_ends : (Bad : Type 0) (Why : Error Unmapped → Type 0) (o : Outcome) (room seen : List ℕ) → seen ≡ out → m.count ≡ length answers →
-      (o.status ≡ 0 → take o.length room ≡ seen) → (o.status ≡ 16 → (o.length ≡ tally (length seen)) × (length room < o.length)) → (o.status ≡ 0) ⊎ (o.status ≡ 16) →
+      (o.status ≡ 0 → IsPut o room seen) → (o.status ≡ 16 → IsTooSmall o room (tally (length seen))) → (o.status ≡ 0) ⊎ (o.status ≡ 16) →
       Ends (IsAnswered answers c bytes) Bad (IsMiscounted answers bytes o.length) Why o room o.status
   answered_ends Bad Why o room seen same enough done small other =
       put_as (IsAnswered answers c bytes) Bad (IsMiscounted answers bytes o.length) Why o room out seen same (is_answered enough) done small other
 
   pub miscounted_ends : (Bad : Type 0) (Why : Error Unmapped → Type 0) (o : Outcome) (room : List ℕ) (n : ℕ) → n ≡ m.count → m.count ≢ length answers →
-      o.status ≡ 15 → o.length ≡ n → Ends (IsAnswered answers c bytes) Bad (IsMiscounted answers bytes o.length) Why o room o.status
-  miscounted_ends Bad Why o room n same other status long =
-      wrong_number (IsAnswered answers c bytes) Bad (IsMiscounted answers bytes o.length) Why o room status
+      o ≡ record (bare 15) { length = n } → Ends (IsAnswered answers c bytes) Bad (IsMiscounted answers bytes o.length) Why o room o.status
+  miscounted_ends Bad Why o room n same other tells =
+      let long = ap (λ (x : Outcome). x.length) tells in
+      wrong_number (IsAnswered answers c bytes) Bad (IsMiscounted answers bytes o.length) Why o room (tells ∙ ap (λ (k : ℕ). record (bare 15) { length = k }) (sym long))
       (subst (λ (k : ℕ). IsMiscounted answers bytes k) (sym (long ∙ same)) (is_miscounted other))
 
 -- ---- from the states of the calls, of which it is known that nothing was counted before
@@ -267,8 +285,8 @@ module _ {c : ℕ} {bytes out : List ℕ} {m : Listing} (l : Listing) (none : l.
   long = as_long from_none
 
   pub visits_ends : (Bad Miscounted : Type 0) (Why : Error Unmapped → Type 0) (o : Outcome) (room seen : List ListedVisit) (n : ℕ) → seen ≡ m.list → n ≡ m.count →
-      (o.status ≡ 0 → (room ≡ seen) × (o.length ≡ n) × (n ≤ length seen) × (n < 18446744073709551615)) →
-      (o.status ≡ 16 → (o.length ≡ n) × (length room < n)) → (o.status ≡ 0) ⊎ (o.status ≡ 16) → Ends (AreVisits bytes) Bad Miscounted Why o room o.status
+      (o.status ≡ 0 → (room ≡ seen) × (o ≡ record (bare 0) { length = n }) × (n ≤ length seen) × (n < 18446744073709551615)) →
+      (o.status ≡ 16 → IsTooSmall o room n) → (o.status ≡ 0) ⊎ (o.status ≡ 16) → Ends (AreVisits bytes) Bad Miscounted Why o room o.status
   visits_ends = listed_ends from_none
 
 module _ {c : ℕ} {bytes out : List ℕ} {m : Answering} (a : Answering) (none : a.count ≡ 0) (h : IsTaken as_binary (asks (hooks_by answers_reply answers_next)) c bytes a m out) where
@@ -276,10 +294,10 @@ module _ {c : ℕ} {bytes out : List ℕ} {m : Answering} (a : Answering) (none 
   begun_none = subst (λ (n : ℕ). IsTaken as_binary (asks (hooks_by answers_reply answers_next)) c bytes (record { left = a.left; count = n }) m out) none h
 
   pub enough_ends : (Bad : Type 0) (Why : Error Unmapped → Type 0) (o : Outcome) (room seen : List ℕ) → seen ≡ out → m.count ≡ length a.left →
-      (o.status ≡ 0 → take o.length room ≡ seen) → (o.status ≡ 16 → (o.length ≡ tally (length seen)) × (length room < o.length)) → (o.status ≡ 0) ⊎ (o.status ≡ 16) →
+      (o.status ≡ 0 → IsPut o room seen) → (o.status ≡ 16 → IsTooSmall o room (tally (length seen))) → (o.status ≡ 0) ⊎ (o.status ≡ 16) →
       Ends (IsAnswered a.left c bytes) Bad (IsMiscounted a.left bytes o.length) Why o room o.status
   enough_ends = answered_ends begun_none
 
   pub wrong_ends : (Bad : Type 0) (Why : Error Unmapped → Type 0) (o : Outcome) (room : List ℕ) (n : ℕ) → n ≡ m.count → m.count ≢ length a.left →
-      o.status ≡ 15 → o.length ≡ n → Ends (IsAnswered a.left c bytes) Bad (IsMiscounted a.left bytes o.length) Why o room o.status
+      o ≡ record (bare 15) { length = n } → Ends (IsAnswered a.left c bytes) Bad (IsMiscounted a.left bytes o.length) Why o room o.status
   wrong_ends = miscounted_ends begun_none

@@ -1,5 +1,5 @@
 -- How a call ends: its status, and what then holds.
-use Rattle.std.specs.Prelude.{◌≡◌, ◌≢◌, ◌<◌, ℕ, List, [], length, take, true, Result, Err, Vec}
+use Rattle.std.specs.Prelude.{◌≡◌, ◌≢◌, ◌<◌, ◌≤◌, ℕ, List, [], length, take, true, Result, Err, Vec}
 use Rattle.std.specs.Global.{Global}
 use Rattle.wasm_shapes.specs.declared.Visit.{Visit}
 use Rattle.wasm_shapes.specs.Tree.{Tree, visits}
@@ -48,30 +48,53 @@ pub record IsErrorOf {S : Type 0} (i : Ghosts S Unmapped) (begun : S) (ceiling :
 abbrev pub HasStatus : Error Unmapped → Type 0
 HasStatus e = IfFault e (λ x. Unit {0})
 
--- the outcome tells the error
-abbrev pub Tells : Error Unmapped → Outcome → Type 0
-Tells error.NoMemory o = o.status ≡ 1
-Tells (error.ParseError e) o = (o.status ≡ 5) × (o.place ≡ e.at)
-Tells (error.UserError u) o = (o.status ≡ 6) × (o.space ≡ space_number u.space) × (o.index ≡ u.index)
-Tells error.InvalidCodeSectionSize o = o.status ≡ 7
-Tells error.UnexpectedNonCoreModuleSection o = o.status ≡ 8
-Tells error.UnexpectedNonComponentSection o = o.status ≡ 9
-Tells (error.TooLarge size) o = (o.status ≡ 10) × (o.size ≡ size)
-Tells _ o = ⊥
-
 -- ---- statuses
 
+-- an outcome of this status, and all else in it 0
+abbrev pub bare : ℕ → Outcome
+bare status = record {
+  length = 0;
+  place = 0;
+  size = 0;
+  status = status;
+  space = 0;
+  index = 0;
+  spare = 0;
+  spare_1 = 0;
+  spare_2 = 0;
+  spare_3 = 0;
+}
+
+-- the outcome tells the error
+abbrev pub Tells : Error Unmapped → Outcome → Type 0
+Tells error.NoMemory o = o ≡ bare 1
+Tells (error.ParseError e) o = o ≡ record (bare 5) { place = e.at }
+Tells (error.UserError u) o = o ≡ record (bare 6) { space = space_number u.space; index = u.index }
+Tells error.InvalidCodeSectionSize o = o ≡ bare 7
+Tells error.UnexpectedNonCoreModuleSection o = o ≡ bare 8
+Tells error.UnexpectedNonComponentSection o = o ≡ bare 9
+Tells (error.TooLarge size) o = o ≡ record (bare 10) { size = size }
+Tells _ o = ⊥
+
+-- these items were put into the front of the room, and the outcome tells how many they are
+abbrev pub IsPut : {X : Type 0} → Outcome → List X → List X → Type 0
+IsPut o room out = (o ≡ record (bare 0) { length = o.length }) × (o.length ≤ length room) × (take o.length room ≡ out)
+
+-- the outcome tells that the room is too small for so many items
+abbrev pub IsTooSmall : {X : Type 0} → Outcome → List X → ℕ → Type 0
+IsTooSmall o room n = (o ≡ record (bare 16) { length = n }) × (length room < n)
+
 -- How a call ends with each status, where an output or a list of which `Done` holds is wanted: `Bad` is said of 11, `Miscounted` of 15, and of
--- an error why it comes.
+-- an error why it comes. What does not go with the status is 0 in the outcome.
 pub data Ends {X : Type 0} (Done : List X → Type 0) (Bad Miscounted : Type 0) (Why : Error Unmapped → Type 0) (o : Outcome) (room : List X) : ℕ → Type 0 where
-  done : Done (take o.length room) → Ends Done Bad Miscounted Why o room 0
-  no_memory : Ends Done Bad Miscounted Why o room 1
-  parse_error : Why (error.ParseError (record { at = o.place })) → Ends Done Bad Miscounted Why o room 5
-  unmapped : (u : Unmapped) → o.space ≡ space_number u.space → o.index ≡ u.index → Why (error.UserError u) → Ends Done Bad Miscounted Why o room 6
-  code_size : Why error.InvalidCodeSectionSize → Ends Done Bad Miscounted Why o room 7
-  component : Why error.UnexpectedNonCoreModuleSection → Ends Done Bad Miscounted Why o room 8
-  core_module : Why error.UnexpectedNonComponentSection → Ends Done Bad Miscounted Why o room 9
-  too_large : Why (error.TooLarge o.size) → Ends Done Bad Miscounted Why o room 10
-  bad_renaming : Bad → Ends Done Bad Miscounted Why o room 11
-  miscounted : Miscounted → Ends Done Bad Miscounted Why o room 15
-  too_small : (out : List X) → Done out → o.length ≡ tally (length out) → length room < o.length → Ends Done Bad Miscounted Why o room 16
+  done : (out : List X) → IsPut o room out → Done out → Ends Done Bad Miscounted Why o room 0
+  no_memory : o ≡ bare 1 → Ends Done Bad Miscounted Why o room 1
+  parse_error : o ≡ record (bare 5) { place = o.place } → Why (error.ParseError (record { at = o.place })) → Ends Done Bad Miscounted Why o room 5
+  unmapped : (u : Unmapped) → o ≡ record (bare 6) { space = space_number u.space; index = u.index } → Why (error.UserError u) → Ends Done Bad Miscounted Why o room 6
+  code_size : o ≡ bare 7 → Why error.InvalidCodeSectionSize → Ends Done Bad Miscounted Why o room 7
+  component : o ≡ bare 8 → Why error.UnexpectedNonCoreModuleSection → Ends Done Bad Miscounted Why o room 8
+  core_module : o ≡ bare 9 → Why error.UnexpectedNonComponentSection → Ends Done Bad Miscounted Why o room 9
+  too_large : o ≡ record (bare 10) { size = o.size } → Why (error.TooLarge o.size) → Ends Done Bad Miscounted Why o room 10
+  bad_renaming : o ≡ record (bare 11) { place = o.place; space = o.space; index = o.index } → Bad → Ends Done Bad Miscounted Why o room 11
+  miscounted : o ≡ record (bare 15) { length = o.length } → Miscounted → Ends Done Bad Miscounted Why o room 15
+  too_small : (out : List X) → IsTooSmall o room (tally (length out)) → Done out → Ends Done Bad Miscounted Why o room 16

@@ -15,6 +15,7 @@ use Rattle.reencode_c.specs.declared.entries.EntryFault.{EntryFault}
 use Rattle.reencode_c.specs.declared.entries.EntryFault.TheVariants.{NoSpace, NoMemory}
 use Rattle.reencode_c.specs.declared.outcome.Entry.{Entry}
 use Rattle.reencode_c.specs.declared.outcome.Outcome.{Outcome}
+use Rattle.reencode_c.specs.Ends.{bare}
 
 -- the number of a space in front of an index
 abbrev pub key : ℕ → ℕ → ℕ
@@ -80,8 +81,8 @@ IsBad entries NoMemory = Unit {0}
 
 -- the outcome tells the fault
 abbrev pub TellsFault : EntryFault → Outcome → Type 0
-TellsFault (NoSpace place entry) o = (o.status ≡ 11) × (o.place ≡ place) × (o.space ≡ entry.space) × (o.index ≡ entry.from)
-TellsFault NoMemory o = o.status ≡ 1
+TellsFault (NoSpace place entry) o = o ≡ record (bare 11) { place = place; space = entry.space; index = entry.from }
+TellsFault NoMemory o = o ≡ bare 1
 
 -- ---- the answers are such as a hook may give
 

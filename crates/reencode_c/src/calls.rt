@@ -1,6 +1,6 @@
 //! The calls, before they cross to C.
-ghost use Rattle.std.specs.Prelude.{◌≡◌, ◌≢◌, ◌<◌, ◌≤◌, ◌⊎◌, length, replicate, take};
-ghost use Rattle.reencode_c.specs.Ends.{Ends, IsErrorOf, hooks_by};
+ghost use Rattle.std.specs.Prelude.{◌≡◌, ◌≢◌, ◌<◌, ◌≤◌, ◌⊎◌, length, replicate};
+ghost use Rattle.reencode_c.specs.Ends.{Ends, IsErrorOf, IsPut, IsTooSmall, bare, hooks_by};
 ghost use Rattle.reencode_c.specs.Entries.{IsBadRenaming, renaming_reply};
 ghost use Rattle.reencode_c.specs.Outputs.{AreVisits, IsAnswered, IsMiscounted, IsRenamed};
 ghost use Rattle.reencode_c.specs.Visits.{answers_next, answers_reply, lister_next, lister_reply, listed_scope, tally};
@@ -14,9 +14,9 @@ use std::alloc::Global;
 
 /// Puts an output into room for it, or says how much room it takes.
 fn put(output: &[u8], room: &mut [u8], outcome: &mut Outcome)
-    ensures done { outcome.new.status ≡ 0 → take outcome.new.length room.new ≡ output.now }
+    ensures done { outcome.new.status ≡ 0 → IsPut outcome.new room.new output.now }
     ensures small { outcome.new.status ≡ 16
-        → (outcome.new.length ≡ tally (length output.now)) × (length room.new < outcome.new.length) }
+        → IsTooSmall outcome.new room.new (tally (length output.now)) }
     ensures kept { outcome.new.status ≢ 0 → room.new ≡ room.old }
     ensures other { (outcome.new.status ≡ 0) ⊎ (outcome.new.status ≡ 16) }
 {
@@ -31,10 +31,10 @@ fn put(output: &[u8], room: &mut [u8], outcome: &mut Outcome)
 /// Puts a list of so many visits, in room of the same length, into the room, or says how much room it takes.
 fn put_list(list: &[ListedVisit], count: u64, room: &mut [ListedVisit], outcome: &mut Outcome)
     requires { length list.now ≡ length room.old }
-    ensures done { outcome.new.status ≡ 0 → (room.new ≡ list.now) × (outcome.new.length ≡ count)
+    ensures done { outcome.new.status ≡ 0 → (room.new ≡ list.now)
+        × (outcome.new ≡ record (bare 0) { length = count })
         × (count ≤ length list.now) × (count < 18446744073709551615) }
-    ensures small { outcome.new.status ≡ 16
-        → (outcome.new.length ≡ count) × (length room.new < count) }
+    ensures small { outcome.new.status ≡ 16 → IsTooSmall outcome.new room.new count }
     ensures kept { outcome.new.status ≢ 0 → room.new ≡ room.old }
     ensures other { (outcome.new.status ≡ 0) ⊎ (outcome.new.status ≡ 16) }
 {

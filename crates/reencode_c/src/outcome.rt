@@ -1,7 +1,7 @@
 //! What crosses to C: entries, visits, and what a call answers.
-ghost use Rattle.std.specs.Prelude.{◌≡◌, ◌≢◌, ◌<◌, ◌≤◌, length, take};
+ghost use Rattle.std.specs.Prelude.{◌≡◌, ◌<◌};
 ghost use Rattle.reencode_hooks.specs.Renamings.{space_number};
-ghost use Rattle.reencode_c.specs.Ends.{HasStatus, Tells};
+ghost use Rattle.reencode_c.specs.Ends.{HasStatus, Tells, bare};
 ghost use Rattle.reencode_c.specs.Visits.{listed_index, listed_outer, listed_scope};
 
 use reencode_hooks::{Error, Unmapped};
@@ -142,7 +142,7 @@ impl ListedVisit {
 
 impl Outcome {
     fn clear(&mut self, status: u32)
-        ensures { self.new.status ≡ status }
+        ensures { self.new ≡ bare status }
     {
         self.length = 0;
         self.place = 0;
@@ -158,8 +158,7 @@ impl Outcome {
 
     /// So much was put into the room.
     pub fn done(&mut self, length: usize)
-        ensures status { self.new.status ≡ 0 }
-        ensures length { self.new.length ≡ length }
+        ensures { self.new ≡ record (bare 0) { length = length } }
     {
         self.clear(DONE);
         self.length = length;
@@ -167,8 +166,7 @@ impl Outcome {
 
     /// The output takes so much room.
     pub fn too_small(&mut self, length: usize)
-        ensures status { self.new.status ≡ 16 }
-        ensures length { self.new.length ≡ length }
+        ensures { self.new ≡ record (bare 16) { length = length } }
     {
         self.clear(TOO_SMALL);
         self.length = length;
@@ -176,25 +174,21 @@ impl Outcome {
 
     /// So many answers are wanted.
     pub fn miscounted(&mut self, wanted: usize)
-        ensures status { self.new.status ≡ 15 }
-        ensures length { self.new.length ≡ wanted }
+        ensures { self.new ≡ record (bare 15) { length = wanted } }
     {
         self.clear(MISCOUNTED);
         self.length = wanted;
     }
 
     pub fn no_memory(&mut self)
-        ensures { self.new.status ≡ 1 }
+        ensures { self.new ≡ bare 1 }
     {
         self.clear(NO_MEMORY);
     }
 
     /// The entry at a place has no space.
     pub fn bad_renaming(&mut self, place: u64, entry: Entry)
-        ensures status { self.new.status ≡ 11 }
-        ensures place { self.new.place ≡ place }
-        ensures space { self.new.space ≡ entry.space }
-        ensures index { self.new.index ≡ entry.from }
+        ensures { self.new ≡ record (bare 11) { place = place; space = entry.space; index = entry.from } }
     {
         self.clear(BAD_RENAMING);
         self.place = place;

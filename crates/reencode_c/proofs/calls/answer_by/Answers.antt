@@ -24,4 +24,4 @@ pub returns-in-Ok-clause-ends : goal.returns-in-Ok-clause-ends
 returns-in-Ok-clause-ends c =
     let h = taken answers_reply answers_next c.args.ceiling c.args.bytes.now c.args.reencoder c.reencode_within.new.r c.in-Ok.output c.in-Ok.ensures in
     wrong_ends c.args.reencoder c.requires h ⊥ (IsErrorOf (hooks_by answers_reply answers_next) c.args.reencoder c.args.ceiling c.args.bytes.now) c.miscounted.new.self c.args.room.now
-    c.count-else-count-answers.result c.count-else-count-answers.ensures (λ e. c.if-count-answers.false (c.count.ensures ∙ e ∙ sym c.left-answers.ensures)) c.miscounted.ensures.status c.miscounted.ensures.length
+    c.count-else-count-answers.result c.count-else-count-answers.ensures (λ e. c.if-count-answers.false (c.count.ensures ∙ e ∙ sym c.left-answers.ensures)) c.miscounted.ensures
