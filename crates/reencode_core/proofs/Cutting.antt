@@ -1,7 +1,8 @@
 -- Made bytes, and kept ranges that are cut into them.
 use Rattle.std.proofs.Common.{◌≡◌, ◌≢◌, ◌≤◌, ◌<◌, ℕ, ◌+◌, ◌-◌, List, [], ◌∷◌, ◌++◌, length, take, drop, slice_range, refl, ap, sym, ◌∙◌, append_assoc, append-nil, length-append, length-take, length-drop, arith}
-use Rattle.std.proofs.lemmas.List.{drop-append-le, drop_all, take-append-le, take_all}
-use Rattle.std.proofs.Math.Seq.{drop-append-add, take-append-add}
+use Rattle.std.proofs.lemmas.List.{drop-append-le, drop_all, drop_at, length-take-le, take-append-le, take_all, take-take}
+use Rattle.std.proofs.Math.Seq.{drop-append-add, take-add, take-append-add}
+use lib.Seq.{paste}
 use Rattle.reencode_core.specs.Pieces.{Alternate, AreCut, AreCuts, AreWithin, Range, cut_bytes, cut_made, cut_pieces, cut_ranges, joined, kept_ranges, last_made, last_of, raised, range, total}
 use Rattle.reencode_core.specs.declared.pieces.cuts.Cut.{Cut}
 use Rattle.reencode_core.specs.declared.pieces.piece.Piece.{Piece}
@@ -223,3 +224,136 @@ total_joined input (Made bytes ∷ ps) p =
     let rest = total_joined input ps p.1 in
     let a = length-append bytes (joined input ps) in
     omega (arith, rest, a)
+
+-- ---- the ranges cut in from the last on
+
+cuts_split : (n : ℕ) (cs : List Cut) (c : Cut) → AreCuts n (cs ++ c ∷ []) → AreCuts n cs × ((0 < c.made) × ((c.start ≤ c.end) × (c.end ≤ n)))
+cuts_split n [] c p = (tt, p.0)
+cuts_split n (d ∷ cs) c p = let r = cuts_split n cs c p.1 in ((p.0, r.0), r.1)
+
+-- there are no fewer than made ones
+pub made_in_bytes : (input made : List ℕ) (cs : List Cut) → cut_made cs ≤ length made → length made ≤ length (cut_bytes input made cs)
+made_in_bytes input made [] short = omega arith
+made_in_bytes input made (c ∷ cs) short =
+    let l = length-drop c.made made in
+    let t = length-take c.made made in
+    let rest = made_in_bytes input (drop c.made made) cs (omega (arith, short, l)) in
+    let a = length-append (take c.made made) (slice_range input c.start c.end ++ cut_bytes input (drop c.made made) cs) in
+    let b = length-append (slice_range input c.start c.end) (cut_bytes input (drop c.made made) cs) in
+    omega (arith, short, l, t, rest, a, b)
+
+-- made bytes more behind the last range
+bytes_behind : (input out : List ℕ) (from more : ℕ) (cs : List Cut) → cut_made cs ≤ from → from ≤ length out →
+    cut_bytes input (take (from + more) out) cs ≡ cut_bytes input (take from out) cs ++ take more (drop from out)
+bytes_behind input out from more cs short within =
+    let l = length-take-le from out within in
+    ap (λ (z : List ℕ). cut_bytes input z cs) (take-add from more out) ∙ bytes_more input (take from out) (take more (drop from out)) cs (omega (arith, short, l))
+
+-- Ranges are left to be cut into the bytes up to a place: what they become ends at another, and what stands behind that is in
+-- its place already, so that all are the given bytes in the end.
+pub record AreLeft (input out whole : List ℕ) (from to : ℕ) (cuts : List Cut) : Type 0 where
+  pub cuts_are : AreCuts (length input) cuts
+  pub placed : from ≡ cut_made cuts
+  pub shown : from ≤ to
+  pub short : to ≤ length out
+  pub ends : to ≡ length (cut_bytes input (take from out) cuts)
+  pub joined : cut_bytes input (take from out) cuts ++ drop to out ≡ whole
+
+-- with what stands behind
+left_with : (input out behind whole : List ℕ) (from to : ℕ) (cs : List Cut) → AreCuts (length input) cs → from ≡ cut_made cs → from ≤ length out → to ≤ length out →
+    to ≡ length (cut_bytes input (take from out) cs) → cut_bytes input (take from out) cs ++ behind ≡ whole →
+    AreLeft input (take to out ++ behind) whole from to cs
+left_with input out behind whole from to cs are placed within short ends joined =
+    let f = length-take-le from out within in
+    let t = length-take-le to out short in
+    let least = made_in_bytes input (take from out) cs (omega (arith, placed, f)) in
+    let shown : from ≤ to = omega (arith, least, f, ends) in
+    let first : take from (take to out ++ behind) ≡ take from out = take-append-le from (take to out) behind (omega (arith, t, shown)) ∙ take-take from to out shown in
+    let last : drop to (take to out ++ behind) ≡ behind = drop_at (take to out) behind to t in
+    let l = length-append (take to out) behind in
+    record {
+      cuts_are = are;
+      placed = placed;
+      shown = shown;
+      short = omega (arith, l, t);
+      ends = rw first ends;
+      joined = rw (first, last) joined;
+    }
+
+-- the made bytes behind the last range are at the end
+pub left_first : (input out : List ℕ) (made last to : ℕ) (cs : List Cut) → AreCuts (length input) cs → last ≡ cut_made cs → last ≤ made → made ≤ length out → length out ≡ length (cut_bytes input (take made out) cs) →
+    to + (made - last) ≡ length out →
+    AreLeft input (paste out to (drop last out) (made - last)) (cut_bytes input (take made out) cs) last to cs
+left_first input out made last to cs are placed shown within sized e =
+    let behind = take (made - last) (drop last out) in
+    let all : last + (made - last) ≡ made = omega (arith, shown) in
+    let bytes : cut_bytes input (take made out) cs ≡ cut_bytes input (take last out) cs ++ behind =
+    ap (λ (n : ℕ). cut_bytes input (take n out) cs) (sym all) ∙ bytes_behind input out last (made - last) cs (omega (arith, placed)) (omega (arith, shown, within)) in
+    let d = length-drop last out in
+    let b = length-take-le (made - last) (drop last out) (omega (arith, d, within)) in
+    let l = ap length bytes ∙ length-append (cut_bytes input (take last out) cs) behind in
+    let none : paste out to (drop last out) (made - last) ≡ take to out ++ behind =
+    ap (λ (z : List ℕ). (take to out ++ behind) ++ z) (drop_all (to + (made - last)) out (omega (arith, e))) ∙ append-nil (take to out ++ behind) in
+    rw none (left_with input out behind (cut_bytes input (take made out) cs) last to cs are placed (omega (arith, shown, within)) (omega (arith, e)) (omega (arith, sized, e, l, b)) (sym bytes))
+
+-- what the last range of those that are left needs
+pub record LastFits (input : List ℕ) (from to : ℕ) (c : Cut) : Type 0 where
+  pub made : c.made ≤ from
+  pub ordered : c.start ≤ c.end
+  pub within : c.end ≤ length input
+  pub apart : from + length (slice_range input c.start c.end) ≤ to
+
+-- the made bytes in front of it, and its own
+last_bytes : (input out : List ℕ) (from : ℕ) (cs : List Cut) (c : Cut) → from ≡ cut_made (cs ++ c ∷ []) → from ≤ length out →
+    cut_bytes input (take from out) (cs ++ c ∷ []) ≡ cut_bytes input (take (from - c.made) out) cs ++ (take c.made (drop (from - c.made) out) ++ slice_range input c.start c.end)
+last_bytes input out from cs c placed within =
+    let m = made_both cs (c ∷ []) in
+    let l = length-take-le from out within in
+    let all : (from - c.made) + c.made ≡ from = omega (arith, placed, m) in
+    bytes_kept input (take from out) cs c (omega (arith, placed, m, l))
+    ∙ ap (λ (n : ℕ). cut_bytes input (take n out) cs ++ slice_range input c.start c.end) (sym all)
+    ∙ ap (λ (z : List ℕ). z ++ slice_range input c.start c.end) (bytes_behind input out (from - c.made) c.made cs (omega (arith, placed, m)) (omega (arith, within)))
+    ∙ append_assoc (cut_bytes input (take (from - c.made) out) cs) (take c.made (drop (from - c.made) out)) (slice_range input c.start c.end)
+
+last_len : {input out whole : List ℕ} {from to : ℕ} (cs : List Cut) (c : Cut) → AreLeft input out whole from to (cs ++ c ∷ []) →
+    (c.made ≤ from) × (to ≡ length (cut_bytes input (take (from - c.made) out) cs) + (c.made + length (slice_range input c.start c.end))) × (from - c.made ≤ length (cut_bytes input (take (from - c.made) out) cs))
+last_len {input} {out} {whole} {from} {to} cs c p =
+    let placed = p.placed in
+    let shown = p.shown in
+    let short = p.short in
+    let m = made_both cs (c ∷ []) in
+    let mid = take c.made (drop (from - c.made) out) in
+    let e = p.ends ∙ ap length (last_bytes input out from cs c placed (omega (arith, shown, short)))
+    ∙ length-append (cut_bytes input (take (from - c.made) out) cs) (mid ++ slice_range input c.start c.end) in
+    let d = length-drop (from - c.made) out in
+    let b = length-take-le c.made (drop (from - c.made) out) (omega (arith, d, placed, m, shown, short)) in
+    let a = length-append mid (slice_range input c.start c.end) in
+    let l = length-take-le (from - c.made) out (omega (arith, shown, short)) in
+    let least = made_in_bytes input (take (from - c.made) out) cs (omega (arith, placed, m, l)) in
+    (omega (arith, placed, m), omega (arith, e, b, a), omega (arith, least, l))
+
+pub last_fits : {input out whole : List ℕ} {from to : ℕ} (cs : List Cut) (c : Cut) → AreLeft input out whole from to (cs ++ c ∷ []) → LastFits input from to c
+last_fits {input} {out} {whole} {from} {to} cs c p =
+    let q = cuts_split (length input) cs c p.cuts_are in
+    let s = last_len cs c p in
+    record { made = s.0; ordered = q.1.1.0; within = q.1.1.1; apart = omega (arith, s.0, s.1, s.2) }
+
+-- the last range is in its place, and the made bytes in front of it
+pub left_more : {input out whole : List ℕ} {from to : ℕ} (cs : List Cut) (c : Cut) → AreLeft input out whole from to (cs ++ c ∷ []) →
+    AreLeft input (take (to - (length (slice_range input c.start c.end) + c.made)) out ++ (take c.made (drop (from - c.made) out) ++ (slice_range input c.start c.end ++ drop to out)))
+    whole (from - c.made) (to - (length (slice_range input c.start c.end) + c.made)) cs
+left_more {input} {out} {whole} {from} {to} cs c p =
+    let kept = slice_range input c.start c.end in
+    let mid = take c.made (drop (from - c.made) out) in
+    let first = cut_bytes input (take (from - c.made) out) cs in
+    let placed = p.placed in
+    let shown = p.shown in
+    let short = p.short in
+    let m = made_both cs (c ∷ []) in
+    let s = last_len cs c p in
+    let joined : first ++ (mid ++ (kept ++ drop to out)) ≡ whole =
+    behind_three first mid kept (drop to out)
+    ∙ ap (λ (z : List ℕ). z ++ drop to out) (sym (last_bytes input out from cs c placed (omega (arith, shown, short))))
+    ∙ p.joined in
+    left_with input out (mid ++ (kept ++ drop to out)) whole (from - c.made) (to - (length kept + c.made)) cs (cuts_split (length input) cs c p.cuts_are).0
+    (omega (arith, placed, m)) (omega (arith, shown, short)) (omega (arith, short)) (omega (arith, s.1)) joined

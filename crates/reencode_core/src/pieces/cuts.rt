@@ -1,5 +1,5 @@
 //! Kept ranges that are cut into made bytes.
-ghost use Rattle.std.specs.Prelude.{◌≡◌, ◌++◌, ◌∷◌, ◌+◌, ◌<◌, ◌≤◌, ◌^◌, [], length, drop, slice_range, IfOk, OnOk, OnErr};
+ghost use Rattle.std.specs.Prelude.{◌≡◌, ◌++◌, ◌∷◌, ◌+◌, ◌-◌, ◌<◌, ◌≤◌, ◌^◌, [], length, take, drop, IfOk, OnOk, OnErr};
 ghost use Rattle.reencode_core.specs.Pieces.{AreCuts, cut_bytes, cut_made, cut_pieces, last_made, last_of, raised};
 ghost use Rattle.reencode_core.specs.declared.pieces.piece.Piece.TheVariants.{Made};
 
@@ -152,53 +152,88 @@ pub(crate) fn cut_out(
     }
 }
 
-/// Appends some made bytes, and a range of the input.
-#[inline(always)]
-fn add_cut(
-    out: &mut Vec<u8>,
-    made: &[u8],
-    input: &[u8],
-    start: usize,
-    end: usize,
-) -> Result<(), NoMemory>
-    requires ordered { start ≤ end }
-    requires within { end ≤ length input.now }
-    ensures { OnOk result (out.new.items ≡ out.old.items ++ (made.now ++ slice_range input.now start end)) }
+/// Takes away so many bytes that are room in front of others.
+pub(crate) fn drop_room(bytes: &mut Vec<u8>, room: usize)
+    requires { room ≤ length bytes.old.items }
+    ensures { bytes.new.items ≡ drop room bytes.old.items }
 {
-    match out.extend_from_slice(made) {
+    if room == 0 {
+        return;
+    }
+    let len = bytes.len();
+    bytes.copy_within(room..len, 0);
+    bytes.truncate(len - room);
+}
+
+/// Grows bytes to so many, and takes memory for no more than these.
+fn grow(bytes: &mut Vec<u8>, size: usize) -> Result<(), NoMemory>
+    requires { length bytes.old.items ≤ size }
+    ensures len { OnOk result (length bytes.new.items ≡ size) }
+    ensures first { OnOk result (take (length bytes.old.items) bytes.new.items ≡ bytes.old.items) }
+{
+    match bytes.reserve_exact(size - bytes.len()) {
         Ok(()) => {}
         Err(_) => return Err(NoMemory),
     }
-    match out.extend_from_slice(&input[start..end]) {
+    match bytes.resize(size, 0) {
         Ok(()) => Ok(()),
         Err(_) => Err(NoMemory),
     }
 }
 
-/// The bytes of made bytes, without so many that are room, with the ranges of the input that are cut into them: so many. It takes
-/// their memory at once.
-pub(crate) fn joined_cuts(
-    alloc: Global,
+/// Copies a kept range to where it ends at one place, and moves so many made bytes, which end at another, right in front of it.
+fn put_cut(out: &mut [u8], from: usize, to: usize, made: usize, kept: &[u8])
+    requires made { made ≤ from }
+    requires apart { from + length kept.now ≤ to }
+    requires within { to ≤ length out.old }
+    ensures { out.new ≡ take (to - (length kept.now + made)) out.old
+        ++ (take made (drop (from - made) out.old) ++ (kept.now ++ drop to out.old)) }
+{
+    let place = to - kept.len();
+    out[place..to].copy_from_slice(kept);
+    out.copy_within(from - made..from, place - made);
+}
+
+/// Moves made bytes apart, which are the first so many, and copies the ranges of the input that are cut into them between them.
+/// The last range stands behind so many of them. It goes from the back to the front, so that none is lost before it is moved.
+fn move_apart(out: &mut [u8], made: usize, last: usize, input: &[u8], cuts: &[Cut])
+    requires within { AreCuts (length input.now) cuts.now }
+    requires placed { last ≡ cut_made cuts.now }
+    requires shown { (last ≤ made) × (made ≤ length out.old) }
+    requires sized { length out.old ≡ length (cut_bytes input.now (take made out.old) cuts.now) }
+    ensures { out.new ≡ cut_bytes input.now (take made out.old) cuts.now }
+{
+    let mut from = last;
+    let mut to = out.len() - (made - last);
+    out.copy_within(last..made, to);
+    let mut left = cuts;
+    'cuts: while let Some((cut, front)) = left.split_last() {
+        let kept = &input[cut.start..cut.end];
+        put_cut(out, from, to, cut.made, kept);
+        from -= cut.made;
+        to -= kept.len() + cut.made;
+        left = front;
+    }
+}
+
+/// The bytes of made bytes with the ranges of the input that are cut into them: so many, in the memory of the made ones. The last
+/// range stands behind so many made ones.
+pub(crate) fn joined_in_place(
+    made: Vec<u8>,
+    last: usize,
     input: &[u8],
-    made: &[u8],
     cuts: &[Cut],
     size: usize,
 ) -> Result<Vec<u8>, NoMemory>
     requires within { AreCuts (length input.now) cuts.now }
-    requires shown { cut_made cuts.now ≤ length made.now }
-    ensures { IfOk result (λ out. out.items ≡ cut_bytes input.now made.now cuts.now) }
+    requires placed { last ≡ cut_made cuts.now }
+    requires shown { last ≤ length made.items }
+    requires sized { size ≡ length (cut_bytes input.now made.items cuts.now) }
+    ensures { IfOk result (λ out. out.items ≡ cut_bytes input.now made.items cuts.now) }
 {
-    let Ok(mut out) = Vec::with_capacity(alloc, size) else {
-        return Err(NoMemory);
-    };
-    let mut at = 0;
-    'cuts: for cut in cuts {
-        let next = at + cut.made;
-        add_cut(&mut out, &made[at..next], input, cut.start, cut.end)?;
-        at = next;
-    }
-    match out.extend_from_slice(&made[at..]) {
-        Ok(()) => Ok(out),
-        Err(_) => Err(NoMemory),
-    }
+    let mut out = made;
+    let len = out.len();
+    grow(&mut out, size)?;
+    move_apart(out.as_mut_slice(), len, last, input, cuts);
+    Ok(out)
 }

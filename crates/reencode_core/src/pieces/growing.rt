@@ -2,7 +2,9 @@
 ghost use Rattle.std.specs.Prelude.{◌≡◌, ◌++◌, ◌-◌, ◌<◌, ◌≤◌, ◌^◌, [], length, OnOk, OnErr, IfOk};
 ghost use Rattle.reencode_core.specs.Pieces.{AreGrown, with_bytes, with_grown, with_kept};
 
-use crate::pieces::cuts::{Cut, cut_out, joined_cuts, last_behind, raise, take_over};
+use crate::pieces::cuts::{
+    Cut, cut_out, drop_room, joined_in_place, last_behind, raise, take_over,
+};
 use crate::pieces::piece::Pieces;
 use std::alloc::Global;
 use std::marker::Model;
@@ -183,17 +185,18 @@ impl<'a> Growing<'a> {
         }
     }
 
-    /// The bytes. Where no range is kept they are those that were made, in their own memory.
-    pub fn join(self, alloc: Global) -> Result<Vec<u8>, NoMemory>
+    /// The bytes, in the memory of those that were made.
+    pub fn join(self) -> Result<Vec<u8>, NoMemory>
         ensures { IfOk result (λ out. out.items ≡ self.entry.bytes) }
     {
-        if self.front == 0 && self.cuts.len() == 0 {
-            return Ok(self.made);
+        let mut made = self.made;
+        drop_room(&mut made, self.front);
+        if self.cuts.len() == 0 {
+            return Ok(made);
         }
         let Ok(size) = usize::try_from(self.size) else {
             return Err(NoMemory);
         };
-        let made = &self.made[self.front..];
-        joined_cuts(alloc, self.input, made, &self.cuts, size)
+        joined_in_place(made, self.last - self.front, self.input, &self.cuts, size)
     }
 }

@@ -150,10 +150,10 @@ impl<'a> ModulePieces<'a> {
     }
 
     /// Its bytes.
-    pub fn join(self, alloc: Global) -> Result<Vec<u8>, NoMemory>
+    pub fn join(self) -> Result<Vec<u8>, NoMemory>
         ensures { IfOk result (λ out. out.items ≡ module_bytes self.entry.sections.sections) }
     {
-        match self.pieces.join(alloc) {
+        match self.pieces.join() {
             Ok(out) => Ok(out),
             Err(NoMemory) => Err(NoMemory),
         }

@@ -389,8 +389,10 @@ pub fn reencode_pieces<R: Reencode>(
         × Kept bytes.now t given (kept_ranges pieces)) }
 {
     let mut sink = ModulePieces::new(alloc, bytes, ceiling)?;
-    walk(r, alloc, &mut sink, bytes)?;
-    Ok(sink.finish(alloc)?)
+    match walk(r, alloc, &mut sink, bytes) {
+        Ok(()) => Ok(sink.finish(alloc)?),
+        Err(e) => Err(e),
+    }
 }
 
 /// Re-encodes a core module as `reencode_core` does, by way of pieces: a function body that stays as it stands is copied once, from
@@ -405,5 +407,5 @@ pub fn reencode_joined<R: Reencode>(
 {
     let mut sink = ModulePieces::new(alloc, bytes, ceiling)?;
     walk(r, alloc, &mut sink, bytes)?;
-    Ok(sink.join(alloc)?)
+    Ok(sink.join()?)
 }

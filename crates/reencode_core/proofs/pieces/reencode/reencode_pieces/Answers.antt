@@ -17,50 +17,44 @@ returns-in_err-sink-clause-after_error g c =
     let p = err_from_is_err_and c.from_residual.result c.from_residual.ensures.1 in
     rw (p.1, p.2) (λ k told size. left_none (asks g.R.ReencodeIndices) _)
 
-pub returns-in_err-walk-clause-woven : goal.returns-in_err-walk-clause-woven
-returns-in_err-walk-clause-woven g c =
-    let p = err_from_is_err_and c.from_residual-in_err-walk.result c.from_residual-in_err-walk.ensures.1 in
-    rw (p.1, p.2) (λ k. bytes_refused _ _ _ _ _ _ _ _ _ _ (ap ModuleGrown.sections c.in_ok-sink.ensures) (c.in_err-walk.ensures.woven k))
+pub returns-in-Err-clause-woven : goal.returns-in-Err-clause-woven
+returns-in-Err-clause-woven g c = λ k. bytes_refused _ _ _ _ _ _ _ _ _ _ (ap ModuleGrown.sections c.in_ok-sink.ensures) (c.in-Err.ensures.woven k)
 
-pub returns-in_err-walk-clause-default : goal.returns-in_err-walk-clause-default
-returns-in_err-walk-clause-default g c =
-    let p = err_from_is_err_and c.from_residual-in_err-walk.result c.from_residual-in_err-walk.ensures.1 in
-    rw (p.1, p.2) (λ k n. bytes_nothing _ _ (added_none g.met.R.ReencodeIndices.adds_ok n) _ _ _ _ _ _
-    (bytes_refused _ _ _ _ _ _ _ _ _ _ (ap ModuleGrown.sections c.in_ok-sink.ensures) (c.in_err-walk.ensures.woven k)))
+pub returns-in-Err-clause-default : goal.returns-in-Err-clause-default
+returns-in-Err-clause-default g c = λ k n. bytes_nothing _ _ (added_none g.met.R.ReencodeIndices.adds_ok n) _ _ _ _ _ _
+    (bytes_refused _ _ _ _ _ _ _ _ _ _ (ap ModuleGrown.sections c.in_ok-sink.ensures) (c.in-Err.ensures.woven k))
 
-pub returns-in_err-walk-clause-after_error : goal.returns-in_err-walk-clause-after_error
-returns-in_err-walk-clause-after_error g c =
-    let p = err_from_is_err_and c.from_residual-in_err-walk.result c.from_residual-in_err-walk.ensures.1 in
-    rw (p.1, p.2) (λ k told size. bytes_leave (asks g.R.ReencodeIndices) _ (c.in_err-walk.ensures.after_error k told size))
+pub returns-in-Err-clause-after_error : goal.returns-in-Err-clause-after_error
+returns-in-Err-clause-after_error g c = λ k told size. bytes_leave (asks g.R.ReencodeIndices) _ (c.in-Err.ensures.after_error k told size)
 
-pub returns-in_err-finish-clause-after_error : goal.returns-in_err-finish-clause-after_error
-returns-in_err-finish-clause-after_error g c =
-    let p = err_from_is_err_and c.from_residual-in_err-finish.result c.from_residual-in_err-finish.ensures.1 in
+pub returns-in_err-finish-in-Ok-clause-after_error : goal.returns-in_err-finish-in-Ok-clause-after_error
+returns-in_err-finish-in-Ok-clause-after_error g c =
+    let p = err_from_is_err_and c.from_residual-in_err-finish-in-Ok.result c.from_residual-in_err-finish-in-Ok.ensures.1 in
     let i = g.R.ReencodeIndices in
     rw (p.1, p.2) (λ k told size.
-    let w = c.in_ok-walk.ensures.woven k in
+    let w = c.in-Ok.ensures.woven k in
     let r = w.readable in
     left_core (asks i) r.0 r.1 ((weave_is_run (asks i)).forth (added i.adds) _ _ _ r.0 _ (w.reading r.0 r.1).2).ran)
 
-pub returns-clause-woven : goal.returns-clause-woven
-returns-clause-woven g c =
-    let input = c.in_ok-walk.ensures.input ∙ ap ModuleGrown.input c.in_ok-sink.ensures in
-    λ k. bytes_given _ _ _ _ _ _ _ _ _ (ap ModuleGrown.sections c.in_ok-sink.ensures) (c.in_ok-walk.ensures.woven k) _ _
-    (ap (λ (z : List ℕ). joined z c.in_ok-finish.field-0) (sym input) ∙ c.in_ok-finish.ensures.joins)
+pub returns-in_ok-finish-in-Ok-clause-woven : goal.returns-in_ok-finish-in-Ok-clause-woven
+returns-in_ok-finish-in-Ok-clause-woven g c =
+    let input = c.in-Ok.ensures.input ∙ ap ModuleGrown.input c.in_ok-sink.ensures in
+    λ k. bytes_given _ _ _ _ _ _ _ _ _ (ap ModuleGrown.sections c.in_ok-sink.ensures) (c.in-Ok.ensures.woven k) _ _
+    (ap (λ (z : List ℕ). joined z c.in_ok-finish-in-Ok.field-0) (sym input) ∙ c.in_ok-finish-in-Ok.ensures.joins)
 
-pub returns-clause-default : goal.returns-clause-default
-returns-clause-default g c =
-    let input = c.in_ok-walk.ensures.input ∙ ap ModuleGrown.input c.in_ok-sink.ensures in
+pub returns-in_ok-finish-in-Ok-clause-default : goal.returns-in_ok-finish-in-Ok-clause-default
+returns-in_ok-finish-in-Ok-clause-default g c =
+    let input = c.in-Ok.ensures.input ∙ ap ModuleGrown.input c.in_ok-sink.ensures in
     λ k n. bytes_nothing _ _ (added_none g.met.R.ReencodeIndices.adds_ok n) _ _ _ _ _ _
-    (bytes_given _ _ _ _ _ _ _ _ _ (ap ModuleGrown.sections c.in_ok-sink.ensures) (c.in_ok-walk.ensures.woven k) _ _
-    (ap (λ (z : List ℕ). joined z c.in_ok-finish.field-0) (sym input) ∙ c.in_ok-finish.ensures.joins))
+    (bytes_given _ _ _ _ _ _ _ _ _ (ap ModuleGrown.sections c.in_ok-sink.ensures) (c.in-Ok.ensures.woven k) _ _
+    (ap (λ (z : List ℕ). joined z c.in_ok-finish-in-Ok.field-0) (sym input) ∙ c.in_ok-finish-in-Ok.ensures.joins))
 
-pub returns-clause-kept : goal.returns-clause-kept
-returns-clause-kept g c =
-    let made = c.in_ok-finish.ensures in
+pub returns-in_ok-finish-in-Ok-clause-kept : goal.returns-in_ok-finish-in-Ok-clause-kept
+returns-in_ok-finish-in-Ok-clause-kept g c =
+    let made = c.in_ok-finish-in-Ok.ensures in
     let fresh = c.in_ok-sink.ensures in
     λ k.
     let i = g.R.ReencodeIndices in
-    let keeps = rw (ap (λ (m : ModuleGrown). m.sections.ceiling) fresh, ap ModuleGrown.kept fresh) at (c.in_ok-walk.ensures.ranges k) in
+    let keeps = rw (ap (λ (m : ModuleGrown). m.sections.ceiling) fresh, ap ModuleGrown.kept fresh) at (c.in-Ok.ensures.ranges k) in
     let bound : c.args.ceiling < 2 ^ 32 = omega (arith, c.ranges.ceiling.fits) in
     rw made.ranges (answered_kept i.reply i.next c.args.ceiling c.args.bytes.now c.args.r.now _ _ g.met.R.ReencodeIndices.answers_ok bound keeps)
