@@ -1,9 +1,9 @@
 -- Compact rows of imports: their items mapped one by one, and their names as they are.
-use Rattle.std.proofs.Common.{◌≡◌, ℕ, List, [], ◌∷◌, ◌++◌, map, Result, Ok, Err, IsTrue, refl, sym, ap, ◌∙◌, append_assoc, append-nil, subst}
+use Rattle.std.proofs.Common.{◌≡◌, ℕ, List, [], ◌∷◌, ◌++◌, map, Result, Ok, Err, refl, sym, ap, ◌∙◌, append_assoc, append-nil, subst}
 use Rattle.std.proofs.lemmas.List.{map-append}
 use Rattle.std.specs.Borrow.{Bor}
 use Rattle.wasm_shapes.specs.Tree.{Tree, visits}
-use Rattle.wasm_shapes.specs.Types.{rows_tree, vector_tree, import_of, led, compact_items_of, compact_names_of}
+use Rattle.wasm_shapes.specs.Types.{rows_tree, vector_tree, compact_items_of, compact_names_of}
 use Rattle.wasm_read.specs.declared.types.ImportCompact as read_item
 use Rattle.wasm_read.specs.declared.types.TypeRef.{TypeRef}
 use Rattle.wasm_read.specs.Types as read

@@ -1,11 +1,11 @@
-use Rattle.std.proofs.Common.{◌≡◌, ◌++◌, ◌∷◌, [], ◌∙◌, List, Ok, Err, ap, sym, refl, append_assoc, append-nil, length, arith}
+use Rattle.std.proofs.Common.{◌++◌, ◌∷◌, [], ◌∙◌, List, Ok, Err, ap, sym, refl, append_assoc, append-nil, length, arith}
 use Rattle.std.proofs.lemmas.Result.{err_from_is_err_and}
 use Rattle.wasm_shapes.specs.Tree.{Tree}
 use Rattle.wasm_read.specs.Types as read
 use Rattle.wasm_write.specs.Rows.{compact_tree}
 use Rattle.wasm_write.specs.Types as write
 use Rattle.reencode_hooks.specs.Run.{ask}
-use Rattle.reencode_items.proofs.Leaving.{accepted_visited, second_visited, sure_visited, visited_left}
+use Rattle.reencode_items.proofs.Leaving.{accepted_visited, sure_visited, visited_left}
 use Rattle.reencode_core.proofs.CompactRows.{item_maps, trees_accepted, trees_refused, trees_leave}
 use Rattle.reencode_core.proofs.Group.{items_begin, items_more}
 use Rattle.reencode_core.proofs.imports.compact_items.Goals as goal
