@@ -235,9 +235,11 @@ module _ {c : ℕ} {bytes out : List ℕ} {list : List ListedVisit} {m : Listing
       let d = done e in
       let fits : m.count ≤ length m.list = subst (λ (k : ℕ). k ≤ length m.list) many (subst (λ (xs : List ListedVisit). n ≤ length xs) same d.2) in
       let low : m.count < 18446744073709551615 = subst (λ (k : ℕ). k < 18446744073709551615) many d.3 in
-      let long = ap (λ (x : Outcome). x.length) d.1 in
-      (d.1 ∙ ap (λ (k : ℕ). record (bare 0) { length = k }) (sym long), (subst (λ (k : ℕ). k ≤ length room) (sym long) (subst (λ (xs : List ListedVisit). n ≤ length xs) (sym d.0) d.2),
-      ap₂ (λ (k : ℕ) (xs : List ListedVisit). take k xs) (long ∙ many) (d.0 ∙ same) ∙ front fits low)))
+      let long = ap (λ (x : Outcome). x.length) d.1 in (
+        d.1 ∙ ap (λ (k : ℕ). record (bare 0) { length = k }) (sym long),
+        subst (λ (k : ℕ). k ≤ length room) (sym long) (subst (λ (xs : List ListedVisit). n ≤ length xs) (sym d.0) d.2),
+        ap₂ (λ (k : ℕ) (xs : List ListedVisit). take k xs) (long ∙ many) (d.0 ∙ same) ∙ front fits low,
+      ))
       (λ e. subst (λ (k : ℕ). IsTooSmall o room k) (many ∙ counted) (small e)) other
 
 -- ---- answers
