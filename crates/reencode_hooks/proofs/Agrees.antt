@@ -7,12 +7,12 @@ use Rattle.std.proofs.lemmas.List.{drop-append-le, take-append-drop, length-drop
 use Rattle.wasm_shapes.specs.declared.SectionId.{SectionId}
 use Rattle.wasm_shapes.specs.declared.Space.TheVariants as space
 use Rattle.wasm_shapes.specs.declared.Visit.{Visit}
-use Rattle.wasm_shapes.specs.declared.Visit.TheVariants.{Index, Outer, Section, Push, Pop}
-use Rattle.wasm_shapes.specs.Tree.{Tree, normal, before, kind, visits_from, fill, aimed_at}
+use Rattle.wasm_shapes.specs.declared.Visit.TheVariants.{Index, Outer, Section, Closed, Push, Pop}
+use Rattle.wasm_shapes.specs.Tree.{Tree, normal, before, behind, kind, visits_from, fill, aimed_at}
 use Rattle.reencode_hooks.specs.declared.error.Error.{Error}
 use Rattle.reencode_hooks.specs.declared.error.Error.TheVariants.{TooLarge, CanonicalizedHeapTypeReference}
 use Rattle.reencode_hooks.specs.Run.{Step, accepted, refused, and_then, run, answers, then_answers}
-use Rattle.reencode_hooks.specs.Walk.{walk_from, closed, announced}
+use Rattle.reencode_hooks.specs.Walk.{walk_from, closed, announced, followed}
 use Rattle.reencode_hooks.specs.Moments.{Moment, asks, closes, lost, moments_from, asked_in, passed}
 
 -- ---- steps
@@ -294,7 +294,7 @@ module _ {S E : Type 0} (asked : S → Visit → Step S (Error E) ℕ) (c : ℕ)
 
   -- ---- the walk
 
-  -- the section hook's answer, where it was called
+  -- the answer of the section hook, or of the closing hook, where it was called
   hook_answer : Tree → List ℕ → ℕ
   hook_answer (Tree.row k t) b = hook_answer t b
   hook_answer (Tree.told k t) b = get_or b 0 0
@@ -305,6 +305,12 @@ module _ {S E : Type 0} (asked : S → Visit → Step S (Error E) ℕ) (c : ℕ)
   agrees_announced last (Tree.row k t) = agrees_announced last t
   agrees_announced last (Tree.told k t) = agrees_ask (Section last (Some k))
   agrees_announced last _ = agrees_done 0
+
+  agrees_followed : (t : Tree) → Agrees (behind t) (λ s. followed asked s t) (λ b. map asks (behind t)) (λ b. hook_answer t b)
+  unfolding hook_answer
+  agrees_followed (Tree.row k t) = agrees_followed t
+  agrees_followed (Tree.told k t) = agrees_ask (Closed k)
+  agrees_followed _ = agrees_done 0
 
   before_count : (last : Option SectionId) (t : Tree) → length (before last t) ≡ length (before None t)
   before_count last (Tree.row k t) = before_count last t
@@ -337,5 +343,5 @@ module _ {S E : Type 0} (asked : S → Visit → Step S (Error E) ℕ) (c : ℕ)
   agrees last Tree.finish = agrees_map (λ _. Tree.finish) (agrees_ask (Section last None))
   agrees last (Tree.also t u) =
       agrees_as (λ b. fill (Tree.also t u) b) (λ b. rw (before_count last t) refl)
-      (agrees_bind (agrees_announced last t) (λ _. agrees_bind (agrees None t) (λ t'. agrees_map (λ u'. Tree.also t' u') (agrees (kind last t) u))))
+      (agrees_bind (agrees_announced last t) (λ _. agrees_bind (agrees None t) (λ t'. agrees_bind (agrees_followed t) (λ _. agrees_map (λ u'. Tree.also t' u') (agrees (kind last t) u)))))
   agrees last t = agrees_done t

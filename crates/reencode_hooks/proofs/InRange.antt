@@ -3,9 +3,9 @@ use Rattle.std.proofs.Common.{◌≡◌, ◌<◌, ◌≤◌, ◌^◌, ◌+◌, �
 use Rattle.std.proofs.lemmas.List.Elements.{All-nil, All-cons, All-append, All-head, All-tail}
 use Rattle.wasm_shapes.specs.declared.SectionId.{SectionId}
 use Rattle.wasm_shapes.specs.declared.Visit.{Visit}
-use Rattle.wasm_shapes.specs.declared.Visit.TheVariants.{Index, Outer, Section, Push, Pop}
+use Rattle.wasm_shapes.specs.declared.Visit.TheVariants.{Index, Outer, Section, Closed, Push, Pop}
 use Rattle.wasm_shapes.specs.declared.Space.TheVariants as space
-use Rattle.wasm_shapes.specs.Tree.{Tree, visits_from, before, kind}
+use Rattle.wasm_shapes.specs.Tree.{Tree, visits_from, before, behind, kind}
 use Rattle.wasm_shapes.specs.Fits.{InRange}
 use Rattle.reencode_hooks.specs.Run.{accepted, and_then, answered, ask, run}
 use Rattle.reencode_hooks.specs.Hooks.{IsInRange, IsGiven, IsAnswer, KeepsAnswers}
@@ -18,6 +18,11 @@ before_in_range : (last : Option SectionId) (t : Tree) → All IsInRange (before
 before_in_range last (Tree.row k t) = before_in_range last t
 before_in_range last (Tree.told k t) = All-cons IsInRange (Section last (Some k)) [] tt (All-nil IsInRange)
 before_in_range last _ = All-nil IsInRange
+
+behind_in_range : (t : Tree) → All IsInRange (behind t)
+behind_in_range (Tree.row k t) = behind_in_range t
+behind_in_range (Tree.told k t) = All-cons IsInRange (Closed k) [] tt (All-nil IsInRange)
+behind_in_range _ = All-nil IsInRange
 
 pub visits_in_range : (last : Option SectionId) (t : Tree) → InRange t → All IsInRange (visits_from last t)
 visits_in_range last (Tree.ix p i) r = All-cons IsInRange (Index p i) [] r (All-nil IsInRange)
@@ -51,8 +56,10 @@ visits_in_range last (Tree.placed i o t) r =
 visits_in_range last (Tree.told k t) r = visits_in_range None t r
 visits_in_range last Tree.finish r = All-cons IsInRange (Section last None) [] tt (All-nil IsInRange)
 visits_in_range last (Tree.also t u) r =
-    All-append IsInRange (before last t) (visits_from None t ++ visits_from (kind last t) u) (before_in_range last t)
-    (All-append IsInRange (visits_from None t) (visits_from (kind last t) u) (visits_in_range None t r.0) (visits_in_range (kind last t) u r.1))
+    let others : List Visit = visits_from (kind last t) u in
+    All-append IsInRange (before last t) (visits_from None t ++ (behind t ++ others)) (before_in_range last t)
+    (All-append IsInRange (visits_from None t) (behind t ++ others) (visits_in_range None t r.0)
+    (All-append IsInRange (behind t) others (behind_in_range t) (visits_in_range (kind last t) u r.1)))
 visits_in_range last _ r = All-nil IsInRange
 
 given_small : (v : Visit) (n : ℕ) → IsGiven v n → n < 2 ^ 32

@@ -5,7 +5,7 @@ use Rattle.std.proofs.lemmas.Bool.{leb-true, leb-false}
 use Rattle.std.proofs.lemmas.List.Elements.{All-nil, All-cons, All-head, All-tail, All-append}
 use Rattle.wasm_shapes.specs.declared.SectionId.{SectionId}
 use Rattle.wasm_shapes.specs.declared.Visit.{Visit}
-use Rattle.wasm_shapes.specs.Tree.{Tree, normal, frames, before, kind, fill, after, aimed_at, typed, Listed}
+use Rattle.wasm_shapes.specs.Tree.{Tree, normal, frames, before, behind, kind, fill, after, past, aimed_at, typed, Listed}
 use Rattle.wasm_shapes.specs.Spells.{Spelled}
 use Rattle.wasm_shapes.specs.Fits.{Fits}
 use Rattle.reencode_hooks.specs.declared.error.Error.{Error}
@@ -89,7 +89,7 @@ closed_from last (Tree.told k t) b = closed_from None t b
 closed_from last Tree.finish b = visited none
 closed_from last (Tree.also t u) b =
     let own = drop (length (before last t)) b in
-    closes_as (rw (before_count last t) refl) (side (told (before last t)) (side (closed_from None t own) (closed_from (kind last t) u (after t own))))
+    closes_as (rw (before_count last t) refl) (side (told (before last t)) (side (closed_from None t own) (side (told (behind t)) (closed_from (kind last t) u (past t own)))))
 closed_from last _ b = none
 
 pub closed : (t : Tree) (b : List ℕ) → closed_in (moments_from None t b) ≡ closings (fill t b)
@@ -208,7 +208,8 @@ known_from last (Tree.told k t) x b p = known_from None t x b p
 known_from last Tree.finish x b p = kept_visit kept_none
 known_from last (Tree.also t u) x b p =
     let own = drop (length (before last t)) b in
-    kept_side (record { is = none_lost-map (before last t) }) (kept_side (known_from None t p.0 own p.3) (known_from (kind last t) u p.1 (after t own) p.4))
+    kept_side (record { is = none_lost-map (before last t) }) (kept_side (known_from None t p.0 own p.3)
+    (kept_side (record { is = none_lost-map (behind t) }) (known_from (kind last t) u p.1 (past t own) p.4)))
 known_from last _ x b p = kept_none
 
 pub known : (t : Tree) (x b : List ℕ) → Spelled t x → NoneLost (moments_from None t b)

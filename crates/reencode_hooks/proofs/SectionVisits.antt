@@ -6,7 +6,7 @@ use Rattle.wasm_shapes.specs.declared.ImmKind.TheVariants as kind
 use Rattle.wasm_shapes.specs.declared.SectionId.{SectionId}
 use Rattle.wasm_shapes.specs.declared.Space.TheVariants as space
 use Rattle.wasm_shapes.specs.declared.Visit.{Visit}
-use Rattle.wasm_shapes.specs.declared.Visit.TheVariants.{Index, Section, Pop}
+use Rattle.wasm_shapes.specs.declared.Visit.TheVariants.{Index, Section, Closed, Pop}
 use Rattle.wasm_shapes.specs.Operators.{kinds_among}
 use Rattle.wasm_shapes.specs.Tree.{Tree, Listed, visits}
 use Rattle.wasm_shapes.specs.Shape.{Shape, Named, flat, shape_of_kind, shape_of_kinds, shape_of_row, listing}
@@ -14,6 +14,7 @@ use Rattle.wasm_shapes.specs.NamedShapes.{shape_of}
 use Rattle.wasm_shapes.specs.Spells.{Is, Spells}
 use Rattle.wasm_shapes.specs.Module.{section}
 use Rattle.wasm_shapes.proofs.Lists.{both}
+use Rattle.reencode_hooks.specs.Hooks.{MayAdd}
 use Rattle.reencode_hooks.specs.SectionVisits.{is_section, section_visits}
 
 -- no sections stand in it; nor do they in the immediates of an operator
@@ -100,9 +101,14 @@ pub within : (text : List ℕ) (t : Tree) → Spells section text t → section_
 within text t p = none_within p.shaped refl
 
 -- where there are none, none stands among them
-pub none_told : (front rest : List Visit) (after before : Option SectionId) → section_visits (front ++ Section after before ∷ rest) ≡ [] → ⊥
-none_told front rest after before none = go (section_visits front) (sym (filter-append is_section front (Section after before ∷ rest)) ∙ none)
+pub none_told : (front rest : List Visit) (v : Visit) → MayAdd v → section_visits (front ++ v ∷ rest) ≡ [] → ⊥
+none_told front rest v may none = go (section_visits front) (section_visits (v ∷ rest)) (some v may) (sym (filter-append is_section front (v ∷ rest)) ∙ none)
   where
-    go : (xs : List Visit) → xs ++ (Section after before ∷ section_visits rest) ≡ [] → ⊥
-    go [] e = cc
-    go (x ∷ xs) e = cc
+    some : (w : Visit) → MayAdd w → section_visits (w ∷ rest) ≡ [] → ⊥
+    some (Section after before) may e = cc
+    some (Closed kind) may e = cc
+    some _ may e = absurd may
+
+    go : (xs ys : List Visit) → (ys ≡ [] → ⊥) → xs ++ ys ≡ [] → ⊥
+    go [] ys h e = h e
+    go (x ∷ xs) ys h e = cc

@@ -2,7 +2,7 @@
 use Rattle.std.specs.Fmt.{◌++?◌}
 use Rattle.std.specs.Prelude.{◌++◌, ◌&&◌, ℕ, Bool, true, false, List, Option, Some, Result, Ok, Err, IsTrue, codes, refl}
 use Rattle.wasm_shapes.specs.declared.Visit.{Visit}
-use Rattle.wasm_shapes.specs.declared.Visit.TheVariants.{Index, Outer, Section, Push, Pop}
+use Rattle.wasm_shapes.specs.declared.Visit.TheVariants.{Index, Outer, Section, Closed, Push, Pop}
 use Rattle.wasm_write.specs.Sections.{SectionRow}
 use Rattle.reencode_hooks.specs.declared.error.Error.{Error}
 use Rattle.reencode_hooks.specs.declared.error.Error.TheVariants.{CanonicalizedHeapTypeReference, InvalidConstExpr, InvalidCodeSectionSize, UnexpectedNonCoreModuleSection, UnexpectedNonComponentSection, UnsupportedCoreTypeInComponent, ParseError, UserError, TooLarge, NoMemory}
@@ -83,6 +83,7 @@ reindexed_in_range : (v : Visit) (n : ℕ) → IsInRange v → IsGiven v n → I
 reindexed_in_range (Index p i) n h g = g
 reindexed_in_range (Outer p k i) n h g = (h.0, g)
 reindexed_in_range (Section after before) n h g = tt
+reindexed_in_range (Closed kind) n h g = tt
 reindexed_in_range Push n h g = tt
 reindexed_in_range Pop n h g = tt
 
@@ -93,6 +94,8 @@ answers_second X (Outer p k i) n (Ok m) h = h
 answers_second X (Outer p k i) n (Err e) h = h
 answers_second X (Section after before) n (Ok m) h = h
 answers_second X (Section after before) n (Err e) h = h
+answers_second X (Closed kind) n (Ok m) h = h
+answers_second X (Closed kind) n (Err e) h = h
 answers_second X Push n (Ok m) h = h
 answers_second X Push n (Err e) h = h
 answers_second X Pop n (Ok m) h = h

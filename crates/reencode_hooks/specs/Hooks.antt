@@ -5,7 +5,7 @@ use Rattle.wasm_shapes.specs.declared.SectionId.{SectionId}
 use Rattle.wasm_shapes.specs.declared.Space.{Space}
 use Rattle.wasm_shapes.specs.declared.Space.TheVariants as space
 use Rattle.wasm_shapes.specs.declared.Visit.{Visit}
-use Rattle.wasm_shapes.specs.declared.Visit.TheVariants.{Index, Outer, Section}
+use Rattle.wasm_shapes.specs.declared.Visit.TheVariants.{Index, Outer, Section, Closed}
 use Rattle.wasm_write.specs.Sections.{SectionRow, Sections}
 use Rattle.reencode_hooks.specs.declared.error.Error.{Error}
 use Rattle.reencode_hooks.specs.declared.error.Error.TheVariants.{TooLarge, NoMemory}
@@ -22,7 +22,7 @@ abbrev pub Replies : {S E : Type 0} → (S → Visit → Result ℕ E) → (S �
     → Result ℕ (Error E) → Type 0
 Replies reply next old new v r = Gives (ask reply next old v) (λ n. n) new r
 
--- ---- the section hook
+-- ---- the section hook and the closing hook
 
 -- the second has the first's ceiling and sections, and these sections after them
 abbrev pub Gains : Sections → Sections → List SectionRow → Type 0
@@ -52,7 +52,7 @@ RefusesSection reply next old new v ceiling rows (TooLarge size) = HasTooLarge c
 RefusesSection reply next old new v ceiling rows NoMemory = Unit {0}
 RefusesSection reply next old new v ceiling rows e = ask reply next old v ≡ refused e new
 
--- the section hook appended what `adds` says, or with an error a front part of it
+-- a section hook appended what `adds` says, or with an error a front part of it
 abbrev pub RepliesSection : {S E : Type 0} → (S → Visit → Result ℕ E) → (S → Visit → S) → (S → Visit → List SectionRow)
     → S → S → Sections → Sections → Visit → Result (Unit {0}) (Error E) → Type 0
 RepliesSection reply next adds old new m n v (Ok _) = (ask reply next old v ≡ accepted 0 new) × Gains m n (adds old v)
@@ -89,6 +89,7 @@ abbrev pub MayRefuse : Visit → Type 0
 MayRefuse (Index p i) = is_of_components p ≡ false
 MayRefuse (Outer p k i) = is_of_components p ≡ false
 MayRefuse (Section after before) = Unit {0}
+MayRefuse (Closed kind) = Unit {0}
 MayRefuse _ = ⊥
 
 abbrev pub IsAnswer : {E : Type 0} → Visit → Result ℕ E → Type 0
@@ -99,24 +100,28 @@ IsAnswer v (Err e) = MayRefuse v
 abbrev pub KeepsAnswers : {S E : Type 0} → (S → Visit → Result ℕ E) → Type 0
 KeepsAnswers {S} reply = (s : S) (v : Visit) → IsInRange v → IsAnswer v (reply s v)
 
--- a visit at which sections may be added: one of the section hook
+-- a visit at which sections may be added: one of the section hook or of the closing hook
 abbrev pub MayAdd : Visit → Type 0
 MayAdd (Section after before) = Unit {0}
+MayAdd (Closed kind) = Unit {0}
 MayAdd _ = ⊥
 
 -- Nothing is added at a visit at which none may be, and where the type says that it adds nothing, at no visit.
 abbrev pub KeepsAdds : {S : Type 0} → (S → Visit → List SectionRow) → Bool → Type 0
 KeepsAdds {S} adds nothing = (s : S) (v : Visit) → (MayAdd v → IsTrue nothing) → adds s v ≡ []
 
--- this between two sections, where the section hook is told of them, and nothing at another visit
-abbrev pub at_section : {A : Type 0} → (Option SectionId → Option SectionId → List A) → Visit → List A
-at_section between (Section after before) = between after before
-at_section between _ = []
+-- the first between two sections, where the section hook is told of them, the second behind one, and nothing at another visit
+abbrev pub at_section : {A : Type 0} → (Option SectionId → Option SectionId → List A) → (SectionId → List A) → Visit → List A
+at_section between behind (Section after before) = between after before
+at_section between behind (Closed kind) = behind kind
+at_section between behind _ = []
 
 -- such sections are added as they may be
-pub at_section-keeps : {S : Type 0} (between : S → Option SectionId → Option SectionId → List SectionRow) → KeepsAdds (λ s. at_section (between s)) false
-at_section-keeps between s (Section after before) h = absurd (false≢true (h tt))
-at_section-keeps between s _ h = refl
+pub at_section-keeps : {S : Type 0} (between : S → Option SectionId → Option SectionId → List SectionRow) (behind : S → SectionId → List SectionRow)
+    → KeepsAdds (λ s. at_section (between s) (behind s)) false
+at_section-keeps between behind s (Section after before) h = absurd (false≢true (h tt))
+at_section-keeps between behind s (Closed kind) h = absurd (false≢true (h tt))
+at_section-keeps between behind s _ h = refl
 
 -- and so are sections behind others
 pub both_keep : {S : Type 0} {f g : S → Visit → List SectionRow} {p q both : Bool} → (IsTrue both → IsTrue p × IsTrue q) → KeepsAdds f p → KeepsAdds g q

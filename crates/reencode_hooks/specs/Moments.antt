@@ -4,7 +4,7 @@ use Rattle.wasm_shapes.specs.declared.SectionId.{SectionId}
 use Rattle.wasm_shapes.specs.declared.Space.TheVariants as space
 use Rattle.wasm_shapes.specs.declared.Visit.{Visit}
 use Rattle.wasm_shapes.specs.declared.Visit.TheVariants.{Index, Outer, Section, Push, Pop}
-use Rattle.wasm_shapes.specs.Tree.{Tree, normal, before, kind, fill, after}
+use Rattle.wasm_shapes.specs.Tree.{Tree, normal, before, behind, kind, fill, after, past}
 use Rattle.reencode_hooks.specs.declared.error.Error.{Error}
 use Rattle.reencode_hooks.specs.declared.error.Error.TheVariants.{TooLarge, CanonicalizedHeapTypeReference}
 use Rattle.reencode_hooks.specs.Run.{Step, accepted, refused, and_then, run}
@@ -45,7 +45,7 @@ moments_from last (Tree.told k t) answers = moments_from None t answers
 moments_from last Tree.finish answers = asks (Section last None) ∷ []
 moments_from last (Tree.also t u) answers =
     let own = drop (length (before last t)) answers in
-    map asks (before last t) ++ (moments_from None t own ++ moments_from (kind last t) u (after t own))
+    map asks (before last t) ++ (moments_from None t own ++ (map asks (behind t) ++ moments_from (kind last t) u (past t own)))
 moments_from last _ answers = []
 
 abbrev pub moments : Tree → List ℕ → List Moment

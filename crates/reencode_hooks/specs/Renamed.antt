@@ -5,7 +5,7 @@ use Rattle.std.specs.Prelude.{◌&&◌}
 use Rattle.std.proofs.lemmas.Bool.{ltb-true}
 use Rattle.wasm_shapes.specs.declared.Space.{Space}
 use Rattle.wasm_shapes.specs.declared.Space.TheVariants as space
-use Rattle.wasm_shapes.specs.declared.Visit.TheVariants.{Index, Outer, Section, Push, Pop}
+use Rattle.wasm_shapes.specs.declared.Visit.TheVariants.{Index, Outer, Section, Closed, Push, Pop}
 use Rattle.wasm_shapes.specs.Types.{is_core}
 use Rattle.reencode_hooks.specs.Hooks.{IsAnswer, KeepsAnswers, is_of_components}
 use Rattle.reencode_hooks.specs.Renamings.{if_index, entry_of, entries_in, or_itself, renamer_reply}
@@ -44,5 +44,6 @@ pub renamer_answers : KeepsAnswers renamer_reply
 renamer_answers r (Index p i) h = (answers (entry_of r p i) (r.strict && is_core p) p 0 i (small (map.get (entries_in r p) i)) h (λ e. core_alone p (second r.strict (is_core p) e))).0
 renamer_answers r (Outer p k i) h = (answers (entry_of r p i) (r.strict && is_core p) p k i (small (map.get (entries_in r p) i)) h.1 (λ e. core_alone p (second r.strict (is_core p) e))).1
 renamer_answers r (Section a b) h = refl
+renamer_answers r (Closed kind) h = refl
 renamer_answers r Push h = refl
 renamer_answers r Pop h = refl

@@ -7,7 +7,7 @@ use Rattle.std.specs.Coded.{Coded, code_by, coded×, coded_list, coded_bool, cod
 use Rattle.wasm_shapes.specs.declared.Space.{Space}
 use Rattle.wasm_shapes.specs.declared.Space.TheVariants as space
 use Rattle.wasm_shapes.specs.declared.Visit.{Visit}
-use Rattle.wasm_shapes.specs.declared.Visit.TheVariants.{Index, Outer, Section, Push, Pop}
+use Rattle.wasm_shapes.specs.declared.Visit.TheVariants.{Index, Outer, Section, Closed, Push, Pop}
 use Rattle.wasm_shapes.specs.Names.{space_name}
 use Rattle.wasm_shapes.specs.Types.{is_core}
 use Rattle.reencode_hooks.specs.declared.asked.Asked.{Asked}
@@ -108,6 +108,7 @@ abbrev pub renamer_next : Renaming → Visit → Renaming
 renamer_next r (Index p i) = noted r (what.Of p)
 renamer_next r (Outer p k i) = noted r (what.Of p)
 renamer_next r (Section after before) = noted r what.SectionHook
+renamer_next r (Closed kind) = r
 renamer_next r Push = noted r what.Push
 renamer_next r Pop = noted r what.Pop
 

@@ -3,7 +3,7 @@ use Rattle.std.specs.Prelude.{ℕ, length, nat_le, Option, Some, None, if◌then
 use Rattle.wasm_shapes.specs.declared.SectionId.{SectionId}
 use Rattle.wasm_shapes.specs.declared.Space.TheVariants as space
 use Rattle.wasm_shapes.specs.declared.Visit.{Visit}
-use Rattle.wasm_shapes.specs.declared.Visit.TheVariants.{Index, Outer, Section, Push, Pop}
+use Rattle.wasm_shapes.specs.declared.Visit.TheVariants.{Index, Outer, Section, Closed, Push, Pop}
 use Rattle.wasm_shapes.specs.Tree.{Tree, normal, aimed_at, kind}
 use Rattle.reencode_hooks.specs.declared.error.Error.{Error}
 use Rattle.reencode_hooks.specs.declared.error.Error.TheVariants.{TooLarge, CanonicalizedHeapTypeReference}
@@ -18,6 +18,12 @@ abbrev pub announced : {S E : Type 0} → (S → Visit → Step S (Error E) ℕ)
 announced asked s last (Tree.row k t) = announced asked s last t
 announced asked s last (Tree.told k t) = asked s (Section last (Some k))
 announced asked s last _ = accepted 0 s
+
+-- the closing hook behind a section, where it is told of it
+abbrev pub followed : {S E : Type 0} → (S → Visit → Step S (Error E) ℕ) → S → Tree → Step S (Error E) ℕ
+followed asked s (Tree.row k t) = followed asked s t
+followed asked s (Tree.told k t) = asked s (Closed k)
+followed asked s _ = accepted 0 s
 
 -- Each index is asked in order and replaced by its answer, and each frame is measured when it closes.
 -- The kind is that of the last section of the module so far.
@@ -55,7 +61,7 @@ walk_from asked c last s (Tree.told k t) = and_then (walk_from asked c None s t)
 walk_from asked c last s Tree.finish = and_then (asked s (Section last None)) (λ _ m. accepted Tree.finish m)
 walk_from asked c last s (Tree.also t u) =
     and_then (announced asked s last t) (λ _ m. and_then (walk_from asked c None m t)
-    (λ t' n. and_then (walk_from asked c (kind last t) n u) (λ u' k. accepted (Tree.also t' u') k)))
+    (λ t' n. and_then (followed asked n t) (λ _ l. and_then (walk_from asked c (kind last t) l u) (λ u' k. accepted (Tree.also t' u') k))))
 walk_from asked c last s t = accepted t s
 
 -- what a walk over a tree gives: the filled tree, or the first refusal, or the first frame above the ceiling

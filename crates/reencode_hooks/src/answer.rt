@@ -12,7 +12,7 @@ use wasm_write::Module;
 ///
 /// It has `ReencodeIndices` by this.
 pub trait AnswerVisits {
-    /// Why an index, or a call of the section hook, is refused.
+    /// Why an index, or a call of a section hook, is refused.
     type Error;
 
     // The answer to a visit, or its refusal.
@@ -108,6 +108,17 @@ impl<T: AnswerVisits> ReencodeIndices for T {
         before: Option<SectionId>,
     ) -> Result<(), Error<<T as AnswerVisits>::Error>> {
         match self.answer(Visit::Section(after, before)) {
+            Ok(_) => Ok(()),
+            Err(refusal) => Err(Error::UserError(refusal)),
+        }
+    }
+
+    fn close_section_hook(
+        &mut self,
+        _module: &mut Module,
+        section: SectionId,
+    ) -> Result<(), Error<<T as AnswerVisits>::Error>> {
+        match self.answer(Visit::Closed(section)) {
             Ok(_) => Ok(()),
             Err(refusal) => Err(Error::UserError(refusal)),
         }

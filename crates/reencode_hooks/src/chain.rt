@@ -9,7 +9,7 @@ use wasm_shapes::SectionId;
 use wasm_write::Module;
 
 /// Each index is answered by `a`, and that answer by `b`, which is not asked where `a` refused. The section hook of `a` is
-/// called before that of `b`.
+/// called before that of `b`, and so is its closing hook.
 ///
 /// It keeps every default, adds nothing where neither of the two adds, and never wants memory where neither of them does. Of
 /// the two only these hooks are asked: what either overrides of the traits above is not.
@@ -176,6 +176,20 @@ impl<A: ReencodeIndices, B: ReencodeIndices> ReencodeIndices for Chain<A, B> {
     ) -> Result<(), Error<ChainError<A::Error, B::Error>>> {
         match self.a.intersperse_section_hook(module, after, before) {
             Ok(()) => match self.b.intersperse_section_hook(module, after, before) {
+                Ok(()) => Ok(()),
+                Err(e) => Err(second(e)),
+            },
+            Err(e) => Err(first(e)),
+        }
+    }
+
+    fn close_section_hook(
+        &mut self,
+        module: &mut Module,
+        section: SectionId,
+    ) -> Result<(), Error<ChainError<A::Error, B::Error>>> {
+        match self.a.close_section_hook(module, section) {
+            Ok(()) => match self.b.close_section_hook(module, section) {
                 Ok(()) => Ok(()),
                 Err(e) => Err(second(e)),
             },

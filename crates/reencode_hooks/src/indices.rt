@@ -2,7 +2,7 @@
 ghost use Rattle.std.specs.Prelude.{ℕ, List, Result, Bool};
 ghost use Rattle.wasm_shapes.specs.declared.Space.TheVariants as space;
 ghost use Rattle.wasm_shapes.specs.declared.Visit.{Visit};
-ghost use Rattle.wasm_shapes.specs.declared.Visit.TheVariants.{Index, Section};
+ghost use Rattle.wasm_shapes.specs.declared.Visit.TheVariants.{Index, Section, Closed};
 ghost use Rattle.wasm_write.specs.Sections.{SectionRow};
 ghost use Rattle.reencode_hooks.specs.Hooks.{Replies, RepliesSection, KeepsAnswers, KeepsAdds};
 ghost use Rattle.reencode_hooks.specs.Run.{NeverWants};
@@ -14,7 +14,7 @@ use wasm_write::Module;
 /// What a re-encoder does with each index.
 ///
 /// A type's meaning is `reply`, the answer to a visit or its refusal, `next`, the state after the visit, and `adds`, the
-/// sections that the section hook appends. A visit is a call of one of these methods, or of one of those that the traits
+/// sections that the section hook or the closing hook appends. A visit is a call of one of these methods, or of one of those that the traits
 /// above add. The default methods of the traits above call them once for each index of an item, in a fixed order.
 ///
 /// A hook that answers `NoMemory`, which may come at any time unless the type is `sure`, leaves the state open.
@@ -28,7 +28,7 @@ pub trait ReencodeIndices {
     // The state after a visit, refused or not.
     ghost next: { Self → Visit → Self };
 
-    // The sections that the section hook appends at a visit.
+    // The sections that the section hook, or the closing hook, appends at a visit.
     ghost adds: { Self → Visit → List SectionRow };
 
     // Whether each structural method of the traits above meets the clause of its default body.
@@ -99,9 +99,22 @@ pub trait ReencodeIndices {
             «module».old «module».new (Section after before) result }
         ensures sure { NeverWants sure result };
 
+    /// May append sections to the module, directly behind a section of this kind, which was appended just before. It keeps the
+    /// module's ceiling and sections.
+    ///
+    /// `TooLarge` comes only where a section that it is to append has a body above the ceiling, with the body's length.
+    fn close_section_hook(
+        &mut self,
+        module: &mut Module,
+        section: SectionId,
+    ) -> Result<(), Error<Self::Error>>
+        ensures answer { RepliesSection reply next adds self.old self.new
+            «module».old «module».new (Closed section) result }
+        ensures sure { NeverWants sure result };
+
     // An answer is an index, and a component's index is never refused.
     ghost answers_ok: { KeepsAnswers reply };
 
-    // Sections are added at visits of the section hook alone, and where the type says so, never.
+    // Sections are added at visits of the section hook and the closing hook alone, and where the type says so, never.
     ghost adds_ok: { KeepsAdds adds adds_nothing };
 }

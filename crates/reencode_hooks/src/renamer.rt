@@ -187,6 +187,7 @@ impl AnswerVisits for Renamer {
                 self.note(Asked::SectionHook);
                 Ok(0)
             }
+            Visit::Closed(_) => Ok(0),
             Visit::Push => {
                 self.note(Asked::Push);
                 Ok(0)

@@ -50,7 +50,7 @@ impl<R: IndexRule> AnswerVisits for ByRule<R> {
             Visit::Index(space, index) | Visit::Outer(space, _, index) => {
                 self.rule.index(space, index)
             }
-            Visit::Section(..) | Visit::Push | Visit::Pop => Ok(0),
+            Visit::Section(..) | Visit::Closed(_) | Visit::Push | Visit::Pop => Ok(0),
         }
     }
 }

@@ -14,7 +14,7 @@ pub fn index_of(visit: Visit) -> u32
 {
     match visit {
         Visit::Index(_, index) | Visit::Outer(_, _, index) => index,
-        Visit::Section(..) | Visit::Push | Visit::Pop => 0,
+        Visit::Section(..) | Visit::Closed(_) | Visit::Push | Visit::Pop => 0,
     }
 }
 
@@ -88,6 +88,19 @@ pub fn intersperse_section_hook<T: ReencodeIndices>(
     module: &mut Module,
     after: Option<SectionId>,
     before: Option<SectionId>,
+) -> Result<(), Error<T::Error>>
+    ensures answer { IsOk result }
+    ensures state { reencoder.new ≡ reencoder.old }
+    ensures sections { «module».new ≡ «module».old }
+{
+    Ok(())
+}
+
+/// Appends no section. The reencoder and the module stay as they were.
+pub fn close_section_hook<T: ReencodeIndices>(
+    reencoder: &mut T,
+    module: &mut Module,
+    section: SectionId,
 ) -> Result<(), Error<T::Error>>
     ensures answer { IsOk result }
     ensures state { reencoder.new ≡ reencoder.old }

@@ -1,7 +1,7 @@
 -- The laws of `specs/ComponentLaws.antt`.
 use Rattle.std.proofs.Common.{◌≡◌, ℕ, zero, suc, ◌+◌, ◌≤◌, max, List, [], ◌∷◌, ◌++◌, drop, get_or, length, None, refl, sym, ap, ap₂, ◌∙◌, inr, subst, arith}
 use Rattle.std.proofs.lemmas.List.{append_cancel_left}
-use Rattle.wasm_shapes.specs.Tree.{Tree, Listed, normal, fill, after, before, aimed_at}
+use Rattle.wasm_shapes.specs.Tree.{Tree, Listed, normal, fill, after, past, before, aimed_at}
 use Rattle.wasm_shapes.specs.Spells.{Spells}
 use Rattle.wasm_shapes.specs.Sections.{core_header, component_header, headed_tree}
 use Rattle.wasm_shapes.specs.Module.{CoreReading}
@@ -44,7 +44,7 @@ as_deep (Tree.aimed w i o t) answers = ap₂ max (as_deep o (drop 1 (after t ans
 as_deep (Tree.placed i o t) answers = ap₂ max (as_deep o (drop 1 answers)) (as_deep t (after o (drop 1 answers)))
 as_deep (Tree.told k t) answers = as_deep t answers
 as_deep (Tree.also t u) answers =
-    let own = drop (length (before None t)) answers in ap₂ max (as_deep t own) (as_deep u (after t own))
+    let own = drop (length (before None t)) answers in ap₂ max (as_deep t own) (as_deep u (past t own))
 as_deep _ answers = refl
 
 pub shallow_filled : {depth : ℕ} (t : Tree) (answers : List ℕ) → Shallow depth t → Shallow depth (fill t answers)

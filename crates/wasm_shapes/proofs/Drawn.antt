@@ -3,7 +3,7 @@ use Rattle.std.proofs.Common.{◌≡◌, ◌+◌, ℕ, zero, suc, List, [], ◌�
 use Rattle.std.proofs.lemmas.List.Elements.{All-nil, All-cons, All-append, All-contains, All-contains_itself, All-weaker, Contains-append_left}
 use Rattle.wasm_shapes.specs.declared.SectionId.{SectionId}
 use Rattle.wasm_shapes.specs.declared.Visit.{Visit}
-use Rattle.wasm_shapes.specs.declared.Visit.TheVariants.{Index, Outer, Section, Push, Pop}
+use Rattle.wasm_shapes.specs.declared.Visit.TheVariants.{Index, Outer, Section, Closed, Push, Pop}
 use Rattle.wasm_shapes.specs.Tree.{Tree, visits}
 use Rattle.wasm_shapes.specs.Shape.{Shape}
 use Rattle.wasm_shapes.specs.Spells.{Spells}
@@ -21,6 +21,7 @@ open_more k i j [] h = let e : i ≡ j = cc in ap (λ (z : ℕ). Some (z + k)) e
 open_more k i j (Index s n ∷ vs) h = open_more k i j vs h
 open_more k i j (Outer s c n ∷ vs) h = open_more k i j vs h
 open_more k i j (Section after before ∷ vs) h = open_more k i j vs h
+open_more k i j (Closed kind ∷ vs) h = open_more k i j vs h
 open_more k i j (Push ∷ vs) h = let e : suc (i + k) ≡ suc i + k = omega arith in rw e (open_more k (suc i) j vs h)
 open_more k zero j (Pop ∷ vs) h = absurd cc
 open_more k (suc i) j (Pop ∷ vs) h = let e : suc i + k ≡ suc (i + k) = omega arith in rw e (open_more k i j vs h)
@@ -31,6 +32,7 @@ open_joined i j [] ws h = let e : i ≡ j = cc in ap (λ (z : ℕ). open_behind 
 open_joined i j (Index s n ∷ vs) ws h = open_joined i j vs ws h
 open_joined i j (Outer s c n ∷ vs) ws h = open_joined i j vs ws h
 open_joined i j (Section after before ∷ vs) ws h = open_joined i j vs ws h
+open_joined i j (Closed kind ∷ vs) ws h = open_joined i j vs ws h
 open_joined i j (Push ∷ vs) ws h = open_joined (suc i) j vs ws h
 open_joined zero j (Pop ∷ vs) ws h = absurd cc
 open_joined (suc i) j (Pop ∷ vs) ws h = open_joined i j vs ws h
@@ -40,6 +42,7 @@ open_part i j [] ws h = (i, refl)
 open_part i j (Index s n ∷ vs) ws h = open_part i j vs ws h
 open_part i j (Outer s c n ∷ vs) ws h = open_part i j vs ws h
 open_part i j (Section after before ∷ vs) ws h = open_part i j vs ws h
+open_part i j (Closed kind ∷ vs) ws h = open_part i j vs ws h
 open_part i j (Push ∷ vs) ws h = open_part (suc i) j vs ws h
 open_part zero j (Pop ∷ vs) ws h = absurd cc
 open_part (suc i) j (Pop ∷ vs) ws h = open_part i j vs ws h
@@ -88,6 +91,10 @@ drawn_none {bytes = bytes} = record { each = All-nil (IsDrawn bytes); opened = (
 -- the section hook's
 pub drawn_hook : {bytes : List ℕ} {after before : Option SectionId} → Drawn bytes (Section after before ∷ [])
 drawn_hook {bytes = bytes} {after = after} {before = before} = record { each = All-cons (IsDrawn bytes) (Section after before) [] tt (All-nil (IsDrawn bytes)); opened = (0, refl) }
+
+-- the closing hook's
+pub drawn_closing : {bytes : List ℕ} {kind : SectionId} → Drawn bytes (Closed kind ∷ [])
+drawn_closing {bytes = bytes} {kind = kind} = record { each = All-cons (IsDrawn bytes) (Closed kind) [] tt (All-nil (IsDrawn bytes)); opened = (0, refl) }
 
 -- a scope is opened
 pub drawn_push : {bytes : List ℕ} → Drawn bytes (Push ∷ [])

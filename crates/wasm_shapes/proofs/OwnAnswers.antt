@@ -6,7 +6,7 @@ use Rattle.wasm_shapes.specs.declared.SectionId.{SectionId}
 use Rattle.wasm_shapes.specs.declared.Visit.{Visit}
 use Rattle.wasm_shapes.specs.declared.Visit.TheVariants.{Index, Pop}
 use Rattle.wasm_shapes.specs.declared.Space.TheVariants as space
-use Rattle.wasm_shapes.specs.Tree.{Tree, visits, visits_from, before, kind, after, fill, aimed_at, Listed}
+use Rattle.wasm_shapes.specs.Tree.{Tree, visits, visits_from, before, behind, kind, after, past, fill, aimed_at, Listed}
 use Rattle.wasm_shapes.specs.Own.{asked_index, own}
 use Rattle.wasm_shapes.specs.Own as statements
 
@@ -19,7 +19,9 @@ length-before _ l m = refl
 length-visits : (t : Tree) (l m : Option SectionId) → length (visits_from l t) ≡ length (visits_from m t)
 length-visits (Tree.also t u) l m =
     length-append (before l t) _ ∙ ap₂ (λ (a b : ℕ). a + b) (length-before t l m)
-    (length-append (visits t) (visits_from (kind l t) u) ∙ ap (λ (b : ℕ). length (visits t) + b) (length-visits u (kind l t) (kind m t)) ∙ sym (length-append (visits t) (visits_from (kind m t) u)))
+    (length-append (visits t) (behind t ++ visits_from (kind l t) u) ∙ ap (λ (b : ℕ). length (visits t) + b)
+    (length-append (behind t) _ ∙ ap (λ (b : ℕ). length (behind t) + b) (length-visits u (kind l t) (kind m t)) ∙ sym (length-append (behind t) _))
+    ∙ sym (length-append (visits t) (behind t ++ visits_from (kind m t) u)))
     ∙ sym (length-append (before m t) _)
 length-visits _ l m = refl
 
@@ -36,6 +38,9 @@ drop-given xs r = ap (λ (n : ℕ). drop n (given xs r)) (sym (length-map xs ask
 
 after-given : (t : Tree) (l : Option SectionId) (r : List ℕ) → after t (given (visits_from l t) r) ≡ r
 after-given t l r = ap (λ (n : ℕ). drop n (given (visits_from l t) r)) (length-visits t None l) ∙ drop-given (visits_from l t) r
+
+past-given : (t : Tree) (r : List ℕ) → past t (given (visits t) (given (behind t) r)) ≡ r
+past-given t r = ap (λ (z : List ℕ). drop (length (behind t)) z) (after-given t None (given (behind t) r)) ∙ drop-given (behind t) r
 
 -- the table that was asked, with what is listed and the offset behind it
 left_own : (w : Listed) (i : ℕ) (o t o' t' : Tree) → i ≡ 0 → o ≡ o' → t ≡ t' → aimed_at w i o t ≡ Tree.left w o' t'
@@ -83,12 +88,16 @@ fill-given (Tree.placed i o t) l r = two o t (λ a b. Tree.placed i a b) r (fill
 fill-given (Tree.also t u) l r =
     let bs = before l t in
     let rest = given (visits_from (kind l t) u) r in
-    let own_rest = given (visits t) rest in
-    let same : given (visits_from l (Tree.also t u)) r ≡ given bs own_rest = split bs (visits t ++ visits_from (kind l t) u) r ∙ ap (λ (z : List ℕ). given bs z) (split (visits t) (visits_from (kind l t) u) r) in
-    let past : drop (length (before None t)) (given (visits_from l (Tree.also t u)) r) ≡ own_rest =
+    let told = given (behind t) rest in
+    let own_rest = given (visits t) told in
+    let inner : given (visits t ++ (behind t ++ visits_from (kind l t) u)) r ≡ own_rest =
+    split (visits t) (behind t ++ visits_from (kind l t) u) r ∙ ap (λ (z : List ℕ). given (visits t) z) (split (behind t) (visits_from (kind l t) u) r) in
+    let same : given (visits_from l (Tree.also t u)) r ≡ given bs own_rest =
+    split bs (visits t ++ (behind t ++ visits_from (kind l t) u)) r ∙ ap (λ (z : List ℕ). given bs z) inner in
+    let begun : drop (length (before None t)) (given (visits_from l (Tree.also t u)) r) ≡ own_rest =
     ap (λ (n : ℕ). drop n (given (visits_from l (Tree.also t u)) r)) (length-before t None l) ∙ ap (λ (z : List ℕ). drop (length bs) z) same ∙ drop-given bs own_rest in
-    ap (λ (z : List ℕ). Tree.also (fill t z) (fill u (after t z))) past
-    ∙ ap₂ Tree.also (fill-given t None rest) (ap (λ (z : List ℕ). fill u z) (after-given t None rest) ∙ fill-given u (kind l t) r)
+    ap (λ (z : List ℕ). Tree.also (fill t z) (fill u (past t z))) begun
+    ∙ ap₂ Tree.also (fill-given t None told) (ap (λ (z : List ℕ). fill u z) (past-given t rest) ∙ fill-given u (kind l t) r)
 fill-given _ l r = refl
 
 pub fill_own : statements.IsOwn

@@ -8,7 +8,7 @@ use mathlib.Core.Logic.{∥∥₁_elim, ∥∥₁_map}
 use Rattle.wasm_leb.specs.Leb.{FitsBits, leb, IsSigned}
 use Rattle.wasm_leb.proofs.Shortest.{leb_spells, leb_spells_64, signed_leb_spells, s32_spells, s64_spells}
 use Rattle.wasm_shapes.specs.Operators.{Code, plain, prefixed}
-use Rattle.wasm_shapes.specs.Tree.{code_bytes, mem_bytes, final_bytes, placed_bytes, Tree, count, normal, frames, after, before, fill, aimed_at, Listed, typed, left_flag, aimed_flag}
+use Rattle.wasm_shapes.specs.Tree.{code_bytes, mem_bytes, final_bytes, placed_bytes, Tree, count, normal, frames, after, past, before, fill, aimed_at, Listed, typed, left_flag, aimed_flag}
 use Rattle.wasm_shapes.specs.Shape.{Shape, listing}
 use Rattle.wasm_shapes.specs.Spells.{Is, Spelled, SpelledCode, SpelledPlace}
 use Rattle.wasm_shapes.specs.Fits.{InRange, Fits, CodeInRange}
@@ -309,7 +309,7 @@ fill_in_range (Tree.told k t) answers r h = fill_in_range t answers r h
 fill_in_range (Tree.also t u) answers r h =
     let own = drop (length (before None t)) answers in
     let small = Small-drop (length (before None t)) answers h in
-    (fill_in_range t own r.0 small, fill_in_range u (after t own) r.1 (Small-drop _ own small))
+    (fill_in_range t own r.0 small, fill_in_range u (past t own) r.1 (Small-drop _ (after t own) (Small-drop _ own small)))
 fill_in_range _ answers r h = r
 
 pub fill_is : {s : Shape} {t : Tree} → Is s t → (answers : List ℕ) → Is s (fill t answers)
@@ -359,4 +359,4 @@ fill_is (Is.not_led o) answers = Is.not_led o
 fill_is (Is.told d) answers = Is.told (fill_is d answers)
 fill_is Is.finish answers = Is.finish
 fill_is (Is.also {t = t} d d') answers =
-    let own = drop (length (before None t)) answers in Is.also (fill_is d own) (fill_is d' (after t own))
+    let own = drop (length (before None t)) answers in Is.also (fill_is d own) (fill_is d' (past t own))

@@ -5,7 +5,7 @@ use Rattle.wasm_leb.specs.Leb.{shortest, leb}
 use Rattle.wasm_shapes.specs.declared.SectionId.TheVariants as id
 use Rattle.wasm_shapes.specs.declared.Space.TheVariants as space
 use Rattle.wasm_shapes.specs.declared.Visit.{Visit}
-use Rattle.wasm_shapes.specs.declared.Visit.TheVariants.{Index, Outer, Section, Push, Pop}
+use Rattle.wasm_shapes.specs.declared.Visit.TheVariants.{Index, Outer, Section, Closed, Push, Pop}
 use Rattle.wasm_shapes.specs.Own.{asked_index}
 use Rattle.wasm_shapes.specs.Sections.{component_header}
 use Rattle.wasm_shapes.specs.Component.{alias, canonical_function, canonical_option, component_instance_row, component_name_subsection, component_section, component_type, component_value, core_type, defined_type, instance_row, type_ref}
@@ -293,8 +293,8 @@ sections =
     stays (hex (codes "0b 07 01 00 01 61 01 02 00")) (Index space.ComponentFunc 2 ∷ []) ∷
     stays (hex (codes "0b 09 01 00 01 61 01 02 01 01 03")) (Index space.ComponentFunc 2 ∷ Index space.ComponentType 3 ∷ []) ∷
     stays (hex (codes "0c 02 ff ff")) [] ∷ stays (hex (codes "7f 00")) [] ∷
-    stays (hex (codes "01 0c 00 61 73 6d 01 00 00 00 03 02 01 00")) (Push ∷ Section None (Some id.Function) ∷ Index space.Type_ 0 ∷ Section (Some id.Function) None ∷ Pop ∷ []) ∷
-    becoming (hex (codes "01 0d 00 61 73 6d 01 00 00 00 03 03 01 80 00")) (hex (codes "01 0c 00 61 73 6d 01 00 00 00 03 02 01 00")) (Push ∷ Section None (Some id.Function) ∷ Index space.Type_ 0 ∷ Section (Some id.Function) None ∷ Pop ∷ []) ∷ []
+    stays (hex (codes "01 0c 00 61 73 6d 01 00 00 00 03 02 01 00")) (Push ∷ Section None (Some id.Function) ∷ Index space.Type_ 0 ∷ Closed id.Function ∷ Section (Some id.Function) None ∷ Pop ∷ []) ∷
+    becoming (hex (codes "01 0d 00 61 73 6d 01 00 00 00 03 03 01 80 00")) (hex (codes "01 0c 00 61 73 6d 01 00 00 00 03 02 01 00")) (Push ∷ Section None (Some id.Function) ∷ Index space.Type_ 0 ∷ Closed id.Function ∷ Section (Some id.Function) None ∷ Pop ∷ []) ∷ []
 
 sections_hold : Hold component_section sections
 unfolding shortest

@@ -1,7 +1,7 @@
 -- The scopes that are open along some visits.
 use Rattle.std.specs.Prelude.{◌≡◌, ◌++◌, ℕ, zero, suc, pred, ◌+◌, max, List, [], ◌∷◌, Option, Some, None}
 use Rattle.wasm_shapes.specs.declared.Visit.{Visit}
-use Rattle.wasm_shapes.specs.declared.Visit.TheVariants.{Index, Outer, Section, Push, Pop}
+use Rattle.wasm_shapes.specs.declared.Visit.TheVariants.{Index, Outer, Section, Closed, Push, Pop}
 use Rattle.wasm_shapes.specs.Tree.{Tree, visits}
 use Rattle.wasm_shapes.specs.Sections.{core_tree}
 use Rattle.wasm_shapes.specs.Component.{component_tree}
@@ -14,6 +14,7 @@ open_behind k [] = Some k
 open_behind k (Index s i ∷ vs) = open_behind k vs
 open_behind k (Outer s c i ∷ vs) = open_behind k vs
 open_behind k (Section after before ∷ vs) = open_behind k vs
+open_behind k (Closed kind ∷ vs) = open_behind k vs
 open_behind k (Push ∷ vs) = open_behind (suc k) vs
 open_behind zero (Pop ∷ vs) = None
 open_behind (suc k) (Pop ∷ vs) = open_behind k vs
@@ -24,6 +25,7 @@ most_open k [] = k
 most_open k (Index s i ∷ vs) = most_open k vs
 most_open k (Outer s c i ∷ vs) = most_open k vs
 most_open k (Section after before ∷ vs) = most_open k vs
+most_open k (Closed kind ∷ vs) = most_open k vs
 most_open k (Push ∷ vs) = max k (most_open (suc k) vs)
 most_open k (Pop ∷ vs) = max k (most_open (pred k) vs)
 

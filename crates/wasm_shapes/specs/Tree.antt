@@ -6,7 +6,7 @@ use Rattle.wasm_shapes.specs.declared.SectionId.{SectionId}
 use Rattle.wasm_shapes.specs.declared.Space.{Space}
 use Rattle.wasm_shapes.specs.declared.Space.TheVariants as space
 use Rattle.wasm_shapes.specs.declared.Visit.{Visit}
-use Rattle.wasm_shapes.specs.declared.Visit.TheVariants.{Index, Outer, Section, Push, Pop}
+use Rattle.wasm_shapes.specs.declared.Visit.TheVariants.{Index, Outer, Section, Closed, Push, Pop}
 use Rattle.wasm_shapes.specs.Operators.{Code, plain, prefixed}
 
 -- what an element segment lists
@@ -72,7 +72,7 @@ pub data Tree : Type 0 where
   aimed : Listed → ℕ → Tree → Tree → Tree
   -- an active data segment: its memory, which may be left out where it is 0, its offset and its bytes
   placed : ℕ → Tree → Tree → Tree
-  -- a section of a kind that the section hook is told of
+  -- a section of a kind that the section hook and the closing hook are told of
   told : SectionId → Tree → Tree
   -- the sections of a module: none are left, and one and those behind it
   finish : Tree
@@ -201,6 +201,12 @@ before last (Tree.row k t) = before last t
 before last (Tree.told k t) = Section last (Some k) ∷ []
 before last _ = []
 
+-- what the closing hook is told behind a section
+abbrev pub behind : Tree → List Visit
+behind (Tree.row k t) = behind t
+behind (Tree.told k t) = Closed k ∷ []
+behind _ = []
+
 -- what is asked, in order, where this was the kind of the last section of the module so far
 abbrev pub visits_from : Option SectionId → Tree → List Visit
 visits_from last (Tree.ix s i) = Index s i ∷ []
@@ -225,17 +231,22 @@ visits_from last (Tree.aimed w i o t) = visits_from None t ++ (Index space.Table
 visits_from last (Tree.placed i o t) = Index space.Memory i ∷ (visits_from None o ++ visits_from None t)
 visits_from last (Tree.told k t) = visits_from None t
 visits_from last Tree.finish = Section last None ∷ []
-visits_from last (Tree.also t u) = before last t ++ (visits_from None t ++ visits_from (kind last t) u)
+visits_from last (Tree.also t u) = before last t ++ (visits_from None t ++ (behind t ++ visits_from (kind last t) u))
 visits_from last _ = []
 
 -- what is asked, in order: an index for each index leaf; memory 0 for a left-out memory and table 0 for a left-out element
--- table; the section hook before each section of a known kind and once at the end; a push and a pop round a scope
+-- table; the section hook before each section of a known kind and once at the end, and the closing hook behind each; a push and
+-- a pop round a scope
 abbrev pub visits : Tree → List Visit
 visits t = visits_from None t
 
 -- the answers that are left after a tree's own
 abbrev pub after : Tree → List ℕ → List ℕ
 after t answers = drop (length (visits t)) answers
+
+-- the answers that are left after a section's own and that of the closing hook
+abbrev pub past : Tree → List ℕ → List ℕ
+past t answers = drop (length (behind t)) (after t answers)
 
 -- a table that was left out stays so at 0
 abbrev pub aimed_at : Listed → ℕ → Tree → Tree → Tree
@@ -266,5 +277,5 @@ fill (Tree.aimed w i o t) answers = Tree.aimed w (get_or (after t answers) 0 0) 
 fill (Tree.placed i o t) answers = Tree.placed (get_or answers 0 0) (fill o (drop 1 answers)) (fill t (after o (drop 1 answers)))
 fill (Tree.told k t) answers = Tree.told k (fill t answers)
 fill (Tree.also t u) answers =
-    let own = drop (length (before None t)) answers in Tree.also (fill t own) (fill u (after t own))
+    let own = drop (length (before None t)) answers in Tree.also (fill t own) (fill u (past t own))
 fill t answers = t

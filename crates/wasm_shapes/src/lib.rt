@@ -143,12 +143,14 @@ const _: () = prove!(SectionId::DataCount as u8 == 12);
 const _: () = prove!(SectionId::Tag as u8 == 13);
 
 /// What a re-encoder is asked: an index of a space, an outer index with the count of scopes that it leaves,
-/// the hook before a section (after which kind, before which kind), and the begin and the end of a scope.
+/// the hook before a section (after which kind, before which kind), the hook behind a section (of which kind), and the
+/// begin and the end of a scope.
 #[derive(Clone, Copy, Debug, PartialEq)]
 pub enum Visit {
     Index(Space, u32),
     Outer(Space, u32, u32),
     Section(Option<SectionId>, Option<SectionId>),
+    Closed(SectionId),
     Push,
     Pop,
 }
