@@ -1,5 +1,5 @@
 -- What the calls that map a whole core module give.
-use Rattle.std.specs.Prelude.{◌≡◌, ◌≢◌, ◌-◌, ◌⊎◌, ℕ, List, ◌++◌, length, Option, Some, None, Result, Ok, Err, IfOk, IfErr}
+use Rattle.std.specs.Prelude.{◌≡◌, ◌≢◌, ◌-◌, ◌⊎◌, ℕ, List, [], ◌++◌, length, Option, Some, None, Result, Ok, Err, IfOk, IfErr}
 use Rattle.wasm_shapes.specs.declared.SectionId.{SectionId}
 use Rattle.wasm_shapes.specs.declared.Visit.TheVariants.{Section}
 use Rattle.wasm_shapes.specs.Tree.{Tree, normal}
@@ -13,7 +13,7 @@ use Rattle.wasm_write.specs.Sections.{Sections, SectionRow, sections_bytes}
 use Rattle.reencode_hooks.specs.declared.error.Error.{Error}
 use Rattle.reencode_hooks.specs.declared.error.Error.TheVariants.{InvalidCodeSectionSize, UnexpectedNonCoreModuleSection, ParseError, UserError, TooLarge, NoMemory}
 use Rattle.reencode_hooks.specs.Run.{Step, accepted, refused, and_then}
-use Rattle.reencode_hooks.specs.Walk.{walk, walk_from, announced}
+use Rattle.reencode_hooks.specs.Walk.{walk, walk_from, announced, followed}
 use Rattle.reencode_hooks.specs.Hooks.{Gains}
 use Rattle.reencode_core.specs.Rows.{Asks}
 use Rattle.reencode_core.specs.Sections.{StopsSection}
@@ -25,6 +25,10 @@ use Rattle.reencode_core.specs.Names.{StopsInNames}
 abbrev pub hooked : {S E : Type 0} → Asks S E → ℕ → Option SectionId → S → Tree → Step S (Error E) Tree
 hooked asked c last s t = and_then (announced asked s last t) (λ _ m. walk asked c m t)
 
+-- the same, and the closing hook behind it
+abbrev pub closed_off : {S E : Type 0} → Asks S E → ℕ → Option SectionId → S → Tree → Step S (Error E) Tree
+closed_off asked c last s t = and_then (hooked asked c last s t) (λ u n. and_then (followed asked n t) (λ _ m. accepted u m))
+
 -- sections that were accepted, in front of a step over those behind them
 abbrev pub onto : {S E : Type 0} → List Tree → Step S (Error E) Tree → Step S (Error E) Tree
 onto made step = and_then step (λ u m. accepted (alsos made u) m)
@@ -35,27 +39,31 @@ abbrev pub AcceptsSections : {S E : Type 0} → Asks S E → ℕ → S → List 
 AcceptsSections asked c s read made last m =
     (others : Tree) → walk asked c s (alsos read others) ≡ onto made (walk_from asked c last m others)
 
--- the first of these sections is refused, or the section hook at the end
-abbrev pub RefusesNext : {S E : Type 0} → Asks S E → ℕ → Option SectionId → S → Tree → Error E → S → Type 0
-RefusesNext asked c last s (Tree.also t others) e m = hooked asked c last s t ≡ refused e m
-RefusesNext asked c last s Tree.finish e m = asked s (Section last None) ≡ refused e m
-RefusesNext asked c last s _ e m = ⊥
+-- The first of these sections is refused, or the section hook before it, and nothing of it was added; or it was accepted and added, and
+-- the closing hook behind it is refused; or the section hook at the end.
+abbrev pub RefusesNext : {S E : Type 0} → Asks S E → ℕ → Option SectionId → S → Tree → List SectionRow → Error E → S → Type 0
+RefusesNext {S} asked c last s (Tree.also t others) own e m =
+    ((own ≡ []) × (e ≢ NoMemory → hooked asked c last s t ≡ refused e m))
+    ⊎ ((u : Tree) × (n : S) × (hooked asked c last s t ≡ accepted u n) × (sections_bytes own ≡ normal u) × (e ≢ NoMemory → followed asked n t ≡ refused e m))
+RefusesNext asked c last s Tree.finish own e m = (own ≡ []) × (e ≢ NoMemory → asked s (Section last None) ≡ refused e m)
+RefusesNext asked c last s _ own e m = ⊥
 
--- The sections before the refused one were accepted, and what they became was added, and no more.
+-- The sections before the refused visit were accepted, and what they became was added, and no more.
 pub record StopsSections {S E : Type 0} (asked : Asks S E) (c : ℕ) (before : S × Sections) (t : Tree) (after : S × Sections) (e : Error E) : Type 0 where
   pub read : List Tree
   pub others : Tree
   pub made : List Tree
   pub rows : List SectionRow
+  pub own : List SectionRow
   pub last : Option SectionId
   pub at : S
   pub parts : t ≡ alsos read others
   pub accepts : AcceptsSections asked c before.0 read made last at
-  pub gains : Gains before.1 after.1 rows
+  pub gains : Gains before.1 after.1 (rows ++ own)
   pub spelled : sections_bytes rows ≡ normal (alsos made Tree.finish)
-  pub refuses : e ≢ NoMemory → RefusesNext asked c last at others e after.0
+  pub refuses : RefusesNext asked c last at others own e after.0
 
--- The sections became others, which were added, or one of them was refused, or the section hook at the end.
+-- The sections became others, which were added, or one of them was refused, or a section hook.
 abbrev pub GivesModule : {S E : Type 0} → Asks S E → S × Sections → Tree → S × Sections → Result (Unit {0}) (Error E) → Type 0
 GivesModule asked before t after (Ok _) =
     (u : Tree) × (rows : List SectionRow) × (walk asked before.1.ceiling before.0 t ≡ accepted u after.0) × Gains before.1 after.1 rows

@@ -4,7 +4,7 @@ use Rattle.wasm_leb.specs.Leb.{IsUnsigned}
 use Rattle.wasm_shapes.specs.declared.SectionId.TheVariants as id
 use Rattle.wasm_shapes.specs.declared.Visit.{Visit}
 use Rattle.wasm_shapes.specs.declared.Visit.TheVariants.{Index, Outer}
-use Rattle.wasm_shapes.specs.Tree.{Tree, normal, visits, before, after, fill}
+use Rattle.wasm_shapes.specs.Tree.{Tree, normal, visits, before, after, past, fill}
 use Rattle.wasm_shapes.specs.Shape.{Shape}
 use Rattle.wasm_shapes.specs.Sound.{sound}
 use Rattle.wasm_shapes.specs.Spells.{Spelled, Spells}
@@ -73,7 +73,7 @@ abbrev pub KeptSections : ℕ → List ℕ → List Tree → List ℕ → List R
 KeptSections at x [] answers old new = (x ≡ []) × (new ≡ old)
 KeptSections at x (t ∷ ts) answers old new =
     (y z : List ℕ) × (mid : List Range) × (x ≡ y ++ z) × Spells section y t × (KeptInCode at y t (drop (length (before None t)) answers) old mid ⊎ (NotCode t × (mid ≡ old)))
-    × KeptSections (at + length y) z ts (after t (drop (length (before None t)) answers)) mid new
+    × KeptSections (at + length y) z ts (past t (drop (length (before None t)) answers)) mid new
 
 -- the ranges of the function bodies of a module that are spelled normally and each of whose visits was answered by the index asked
 pub record Kept (bytes : List ℕ) (t : Tree) (answers : List ℕ) (ranges : List Range) : Type 0 where

@@ -1,27 +1,27 @@
--- What the calls that map a whole core module give, where the section hook may add sections.
-use Rattle.std.specs.Prelude.{◌≡◌, ◌≢◌, ◌⊎◌, ◌≤◌, ℕ, List, [], ◌++◌, Option, Some, None, Result, Ok, Err, IfOk, IfErr}
+-- What the calls that map a whole core module give, where the section hook and the closing hook may add sections.
+use Rattle.std.specs.Prelude.{◌≡◌, ◌≢◌, ◌⊎◌, ◌≤◌, ℕ, List, [], ◌∷◌, ◌++◌, Option, Some, None, Result, Ok, Err, IfOk, IfErr}
 use Rattle.wasm_shapes.specs.declared.SectionId.{SectionId}
 use Rattle.wasm_shapes.specs.declared.Visit.{Visit}
-use Rattle.wasm_shapes.specs.declared.Visit.TheVariants.{Section}
+use Rattle.wasm_shapes.specs.declared.Visit.TheVariants.{Section, Closed}
 use Rattle.wasm_shapes.specs.Tree.{Tree, normal, visits}
 use Rattle.wasm_shapes.specs.Spells.{Spells}
 use Rattle.wasm_shapes.specs.Module.{core_header, core_module, sections, alsos, frame, custom_frame, InFrame, CoreReading}
 use Rattle.wasm_shapes.specs.Place.{Begins, BeginsNone}
 use Rattle.wasm_shapes.specs.SectionTable.{number}
 use Rattle.wasm_read.specs.Frames.{numbered_frame}
-use Rattle.wasm_write.specs.Sections.{Sections, SectionRow, sections_bytes}
+use Rattle.wasm_write.specs.Sections.{Sections, SectionRow, section_bytes, sections_bytes}
 use Rattle.reencode_hooks.specs.declared.error.Error.{Error}
 use Rattle.reencode_hooks.specs.declared.error.Error.TheVariants.{TooLarge, NoMemory}
 use Rattle.reencode_hooks.specs.Run.{Step, accepted, refused}
-use Rattle.reencode_hooks.specs.Walk.{walk, announced}
+use Rattle.reencode_hooks.specs.Walk.{walk, announced, followed}
 use Rattle.reencode_hooks.specs.Hooks.{Gains, HasTooLarge}
 use Rattle.reencode_core.specs.Rows.{Asks}
 use Rattle.reencode_core.specs.Core.{onto, IsCause}
-use Rattle.reencode_core.specs.Weave.{AtSections, Puts, added, kind_after, put_before, weave, weave_from}
+use Rattle.reencode_core.specs.Weave.{AtSections, Puts, added, kind_after, put_before, put_behind, weave, weave_from}
 
--- ---- the section hook, and a section behind it
+-- ---- the section hook, a section behind it, and the closing hook
 
--- one of the section hook's own sections is too large
+-- one of a hook's own sections is too large
 abbrev pub IsOwn : {E : Type 0} → ℕ → List SectionRow → Error E → Type 0
 IsOwn c own (TooLarge size) = HasTooLarge c own size
 IsOwn c own _ = ⊥
@@ -31,17 +31,25 @@ pub record IsPart (part own : List SectionRow) : Type 0 where
   pub rest : List SectionRow
   pub parts : own ≡ part ++ rest
 
--- The section hook refused, and a front part of what it adds stands; where one of these is too large, the state is open.
+-- A hook refused, and a front part of what it adds stands; where one of these is too large, the state is open.
 abbrev pub StopsHook : {S E A : Type 0} → ℕ → List SectionRow → List SectionRow → Step S (Error E) A → Error E → S → Type 0
 StopsHook c own part step e m = IsPart part own × (e ≢ NoMemory → IsOwn c own e ⊎ (step ≡ refused e m))
 
--- The section hook refused; or it accepted, all that it adds stands, and the section behind it was refused.
+-- A section was refused behind what the section hook added before it; or it was accepted and stands there too, and the closing hook
+-- refused, with a front part of what it adds behind it.
+abbrev pub StopsBehind : {S E : Type 0} → Asks S E → Puts S SectionRow → ℕ → S → Tree → List SectionRow → List SectionRow → Error E → S → Type 0
+StopsBehind {S} asked adds c s t own part e m =
+    ((part ≡ own) × (e ≢ NoMemory → walk asked c s t ≡ refused e m))
+    ⊎ ((u : Tree) × (n : S) × (row : SectionRow) × (more : List SectionRow) × (walk asked c s t ≡ accepted u n) × (section_bytes row ≡ normal u)
+    × (part ≡ own ++ row ∷ more) × StopsHook c (put_behind adds n t) more (followed asked n t) e m)
+
+-- The section hook refused; or it accepted, all that it adds stands, and the section behind it was refused, or the closing hook.
 abbrev pub StopsHooked : {S E : Type 0} → Asks S E → Puts S SectionRow → ℕ → Option SectionId → S → Tree → List SectionRow → Error E → S → Type 0
 StopsHooked {S} asked adds c last s t part e m =
     StopsHook c (put_before adds s last t) part (announced asked s last t) e m
-    ⊎ ((n : S) × (announced asked s last t ≡ accepted 0 n) × (part ≡ put_before adds s last t) × (e ≢ NoMemory → walk asked c n t ≡ refused e m))
+    ⊎ ((n : S) × (announced asked s last t ≡ accepted 0 n) × StopsBehind asked adds c n t (put_before adds s last t) part e m)
 
--- the first of these sections was refused, or the hook before it; or the hook at the end
+-- the first of these sections was refused, or the hook before it or behind it; or the hook at the end
 abbrev pub StopsNext : {S E : Type 0} → Asks S E → Puts S SectionRow → ℕ → Option SectionId → S → Tree → List SectionRow → Error E → S → Type 0
 StopsNext asked adds c last s (Tree.also t others) part e m = StopsHooked asked adds c last s t part e m
 StopsNext asked adds c last s Tree.finish part e m = StopsHook c (adds s (Section last None)) part (asked s (Section last None)) e m
@@ -49,7 +57,7 @@ StopsNext asked adds c last s _ part e m = ⊥
 
 -- ---- sections one behind another
 
--- No section that is added at a section visit among these, at the state that the run over those before it leaves, has a body
+-- No section that is added at a visit of the two hooks among these, at the state that the run over those before it leaves, has a body
 -- above the ceiling.
 abbrev pub AddsFit : {S E : Type 0} → Asks S E → Puts S SectionRow → ℕ → S → List Visit → Type 0
 AddsFit asked adds c s visits = AtSections asked s visits (λ m v. (size : ℕ) → ¬ HasTooLarge c (adds m v) size)
@@ -60,8 +68,8 @@ abbrev pub WeavesSections : {S E : Type 0} → Asks S E → Puts S Tree → ℕ 
 WeavesSections asked put c s read made last m =
     (others : Tree) → weave asked put c s (alsos read others) ≡ onto made (weave_from asked put c last m others)
 
--- The sections before the refused one were accepted, and what they became was added, with what the hook adds before each, which
--- fits; and of the last hook what it had added, and no more.
+-- The sections before the refused one were accepted, and what they became was added, with what the hooks add before and behind each,
+-- which fits; and behind these what stands there of the refused one and its hooks, and no more.
 pub record StopsWoven {S E : Type 0} (asked : Asks S E) (adds : Puts S SectionRow) (c : ℕ) (before : S × Sections) (t : Tree) (after : S × Sections) (e : Error E) : Type 0 where
   pub read : List Tree
   pub others : Tree
@@ -78,7 +86,7 @@ pub record StopsWoven {S E : Type 0} (asked : Asks S E) (adds : Puts S SectionRo
   pub spelled : sections_bytes rows ≡ normal (alsos made Tree.finish)
   pub stops : StopsNext asked adds c last at others part e after.0
 
--- The sections became others, which were added with what the hook adds, each in its place; or one of them was refused, or a hook.
+-- The sections became others, which were added with what the hooks add, each in its place; or one of them was refused, or a hook.
 abbrev pub GivesWovenModule : {S E : Type 0} → Asks S E → Puts S SectionRow → S × Sections → Tree → S × Sections → Result (Unit {0}) (Error E) → Type 0
 GivesWovenModule asked adds before t after (Ok _) =
     (u : Tree) × (rows : List SectionRow) × (weave asked (added adds) before.1.ceiling before.0 t ≡ accepted u after.0)
@@ -87,11 +95,26 @@ GivesWovenModule asked adds before t after (Err e) = StopsWoven asked adds befor
 
 -- ---- errors
 
--- The section hook before the section that stands here in its frame, or at the end, was to add one that is too large.
-abbrev pub OwnNext : {S E : Type 0} → Puts S SectionRow → ℕ → Option SectionId → S → List ℕ → Error E → Type 0
-OwnNext adds c last s rest e =
+-- A section of this kind stands here in its frame and was accepted, as was the section hook before it, of which all that it adds fits;
+-- and the closing hook behind it was to add one that is too large.
+pub record OwnBehind {S E : Type 0} (asked : Asks S E) (adds : Puts S SectionRow) (c : ℕ) (last : Option SectionId) (s : S) (id : SectionId) (body : List ℕ) (e : Error E) : Type 0 where
+  pub from : S
+  pub told : asked s (Section last (Some id)) ≡ accepted 0 from
+  pub fits : (size : ℕ) → ¬ HasTooLarge c (adds s (Section last (Some id))) size
+  pub tree : Tree
+  pub there : InFrame tree (numbered_frame (number id) body)
+  pub made : Tree
+  pub at : S
+  pub walked : walk asked c from tree ≡ accepted made at
+  pub own : IsOwn c (adds at (Closed id)) e
+
+-- The section hook before the section that stands here in its frame, or at the end, was to add one that is too large, or the closing
+-- hook behind that section was.
+abbrev pub OwnNext : {S E : Type 0} → Asks S E → Puts S SectionRow → ℕ → Option SectionId → S → List ℕ → Error E → Type 0
+OwnNext asked adds c last s rest e =
     ((rest ≡ []) × IsOwn c (adds s (Section last None)) e)
-    ⊎ ((id : SectionId) × (body left : List ℕ) × Begins frame rest (numbered_frame (number id) body) left × IsOwn c (adds s (Section last (Some id))) e)
+    ⊎ ((id : SectionId) × (body left : List ℕ) × Begins frame rest (numbered_frame (number id) body) left
+    × (IsOwn c (adds s (Section last (Some id))) e ⊎ OwnBehind asked adds c last s id body e))
 
 -- Some sections stand behind the header, were accepted and became those, added ones in their places, which fit; what stands behind
 -- them is walked from here, behind a section of that kind.
@@ -108,37 +131,43 @@ pub record WovenFront {S E : Type 0} (asked : Asks S E) (adds : Puts S SectionRo
   pub weaves : WeavesSections asked (added adds) c s read made last at
   pub fits : AddsFit asked adds c s (visits (alsos read Tree.empty))
 
--- The section hook behind some sections that were accepted was to add one that is too large, and at none of its visits before.
+-- A hook at the section behind some that were accepted, or at the end, was to add one that is too large, and at none of the visits before.
 pub record OwnTooLarge {S E : Type 0} (asked : Asks S E) (adds : Puts S SectionRow) (c : ℕ) (bytes : List ℕ) (s : S) (e : Error E) : Type 0 where
   pub front : WovenFront asked adds c bytes s
-  pub own : OwnNext adds c front.last front.at front.rest e
+  pub own : OwnNext asked adds c front.last front.at front.rest e
 
--- why an error comes: as where nothing is added, or a section that the hook was to add is too large
+-- why an error comes: as where nothing is added, or a section that a hook was to add is too large
 abbrev pub IsWovenCause : {S E : Type 0} → Asks S E → Puts S SectionRow → ℕ → List ℕ → S → S → Error E → Type 0
 IsWovenCause asked adds c bytes s m e = IsCause asked c bytes s m e ⊎ OwnTooLarge asked adds c bytes s e
 
 -- ---- what stands in the module after an error, whether the bytes have a reading or not
 
--- What was asked before the section in a frame, and accepted, and what of its own sections the hook added there: before a section
--- of a known kind the section hook, and all of them; before another nothing.
-pub data AddedBefore {S E : Type 0} (asked : Asks S E) (adds : Puts S SectionRow) (last : Option SectionId) (s : S) : Tree → S → List SectionRow → Type 0 where
-  known : (k : SectionId) (body : List ℕ) (n : S) → asked s (Section last (Some k)) ≡ accepted 0 n →
-      AddedBefore asked adds last s (numbered_frame (number k) body) n (adds s (Section last (Some k)))
-  custom : (name contents : List ℕ) → AddedBefore asked adds last s (custom_frame name contents) s []
-  unknown : (id : ℕ) (contents : List ℕ) → 14 ≤ id → AddedBefore asked adds last s (numbered_frame id contents) s []
+-- What was asked at the visit of the section in a frame, and accepted, and what of its own sections the hook added there: of a section
+-- of a known kind the hook, and all of them; of another nothing.
+pub data AddedAt {S E : Type 0} (asked : Asks S E) (adds : Puts S SectionRow) (visit : SectionId → Visit) (s : S) : Tree → S → List SectionRow → Type 0 where
+  known : (k : SectionId) (body : List ℕ) (n : S) → asked s (visit k) ≡ accepted 0 n → AddedAt asked adds visit s (numbered_frame (number k) body) n (adds s (visit k))
+  custom : (name contents : List ℕ) → AddedAt asked adds visit s (custom_frame name contents) s []
+  unknown : (id : ℕ) (contents : List ℕ) → 14 ≤ id → AddedAt asked adds visit s (numbered_frame id contents) s []
 
--- What of its own sections the hook added behind the sections that were accepted, where it stopped: a front part, where the hook
--- at the end refused, or the one before a section; else all of them, where the section is refused or has no reading; and none
--- where no frame begins.
+-- the same before the section
+abbrev pub AddedBefore : {S E : Type 0} → Asks S E → Puts S SectionRow → Option SectionId → S → Tree → S → List SectionRow → Type 0
+AddedBefore asked adds last s f n own = AddedAt asked adds (λ k. Section last (Some k)) s f n own
+
+-- What stands behind the sections that were accepted, where it stopped: of the own sections of the hook at the end, or of that before a
+-- section, a front part, where it refused; all of them, where the section is refused or has no reading; these, the section, and a front
+-- part of those of the closing hook behind it, where this refused; and nothing where no frame begins.
 pub data AddedThere {S E : Type 0} (asked : Asks S E) (adds : Puts S SectionRow) (c : ℕ) (last : Option SectionId) (s : S) (rest : List ℕ) (e : Error E) (m : S) (part : List SectionRow) : Type 0 where
   at_end : rest ≡ [] → StopsHook c (adds s (Section last None)) part (asked s (Section last None)) e m → AddedThere asked adds c last s rest e m part
   hook : (k : SectionId) (body left : List ℕ) → Begins frame rest (numbered_frame (number k) body) left →
       StopsHook c (adds s (Section last (Some k))) part (asked s (Section last (Some k))) e m → AddedThere asked adds c last s rest e m part
   section : (f : Tree) (left : List ℕ) (n : S) → Begins frame rest f left → AddedBefore asked adds last s f n part →
       ((t : Tree) → InFrame t f → e ≢ NoMemory → walk asked c n t ≡ refused e m) → AddedThere asked adds c last s rest e m part
+  closing : (k : SectionId) (body left : List ℕ) (n : S) (t u : Tree) (l : S) (row : SectionRow) (more : List SectionRow) → Begins frame rest (numbered_frame (number k) body) left →
+      asked s (Section last (Some k)) ≡ accepted 0 n → InFrame t (numbered_frame (number k) body) → walk asked c n t ≡ accepted u l → section_bytes row ≡ normal u →
+      StopsHook c (adds l (Closed k)) more (asked l (Closed k)) e m → part ≡ adds s (Section last (Some k)) ++ row ∷ more → AddedThere asked adds c last s rest e m part
   unframed : BeginsNone frame rest → rest ≢ [] → part ≡ [] → AddedThere asked adds c last s rest e m part
 
--- What some sections became was added, with what the hook adds before each; and of the hook's own sections behind them these.
+-- What some sections became was added, with what the hooks add before and behind each; and behind them these.
 pub record GainsFront {S E : Type 0} (asked : Asks S E) (adds : Puts S SectionRow) (c : ℕ) (bytes : List ℕ) (before after : S × Sections) (e : Error E) : Type 0 where
   pub front : WovenFront asked adds c bytes before.0
   pub rows : List SectionRow
@@ -162,7 +191,7 @@ pub record GivesWoven {S E : Type 0} (asked : Asks S E) (adds : Puts S SectionRo
   pub cause : IfErr result (IsWovenCause asked adds before.1.ceiling bytes before.0 after.0)
   pub gained : IfErr result (GainsBefore asked adds bytes before after)
 
--- The bytes of the woven tree are the answer; or its refusal, or a section that the hook was to add is too large; or memory runs out.
+-- The bytes of the woven tree are the answer; or its refusal, or a section that a hook was to add is too large; or memory runs out.
 abbrev pub GivesWovenNormal : {S E A : Type 0} → Step S (Error E) Tree → (Error E → Type 0) → S → Result A (Error E) → (A → List ℕ) → Type 0
 GivesWovenNormal step own m (Ok out) view = (u : Tree) × (step ≡ accepted u m) × (view out ≡ normal u)
 GivesWovenNormal step own m (Err e) view = e ≢ NoMemory → own e ⊎ (step ≡ refused e m)

@@ -1,4 +1,4 @@
--- Laws of the walk of a reencoder whose section hook adds: beside the plain walk, the run, and what its output is read as.
+-- Laws of the walk of a reencoder whose section hooks add: beside the plain walk, the run, and what its output is read as.
 use Rattle.std.specs.Prelude.{◌≡◌, ◌≤◌, ◌-◌, ◌^◌, ℕ, List, [], ◌∷◌, map}
 use Rattle.wasm_shapes.specs.declared.Visit.{Visit}
 use Rattle.wasm_shapes.specs.Tree.{Tree, visits, fill, normal}
@@ -59,7 +59,7 @@ AreNormal asked adds readings s visits =
     AtSections asked s visits (λ m v. map normal (readings m v) ≡ map section_bytes (adds m v))
 
 -- The run is accepted, and these bytes are a core module, read as this tree alone: the filled tree, with these readings directly
--- before each section asked for, and at the end. The bytes are its normal spelling where what was added is spelled normally.
+-- before each section asked for, directly behind it, and at the end. The bytes are its normal spelling where what was added is spelled normally.
 pub record ReadsOutput {S E : Type 0} (asked : Asks S E) (adds : Puts S SectionRow) (readings : Puts S Tree) (s : S) (t : Tree) (bytes : List ℕ) (m : S) : Type 0 where
   pub given : List ℕ
   pub ran : run asked s (visits t) ≡ accepted given m

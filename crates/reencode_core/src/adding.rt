@@ -11,12 +11,15 @@ use reencode_items::DefaultItems;
 use wasm_shapes::SectionId;
 use wasm_write as w;
 
-/// A rule for sections: it adds sections between two others, by the kinds of these alone.
+/// A rule for sections: it adds sections between two others, or directly behind one, by the kinds of these alone.
 ///
 /// `Adding` is the reencoder that adds them.
 pub trait SectionRule {
     // The sections that it adds, behind one of the first kind and before one of the second.
     ghost sections: { Self → Option SectionId → Option SectionId → List SectionRow };
+
+    // The sections that it adds directly behind one of a kind.
+    ghost behind: { Self → SectionId → List SectionRow };
 
     /// Adds the rule's sections at the end of the module, between a section of the kind `after` and one of the kind `before`. At
     /// the module's front `after` is None, and at its end `before` is None. Custom sections and those of other ids count for
@@ -36,6 +39,17 @@ pub trait SectionRule {
             (GainsPart «module».old «module».new (sections self.now after before)) }
         ensures large { IfErr result (λ e. IfTooLarge e
             (HasTooLarge «module».old.ceiling (sections self.now after before))) };
+
+    /// Adds the rule's sections at the end of the module, directly behind a section of the kind, which was appended just before.
+    /// Custom sections and those of other ids have none behind them.
+    ///
+    /// An error has added a front part of them. `TooLarge` comes only where one of them has a body above the ceiling, with the
+    /// body's length.
+    fn add_behind(&self, module: &mut w::Module, section: SectionId) -> Result<(), w::WriteFault>
+        ensures ok { OnOk result (Gains «module».old «module».new (behind self.now section)) }
+        ensures err { OnErr result (GainsPart «module».old «module».new (behind self.now section)) }
+        ensures large { IfErr result (λ e. IfTooLarge e
+            (HasTooLarge «module».old.ceiling (behind self.now section))) };
 }
 
 /// A reencoder that answers each index as another one does, and adds the sections of a rule behind those that the other adds.
@@ -59,7 +73,8 @@ impl<R: ReencodeIndices, S: SectionRule> ReencodeIndices for Adding<R, S> {
     ghost next = { λ s visit. record s { reencoder = R.next s.reencoder visit } };
 
     ghost adds = { λ s visit.
-        R.adds s.reencoder visit ++ at_section (S.sections s.sections) visit };
+        R.adds s.reencoder visit
+        ++ at_section (S.sections s.sections) (S.behind s.sections) visit };
 
     ghost keeps_defaults = { true };
 
@@ -70,7 +85,8 @@ impl<R: ReencodeIndices, S: SectionRule> ReencodeIndices for Adding<R, S> {
     ghost answers_ok = { λ s visit h. R.answers_ok s.reencoder visit h };
 
     ghost adds_ok = { both_keep (λ never. absurd (false≢true never))
-        (λ s. R.adds_ok s.reencoder) (at_section-keeps (λ s. S.sections s.sections)) };
+        (λ s. R.adds_ok s.reencoder)
+        (at_section-keeps (λ s. S.sections s.sections) (λ s. S.behind s.sections)) };
 
     fn data_index(&mut self, index: u32) -> Result<u32, Error<R::Error>> {
         self.reencoder.data_index(index)
@@ -117,6 +133,15 @@ impl<R: ReencodeIndices, S: SectionRule> ReencodeIndices for Adding<R, S> {
         self.reencoder
             .intersperse_section_hook(module, after, before)?;
         Ok(self.sections.add_sections(module, after, before)?)
+    }
+
+    fn close_section_hook(
+        &mut self,
+        module: &mut w::Module,
+        section: SectionId,
+    ) -> Result<(), Error<R::Error>> {
+        self.reencoder.close_section_hook(module, section)?;
+        Ok(self.sections.add_behind(module, section)?)
     }
 }
 

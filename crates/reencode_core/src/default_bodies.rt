@@ -163,9 +163,12 @@ macro_rules! parse_core_module {
         'sections: loop {
             match payloads.next()? {
                 Some(r::Payload::Section { id, at, body }) => {
-                    crate::sections::intersperse_section_hook($reencoder, $module, last, Some(id))?;
+                    crate::sections::call_hook($reencoder, $module, Visit::Section(last, Some(id)))?;
                     match $reencoder.parse_section($alloc, $module, id, body) {
-                        Ok(()) => last = Some(id),
+                        Ok(()) => {
+                            crate::sections::call_hook($reencoder, $module, Visit::Closed(id))?;
+                            last = Some(id);
+                        }
                         Err(e) => return Err(placed(e, at)),
                     }
                 }
@@ -182,7 +185,7 @@ macro_rules! parse_core_module {
                     }
                 }
                 None => {
-                    return crate::sections::intersperse_section_hook($reencoder, $module, last, None);
+                    return crate::sections::call_hook($reencoder, $module, Visit::Section(last, None));
                 }
             }
         }

@@ -17,7 +17,7 @@ use reencode_hooks::Error;
 use reencode_items::ReencodeItems;
 use std::alloc::Global;
 use wasm_read as r;
-use wasm_shapes::SectionId;
+use wasm_shapes::{SectionId, Visit};
 use wasm_write as w;
 
 /// What a re-encoder does with each section of a core module.

@@ -61,7 +61,7 @@ where
                 Visit::Index(space, index) | Visit::Outer(space, _, index) => {
                     self.refusal = self.rule.index(space, index).err();
                 }
-                Visit::Section(..) | Visit::Push | Visit::Pop => {}
+                Visit::Section(..) | Visit::Closed(_) | Visit::Push | Visit::Pop => {}
             }
         }
         Ok(utils::index_of(visit))

@@ -4,15 +4,14 @@ ghost use Rattle.wasm_leb.specs.Leb.{IsUnsigned};
 ghost use Rattle.wasm_shapes.specs.Tree.{normal};
 ghost use Rattle.wasm_shapes.specs.Types.{vector_tree};
 ghost use Rattle.wasm_write.specs.Sections.{AllFit, section_row};
-ghost use Rattle.wasm_shapes.specs.declared.Visit.TheVariants as visit;
-ghost use Rattle.reencode_hooks.specs.Hooks.{RepliesSection};
+ghost use Rattle.reencode_hooks.specs.Hooks.{MayAdd, RepliesSection};
 ghost use Rattle.reencode_hooks.specs.Run.{NeverWants};
 ghost use Rattle.reencode_core.specs.Sections.{AddsMapped, HasBody, NoBody, NoItem};
 
 use reencode_hooks::{Error, ReencodeIndices};
 use wasm_leb::{ReadError, front_u32};
 use wasm_read as r;
-use wasm_shapes::SectionId;
+use wasm_shapes::{SectionId, Visit};
 use wasm_shapes::kinds::SectionKind;
 use wasm_write::{Module, RowSection, Section};
 
@@ -111,21 +110,41 @@ pub(crate) fn take_section<K: SectionKind, E>(
     Ok(())
 }
 
-/// Calls the section hook. What it added fits, since the module holds it.
+// Calls the hook whose visit this is.
 #[inline(always)]
-pub(crate) fn intersperse_section_hook<R: ReencodeIndices>(
+fn ask_hook<R: ReencodeIndices>(
     reencoder: &mut R,
     module: &mut Module,
-    after: Option<SectionId>,
-    before: Option<SectionId>,
+    visit: Visit,
 ) -> Result<(), Error<R::Error>>
+    requires { MayAdd visit }
     ensures answer { RepliesSection R.reply R.next R.adds reencoder.old reencoder.new
-        «module».old «module».new (visit.Section after before) result }
+        «module».old «module».new visit result }
     ensures sure { NeverWants R.sure result }
-    ensures fits { OnOk result
-        (AllFit «module».old.ceiling (R.adds reencoder.old (visit.Section after before))) }
 {
-    match reencoder.intersperse_section_hook(module, after, before) {
+    match visit {
+        Visit::Section(after, before) => {
+            reencoder.intersperse_section_hook(module, after, before)
+        }
+        Visit::Closed(section) => reencoder.close_section_hook(module, section),
+        Visit::Index(..) | Visit::Outer(..) | Visit::Push | Visit::Pop => Ok(()),
+    }
+}
+
+/// Calls the section hook, or the closing hook, whose visit this is. What it added fits, since the module holds it.
+#[inline(always)]
+pub(crate) fn call_hook<R: ReencodeIndices>(
+    reencoder: &mut R,
+    module: &mut Module,
+    visit: Visit,
+) -> Result<(), Error<R::Error>>
+    requires { MayAdd visit }
+    ensures answer { RepliesSection R.reply R.next R.adds reencoder.old reencoder.new
+        «module».old «module».new visit result }
+    ensures sure { NeverWants R.sure result }
+    ensures fits { OnOk result (AllFit «module».old.ceiling (R.adds reencoder.old visit)) }
+{
+    match ask_hook(reencoder, module, visit) {
         Ok(()) => {
             module.sections_fit();
             Ok(())

@@ -21,7 +21,7 @@ use crate::{default_bodies, rows};
 use reencode_hooks::Error;
 use std::alloc::Global;
 use wasm_read as r;
-use wasm_shapes::SectionId;
+use wasm_shapes::{SectionId, Visit};
 use wasm_write as w;
 
 /// Maps the rows that the reader still has, each by `parse_recursive_type_group`, and adds each row once it is mapped.

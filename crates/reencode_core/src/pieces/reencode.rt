@@ -1,14 +1,13 @@
 //! The re-encoding of a core module into pieces.
 ghost use Rattle.std.specs.Prelude.{◌≡◌, ◌++◌, ◌+◌, ◌-◌, ◌<◌, ◌≤◌, ◌^◌, ◌∷◌, [], List, ℕ, length, IfOk, IfErr, IsTrue, OnOk};
 ghost use Rattle.wasm_shapes.specs.declared.SectionId.TheVariants as kinds;
-ghost use Rattle.wasm_shapes.specs.declared.Visit.TheVariants.{Section};
 ghost use Rattle.wasm_shapes.specs.Tree.{normal, visits, Tree};
 ghost use Rattle.wasm_shapes.specs.Types.{vector_tree};
 ghost use Rattle.wasm_shapes.specs.Module.{code_row, core_module, unknown_tree_of};
 ghost use Rattle.wasm_shapes.specs.Spells.{Spells};
 ghost use Rattle.wasm_read.specs.Reading.{place_of};
 ghost use Rattle.wasm_write.specs.Sections.{AllFit, section_row};
-ghost use Rattle.reencode_hooks.specs.Hooks.{RepliesSection};
+ghost use Rattle.reencode_hooks.specs.Hooks.{MayAdd, RepliesSection};
 ghost use Rattle.reencode_hooks.specs.Run.{LeavesVisited, accepted, ask, run};
 ghost use Rattle.reencode_core.specs.Bodies.{GivesBody, KeepsCode};
 ghost use Rattle.reencode_core.specs.Core.{GivesBytes, GivesCore};
@@ -28,13 +27,13 @@ use crate::pieces::code::CodePieces;
 use crate::pieces::module::ModulePieces;
 use crate::pieces::piece::Pieces;
 use crate::reencode::Reencode;
-use crate::sections::intersperse_section_hook;
+use crate::sections::call_hook;
 use crate::utils;
 use reencode_hooks::Error;
 use std::alloc::Global;
 use wasm_leb::NoMemory;
 use wasm_read as r;
-use wasm_shapes::SectionId;
+use wasm_shapes::{SectionId, Visit};
 use wasm_write as w;
 
 /// Maps a function body into a section of its own, and adds its rows. The memory of that section is used again.
@@ -253,27 +252,27 @@ fn add_unknown<R: Reencode>(
     }
 }
 
-/// Calls the section hook with a module of its own, and adds the sections that stand there then.
+/// Calls the section hook, or the closing hook, with a module of its own, and adds the sections that stand there then.
 fn add_between<R: Reencode>(
     reencoder: &mut R,
     alloc: Global,
     sink: &mut ModulePieces<'_>,
-    after: Option<SectionId>,
-    before: Option<SectionId>,
+    visit: Visit,
 ) -> Result<(), Error<R::Error>>
+    requires { MayAdd visit }
     ensures answer { RepliesSection R.reply R.next R.adds reencoder.old reencoder.new
-        sink.old.sections sink.new.sections (Section after before) result }
+        sink.old.sections sink.new.sections visit result }
     ensures leaves { LeavesHook R.sure R.adds_nothing (ask R.reply R.next) reencoder.old reencoder.new
-        (Section after before) result }
+        visit result }
     ensures fits { OnOk result
-        (AllFit sink.old.sections.ceiling (R.adds reencoder.old (Section after before))) }
+        (AllFit sink.old.sections.ceiling (R.adds reencoder.old visit)) }
     ensures input { sink.new.input ≡ sink.old.input }
     ensures ranges { OnOk result (sink.new.kept ≡ sink.old.kept) }
 {
     let Ok(mut own) = w::Module::new(alloc, sink.ceiling()) else {
         return Err(Error::NoMemory);
     };
-    match intersperse_section_hook(reencoder, &mut own, after, before) {
+    match call_hook(reencoder, &mut own, visit) {
         Ok(()) => {}
         Err(e) => return Err(e),
     }
@@ -312,7 +311,8 @@ fn add_kind<R: Reencode>(
     }
 }
 
-/// Reads a module and adds what its sections become. The section hook is called before each section and at the end.
+/// Reads a module and adds what its sections become. The section hook is called before each section and at the end, and the closing
+/// hook behind each section.
 fn walk<R: Reencode>(
     reencoder: &mut R,
     alloc: Global,
@@ -339,10 +339,13 @@ fn walk<R: Reencode>(
     'sections: loop {
         match payloads.next()? {
             Some(r::Payload::Section { id, at, body }) => {
-                add_between(reencoder, alloc, sink, last, Some(id))?;
+                add_between(reencoder, alloc, sink, Visit::Section(last, Some(id)))?;
                 let start = payloads.place().saturating_sub(body.len());
                 match add_kind(reencoder, alloc, sink, id, body, start) {
-                    Ok(()) => last = Some(id),
+                    Ok(()) => {
+                        add_between(reencoder, alloc, sink, Visit::Closed(id))?;
+                        last = Some(id);
+                    }
                     Err(e) => return Err(placed(e, at)),
                 }
             }
@@ -358,7 +361,7 @@ fn walk<R: Reencode>(
                     Err(e) => return Err(placed(e, at)),
                 }
             }
-            None => return add_between(reencoder, alloc, sink, last, None),
+            None => return add_between(reencoder, alloc, sink, Visit::Section(last, None)),
         }
     }
 }

@@ -14,19 +14,19 @@ returns-in_err-id g c =
     let keeps = g.met.T.ReencodeIndices.adds_ok in
     module_unframed g.T.ReencodeIndices keeps c.in_ok-payloads.ensures.ok c.sections.invariant _ c.in_err-id.ensures.err _ c.from_residual-in_err-id.ensures.1
 
-pub returns-in_err-intersperse_section_hook-in-Some-Section : goal.returns-in_err-intersperse_section_hook-in-Some-Section
-returns-in_err-intersperse_section_hook-in-Some-Section g c =
+pub returns-in_err-call_hook-in-Some-Section : goal.returns-in_err-call_hook-in-Some-Section
+returns-in_err-call_hook-in-Some-Section g c =
     let keeps = g.met.T.ReencodeIndices.adds_ok in
     let frame = rw (c.in-Some-Section.is, c.in-Some-Section.field-0-is) at c.in_ok-id.ensures.some in
     module_hook_refused g.T.ReencodeIndices keeps c.in_ok-payloads.ensures.ok c.sections.invariant c.in-Some-Section.id _ frame
-    c.in_err-intersperse_section_hook-in-Some-Section.ensures _ c.from_residual-in_err-intersperse_section_hook-in-Some-Section.ensures.1
+    c.in_err-call_hook-in-Some-Section.ensures _ c.from_residual-in_err-call_hook-in-Some-Section.ensures.1
 
 pub sections-preserved-in-Ok : goal.sections-preserved-in-Ok
 sections-preserved-in-Ok g c =
     let keeps = g.met.T.ReencodeIndices.adds_ok in
     let frame = rw (c.in-Some-Section.is, c.in-Some-Section.field-0-is) at c.in_ok-id.ensures.some in
     core_more g.T.ReencodeIndices keeps c.in_ok-payloads.ensures.ok c.sections.invariant refl c.in_ok-id.ensures.len
-    (kind_called g.T.ReencodeIndices keeps c.in_ok-payloads.ensures.ok c.sections.invariant c.in-Some-Section.id frame c.in_ok-intersperse_section_hook-in-Some-Section.ensures c.in-Ok.ensures)
+    (kind_called g.T.ReencodeIndices keeps c.in_ok-payloads.ensures.ok c.sections.invariant c.in-Some-Section.id frame c.in_ok-call_hook-in-Some-Section.ensures c.in-Ok.ensures)
 
 pub returns-in-Err : goal.returns-in-Err
 returns-in-Err g c =
@@ -34,7 +34,7 @@ returns-in-Err g c =
     let frame = rw (c.in-Some-Section.is, c.in-Some-Section.field-0-is) at c.in_ok-id.ensures.some in
     let at = rw (c.in-Some-Section.is, c.in-Some-Section.field-0-is) at c.in_ok-id.ensures.at in
     module_section_refused g.T.ReencodeIndices keeps c.in_ok-payloads.ensures.ok c.sections.invariant c.in-Err.e c.in-Some-Section.at
-    (kind_called g.T.ReencodeIndices keeps c.in_ok-payloads.ensures.ok c.sections.invariant c.in-Some-Section.id frame c.in_ok-intersperse_section_hook-in-Some-Section.ensures c.in-Err.ensures) at _ c.placed.ensures
+    (kind_called g.T.ReencodeIndices keeps c.in_ok-payloads.ensures.ok c.sections.invariant c.in-Some-Section.id frame c.in_ok-call_hook-in-Some-Section.ensures c.in-Err.ensures) at _ c.placed.ensures
 
 pub sections-preserved-in-Ok-parse_custom_section : goal.sections-preserved-in-Ok-parse_custom_section
 sections-preserved-in-Ok-parse_custom_section g c =
@@ -75,4 +75,4 @@ pub returns-in-None : goal.returns-in-None
 returns-in-None g c =
     let keeps = g.met.T.ReencodeIndices.adds_ok in
     let ended = rw c.in-None.is at c.in_ok-id.ensures.ended in
-    module_ended g.T.ReencodeIndices keeps c.in_ok-payloads.ensures.ok c.sections.invariant ended.0 _ c.intersperse_section_hook-in-None.ensures
+    module_ended g.T.ReencodeIndices keeps c.in_ok-payloads.ensures.ok c.sections.invariant ended.0 _ c.call_hook-in-None.ensures
