@@ -2,7 +2,7 @@
 use Rattle.std.proofs.Common.{◌≡◌, ℕ, zero, suc, ◌-◌, ◌<◌, ◌^◌, List, [], ◌∷◌, ◌++◌, length, drop, get_or, All, Contains, None, refl, sym, ap, ◌∙◌, arith, subst, inl, inr}
 use Rattle.std.proofs.lemmas.List.Elements.{All-nil, All-cons, All-append, All-contains, Contains-append_cases}
 use Rattle.wasm_shapes.specs.declared.Visit.{Visit}
-use Rattle.wasm_shapes.specs.Tree.{Tree, count, fill, after, before, aimed_at, typed, Listed}
+use Rattle.wasm_shapes.specs.Tree.{Tree, count, fill, after, past, before, aimed_at, typed, Listed}
 use Rattle.wasm_shapes.specs.Spells.{Spelled}
 use Rattle.wasm_shapes.specs.Fits.{InRange}
 use Rattle.wasm_shapes.proofs.ReadBack.{spelled_in_range, count-fill}
@@ -95,7 +95,7 @@ counts-fill (Tree.aimed w i o t) a = appended (counts-fill o (drop 1 (after t a)
 counts-fill (Tree.placed i o t) a = appended (counts-fill o (drop 1 a)) (counts-fill t (after o (drop 1 a)))
 counts-fill (Tree.told k t) a = counts-fill t a
 counts-fill (Tree.also t u) a =
-    let own = drop (length (before None t)) a in appended (counts-fill t own) (counts-fill u (after t own))
+    let own = drop (length (before None t)) a in appended (counts-fill t own) (counts-fill u (past t own))
 counts-fill Tree.empty a = refl
 counts-fill (Tree.fixed b) a = refl
 counts-fill (Tree.byte b) a = refl

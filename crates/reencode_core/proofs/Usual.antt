@@ -3,7 +3,7 @@ use Rattle.std.proofs.Common.{◌≡◌, ◌≢◌, ℕ, length, nat_le, Bool, t
 use Rattle.wasm_shapes.specs.declared.SectionId.{SectionId}
 use Rattle.wasm_shapes.specs.declared.Space.TheVariants as space
 use Rattle.wasm_shapes.specs.declared.Visit.{Visit}
-use Rattle.wasm_shapes.specs.declared.Visit.TheVariants.{Index, Outer, Section, Push, Pop}
+use Rattle.wasm_shapes.specs.declared.Visit.TheVariants.{Index, Outer, Section, Closed, Push, Pop}
 use Rattle.wasm_shapes.specs.Tree.{Tree, normal, kind}
 use Rattle.wasm_shapes.specs.Spells.{Spelled}
 use Rattle.wasm_leb.specs.declared.fault.Fault.{Fault}
@@ -15,7 +15,7 @@ use Rattle.reencode_hooks.specs.declared.error.Error.{Error}
 use Rattle.reencode_hooks.specs.declared.error.Error.TheVariants.{CanonicalizedHeapTypeReference, InvalidConstExpr, InvalidCodeSectionSize, UnexpectedNonCoreModuleSection, UnexpectedNonComponentSection, UnsupportedCoreTypeInComponent, ParseError, UserError, TooLarge, NoMemory}
 use Rattle.reencode_hooks.specs.Errors.{error_of_fault, error_of_write}
 use Rattle.reencode_hooks.specs.Run.{Step, accepted, refused, and_then, ask, answered}
-use Rattle.reencode_hooks.specs.Walk.{walk_from, closed, announced}
+use Rattle.reencode_hooks.specs.Walk.{walk_from, closed, announced, followed}
 use Rattle.reencode_core.specs.Errors.{IfParse, IfRefused}
 
 pub IfParse-map : {E : Type 0} {P Q : ℕ → Type 0} (e : Error E) → ((at : ℕ) → P at → Q at) → IfParse e P → IfParse e Q
@@ -83,6 +83,11 @@ module _ {S E : Type 0} (reply : S → Visit → Result ℕ E) (next : S → Vis
   usual_announced s last (Tree.told k t) = usual_ask s (Section last (Some k))
   usual_announced s last _ = tt
 
+  pub usual_followed : (s : S) (t : Tree) → Usual (followed (ask reply next) s t)
+  usual_followed s (Tree.row k t) = usual_followed s t
+  usual_followed s (Tree.told k t) = usual_ask s (Closed k)
+  usual_followed s _ = tt
+
   pub usual_walk : (c : ℕ) (last : Option SectionId) (s : S) (t : Tree) (x : List ℕ) → Spelled t x → Usual (walk_from (ask reply next) c last s t)
   usual_walk c last s (Tree.ix p i) x h = usual_then _ _ (usual_ask s (Index p i)) (λ n m. tt)
   usual_walk c last s (Tree.sx p i) x h = usual_then _ _ (usual_ask s (Index p i)) (λ n m. tt)
@@ -123,7 +128,7 @@ module _ {S E : Type 0} (reply : S → Visit → Result ℕ E) (next : S → Vis
   usual_walk c last s Tree.finish x h = usual_then _ _ (usual_ask s (Section last None)) (λ n m. tt)
   usual_walk c last s (Tree.also t u) x h =
       usual_then _ _ (usual_announced s last t) (λ a m. usual_then _ _ (usual_walk c None m t h.0 h.3) (λ t' n.
-      usual_then _ _ (usual_walk c (kind last t) n u h.1 h.4) (λ u' k. tt)))
+      usual_then _ _ (usual_followed n t) (λ b l. usual_then _ _ (usual_walk c (kind last t) l u h.1 h.4) (λ u' k. tt))))
   usual_walk c last s Tree.empty x h = tt
   usual_walk c last s (Tree.fixed b) x h = tt
   usual_walk c last s (Tree.byte b) x h = tt
