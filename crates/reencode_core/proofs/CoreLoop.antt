@@ -27,7 +27,7 @@ use Rattle.reencode_hooks.specs.declared.error.Error.TheVariants.{CanonicalizedH
 use Rattle.reencode_hooks.specs.Errors.{error_of_fault}
 use Rattle.reencode_hooks.specs.Run.{Step, accepted, refused, and_then, ask, run, NeverWants}
 use Rattle.reencode_hooks.specs.Walk.{walk, walk_from, announced, followed}
-use Rattle.reencode_hooks.specs.Hooks.{KeepsAdds, RepliesSection, Gains}
+use Rattle.reencode_hooks.specs.Hooks.{KeepsAdds, RepliesSection, Gains, HasTooLarge}
 use Rattle.reencode_hooks.proofs.Chained.{gains_both}
 use Rattle.reencode_hooks.proofs.Walks.{walk_is_run}
 use Rattle.reencode_core.specs.Leaves.{CoreUpTo, EndsBy, IsFront, IsSize, Leaves, LeavesCore, MadeUpTo, TellsFault, module_in}
@@ -135,7 +135,7 @@ pub none_behind : BeginsNone section []
 none_behind = none_at_end refl
 
 -- the visits of sections, and of those behind them
-visits_alsos : (last : Option SectionId) (ts : List Tree) (others : Tree) → visits_from last (alsos ts others) ≡ visits_from last (alsos ts Tree.empty) ++ visits_from (kind_after last ts) others
+pub visits_alsos : (last : Option SectionId) (ts : List Tree) (others : Tree) → visits_from last (alsos ts others) ≡ visits_from last (alsos ts Tree.empty) ++ visits_from (kind_after last ts) others
 visits_alsos last [] others = refl
 visits_alsos last (t ∷ ts) others =
     let front : List Visit = visits_from (kind last t) (alsos ts Tree.empty) in
@@ -188,7 +188,7 @@ put_added adds visit s (Tree.told k t) = refl
 put_added adds visit s _ = refl
 
 -- two sections that begin the same bytes are one
-same_there : {bytes left left' : List ℕ} {t u : Tree} → Begins section bytes t left → Begins section bytes u left' → u ≡ t
+pub same_there : {bytes left left' : List ℕ} {t u : Tree} → Begins section bytes t left → Begins section bytes u left' → u ≡ t
 same_there {left = left} {left' = left'} b c = (unique c.spells.shaped b.spells.shaped c.text b.text left' left refl (inl refl) c.spells.spelled b.spells.spelled (sym c.reads ∙ b.reads)).1
 
 -- ---- steps
@@ -738,6 +738,9 @@ module _ {S E : Type 0} (asked : Asks S E) (adds : Puts S SectionRow) where
         announced_is : (u : Tree) → InFrame u (numbered_frame (number k) body) → announced asked s last u ≡ accepted 0 n
         announced_is u i = (kind_announced asked k s last i).0 ∙ told.0
 
+        fitting : (size : ℕ) → ¬ HasTooLarge old.ceiling own size
+        fitting = let A : ℕ → Type 0 = λ z. AllFit z own in none_too_large (subst A (ap Sections.ceiling d.gains) fit)
+
         own_there : (w : Error E) → IsOwn held.ceiling closing w → IsOwn old.ceiling closing w
         own_there w x = let P : ℕ → Type 0 = λ c. IsOwn c closing w in subst P of_held x
 
@@ -752,6 +755,7 @@ module _ {S E : Type 0} (asked : Asks S E) (adds : Puts S SectionRow) where
         stops u i =
             let P : List SectionRow → Type 0 = λ z. StopsHook old.ceiling z h.0 (followed asked l u) e s' in
             let Q : Step S (Error E) ℕ → Type 0 = λ z. e ≢ NoMemory → IsOwn old.ceiling closing e ⊎ (z ≡ refused e s') in
+            let F : List SectionRow → Type 0 = λ z. (size : ℕ) → ¬ HasTooLarge old.ceiling z size in
             let puts : own ≡ put_before adds s last u = sym (kind_put adds (λ j. Section last (Some j)) k s i) in (
               own ++ row u i ∷ h.0,
               part_gains u i,
@@ -766,6 +770,7 @@ module _ {S E : Type 0} (asked : Asks S E) (adds : Puts S SectionRow) where
                   walked u i,
                   (g.reading u i).4,
                   ap (λ (z : List SectionRow). z ++ row u i ∷ h.0) puts,
+                  subst F puts fitting,
                   subst P (sym (kind_put adds (λ j. Closed j) k l i)) (h.2, subst Q (sym (kind_followed asked k l i)) by),
                 ),
               ),
@@ -774,11 +779,10 @@ module _ {S E : Type 0} (asked : Asks S E) (adds : Puts S SectionRow) where
         why : IsOwn held.ceiling closing e ⊎ ((e ≢ NoMemory → asked l (Closed k) ≡ refused e s') × IfParse e (λ at. ⊥)) →
             OwnTooLarge asked adds old.ceiling bytes s0 e ⊎ Refuses (numbered_frame (number k) body) e s'
         why (inl x) =
-            let A : ℕ → Type 0 = λ z. AllFit z own in
             inl (own_large {e = e} (inr (k, body, left, there, inr (record {
               from = n;
               told = told.0;
-              fits = none_too_large (subst A (ap Sections.ceiling d.gains) fit);
+              fits = fitting;
               tree = t;
               there = in_it;
               made = (g.reading t in_it).0;
