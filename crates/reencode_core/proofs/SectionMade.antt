@@ -8,13 +8,13 @@ use Rattle.wasm_shapes.specs.declared.Space.{Space}
 use Rattle.wasm_shapes.specs.declared.Space.TheVariants as space
 use Rattle.wasm_shapes.specs.declared.Visit.{Visit}
 use Rattle.wasm_shapes.specs.Drawn.{Drawn, IsItem}
-use Rattle.wasm_shapes.specs.Tree.{Tree, before, visits}
+use Rattle.wasm_shapes.specs.Tree.{Tree, before, behind, visits}
 use Rattle.wasm_shapes.specs.Shape.{Shape}
 use Rattle.wasm_shapes.specs.Sound.{sound}
 use Rattle.wasm_shapes.specs.Spells.{Is, Spelled, Spells}
 use Rattle.wasm_shapes.specs.Module.{body_of, row_of, tree_of, frame, numbered_frame, custom_frame, naming_row, indirect_row, subsection, name_subsection, names, InFrame, ReadsContents}
 use Rattle.wasm_shapes.specs.Place.{Begins}
-use Rattle.wasm_shapes.proofs.Drawn.{drawn_behind, drawn_front, drawn_hook, drawn_item, drawn_joined, drawn_none}
+use Rattle.wasm_shapes.proofs.Drawn.{drawn_behind, drawn_closing, drawn_front, drawn_hook, drawn_item, drawn_joined, drawn_none}
 use Rattle.wasm_shapes.proofs.Laws.{one_tree}
 use Rattle.wasm_read.specs.Reading.{Standing, CountRead}
 use Rattle.reencode_hooks.specs.declared.error.Error.{Error}
@@ -136,11 +136,16 @@ pub contents_drawn : {name contents : List ℕ} {u : Tree} → ReadsContents nam
 contents_drawn {contents = contents} {u = u} (inl r) = names_drawn u contents r.1.shaped r.1.spelled
 contents_drawn {contents = contents} (inr r) = let P : Tree → Type 0 = λ z. Drawn contents (visits z) in subst P (sym r.1) drawn_none
 
--- the section hook's visit before a section
+-- the section hook's visit before a section, and the closing hook's behind it
 pub before_drawn : {x : List ℕ} (last : Option SectionId) (t : Tree) → Drawn x (before last t)
 before_drawn last (Tree.row k t) = before_drawn last t
 before_drawn last (Tree.told k t) = drawn_hook
 before_drawn last _ = drawn_none
+
+pub behind_drawn : {x : List ℕ} (t : Tree) → Drawn x (behind t)
+behind_drawn (Tree.row k t) = behind_drawn t
+behind_drawn (Tree.told k t) = drawn_closing
+behind_drawn _ = drawn_none
 
 -- what is drawn from the body of a frame is drawn from what the frame stands in
 pub numbered_drawn : {id : ℕ} {bytes body left : List ℕ} {vs : List Visit} → Begins frame bytes (numbered_frame id body) left → Drawn body vs → Drawn bytes vs
