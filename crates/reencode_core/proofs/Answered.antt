@@ -5,7 +5,7 @@ use Rattle.std.proofs.lemmas.List.{append_cancel_left}
 use Rattle.std.proofs.lemmas.List.Elements.{All-cons, All-head, All-tail, All-nil}
 use Rattle.wasm_leb.proofs.Unique.{unsigned_unique}
 use Rattle.wasm_shapes.specs.declared.SectionId.TheVariants as id
-use Rattle.wasm_shapes.specs.Tree.{Tree, after, before, fill, frames, normal, visits}
+use Rattle.wasm_shapes.specs.Tree.{Tree, after, past, before, behind, fill, frames, normal, visits}
 use Rattle.wasm_shapes.specs.Shape.{Shape}
 use Rattle.wasm_shapes.specs.Spells.{Is, Spelled}
 use Rattle.wasm_shapes.specs.Fits.{Fits}
@@ -124,7 +124,7 @@ sections_kept (t ∷ ts) (u ∷ us) at x answers old new small e fits k =
     let own : List ℕ = drop (length (before None t)) answers in
     let own_small = drop_small (length (before None t)) answers small in
     let first : fill t own ≡ u = cc in
-    let others : fill (alsos ts Tree.finish) (after t own) ≡ alsos us Tree.finish = cc in
+    let others : fill (alsos ts Tree.finish) (past t own) ≡ alsos us Tree.finish = cc in
     let halves = fits_parts (frames u) (frames (alsos us Tree.finish)) fits in (
       k.0,
       k.1,
@@ -132,7 +132,7 @@ sections_kept (t ∷ ts) (u ∷ us) at x answers old new small e fits k =
       k.3,
       k.4,
       one at k.0 t u own old k.2 own_small first halves.0 k.5,
-      sections_kept ts us (at + length k.0) k.1 (after t own) k.2 new (drop_small (length (visits t)) own own_small) others halves.1 k.6,
+      sections_kept ts us (at + length k.0) k.1 (past t own) k.2 new (drop_small (length (behind t)) (after t own) (drop_small (length (visits t)) own own_small)) others halves.1 k.6,
     )
   where
     one : (at : ℕ) (x : List ℕ) (t u : Tree) (own : List ℕ) (old mid : List Range) → Small own → fill t own ≡ u → Short u → InCode at x t u old mid ⊎ (NotCode t × (mid ≡ old)) →

@@ -5,7 +5,7 @@ use Rattle.wasm_shapes.specs.declared.SectionId.{SectionId}
 use Rattle.wasm_shapes.specs.declared.Visit.{Visit}
 use Rattle.wasm_shapes.specs.declared.Visit.TheVariants.{Index, Pop}
 use Rattle.wasm_shapes.specs.declared.Space.TheVariants as space
-use Rattle.wasm_shapes.specs.Tree.{Tree, visits, visits_from, before, kind, after, fill, aimed_at, normal, Listed}
+use Rattle.wasm_shapes.specs.Tree.{Tree, visits, visits_from, before, behind, kind, after, past, fill, aimed_at, normal, Listed}
 use Rattle.wasm_shapes.specs.Spells.{Spells}
 use Rattle.wasm_shapes.proofs.Laws.{one_tree, filled_read_back}
 use Rattle.reencode_core.specs.Kept.{OwnAnswers, IsKept}
@@ -30,11 +30,16 @@ own_parts (v ∷ xs) ys a p =
     let q = own_parts xs ys (drop 1 a) p.1 in
     ((p.0, q.0), subst P (drop_more (length xs) a) q.1)
 
--- a visit of the section hook asks no index
+-- a visit of the section hook asks no index, nor does one of the closing hook
 own_before : (l : Option SectionId) (t : Tree) (a : List ℕ) → OwnAnswers (before l t) a
 own_before l (Tree.row k t) a = own_before l t a
 own_before l (Tree.told k t) a = (tt, tt)
 own_before l _ a = tt
+
+own_behind : (t : Tree) (a : List ℕ) → OwnAnswers (behind t) a
+own_behind (Tree.row k t) a = own_behind t a
+own_behind (Tree.told k t) a = (tt, tt)
+own_behind _ a = tt
 
 length-before : (t : Tree) (l m : Option SectionId) → length (before l t) ≡ length (before m t)
 length-before (Tree.row k t) l m = length-before t l m
@@ -95,10 +100,12 @@ own_filled l (Tree.placed i o t) a e =
 own_filled l (Tree.also t u) a e =
     let b : List ℕ = drop (length (before None t)) a in
     let p : fill t b ≡ t = cc in
-    let q : fill u (after t b) ≡ u = cc in
-    let P : ℕ → Type 0 = λ n. OwnAnswers (visits t ++ visits_from (kind l t) u) (drop n a) in
-    own_both (before l t) (visits t ++ visits_from (kind l t) u) a (own_before l t a)
-    (subst P (length-before t None l) (own_both (visits t) (visits_from (kind l t) u) b (own_filled None t b p) (own_filled (kind l t) u (after t b) q)))
+    let q : fill u (past t b) ≡ u = cc in
+    let others : List Visit = visits_from (kind l t) u in
+    let P : ℕ → Type 0 = λ n. OwnAnswers (visits t ++ (behind t ++ others)) (drop n a) in
+    own_both (before l t) (visits t ++ (behind t ++ others)) a (own_before l t a)
+    (subst P (length-before t None l)
+    (own_both (visits t) (behind t ++ others) b (own_filled None t b p) (own_both (behind t) others (after t b) (own_behind t (after t b)) (own_filled (kind l t) u (past t b) q))))
 own_filled l Tree.finish a e = (tt, tt)
 own_filled l _ a e = tt
 
@@ -143,10 +150,11 @@ filled_own l (Tree.placed i o t) a p =
     ∙ ap₂ (λ (x y : Tree). Tree.placed i x y) (filled_own None o (drop 1 a) q.0) (filled_own None t (after o (drop 1 a)) q.1)
 filled_own l (Tree.also t u) a p =
     let b : List ℕ = drop (length (before None t)) a in
-    let P : ℕ → Type 0 = λ n. OwnAnswers (visits t ++ visits_from (kind l t) u) (drop n a) in
-    let behind : OwnAnswers (visits t ++ visits_from (kind l t) u) b = subst P (length-before t l None) (own_parts (before l t) (visits t ++ visits_from (kind l t) u) a p).1 in
-    let q = own_parts (visits t) (visits_from (kind l t) u) b behind in
-    ap₂ Tree.also (filled_own None t b q.0) (filled_own (kind l t) u (after t b) q.1)
+    let others : List Visit = visits_from (kind l t) u in
+    let P : ℕ → Type 0 = λ n. OwnAnswers (visits t ++ (behind t ++ others)) (drop n a) in
+    let from : OwnAnswers (visits t ++ (behind t ++ others)) b = subst P (length-before t l None) (own_parts (before l t) (visits t ++ (behind t ++ others)) a p).1 in
+    let q = own_parts (visits t) (behind t ++ others) b from in
+    ap₂ Tree.also (filled_own None t b q.0) (filled_own (kind l t) u (past t b) (own_parts (behind t) others (after t b) q.1).1)
 filled_own l _ a p = refl
 
 pub fill_is_own : statements.FillIsOwn

@@ -3,7 +3,7 @@ use Rattle.std.proofs.Common.{◌≡◌, ℕ, List, [], ◌++◌, Option, None, 
 use Rattle.wasm_shapes.specs.declared.SectionId.{SectionId}
 use Rattle.wasm_shapes.specs.declared.Visit.{Visit}
 use Rattle.wasm_shapes.specs.Drawn.{Drawn, IsItem}
-use Rattle.wasm_shapes.specs.Tree.{Tree, before, kind, visits, visits_from}
+use Rattle.wasm_shapes.specs.Tree.{Tree, before, behind, kind, visits, visits_from}
 use Rattle.wasm_shapes.specs.Spells.{Is, Spelled, Spells}
 use Rattle.wasm_shapes.specs.Place.{Begins}
 use Rattle.wasm_shapes.specs.Module.{CoreReading, ReadsCustom, body, core_header, core_module, core_tree, frame, sections}
@@ -23,7 +23,7 @@ use Rattle.reencode_core.proofs.CustomSection.{one_contents}
 use Rattle.reencode_core.proofs.FunctionMade.{drawn_locals}
 use Rattle.reencode_core.proofs.Made.{PartMade, Unasked, drawn_made, ended_all, front_none, front_same, tree_made, wants_tells_none, whole_made}
 use Rattle.reencode_core.proofs.RowsMade.{drawn_rows}
-use Rattle.reencode_core.proofs.SectionMade.{before_drawn, contents_drawn, in_frame_drawn, section_leaves_part}
+use Rattle.reencode_core.proofs.SectionMade.{before_drawn, behind_drawn, contents_drawn, in_frame_drawn, section_leaves_part}
 
 -- ---- what is drawn
 
@@ -40,8 +40,10 @@ sections_drawn last t x (Is.also {t = v} {u = u} d e) s =
     let f = in_frame v s.0 d s.3 in
     let whole : Begins frame s.0 f.0 [] = record { text = s.0; spells = f.2; reads = sym (append-nil s.0) } in
     let one : Drawn s.0 (visits v) = in_frame_drawn f.1 whole in
-    drawn_joined x (before last v) (visits v ++ visits_from (kind last v) u) (before_drawn last v)
-    (drawn_joined x (visits v) (visits_from (kind last v) u) (drawn_front s.0 s.1 s.2 one) (drawn_behind s.0 s.1 s.2 (sections_drawn (kind last v) u s.1 e s.4)))
+    let others : List Visit = visits_from (kind last v) u in
+    drawn_joined x (before last v) (visits v ++ (behind v ++ others)) (before_drawn last v)
+    (drawn_joined x (visits v) (behind v ++ others) (drawn_front s.0 s.1 s.2 one)
+    (drawn_joined x (behind v) others (behind_drawn v) (drawn_behind s.0 s.1 s.2 (sections_drawn (kind last v) u s.1 e s.4))))
 
 pub module_drawn : (bytes : List ℕ) (t : Tree) → Spells core_module bytes t → Drawn bytes (visits t)
 module_drawn bytes t p =

@@ -136,7 +136,7 @@ pub contents_drawn : {name contents : List ℕ} {u : Tree} → ReadsContents nam
 contents_drawn {contents = contents} {u = u} (inl r) = names_drawn u contents r.1.shaped r.1.spelled
 contents_drawn {contents = contents} (inr r) = let P : Tree → Type 0 = λ z. Drawn contents (visits z) in subst P (sym r.1) drawn_none
 
--- the section hook's visit before a section
+-- the section hook's visit before a section, and the closing hook's behind it
 pub before_drawn : {x : List ℕ} (last : Option SectionId) (t : Tree) → Drawn x (before last t)
 before_drawn last (Tree.row k t) = before_drawn last t
 before_drawn last (Tree.told k t) = drawn_hook

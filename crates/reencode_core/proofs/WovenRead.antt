@@ -3,8 +3,8 @@ use Rattle.std.proofs.Common.{◌≡◌, ◌<◌, ◌≤◌, ◌^◌, ◌-◌, �
 use Rattle.std.proofs.lemmas.List.Elements.{All-nil, All-cons, All-head, All-tail}
 use Rattle.wasm_shapes.specs.declared.SectionId.{SectionId}
 use Rattle.wasm_shapes.specs.declared.Visit.{Visit}
-use Rattle.wasm_shapes.specs.declared.Visit.TheVariants.{Section}
-use Rattle.wasm_shapes.specs.Tree.{Tree, visits, visits_from, before, kind, fill, after, normal, frames}
+use Rattle.wasm_shapes.specs.declared.Visit.TheVariants.{Section, Closed}
+use Rattle.wasm_shapes.specs.Tree.{Tree, visits, visits_from, before, behind, kind, fill, after, past, normal, frames}
 use Rattle.wasm_shapes.specs.Fits.{Fits}
 use Rattle.wasm_shapes.specs.Spells.{Is, Spelled, Spells}
 use Rattle.wasm_shapes.specs.Module.{core_header, section, sections, core_module, core_tree, headed_tree, alsos}
@@ -15,9 +15,9 @@ use Rattle.reencode_hooks.specs.Run.{accepted, ask, run, state_after}
 use Rattle.reencode_hooks.specs.Hooks.{KeepsAnswers}
 use Rattle.reencode_hooks.proofs.InRange.{Small, all_small, answers_small, below, small_behind, visits_in_range}
 use Rattle.reencode_core.specs.Rows.{Asks}
-use Rattle.reencode_core.specs.Weave.{AtSections, Puts, added, put_before, woven_from, woven}
+use Rattle.reencode_core.specs.Weave.{AtSections, Puts, added, put_at, put_behind, woven_from, woven}
 use Rattle.reencode_core.specs.WovenLaws.{AreReadings, ReadsAdded, OutputIsRead}
-use Rattle.reencode_core.proofs.Weaves.{also_behind, also_ran, forth, woven_alike}
+use Rattle.reencode_core.proofs.Weaves.{AtKind, also_behind, also_hooks, also_ran, forth, woven_alike}
 
 -- the answers to the visits of what bytes spell
 pub reading_small : {S E : Type 0} (reply : S → Visit → Result ℕ E) (next : S → Visit → S) → KeepsAnswers reply → (s m : S) (t : Tree) (bytes told : List ℕ) → Spelled t bytes →
@@ -46,11 +46,11 @@ module _ {S E : Type 0} (asked : Asks S E) (adds : Puts S SectionRow) (readings 
   abbrev Reads : S → Visit → Type 0
   Reads s v = AreReadings (adds s v) (readings s v)
 
-  reads_hook : (s : S) (last : Option SectionId) (t p q : Tree) (more : List Visit) → AtSections asked s (before last t ++ more) Reads → Spells sections (normal p) q →
-      Spells sections (normal (alsos (put_before (added adds) s last t) p)) (alsos (put_before readings s last t) q)
-  reads_hook s last (Tree.row k t) p q more are h = reads_hook s last t p q more are h
-  reads_hook s last (Tree.told k t) p q more are h = reads_before (adds s (Section last (Some k))) (readings s (Section last (Some k))) p q (are [] (Section last (Some k)) more tt refl) h
-  reads_hook s last _ p q more are h = h
+  reads_hook : (visit : SectionId → Visit) (s : S) (t p q : Tree) → AtKind Reads visit s t → Spells sections (normal p) q →
+      Spells sections (normal (alsos (put_at (added adds) visit s t) p)) (alsos (put_at readings visit s t) q)
+  reads_hook visit s (Tree.row k t) p q are h = reads_hook visit s t p q are h
+  reads_hook visit s (Tree.told k t) p q are h = reads_before (adds s (visit k)) (readings s (visit k)) p q are h
+  reads_hook visit s _ p q are h = h
 
   reads_from : (last : Option SectionId) (s m : S) (t : Tree) (x xs told : List ℕ) → Is sections t → Spelled t x → Small xs → Fits (fill t xs) (2 ^ 32 - 1) →
       run asked s (visits_from last t) ≡ accepted told m → AtSections asked s (visits_from last t) Reads →
@@ -60,16 +60,19 @@ module _ {S E : Type 0} (asked : Asks S E) (adds : Puts S SectionRow) (readings 
   reads_from last s m t x xs told (Is.also {t = v} {u = u} d d') p small fits ran are =
       let own : List ℕ = drop (length (before None v)) xs in
       let own_small : Small own = small_behind (length (before None v)) xs small in
-      let rest_small : Small (after v own) = small_behind (length (visits v)) own own_small in
-      let parts = all_parts (2 ^ 32 - 1) (frames (fill v own)) (frames (fill u (after v own))) fits in
+      let rest_small : Small (past v own) = small_behind (length (behind v)) (after v own) (small_behind (length (visits v)) own own_small) in
+      let parts = all_parts (2 ^ 32 - 1) (frames (fill v own)) (frames (fill u (past v own))) fits in
       let one : Spells section (normal (fill v own)) (fill v own) = filled_read_back section p.0 v own own_small (record { shaped = d; spelled = p.3 }) parts.0 in
       let r = also_ran asked s m last v u told ran in
-      let rest = reads_from (kind last v) r.1 m u p.1 (after v own) r.2 d' p.4 rest_small parts.1 r.4 (also_behind asked Reads s r.1 r.0 last v u r.3 are) in
-      let made : Tree = woven_from asked (added adds) (kind last v) r.1 u (after v own) in
-      let read : Tree = woven_from asked readings (kind last v) r.1 u (after v own) in
-      let state : state_after (run asked s (before last v ++ visits_from None v)) ≡ r.1 = ap state_after r.3 in
-      rw state
-      (reads_hook s last v (Tree.also (fill v own) made) (Tree.also (fill v own) read) (visits_from None v ++ visits_from (kind last v) u) are
+      let hooks = also_hooks asked Reads s m last v u r are in
+      let inner : Tree = woven_from asked (added adds) (kind last v) r.from u (past v own) in
+      let inner_read : Tree = woven_from asked readings (kind last v) r.from u (past v own) in
+      let others = reads_from (kind last v) r.from m u p.1 (past v own) r.others d' p.4 rest_small parts.1 r.others_ran (also_behind asked Reads s m last v u r are) in
+      let made : Tree = alsos (put_behind (added adds) r.at v) inner in
+      let read : Tree = alsos (put_behind readings r.at v) inner_read in
+      let rest : Spells sections (normal made) read = reads_hook (λ k. Closed k) r.at v inner inner_read hooks.1 others in
+      rw (r.at_is, r.from_is)
+      (reads_hook (λ k. Section last (Some k)) s v (Tree.also (fill v own) made) (Tree.also (fill v own) read) hooks.0
       (record { shaped = Is.also one.shaped rest.shaped; spelled = (normal (fill v own), normal made, refl, one.spelled, rest.spelled) }))
 
 -- ---- the header
