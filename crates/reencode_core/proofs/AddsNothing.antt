@@ -10,7 +10,7 @@ use Rattle.reencode_hooks.specs.declared.error.Error.{Error}
 use Rattle.reencode_hooks.specs.declared.error.Error.TheVariants.{TooLarge, NoMemory}
 use Rattle.reencode_hooks.specs.Run.{Step, accepted, refused}
 use Rattle.reencode_hooks.specs.Walk.{walk, walk_from, announced, followed}
-use Rattle.reencode_hooks.specs.Hooks.{Gains, HasTooLarge, KeepsAdds, MayAdd}
+use Rattle.reencode_hooks.specs.Hooks.{HasTooLarge, KeepsAdds, MayAdd}
 use Rattle.reencode_core.specs.Rows.{Asks}
 use Rattle.reencode_core.specs.Core.{onto, AcceptsSections, RefusesNext, StopsSections, IsCause, GivesCore, GivesBytes}
 use Rattle.reencode_core.specs.Weave.{Puts, added, put_before, put_behind, weave, weave_from}
