@@ -1,10 +1,10 @@
 -- A section of any sort by its frame: of a known kind, a custom one, or one of another id.
 use Rattle.std.proofs.Common.{◌≡◌, ℕ, ◌≤◌, List, [], ◌∷◌, Option, Some, Result, Ok, Err, IfOk, IfErr, refl, sym, ◌∙◌, subst, ◌⊎◌, inl, inr}
 use Rattle.wasm_shapes.specs.declared.SectionId.{SectionId}
-use Rattle.wasm_shapes.specs.declared.Visit.TheVariants.{Section}
+use Rattle.wasm_shapes.specs.declared.Visit.TheVariants.{Section, Closed}
 use Rattle.wasm_shapes.specs.declared.Visit.{Visit}
 use Rattle.wasm_shapes.specs.Drawn.{Drawn}
-use Rattle.wasm_shapes.specs.Tree.{Tree, before, kind}
+use Rattle.wasm_shapes.specs.Tree.{Tree, before, behind, kind}
 use Rattle.wasm_shapes.proofs.Drawn.{drawn_hook, drawn_none}
 use Rattle.wasm_shapes.specs.Place.{Begins}
 use Rattle.wasm_shapes.specs.Module.{frame, numbered_frame, custom_frame, unknown_tree_of, ReadsCustom, InFrame}
@@ -13,15 +13,15 @@ use Rattle.wasm_shapes.proofs.SectionTable.{kind_in_frame, custom_in_frame, unkn
 use Rattle.wasm_write.specs.Sections.{Sections, SectionRow}
 use Rattle.reencode_hooks.specs.declared.error.Error.{Error}
 use Rattle.reencode_hooks.specs.Run.{accepted, run}
-use Rattle.reencode_hooks.specs.Walk.{announced}
+use Rattle.reencode_hooks.specs.Walk.{announced, followed}
 use Rattle.reencode_core.specs.Errors.{IfParse, IfRefused}
 use Rattle.reencode_core.specs.Rows.{Asks}
 use Rattle.reencode_core.specs.Sections.{ReadsAs, GivesAdded, StopsSection, GivesSection}
 use Rattle.reencode_core.specs.Names.{StopsCustom, GivesCustom}
 use Rattle.reencode_core.specs.Core.{StopsThere}
-use Rattle.reencode_core.specs.Weave.{Puts, put_before}
-use Rattle.reencode_core.specs.Woven.{AddedBefore}
-use Rattle.reencode_core.proofs.Known.{frame_id, section_announced}
+use Rattle.reencode_core.specs.Weave.{Puts, put_at}
+use Rattle.reencode_core.specs.Woven.{AddedAt}
+use Rattle.reencode_core.proofs.Known.{frame_id, section_announced, section_followed}
 use Rattle.reencode_core.proofs.Usual.{IfParse-map, IfRefused-map, unless_wanting}
 
 -- ---- its readings
@@ -30,32 +30,64 @@ pub kind_announced : {S E : Type 0} (asked : Asks S E) (k : SectionId) {body : L
     (announced asked s last t ≡ asked s (Section last (Some k))) × (kind last t ≡ Some k)
 kind_announced asked k {body = body} s last {t = t} i = let r = kind_in_frame k body t i in rw r.1 (section_announced k asked s last r.0)
 
-pub kind_before : (k : SectionId) {body : List ℕ} (last : Option SectionId) {t : Tree} → InFrame t (numbered_frame (number k) body) → before last t ≡ Section last (Some k) ∷ []
-kind_before k {body = body} last {t = t} i = let r = kind_in_frame k body t i in rw r.1 refl
+-- behind it the closing hook
+pub kind_followed : {S E : Type 0} (asked : Asks S E) (k : SectionId) {body : List ℕ} (s : S) {t : Tree} → InFrame t (numbered_frame (number k) body) → followed asked s t ≡ asked s (Closed k)
+kind_followed asked k {body = body} s {t = t} i = let r = kind_in_frame k body t i in rw r.1 (section_followed k asked s r.0)
 
-pub custom_before : {name contents : List ℕ} (last : Option SectionId) {t : Tree} → InFrame t (custom_frame name contents) → before last t ≡ []
-custom_before {name = name} {contents = contents} last {t = t} i = let r = custom_in_frame name contents t i in rw r.1 refl
+-- These are the visits of a hook at a section, by its frame: one at a section of a known kind, and none at another.
+pub record AreTold (visit : SectionId → Visit) (told : Tree → List Visit) : Type 0 where
+  pub kind : (k : SectionId) {body : List ℕ} {t : Tree} → InFrame t (numbered_frame (number k) body) → told t ≡ visit k ∷ []
+  pub custom : {name contents : List ℕ} {t : Tree} → InFrame t (custom_frame name contents) → told t ≡ []
+  pub unknown : {id : ℕ} {contents : List ℕ} {t : Tree} → 14 ≤ id → InFrame t (numbered_frame id contents) → told t ≡ []
 
-pub unknown_before : {id : ℕ} {contents : List ℕ} (last : Option SectionId) {t : Tree} → 14 ≤ id → InFrame t (numbered_frame id contents) → before last t ≡ []
-unknown_before {id = id} {contents = contents} last {t = t} low i = rw (unknown_in_frame id contents t low i) refl
+-- those of the section hook before it
+pub told_before : (last : Option SectionId) → AreTold (λ k. Section last (Some k)) (before last)
+told_before last = record {
+  kind = λ k {body} {t} i. let r = kind_in_frame k body t i in rw r.1 refl;
+  custom = λ {name} {contents} {t} i. let r = custom_in_frame name contents t i in rw r.1 refl;
+  unknown = λ {id} {contents} {t} low i. rw (unknown_in_frame id contents t low i) refl;
+}
 
--- what the section hook puts before it
-pub kind_put : {S A : Type 0} (put : Puts S A) (k : SectionId) {body : List ℕ} (s : S) (last : Option SectionId) {t : Tree} → InFrame t (numbered_frame (number k) body) →
-    put_before put s last t ≡ put s (Section last (Some k))
-kind_put put k {body = body} s last {t = t} i = let r = kind_in_frame k body t i in rw r.1 refl
+-- and of the closing hook behind it
+pub told_behind : AreTold (λ k. Closed k) behind
+told_behind = record {
+  kind = λ k {body} {t} i. let r = kind_in_frame k body t i in rw r.1 refl;
+  custom = λ {name} {contents} {t} i. let r = custom_in_frame name contents t i in rw r.1 refl;
+  unknown = λ {id} {contents} {t} low i. rw (unknown_in_frame id contents t low i) refl;
+}
 
-custom_put : {S A : Type 0} (put : Puts S A) {name contents : List ℕ} (s : S) (last : Option SectionId) {t : Tree} → InFrame t (custom_frame name contents) → put_before put s last t ≡ []
-custom_put put {name = name} {contents = contents} s last {t = t} i = let r = custom_in_frame name contents t i in rw r.1 refl
+-- what a hook puts there
+pub kind_put : {S A : Type 0} (put : Puts S A) (visit : SectionId → Visit) (k : SectionId) {body : List ℕ} (s : S) {t : Tree} → InFrame t (numbered_frame (number k) body) →
+    put_at put visit s t ≡ put s (visit k)
+kind_put put visit k {body = body} s {t = t} i = let r = kind_in_frame k body t i in rw r.1 refl
 
-unknown_put : {S A : Type 0} (put : Puts S A) {id : ℕ} {contents : List ℕ} (s : S) (last : Option SectionId) {t : Tree} → 14 ≤ id → InFrame t (numbered_frame id contents) →
-    put_before put s last t ≡ []
-unknown_put put {id = id} {contents = contents} s last {t = t} low i = rw (unknown_in_frame id contents t low i) refl
+custom_put : {S A : Type 0} (put : Puts S A) (visit : SectionId → Visit) {name contents : List ℕ} (s : S) {t : Tree} → InFrame t (custom_frame name contents) → put_at put visit s t ≡ []
+custom_put put visit {name = name} {contents = contents} s {t = t} i = let r = custom_in_frame name contents t i in rw r.1 refl
 
-pub added_put : {S E : Type 0} {asked : Asks S E} {adds : Puts S SectionRow} {last : Option SectionId} {s n : S} {f : Tree} {own : List SectionRow} → AddedBefore asked adds last s f n own →
-    (t : Tree) → InFrame t f → put_before adds s last t ≡ own
-added_put {adds = adds} {last = last} {s = s} (AddedBefore.known k body n h) t i = kind_put adds k s last i
-added_put {adds = adds} {last = last} {s = s} (AddedBefore.custom name contents) t i = custom_put adds s last i
-added_put {adds = adds} {last = last} {s = s} (AddedBefore.unknown id contents low) t i = unknown_put adds s last low i
+unknown_put : {S A : Type 0} (put : Puts S A) (visit : SectionId → Visit) {id : ℕ} {contents : List ℕ} (s : S) {t : Tree} → 14 ≤ id → InFrame t (numbered_frame id contents) →
+    put_at put visit s t ≡ []
+unknown_put put visit {id = id} {contents = contents} s {t = t} low i = rw (unknown_in_frame id contents t low i) refl
+
+module _ {S E : Type 0} {asked : Asks S E} {adds : Puts S SectionRow} {visit : SectionId → Visit} {s : S} where
+  pub added_put : {n : S} {f : Tree} {own : List SectionRow} → AddedAt asked adds visit s f n own → (t : Tree) → InFrame t f → put_at adds visit s t ≡ own
+  added_put (AddedAt.known k body n h) t i = kind_put adds visit k s i
+  added_put (AddedAt.custom name contents) t i = custom_put adds visit s i
+  added_put (AddedAt.unknown id contents low) t i = unknown_put adds visit s low i
+
+  -- the hook was asked, and accepted
+  pub added_run : {told : Tree → List Visit} {n : S} {f : Tree} {own : List SectionRow} → AreTold visit told → AddedAt asked adds visit s f n own → (t : Tree) → InFrame t f → (given : List ℕ) × (run asked s (told t) ≡ accepted given n)
+  added_run are (AddedAt.known k body n h) t i =
+      let P : List Visit → Type 0 = λ z. (given : List ℕ) × (run asked s z ≡ accepted given n) in subst P (sym (are.kind k i)) (0 ∷ [], rw h refl)
+  added_run are (AddedAt.custom name contents) t i =
+      let P : List Visit → Type 0 = λ z. (given : List ℕ) × (run asked s z ≡ accepted given s) in subst P (sym (are.custom i)) ([], refl)
+  added_run are (AddedAt.unknown id contents low) t i =
+      let P : List Visit → Type 0 = λ z. (given : List ℕ) × (run asked s z ≡ accepted given s) in subst P (sym (are.unknown low i)) ([], refl)
+
+pub added_followed : {S E : Type 0} {asked : Asks S E} {adds : Puts S SectionRow} {s n : S} {f : Tree} {own : List SectionRow} → AddedAt asked adds (λ k. Closed k) s f n own → (t : Tree) → InFrame t f →
+    followed asked s t ≡ accepted 0 n
+added_followed {asked = asked} {s = s} (AddedAt.known k body n h) t i = kind_followed asked k s i ∙ h
+added_followed (AddedAt.custom name contents) t i = let r = custom_in_frame name contents t i in rw r.1 refl
+added_followed (AddedAt.unknown id contents low) t i = rw (unknown_in_frame id contents t low i) refl
 
 framed_kind : (k : SectionId) {body : List ℕ} {t : Tree} → 1 ≤ number k → ReadsAs k body t → InFrame t (numbered_frame (number k) body)
 framed_kind k {body = body} low r =
@@ -166,7 +198,7 @@ module _ {S E : Type 0} (asked : Asks S E) {bytes left : List ℕ} {last : Optio
     hook = Section last (Some k) ∷ [];
     given = 0 ∷ [];
     ran = rw h refl;
-    visited = λ t i. kind_before k last i;
+    visited = λ t i. (told_before last).kind k i;
     drawn = λ x. drawn_hook;
     stops = λ c e m q. inl (record { id = k; body = body; left = left; framed = there; stops = inr (n, h, q) });
   }
@@ -181,7 +213,7 @@ module _ {S E : Type 0} (asked : Asks S E) {bytes left : List ℕ} {last : Optio
     hook = [];
     given = [];
     ran = refl;
-    visited = λ t i. let r = custom_in_frame name contents t i in rw r.1 refl;
+    visited = λ t i. (told_before last).custom i;
     drawn = λ x. drawn_none;
     stops = λ c e m q.
         let P : List ℕ → Type 0 = λ z. Begins frame bytes (custom_frame z contents) left in
@@ -197,7 +229,7 @@ module _ {S E : Type 0} (asked : Asks S E) {bytes left : List ℕ} {last : Optio
     hook = [];
     given = [];
     ran = refl;
-    visited = λ t i. rw (unknown_in_frame id contents t low i) refl;
+    visited = λ t i. (told_before last).unknown low i;
     drawn = λ x. drawn_none;
     stops = λ c e m q. absurd q;
   }

@@ -6,10 +6,10 @@ use Rattle.wasm_leb.specs.declared.fault.Fault.TheVariants as fault
 use Rattle.wasm_leb.specs.declared.fault.Kind.TheVariants as kinds
 use Rattle.wasm_shapes.specs.declared.SectionId.{SectionId}
 use Rattle.wasm_shapes.specs.declared.Visit.{Visit}
-use Rattle.wasm_shapes.specs.declared.Visit.TheVariants.{Section}
+use Rattle.wasm_shapes.specs.declared.Visit.TheVariants.{Section, Closed}
 use Rattle.wasm_shapes.specs.Drawn.{Drawn}
-use Rattle.wasm_shapes.specs.Tree.{Tree, before, kind, normal, visits, visits_from}
-use Rattle.wasm_shapes.proofs.Drawn.{drawn_behind, drawn_front, drawn_hook, drawn_joined, drawn_none}
+use Rattle.wasm_shapes.specs.Tree.{Tree, before, behind, kind, normal, visits, visits_from}
+use Rattle.wasm_shapes.proofs.Drawn.{drawn_behind, drawn_closing, drawn_front, drawn_hook, drawn_joined, drawn_none}
 use Rattle.wasm_shapes.specs.Spells.{Is, Spelled, Spells}
 use Rattle.wasm_shapes.specs.Place.{Begins, BeginsNone}
 use Rattle.wasm_shapes.specs.CodeSize.{InvalidCodeSize}
@@ -25,24 +25,24 @@ use Rattle.wasm_write.specs.Sections.{AllFit, Sections, SectionRow, section_row,
 use Rattle.reencode_hooks.specs.declared.error.Error.{Error}
 use Rattle.reencode_hooks.specs.declared.error.Error.TheVariants.{CanonicalizedHeapTypeReference, InvalidConstExpr, InvalidCodeSectionSize, UnexpectedNonCoreModuleSection, UnexpectedNonComponentSection, UnsupportedCoreTypeInComponent, ParseError, UserError, TooLarge, NoMemory}
 use Rattle.reencode_hooks.specs.Errors.{error_of_fault}
-use Rattle.reencode_hooks.specs.Run.{Step, accepted, refused, and_then, ask, NeverWants}
-use Rattle.reencode_hooks.specs.Walk.{walk, walk_from, announced}
-use Rattle.reencode_hooks.specs.Hooks.{KeepsAdds, RepliesSection, Gains}
+use Rattle.reencode_hooks.specs.Run.{Step, accepted, refused, and_then, ask, run, NeverWants}
+use Rattle.reencode_hooks.specs.Walk.{walk, walk_from, announced, followed}
+use Rattle.reencode_hooks.specs.Hooks.{KeepsAdds, RepliesSection, Gains, HasTooLarge}
 use Rattle.reencode_hooks.proofs.Chained.{gains_both}
 use Rattle.reencode_hooks.proofs.Walks.{walk_is_run}
 use Rattle.reencode_core.specs.Leaves.{CoreUpTo, EndsBy, IsFront, IsSize, Leaves, LeavesCore, MadeUpTo, TellsFault, module_in}
 use Rattle.reencode_core.specs.Errors.{IfParse, IfRefused, placed_at}
 use Rattle.reencode_core.specs.Holds.{FrameLeaves, HoldsSections}
 use Rattle.reencode_core.specs.Rows.{Asks}
-use Rattle.reencode_core.specs.Core.{hooked, onto, AcceptsSections, RefusedIn, StopsThere, BeforeFault, IsCause}
-use Rattle.reencode_core.specs.Weave.{Puts, added, kind_after, put_before, woven_one, weave, weave_from}
-use Rattle.reencode_core.specs.Woven.{AddsFit, IsOwn, IsPart, StopsHook, StopsHooked, StopsNext, WeavesSections, StopsWoven, GivesWovenModule, OwnNext, WovenFront, OwnTooLarge, IsWovenCause, AddedBefore, AddedThere, GainsBefore, GivesWoven}
+use Rattle.reencode_core.specs.Core.{hooked, closed_off, onto, AcceptsSections, RefusedIn, StopsThere, BeforeFault, IsCause}
+use Rattle.reencode_core.specs.Weave.{Puts, added, kind_after, put_at, put_before, put_behind, woven_one, weave, weave_from}
+use Rattle.reencode_core.specs.Woven.{AddsFit, IsOwn, IsPart, StopsHook, StopsHooked, StopsNext, WeavesSections, StopsWoven, GivesWovenModule, OwnBehind, OwnNext, WovenFront, OwnTooLarge, IsWovenCause, AddedAt, AddedThere, GainsBefore, GivesWoven}
 use Rattle.reencode_core.proofs.AddsNothing.{none_own}
-use Rattle.reencode_core.proofs.Fitting.{fits_begin, fits_more, rows_none}
+use Rattle.reencode_core.proofs.Fitting.{fits_begin, fits_more, none_too_large, rows_none}
 use Rattle.reencode_core.proofs.Weaves.{alsos-append}
-use Rattle.reencode_core.proofs.AnySection.{GivesFramed, Reached, added_put, kind_announced, kind_before, kind_put}
+use Rattle.reencode_core.proofs.AnySection.{GivesFramed, Reached, added_followed, added_put, kind_announced, kind_followed, kind_put, told_before, told_behind}
 use Rattle.reencode_core.proofs.Made.{ended_all, ended_behind, ended_placed, fault_unasked, front_all, front_first, front_none, front_same, front_then, not_wanting, one_ended, tells_placed}
-use Rattle.reencode_core.proofs.SectionMade.{before_drawn, in_frame_drawn}
+use Rattle.reencode_core.proofs.SectionMade.{before_drawn, behind_drawn, in_frame_drawn}
 use Rattle.reencode_core.proofs.Usual.{IfRefused-map, unless_wanting, usual_ask, stops_usual}
 use Rattle.reencode_core.proofs.Known.{some_begun, gains_none}
 
@@ -135,14 +135,15 @@ pub none_behind : BeginsNone section []
 none_behind = none_at_end refl
 
 -- the visits of sections, and of those behind them
-visits_alsos : (last : Option SectionId) (ts : List Tree) (others : Tree) → visits_from last (alsos ts others) ≡ visits_from last (alsos ts Tree.empty) ++ visits_from (kind_after last ts) others
+pub visits_alsos : (last : Option SectionId) (ts : List Tree) (others : Tree) → visits_from last (alsos ts others) ≡ visits_from last (alsos ts Tree.empty) ++ visits_from (kind_after last ts) others
 visits_alsos last [] others = refl
 visits_alsos last (t ∷ ts) others =
     let front : List Visit = visits_from (kind last t) (alsos ts Tree.empty) in
-    let behind : List Visit = visits_from (kind_after (kind last t) ts) others in
-    ap (λ (z : List Visit). before last t ++ (visits t ++ z)) (visits_alsos (kind last t) ts others)
-    ∙ ap (λ (z : List Visit). before last t ++ z) (sym (append_assoc (visits t) front behind))
-    ∙ sym (append_assoc (before last t) (visits t ++ front) behind)
+    let more : List Visit = visits_from (kind_after (kind last t) ts) others in
+    ap (λ (z : List Visit). before last t ++ (visits t ++ (behind t ++ z))) (visits_alsos (kind last t) ts others)
+    ∙ ap (λ (z : List Visit). before last t ++ (visits t ++ z)) (sym (append_assoc (behind t) front more))
+    ∙ ap (λ (z : List Visit). before last t ++ z) (sym (append_assoc (visits t) (behind t ++ front) more))
+    ∙ sym (append_assoc (before last t) (visits t ++ (behind t ++ front)) more)
 
 -- the section in a frame, and its visits, which are drawn from its text
 section_here : {f t : Tree} {bytes left : List ℕ} → InFrame t f → Begins frame bytes f left → (b : Begins section bytes t left) × Drawn b.text (visits t)
@@ -180,11 +181,15 @@ spelled_both : (rows others : List SectionRow) (us vs : List Tree) → sections_
 spelled_both rows others us vs p q =
     sections_bytes-append rows others ∙ ap (λ (z : List ℕ). z ++ sections_bytes others) p ∙ ap (λ (z : List ℕ). normals us ++ z) q ∙ sym (normals-append us vs)
 
--- what the section hook puts before a section, as trees
-put_added : {S : Type 0} (adds : Puts S SectionRow) (s : S) (last : Option SectionId) (t : Tree) → put_before (added adds) s last t ≡ map framed_tree (put_before adds s last t)
-put_added adds s last (Tree.row k t) = put_added adds s last t
-put_added adds s last (Tree.told k t) = refl
-put_added adds s last _ = refl
+-- what a hook puts at a section, as trees
+put_added : {S : Type 0} (adds : Puts S SectionRow) (visit : SectionId → Visit) (s : S) (t : Tree) → put_at (added adds) visit s t ≡ map framed_tree (put_at adds visit s t)
+put_added adds visit s (Tree.row k t) = put_added adds visit s t
+put_added adds visit s (Tree.told k t) = refl
+put_added adds visit s _ = refl
+
+-- two sections that begin the same bytes are one
+pub same_there : {bytes left left' : List ℕ} {t u : Tree} → Begins section bytes t left → Begins section bytes u left' → u ≡ t
+same_there {left = left} {left' = left'} b c = (unique c.spells.shaped b.spells.shaped c.text b.text left' left refl (inl refl) c.spells.spelled b.spells.spelled (sym c.reads ∙ b.reads)).1
 
 -- ---- steps
 
@@ -259,48 +264,77 @@ pub record SectionsDone {S E : Type 0} (asked : Asks S E) (adds : Puts S Section
   pub drawn : Drawn text (visits (alsos read Tree.empty))
   pub fits : AddsFit asked adds old.ceiling s0 (visits (alsos read Tree.empty))
 
--- What the section hook puts before the section in a frame was added, and fits.
-pub record Put {S E : Type 0} (asked : Asks S E) (adds : Puts S SectionRow) (f : Tree) (last : Option SectionId) (s n : S) (new mid : Sections) : Type 0 where
+-- What a hook puts at the section in a frame was added, and fits.
+pub record Put {S E : Type 0} (asked : Asks S E) (adds : Puts S SectionRow) (visit : SectionId → Visit) (f : Tree) (s n : S) (new mid : Sections) : Type 0 where
   pub own : List SectionRow
   pub gains : Gains new mid own
-  pub before : AddedBefore asked adds last s f n own
+  pub there : AddedAt asked adds visit s f n own
   pub fits : AllFit new.ceiling own
 
--- nothing is put before it
-pub nothing_put : {S E : Type 0} {asked : Asks S E} {adds : Puts S SectionRow} {f : Tree} {last : Option SectionId} {s n : S} {new : Sections} → AddedBefore asked adds last s f n [] →
-    Put asked adds f last s n new new
-nothing_put none = record { own = []; gains = gains_none _; before = none; fits = rows_none _ }
+-- nothing is put there
+pub nothing_put : {S E : Type 0} {asked : Asks S E} {adds : Puts S SectionRow} {visit : SectionId → Visit} {f : Tree} {s n : S} {new : Sections} → AddedAt asked adds visit s f n [] →
+    Put asked adds visit f s n new new
+nothing_put none = record { own = []; gains = gains_none _; there = none; fits = rows_none _ }
+
+-- what the section hook puts before it, and the closing hook behind it
+abbrev pub PutBefore : {S E : Type 0} → Asks S E → Puts S SectionRow → Option SectionId → Tree → S → S → Sections → Sections → Type 0
+PutBefore asked adds last f s n new mid = Put asked adds (λ k. Section last (Some k)) f s n new mid
+
+abbrev pub PutBehind : {S E : Type 0} → Asks S E → Puts S SectionRow → Tree → S → S → Sections → Sections → Type 0
+PutBehind asked adds f s n new mid = Put asked adds (λ k. Closed k) f s n new mid
 
 module _ {S E : Type 0} (asked : Asks S E) where
   onto_nothing : (step : Step S (Error E) Tree) → step ≡ onto [] step
   onto_nothing (accepted u m) = refl
   onto_nothing (refused e m) = refl
 
-  pub also_hooked : (c : ℕ) (last : Option SectionId) (s : S) (t u : Tree) →
-      walk_from asked c last s (Tree.also t u) ≡ and_then (hooked asked c last s t) (λ t' n. and_then (walk_from asked c (kind last t) n u) (λ u' k. accepted (Tree.also t' u') k))
-  also_hooked c last s t u =
-      sym (assoc (announced asked s last t) (λ _ m. walk asked c m t) (λ t' n. and_then (walk_from asked c (kind last t) n u) (λ u' k. accepted (Tree.also t' u') k)))
+  regrouped : (a : Step S (Error E) ℕ) (f : S → Step S (Error E) Tree) (b : S → Step S (Error E) ℕ) (g : Tree → S → Step S (Error E) Tree) →
+      and_then a (λ _ m. and_then (f m) (λ u n. and_then (b n) (λ _ k. g u k)))
+      ≡ and_then (and_then (and_then a (λ _ m. f m)) (λ u n. and_then (b n) (λ _ k. accepted u k))) g
+  regrouped (refused e m) f b g = refl
+  regrouped (accepted i m) f b g = inner (f m)
+    where
+      last_one : (u : Tree) (r : Step S (Error E) ℕ) → and_then r (λ _ k. g u k) ≡ and_then (and_then r (λ _ k. accepted u k)) g
+      last_one u (refused e n) = refl
+      last_one u (accepted j n) = refl
+
+      inner : (r : Step S (Error E) Tree) → and_then r (λ u n. and_then (b n) (λ _ k. g u k)) ≡ and_then (and_then r (λ u n. and_then (b n) (λ _ k. accepted u k))) g
+      inner (refused e n) = refl
+      inner (accepted u n) = last_one u (b n)
+
+  pub also_closed : (c : ℕ) (last : Option SectionId) (s : S) (t u : Tree) →
+      walk_from asked c last s (Tree.also t u) ≡ and_then (closed_off asked c last s t) (λ t' n. and_then (walk_from asked c (kind last t) n u) (λ u' k. accepted (Tree.also t' u') k))
+  also_closed c last s t u =
+      regrouped (announced asked s last t) (λ m. walk asked c m t) (λ n. followed asked n t) (λ t' n. and_then (walk_from asked c (kind last t) n u) (λ u' k. accepted (Tree.also t' u') k))
 
   one_onto : (made : List Tree) (v : Tree) (step : Step S (Error E) Tree) →
       onto made (and_then step (λ u m. accepted (Tree.also v u) m)) ≡ onto (made ++ v ∷ []) step
   one_onto made v (accepted u m) = ap (λ (t : Tree). accepted t m) (sym (alsos-append made (v ∷ []) u))
   one_onto made v (refused e m) = refl
 
-  -- a section behind what stands before it, which is accepted or refused
-  told_walked : (c : ℕ) (last : Option SectionId) (s n : S) (t : Tree) → announced asked s last t ≡ accepted 0 n → hooked asked c last s t ≡ walk asked c n t
-  told_walked c last s n t h = ap (λ (a : Step S (Error E) ℕ). and_then a (λ _ m. walk asked c m t)) h
+  -- a section between what stands before it and behind it, of which the first that is refused ends it
+  told_refused : (c : ℕ) (last : Option SectionId) (s m : S) (t : Tree) (e : Error E) → announced asked s last t ≡ refused e m → closed_off asked c last s t ≡ refused e m
+  told_refused c last s m t e h = rw h refl
 
-  told_refused : (c : ℕ) (last : Option SectionId) (s m : S) (t : Tree) (e : Error E) → announced asked s last t ≡ refused e m → hooked asked c last s t ≡ refused e m
-  told_refused c last s m t e h = ap (λ (a : Step S (Error E) ℕ). and_then a (λ _ m. walk asked c m t)) h
+  walk_refused : (c : ℕ) (last : Option SectionId) (s n m : S) (t : Tree) (e : Error E) → announced asked s last t ≡ accepted 0 n → walk asked c n t ≡ refused e m → closed_off asked c last s t ≡ refused e m
+  walk_refused c last s n m t e told walked = rw (told, walked) refl
+
+  followed_refused : (c : ℕ) (last : Option SectionId) (s n l m : S) (t u : Tree) (e : Error E) → announced asked s last t ≡ accepted 0 n → walk asked c n t ≡ accepted u l → followed asked l t ≡ refused e m →
+      closed_off asked c last s t ≡ refused e m
+  followed_refused c last s n l m t u e told walked behind = rw (told, walked, behind) refl
+
+  all_accepted : (c : ℕ) (last : Option SectionId) (s n l m : S) (t u : Tree) → announced asked s last t ≡ accepted 0 n → walk asked c n t ≡ accepted u l → followed asked l t ≡ accepted 0 m →
+      closed_off asked c last s t ≡ accepted u m
+  all_accepted c last s n l m t u told walked behind = rw (told, walked, behind) refl
 
   -- the same where the walk weaves
   onto_both : (made us : List Tree) (step : Step S (Error E) Tree) → onto made (onto us step) ≡ onto (made ++ us) step
   onto_both made us (accepted u m) = ap (λ (t : Tree). accepted t m) (sym (alsos-append made us u))
   onto_both made us (refused e m) = refl
 
-  one_woven : (put : Puts S Tree) (c : ℕ) (last : Option SectionId) (s n m : S) (t u : Tree) (us : List Tree) → announced asked s last t ≡ accepted 0 n → walk asked c n t ≡ accepted u m →
-      put_before put s last t ≡ us → woven_one asked put c last s t ≡ accepted (us ++ u ∷ []) m
-  one_woven put c last s n m t u us told walked puts = rw (told, walked, puts) refl
+  one_woven : (put : Puts S Tree) (c : ℕ) (last : Option SectionId) (s n l m : S) (t u : Tree) (us vs : List Tree) → announced asked s last t ≡ accepted 0 n → walk asked c n t ≡ accepted u l →
+      followed asked l t ≡ accepted 0 m → put_before put s last t ≡ us → put_behind put l t ≡ vs → woven_one asked put c last s t ≡ accepted (us ++ u ∷ vs) m
+  one_woven put c last s n l m t u us vs told walked behind puts others = rw (told, walked, behind, puts, others) refl
 
   also_woven : (put : Puts S Tree) (c : ℕ) (last now : Option SectionId) (s m : S) (t others : Tree) (us : List Tree) → woven_one asked put c last s t ≡ accepted us m → kind last t ≡ now →
       weave_from asked put c last s (Tree.also t others) ≡ onto us (weave_from asked put c now m others)
@@ -325,55 +359,61 @@ module _ {S E : Type 0} (asked : Asks S E) (adds : Puts S SectionRow) where
     fits = fits_begin asked adds old.ceiling s;
   }
 
-  pub sections_more : {Stops : ℕ → Error E → S → Type 0} {id : ℕ} {f : Tree} {start rest rest' : List ℕ} {s0 s n s' : S} {old new mid new' : Sections} {last now : Option SectionId} →
-      SectionsDone asked adds start s0 old rest last s new → Reached asked Stops f rest rest' last now s n → Put asked adds f last s n new mid →
-      GivesFramed asked id f Stops (n, mid) (s', new') (Ok tt) → SectionsDone asked adds start s0 old rest' now s' new'
-  sections_more {Stops = Stops} {id = id} {f = f} {rest = rest} {rest' = rest'} {s0 = s0} {s = s} {n = n} {s' = s'} {old = old} {new = new} {mid = mid} {new' = new'} {last = last} {now = now} d reached put g =
+  pub sections_more : {Stops : ℕ → Error E → S → Type 0} {id : ℕ} {f : Tree} {start rest rest' : List ℕ} {s0 s n l s' : S} {old new mid held new' : Sections} {last now : Option SectionId} →
+      SectionsDone asked adds start s0 old rest last s new → Reached asked Stops f rest rest' last now s n → PutBefore asked adds last f s n new mid →
+      GivesFramed asked id f Stops (n, mid) (l, held) (Ok tt) → PutBehind asked adds f l s' held new' → SectionsDone asked adds start s0 old rest' now s' new'
+  sections_more {Stops = Stops} {id = id} {f = f} {rest = rest} {rest' = rest'} {s0 = s0} {s = s} {n = n} {l = l} {s' = s'} {old = old} {new = new} {mid = mid} {held = held} {new' = new'} {last = last} {now = now} d reached put g close =
       let t : Tree = g.readable.0 in
       let in_it : InFrame t f = g.readable.1 in
       let found = section_here in_it reached.framed in
       let here = found.0 in
       let told : announced asked s last t ≡ accepted 0 n = reached.told t in_it in
+      let behind_it : followed asked l t ≡ accepted 0 s' = added_followed close.there t in_it in
       let kinds : kind last t ≡ now = reached.kinds t in_it in
       let q = g.reading t in_it in
       let ceiling : mid.ceiling ≡ old.ceiling = ap Sections.ceiling put.gains ∙ ap Sections.ceiling d.gains in
-      let W : ℕ → Type 0 = λ c. walk asked c n t ≡ accepted q.0 s' in
-      let walked : walk asked old.ceiling n t ≡ accepted q.0 s' = subst W ceiling q.2 in
-      let step : hooked asked old.ceiling last s t ≡ accepted q.0 s' = told_walked asked old.ceiling last s n t told ∙ walked in
+      let W : ℕ → Type 0 = λ c. walk asked c n t ≡ accepted q.0 l in
+      let walked : walk asked old.ceiling n t ≡ accepted q.0 l = subst W ceiling q.2 in
+      let step : closed_off asked old.ceiling last s t ≡ accepted q.0 s' = all_accepted asked old.ceiling last s n l s' t q.0 told walked behind_it in
       let row : SectionRow = section_row id q.1 in
       let us : List Tree = map framed_tree put.own in
-      let puts : put_before (added adds) s last t ≡ us = put_added adds s last t ∙ ap (λ (rows : List SectionRow). map framed_tree rows) (added_put put.before t in_it) in
-      let woven : woven_one asked (added adds) old.ceiling last s t ≡ accepted (us ++ q.0 ∷ []) s' = one_woven asked (added adds) old.ceiling last s n s' t q.0 us told walked puts in record {
+      let vs : List Tree = map framed_tree close.own in
+      let puts : put_before (added adds) s last t ≡ us = put_added adds (λ k. Section last (Some k)) s t ∙ ap (λ (rows : List SectionRow). map framed_tree rows) (added_put put.there t in_it) in
+      let puts_more : put_behind (added adds) l t ≡ vs = put_added adds (λ k. Closed k) l t ∙ ap (λ (rows : List SectionRow). map framed_tree rows) (added_put close.there t in_it) in
+      let woven : woven_one asked (added adds) old.ceiling last s t ≡ accepted (us ++ q.0 ∷ vs) s' = one_woven asked (added adds) old.ceiling last s n l s' t q.0 us vs told walked behind_it puts puts_more in record {
         read = d.read ++ t ∷ [];
         made = d.made ++ q.0 ∷ [];
-        woven = d.woven ++ (us ++ q.0 ∷ []);
+        woven = d.woven ++ (us ++ q.0 ∷ vs);
         text = d.text ++ here.text;
-        rows = d.rows ++ (put.own ++ row ∷ []);
+        rows = d.rows ++ (put.own ++ row ∷ close.own);
         spells = rw (alsos-append d.read (t ∷ []) Tree.finish) (joined d.read d.text here.text d.spells (one_section here.spells));
         stands = d.stands ∙ ap (λ (z : List ℕ). d.text ++ z) here.reads ∙ sym (append_assoc d.text here.text _);
         ends = sym kinds ∙ ap (λ (z : Option SectionId). kind z t) d.ends ∙ sym (kind_after-append None d.read t);
         accepts = λ others.
             let next : walk_from asked old.ceiling last s (Tree.also t others) ≡ and_then (walk_from asked old.ceiling now s' others) (λ u m. accepted (Tree.also q.0 u) m) =
-            also_hooked asked old.ceiling last s t others ∙ rw (step, kinds) refl in
+            also_closed asked old.ceiling last s t others ∙ rw (step, kinds) refl in
             rw (alsos-append d.read (t ∷ []) others)
             (d.accepts (Tree.also t others) ∙ ap (λ (r : Step S (Error E) Tree). onto d.made r) next ∙ one_onto asked d.made q.0 (walk_from asked old.ceiling now s' others));
         weaves = λ others.
             rw (alsos-append d.read (t ∷ []) others)
             (d.weaves (Tree.also t others)
-            ∙ ap (λ (r : Step S (Error E) Tree). onto d.woven r) (also_woven asked (added adds) old.ceiling last now s s' t others (us ++ q.0 ∷ []) woven kinds)
-            ∙ onto_both asked d.woven (us ++ q.0 ∷ []) (weave_from asked (added adds) old.ceiling now s' others));
-        gains = gains_both old new new' d.rows (put.own ++ row ∷ []) d.gains (gains_both new mid new' put.own (row ∷ []) put.gains q.3);
+            ∙ ap (λ (r : Step S (Error E) Tree). onto d.woven r) (also_woven asked (added adds) old.ceiling last now s s' t others (us ++ q.0 ∷ vs) woven kinds)
+            ∙ onto_both asked d.woven (us ++ q.0 ∷ vs) (weave_from asked (added adds) old.ceiling now s' others));
+        gains =
+            let own : Gains mid new' (row ∷ close.own) = gains_both mid held new' (row ∷ []) close.own q.3 close.gains in
+            gains_both old new new' d.rows (put.own ++ row ∷ close.own) d.gains (gains_both new mid new' put.own (row ∷ close.own) put.gains own);
         spelled =
-            let one : sections_bytes (row ∷ []) ≡ normals (q.0 ∷ []) = ap (λ (z : List ℕ). z ++ []) q.4 in
-            let both : sections_bytes (put.own ++ row ∷ []) ≡ normals (us ++ q.0 ∷ []) = spelled_both put.own (row ∷ []) us (q.0 ∷ []) (spelled_added put.own) one in
-            spelled_both d.rows (put.own ++ row ∷ []) d.woven (us ++ q.0 ∷ []) d.spelled both;
+            let one : sections_bytes (row ∷ close.own) ≡ normals (q.0 ∷ vs) = ap (λ (z : List ℕ). z ++ sections_bytes close.own) q.4 ∙ ap (λ (z : List ℕ). normal q.0 ++ z) (spelled_added close.own) in
+            let both : sections_bytes (put.own ++ row ∷ close.own) ≡ normals (us ++ q.0 ∷ vs) = spelled_both put.own (row ∷ close.own) us (q.0 ∷ vs) (spelled_added put.own) one in
+            spelled_both d.rows (put.own ++ row ∷ close.own) d.woven (us ++ q.0 ∷ vs) d.spelled both;
         drawn =
             let P : Tree → Type 0 = λ z. Drawn (d.text ++ here.text) (visits z) in
             let Q : List Visit → Type 0 = λ z. Drawn (d.text ++ here.text) z in
-            let one : Drawn here.text (before last t ++ (visits t ++ [])) =
-            drawn_joined here.text (before last t) (visits t ++ []) (before_drawn last t) (drawn_joined here.text (visits t) [] found.1 drawn_none) in
-            let both : Drawn (d.text ++ here.text) (visits (alsos d.read Tree.empty) ++ (before last t ++ (visits t ++ []))) =
-            drawn_joined (d.text ++ here.text) (visits (alsos d.read Tree.empty)) (before last t ++ (visits t ++ [])) (drawn_front d.text here.text refl d.drawn) (drawn_behind d.text here.text refl one) in
+            let own : List Visit = visits t ++ (behind t ++ []) in
+            let one : Drawn here.text (before last t ++ own) =
+            drawn_joined here.text (before last t) own (before_drawn last t) (drawn_joined here.text (visits t) (behind t ++ []) found.1 (drawn_joined here.text (behind t) [] (behind_drawn t) drawn_none)) in
+            let both : Drawn (d.text ++ here.text) (visits (alsos d.read Tree.empty) ++ (before last t ++ own)) =
+            drawn_joined (d.text ++ here.text) (visits (alsos d.read Tree.empty)) (before last t ++ own) (drawn_front d.text here.text refl d.drawn) (drawn_behind d.text here.text refl one) in
             let V : Option SectionId → Type 0 = λ z. Drawn (d.text ++ here.text) (visits (alsos d.read Tree.empty) ++ visits_from z (Tree.also t Tree.empty)) in
             subst P (sym (alsos-append d.read (t ∷ []) Tree.empty)) (subst Q (sym (visits_alsos None d.read (Tree.also t Tree.empty))) (subst V d.ends both));
         fits =
@@ -381,9 +421,12 @@ module _ {S E : Type 0} (asked : Asks S E) (adds : Puts S SectionRow) where
             let Q : List Visit → Type 0 = λ z. AddsFit asked adds old.ceiling s0 z in
             let V : Option SectionId → Type 0 = λ z. AddsFit asked adds old.ceiling s0 (visits (alsos d.read Tree.empty) ++ visits_from z (Tree.also t Tree.empty)) in
             let A : ℕ → Type 0 = λ z. AllFit z put.own in
+            let B : ℕ → Type 0 = λ z. AllFit z close.own in
             let ran = (walk_is_run asked).forth old.ceiling s0 s (alsos d.read Tree.empty) (alsos d.made Tree.empty) (d.accepts Tree.empty) in
-            let both : AddsFit asked adds old.ceiling s0 (visits (alsos d.read Tree.empty) ++ (before last t ++ (visits t ++ []))) =
-            fits_more asked adds old.ceiling ran.given (visits (alsos d.read Tree.empty)) ran.ran d.fits put.before (subst A (ap Sections.ceiling d.gains) put.fits) t here.text in_it here.spells in
+            let inside = (walk_is_run asked).forth old.ceiling n l t q.0 walked in
+            let both : AddsFit asked adds old.ceiling s0 (visits (alsos d.read Tree.empty) ++ (before last t ++ (visits t ++ (behind t ++ [])))) =
+            fits_more asked adds old.ceiling ran.given (visits (alsos d.read Tree.empty)) ran.ran d.fits put.there (subst A (ap Sections.ceiling d.gains) put.fits) t here.text in_it here.spells
+            inside.given inside.ran close.there (subst B (ap Sections.ceiling q.3 ∙ ceiling) close.fits) in
             subst P (sym (alsos-append d.read (t ∷ []) Tree.empty)) (subst Q (sym (visits_alsos None d.read (Tree.also t Tree.empty))) (subst V d.ends both));
       }
 
@@ -392,12 +435,12 @@ module _ {S E : Type 0} (asked : Asks S E) (adds : Puts S SectionRow) where
   unfolding sections_begin
   sections_begin_parts start s old = (refl, refl, refl)
 
-  pub sections_more_parts : {Stops : ℕ → Error E → S → Type 0} {id : ℕ} {f : Tree} {start rest rest' : List ℕ} {s0 s n s' : S} {old new mid new' : Sections} {last now : Option SectionId} →
-      (d : SectionsDone asked adds start s0 old rest last s new) (reached : Reached asked Stops f rest rest' last now s n) (put : Put asked adds f last s n new mid)
-      (g : GivesFramed asked id f Stops (n, mid) (s', new') (Ok tt)) → let e = sections_more d reached put g in
+  pub sections_more_parts : {Stops : ℕ → Error E → S → Type 0} {id : ℕ} {f : Tree} {start rest rest' : List ℕ} {s0 s n l s' : S} {old new mid held new' : Sections} {last now : Option SectionId} →
+      (d : SectionsDone asked adds start s0 old rest last s new) (reached : Reached asked Stops f rest rest' last now s n) (put : PutBefore asked adds last f s n new mid)
+      (g : GivesFramed asked id f Stops (n, mid) (l, held) (Ok tt)) (close : PutBehind asked adds f l s' held new') → let e = sections_more d reached put g close in
       (e.read ≡ d.read ++ g.readable.0 ∷ []) × (e.made ≡ d.made ++ (g.reading g.readable.0 g.readable.1).0 ∷ []) × (e.text ≡ d.text ++ reached.framed.text)
   unfolding sections_more section_here
-  sections_more_parts d reached put g = (refl, refl, refl)
+  sections_more_parts d reached put g close = (refl, refl, refl)
 
   -- ---- the ends of the loop
 
@@ -413,9 +456,9 @@ module _ {S E : Type 0} (asked : Asks S E) (adds : Puts S SectionRow) where
         let same : start ≡ f.front.text ++ left = append_cancel_left core_header start (f.front.text ++ left) (sym reads ∙ f.front.stands) in
         ahead d.read start d.text rest f.front.text left (alsos before Tree.finish) d.spells d.stands f.front.spells same f.front.ends
 
-    refused_at : {e : Error E} {s' : S} (t u : Tree) → hooked asked old.ceiling last s t ≡ refused e s' → walk asked old.ceiling s0 (alsos d.read (Tree.also t u)) ≡ refused e s'
+    refused_at : {e : Error E} {s' : S} (t u : Tree) → closed_off asked old.ceiling last s t ≡ refused e s' → walk asked old.ceiling s0 (alsos d.read (Tree.also t u)) ≡ refused e s'
     refused_at {e = e} {s' = s'} t u h =
-        let step : walk_from asked old.ceiling last s (Tree.also t u) ≡ refused e s' = also_hooked asked old.ceiling last s t u ∙ rw h refl in
+        let step : walk_from asked old.ceiling last s (Tree.also t u) ≡ refused e s' = also_closed asked old.ceiling last s t u ∙ rw h refl in
         d.accepts (Tree.also t u) ∙ ap (λ (r : Step S (Error E) Tree). onto d.made r) step
 
     more_before : (before : List Tree) (t u : Tree) → alsos before Tree.finish ≡ alsos d.read (Tree.also t u) → before ≡ d.read ++ t ∷ list_of u
@@ -424,7 +467,7 @@ module _ {S E : Type 0} (asked : Asks S E) (adds : Puts S SectionRow) where
     accepted_before : (before : List Tree) → before ≡ d.read → AcceptsSections asked old.ceiling s0 before d.made last s
     accepted_before before e = λ others. rw e (d.accepts others)
 
-    refused_in : {e : Error E} {s' : S} (before : List Tree) (t u : Tree) → before ≡ d.read ++ t ∷ list_of u → hooked asked old.ceiling last s t ≡ refused e s' →
+    refused_in : {e : Error E} {s' : S} (before : List Tree) (t u : Tree) → before ≡ d.read ++ t ∷ list_of u → closed_off asked old.ceiling last s t ≡ refused e s' →
         RefusedIn asked old.ceiling s0 before e s'
     refused_in before t u e h others = rw (e, alsos-append d.read (t ∷ list_of u) others) (refused_at t (alsos (list_of u) others) h)
 
@@ -477,7 +520,7 @@ module _ {S E : Type 0} (asked : Asks S E) (adds : Puts S SectionRow) where
     })
 
     -- the section hook was to add one that is too large
-    own_large : {e : Error E} → OwnNext adds old.ceiling last s rest e → OwnTooLarge asked adds old.ceiling bytes s0 e
+    own_large : {e : Error E} → OwnNext asked adds old.ceiling last s rest e → OwnTooLarge asked adds old.ceiling bytes s0 e
     own_large h = record { front = front; own = h }
 
     own_under : (own : List SectionRow) (e : Error E) → IsOwn new.ceiling own e → IsOwn old.ceiling own e
@@ -492,13 +535,13 @@ module _ {S E : Type 0} (asked : Asks S E) (adds : Puts S SectionRow) where
     own_or_refused own step e (inl x) other = inl (own_under own e x)
     own_or_refused own step e (inr q) other = inr (q.0 other)
 
-    -- why a section, or the hook before it, is refused, where that is not of the hook's own sections
+    -- why a section, or a hook at it, is refused, where that is not of the hook's own sections
     abbrev Refuses : Tree → Error E → S → Type 0
     Refuses f e m =
-        ((t : Tree) → InFrame t f → e ≢ NoMemory → hooked asked old.ceiling last s t ≡ refused e m) × IfParse e (λ at. ⊥)
+        ((t : Tree) → InFrame t f → e ≢ NoMemory → closed_off asked old.ceiling last s t ≡ refused e m) × IfParse e (λ at. ⊥)
         × IfRefused e (((t : Tree) × InFrame t f) ⊎ StopsThere asked old.ceiling rest last s e m)
 
-    -- a section, or the hook before it, is refused
+    -- a section, or a hook at it, is refused
     section_refused : {f : Tree} {left : List ℕ} {s' : S} {new' : Sections} (e : Error E) → Begins frame rest f left →
         ((t : Tree) → InFrame t f → (part : List SectionRow) × Gains new new' part × StopsHooked asked adds old.ceiling last s t part e s') →
         OwnTooLarge asked adds old.ceiling bytes s0 e ⊎ Refuses f e s' → GainsBefore asked adds bytes (s0, old) (s', new') e → GivesWoven asked adds bytes (s0, old) (s', new') (Err e)
@@ -514,7 +557,7 @@ module _ {S E : Type 0} (asked : Asks S E) (adds : Puts S SectionRow) where
         go t (more u v left a b) = let h = stops u (frame_there there b) in stopped e s' new' t (Tree.also u v) h.0 a h.1 h.2
 
         -- where the section has a reading, the fault does not stand here
-        either : (w : Error E) → ((t : Tree) → InFrame t f → hooked asked old.ceiling last s t ≡ refused w s') →
+        either : (w : Error E) → ((t : Tree) → InFrame t f → closed_off asked old.ceiling last s t ≡ refused w s') →
             ((t : Tree) × InFrame t f) ⊎ StopsThere asked old.ceiling rest last s w s' → (before : List Tree) (left : List ℕ) → FaultAt bytes before left →
             Ahead d.read rest (alsos before Tree.finish) left → RefusedIn asked old.ceiling s0 before w s'
             ⊎ ((made : List Tree) × (last : Option SectionId) × (n : S) × AcceptsSections asked old.ceiling s0 before made last n × StopsThere asked old.ceiling left last n w s')
@@ -526,11 +569,11 @@ module _ {S E : Type 0} (asked : Asks S E) (adds : Puts S SectionRow) where
             let P : List ℕ → Type 0 = λ z. StopsThere asked old.ceiling z last s w s' in
             inr (d.made, last, s, accepted_before before (same_sections before d.read a), subst P r q)
 
-        before_fault : (w : Error E) → ((t : Tree) → InFrame t f → hooked asked old.ceiling last s t ≡ refused w s') →
+        before_fault : (w : Error E) → ((t : Tree) → InFrame t f → closed_off asked old.ceiling last s t ≡ refused w s') →
             ((t : Tree) × InFrame t f) ⊎ StopsThere asked old.ceiling rest last s w s' → BeforeFault asked old.ceiling bytes s0 s' w
         before_fault w h q = ((start, reads), λ before left fault. either w h q before left fault (fault_ahead before left fault))
 
-        cause : (w : Error E) → ((t : Tree) → InFrame t f → w ≢ NoMemory → hooked asked old.ceiling last s t ≡ refused w s') → IfParse w (λ at. ⊥) →
+        cause : (w : Error E) → ((t : Tree) → InFrame t f → w ≢ NoMemory → closed_off asked old.ceiling last s t ≡ refused w s') → IfParse w (λ at. ⊥) →
             IfRefused w (((t : Tree) × InFrame t f) ⊎ StopsThere asked old.ceiling rest last s w s') → IsCause asked old.ceiling bytes s0 s' w
         cause NoMemory h p q = tt
         cause (UserError x) h p q = before_fault (UserError x) (λ t i. h t i (λ c. cc)) q
@@ -598,11 +641,11 @@ module _ {S E : Type 0} (asked : Asks S E) (adds : Puts S SectionRow) where
         stops t i =
             let P : List SectionRow → Type 0 = λ z. StopsHook old.ceiling z h.0 (announced asked s last t) e s' in
             let Q : Step S (Error E) ℕ → Type 0 = λ z. e ≢ NoMemory → IsOwn old.ceiling own e ⊎ (z ≡ refused e s') in
-            (h.0, h.1, inl (subst P (sym (kind_put adds k s last i)) (h.2, subst Q (sym (told i)) (own_or_refused own (asked s (Section last (Some k))) e h.3))))
+            (h.0, h.1, inl (subst P (sym (kind_put adds (λ j. Section last (Some j)) k s i)) (h.2, subst Q (sym (told i)) (own_or_refused own (asked s (Section last (Some k))) e h.3))))
 
         why : IsOwn new.ceiling own e ⊎ ((e ≢ NoMemory → asked s (Section last (Some k)) ≡ refused e s') × IfParse e (λ at. ⊥)) →
             OwnTooLarge asked adds old.ceiling bytes s0 e ⊎ Refuses (numbered_frame (number k) body) e s'
-        why (inl x) = inl (own_large {e = e} (inr (k, body, left, there, own_under own e x)))
+        why (inl x) = inl (own_large {e = e} (inr (k, body, left, there, inl (own_under own e x))))
         why (inr q) = inr (
           (λ t i other. told_refused asked old.ceiling last s s' t e (told i ∙ q.0 other)),
           q.1,
@@ -611,7 +654,7 @@ module _ {S E : Type 0} (asked : Asks S E) (adds : Puts S SectionRow) where
 
     -- a section's error, at the section's place
     pub section_err : {Stops : ℕ → Error E → S → Type 0} {id : ℕ} {f : Tree} {left : List ℕ} {now : Option SectionId} {n s' : S} {mid new' : Sections} (e : Error E) (at : ℕ) →
-        Reached asked Stops f rest left last now s n → Put asked adds f last s n new mid → GivesFramed asked id f Stops (n, mid) (s', new') (Err e) → at ≡ length bytes - length rest →
+        Reached asked Stops f rest left last now s n → PutBefore asked adds last f s n new mid → GivesFramed asked id f Stops (n, mid) (s', new') (Err e) → at ≡ length bytes - length rest →
         GivesWoven asked adds bytes (s0, old) (s', new') (Err (placed_at e at))
     section_err {Stops = Stops} {id = id} {f = f} {left = left} {n = n} {s' = s'} {mid = mid} {new' = new'} e at reached put given place = go e given
       where
@@ -627,12 +670,12 @@ module _ {S E : Type 0} (asked : Asks S E) (adds : Puts S SectionRow) where
         stops : (w : Error E) → GivesFramed asked id f Stops (n, mid) (s', new') (Err w) → (t : Tree) → InFrame t f →
             (part : List SectionRow) × Gains new new' part × StopsHooked asked adds old.ceiling last s t part w s'
         stops w g t i =
-            (put.own, own_gains w g, inr (n, reached.told t i, sym (added_put put.before t i), walked w g t i))
+            (put.own, own_gains w g, inr (n, reached.told t i, inl (sym (added_put put.there t i), walked w g t i)))
 
         -- all that the hook added stands
         gains : (w v : Error E) → GivesFramed asked id f Stops (n, mid) (s', new') (Err w) → ((t : Tree) → InFrame t f → v ≢ NoMemory → walk asked old.ceiling n t ≡ refused v s') →
             GainsBefore asked adds bytes (s0, old) (s', new') v
-        gains w v g refuses = gained (own_gains w g) (AddedThere.section f left n reached.framed put.before refuses)
+        gains w v g refuses = gained (own_gains w g) (AddedThere.section f left n reached.framed put.there refuses)
 
         -- what was refused inside it
         inside : (w : Error E) → GivesFramed asked id f Stops (n, mid) (s', new') (Err w) → IfRefused w (((t : Tree) × InFrame t f) ⊎ StopsThere asked old.ceiling rest last s w s')
@@ -644,7 +687,7 @@ module _ {S E : Type 0} (asked : Asks S E) (adds : Puts S SectionRow) where
 
         refuses : (w : Error E) → IfParse w (λ at. ⊥) → GivesFramed asked id f Stops (n, mid) (s', new') (Err w) → GivesWoven asked adds bytes (s0, old) (s', new') (Err w)
         refuses w usual g =
-            section_refused w reached.framed (stops w g) (inr ((λ t i other. told_walked asked old.ceiling last s n t (reached.told t i) ∙ walked w g t i other), usual, inside w g))
+            section_refused w reached.framed (stops w g) (inr ((λ t i other. walk_refused asked old.ceiling last s n s' t w (reached.told t i) (walked w g t i other)), usual, inside w g))
             (gains w w g (walked w g))
 
         go : (w : Error E) → GivesFramed asked id f Stops (n, mid) (s', new') (Err w) → GivesWoven asked adds bytes (s0, old) (s', new') (Err (placed_at w at))
@@ -656,8 +699,105 @@ module _ {S E : Type 0} (asked : Asks S E) (adds : Puts S SectionRow) where
         go NoMemory g = refuses NoMemory tt g
         go _ g = absurd g.unreadable
 
+    -- the error of the closing hook behind a section, which stands then
+    pub closing_refused : {Stops : ℕ → Error E → S → Type 0} (k : SectionId) {left body : List ℕ} {n l s' : S} {mid held new' : Sections} (e : Error E) → Begins frame rest (numbered_frame (number k) body) left →
+        (asked s (Section last (Some k)) ≡ accepted 0 n) × Gains new mid (adds s (Section last (Some k))) → AllFit new.ceiling (adds s (Section last (Some k))) →
+        GivesFramed asked (number k) (numbered_frame (number k) body) Stops (n, mid) (l, held) (Ok tt) → HookStops (asked l (Closed k)) (adds l (Closed k)) s' held new' e →
+        GivesWoven asked adds bytes (s0, old) (s', new') (Err e)
+    closing_refused k {left = left} {body = body} {n = n} {l = l} {s' = s'} {mid = mid} {held = held} {new' = new'} e there told fit g h =
+        section_refused e there stops (why h.3)
+        (gained (part_gains t in_it) (AddedThere.closing k body left n t (g.reading t in_it).0 l (row t in_it) h.0 there told.0 in_it (walked t in_it) (g.reading t in_it).4 (h.2, by) refl))
+      where
+        t : Tree
+        t = g.readable.0
+
+        in_it : InFrame t (numbered_frame (number k) body)
+        in_it = g.readable.1
+
+        own : List SectionRow
+        own = adds s (Section last (Some k))
+
+        closing : List SectionRow
+        closing = adds l (Closed k)
+
+        row : (u : Tree) → InFrame u (numbered_frame (number k) body) → SectionRow
+        row u i = section_row (number k) (g.reading u i).1
+
+        to_held : mid.ceiling ≡ old.ceiling
+        to_held = ap Sections.ceiling told.1 ∙ ap Sections.ceiling d.gains
+
+        of_held : held.ceiling ≡ old.ceiling
+        of_held = ap Sections.ceiling (g.reading t in_it).3 ∙ to_held
+
+        walked : (u : Tree) (i : InFrame u (numbered_frame (number k) body)) → walk asked old.ceiling n u ≡ accepted (g.reading u i).0 l
+        walked u i = let W : ℕ → Type 0 = λ c. walk asked c n u ≡ accepted (g.reading u i).0 l in subst W to_held (g.reading u i).2
+
+        part_gains : (u : Tree) (i : InFrame u (numbered_frame (number k) body)) → Gains new new' (own ++ row u i ∷ h.0)
+        part_gains u i = gains_both new mid new' own (row u i ∷ h.0) told.1 (gains_both mid held new' (row u i ∷ []) h.0 (g.reading u i).3 h.1)
+
+        announced_is : (u : Tree) → InFrame u (numbered_frame (number k) body) → announced asked s last u ≡ accepted 0 n
+        announced_is u i = (kind_announced asked k s last i).0 ∙ told.0
+
+        fitting : (size : ℕ) → ¬ HasTooLarge old.ceiling own size
+        fitting = let A : ℕ → Type 0 = λ z. AllFit z own in none_too_large (subst A (ap Sections.ceiling d.gains) fit)
+
+        own_there : (w : Error E) → IsOwn held.ceiling closing w → IsOwn old.ceiling closing w
+        own_there w x = let P : ℕ → Type 0 = λ c. IsOwn c closing w in subst P of_held x
+
+        either : IsOwn held.ceiling closing e ⊎ ((e ≢ NoMemory → asked l (Closed k) ≡ refused e s') × IfParse e (λ at. ⊥)) → e ≢ NoMemory → IsOwn old.ceiling closing e ⊎ (asked l (Closed k) ≡ refused e s')
+        either (inl x) other = inl (own_there e x)
+        either (inr r) other = inr (r.0 other)
+
+        by : e ≢ NoMemory → IsOwn old.ceiling closing e ⊎ (asked l (Closed k) ≡ refused e s')
+        by = either h.3
+
+        stops : (u : Tree) → InFrame u (numbered_frame (number k) body) → (part : List SectionRow) × Gains new new' part × StopsHooked asked adds old.ceiling last s u part e s'
+        stops u i =
+            let P : List SectionRow → Type 0 = λ z. StopsHook old.ceiling z h.0 (followed asked l u) e s' in
+            let Q : Step S (Error E) ℕ → Type 0 = λ z. e ≢ NoMemory → IsOwn old.ceiling closing e ⊎ (z ≡ refused e s') in
+            let F : List SectionRow → Type 0 = λ z. (size : ℕ) → ¬ HasTooLarge old.ceiling z size in
+            let puts : own ≡ put_before adds s last u = sym (kind_put adds (λ j. Section last (Some j)) k s i) in (
+              own ++ row u i ∷ h.0,
+              part_gains u i,
+              inr (
+                n,
+                announced_is u i,
+                inr (
+                  (g.reading u i).0,
+                  l,
+                  row u i,
+                  h.0,
+                  walked u i,
+                  (g.reading u i).4,
+                  ap (λ (z : List SectionRow). z ++ row u i ∷ h.0) puts,
+                  subst F puts fitting,
+                  subst P (sym (kind_put adds (λ j. Closed j) k l i)) (h.2, subst Q (sym (kind_followed asked k l i)) by),
+                ),
+              ),
+            )
+
+        why : IsOwn held.ceiling closing e ⊎ ((e ≢ NoMemory → asked l (Closed k) ≡ refused e s') × IfParse e (λ at. ⊥)) →
+            OwnTooLarge asked adds old.ceiling bytes s0 e ⊎ Refuses (numbered_frame (number k) body) e s'
+        why (inl x) =
+            inl (own_large {e = e} (inr (k, body, left, there, inr (record {
+              from = n;
+              told = told.0;
+              fits = fitting;
+              tree = t;
+              there = in_it;
+              made = (g.reading t in_it).0;
+              at = l;
+              walked = walked t in_it;
+              own = own_there e x;
+            }))))
+        why (inr r) = inr (
+          (λ u i other. followed_refused asked old.ceiling last s n l s' u (g.reading u i).0 e (announced_is u i) (walked u i) (kind_followed asked k l i ∙ r.0 other)),
+          r.1,
+          unless_wanting e (λ other. inl (t, in_it)),
+        )
+
     -- where memory runs out in a section, all that the hook added before it stands, and nothing of the section
-    pub section_held : {f : Tree} {left : List ℕ} {n s' : S} {mid new' : Sections} (framed : Begins frame rest f left) → Put asked adds f last s n new mid → new' ≡ mid →
+    pub section_held : {f : Tree} {left : List ℕ} {n s' : S} {mid new' : Sections} (framed : Begins frame rest f left) → PutBefore asked adds last f s n new mid → new' ≡ mid →
         FrameLeaves asked framed.text f n NoMemory s' → HoldsSections asked adds old.ceiling bytes (s0, old) (s', new')
     section_held {f = f} {left = left} {n = n} {new' = new'} framed put unchanged inside = record {
       front = front;
@@ -668,7 +808,7 @@ module _ {S E : Type 0} (asked : Asks S E) (adds : Puts S SectionRow) where
       left = left;
       state = n;
       framed = framed;
-      hooked = put.before;
+      hooked = put.there;
       spelled = d.spelled ∙ sym (normal-alsos d.woven);
       gains = let P : Sections → Type 0 = λ z. Gains new z put.own in gains_both old new new' d.rows put.own d.gains (subst P (sym unchanged) put.gains);
       inside = inside;
@@ -758,7 +898,7 @@ module _ {S E : Type 0} (asked : Asks S E) (adds : Puts S SectionRow) where
 
     -- these visits were made behind them
     pub core_leaves : {m : S} (e : Error E) (mid : List Visit) → EndsBy asked s mid e m → Drawn rest mid → (rest ≡ [] → IsFront mid (Section last None ∷ [])) →
-        ((t : Tree) (left : List ℕ) → Begins section rest t left → (¬ TellsFault e) × IsFront mid (before last t ++ visits t)) → Leaves asked (module_in bytes) s0 e m
+        ((t : Tree) (left : List ℕ) → Begins section rest t left → (¬ TellsFault e) × IsFront mid (before last t ++ (visits t ++ behind t))) → Leaves asked (module_in bytes) s0 e m
     core_leaves {m = m} e mid ended drawn at_end next = record {
       made = read_visits ++ mid;
       ended = ended_behind asked e read_visits mid ((walk_is_run asked).forth old.ceiling s0 s (alsos d.read Tree.empty) (alsos d.made Tree.empty) (d.accepts Tree.empty)).ran ended;
@@ -768,12 +908,15 @@ module _ {S E : Type 0} (asked : Asks S E) (adds : Puts S SectionRow) where
     }
       where
         -- of the next section
-        section_front : (u v : Tree) → IsFront mid (before last u ++ visits u) → IsFront (read_visits ++ mid) (visits (alsos d.read (Tree.also u v)))
+        section_front : (u v : Tree) → IsFront mid (before last u ++ (visits u ++ behind u)) → IsFront (read_visits ++ mid) (visits (alsos d.read (Tree.also u v)))
         section_front u v f =
-            let behind : List Visit = visits_from (kind last u) v in
-            let parts : visits (alsos d.read (Tree.also u v)) ≡ read_visits ++ ((before last u ++ visits u) ++ behind) =
-            visits_are (Tree.also u v) ∙ ap (λ (z : List Visit). read_visits ++ z) (sym (append_assoc (before last u) (visits u) behind)) in
-            front_same (sym parts) (front_then read_visits (front_first behind f))
+            let others : List Visit = visits_from (kind last u) v in
+            let own : List Visit = visits u ++ behind u in
+            let parts : visits (alsos d.read (Tree.also u v)) ≡ read_visits ++ ((before last u ++ own) ++ others) =
+            visits_are (Tree.also u v)
+            ∙ ap (λ (z : List Visit). read_visits ++ (before last u ++ z)) (sym (append_assoc (visits u) (behind u) others))
+            ∙ ap (λ (z : List Visit). read_visits ++ z) (sym (append_assoc (before last u) own others)) in
+            front_same (sym parts) (front_then read_visits (front_first others f))
 
         whole : (t : Tree) → Ahead d.read rest t [] → IsFront (read_visits ++ mid) (visits t)
         whole t (same f empty) = front_same (sym (ap visits f ∙ visits_are Tree.finish)) (front_then read_visits (at_end empty))
@@ -810,7 +953,7 @@ module _ {S E : Type 0} (asked : Asks S E) (adds : Puts S SectionRow) where
         ¬ TellsFault e → Leaves asked (module_in bytes) s0 e m
     core_leaves_hook k e there ended tells =
         core_leaves e (Section last (Some k) ∷ []) ended drawn_hook (λ empty. absurd (some_begun there empty))
-        (λ t left b. (tells, front_first (visits t) (front_same (sym (kind_before k last (frame_there there b))) (front_all (Section last (Some k) ∷ [])))))
+        (λ t left b. (tells, front_first (visits t ++ behind t) (front_same (sym ((told_before last).kind k (frame_there there b))) (front_all (Section last (Some k) ∷ [])))))
 
     -- a section was asked in part
     pub core_leaves_inside : {Stops : ℕ → Error E → S → Type 0} {f : Tree} {left : List ℕ} {now : Option SectionId} {m n : S} → Reached asked Stops f rest left last now s n → (framed : Begins frame rest f left) (e : Error E) (at : ℕ) →
@@ -820,8 +963,35 @@ module _ {S E : Type 0} (asked : Asks S E) (adds : Puts S SectionRow) where
         (λ empty. absurd (some_begun reached.framed empty))
         (λ t left b.
         let i = frame_there reached.framed b in
-        let P : List Visit → Type 0 = λ z. IsFront (reached.hook ++ l.made) (z ++ visits t) in
-        ((λ h. tells t i (tells_placed e at h)), subst P (sym (reached.visited t i)) (front_then reached.hook (l.reading t i))))
+        let P : List Visit → Type 0 = λ z. IsFront (reached.hook ++ l.made) (z ++ (visits t ++ behind t)) in
+        ((λ h. tells t i (tells_placed e at h)), subst P (sym (reached.visited t i)) (front_then reached.hook (front_first (behind t) (l.reading t i)))))
+
+    -- behind a section that was accepted these visits were made, a front part of that of the closing hook
+    pub core_leaves_closing : {Stops : ℕ → Error E → S → Type 0} {id : ℕ} (k : SectionId) {body left : List ℕ} {now : Option SectionId} {n l m : S} {mid held : Sections} (e : Error E) →
+        Reached asked Stops (numbered_frame (number k) body) rest left last now s n → GivesFramed asked id (numbered_frame (number k) body) Stops (n, mid) (l, held) (Ok tt) →
+        (made : List Visit) → IsFront made (Closed k ∷ []) → EndsBy asked l made e m → ((x : List ℕ) → Drawn x made) → ¬ TellsFault e → Leaves asked (module_in bytes) s0 e m
+    core_leaves_closing k {left = left} {n = n} {l = l} {m = m} {mid = mid} e reached g made part ended drawn tells =
+        core_leaves e (reached.hook ++ (visits t ++ made)) (ended_behind asked e reached.hook (visits t ++ made) reached.ran (ended_behind asked e (visits t) made inside.1 ended))
+        (drawn_joined rest reached.hook (visits t ++ made) (reached.drawn rest) (drawn_joined rest (visits t) made (drawn_front found.0.text left found.0.reads found.1) (drawn rest)))
+        (λ empty. absurd (some_begun reached.framed empty)) next
+      where
+        t : Tree
+        t = g.readable.0
+
+        found : (b : Begins section rest t left) × Drawn b.text (visits t)
+        found = section_here g.readable.1 reached.framed
+
+        inside : (given : List ℕ) × (run asked n (visits t) ≡ accepted given l)
+        inside = let w = (walk_is_run asked).forth mid.ceiling n l t (g.reading t g.readable.1).0 (g.reading t g.readable.1).2 in (w.given, w.ran)
+
+        next : (u : Tree) (left' : List ℕ) → Begins section rest u left' → (¬ TellsFault e) × IsFront (reached.hook ++ (visits t ++ made)) (before last u ++ (visits u ++ behind u))
+        next u left' b =
+            let i = frame_there reached.framed b in
+            let same : u ≡ t = same_there found.0 b in
+            let P : List Visit → Type 0 = λ z. IsFront (reached.hook ++ (visits t ++ made)) (z ++ (visits u ++ behind u)) in
+            let Q : Tree → Type 0 = λ z. IsFront (reached.hook ++ (visits t ++ made)) (reached.hook ++ (visits z ++ behind u)) in
+            let R : List Visit → Type 0 = λ z. IsFront (reached.hook ++ (visits t ++ made)) (reached.hook ++ (visits t ++ z)) in
+            (tells, subst P (sym (reached.visited u i)) (subst Q (sym same) (subst R (sym (told_behind.kind k i)) (front_then reached.hook (front_then (visits t) part)))))
 
     -- the hook at the end was refused
     pub core_leaves_end : {m : S} (e : Error E) → rest ≡ [] → EndsBy asked s (Section last None ∷ []) e m → Leaves asked (module_in bytes) s0 e m

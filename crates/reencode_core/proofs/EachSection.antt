@@ -1,12 +1,12 @@
 -- The loop over the sections of a module, and what the call gives at each of its ends.
-use Rattle.std.proofs.Common.{◌≡◌, ◌≢◌, ◌-◌, ◌≤◌, ℕ, List, [], ◌++◌, append-nil, length, Bool, Option, Some, None, Result, Ok, Err, IfErr, IsErrAnd, OnOk, IsTrue, refl, sym, ap, ◌∙◌, subst}
+use Rattle.std.proofs.Common.{◌≡◌, ◌≢◌, ◌-◌, ◌≤◌, ℕ, List, [], ◌∷◌, ◌++◌, append-nil, length, Bool, Option, Some, None, Result, Ok, Err, IfErr, IsErrAnd, OnOk, IsTrue, refl, sym, ap, ◌∙◌, subst}
 use Rattle.wasm_leb.specs.declared.fault.Fault.{Fault}
 use Rattle.wasm_leb.specs.declared.fault.Fault.TheVariants as fault
 use Rattle.wasm_leb.specs.declared.fault.Kind.TheVariants as kinds
 use Rattle.wasm_shapes.specs.declared.SectionId.{SectionId}
 use Rattle.wasm_shapes.specs.declared.Visit.{Visit}
-use Rattle.wasm_shapes.specs.declared.Visit.TheVariants.{Section}
-use Rattle.wasm_shapes.proofs.Drawn.{drawn_none}
+use Rattle.wasm_shapes.specs.declared.Visit.TheVariants.{Section, Closed}
+use Rattle.wasm_shapes.proofs.Drawn.{drawn_closing, drawn_none}
 use Rattle.wasm_shapes.specs.Tree.{Tree, visits}
 use Rattle.wasm_shapes.specs.Place.{Begins}
 use Rattle.wasm_shapes.specs.Shape.{Shape}
@@ -24,18 +24,18 @@ use Rattle.reencode_hooks.specs.declared.indices.ReencodeIndices.{Ghosts}
 use Rattle.reencode_hooks.specs.Errors.{error_of_fault}
 use Rattle.reencode_hooks.specs.Hooks.{RepliesSection, KeepsAdds}
 use Rattle.reencode_hooks.specs.Run.{NeverWants, LeavesVisited, ask}
-use Rattle.reencode_core.proofs.Made.{drawn_made, either_made, ended_all, fault_unasked, front_none, front_same, not_wanting, one_ended, placed_wants, tells_if, tells_none, wants_placed}
+use Rattle.reencode_core.proofs.Made.{drawn_made, either_made, ended_all, fault_unasked, front_none, front_same, not_wanting, one_ended, placed_wants, front_all, tells_if, tells_none, wants_placed}
 use Rattle.reencode_core.proofs.SectionMade.{custom_drawn, numbered_drawn}
 use Rattle.reencode_core.specs.Errors.{placed_at}
 use Rattle.reencode_core.specs.Sections.{KeepsModule, GivesAdded, StopsSection}
 use Rattle.reencode_core.specs.Names.{StopsCustom}
 use Rattle.reencode_core.specs.Core.{GivesCore}
-use Rattle.reencode_core.specs.Woven.{AddedBefore, GivesWoven}
+use Rattle.reencode_core.specs.Woven.{AddedAt, GivesWoven}
 use Rattle.reencode_core.specs.Holds.{FrameLeaves, HoldsCore}
-use Rattle.reencode_core.specs.Leaves.{CoreUpTo, Leaves, LeavesCore, NoCoreHeading, LeavesMade, custom_in, module_in, section_in}
+use Rattle.reencode_core.specs.Leaves.{CoreUpTo, EndsBy, Leaves, TellsFault, LeavesCore, NoCoreHeading, LeavesMade, custom_in, module_in, section_in}
 use Rattle.reencode_core.specs.Clauses.{CustomClauses, ModuleClauses, SectionClauses, UnknownClauses, asks}
 use Rattle.reencode_core.proofs.AddsNothing.{added_none, core_given}
-use Rattle.reencode_core.proofs.CoreLoop.{SectionsDone, Put, nothing_put, core_leaves_hook, core_leaves_inside, core_leaves_none, end_given, end_left, header_wrong, hook_refused, hook_told, hook_usual, no_header, hook_stops, no_frame, section_err, section_held, sections_begin, sections_more}
+use Rattle.reencode_core.proofs.CoreLoop.{SectionsDone, Put, PutBefore, nothing_put, closing_refused, core_leaves_closing, core_leaves_hook, core_leaves_inside, core_leaves_none, end_given, end_left, header_wrong, hook_refused, hook_told, hook_usual, no_header, hook_stops, no_frame, section_err, section_held, sections_begin, sections_more}
 use Rattle.reencode_core.proofs.AnySection.{GivesFramed, Reached, kind_gives, kind_reached, custom_gives, custom_reached, unknown_gives, unknown_reached}
 use Rattle.reencode_core.proofs.Known.{keeps_same, keeps_more, hook_keeps}
 use Rattle.reencode_core.proofs.OneRow.{answers}
@@ -57,7 +57,7 @@ CoreClauses i bytes s old m new result =
       headless : IsTrue i.keeps_defaults → NoCoreHeading bytes → m ≡ s;
     }
 
--- the clauses of the section hook
+-- the clauses of a section hook
 abbrev pub HookClauses : {S E : Type 0} → Ghosts S E → S → S → Sections → Sections → Visit → Result (Unit {0}) (Error E) → Type 0
 HookClauses i s m old new v result =
     record {
@@ -172,7 +172,7 @@ module _ {S E : Type 0} (i : Ghosts S E) where
           framed : Begins frame reader.rest f left;
           kept : KeepsModule old new';
           reached : IsTrue i.keeps_defaults → Reached (asks i) Stops f reader.rest left last now s n;
-          put : Put (asks i) i.adds f last s n new mid;
+          put : PutBefore (asks i) i.adds last f s n new mid;
           gives : IsTrue i.keeps_defaults → GivesFramed (asks i) id f Stops (n, mid) (m, new') r;
           leaves : IsTrue i.keeps_defaults → IfErr r (λ e. (e ≡ NoMemory → IsTrue i.sure) → FrameLeaves (asks i) framed.text f n e m);
         }
@@ -185,7 +185,7 @@ module _ {S E : Type 0} (i : Ghosts S E) where
       framed = framed;
       kept = keeps_more old mid new' (keeps_more old new mid inv.kept (hook_keeps i.reply i.next i.adds s n new mid (Section last (Some k)) (Ok u) hook.answer)) given.kept;
       reached = λ d. kind_reached (asks i) k framed hook.answer.0;
-      put = record { own = i.adds s (Section last (Some k)); gains = hook.answer.1; before = AddedBefore.known k body n hook.answer.0; fits = hook.fits };
+      put = record { own = i.adds s (Section last (Some k)); gains = hook.answer.1; there = AddedAt.known k body n hook.answer.0; fits = hook.fits };
       gives = λ d. kind_gives r k framed (given.default d);
       leaves = λ d. kind_leaves (asks i) _ _ i.sure k framed r (given.after_error d);
     }
@@ -198,7 +198,7 @@ module _ {S E : Type 0} (i : Ghosts S E) where
       framed = framed;
       kept = keeps_more old new new' inv.kept given.kept;
       reached = λ d. custom_reached (asks i) framed;
-      put = nothing_put (AddedBefore.custom name contents);
+      put = nothing_put (AddedAt.custom name contents);
       gives = λ d. custom_gives r (given.default d);
       leaves = λ d. custom_leaves (asks i) _ _ i.sure framed r (given.after_error d);
     }
@@ -211,20 +211,20 @@ module _ {S E : Type 0} (i : Ghosts S E) where
       framed = framed;
       kept = keeps_more old new new' inv.kept given.kept;
       reached = λ d. unknown_reached (asks i) low framed;
-      put = nothing_put (AddedBefore.unknown id contents low);
+      put = nothing_put (AddedAt.unknown id contents low);
       gives = λ d. unknown_gives r low framed (given.default d) (given.usual d);
       leaves = λ d. unknown_leaves i.reply i.next _ _ _ _ _ _ i.sure low r (given.default d) (given.after_error d);
     }
 
     module _ {Stops : ℕ → Error E → S → Type 0} {id : ℕ} {f : Tree} {left : List ℕ} {now : Option SectionId} {n m : S} {mid new' : Sections} where
-      -- it was mapped
-      pub core_more : {reader' : read.Sections} → reader'.rest ≡ left → reader'.len ≡ reader.len → Called Stops id f left now n mid m new' (Ok tt) →
+      -- it was mapped, and no hook is asked behind it
+      pub core_more : {reader' : read.Sections} → reader'.rest ≡ left → reader'.len ≡ reader.len → Called Stops id f left now n mid m new' (Ok tt) → AddedAt (asks i) i.adds (λ k. Closed k) m f m [] →
           SectionsKept i start s0 old reader' now m new'
-      core_more behind len call =
+      core_more behind len call none =
           let P : List ℕ → Type 0 = λ z. SectionsDone (asks i) i.adds start.rest s0 old z now m new' in record {
             kept = call.kept;
             len = len ∙ inv.len;
-            done = λ d. subst P (sym behind) (sections_more (asks i) i.adds (inv.done d) (call.reached d) call.put (call.gives d));
+            done = λ d. subst P (sym behind) (sections_more (asks i) i.adds (inv.done d) (call.reached d) call.put (call.gives d) (nothing_put none));
           }
 
       -- it is refused, or has no reading
@@ -235,6 +235,48 @@ module _ {S E : Type 0} (i : Ghosts S E) where
           subst P (sym q)
           (core_clauses keeps (Err (placed_at e at)) call.kept (λ d. section_err (asks i) i.adds header.stands (inv.done d) e at (call.reached d) call.put (call.gives d) (counted place))
           (λ d told size. core_leaves_inside (asks i) i.adds header.stands (inv.done d) (call.reached d) call.framed e at (λ t i. tells_if e (λ at h. h t i) (call.gives d).unreadable) (call.leaves d (λ h. told (wants_placed e at h)))) headed)
+
+    -- it was mapped, and the closing hook accepted
+    pub core_closed : {Stops : ℕ → Error E → S → Type 0} {id : ℕ} (k : SectionId) {body left : List ℕ} {now : Option SectionId} {n l m : S} {mid held new' : Sections} {reader' : read.Sections} {u : Unit {0}} →
+        reader'.rest ≡ left → reader'.len ≡ reader.len → Called Stops id (numbered_frame (number k) body) left now n mid l held (Ok tt) → HookClauses i l m held new' (Closed k) (Ok u) →
+        SectionsKept i start s0 old reader' now m new'
+    core_closed k {body = body} {now = now} {l = l} {m = m} {held = held} {new' = new'} behind len call hook =
+        let P : List ℕ → Type 0 = λ z. SectionsDone (asks i) i.adds start.rest s0 old z now m new' in record {
+          kept = keeps_more old held new' call.kept (hook_keeps i.reply i.next i.adds l m held new' (Closed k) (Ok tt) hook.answer);
+          len = len ∙ inv.len;
+          done = λ d.
+              subst P (sym behind)
+              (sections_more (asks i) i.adds (inv.done d) (call.reached d) call.put (call.gives d) (record { own = i.adds l (Closed k); gains = hook.answer.1; there = AddedAt.known k body m hook.answer.0; fits = hook.fits }));
+        }
+
+    -- what holds where the closing hook refused, beside the visits that were made
+    module _ {Stops : ℕ → Error E → S → Type 0} (k : SectionId) {body left : List ℕ} {now : Option SectionId} {n : S} (l m : S) {mid : Sections} (held new' : Sections) {u : Unit {0}} (e : Error E)
+        (call : Called Stops (number k) (numbered_frame (number k) body) left now n mid l held (Ok tt)) (before : HookClauses i s n new mid (Section last (Some k)) (Ok u))
+        (answer : RepliesSection i.reply i.next i.adds l m held new' (Closed k) (Err e)) where
+      pub closing_kept : KeepsModule old new'
+      closing_kept = keeps_more old held new' call.kept (hook_keeps i.reply i.next i.adds l m held new' (Closed k) (Err e) answer)
+
+      pub closing_woven : IsTrue i.keeps_defaults → GivesWoven (asks i) i.adds bytes (s0, old) (m, new') (Err e)
+      closing_woven d =
+          closing_refused (asks i) i.adds header.stands (inv.done d) k e call.framed before.answer before.fits (call.gives d) (hook_stops i.reply i.next i.adds l m held new' (Closed k) e answer)
+
+      -- where the visit of the hook ended them
+      pub closing_left : IsTrue i.keeps_defaults → EndsBy (asks i) l (Closed k ∷ []) e m → ¬ TellsFault e → Leaves (asks i) (module_in bytes) s0 e m
+      closing_left d ended tells =
+          core_leaves_closing (asks i) i.adds header.stands (inv.done d) k e (call.reached d) (call.gives d) (Closed k ∷ []) (front_all (Closed k ∷ [])) ended (λ x. drawn_closing) tells
+
+    -- the closing hook is refused
+    pub core_closing_refused : {Stops : ℕ → Error E → S → Type 0} (k : SectionId) {body left : List ℕ} {now : Option SectionId} {n l m : S} {mid held new' : Sections} {u : Unit {0}} (e : Error E) →
+        Called Stops (number k) (numbered_frame (number k) body) left now n mid l held (Ok tt) → HookClauses i s n new mid (Section last (Some k)) (Ok u) →
+        HookClauses i l m held new' (Closed k) (Err e) → (r : Result (Unit {0}) (Error E)) → IsErrAnd r (λ y. y ≡ e) → CoreClauses i bytes s0 old m new' r
+    core_closing_refused k {l = l} {m = m} {held = held} {new' = new'} e call before hook r q =
+        let P : Result (Unit {0}) (Error E) → Type 0 = λ z. CoreClauses i bytes s0 old m new' z in
+        subst P (answers r q)
+        (core_clauses keeps (Err e) (closing_kept k l m held new' e call before hook.answer) (closing_woven k l m held new' e call before hook.answer)
+        (λ d told size.
+        let stops = hook_told i.reply i.next i.adds l m held new' (Closed k) e hook.answer (λ h. keeps l (Closed k) (λ _. size h)) in
+        closing_left k l m held new' e call before hook.answer d (one_ended i.reply i.next e (Closed k) (stops (not_wanting e hook.sure told)))
+        (tells_none e (hook_usual i.reply i.next i.adds l m held new' (Closed k) e stops))) headed)
 
     -- the hook at the end
     pub core_ended : {n : S} {mid : Sections} → reader.rest ≡ [] → (r : Result (Unit {0}) (Error E)) → HookClauses i s n new mid (Section last None) r → CoreClauses i bytes s0 old n mid r
@@ -282,6 +324,11 @@ module _ {S E : Type 0} (i : Ghosts S E) (keeps : KeepsAdds i.adds i.adds_nothin
     pub module_hook_refused : (k : SectionId) {body left : List ℕ} {n : S} {mid : Sections} (e : Error E) → Begins frame reader.rest (numbered_frame (number k) body) left →
         HookClauses i s n new mid (Section last (Some k)) (Err e) → (r : Result (Unit {0}) (Error E)) → IsErrAnd r (λ y. y ≡ e) → ModuleClauses i bytes s0 old n mid r
     module_hook_refused k e framed hook r q = unwanted e r q (core_hook_refused i keeps header inv k e framed hook r q) (λ sure. not_wanting e hook.sure (λ h. sure))
+
+    pub module_closing_refused : {Stops : ℕ → Error E → S → Type 0} (k : SectionId) {body left : List ℕ} {now : Option SectionId} {n l m : S} {mid held new' : Sections} {u : Unit {0}} (e : Error E) →
+        Called i keeps header inv Stops (number k) (numbered_frame (number k) body) left now n mid l held (Ok tt) → HookClauses i s n new mid (Section last (Some k)) (Ok u) →
+        HookClauses i l m held new' (Closed k) (Err e) → (r : Result (Unit {0}) (Error E)) → IsErrAnd r (λ y. y ≡ e) → ModuleClauses i bytes s0 old m new' r
+    module_closing_refused k e call before hook r q = unwanted e r q (core_closing_refused i keeps header inv k e call before hook r q) (λ sure. not_wanting e hook.sure (λ h. sure))
 
     pub module_section_refused : {Stops : ℕ → Error E → S → Type 0} {id : ℕ} {f : Tree} {left : List ℕ} {now : Option SectionId} {n m : S} {mid new' : Sections} (e : Error E) (at : ℕ) →
         Called i keeps header inv Stops id f left now n mid m new' (Err e) → at ≡ sections_place reader → (r : Error E) → r ≡ placed_at e at → ModuleClauses i bytes s0 old m new' (Err r)

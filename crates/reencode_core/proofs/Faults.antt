@@ -3,7 +3,7 @@ use Rattle.std.proofs.Common.{◌≡◌, ◌≢◌, ◌-◌, ℕ, List, [], ◌+
 use Rattle.std.proofs.lemmas.List.{append_cancel_left}
 use Rattle.wasm_shapes.specs.declared.SectionId.{SectionId}
 use Rattle.wasm_shapes.specs.declared.Visit.{Visit}
-use Rattle.wasm_shapes.specs.declared.Visit.TheVariants.{Section}
+use Rattle.wasm_shapes.specs.declared.Visit.TheVariants.{Section, Closed}
 use Rattle.wasm_shapes.specs.Tree.{Tree}
 use Rattle.wasm_shapes.specs.Place.{Begins}
 use Rattle.wasm_shapes.specs.CodeSize.{InvalidCodeSize}
@@ -98,12 +98,12 @@ module _ {S E : Type 0} (reply : S → Visit → Result ℕ E) (next : S → Vis
   never : {A : Type 0} {step : Step S (Error E) A} → Usual step → step ≡ refused e after.0 → ⊥
   never {step = step} usual h = not_usual e tells (stops_usual (λ at. ⊥) step e after.0 usual (λ other. h))
 
-  hook_never : (own : List SectionRow) (v : Visit) → (e ≢ NoMemory → IsOwn c own e ⊎ (ask reply next g.front.at v ≡ refused e after.0)) → ⊥
-  hook_never own v h = go (h (not_wanting e tells))
+  hook_never : (s : S) (own : List SectionRow) (v : Visit) → (e ≢ NoMemory → IsOwn c own e ⊎ (ask reply next s v ≡ refused e after.0)) → ⊥
+  hook_never s own v h = go (h (not_wanting e tells))
     where
-      go : IsOwn c own e ⊎ (ask reply next g.front.at v ≡ refused e after.0) → ⊥
+      go : IsOwn c own e ⊎ (ask reply next s v ≡ refused e after.0) → ⊥
       go (inl x) = not_own e c own tells x
-      go (inr q) = never (usual_ask reply next g.front.at v) q
+      go (inr q) = never (usual_ask reply next s v) q
 
   -- no section begins where it stopped
   none_there : (t : Tree) (left : List ℕ) → Begins section g.front.rest t left → ⊥
@@ -111,9 +111,10 @@ module _ {S E : Type 0} (reply : S → Visit → Result ℕ E) (next : S → Vis
     where
       go : AddedThere (ask reply next) adds c g.front.last g.front.at g.front.rest e after.0 g.part → ⊥
       go (AddedThere.at_end empty h) = none_behind.none b.text left t b.spells (sym empty ∙ b.reads)
-      go (AddedThere.hook k body others framed h) = hook_never (adds g.front.at (Section g.front.last (Some k))) (Section g.front.last (Some k)) h.1
+      go (AddedThere.hook k body others framed h) = hook_never g.front.at (adds g.front.at (Section g.front.last (Some k))) (Section g.front.last (Some k)) h.1
       go (AddedThere.section f others n framed told refuses) =
           never (usual_walk reply next c None n t b.text b.spells.spelled) (refuses t (frame_there framed b) (not_wanting e tells))
+      go (AddedThere.closing k body others n u made l row more framed told there walked spelled h parts) = hook_never l (adds l (Closed k)) (Closed k) h.1
       go (AddedThere.unframed none some empty) = (none_section none).none b.text left t b.spells b.reads
 
   pub fault_gains : (read : List Tree) (rest : List ℕ) → FaultAt bytes read rest → (g.front.read ≡ read) × (g.front.rest ≡ rest)

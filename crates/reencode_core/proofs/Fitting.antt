@@ -1,12 +1,12 @@
--- What the section hook adds fits, where a module holds it.
+-- What the section hooks add fits, where a module holds it.
 use Rattle.std.proofs.Common.{◌≡◌, ℕ, ◌+◌, ◌≤◌, List, [], ◌∷◌, ◌++◌, length, length-append, Option, Some, refl, sym, ap, ◌∙◌, subst, ◌⊎◌, inl, inr, append-nil, arith}
 use Rattle.std.proofs.lemmas.List.{get_or-append-add}
 use Rattle.std.proofs.lemmas.List.Elements.{All-get_or, All-from_get_or, All-nil}
 use Rattle.std.proofs.Math.Seq.{get_or-append_seam}
 use Rattle.wasm_shapes.specs.declared.SectionId.{SectionId}
 use Rattle.wasm_shapes.specs.declared.Visit.{Visit}
-use Rattle.wasm_shapes.specs.declared.Visit.TheVariants.{Section}
-use Rattle.wasm_shapes.specs.Tree.{Tree, before, visits}
+use Rattle.wasm_shapes.specs.declared.Visit.TheVariants.{Section, Closed}
+use Rattle.wasm_shapes.specs.Tree.{Tree, before, behind, visits}
 use Rattle.wasm_shapes.specs.Spells.{Spells}
 use Rattle.wasm_shapes.specs.Module.{section, InFrame}
 use Rattle.wasm_write.specs.Sections.{AllFit, Sections, SectionRow, section_row}
@@ -16,8 +16,8 @@ use Rattle.reencode_hooks.specs.SectionVisits.{section_visits}
 use Rattle.reencode_hooks.proofs.SectionVisits.{none_told, within}
 use Rattle.reencode_core.specs.Rows.{Asks}
 use Rattle.reencode_core.specs.Weave.{AtSections, Puts}
-use Rattle.reencode_core.specs.Woven.{AddedBefore, AddsFit}
-use Rattle.reencode_core.proofs.AnySection.{custom_before, kind_before, unknown_before}
+use Rattle.reencode_core.specs.Woven.{AddedAt, AddedBefore, AddsFit}
+use Rattle.reencode_core.proofs.AnySection.{AreTold, added_run, told_before, told_behind}
 use Rattle.reencode_core.proofs.Made.{run_state}
 
 abbrev none_there : SectionRow
@@ -77,16 +77,14 @@ module _ {S E : Type 0} (asked : Asks S E) (P : S → Visit → Type 0) where
           subst R (sym p.1) (subst Q (sym (run_state asked s n xs p.0 told ran)) (at_ys p.0 v rest may p.2))
 
   at_none : (s : S) (xs : List Visit) → section_visits xs ≡ [] → AtSections asked s xs P
-  at_none s xs none front (Section a b) rest may parts =
-      let Q : List Visit → Type 0 = λ z. section_visits z ≡ [] in absurd (none_told front rest a b (subst Q parts none))
-  at_none s xs none front _ rest may parts = absurd may
+  at_none s xs none front v rest may parts = let Q : List Visit → Type 0 = λ z. section_visits z ≡ [] in absurd (none_told front rest v may (subst Q parts none))
 
   at_one : (s : S) (v : Visit) → P s v → AtSections asked s (v ∷ []) P
   at_one s v p [] w rest may parts = let same : v ≡ w = cc in subst (λ (z : Visit). P s z) same p
   at_one s v p (u ∷ []) w rest may parts = absurd cc
   at_one s v p (u ∷ x ∷ front) w rest may parts = absurd cc
 
--- ---- a section, and what was added before it
+-- ---- a section, and what was added before it and behind it
 
 module _ {S E : Type 0} (asked : Asks S E) (adds : Puts S SectionRow) (c : ℕ) where
   abbrev Fits : S → Visit → Type 0
@@ -95,23 +93,20 @@ module _ {S E : Type 0} (asked : Asks S E) (adds : Puts S SectionRow) (c : ℕ) 
   pub fits_begin : (s : S) → AddsFit asked adds c s []
   fits_begin s = at_none asked Fits s [] refl
 
-  before_fits : {last : Option SectionId} {s n : S} {f : Tree} {own : List SectionRow} → AddedBefore asked adds last s f n own → AllFit c own → (t : Tree) → InFrame t f →
-      (told : List ℕ) × (run asked s (before last t) ≡ accepted told n) × AddsFit asked adds c s (before last t)
-  before_fits {last = last} {s = s} (AddedBefore.known k body n h) fit t i =
-      let same = sym (kind_before k last i) in
-      let P : List Visit → Type 0 = λ z. (told : List ℕ) × (run asked s z ≡ accepted told n) × AddsFit asked adds c s z in
-      subst P same (0 ∷ [], rw h refl, at_one asked Fits s (Section last (Some k)) (none_too_large fit))
-  before_fits {last = last} {s = s} (AddedBefore.custom name contents) fit t i =
-      let P : List Visit → Type 0 = λ z. (told : List ℕ) × (run asked s z ≡ accepted told s) × AddsFit asked adds c s z in
-      subst P (sym (custom_before last i)) ([], refl, fits_begin s)
-  before_fits {last = last} {s = s} (AddedBefore.unknown id contents low) fit t i =
-      let P : List Visit → Type 0 = λ z. (told : List ℕ) × (run asked s z ≡ accepted told s) × AddsFit asked adds c s z in
-      subst P (sym (unknown_before last low i)) ([], refl, fits_begin s)
+  hook_fits : {visit : SectionId → Visit} {told : Tree → List Visit} {s n : S} {f : Tree} {own : List SectionRow} → AreTold visit told → AddedAt asked adds visit s f n own → AllFit c own → (t : Tree) → InFrame t f →
+      AddsFit asked adds c s (told t)
+  hook_fits {visit = visit} {s = s} are (AddedAt.known k body n h) fit t i =
+      let P : List Visit → Type 0 = λ z. AddsFit asked adds c s z in subst P (sym (are.kind k i)) (at_one asked Fits s (visit k) (none_too_large fit))
+  hook_fits {s = s} are (AddedAt.custom name contents) fit t i = let P : List Visit → Type 0 = λ z. AddsFit asked adds c s z in subst P (sym (are.custom i)) (fits_begin s)
+  hook_fits {s = s} are (AddedAt.unknown id contents low) fit t i = let P : List Visit → Type 0 = λ z. AddsFit asked adds c s z in subst P (sym (are.unknown low i)) (fits_begin s)
 
-  pub fits_more : {last : Option SectionId} {s0 s n : S} {f : Tree} {own : List SectionRow} (told : List ℕ) (vs : List Visit) → run asked s0 vs ≡ accepted told s → AddsFit asked adds c s0 vs →
-      AddedBefore asked adds last s f n own → AllFit c own → (t : Tree) (x : List ℕ) → InFrame t f → Spells section x t → AddsFit asked adds c s0 (vs ++ (before last t ++ (visits t ++ [])))
-  fits_more {last = last} {s0 = s0} {s = s} {n = n} told vs ran so_far hooked fit t x i p =
-      let b = before_fits hooked fit t i in
-      let none : section_visits (visits t ++ []) ≡ [] = ap section_visits (append-nil (visits t)) ∙ within x t p in
-      at_both asked Fits s0 s told vs (before last t ++ (visits t ++ [])) ran so_far
-      (at_both asked Fits s n b.0 (before last t) (visits t ++ []) b.1 b.2 (at_none asked Fits n (visits t ++ []) none))
+  pub fits_more : {last : Option SectionId} {s0 s n l m : S} {f : Tree} {own more : List SectionRow} (given : List ℕ) (vs : List Visit) → run asked s0 vs ≡ accepted given s → AddsFit asked adds c s0 vs →
+      AddedBefore asked adds last s f n own → AllFit c own → (t : Tree) (x : List ℕ) → InFrame t f → Spells section x t → (inside : List ℕ) → run asked n (visits t) ≡ accepted inside l →
+      AddedAt asked adds (λ k. Closed k) l f m more → AllFit c more → AddsFit asked adds c s0 (vs ++ (before last t ++ (visits t ++ (behind t ++ []))))
+  fits_more {last = last} {s0 = s0} {s = s} {n = n} {l = l} given vs ran so_far hooked fit t x i p inside walked closed fits =
+      let b = added_run (told_before last) hooked t i in
+      let Q : List Visit → Type 0 = λ z. AddsFit asked adds c l z in
+      let own : AddsFit asked adds c n (visits t ++ (behind t ++ [])) =
+      at_both asked Fits n l inside (visits t) (behind t ++ []) walked (at_none asked Fits n (visits t) (within x t p)) (subst Q (sym (append-nil (behind t))) (hook_fits told_behind closed fits t i)) in
+      at_both asked Fits s0 s given vs (before last t ++ (visits t ++ (behind t ++ []))) ran so_far
+      (at_both asked Fits s n b.0 (before last t) (visits t ++ (behind t ++ [])) b.1 (hook_fits (told_before last) hooked fit t i) own)

@@ -6,7 +6,7 @@ use Rattle.wasm_leb.specs.Place.{BeginsNumber}
 use Rattle.wasm_leb.proofs.Unique.{unsigned_unique}
 use Rattle.wasm_shapes.specs.declared.SectionId.{SectionId}
 use Rattle.wasm_shapes.specs.declared.Visit.{Visit}
-use Rattle.wasm_shapes.specs.declared.Visit.TheVariants.{Section}
+use Rattle.wasm_shapes.specs.declared.Visit.TheVariants.{Section, Closed}
 use Rattle.wasm_shapes.specs.Tree.{Tree, normal, count, kind, visits}
 use Rattle.wasm_shapes.specs.Shape.{Shape}
 use Rattle.wasm_shapes.specs.Spells.{Is, Spelled, Spells}
@@ -21,7 +21,7 @@ use Rattle.reencode_hooks.specs.Hooks.{Gains, RepliesSection}
 use Rattle.reencode_hooks.specs.declared.error.Error.{Error}
 use Rattle.reencode_hooks.specs.declared.error.Error.TheVariants.{TooLarge}
 use Rattle.reencode_hooks.specs.Run.{Step, accepted, refused}
-use Rattle.reencode_hooks.specs.Walk.{walk, closed, announced}
+use Rattle.reencode_hooks.specs.Walk.{walk, closed, announced, followed}
 use Rattle.reencode_hooks.proofs.Chained.{gains_both}
 use Rattle.reencode_core.specs.Rows.{Asks}
 use Rattle.reencode_core.specs.Sections.{KeepsModule}
@@ -53,6 +53,10 @@ module _ (k : SectionId) where
     pub section_announced : (s : S) (last : Option SectionId) (u : Tree) →
         (announced asked s last (tree_of k u) ≡ asked s (Section last (Some k))) × (kind last (tree_of k u) ≡ Some k)
     section_announced s last u = (refl, refl)
+
+    -- and the closing hook
+    pub section_followed : (s : S) (u : Tree) → followed asked s (tree_of k u) ≡ asked s (Closed k)
+    section_followed s u = refl
 
     pub section_refuses : (c : ℕ) (s m : S) (t : Tree) (e : Error E) → walk asked c s t ≡ refused e m → walk asked c s (tree_of k t) ≡ refused e m
     section_refuses c s m t e h = rw h refl

@@ -29,7 +29,7 @@ use Rattle.reencode_core.specs.Rows.{Asks}
 use Rattle.reencode_core.specs.Core.{onto}
 use Rattle.reencode_core.specs.Weave.{Puts}
 use Rattle.reencode_core.proofs.AnySection.{GivesFramed, Reached}
-use Rattle.reencode_core.proofs.CoreLoop.{Ahead, Put, SectionsDone, ahead, none_behind, sections_begin, sections_begin_parts, sections_more, sections_more_parts}
+use Rattle.reencode_core.proofs.CoreLoop.{Ahead, PutBefore, PutBehind, SectionsDone, ahead, none_behind, sections_begin, sections_begin_parts, sections_more, sections_more_parts}
 use Rattle.reencode_core.specs.Pieces.{Range}
 use Rattle.reencode_core.specs.Sinks.{InCode, KeepsCodeSection, KeepsFrames, KeepsKind, KeptOf, KeepsRanges, KeepsSections, NotCode}
 use Rattle.reencode_core.specs.Clauses.{asks}
@@ -121,19 +121,19 @@ module _ {S E : Type 0} (asked : Asks S E) (adds : Puts S SectionRow) where
       begun : (text : List ℕ) (read made : List Tree) (k : List Range) → text ≡ [] → read ≡ [] → made ≡ [] → KeepsSections 8 text read made k k
       begun text read made k a b c = rw (a, b, c) (refl, refl)
 
-  pub ranges_more : {Stops : ℕ → Error E → S → Type 0} {id : ℕ} {f : Tree} {start rest rest' : List ℕ} {s0 s n s' : S} {old new mid new' : Sections} {last now : Option SectionId} (k0 k1 k2 : List Range) →
-      RangesDone asked adds start s0 old rest last s new k0 k1 → Reached asked Stops f rest rest' last now s n → Put asked adds f last s n new mid →
-      GivesFramed asked id f Stops (n, mid) (s', new') (Ok tt) →
-      ((text x : List ℕ) (t u : Tree) → start ≡ text ++ rest → rest ≡ x ++ rest' → InFrame t f → walk asked mid.ceiling n t ≡ accepted u s' → KeepsOne (8 + length text) x t u k1 k2) →
+  pub ranges_more : {Stops : ℕ → Error E → S → Type 0} {id : ℕ} {f : Tree} {start rest rest' : List ℕ} {s0 s n l s' : S} {old new mid held new' : Sections} {last now : Option SectionId} (k0 k1 k2 : List Range) →
+      RangesDone asked adds start s0 old rest last s new k0 k1 → Reached asked Stops f rest rest' last now s n → PutBefore asked adds last f s n new mid →
+      GivesFramed asked id f Stops (n, mid) (l, held) (Ok tt) → PutBehind asked adds f l s' held new' →
+      ((text x : List ℕ) (t u : Tree) → start ≡ text ++ rest → rest ≡ x ++ rest' → InFrame t f → walk asked mid.ceiling n t ≡ accepted u l → KeepsOne (8 + length text) x t u k1 k2) →
       RangesDone asked adds start s0 old rest' now s' new' k0 k2
-  ranges_more k0 k1 k2 p reached put g one =
+  ranges_more k0 k1 k2 p reached put g behind one =
       let d = p.0 in
       let t = g.readable.0 in
       let in_it = g.readable.1 in
       let here = reached.framed in
       let q = g.reading t in_it in
-      let e = sections_more asked adds d reached put g in
-      let parts = sections_more_parts asked adds d reached put g in
+      let e = sections_more asked adds d reached put g behind in
+      let parts = sections_more_parts asked adds d reached put g behind in
       let next = sections_snoc d.read d.made 8 (8 + length d.text) d.text here.text t q.0 k0 k1 k2 refl (of_frame in_it here.spells) p.1 (one d.text here.text t q.0 d.stands here.reads in_it q.2) in
       (e, more e.text (d.text ++ here.text) e.read (d.read ++ t ∷ []) e.made (d.made ++ q.0 ∷ []) k0 k2 parts.2 parts.0 parts.1 next)
     where

@@ -116,9 +116,10 @@ module _ {S E : Type 0} (asked : Asks S E) (adds : Puts S SectionRow) (c : ℕ) 
   own : (e : Error E) → ((own : List SectionRow) → IsOwn c own e → ⊥) → OwnTooLarge asked adds c bytes s e → ⊥
   own e never o = by o.own
     where
-      by : OwnNext adds c o.front.last o.front.at o.front.rest e → ⊥
+      by : OwnNext asked adds c o.front.last o.front.at o.front.rest e → ⊥
       by (inl q) = never _ q.1
-      by (inr q) = never _ q.4
+      by (inr (k, body, left, framed, inl x)) = never _ x
+      by (inr (k, body, left, framed, inr x)) = never _ x.own
 
   told : (A : Type 0) (e : Error E) → ((x : E) → e ≡ UserError x → ⊥) → IsWovenCause asked adds c bytes s m e → IsFaultOr {E = E} {A = A} bytes rest (Err e)
   told A (UserError x) unasked h = absurd (unasked x refl)

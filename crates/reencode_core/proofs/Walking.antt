@@ -1,9 +1,9 @@
--- The loop over the sections of a module in pieces, where the section hook is called with a module of its own.
+-- The loop over the sections of a module in pieces, where the section hooks are called with a module of their own.
 use Rattle.std.proofs.Common.{◌≡◌, inl, inr, ℕ, List, [], ◌∷◌, ◌++◌, Option, Some, None, Result, Ok, Err, IsErrAnd, IsTrue, refl, sym, subst}
 use Rattle.wasm_shapes.specs.declared.SectionId.{SectionId}
 use Rattle.wasm_shapes.specs.declared.Visit.{Visit}
-use Rattle.wasm_shapes.specs.declared.Visit.TheVariants.{Section}
-use Rattle.wasm_shapes.specs.Tree.{before, visits}
+use Rattle.wasm_shapes.specs.declared.Visit.TheVariants.{Section, Closed}
+use Rattle.wasm_shapes.specs.Tree.{before, behind, visits}
 use Rattle.wasm_shapes.specs.Place.{Begins}
 use Rattle.wasm_shapes.specs.Module.{frame, numbered_frame}
 use Rattle.wasm_shapes.specs.SectionTable.{number}
@@ -17,8 +17,8 @@ use Rattle.reencode_hooks.specs.Hooks.{RepliesSection, KeepsAdds}
 use Rattle.wasm_shapes.proofs.Drawn.{drawn_none}
 use Rattle.reencode_core.specs.Leaves.{Leaves, LeavesCore, module_in}
 use Rattle.reencode_core.proofs.AddsNothing.{added_none, core_given}
-use Rattle.reencode_core.proofs.CoreLoop.{core_leaves, core_leaves_end, core_leaves_hook, end_given, hook_refused, hook_stops, hook_told, hook_usual}
-use Rattle.reencode_core.proofs.EachSection.{CoreClauses, HookClauses, SectionsKept}
+use Rattle.reencode_core.proofs.CoreLoop.{core_leaves, core_leaves_closing, core_leaves_end, core_leaves_hook, end_given, hook_refused, hook_stops, hook_told, hook_usual}
+use Rattle.reencode_core.proofs.EachSection.{Called, CoreClauses, HookClauses, SectionsKept, closing_kept, closing_left, closing_woven}
 use Rattle.reencode_core.proofs.Known.{keeps_more, hook_keeps}
 use Rattle.reencode_core.proofs.Made.{ended_all, front_none, not_wanting, one_ended, tells_none, wants_tells_none}
 use Rattle.reencode_core.proofs.OneRow.{answers, asks}
@@ -42,13 +42,13 @@ module _ {S E : Type 0} (i : Ghosts S E) where
     unasked : IsTrue i.keeps_defaults → Leaves (asks i) (module_in bytes) s0 NoMemory s
     unasked d =
         core_leaves (asks i) i.adds header.stands (inv.done d) NoMemory [] (ended_all {a = []} NoMemory tt refl) drawn_none (λ empty. front_none (Section last None ∷ []))
-        (λ t left b. (wants_tells_none E, front_none (before last t ++ visits t)))
+        (λ t left b. (wants_tells_none E, front_none (before last t ++ (visits t ++ behind t))))
 
-    unasked_as : {n : S} {e : Error E} → IsTrue i.keeps_defaults → e ≡ NoMemory → n ≡ s → Leaves (asks i) (module_in bytes) s0 e n
-    unasked_as {n = n} d wants same =
+    wanted : {l n : S} {e : Error E} → e ≡ NoMemory → n ≡ l → Leaves (asks i) (module_in bytes) s0 NoMemory l → Leaves (asks i) (module_in bytes) s0 e n
+    wanted {n = n} wants same leaves =
         let P : S → Type 0 = λ z. Leaves (asks i) (module_in bytes) s0 NoMemory z in
         let Q : Error E → Type 0 = λ z. Leaves (asks i) (module_in bytes) s0 z n in
-        subst Q (sym wants) (subst P (sym same) (unasked d))
+        subst Q (sym wants) (subst P (sym same) leaves)
 
     -- the hook before a section is refused
     pub between_refused : (k : SectionId) {body left : List ℕ} {n : S} {mid : Sections} (e : Error E) → Begins frame reader.rest (numbered_frame (number k) body) left →
@@ -66,8 +66,33 @@ module _ {S E : Type 0} (i : Ghosts S E) where
         })
       where
         go : IsTrue i.keeps_defaults → HookLeaves (asks i) s n (Section last (Some k)) e → Leaves (asks i) (module_in bytes) s0 e n
-        go d (inl none) = unasked_as d none.0 none.1
+        go d (inl none) = wanted none.0 none.1 (unasked d)
         go d (inr h) = core_leaves_hook (asks i) i.adds header.stands (inv.done d) k e framed h.0 h.1
+
+    -- the closing hook is refused
+    pub behind_refused : {Stops : ℕ → Error E → S → Type 0} (k : SectionId) {body left : List ℕ} {now : Option SectionId} {n l m : S} {mid held new' : Sections} {u : Unit {0}} (e : Error E) →
+        Called i keeps header inv Stops (number k) (numbered_frame (number k) body) left now n mid l held (Ok tt) → HookClauses i s n new mid (Section last (Some k)) (Ok u) →
+        RepliesSection i.reply i.next i.adds l m held new' (Closed k) (Err e) → LeavesHook {A = Unit {0}} i.sure i.adds_nothing (asks i) l m (Closed k) (Err e) →
+        (r : Result (Unit {0}) (Error E)) → IsErrAnd r (λ y. y ≡ e) → CoreClauses i bytes s0 old m new' r
+    behind_refused k {l = l} {m = m} {held = held} {new' = new'} e call before answer leaves r q =
+        let P : Result (Unit {0}) (Error E) → Type 0 = λ z. CoreClauses i bytes s0 old m new' z in
+        let woven = closing_woven i keeps header inv k l m held new' e call before answer in
+        subst P (answers r q) (record {
+          kept = closing_kept i keeps header inv k l m held new' e call before answer;
+          default = λ d none. core_given (asks i) i.adds (added_none keeps none) bytes (s0, old) (m, new') (Err e) (woven d);
+          woven = woven;
+          after_error = λ d told size. go d (leaves told size);
+          headless = λ d none. absurd (none start.rest header.stands);
+        })
+      where
+        -- memory ran out before it was asked
+        unfollowed : IsTrue i.keeps_defaults → Leaves (asks i) (module_in bytes) s0 NoMemory l
+        unfollowed d =
+            core_leaves_closing (asks i) i.adds header.stands (inv.done d) k NoMemory (call.reached d) (call.gives d) [] (front_none (Closed k ∷ [])) (ended_all {a = []} NoMemory tt refl) (λ x. drawn_none) (wants_tells_none E)
+
+        go : IsTrue i.keeps_defaults → HookLeaves (asks i) l m (Closed k) e → Leaves (asks i) (module_in bytes) s0 e m
+        go d (inl none) = wanted none.0 none.1 (unfollowed d)
+        go d (inr h) = closing_left i keeps header inv k l m held new' e call before answer d h.0 h.1
 
     -- the hook at the end
     pub between_ended : {n : S} {mid : Sections} → reader.rest ≡ [] → (r : Result (Unit {0}) (Error E)) → RepliesSection i.reply i.next i.adds s n new mid (Section last None) r →
@@ -82,7 +107,7 @@ module _ {S E : Type 0} (i : Ghosts S E) where
         }
       where
         go : {e : Error E} → IsTrue i.keeps_defaults → HookLeaves (asks i) s n (Section last None) e → Leaves (asks i) (module_in bytes) s0 e n
-        go d (inl none) = unasked_as d none.0 none.1
+        go d (inl none) = wanted none.0 none.1 (unasked d)
         go {e = e} d (inr h) = core_leaves_end (asks i) i.adds header.stands (inv.done d) e empty h.0
 
         left : IsTrue i.keeps_defaults → (r : Result (Unit {0}) (Error E)) → LeavesHook i.sure i.adds_nothing (asks i) s n (Section last None) r →

@@ -5,17 +5,18 @@ use Rattle.wasm_shapes.specs.declared.Visit.TheVariants.{Section}
 use Rattle.wasm_shapes.specs.Tree.{Tree}
 use Rattle.wasm_shapes.specs.Spells.{Is, Spelled, Spells}
 use Rattle.wasm_shapes.specs.Place.{Begins}
-use Rattle.wasm_shapes.specs.Module.{core_header, core_tree, sections, section, alsos, frame, InFrame, CoreReading}
+use Rattle.wasm_shapes.specs.Module.{core_header, core_tree, sections, section, alsos, frame, tree_of, InFrame, CoreReading}
 use Rattle.wasm_shapes.proofs.Laws.{module_headed}
 use Rattle.wasm_shapes.proofs.SectionTable.{in_frame}
 use Rattle.wasm_write.specs.Sections.{Sections, SectionRow, sections_bytes, module_bytes}
 use Rattle.reencode_hooks.specs.declared.error.Error.{Error}
 use Rattle.reencode_hooks.specs.declared.error.Error.TheVariants.{NoMemory}
+use Rattle.reencode_hooks.specs.Hooks.{HasTooLarge}
 use Rattle.reencode_hooks.specs.Run.{Step, accepted, refused}
-use Rattle.reencode_hooks.specs.Walk.{announced}
+use Rattle.reencode_hooks.specs.Walk.{announced, followed, walk}
 use Rattle.reencode_core.specs.Rows.{Asks}
 use Rattle.reencode_core.specs.Core.{onto}
-use Rattle.reencode_core.specs.Weave.{Puts, added, put_before, weave, weave_from}
+use Rattle.reencode_core.specs.Weave.{Puts, added, put_before, put_behind, weave, weave_from}
 use Rattle.reencode_core.specs.Woven.{IsOwn, OwnNext, OwnTooLarge, IsWovenCause, StopsNext, StopsWoven, GivesWoven, GivesWovenBytes}
 use Rattle.reencode_core.proofs.AddsNothing.{none_own}
 
@@ -49,7 +50,7 @@ first_begins {t = t} {others = others} {x = x} p = go p.shaped p.spelled
 module _ {S E : Type 0} (asked : Asks S E) (adds : Puts S SectionRow) where
   -- a section that the section hook puts something before stands in its frame
   own_next : (c : ℕ) (last : Option SectionId) (s : S) (t others : Tree) (x : List ℕ) (e : Error E) → Spells sections x (Tree.also t others) → IsOwn c (put_before adds s last t) e →
-      OwnNext adds c last s x e
+      OwnNext asked adds c last s x e
   own_next c last s t others x e p own = go f.1 f.2 own
     where
       b : (left : List ℕ) × Begins section x t left
@@ -58,10 +59,38 @@ module _ {S E : Type 0} (asked : Asks S E) (adds : Puts S SectionRow) where
       f : (f : Tree) × InFrame t f × Spells frame b.1.text f
       f = in_frame t b.1.text b.1.spells.shaped b.1.spells.spelled
 
-      go : {u g : Tree} → InFrame u g → Spells frame b.1.text g → IsOwn c (put_before adds s last u) e → OwnNext adds c last s x e
-      go (InFrame.of_kind k u body low r) spells h = inr (k, body, b.0, record { text = b.1.text; spells = spells; reads = b.1.reads }, h)
+      go : {u g : Tree} → InFrame u g → Spells frame b.1.text g → IsOwn c (put_before adds s last u) e → OwnNext asked adds c last s x e
+      go (InFrame.of_kind k u body low r) spells h = inr (k, body, b.0, record { text = b.1.text; spells = spells; reads = b.1.reads }, inl h)
       go (InFrame.of_custom name contents u r) spells h = absurd (none_own c [] e refl h)
       go (InFrame.of_unknown id contents low high) spells h = absurd (none_own c [] e refl h)
+
+  -- and so does one that the closing hook puts something behind
+  behind_next : (c : ℕ) (last : Option SectionId) (s n l : S) (t others made : Tree) (x : List ℕ) (e : Error E) → Spells sections x (Tree.also t others) → announced asked s last t ≡ accepted 0 n →
+      ((size : ℕ) → ¬ HasTooLarge c (put_before adds s last t) size) → walk asked c n t ≡ accepted made l → IsOwn c (put_behind adds l t) e → OwnNext asked adds c last s x e
+  behind_next c last s n l t others made x e p told fits walked own = go f.1 f.2 told fits walked own
+    where
+      b : (left : List ℕ) × Begins section x t left
+      b = first_begins p
+
+      f : (f : Tree) × InFrame t f × Spells frame b.1.text f
+      f = in_frame t b.1.text b.1.spells.shaped b.1.spells.spelled
+
+      go : {u g : Tree} → InFrame u g → Spells frame b.1.text g → announced asked s last u ≡ accepted 0 n → ((size : ℕ) → ¬ HasTooLarge c (put_before adds s last u) size) → walk asked c n u ≡ accepted made l →
+          IsOwn c (put_behind adds l u) e → OwnNext asked adds c last s x e
+      go (InFrame.of_kind k u body low r) spells told fits walked h =
+          inr (k, body, b.0, record { text = b.1.text; spells = spells; reads = b.1.reads }, inr (record {
+            from = n;
+            told = told;
+            fits = fits;
+            tree = tree_of k u;
+            there = InFrame.of_kind k u body low r;
+            made = made;
+            at = l;
+            walked = walked;
+            own = h;
+          }))
+      go (InFrame.of_custom name contents u r) spells told fits walked h = absurd (none_own c [] e refl h)
+      go (InFrame.of_unknown id contents low high) spells told fits walked h = absurd (none_own c [] e refl h)
 
   -- the walk stops where its sections do, or a section that the hook was to add is too large
   sections_stopped : (c : ℕ) (s m : S) (bytes : List ℕ) (t : Tree) (old new : Sections) (e : Error E) → CoreReading bytes t → StopsWoven asked adds c (s, old) t (m, new) e → e ≢ NoMemory →
@@ -69,7 +98,7 @@ module _ {S E : Type 0} (asked : Asks S E) (adds : Puts S SectionRow) where
   sections_stopped c s m bytes t old new e r g other = go g.others g.parts g.stops
     where
       -- the sections before
-      large : (y z : List ℕ) → r.rest ≡ y ++ z → Spells sections y (alsos g.read Tree.finish) → OwnNext adds c g.last g.at z e → OwnTooLarge asked adds c bytes s e
+      large : (y z : List ℕ) → r.rest ≡ y ++ z → Spells sections y (alsos g.read Tree.finish) → OwnNext asked adds c g.last g.at z e → OwnTooLarge asked adds c bytes s e
       large y z parts spells own = record {
         front = record {
           read = g.read;
@@ -93,7 +122,7 @@ module _ {S E : Type 0} (asked : Asks S E) (adds : Puts S SectionRow) where
       refuses : (u : Tree) → t ≡ alsos g.read u → weave_from asked (added adds) c g.last g.at u ≡ refused e m → weave asked (added adds) c s t ≡ refused e m
       refuses u is step = rw is (g.weaves u ∙ ap (λ (w : Step S (Error E) Tree). onto g.made w) step)
 
-      hook : {A : Type 0} (u : Tree) (own : List SectionRow) (step : Step S (Error E) A) → t ≡ alsos g.read u → (IsOwn c own e → (z : List ℕ) → Spells sections z u → OwnNext adds c g.last g.at z e) →
+      hook : {A : Type 0} (u : Tree) (own : List SectionRow) (step : Step S (Error E) A) → t ≡ alsos g.read u → (IsOwn c own e → (z : List ℕ) → Spells sections z u → OwnNext asked adds c g.last g.at z e) →
           (step ≡ refused e m → weave_from asked (added adds) c g.last g.at u ≡ refused e m) → IsOwn c own e ⊎ (step ≡ refused e m) →
           OwnTooLarge asked adds c bytes s e ⊎ (weave asked (added adds) c s t ≡ refused e m)
       hook u own step is next walks (inl x) = let p = parts_read g.read u r.rest (behind u is) in inl (large p.0 p.1 p.2 p.3 (next x p.1 p.4))
@@ -105,7 +134,9 @@ module _ {S E : Type 0} (asked : Asks S E) (adds : Puts S SectionRow) where
       go : (u : Tree) → t ≡ alsos g.read u → StopsNext asked adds c g.last g.at u g.part e m → OwnTooLarge asked adds c bytes s e ⊎ (weave asked (added adds) c s t ≡ refused e m)
       go (Tree.also v others) is (inl h) =
           hook (Tree.also v others) (put_before adds g.at g.last v) (announced asked g.at g.last v) is (λ x z p. own_next c g.last g.at v others z e p x) (λ step. rw step refl) (h.1 other)
-      go (Tree.also v others) is (inr h) = inr (refuses (Tree.also v others) is (rw (h.1, h.3 other) refl))
+      go (Tree.also v others) is (inr (n, told, inl h)) = inr (refuses (Tree.also v others) is (rw (told, h.1 other) refl))
+      go (Tree.also v others) is (inr (n, told, inr h)) =
+          hook (Tree.also v others) (put_behind adds h.1 v) (followed asked h.1 v) is (λ x z p. behind_next c g.last g.at n h.1 v others h.0 z e p told h.7 h.4 x) (λ step. rw (told, h.4, step) refl) (h.8.1 other)
       go Tree.finish is h =
           hook Tree.finish (adds g.at (Section g.last None)) (asked g.at (Section g.last None)) is (λ x z p. inl (at_end z p, x)) (λ step. rw step refl) (h.1 other)
       go _ is h = absurd h

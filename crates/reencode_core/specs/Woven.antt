@@ -35,13 +35,13 @@ pub record IsPart (part own : List SectionRow) : Type 0 where
 abbrev pub StopsHook : {S E A : Type 0} → ℕ → List SectionRow → List SectionRow → Step S (Error E) A → Error E → S → Type 0
 StopsHook c own part step e m = IsPart part own × (e ≢ NoMemory → IsOwn c own e ⊎ (step ≡ refused e m))
 
--- A section was refused behind what the section hook added before it; or it was accepted and stands there too, and the closing hook
--- refused, with a front part of what it adds behind it.
+-- A section was refused behind what the section hook added before it; or that fits, it was accepted and stands there too, and the
+-- closing hook refused, with a front part of what it adds behind it.
 abbrev pub StopsBehind : {S E : Type 0} → Asks S E → Puts S SectionRow → ℕ → S → Tree → List SectionRow → List SectionRow → Error E → S → Type 0
 StopsBehind {S} asked adds c s t own part e m =
     ((part ≡ own) × (e ≢ NoMemory → walk asked c s t ≡ refused e m))
     ⊎ ((u : Tree) × (n : S) × (row : SectionRow) × (more : List SectionRow) × (walk asked c s t ≡ accepted u n) × (section_bytes row ≡ normal u)
-    × (part ≡ own ++ row ∷ more) × StopsHook c (put_behind adds n t) more (followed asked n t) e m)
+    × (part ≡ own ++ row ∷ more) × ((size : ℕ) → ¬ HasTooLarge c own size) × StopsHook c (put_behind adds n t) more (followed asked n t) e m)
 
 -- The section hook refused; or it accepted, all that it adds stands, and the section behind it was refused, or the closing hook.
 abbrev pub StopsHooked : {S E : Type 0} → Asks S E → Puts S SectionRow → ℕ → Option SectionId → S → Tree → List SectionRow → Error E → S → Type 0

@@ -44,6 +44,16 @@ macro_rules! ask {
     };
 }
 
+// Asks whether a section hook is refused.
+macro_rules! ask_hook {
+    ($reencoder:ident, $visit:expr) => {
+        match $reencoder.answer($visit) {
+            Ok(_) => Ok(()),
+            Err(refusal) => Err(Error::UserError(refusal)),
+        }
+    };
+}
+
 impl<T: AnswerVisits> ReencodeIndices for T {
     ghost use Rattle.std.specs.Prelude.{true, [], refl};
 
@@ -107,10 +117,7 @@ impl<T: AnswerVisits> ReencodeIndices for T {
         after: Option<SectionId>,
         before: Option<SectionId>,
     ) -> Result<(), Error<<T as AnswerVisits>::Error>> {
-        match self.answer(Visit::Section(after, before)) {
-            Ok(_) => Ok(()),
-            Err(refusal) => Err(Error::UserError(refusal)),
-        }
+        ask_hook!(self, Visit::Section(after, before))
     }
 
     fn close_section_hook(
@@ -118,9 +125,6 @@ impl<T: AnswerVisits> ReencodeIndices for T {
         _module: &mut Module,
         section: SectionId,
     ) -> Result<(), Error<<T as AnswerVisits>::Error>> {
-        match self.answer(Visit::Closed(section)) {
-            Ok(_) => Ok(()),
-            Err(refusal) => Err(Error::UserError(refusal)),
-        }
+        ask_hook!(self, Visit::Closed(section))
     }
 }

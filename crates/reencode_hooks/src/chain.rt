@@ -113,6 +113,19 @@ macro_rules! ask_both {
     };
 }
 
+// Calls a section hook of `a`, and then that of `b`.
+macro_rules! call_both {
+    ($chain:ident, $hook:ident, $module:ident, $($kind:ident),+) => {
+        match $chain.a.$hook($module, $($kind),+) {
+            Ok(()) => match $chain.b.$hook($module, $($kind),+) {
+                Ok(()) => Ok(()),
+                Err(e) => Err(second(e)),
+            },
+            Err(e) => Err(first(e)),
+        }
+    };
+}
+
 impl<A: ReencodeIndices, B: ReencodeIndices> ReencodeIndices for Chain<A, B> {
     type Error = ChainError<A::Error, B::Error>;
 
@@ -174,13 +187,7 @@ impl<A: ReencodeIndices, B: ReencodeIndices> ReencodeIndices for Chain<A, B> {
         after: Option<SectionId>,
         before: Option<SectionId>,
     ) -> Result<(), Error<ChainError<A::Error, B::Error>>> {
-        match self.a.intersperse_section_hook(module, after, before) {
-            Ok(()) => match self.b.intersperse_section_hook(module, after, before) {
-                Ok(()) => Ok(()),
-                Err(e) => Err(second(e)),
-            },
-            Err(e) => Err(first(e)),
-        }
+        call_both!(self, intersperse_section_hook, module, after, before)
     }
 
     fn close_section_hook(
@@ -188,12 +195,6 @@ impl<A: ReencodeIndices, B: ReencodeIndices> ReencodeIndices for Chain<A, B> {
         module: &mut Module,
         section: SectionId,
     ) -> Result<(), Error<ChainError<A::Error, B::Error>>> {
-        match self.a.close_section_hook(module, section) {
-            Ok(()) => match self.b.close_section_hook(module, section) {
-                Ok(()) => Ok(()),
-                Err(e) => Err(second(e)),
-            },
-            Err(e) => Err(first(e)),
-        }
+        call_both!(self, close_section_hook, module, section)
     }
 }

@@ -6,10 +6,11 @@ use Rattle.wasm_shapes.specs.declared.SectionId.{SectionId}
 use Rattle.wasm_shapes.specs.declared.Space.TheVariants as space
 use Rattle.wasm_shapes.specs.declared.Visit.{Visit}
 use Rattle.wasm_shapes.specs.declared.Visit.TheVariants.{Index, Pop}
-use Rattle.wasm_shapes.specs.Tree.{Tree, Listed, count, kind, visits, visits_from, before, after, fill, aimed_at, typed, left_flag, aimed_flag}
+use Rattle.wasm_shapes.specs.Tree as trees
+use Rattle.wasm_shapes.specs.Tree.{Tree, Listed, count, kind, visits, visits_from, before, after, past, fill, aimed_at, typed, left_flag, aimed_flag}
 use Rattle.reencode_laws.specs.Kept.{erased, Part, parts, typed_parts, section_of, row_of, items_of, operator_of, leaf_of, space_of, flags_in, BecomesFlag, flags_asked, flag_by, flags_by}
 use Rattle.reencode_laws.specs.Kept as statements
-use Rattle.reencode_laws.proofs.Twice.{drop_one_more, length-before, before-fill}
+use Rattle.reencode_laws.proofs.Twice.{drop_one_more, length-before, before-fill, behind-fill}
 
 -- two lists of parts side by side
 both : {x y x' y' : List Part} → x' ≡ x → y' ≡ y → x' ++ y' ≡ x ++ y
@@ -52,7 +53,7 @@ erased-fill (Tree.placed i o t) a =
     ap₂ (λ (y z : Tree). Tree.placed 0 y z) (erased-fill o (drop 1 a)) (erased-fill t (after o (drop 1 a)))
 erased-fill (Tree.told k t) a = ap (λ (z : Tree). Tree.told k z) (erased-fill t a)
 erased-fill (Tree.also t u) a =
-    let own = drop (length (before None t)) a in ap₂ Tree.also (erased-fill t own) (erased-fill u (after t own))
+    let own = drop (length (before None t)) a in ap₂ Tree.also (erased-fill t own) (erased-fill u (past t own))
 erased-fill _ a = refl
 
 -- ---- the parts of a tree without its indices
@@ -138,7 +139,7 @@ flags-fill (Tree.aimed w i o t) a = (stays, zip_both (flags_in o) _ (flags_in t)
 flags-fill (Tree.placed i o t) a = zip_both (flags_in o) _ (flags_in t) _ (flags-fill o (drop 1 a)) (flags-fill t (after o (drop 1 a)))
 flags-fill (Tree.told k t) a = flags-fill t a
 flags-fill (Tree.also t u) a =
-    let own = drop (length (before None t)) a in zip_both (flags_in t) _ (flags_in u) _ (flags-fill t own) (flags-fill u (after t own))
+    let own = drop (length (before None t)) a in zip_both (flags_in t) _ (flags_in u) _ (flags-fill t own) (flags-fill u (past t own))
 flags-fill _ a = tt
 
 -- ---- flags by the visits
@@ -175,9 +176,12 @@ flags-each l (Tree.aimed w i o t) =
 flags-each l (Tree.placed i o t) = ap suc (flags_length (visits o) (visits t) (flags_asked o) (flags_asked t) (flags-each None o) (flags-each None t))
 flags-each l (Tree.told k t) = flags-each None t
 flags-each l (Tree.also t u) =
-    flags_length (before l t) (visits t ++ visits_from (kind l t) u) (no_flags (before None t)) (flags_asked t ++ flags_asked u)
+    let others : List Visit = visits_from (kind l t) u in
+    let closing : List Visit = trees.behind t in
+    flags_length (before l t) (visits t ++ (closing ++ others)) (no_flags (before None t)) (flags_asked t ++ (no_flags closing ++ flags_asked u))
     (length-no_flags (before None t) ∙ length-before t None l)
-    (flags_length (visits t) (visits_from (kind l t) u) (flags_asked t) (flags_asked u) (flags-each None t) (flags-each (kind l t) u))
+    (flags_length (visits t) (closing ++ others) (flags_asked t) (no_flags closing ++ flags_asked u) (flags-each None t)
+    (flags_length closing others (no_flags closing) (flags_asked u) (length-no_flags closing) (flags-each (kind l t) u)))
 flags-each l _ = refl
 
 flags_by-append : (xs ys : List (Option ℕ)) (a : List ℕ) → flags_by (xs ++ ys) a ≡ flags_by xs a ++ flags_by ys (drop (length xs) a)
@@ -191,6 +195,12 @@ flags_by-append (Some f ∷ xs) ys a =
 flags_by-none : (vs : List Visit) (a : List ℕ) → flags_by (no_flags vs) a ≡ no_flags vs
 flags_by-none [] a = refl
 flags_by-none (v ∷ vs) a = ap (λ (z : List (Option ℕ)). None ∷ z) (flags_by-none vs (drop 1 a))
+
+-- the flags of what is visited behind visits that have none
+none_first : (vs : List Visit) (ys ys' : List (Option ℕ)) (a : List ℕ) → ys' ≡ flags_by ys (drop (length vs) a) → no_flags vs ++ ys' ≡ flags_by (no_flags vs ++ ys) a
+none_first vs ys ys' a q =
+    ap₂ (λ (x y : List (Option ℕ)). x ++ y) (sym (flags_by-none vs a)) (q ∙ ap (λ (n : ℕ). flags_by ys (drop n a)) (sym (length-no_flags vs)))
+    ∙ sym (flags_by-append (no_flags vs) ys a)
 
 -- the flags of a part and of what is visited behind it
 behind : (t : Tree) (xs' ys ys' : List (Option ℕ)) (a : List ℕ) → xs' ≡ flags_by (flags_asked t) a → ys' ≡ flags_by ys (after t a) → xs' ++ ys' ≡ flags_by (flags_asked t ++ ys) a
@@ -247,12 +257,17 @@ flags-become (Tree.placed i o t) a =
 flags-become (Tree.told k t) a = flags-become t a
 flags-become (Tree.also t u) a =
     let bs = before None t in
+    let closing = trees.behind t in
     let own = drop (length bs) a in
-    let past : drop (length (no_flags bs)) a ≡ own = ap (λ (n : ℕ). drop n a) (length-no_flags bs) in
-    ap₂ (λ (x y : List (Option ℕ)). x ++ y) (ap no_flags (before-fill None t own) ∙ sym (flags_by-none bs a))
-    (behind t (flags_asked (fill t own)) (flags_asked u) (flags_asked (fill u (after t own))) own (flags-become t own) (flags-become u (after t own))
-    ∙ ap (flags_by (flags_asked t ++ flags_asked u)) (sym past))
-    ∙ sym (flags_by-append (no_flags bs) (flags_asked t ++ flags_asked u) a)
+    let t' = fill t own in
+    let u' = fill u (past t own) in
+    let rest : List (Option ℕ) = no_flags closing ++ flags_asked u in
+    let rest' : List (Option ℕ) = no_flags (trees.behind t') ++ flags_asked u' in
+    ap (λ (vs : List Visit). no_flags vs ++ (flags_asked t' ++ rest')) (before-fill None t own)
+    ∙ none_first bs (flags_asked t ++ rest) (flags_asked t' ++ rest') a
+    (behind t (flags_asked t') rest rest' own (flags-become t own)
+    (ap (λ (vs : List Visit). no_flags vs ++ flags_asked u') (behind-fill t own)
+    ∙ none_first closing (flags_asked u) (flags_asked u') (after t own) (flags-become u (past t own))))
 flags-become _ a = refl
 
 pub keeps_parts : statements.KeepsParts

@@ -1,6 +1,6 @@
 -- The section visits of a reading are those of the kinds of its sections.
 use Rattle.std.proofs.Common.{◌≡◌, ◌≤◌, ◌<◌, lit≤, ◌⊎◌, inl, inr, ℕ, suc, List, [], ◌∷◌, ◌++◌, Bool, true, false, nat_eq, length, map, Option, Some, None, refl, sym, ap, ap₂, ◌∙◌, arith}
-use Rattle.std.specs.Prelude.{find, zip, cond}
+use Rattle.std.specs.Prelude.{find, flat_map, filter, zip, cond}
 use Rattle.std.specs.List.{concat, AllZip, cons_option}
 use Rattle.std.proofs.lemmas.List.Elements.{filter-append}
 use Rattle.std.proofs.lemmas.Bool.Decides.{Decides-eqb}
@@ -9,7 +9,7 @@ use Rattle.wasm_shapes.specs.declared.SectionId.TheVariants as id
 use Rattle.wasm_shapes.specs.declared.Visit.{Visit}
 use Rattle.wasm_shapes.specs.declared.Visit.TheVariants.{Section}
 use Rattle.wasm_shapes.specs.Tree as trees
-use Rattle.wasm_shapes.specs.Tree.{Tree, normal, visits, visits_from, before}
+use Rattle.wasm_shapes.specs.Tree.{Tree, normal, visits, visits_from, before, behind}
 use Rattle.wasm_shapes.specs.Spells.{Is, Spelled, Spells}
 use Rattle.wasm_shapes.specs.SectionTable.{number}
 use Rattle.wasm_shapes.specs.Module.{in_force, section, sections, core_header, alsos, CoreReading, InFrame}
@@ -17,7 +17,7 @@ use Rattle.wasm_shapes.proofs.SectionTable.{in_frame}
 use Rattle.wasm_shapes.proofs.Laws.{module_headed}
 use Rattle.reencode_hooks.specs.SectionVisits.{is_section, section_visits}
 use Rattle.reencode_hooks.proofs.SectionVisits.{within}
-use Rattle.reencode_laws.specs.SectionVisits.{HasSections, kind_of_id, kind_of_text, kinds_of_texts, SectionVisitsAre}
+use Rattle.reencode_laws.specs.SectionVisits.{HasSections, kind_of_id, kind_of_text, kinds_of_texts, closing, of_section_hook, of_closing_hook, SectionVisitsAre}
 
 -- ---- kinds by their ids
 
@@ -61,14 +61,14 @@ of_tree text t p = in_frame_of_tree text (in_frame t text p.shaped p.spelled).1 
 
 -- what is told of sections of these kinds, behind one of that kind
 abbrev told_behind : Option SectionId → List SectionId → List Visit
-told_behind last ks = map (λ p. Section p.0 p.1) (zip (last ∷ map Some ks) (map Some ks ++ None ∷ []))
+told_behind last ks = flat_map (λ p. Section p.0 p.1 ∷ closing p.1) (zip (last ∷ map Some ks) (map Some ks ++ None ∷ []))
 
--- before a section its kind is told, where it has one, and what is told behind it is told behind this kind
-before_is : (last : Option SectionId) (ks : List SectionId) {t f : Tree} → InFrame t f →
-    section_visits (before last t) ++ told_behind (trees.kind last t) ks ≡ told_behind last (cons_option (kind_of_text (normal t)) ks)
-before_is last ks (InFrame.of_kind k u body low r) = ap (λ (o : Option SectionId). told_behind last (cons_option o ks)) (sym (known k low))
-before_is last ks (InFrame.of_custom name contents u r) = refl
-before_is last ks (InFrame.of_unknown n contents low high) = ap (λ (o : Option SectionId). told_behind last (cons_option o ks)) (sym (above n low))
+-- before a section and behind it its kind is told, where it has one, and what is told then is told behind this kind
+round_is : (last : Option SectionId) (ks : List SectionId) {t f : Tree} → InFrame t f →
+    section_visits (before last t) ++ (section_visits (behind t) ++ told_behind (trees.kind last t) ks) ≡ told_behind last (cons_option (kind_of_text (normal t)) ks)
+round_is last ks (InFrame.of_kind k u body low r) = ap (λ (o : Option SectionId). told_behind last (cons_option o ks)) (sym (known k low))
+round_is last ks (InFrame.of_custom name contents u r) = refl
+round_is last ks (InFrame.of_unknown n contents low high) = ap (λ (o : Option SectionId). told_behind last (cons_option o ks)) (sym (above n low))
 
 told_from : (last : Option SectionId) (texts : List (List ℕ)) (ts : List Tree) → AllZip (Spells section) texts ts →
     section_visits (visits_from last (alsos ts Tree.finish)) ≡ told_behind last (kinds_of_texts texts)
@@ -76,16 +76,22 @@ told_from last [] [] all = refl
 told_from last [] (t ∷ ts) all = absurd all
 told_from last (x ∷ xs) [] all = absurd all
 told_from last (x ∷ xs) (t ∷ ts) all =
-    let behind = visits_from (trees.kind last t) (alsos ts Tree.finish) in
-    filter-append is_section (before last t) (visits t ++ behind)
+    let others = visits_from (trees.kind last t) (alsos ts Tree.finish) in
+    filter-append is_section (before last t) (visits t ++ (behind t ++ others))
     ∙ ap (λ (z : List Visit). section_visits (before last t) ++ z)
-    (filter-append is_section (visits t) behind ∙ ap₂ (λ (y z : List Visit). y ++ z) (within x t all.0) (told_from (trees.kind last t) xs ts all.1))
-    ∙ before_is last (kinds_of_texts xs) (in_frame t x all.0.shaped all.0.spelled).1
+    (filter-append is_section (visits t) (behind t ++ others)
+    ∙ ap₂ (λ (y z : List Visit). y ++ z) (within x t all.0)
+    (filter-append is_section (behind t) others ∙ ap (λ (z : List Visit). section_visits (behind t) ++ z) (told_from (trees.kind last t) xs ts all.1)))
+    ∙ round_is last (kinds_of_texts xs) (in_frame t x all.0.shaped all.0.spelled).1
     ∙ ap (λ (o : Option SectionId). told_behind last (cons_option o (kinds_of_texts xs))) (sym (of_tree x t all.0))
 
-one_more : (last : Option SectionId) (ks : List SectionId) → length (told_behind last ks) ≡ suc (length ks)
+one_more : (last : Option SectionId) (ks : List SectionId) → length (filter of_section_hook (told_behind last ks)) ≡ suc (length ks)
 one_more last [] = refl
 one_more last (k ∷ ks) = ap suc (one_more (Some k) ks)
+
+as_many : (last : Option SectionId) (ks : List SectionId) → length (filter of_closing_hook (told_behind last ks)) ≡ length ks
+as_many last [] = refl
+as_many last (k ∷ ks) = ap suc (as_many (Some k) ks)
 
 -- ---- the law
 
@@ -118,6 +124,7 @@ section_visits_are = record {
       let s = has_sections bytes b.0 b.2 in
       (b.0, s.0, b.1, s.1, ap (λ (u : Tree). section_visits (visits u)) b.1 ∙ told bytes b.0 s.0 s.1);
   one_more = one_more None;
+  as_many = as_many None;
   within = within;
   of_tree = of_tree;
   known = known;

@@ -4,7 +4,7 @@ use Rattle.wasm_shapes.specs.declared.SectionId.{SectionId}
 use Rattle.wasm_shapes.specs.declared.Space.TheVariants as space
 use Rattle.wasm_shapes.specs.declared.Visit.{Visit}
 use Rattle.wasm_shapes.specs.declared.Visit.TheVariants.{Index, Push, Pop}
-use Rattle.wasm_shapes.specs.Tree.{Tree, Listed, visits, visits_from, before, kind, after, fill, aimed_at, typed}
+use Rattle.wasm_shapes.specs.Tree.{Tree, Listed, visits, visits_from, before, behind, kind, after, past, fill, aimed_at, typed}
 use Rattle.wasm_shapes.specs.Own.{own}
 use Rattle.wasm_shapes.proofs.OwnAnswers.{fill_own}
 use Rattle.reencode_hooks.specs.Chains.{reindexed}
@@ -36,6 +36,11 @@ before-again l (Tree.row k t) a = before-again l t a
 before-again l (Tree.told k t) a = refl
 before-again l _ a = refl
 
+behind-again : (t : Tree) (a : List ℕ) → asked_again (behind t) a ≡ behind t
+behind-again (Tree.row k t) a = behind-again t a
+behind-again (Tree.told k t) a = refl
+behind-again _ a = refl
+
 pub length-before : (t : Tree) (l m : Option SectionId) → length (before l t) ≡ length (before m t)
 length-before (Tree.row k t) l m = length-before t l m
 length-before _ l m = refl
@@ -46,6 +51,10 @@ before-aimed_at : (l : Option SectionId) (w : Listed) (n : ℕ) (o t : Tree) →
 before-aimed_at l w zero o t = refl
 before-aimed_at l w (suc n) o t = refl
 
+behind-aimed_at : (w : Listed) (n : ℕ) (o t : Tree) → behind (aimed_at w n o t) ≡ []
+behind-aimed_at w zero o t = refl
+behind-aimed_at w (suc n) o t = refl
+
 kind-aimed_at : (l : Option SectionId) (w : Listed) (n : ℕ) (o t : Tree) → kind l (aimed_at w n o t) ≡ l
 kind-aimed_at l w zero o t = refl
 kind-aimed_at l w (suc n) o t = refl
@@ -54,6 +63,11 @@ pub before-fill : (l : Option SectionId) (t : Tree) (a : List ℕ) → before l 
 before-fill l (Tree.row k t) a = before-fill l t a
 before-fill l (Tree.left w o t) a = before-aimed_at l w (get_or (after t a) 0 0) (fill o (drop 1 (after t a))) (fill t a)
 before-fill l _ a = refl
+
+pub behind-fill : (t : Tree) (a : List ℕ) → behind (fill t a) ≡ behind t
+behind-fill (Tree.row k t) a = behind-fill t a
+behind-fill (Tree.left w o t) a = behind-aimed_at w (get_or (after t a) 0 0) (fill o (drop 1 (after t a))) (fill t a)
+behind-fill _ a = refl
 
 pub kind-fill : (l : Option SectionId) (t : Tree) (a : List ℕ) → kind l (fill t a) ≡ kind l t
 kind-fill l (Tree.row k t) a = kind-fill l t a
@@ -110,12 +124,17 @@ visits-fill l (Tree.placed i o t) a =
 visits-fill l (Tree.told k t) a = visits-fill None t a
 visits-fill l (Tree.also t u) a =
     let own = drop (length (before None t)) a in
-    let past : drop (length (before l t)) a ≡ own = ap (λ (n : ℕ). drop n a) (length-before t l None) in
-    both (before l t) (visits t ++ visits_from (kind l t) u) (before l (fill t own)) (visits (fill t own) ++ visits_from (kind l (fill t own)) (fill u (after t own))) a
+    let t' = fill t own in
+    let u' = fill u (past t own) in
+    let others : List Visit = visits_from (kind l t) u in
+    let begun : drop (length (before l t)) a ≡ own = ap (λ (n : ℕ). drop n a) (length-before t l None) in
+    both (before l t) (visits t ++ (behind t ++ others)) (before l t') (visits t' ++ (behind t' ++ visits_from (kind l t') u')) a
     (before-fill l t own ∙ sym (before-again l t a))
-    (ap (λ (k : Option SectionId). visits (fill t own) ++ visits_from k (fill u (after t own))) (kind-fill l t own)
-    ∙ both (visits t) (visits_from (kind l t) u) (visits (fill t own)) (visits_from (kind l t) (fill u (after t own))) own (visits-fill None t own) (visits-fill (kind l t) u (after t own))
-    ∙ ap (asked_again (visits t ++ visits_from (kind l t) u)) (sym past))
+    (ap (λ (k : Option SectionId). visits t' ++ (behind t' ++ visits_from k u')) (kind-fill l t own)
+    ∙ both (visits t) (behind t ++ others) (visits t') (behind t' ++ visits_from (kind l t) u') own (visits-fill None t own)
+    (both (behind t) others (behind t') (visits_from (kind l t) u') (after t own)
+    (behind-fill t own ∙ sym (behind-again t (after t own))) (visits-fill (kind l t) u (past t own)))
+    ∙ ap (asked_again (visits t ++ (behind t ++ others))) (sym begun))
 visits-fill l _ a = refl
 
 length-visits-fill : (t : Tree) (a : List ℕ) → length (visits (fill t a)) ≡ length (visits t)
@@ -123,6 +142,9 @@ length-visits-fill t a = ap length (visits-fill None t a) ∙ length-asked_again
 
 after-fill : (t : Tree) (a b : List ℕ) → after (fill t a) b ≡ after t b
 after-fill t a b = ap (λ (n : ℕ). drop n b) (length-visits-fill t a)
+
+past-fill : (t : Tree) (a b : List ℕ) → past (fill t a) b ≡ past t b
+past-fill t a b = ap₂ (λ (n : ℕ) (z : List ℕ). drop n z) (ap length (behind-fill t a)) (after-fill t a b)
 
 after-typed : (w : Listed) (t : Tree) (b : List ℕ) → after (typed w t) b ≡ after t b
 after-typed w t b = ap (λ (z : List Visit). drop (length z) b) (visits-typed w t)
@@ -238,9 +260,10 @@ fill-fill (Tree.also t u) a b =
     let p = drop n a in
     let q = drop n b in
     let same : (z : List ℕ) → length (before None (fill t z)) ≡ n = λ z. ap length (before-fill None t z) in
-    ap (λ (m : ℕ). Tree.also (fill (fill t p) (drop m b)) (fill (fill u (after t p)) (after (fill t p) (drop m b)))) (same p)
-    ∙ two t u Tree.also p q (fill-fill t p q) (fill-fill u (after t p) (after t q))
-    ∙ ap (λ (m : ℕ). Tree.also (written (fill t q) (drop m a)) (written (fill u (after t q)) (after (fill t q) (drop m a)))) (sym (same q))
+    ap (λ (m : ℕ). Tree.also (fill (fill t p) (drop m b)) (fill (fill u (past t p)) (past (fill t p) (drop m b)))) (same p)
+    ∙ ap₂ Tree.also (fill-fill t p q)
+    (ap (fill (fill u (past t p))) (past-fill t p q) ∙ fill-fill u (past t p) (past t q) ∙ ap (written (fill u (past t q))) (sym (past-fill t q p)))
+    ∙ ap (λ (m : ℕ). Tree.also (written (fill t q) (drop m a)) (written (fill u (past t q)) (past (fill t q) (drop m a)))) (sym (same q))
 fill-fill _ a b = refl
 
 -- ---- where the first answers keep the table 0
@@ -301,12 +324,14 @@ kept l (Tree.also t u) a b h =
     let n = length (before None t) in
     let p = drop n a in
     let q = drop n b in
-    let past : drop (length (before l t)) a ≡ p = ap (λ (m : ℕ). drop m a) (length-before t l None) in
-    let P : List ℕ → Type 0 = KeepsFirstTable (visits t ++ visits_from (kind l t) u) in
-    let rest = subst P past (keeps_split (before l t) (visits t ++ visits_from (kind l t) u) a h).1 in
-    let k = keeps_split (visits t) (visits_from (kind l t) u) p rest in
-    ap (λ (m : ℕ). Tree.also (written (fill t q) (drop m a)) (written (fill u (after t q)) (after (fill t q) (drop m a)))) (ap length (before-fill None t q))
-    ∙ two_kept t u Tree.also p q (after t q) (kept None t p q k.0) (kept (kind l t) u (after t p) (after t q) k.1)
+    let begun : drop (length (before l t)) a ≡ p = ap (λ (m : ℕ). drop m a) (length-before t l None) in
+    let others : List Visit = visits_from (kind l t) u in
+    let P : List ℕ → Type 0 = KeepsFirstTable (visits t ++ (behind t ++ others)) in
+    let rest = subst P begun (keeps_split (before l t) (visits t ++ (behind t ++ others)) a h).1 in
+    let k = keeps_split (visits t) (behind t ++ others) p rest in
+    let later = (keeps_split (behind t) others (after t p) k.1).1 in
+    ap (λ (m : ℕ). Tree.also (written (fill t q) (drop m a)) (written (fill u (past t q)) (past (fill t q) (drop m a)))) (ap length (before-fill None t q))
+    ∙ ap₂ Tree.also (kept None t p q k.0) (ap (written (fill u (past t q))) (past-fill t q p) ∙ kept (kind l t) u (past t p) (past t q) later)
 kept l _ a b h = refl
 
 pub filled_twice : statements.FilledTwice

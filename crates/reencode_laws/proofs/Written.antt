@@ -2,7 +2,7 @@
 use Rattle.std.proofs.Common.{◌≡◌, ◌≤◌, ◌+◌, ℕ, zero, suc, List, [], ◌∷◌, ◌++◌, length, drop, get_or, None, refl, sym, ap, subst, All, arith, length-append}
 use Rattle.std.proofs.lemmas.List.Elements.{All-nil, All-cons, All-append, All-head, All-tail}
 use Rattle.wasm_leb.specs.Leb.{leb}
-use Rattle.wasm_shapes.specs.Tree.{Tree, Listed, count, normal, frames, before, after, typed, kind_bytes, final_bytes, left_flag, aimed_flag, placed_bytes, code_bytes}
+use Rattle.wasm_shapes.specs.Tree.{Tree, Listed, count, normal, frames, before, after, past, typed, kind_bytes, final_bytes, left_flag, aimed_flag, placed_bytes, code_bytes}
 use Rattle.wasm_shapes.specs.Fits.{Fits}
 use Rattle.reencode_laws.specs.Chained.{written_at, written}
 use Rattle.wasm_write.proofs.Shorter.{leb_shorter}
@@ -85,7 +85,7 @@ longer (Tree.placed i o t) a =
     both (placed_bytes i) (normal o ++ normal t) (placed_bytes i) (normal (written o (drop 1 a)) ++ normal (written t (after o (drop 1 a)))) (omega arith)
     (both (normal o) (normal t) (normal (written o (drop 1 a))) (normal (written t (after o (drop 1 a)))) (longer o (drop 1 a)) (longer t (after o (drop 1 a))))
 longer (Tree.told k t) a = longer t a
-longer (Tree.also t u) a = let own = drop (length (before None t)) a in both (normal t) (normal u) _ _ (longer t own) (longer u (after t own))
+longer (Tree.also t u) a = let own = drop (length (before None t)) a in both (normal t) (normal u) _ _ (longer t own) (longer u (past t own))
 longer _ a = omega arith
 
 -- ---- frames
@@ -136,5 +136,5 @@ fits c (Tree.left w o t) a h =
 fits c (Tree.aimed w i o t) a h = two c (frames o) (frames t) _ _ (fits c o (drop 1 (after t a))) (fits c t a) h
 fits c (Tree.placed i o t) a h = two c (frames o) (frames t) _ _ (fits c o (drop 1 a)) (fits c t (after o (drop 1 a))) h
 fits c (Tree.told k t) a h = fits c t a h
-fits c (Tree.also t u) a h = let own = drop (length (before None t)) a in two c (frames t) (frames u) _ _ (fits c t own) (fits c u (after t own)) h
+fits c (Tree.also t u) a h = let own = drop (length (before None t)) a in two c (frames t) (frames u) _ _ (fits c t own) (fits c u (past t own)) h
 fits c _ a h = h

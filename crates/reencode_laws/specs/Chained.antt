@@ -3,7 +3,7 @@ use Rattle.std.specs.Prelude.{◌≡◌, ◌≤◌, ◌-◌, ◌^◌, ◌∷◌,
 use Rattle.wasm_shapes.specs.declared.Space.TheVariants as space
 use Rattle.wasm_shapes.specs.declared.Visit.{Visit}
 use Rattle.wasm_shapes.specs.declared.Visit.TheVariants.{Index}
-use Rattle.wasm_shapes.specs.Tree.{Tree, Listed, visits, before, after, fill, typed, normal}
+use Rattle.wasm_shapes.specs.Tree.{Tree, Listed, visits, before, after, past, fill, typed, normal}
 use Rattle.wasm_shapes.specs.Own.{own}
 use Rattle.wasm_shapes.specs.Shape.{Shape}
 use Rattle.wasm_shapes.specs.Sound.{sound}
@@ -46,7 +46,7 @@ written (Tree.aimed w i o t) answers = Tree.aimed w i (written o (drop 1 (after 
 written (Tree.placed i o t) answers = Tree.placed i (written o (drop 1 answers)) (written t (after o (drop 1 answers)))
 written (Tree.told k t) answers = Tree.told k (written t answers)
 written (Tree.also t u) answers =
-    let own = drop (length (before None t)) answers in Tree.also (written t own) (written u (after t own))
+    let own = drop (length (before None t)) answers in Tree.also (written t own) (written u (past t own))
 written t answers = t
 
 -- the visits, each asked with the answer to it

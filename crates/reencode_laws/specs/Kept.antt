@@ -6,7 +6,7 @@ use Rattle.wasm_shapes.specs.declared.Space.{Space}
 use Rattle.wasm_shapes.specs.declared.Space.TheVariants as space
 use Rattle.wasm_shapes.specs.declared.Visit.{Visit}
 use Rattle.wasm_shapes.specs.Operators.{Code}
-use Rattle.wasm_shapes.specs.Tree.{Tree, Listed, count, kind, before, visits, fill, typed, left_flag, aimed_flag}
+use Rattle.wasm_shapes.specs.Tree.{Tree, Listed, count, kind, before, behind, visits, fill, typed, left_flag, aimed_flag}
 
 -- ---- a tree without its indices
 
@@ -193,7 +193,8 @@ flags_asked (Tree.aimed w i o t) = flags_asked t ++ (Some (aimed_flag w) ∷ fla
 flags_asked (Tree.placed i o t) = None ∷ (flags_asked o ++ flags_asked t)
 flags_asked (Tree.told k t) = flags_asked t
 flags_asked Tree.finish = None ∷ []
-flags_asked (Tree.also t u) = map (λ (v : Visit). None) (before None t) ++ (flags_asked t ++ flags_asked u)
+flags_asked (Tree.also t u) =
+    map (λ (v : Visit). None) (before None t) ++ (flags_asked t ++ (map (λ (v : Visit). None) (behind t) ++ flags_asked u))
 flags_asked _ = []
 
 -- what a flag becomes by the answer to the visit of its table: 0 and 4, which leave the table out, become 2 and 6 where this is not 0

@@ -1,9 +1,9 @@
--- The law of section visits: what the section hook is told on the walk over a core module.
-use Rattle.std.specs.Prelude.{◌≡◌, ◌≤◌, ◌<◌, ◌⊎◌, ℕ, suc, List, [], ◌∷◌, ◌++◌, nat_eq, length, map, find, filter_map, zip, Option, Some, None}
+-- The law of section visits: what the section hook and the closing hook are told on the walk over a core module.
+use Rattle.std.specs.Prelude.{◌≡◌, ◌≤◌, ◌<◌, ◌⊎◌, ℕ, suc, List, [], ◌∷◌, ◌++◌, Bool, true, false, nat_eq, length, map, find, filter_map, flat_map, filter, zip, Option, Some, None}
 use Rattle.std.specs.List.{concat, AllZip}
 use Rattle.wasm_shapes.specs.declared.SectionId.{SectionId}
 use Rattle.wasm_shapes.specs.declared.Visit.{Visit}
-use Rattle.wasm_shapes.specs.declared.Visit.TheVariants.{Section}
+use Rattle.wasm_shapes.specs.declared.Visit.TheVariants.{Section, Closed}
 use Rattle.wasm_shapes.specs.Tree.{Tree, normal, visits}
 use Rattle.wasm_shapes.specs.Spells.{Spells}
 use Rattle.wasm_shapes.specs.SectionTable.{number}
@@ -32,11 +32,26 @@ kind_of_text (id ∷ behind) = kind_of_id id
 abbrev pub kinds_of_texts : List (List ℕ) → List SectionId
 kinds_of_texts texts = filter_map kind_of_text texts
 
--- ---- what the section hook is told
+-- ---- what the two hooks are told
 
--- What is told of sections of these kinds: of each, the kind before it and its own, and at the end the last. With none it is one visit, of no kinds.
+-- what the closing hook is told behind a section of this kind; where there is no section, which is at the end, it is told nothing
+abbrev pub closing : Option SectionId → List Visit
+closing None = []
+closing (Some k) = Closed k ∷ []
+
+-- What is told of sections of these kinds: before each the section hook is told the kind before it and its own, and behind it the
+-- closing hook its own; at the end the section hook is told the last. With none it is one visit, of no kinds.
 abbrev pub visits_of_kinds : List SectionId → List Visit
-visits_of_kinds ks = map (λ p. Section p.0 p.1) (zip (None ∷ map Some ks) (map Some ks ++ None ∷ []))
+visits_of_kinds ks = flat_map (λ p. Section p.0 p.1 ∷ closing p.1) (zip (None ∷ map Some ks) (map Some ks ++ None ∷ []))
+
+-- whether it is the section hook that is asked, and whether it is the closing hook
+abbrev pub of_section_hook : Visit → Bool
+of_section_hook (Section last next) = true
+of_section_hook _ = false
+
+abbrev pub of_closing_hook : Visit → Bool
+of_closing_hook (Closed kind) = true
+of_closing_hook _ = false
 
 -- ---- the law
 
@@ -48,9 +63,10 @@ pub record SectionVisitsAre : Type 0 where
   -- so it is with the tree of the whole module,
   pub whole : (bytes : List ℕ) (t : Tree) → Spells core_module bytes t →
       (u : Tree) × (texts : List (List ℕ)) × (t ≡ core_tree u) × HasSections bytes u texts × (section_visits (visits t) ≡ visits_of_kinds (kinds_of_texts texts))
-  -- and the visits are one more than the sections that have a kind.
-  pub one_more : (ks : List SectionId) → length (visits_of_kinds ks) ≡ suc (length ks)
-  -- Within a section there is none.
+  -- and the visits of the section hook are one more than the sections that have a kind, and those of the closing hook as many.
+  pub one_more : (ks : List SectionId) → length (filter of_section_hook (visits_of_kinds ks)) ≡ suc (length ks)
+  pub as_many : (ks : List SectionId) → length (filter of_closing_hook (visits_of_kinds ks)) ≡ length ks
+  -- Within a section there is neither.
   pub within : (text : List ℕ) (t : Tree) → Spells section text t → section_visits (visits t) ≡ []
   -- The kind of a section is that of its tree, however this is spelled.
   pub of_tree : (text : List ℕ) (t : Tree) → Spells section text t → kind_of_text text ≡ kind_of_text (normal t)

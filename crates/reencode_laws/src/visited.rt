@@ -3,7 +3,8 @@ ghost use Rattle.wasm_shapes.specs.Scopes.{AreBracketed};
 ghost use Rattle.reencode_laws.specs.SectionVisits.{SectionVisitsAre};
 
 /// In a reading of a core module with n sections of the ids 1 to 13 the section hook is asked n + 1 times: before each of these,
-/// with the kind of the one before it among them and its own, and at the end, with that of the last.
+/// with the kind of the one before it among them and its own, and at the end, with that of the last. The closing hook is asked n
+/// times: behind each of these, with its kind. Within a section neither is asked.
 #[tactic(auto, using(crate::proofs::SectionVisits::section_visits_are))]
 pub fn section_visits_are()
     ensures { SectionVisitsAre }

@@ -1,5 +1,6 @@
 use Rattle.std.proofs.Common.{refl}
-use Rattle.reencode_core.proofs.EachSection.{module_ended, module_headless, module_hook_refused, core_more, module_section_refused, module_unframed, custom_called, kind_called, sections_begun, unknown_called}
+use Rattle.reencode_core.specs.Woven.{AddedAt}
+use Rattle.reencode_core.proofs.EachSection.{module_closing_refused, module_ended, module_headless, module_hook_refused, core_closed, core_more, module_section_refused, module_unframed, custom_called, kind_called, sections_begun, unknown_called}
 use Rattle.reencode_core.proofs.Known.{frame_id}
 use Rattle.reencode_core.proofs.reencode.Reencode.parse_core_module.Goals as goal
 
@@ -21,12 +22,20 @@ returns-in_err-call_hook-in-Some-Section g c =
     module_hook_refused g.Self.ReencodeIndices keeps c.in_ok-payloads.ensures.ok c.sections.invariant c.in-Some-Section.id _ frame
     c.in_err-call_hook-in-Some-Section.ensures _ c.from_residual-in_err-call_hook-in-Some-Section.ensures.1
 
+pub returns-in_err-call_hook-in-Ok : goal.returns-in_err-call_hook-in-Ok
+returns-in_err-call_hook-in-Ok g c =
+    let keeps = g.met.Self.ReencodeIndices.adds_ok in
+    let frame = rw (c.in-Some-Section.is, c.in-Some-Section.field-0-is) at c.in_ok-id.ensures.some in
+    module_closing_refused g.Self.ReencodeIndices keeps c.in_ok-payloads.ensures.ok c.sections.invariant c.in-Some-Section.id _
+    (kind_called g.Self.ReencodeIndices keeps c.in_ok-payloads.ensures.ok c.sections.invariant c.in-Some-Section.id frame c.in_ok-call_hook-in-Some-Section.ensures c.in-Ok.ensures)
+    c.in_ok-call_hook-in-Some-Section.ensures c.in_err-call_hook-in-Ok.ensures _ c.from_residual-in_err-call_hook-in-Ok.ensures.1
+
 pub sections-preserved-in-Ok : goal.sections-preserved-in-Ok
 sections-preserved-in-Ok g c =
     let keeps = g.met.Self.ReencodeIndices.adds_ok in
     let frame = rw (c.in-Some-Section.is, c.in-Some-Section.field-0-is) at c.in_ok-id.ensures.some in
-    core_more g.Self.ReencodeIndices keeps c.in_ok-payloads.ensures.ok c.sections.invariant refl c.in_ok-id.ensures.len
-    (kind_called g.Self.ReencodeIndices keeps c.in_ok-payloads.ensures.ok c.sections.invariant c.in-Some-Section.id frame c.in_ok-call_hook-in-Some-Section.ensures c.in-Ok.ensures)
+    core_closed g.Self.ReencodeIndices keeps c.in_ok-payloads.ensures.ok c.sections.invariant c.in-Some-Section.id refl c.in_ok-id.ensures.len
+    (kind_called g.Self.ReencodeIndices keeps c.in_ok-payloads.ensures.ok c.sections.invariant c.in-Some-Section.id frame c.in_ok-call_hook-in-Some-Section.ensures c.in-Ok.ensures) c.in_ok-call_hook-in-Ok.ensures
 
 pub returns-in-Err : goal.returns-in-Err
 returns-in-Err g c =
@@ -41,7 +50,7 @@ sections-preserved-in-Ok-parse_custom_section g c =
     let keeps = g.met.Self.ReencodeIndices.adds_ok in
     let frame = rw (c.in-Some-Custom.is, c.in-Some-Custom.field-0-is) at c.in_ok-id.ensures.some in
     core_more g.Self.ReencodeIndices keeps c.in_ok-payloads.ensures.ok c.sections.invariant refl c.in_ok-id.ensures.len
-    (custom_called g.Self.ReencodeIndices keeps c.in_ok-payloads.ensures.ok c.sections.invariant frame c.in-Ok-parse_custom_section.ensures)
+    (custom_called g.Self.ReencodeIndices keeps c.in_ok-payloads.ensures.ok c.sections.invariant frame c.in-Ok-parse_custom_section.ensures) (AddedAt.custom _ _)
 
 pub returns-in-Err-parse_custom_section : goal.returns-in-Err-parse_custom_section
 returns-in-Err-parse_custom_section g c =
@@ -57,7 +66,7 @@ sections-preserved g c =
     let frame = rw (c.in-Some-Unknown.is, c.in-Some-Unknown.field-0-is) at c.in_ok-id.ensures.some in
     let low = rw (c.in-Some-Unknown.is, c.in-Some-Unknown.field-0-is) at c.in_ok-id.ensures.unknown in
     core_more g.Self.ReencodeIndices keeps c.in_ok-payloads.ensures.ok c.sections.invariant refl c.in_ok-id.ensures.len
-    (unknown_called g.Self.ReencodeIndices keeps c.in_ok-payloads.ensures.ok c.sections.invariant low frame c.in-Ok-parse_unknown_section.ensures)
+    (unknown_called g.Self.ReencodeIndices keeps c.in_ok-payloads.ensures.ok c.sections.invariant low frame c.in-Ok-parse_unknown_section.ensures) (AddedAt.unknown _ _ low)
 
 pub returns-in-Err-parse_unknown_section : goal.returns-in-Err-parse_unknown_section
 returns-in-Err-parse_unknown_section g c =
