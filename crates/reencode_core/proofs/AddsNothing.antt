@@ -10,7 +10,7 @@ use Rattle.reencode_hooks.specs.declared.error.Error.{Error}
 use Rattle.reencode_hooks.specs.declared.error.Error.TheVariants.{TooLarge, NoMemory}
 use Rattle.reencode_hooks.specs.Run.{Step, accepted, refused}
 use Rattle.reencode_hooks.specs.Walk.{walk, walk_from, announced, followed}
-use Rattle.reencode_hooks.specs.Hooks.{Gains, HasTooLarge, KeepsAdds, MayAdd}
+use Rattle.reencode_hooks.specs.Hooks.{HasTooLarge, KeepsAdds, MayAdd}
 use Rattle.reencode_core.specs.Rows.{Asks}
 use Rattle.reencode_core.specs.Core.{onto, AcceptsSections, RefusesNext, StopsSections, IsCause, GivesCore, GivesBytes}
 use Rattle.reencode_core.specs.Weave.{Puts, added, put_before, put_behind, weave, weave_from}
@@ -85,11 +85,10 @@ module _ {S E : Type 0} (asked : Asks S E) (adds : Puts S SectionRow) (none : (s
   behind_refused : (c : ℕ) (last : Option SectionId) (s n m : S) (t others : Tree) (part : List SectionRow) (e : Error E) → announced asked s last t ≡ accepted 0 n →
       StopsBehind asked adds c n t (put_before adds s last t) part e m → RefusesNext asked c last s (Tree.also t others) part e m
   behind_refused c last s n m t others part e told (inl h) = inl (h.0 ∙ before_none s last t, λ other. rw (told, h.1 other) refl)
-  behind_refused c last s n m t others part e told (inr h) =
-      let hook = hook_refused c (put_behind adds h.1 t) h.3 (followed asked h.1 t) e m (behind_none h.1 t) h.7 in
-      let whole : part ≡ h.2 ∷ [] = h.6 ∙ ap₂ (λ (xs ys : List SectionRow). xs ++ h.2 ∷ ys) (before_none s last t) hook.0 in
-      let one : sections_bytes (h.2 ∷ []) ≡ normal h.0 = append-nil (section_bytes h.2) ∙ h.5 in
-      inr (h.0, h.1, rw told h.4, ap sections_bytes whole ∙ one, hook.1)
+  behind_refused c last s n m t others part e told (inr (u, k, row, more, walked, spelled, parts, fits, hook)) =
+      let h = hook_refused c (put_behind adds k t) more (followed asked k t) e m (behind_none k t) hook in
+      let whole : part ≡ row ∷ [] = parts ∙ ap₂ (λ (xs ys : List SectionRow). xs ++ row ∷ ys) (before_none s last t) h.0 in
+      inr (u, k, rw told walked, ap sections_bytes whole ∙ append-nil (section_bytes row) ∙ spelled, h.1)
 
   next_refused : (c : ℕ) (last : Option SectionId) (s m : S) (u : Tree) (part : List SectionRow) (e : Error E) → StopsNext asked adds c last s u part e m →
       RefusesNext asked c last s u part e m
