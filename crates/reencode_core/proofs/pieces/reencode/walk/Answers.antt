@@ -8,7 +8,7 @@ use Rattle.reencode_core.proofs.Known.{frame_id}
 use Rattle.reencode_core.specs.Pieces.{Range}
 use Rattle.reencode_core.specs.Sinks.{KeepsKind, StandsAt}
 use Rattle.reencode_core.specs.Clauses.{asks}
-use Rattle.reencode_core.proofs.Ranges.{RangesDone, body_place, custom_not_code, kind_one, ranges_begun, ranges_end, ranges_more, unknown_not_code}
+use Rattle.reencode_core.proofs.Ranges.{body_place, custom_not_code, kind_one, ranges_begun, ranges_end, ranges_more, unknown_not_code}
 use Rattle.reencode_core.proofs.Standing.{section_stands, text_within}
 use Rattle.reencode_core.proofs.Walking.{behind_refused, between_ended, between_refused, hook_answered}
 use Rattle.reencode_core.proofs.pieces.reencode.walk.Goals as goal
@@ -181,12 +181,11 @@ sections-preserved-in-Ok g c =
       stands = (inv.stands.0 ++ frame.text, behind c.args.bytes.now inv.stands.0 _ frame.text _ inv.stands.1 frame.reads);
       ranges = λ d.
           let K : List Range → Type 0 = λ z. KeepsKind (asks g.R.ReencodeIndices) c.add_between.new.sink.sections.ceiling c.in-Some-Section.id c.saturating_sub-start.result c.in-Some-Section.body.now c.add_between.new.reencoder c.add_kind.new.reencoder z c.add_kind.new.sink.kept in
-          let L : List Range → Type 0 = λ z. RangesDone (asks g.R.ReencodeIndices) g.R.ReencodeIndices.adds _ _ _ _ _ _ _ _ z in
-          subst L (sym c.in_ok-add_between-in-Ok.ensures.ranges)
-          (ranges_more (asks g.R.ReencodeIndices) g.R.ReencodeIndices.adds _ c.sections.sink.kept c.add_kind.new.sink.kept (inv.ranges d) (call.reached d) call.put (call.gives d)
+          let L : List Range → Type 0 = λ z. KeepsKind (asks g.R.ReencodeIndices) c.add_between.new.sink.sections.ceiling c.in-Some-Section.id c.saturating_sub-start.result c.in-Some-Section.body.now c.add_between.new.reencoder c.add_kind.new.reencoder c.sections.sink.kept z in
+          ranges_more (asks g.R.ReencodeIndices) g.R.ReencodeIndices.adds _ c.sections.sink.kept c.add_between-in-Ok.new.sink.kept (inv.ranges d) (call.reached d) call.put (call.gives d)
           (record { own = g.R.ReencodeIndices.adds c.add_kind.new.reencoder (Closed c.in-Some-Section.id); gains = c.in_ok-add_between-in-Ok.ensures.answer.1; there = AddedAt.known c.in-Some-Section.id c.in-Some-Section.body.now c.add_between-in-Ok.new.reencoder c.in_ok-add_between-in-Ok.ensures.answer.0; fits = c.in_ok-add_between-in-Ok.ensures.fits })
-          (λ text x t u st rd i w. kind_one (asks g.R.ReencodeIndices) _ c.in-Some-Section.id _ _ c.saturating_sub-start.result (8 + length text) _ x _ c.in-Some-Section.body.now t u _ _ (subst K same_kept (e.ranges d)) i rd frame
-          (body_place c.args.bytes.now _ text _ x _ _ header.stands st rd end) w));
+          (λ text x t u st rd i w. kind_one (asks g.R.ReencodeIndices) _ c.in-Some-Section.id _ _ c.saturating_sub-start.result (8 + length text) _ x _ c.in-Some-Section.body.now t u _ _ (subst L (sym c.in_ok-add_between-in-Ok.ensures.ranges) (subst K same_kept (e.ranges d))) i rd frame
+          (body_place c.args.bytes.now _ text _ x _ _ header.stands st rd end) w);
     }
 
 pub returns-in-Err-clause-default : goal.returns-in-Err-clause-default
