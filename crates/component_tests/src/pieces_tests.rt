@@ -117,6 +117,14 @@ impl ReencodeIndices for Watching {
         self.note(module.len());
         Ok(())
     }
+
+    fn close_section_hook(
+        &mut self,
+        _module: &mut w::Module,
+        _section: SectionId,
+    ) -> Result<(), Error<u32>> {
+        Ok(())
+    }
 }
 
 impl DefaultItems for Watching {}

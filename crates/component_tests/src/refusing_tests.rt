@@ -43,7 +43,7 @@ fn is_refusable(visit: Visit) -> bool
 {
     match visit {
         Visit::Index(space, _) | Visit::Outer(space, _, _) => is_of_core(space),
-        Visit::Section(..) => true,
+        Visit::Section(..) | Visit::Closed(_) => true,
         Visit::Push | Visit::Pop => false,
     }
 }

@@ -19,9 +19,11 @@ struct Put<'a> {
 }
 
 impl<'a> SectionRule for Put<'a> {
-    ghost use Rattle.std.specs.Prelude.{codes};
+    ghost use Rattle.std.specs.Prelude.{codes, []};
 
     ghost sections = { λ s after before. put_at s.at (custom_row (codes "x") s.contents.now) before };
+
+    ghost behind = { λ _ _. [] };
 
     fn add_sections(
         &self,
@@ -35,6 +37,14 @@ impl<'a> SectionRule for Put<'a> {
                 contents: self.contents,
             })?;
         }
+        Ok(())
+    }
+
+    fn add_behind(
+        &self,
+        _module: &mut w::Module,
+        _section: SectionId,
+    ) -> Result<(), w::WriteFault> {
         Ok(())
     }
 }
@@ -123,7 +133,7 @@ impl ReencodeIndices for Refusing {
     ghost next = { λ s _. s };
 
     ghost adds = { λ _. at_section (λ after before.
-        put_at (Some Code) (custom_row (codes "x") []) before) };
+        put_at (Some Code) (custom_row (codes "x") []) before) (λ _. []) };
 
     ghost keeps_defaults = { true };
 
@@ -133,7 +143,7 @@ impl ReencodeIndices for Refusing {
 
     ghost answers_ok = { λ _ visit h. refuses_code-given visit h };
 
-    ghost adds_ok = { at_section-keeps _ };
+    ghost adds_ok = { at_section-keeps _ _ };
 
     fn data_index(&mut self, index: u32) -> Result<u32, Error<SectionId>> {
         Ok(index)
@@ -187,6 +197,14 @@ impl ReencodeIndices for Refusing {
             }
             _ => Ok(()),
         }
+    }
+
+    fn close_section_hook(
+        &mut self,
+        _module: &mut w::Module,
+        _section: SectionId,
+    ) -> Result<(), Error<SectionId>> {
+        Ok(())
     }
 }
 
