@@ -316,7 +316,7 @@ const CLOSED_TYPES: [u8; 26] = [
 ];
 
 /// The module with what a reencoder adds, and with the custom section `y` behind each section of a kind.
-fn closed<R: ReencodeComponentIndices>(
+fn closed<R: ReencodeComponentIndices + Drop>(
     alloc: Global,
     reencoder: R,
     behind: SectionId,

@@ -273,7 +273,7 @@ const CLOSED_EXPORTS: [u8; 47] = [
 ];
 
 /// The module with what a reencoder adds, and with the custom section `y` behind each section of a kind.
-fn closed<R: ReencodeIndices>(
+fn closed<R: ReencodeIndices + Drop>(
     alloc: Global,
     reencoder: R,
     behind: SectionId,
