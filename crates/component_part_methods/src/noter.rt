@@ -96,6 +96,7 @@ impl<K> AnswerVisits for Noter<K> {
             Visit::Index(space, _) => write!(self.notes, " {}_index", space.name()),
             Visit::Outer(space, _, _) => write!(self.notes, " outer_{}_index", space.name()),
             Visit::Section(_, _) => write!(self.notes, " intersperse_section_hook"),
+            Visit::Closed(_) => write!(self.notes, " close_section_hook"),
             Visit::Push => write!(self.notes, " push_depth"),
             Visit::Pop => write!(self.notes, " pop_depth"),
         };

@@ -1,18 +1,19 @@
 -- A reencoder of the tests that refuses one of its hook calls.
 use Rattle.std.specs.Prelude.{ℕ, ◌+◌, ◌-◌, ◌^◌, ◌≡◌, Bool, true, false, not, ◌&&◌, Result, Ok, Err, nat_eq, min, if◌then◌else◌, refl}
 use Rattle.wasm_shapes.specs.declared.Visit.{Visit}
-use Rattle.wasm_shapes.specs.declared.Visit.TheVariants.{Index, Outer, Section, Push, Pop}
+use Rattle.wasm_shapes.specs.declared.Visit.TheVariants.{Index, Outer, Section, Closed, Push, Pop}
 use Rattle.reencode_hooks.specs.Hooks.{IsAnswer, IsInRange, MayRefuse, index_of, index_of-given, is_of_components}
 
 -- the number of a call behind so many others
 abbrev pub next_call : ℕ → ℕ
 next_call calls = min (calls + 1) (2 ^ 32 - 1)
 
--- a visit that asks an index of a core module, also so many scopes further out, or that of the section hook
+-- a visit that asks an index of a core module, also so many scopes further out, or one of the two section hooks
 abbrev pub may_refuse : Visit → Bool
 may_refuse (Index s i) = not (is_of_components s)
 may_refuse (Outer s c i) = not (is_of_components s)
 may_refuse (Section after before) = true
+may_refuse (Closed kind) = true
 may_refuse _ = false
 
 -- an answer, or the number of the call where it is due
@@ -31,6 +32,7 @@ refusal_is : (v : Visit) → may_refuse v ≡ true → MayRefuse v
 refusal_is (Index s i) h = of_core (is_of_components s) h
 refusal_is (Outer s c i) h = of_core (is_of_components s) h
 refusal_is (Section after before) h = tt
+refusal_is (Closed kind) h = tt
 refusal_is Push h = absurd cc
 refusal_is Pop h = absurd cc
 

@@ -1,12 +1,14 @@
 //! Which way a whole core module goes.
 ghost use Rattle.std.specs.Prelude.{◌≡◌};
+ghost use Rattle.examples.specs.Marks.{custom_row};
+ghost use Rattle.component_tests.specs.Before.{before_code};
 
 use examples::Marks;
 use reencode_component::{
     DefaultComponent, DefaultComponentItems, DefaultComponentRows, ReencodeComponentIndices,
     reencode, reencode_within,
 };
-use reencode_core::{Adding, Reencode, reencode_core};
+use reencode_core::{Adding, Reencode, SectionRule, reencode_core};
 use reencode_hooks::{Error, ReencodeIndices, RoundtripReencoder};
 use reencode_items::DefaultItems;
 use std::alloc::Global;
@@ -15,11 +17,11 @@ use std::marker::Model;
 use wasm_shapes::SectionId;
 use wasm_write as w;
 
-/// Answers each index as it is, notes how long the module is that its section hook is handed, and refuses whole core modules.
+/// Answers each index as it is, notes how long the module is that either section hook is handed, and refuses whole core modules.
 #[derive(Drop)]
 struct Watching {
     calls: usize,
-    lens: [usize; 8],
+    lens: [usize; 9],
 }
 
 // What it noted is no part of what its answers depend on.
@@ -35,11 +37,11 @@ impl Watching {
     fn new() -> Watching {
         Watching {
             calls: 0,
-            lens: [0; 8],
+            lens: [0; 9],
         }
     }
 
-    /// Notes a length. The ninth and further ones go nowhere.
+    /// Notes a length. The tenth and further ones go nowhere.
     fn note(&mut self, len: usize)
         ensures { self.new ≡ self.old }
     {
@@ -113,6 +115,15 @@ impl ReencodeIndices for Watching {
         module: &mut w::Module,
         _after: Option<SectionId>,
         _before: Option<SectionId>,
+    ) -> Result<(), Error<u32>> {
+        self.note(module.len());
+        Ok(())
+    }
+
+    fn close_section_hook(
+        &mut self,
+        module: &mut w::Module,
+        _section: SectionId,
     ) -> Result<(), Error<u32>> {
         self.note(module.len());
         Ok(())
@@ -197,10 +208,11 @@ const MODULE: [u8; 39] = [
     0x00, 0x20, 0x00, 0x20, 0x01, 0x6a, 0x0b,
 ];
 
-/// Whether the module came out as it is, and the section hook was handed no section in each of its five calls.
+/// Whether the module came out as it is, and the section hook was handed no section in each of its five calls, nor the closing hook
+/// in each of its four.
 fn is_joined(joined: Result<Vec<u8>, Error<u32>>, watching: Watching) -> bool {
     let same = matches!(&joined, Ok(bytes) if bytes.as_slice() == MODULE.as_slice());
-    same && watching.calls == 5 && watching.lens == [0; 8]
+    same && watching.calls == 9 && watching.lens == [0; 9]
 }
 
 #[test]
@@ -239,5 +251,100 @@ fn sections_are_added_by_pieces(rt: HostRuntime) -> Result<(), Error<Infallible>
     };
     let bytes = reencode(rt.alloc(), &mut adding, &MODULE)?;
     assert!(rt; bytes.as_slice() == MARKED.as_slice());
+    Ok(())
+}
+
+/// Adds the empty custom section `x` before a section of code.
+#[derive(Clone, Copy)]
+struct BeforeCode;
+
+impl SectionRule for BeforeCode {
+    ghost use Rattle.std.specs.Prelude.{codes, []};
+
+    ghost sections = { λ _ after before. before_code (custom_row (codes "x") []) before };
+
+    ghost behind = { λ _ _. [] };
+
+    fn add_sections(
+        &self,
+        module: &mut w::Module,
+        _after: Option<SectionId>,
+        before: Option<SectionId>,
+    ) -> Result<(), w::WriteFault> {
+        match before {
+            Some(SectionId::Code) => module.section(&w::CustomSection {
+                name: "x",
+                contents: &[],
+            }),
+            _ => Ok(()),
+        }
+    }
+
+    fn add_behind(
+        &self,
+        _module: &mut w::Module,
+        _section: SectionId,
+    ) -> Result<(), w::WriteFault> {
+        Ok(())
+    }
+}
+
+/// The same module with the custom section `y` at its end.
+const CLOSED_CODE: [u8; 43] = [
+    0x00, 0x61, 0x73, 0x6d, 0x01, 0x00, 0x00, 0x00, 0x01, 0x07, 0x01, 0x60, 0x02, 0x7f, 0x7f, 0x01,
+    0x7f, 0x03, 0x02, 0x01, 0x00, 0x07, 0x05, 0x01, 0x01, 0x66, 0x00, 0x00, 0x0a, 0x09, 0x01, 0x07,
+    0x00, 0x20, 0x00, 0x20, 0x01, 0x6a, 0x0b, 0x00, 0x02, 0x01, 0x79,
+];
+
+/// The same module with `y` behind its exports, and `x` before its code.
+const CLOSED_EXPORTS: [u8; 47] = [
+    0x00, 0x61, 0x73, 0x6d, 0x01, 0x00, 0x00, 0x00, 0x01, 0x07, 0x01, 0x60, 0x02, 0x7f, 0x7f, 0x01,
+    0x7f, 0x03, 0x02, 0x01, 0x00, 0x07, 0x05, 0x01, 0x01, 0x66, 0x00, 0x00, 0x00, 0x02, 0x01, 0x79,
+    0x00, 0x02, 0x01, 0x78, 0x0a, 0x09, 0x01, 0x07, 0x00, 0x20, 0x00, 0x20, 0x01, 0x6a, 0x0b,
+];
+
+/// Two sections of types, which are empty, and the custom section `z` between them.
+const TYPES: [u8; 18] = [
+    0x00, 0x61, 0x73, 0x6d, 0x01, 0x00, 0x00, 0x00, 0x01, 0x01, 0x00, 0x00, 0x02, 0x01, 0x7a, 0x01,
+    0x01, 0x00,
+];
+
+/// The same with `y` directly behind each section of types.
+const CLOSED_TYPES: [u8; 26] = [
+    0x00, 0x61, 0x73, 0x6d, 0x01, 0x00, 0x00, 0x00, 0x01, 0x01, 0x00, 0x00, 0x02, 0x01, 0x79, 0x00,
+    0x02, 0x01, 0x7a, 0x01, 0x01, 0x00, 0x00, 0x02, 0x01, 0x79,
+];
+
+/// The module with what a reencoder adds, and with the custom section `y` behind each section of a kind.
+fn closed<R: ReencodeComponentIndices + Drop>(
+    alloc: Global,
+    reencoder: R,
+    behind: SectionId,
+    bytes: &[u8],
+) -> Result<Vec<u8>, Error<R::Error>> {
+    let mut adding = Adding {
+        reencoder,
+        sections: Marks {
+            behind,
+            name: "y",
+            contents: &[],
+        },
+    };
+    reencode(alloc, &mut adding, bytes)
+}
+
+#[test]
+fn sections_are_added_behind_by_pieces(rt: HostRuntime) -> Result<(), Error<Infallible>> {
+    let same = RoundtripReencoder;
+    let bytes = closed(rt.alloc(), same, SectionId::Code, &MODULE)?;
+    assert!(rt; bytes.as_slice() == CLOSED_CODE.as_slice());
+    let first = Adding {
+        reencoder: same,
+        sections: BeforeCode,
+    };
+    let bytes = closed(rt.alloc(), first, SectionId::Export, &MODULE)?;
+    assert!(rt; bytes.as_slice() == CLOSED_EXPORTS.as_slice());
+    let bytes = closed(rt.alloc(), same, SectionId::Type_, &TYPES)?;
+    assert!(rt; bytes.as_slice() == CLOSED_TYPES.as_slice());
     Ok(())
 }

@@ -43,7 +43,7 @@ fn is_refusable(visit: Visit) -> bool
 {
     match visit {
         Visit::Index(space, _) | Visit::Outer(space, _, _) => is_of_core(space),
-        Visit::Section(..) => true,
+        Visit::Section(..) | Visit::Closed(_) => true,
         Visit::Push | Visit::Pop => false,
     }
 }
@@ -101,8 +101,8 @@ const SCOPES: [u8; 75] = [
     0x05, 0x04, 0x02, 0x00, 0x03, 0x01, 0x05, 0x03, 0x08, 0x04, 0x07,
 ];
 
-/// The calls for it that may be refused, of 18: not where a scope begins or ends, nor for a type of the component.
-const REFUSABLE: [u32; 11] = [2, 3, 4, 5, 8, 10, 13, 15, 16, 17, 18];
+/// The calls for it that may be refused, of 20: not where a scope begins or ends, nor for a type of the component.
+const REFUSABLE: [u32; 13] = [2, 3, 4, 5, 6, 7, 10, 12, 15, 17, 18, 19, 20];
 
 /// How the re-encoding ends whose call of this number is refused, with the number of calls.
 fn refused_at(alloc: Global, at: u32) -> (Result<Vec<u8>, Error<u32>>, u32) {
@@ -113,14 +113,14 @@ fn refused_at(alloc: Global, at: u32) -> (Result<Vec<u8>, Error<u32>>, u32) {
 
 #[test]
 fn each_call_is_refused(rt: HostRuntime) {
-    for at in 1..12 {
+    for at in 1..19 {
         let (result, calls) = refused_at(rt.alloc(), at);
         let refused = matches!(result, Err(Error::UserError(e)) if e == at);
         assert!(rt; refused && calls == at, "{at}");
     }
-    let (result, calls) = refused_at(rt.alloc(), 12);
+    let (result, calls) = refused_at(rt.alloc(), 19);
     let made = matches!(&result, Ok(bytes) if bytes.as_slice() == MANY.as_slice());
-    assert!(rt; made && calls == 11);
+    assert!(rt; made && calls == 18);
 }
 
 /// The same of a component.
@@ -132,14 +132,14 @@ fn refused_inside(alloc: Global, at: u32) -> (Result<Vec<u8>, Error<u32>>, u32) 
 
 #[test]
 fn each_call_inside_scopes_is_refused(rt: HostRuntime) {
-    for at in 1..20 {
+    for at in 1..22 {
         let (result, calls) = refused_inside(rt.alloc(), at);
         if REFUSABLE.contains(&at) {
             let refused = matches!(result, Err(Error::UserError(e)) if e == at);
             assert!(rt; refused && calls == at, "{at}");
         } else {
             let made = matches!(&result, Ok(bytes) if bytes.as_slice() == SCOPES.as_slice());
-            assert!(rt; made && calls == 18, "{at}");
+            assert!(rt; made && calls == 20, "{at}");
         }
     }
 }

@@ -4,7 +4,7 @@ ghost use Rattle.library_tests.specs.Hooks.{put_at, refuses_code, refuses_code-g
 
 use crate::examples_tests::ADDS;
 use examples::{Marks, add_marks};
-use reencode_core::{Adding, Reencode, SectionRule};
+use reencode_core::{Adding, Reencode, SectionRule, reencode_core};
 use reencode_hooks::{Asked, Error, ReencodeIndices, Renamer, RoundtripReencoder, Unmapped};
 use std::alloc::Global;
 use std::convert::Infallible;
@@ -19,9 +19,11 @@ struct Put<'a> {
 }
 
 impl<'a> SectionRule for Put<'a> {
-    ghost use Rattle.std.specs.Prelude.{codes};
+    ghost use Rattle.std.specs.Prelude.{codes, []};
 
     ghost sections = { λ s after before. put_at s.at (custom_row (codes "x") s.contents.now) before };
+
+    ghost behind = { λ _ _. [] };
 
     fn add_sections(
         &self,
@@ -35,6 +37,14 @@ impl<'a> SectionRule for Put<'a> {
                 contents: self.contents,
             })?;
         }
+        Ok(())
+    }
+
+    fn add_behind(
+        &self,
+        _module: &mut w::Module,
+        _section: SectionId,
+    ) -> Result<(), w::WriteFault> {
         Ok(())
     }
 }
@@ -123,7 +133,7 @@ impl ReencodeIndices for Refusing {
     ghost next = { λ s _. s };
 
     ghost adds = { λ _. at_section (λ after before.
-        put_at (Some Code) (custom_row (codes "x") []) before) };
+        put_at (Some Code) (custom_row (codes "x") []) before) (λ _. []) };
 
     ghost keeps_defaults = { true };
 
@@ -133,7 +143,7 @@ impl ReencodeIndices for Refusing {
 
     ghost answers_ok = { λ _ visit h. refuses_code-given visit h };
 
-    ghost adds_ok = { at_section-keeps _ };
+    ghost adds_ok = { at_section-keeps _ _ };
 
     fn data_index(&mut self, index: u32) -> Result<u32, Error<SectionId>> {
         Ok(index)
@@ -188,6 +198,14 @@ impl ReencodeIndices for Refusing {
             _ => Ok(()),
         }
     }
+
+    fn close_section_hook(
+        &mut self,
+        _module: &mut w::Module,
+        _section: SectionId,
+    ) -> Result<(), Error<SectionId>> {
+        Ok(())
+    }
 }
 
 /// A start section, and what stands before the code in the module of two numbers, with the custom section `x` behind it.
@@ -228,11 +246,65 @@ fn a_section_is_too_large(rt: HostRuntime) -> Result<(), Error<Infallible>> {
     Ok(())
 }
 
-/// Two sections of types, which are empty, and the custom section `y` between them.
+/// Two sections of types, which are empty, and the custom section `z` between them.
 const TYPES: [u8; 18] = [
-    0x00, 0x61, 0x73, 0x6d, 0x01, 0x00, 0x00, 0x00, 0x01, 0x01, 0x00, 0x00, 0x02, 0x01, 0x79, 0x01,
+    0x00, 0x61, 0x73, 0x6d, 0x01, 0x00, 0x00, 0x00, 0x01, 0x01, 0x00, 0x00, 0x02, 0x01, 0x7a, 0x01,
     0x01, 0x00,
 ];
+
+/// The same with the custom section `y` directly behind each section of types.
+const CLOSED_TYPES: [u8; 26] = [
+    0x00, 0x61, 0x73, 0x6d, 0x01, 0x00, 0x00, 0x00, 0x01, 0x01, 0x00, 0x00, 0x02, 0x01, 0x79, 0x00,
+    0x02, 0x01, 0x7a, 0x01, 0x01, 0x00, 0x00, 0x02, 0x01, 0x79,
+];
+
+/// The module of two numbers with the custom section `y` at its end.
+const CLOSED_CODE: [u8; 43] = [
+    0x00, 0x61, 0x73, 0x6d, 0x01, 0x00, 0x00, 0x00, 0x01, 0x07, 0x01, 0x60, 0x02, 0x7f, 0x7f, 0x01,
+    0x7f, 0x03, 0x02, 0x01, 0x00, 0x07, 0x05, 0x01, 0x01, 0x66, 0x00, 0x00, 0x0a, 0x09, 0x01, 0x07,
+    0x00, 0x20, 0x00, 0x20, 0x01, 0x6a, 0x0b, 0x00, 0x02, 0x01, 0x79,
+];
+
+/// The same module with `y` behind its exports, and `x` before its code.
+const CLOSED_EXPORTS: [u8; 47] = [
+    0x00, 0x61, 0x73, 0x6d, 0x01, 0x00, 0x00, 0x00, 0x01, 0x07, 0x01, 0x60, 0x02, 0x7f, 0x7f, 0x01,
+    0x7f, 0x03, 0x02, 0x01, 0x00, 0x07, 0x05, 0x01, 0x01, 0x66, 0x00, 0x00, 0x00, 0x02, 0x01, 0x79,
+    0x00, 0x02, 0x01, 0x78, 0x0a, 0x09, 0x01, 0x07, 0x00, 0x20, 0x00, 0x20, 0x01, 0x6a, 0x0b,
+];
+
+/// The module with what a reencoder adds, and with the custom section `y` behind each section of a kind.
+fn closed<R: ReencodeIndices + Drop>(
+    alloc: Global,
+    reencoder: R,
+    behind: SectionId,
+    bytes: &[u8],
+) -> Result<Vec<u8>, Error<R::Error>> {
+    let mut adding = Adding {
+        reencoder,
+        sections: Marks {
+            behind,
+            name: "y",
+            contents: &[],
+        },
+    };
+    reencode_core(alloc, &mut adding, bytes, u32::MAX)
+}
+
+#[test]
+fn sections_are_added_behind(rt: HostRuntime) -> Result<(), Error<Infallible>> {
+    let same = RoundtripReencoder;
+    let bytes = closed(rt.alloc(), same, SectionId::Code, &ADDS)?;
+    assert!(rt; bytes.as_slice() == CLOSED_CODE.as_slice());
+    let first = Adding {
+        reencoder: same,
+        sections: BEFORE,
+    };
+    let bytes = closed(rt.alloc(), first, SectionId::Export, &ADDS)?;
+    assert!(rt; bytes.as_slice() == CLOSED_EXPORTS.as_slice());
+    let bytes = closed(rt.alloc(), same, SectionId::Type_, &TYPES)?;
+    assert!(rt; bytes.as_slice() == CLOSED_TYPES.as_slice());
+    Ok(())
+}
 
 #[test]
 fn marks_are_added(rt: HostRuntime) -> Result<(), Error<Infallible>> {
@@ -249,8 +321,8 @@ fn marks_are_added(rt: HostRuntime) -> Result<(), Error<Infallible>> {
     marks.behind = SectionId::Type_;
     let bytes = add_marks(rt.alloc(), &TYPES, marks)?;
     let twice = [
-        0x00, 0x61, 0x73, 0x6d, 0x01, 0x00, 0x00, 0x00, 0x01, 0x01, 0x00, 0x00, 0x02, 0x01, 0x79,
-        0x00, 0x02, 0x01, 0x78, 0x01, 0x01, 0x00, 0x00, 0x02, 0x01, 0x78,
+        0x00, 0x61, 0x73, 0x6d, 0x01, 0x00, 0x00, 0x00, 0x01, 0x01, 0x00, 0x00, 0x02, 0x01, 0x78,
+        0x00, 0x02, 0x01, 0x7a, 0x01, 0x01, 0x00, 0x00, 0x02, 0x01, 0x78,
     ];
     assert!(rt; bytes.as_slice() == twice.as_slice());
     Ok(())

@@ -118,9 +118,10 @@ fn hooked<R: ReencodeIndices>(of: &mut R) -> [u32; 8] {
     ]
 }
 
-/// How many sections a module has once the section hook was asked by default.
+/// How many sections a module has once both section hooks were asked by default.
 fn added<R: ReencodeIndices>(of: &mut R, module: &mut w::Module) -> Result<usize, Error<R::Error>> {
     hooks::intersperse_section_hook(of, module, Some(SectionId::Code), None)?;
+    hooks::close_section_hook(of, module, SectionId::Code)?;
     Ok(module.len())
 }
 

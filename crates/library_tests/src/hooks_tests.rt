@@ -65,6 +65,7 @@ pub fn asks_all<R: ReencodeIndices>(
     sum += u64::from(reencoder.type_index(128)?);
     sum += u64::from(reencoder.data_count(256)?);
     reencoder.intersperse_section_hook(module, None, Some(SectionId::Type_))?;
+    reencoder.close_section_hook(module, SectionId::Type_)?;
     Ok(sum)
 }
 

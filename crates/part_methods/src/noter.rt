@@ -201,4 +201,9 @@ impl<K> ReencodeIndices for Noter<K> {
         );
         Ok(())
     }
+
+    fn close_section_hook(&mut self, _module: &mut Module, section: SectionId) -> Made<()> {
+        let _ = write!(self.notes, " close_section_hook({section:?})");
+        Ok(())
+    }
 }

@@ -1,7 +1,7 @@
 -- Runs of the three reencoders: by entries, the lister, and by answers in order.
 use Rattle.std.proofs.Common.{◌≡◌, ℕ, ◌+◌, ◌≤◌, List, [], ◌∷◌, map, length, drop, false, Result, Ok, Err, refl, sym, ap, ap₂, ◌∙◌}
 use Rattle.wasm_shapes.specs.declared.Visit.{Visit}
-use Rattle.wasm_shapes.specs.declared.Visit.TheVariants.{Index, Outer, Section, Push, Pop}
+use Rattle.wasm_shapes.specs.declared.Visit.TheVariants.{Index, Outer, Section, Closed, Push, Pop}
 use Rattle.wasm_shapes.specs.Own.{asked_index, own}
 use Rattle.wasm_shapes.specs.Tree.{Tree, fill, visits}
 use Rattle.wasm_shapes.proofs.OwnAnswers.{fill_own}
@@ -41,6 +41,7 @@ itself [] = refl
 itself (Index p i ∷ vs) = ap (λ (z : List (Result ℕ Unmapped)). Ok i ∷ z) (itself vs)
 itself (Outer p k i ∷ vs) = ap (λ (z : List (Result ℕ Unmapped)). Ok i ∷ z) (itself vs)
 itself (Section a b ∷ vs) = ap (λ (z : List (Result ℕ Unmapped)). Ok 0 ∷ z) (itself vs)
+itself (Closed k ∷ vs) = ap (λ (z : List (Result ℕ Unmapped)). Ok 0 ∷ z) (itself vs)
 itself (Push ∷ vs) = ap (λ (z : List (Result ℕ Unmapped)). Ok 0 ∷ z) (itself vs)
 itself (Pop ∷ vs) = ap (λ (z : List (Result ℕ Unmapped)). Ok 0 ∷ z) (itself vs)
 
@@ -85,6 +86,7 @@ pub record Dealt (a m : Answering) (vs : List Visit) (given : List ℕ) : Type 0
 
 next_left : (a : Answering) (v : Visit) → (answers_next a v).left ≡ drop (taken_by v) a.left
 next_left a (Section x y) = refl
+next_left a (Closed k) = refl
 next_left a (Index p i) = refl
 next_left a (Outer p k i) = refl
 next_left a Push = refl
@@ -92,6 +94,7 @@ next_left a Pop = refl
 
 next_low : (a : Answering) (v : Visit) → a.count ≤ 18446744073709551615 → (answers_next a v).count ≤ 18446744073709551615
 next_low a (Section x y) h = h
+next_low a (Closed k) h = h
 next_low a (Index p i) h = counted_low (a.count + 1)
 next_low a (Outer p k i) h = counted_low (a.count + 1)
 next_low a Push h = counted_low (a.count + 1)
@@ -99,6 +102,7 @@ next_low a Pop h = counted_low (a.count + 1)
 
 next_count : (a : Answering) (v : Visit) (vs : List Visit) → tally ((answers_next a v).count + length (all_listed vs)) ≡ tally (a.count + length (all_listed (v ∷ vs)))
 next_count a (Section x y) vs = refl
+next_count a (Closed k) vs = refl
 next_count a (Index p i) vs = counted_more a.count (length (all_listed vs))
 next_count a (Outer p k i) vs = counted_more a.count (length (all_listed vs))
 next_count a Push vs = counted_more a.count (length (all_listed vs))

@@ -5,7 +5,7 @@ use Rattle.std.proofs.lemmas.Bool.{ltb-true}
 use Rattle.wasm_shapes.specs.declared.Space.{Space}
 use Rattle.wasm_shapes.specs.declared.Space.TheVariants as space
 use Rattle.wasm_shapes.specs.declared.Visit.{Visit}
-use Rattle.wasm_shapes.specs.declared.Visit.TheVariants.{Index, Outer, Section, Push, Pop}
+use Rattle.wasm_shapes.specs.declared.Visit.TheVariants.{Index, Outer, Section, Closed, Push, Pop}
 use Rattle.reencode_hooks.specs.declared.asked.Unmapped.{Unmapped}
 use Rattle.reencode_hooks.specs.Hooks.{IsAnswer, IsGiven, IsInRange, index_of}
 use Rattle.reencode_hooks.specs.Renamings.{space_number}
@@ -21,13 +21,14 @@ listed_outer p k i = record { kind = 1; space = space_number p; count = k; index
 abbrev pub listed_scope : ℕ → ListedVisit
 listed_scope kind = record { kind = kind; space = 0; count = 0; index = 0 }
 
--- a visit as it is listed, one of the section hook not
+-- a visit as it is listed, one of the section hook or the closing hook not
 abbrev pub listed : Visit → List ListedVisit
 listed (Index p i) = listed_index p i ∷ []
 listed (Outer p k i) = listed_outer p k i ∷ []
 listed Push = listed_scope 2 ∷ []
 listed Pop = listed_scope 3 ∷ []
 listed (Section after before) = []
+listed (Closed kind) = []
 
 -- visits as they are listed, in order
 abbrev pub all_listed : List Visit → List ListedVisit
@@ -101,14 +102,16 @@ answer_to left _ = 0
 -- how many answers of the list a visit takes: each that is listed takes one
 abbrev pub taken_by : Visit → ℕ
 taken_by (Section after before) = 0
+taken_by (Closed kind) = 0
 taken_by _ = 1
 
--- the answer, and what is left behind it: the section hook takes none
+-- the answer, and what is left behind it: the section hook and the closing hook take none
 abbrev pub answers_reply : Answering → Visit → Result ℕ Unmapped
 answers_reply a v = Ok (answer_to a.left v)
 
 abbrev pub answers_next : Answering → Visit → Answering
 answers_next a (Section after before) = a
+answers_next a (Closed kind) = a
 answers_next a v = record { left = drop 1 a.left; count = tally (a.count + 1) }
 
 given_or : (left : List ℕ) (i : ℕ) → IsGiven (Index space.Data i) i → IsGiven (Index space.Data i) (answer_or left i)
@@ -123,6 +126,7 @@ pub answers_given : (a : Answering) (v : Visit) → IsInRange v → IsAnswer v (
 answers_given a (Index p i) h = given_or a.left i h
 answers_given a (Outer p k i) h = given_or a.left i h.1
 answers_given a (Section after before) h = refl
+answers_given a (Closed kind) h = refl
 answers_given a Push h = refl
 answers_given a Pop h = refl
 

@@ -11,7 +11,7 @@ use reencode_items::DefaultItems;
 use std::marker::Model;
 use wasm_shapes::Visit;
 
-/// Answers each visit by the next one of a list, the section hook aside. Where none is left, an index stays as it is.
+/// Answers each visit by the next one of a list, the section hook and the closing hook aside. Where none is left, an index stays as it is.
 #[derive(Drop)]
 pub struct Answers<'a> {
     left: &'a [u32],
@@ -88,7 +88,7 @@ impl<'a> AnswerVisits for Answers<'a> {
     fn answer(&mut self, visit: Visit) -> Result<u32, Unmapped> {
         match visit {
             Visit::Index(_, index) | Visit::Outer(_, _, index) => Ok(self.take(index)),
-            Visit::Section(..) => Ok(0),
+            Visit::Section(..) | Visit::Closed(_) => Ok(0),
             Visit::Push | Visit::Pop => {
                 self.take(0);
                 Ok(0)

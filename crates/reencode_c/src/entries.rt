@@ -155,7 +155,7 @@ impl<'a> AnswerVisits for ByEntries<'a> {
             Visit::Index(space, index) | Visit::Outer(space, _, index) => {
                 self.renamed(space, index)
             }
-            Visit::Section(..) | Visit::Push | Visit::Pop => Ok(0),
+            Visit::Section(..) | Visit::Closed(_) | Visit::Push | Visit::Pop => Ok(0),
         }
     }
 }

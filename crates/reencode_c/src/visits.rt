@@ -13,7 +13,7 @@ use std::alloc::{AllocError, Global};
 use std::marker::Model;
 use wasm_shapes::Visit;
 
-/// Answers each index as it is, and lists what it is asked, the section hook aside.
+/// Answers each index as it is, and lists what it is asked, the section hook and the closing hook aside.
 #[derive(Drop)]
 pub struct Lister {
     // room for the list
@@ -94,7 +94,7 @@ impl AnswerVisits for Lister {
                 self.put(ListedVisit::outer(space, count, index));
                 Ok(index)
             }
-            Visit::Section(..) => Ok(0),
+            Visit::Section(..) | Visit::Closed(_) => Ok(0),
             Visit::Push => {
                 self.put(ListedVisit::scope(2));
                 Ok(0)

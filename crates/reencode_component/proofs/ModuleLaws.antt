@@ -1,23 +1,24 @@
 -- The law of `specs/ModuleLaws.antt`.
-use Rattle.std.proofs.Common.{◌≡◌, ◌≢◌, ℕ, List, [], Option, Result, Ok, Err, IfErr, IsTrue, refl, sym, ap, ◌∙◌}
+use Rattle.std.proofs.Common.{◌≡◌, ◌≢◌, ℕ, List, [], Option, Result, Ok, Err, IfErr, IsTrue, refl, sym, ap, ◌∙◌, inl, inr}
 use Rattle.wasm_shapes.specs.declared.SectionId.{SectionId}
 use Rattle.wasm_shapes.specs.declared.Visit.{Visit}
 use Rattle.wasm_shapes.specs.Module.{CoreReading, alsos}
-use Rattle.wasm_shapes.specs.Tree.{Tree, kind}
+use Rattle.wasm_shapes.specs.Tree.{Tree}
 use Rattle.wasm_write.specs.Sections.{Sections}
 use Rattle.reencode_hooks.specs.declared.error.Error.{Error}
 use Rattle.reencode_hooks.specs.declared.error.Error.TheVariants.{UserError, NoMemory}
 use Rattle.reencode_hooks.specs.declared.indices.ReencodeIndices.{Ghosts}
 use Rattle.reencode_hooks.specs.Hooks.{KeepsAdds, MayAdd}
-use Rattle.reencode_hooks.specs.Run.{Step, accepted, refused, and_then}
-use Rattle.reencode_hooks.specs.Walk.{announced, walk, walk_from}
+use Rattle.reencode_hooks.specs.Run.{Step, accepted, refused}
+use Rattle.reencode_hooks.specs.Walk.{walk, walk_from}
 use Rattle.reencode_hooks.proofs.Walks.{walk_stops}
 use Rattle.reencode_core.specs.Clauses.{ModuleClauses, asks}
-use Rattle.reencode_core.specs.Core.{RefusesNext, StopsSections, hooked, onto}
+use Rattle.reencode_core.specs.Core.{RefusesNext, StopsSections, closed_off, onto}
 use Rattle.reencode_core.specs.Leaves.{CoreUpTo, module_in}
 use Rattle.reencode_core.specs.Refusals.{RefusesNone}
 use Rattle.reencode_core.specs.Rows.{Asks}
 use Rattle.reencode_core.proofs.AddsNothing.{added_none}
+use Rattle.reencode_core.proofs.CoreLoop.{also_closed}
 use Rattle.reencode_core.proofs.Refusals.{never_refused}
 use Rattle.reencode_component.specs.Causes.{IfFault}
 use Rattle.reencode_component.specs.ComponentLaws.{AddsOrWants, AnswersFault, Filled, IfTaken, IsOfBytes, IsTaken, StopsOn}
@@ -27,28 +28,22 @@ use Rattle.reencode_component.specs.ModuleLaws.{as_sections}
 use Rattle.reencode_component.proofs.ComponentLaws.{only_wants, same_taken, taken}
 use Rattle.reencode_component.proofs.WithinLaws as laws
 
--- where a section is refused, or the hook before it, so are sections that begin with it
-first_refused : {S E : Type 0} (asked : Asks S E) (c : ℕ) (last : Option SectionId) (s m : S) (v others : Tree) (e : Error E) → hooked asked c last s v ≡ refused e m →
+-- where a section is refused, or a hook at it, so are sections that begin with it
+first_refused : {S E : Type 0} (asked : Asks S E) (c : ℕ) (last : Option SectionId) (s m : S) (v others : Tree) (e : Error E) → closed_off asked c last s v ≡ refused e m →
     walk_from asked c last s (Tree.also v others) ≡ refused e m
-first_refused {S} {E} asked c last s m v others e h = go (announced asked s last v) h
-  where
-    more : Tree → S → Step S (Error E) Tree
-    more u k = and_then (walk_from asked c (kind last v) k others) (λ w l. accepted (Tree.also u w) l)
-
-    go : (step : Step S (Error E) ℕ) → and_then step (λ n k. walk asked c k v) ≡ refused e m → and_then step (λ n k. and_then (walk asked c k v) more) ≡ refused e m
-    go (accepted n k) h = rw h refl
-    go (refused x k) h = h
+first_refused asked c last s m v others e h = also_closed asked c last s v others ∙ rw h refl
 
 -- sections of which one is refused are so
 sections_refused : {S E : Type 0} (asked : Asks S E) (c : ℕ) (s m : S) (old new : Sections) (t : Tree) (e : Error E) → StopsSections asked c (s, old) t (m, new) e → e ≢ NoMemory → walk asked c s t ≡ refused e m
-sections_refused {S} {E} asked c s m old new t e g other = go g.others g.parts (g.refuses other)
+sections_refused {S} {E} asked c s m old new t e g other = go g.others g.parts g.refuses
   where
     refuses : (u : Tree) → t ≡ alsos g.read u → walk_from asked c g.last g.at u ≡ refused e m → walk asked c s t ≡ refused e m
     refuses u is step = rw is (g.accepts u ∙ ap (λ (w : Step S (Error E) Tree). onto g.made w) step)
 
-    go : (u : Tree) → t ≡ alsos g.read u → RefusesNext asked c g.last g.at u e m → walk asked c s t ≡ refused e m
-    go (Tree.also v others) is h = refuses (Tree.also v others) is (first_refused asked c g.last g.at m v others e h)
-    go Tree.finish is h = refuses Tree.finish is (rw h refl)
+    go : (u : Tree) → t ≡ alsos g.read u → RefusesNext asked c g.last g.at u g.own e m → walk asked c s t ≡ refused e m
+    go (Tree.also v others) is (inl h) = refuses (Tree.also v others) is (first_refused asked c g.last g.at m v others e (rw (h.1 other) refl))
+    go (Tree.also v others) is (inr h) = refuses (Tree.also v others) is (first_refused asked c g.last g.at m v others e (rw (h.2, h.4 other) refl))
+    go Tree.finish is h = refuses Tree.finish is (rw (h.1 other) refl)
     go _ is h = absurd h
 
 module _ {S E : Type 0} (i : Ghosts S E) (adds : KeepsAdds i.adds i.adds_nothing) where

@@ -52,11 +52,12 @@ module _ {S E : Type 0} (asked : Asks S E) (adds : Puts S SectionRow) (c : ℕ) 
   own_unread : (P : Fault → Type 0) (e : Error E) → OwnTooLarge asked adds c bytes s e → IfFault e P
   own_unread P e o = go e o.own
     where
-      never : (e : Error E) → ((own : List SectionRow) → IsOwn c own e → ⊥) → OwnNext adds c o.front.last o.front.at o.front.rest e → ⊥
+      never : (e : Error E) → ((own : List SectionRow) → IsOwn c own e → ⊥) → OwnNext asked adds c o.front.last o.front.at o.front.rest e → ⊥
       never e none (inl q) = none _ q.1
-      never e none (inr q) = none _ q.4
+      never e none (inr (k, body, left, framed, inl x)) = none _ x
+      never e none (inr (k, body, left, framed, inr x)) = none _ x.own
 
-      go : (e : Error E) → OwnNext adds c o.front.last o.front.at o.front.rest e → IfFault e P
+      go : (e : Error E) → OwnNext asked adds c o.front.last o.front.at o.front.rest e → IfFault e P
       go (UserError x) q = tt
       go (TooLarge x) q = tt
       go NoMemory q = tt

@@ -106,14 +106,13 @@ module _ {S E A : Type 0} (i : Ghosts S E) (adds : KeepsAdds i.adds i.adds_nothi
   woven_caused c bytes s m e (inl h) = core_caused c bytes s m e h
   woven_caused c bytes s m e (inr own) = by e own.own
     where
-      by : (w : Error E) → OwnNext i.adds c own.front.last own.front.at own.front.rest w → IfFault w (ModuleFault bytes)
+      by : (w : Error E) → OwnNext (asks i) i.adds c own.front.last own.front.at own.front.rest w → IfFault w (ModuleFault bytes)
       by (TooLarge size) h = tt
       by (UserError x) h = tt
       by NoMemory h = tt
-      by (ParseError x) (inl h) = absurd h.1
-      by (ParseError x) (inr h) = absurd h.4
       by _ (inl h) = absurd h.1
-      by _ (inr h) = absurd h.4
+      by _ (inr (k, body, left, framed, inl x)) = absurd x
+      by _ (inr (k, body, left, framed, inr x)) = absurd x.own
 
   core_fault : (c : ℕ) (bytes : List ℕ) (s m : S) (e : Error E) → BytesClauses i c bytes s m (Err e) view → IsTrue i.keeps_defaults → IfFault e (ModuleFault bytes)
   core_fault c bytes s m e g keeps = woven_caused c bytes s m e (g.woven keeps).cause

@@ -80,9 +80,10 @@ module _ {S E : Type 0} (asked : Asks S E) (adds : Puts S SectionRow) (c : ℕ) 
       wanting : OwnTooLarge asked adds c bytes s NoMemory → ⊥
       wanting o = go o.own
         where
-          go : OwnNext {E = E} adds c o.front.last o.front.at o.front.rest NoMemory → ⊥
+          go : OwnNext asked adds c o.front.last o.front.at o.front.rest NoMemory → ⊥
           go (inl q) = q.1
-          go (inr q) = q.4
+          go (inr (k, body, left, framed, inl x)) = x
+          go (inr (k, body, left, framed, inr x)) = x.own
 
   -- behind sections that were accepted, where it holds of each that is read
   front_never : (depth : ℕ) (own : Stops S E) → ((f t : Tree) (s m : S) (e : Error E) → ReadsSection depth f t → AddsFit asked adds c s (visits t) → Goes s t → own f s m e → ⊥) →

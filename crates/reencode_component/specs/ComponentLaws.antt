@@ -73,7 +73,7 @@ abbrev pub IfTaken : {S E : Type 0} → Taking → Asks S E → List ℕ → S �
 IfTaken k asked bytes s old m new (Ok _) = (out : List ℕ) × Adds old new out × IsTaken k asked old.ceiling bytes s m out
 IfTaken k asked bytes s old m new (Err e) = Unit {0}
 
--- Where the section hook adds nothing, Ok comes only where the bytes are read as a component at this depth, whose visits are accepted and
+-- Where the section hooks add nothing, Ok comes only where the bytes are read as a component at this depth, whose visits are accepted and
 -- whose filled frames fit; what was added is the normal spelling of the filled tree, and the state is the one that the run leaves.
 abbrev pub OkIsReencoded : {S E : Type 0} → Ghosts S E → Type 0
 OkIsReencoded i = OfCalls i (λ depth bytes s old m new result. IsTrue i.adds_nothing → IfTaken (as_component depth) (asks i) bytes s old m new result)
@@ -83,7 +83,7 @@ abbrev pub AddsOrWants : {S E : Type 0} → List ℕ → S → Sections → S �
 AddsOrWants out n old m new (Ok _) = Adds old new out × (m ≡ n)
 AddsOrWants out n old m new (Err e) = e ≡ NoMemory
 
--- Where the section hook adds nothing, bytes that are read as such a component come to that output and that state, or memory runs out.
+-- Where the section hooks add nothing, bytes that are read as such a component come to that output and that state, or memory runs out.
 abbrev pub ReencodedIsAnswered : {S E : Type 0} → Ghosts S E → Type 0
 ReencodedIsAnswered {S} i =
     OfCalls i (λ depth bytes s old m new result. IsTrue i.adds_nothing → (out : List ℕ) (n : S) → IsTaken (as_component depth) (asks i) old.ceiling bytes s n out → AddsOrWants out n old m new result)
@@ -118,7 +118,7 @@ StopsBefore {S} i ceiling depth s before rest e m =
 
 -- What a refusal of the reencoder tells: where the bytes are read as a component, the run over its visits ends in it; where they have a
 -- fault behind their header, the run over the visits of the sections before it, or over further ones behind these, which are drawn from
--- the bytes from the fault on. It never comes of a reencoder that refuses no visit. And where the section hook adds nothing, any error but
+-- the bytes from the fault on. It never comes of a reencoder that refuses no visit. And where the section hooks add nothing, any error but
 -- out of memory of bytes that are read is of the first moment that is not passed: no frame above the ceiling closes before a visit that is
 -- refused, and all visits before a frame above the ceiling are accepted. Where they have a fault, so is a refusal, or a size that is too
 -- large, that comes of the sections before it.
@@ -147,7 +147,7 @@ pub record AddsFilled {S E : Type 0} (asked : Asks S E) (s : S) (old : Sections)
   pub filled : Filled asked old.ceiling s t at
   pub adds : Adds old new (normal (fill t filled.given))
 
--- With an error of the bytes whose fault stands behind their header, where the section hook adds nothing, all sections before the fault
+-- With an error of the bytes whose fault stands behind their header, where the section hooks add nothing, all sections before the fault
 -- were accepted, and what they became was added, and no more.
 abbrev pub ComponentFaultGains : {S E : Type 0} → Ghosts S E → Type 0
 ComponentFaultGains i =

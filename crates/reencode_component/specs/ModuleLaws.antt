@@ -25,9 +25,9 @@ OfModules {S} {E} i P =
     (bytes : List ℕ) (s m : S) (old new : Sections) (result : Result (Unit {0}) (Error E)) → ModuleClauses i bytes s old m new result → IsTrue i.keeps_defaults →
     P bytes s old m new result
 
--- Where the section hook adds nothing, Ok comes only with what the reading becomes, and it comes wherever there is one that is accepted, or
+-- Where the section hooks add nothing, Ok comes only with what the reading becomes, and it comes wherever there is one that is accepted, or
 -- memory runs out; any other error of bytes that are read is of the first moment of the walk that is not passed. An error tells the fault
--- of the bytes, unless it is a refusal, a size that is too large, or out of memory, and no other comes; where the section hook adds nothing,
+-- of the bytes, unless it is a refusal, a size that is too large, or out of memory, and no other comes; where the section hooks add nothing,
 -- all sections before the fault were then accepted. Where no visit is refused, bytes without a reading give the error of their fault, or a
 -- size that is too large, or memory runs out.
 pub record ModuleTells {S E : Type 0} (i : Ghosts S E) : Type 0 where

@@ -1,4 +1,4 @@
--- The walk over the sections of a component: what the section hook adds to a nested module stands in its place.
+-- The walk over the sections of a component: what the section hooks add to a nested module stands in its place.
 use Rattle.std.specs.Prelude.{◌≡◌, ℕ, List, []}
 use Rattle.wasm_shapes.specs.declared.Visit.{Visit}
 use Rattle.wasm_shapes.specs.declared.Visit.TheVariants.{Push, Pop}

@@ -65,7 +65,7 @@ OfRefusals {S} {E} i promised P =
 
 -- ---- output
 
--- Where the section hook adds nothing, Ok comes only with the output of the bytes' reading, and it comes wherever there is one, or
+-- Where the section hooks add nothing, Ok comes only with the output of the bytes' reading, and it comes wherever there is one, or
 -- memory runs out. Bytes without a reading give, where no visit is refused, the error of their fault, or a size that is too large, or
 -- memory runs out.
 pub record OutputIsTaken {S E A : Type 0} (k : Taking) (i : Ghosts S E) (promised : Promises S E A) (view : A → List ℕ) : Type 0 where
@@ -77,9 +77,9 @@ pub record OutputIsTaken {S E A : Type 0} (k : Taking) (i : Ghosts S E) (promise
 -- ---- errors
 
 -- What an error tells: the fault of the bytes, unless it is a refusal, a size that is too large, or out of memory; and no other comes. Where
--- the section hook adds nothing, all sections before the fault were then accepted. A refusal of the reencoder is that of the run over
+-- the section hooks add nothing, all sections before the fault were then accepted. A refusal of the reencoder is that of the run over
 -- the visits of the reading, or where there is none, of the sections before the fault, or of further ones behind these, which are drawn
--- from the bytes from the fault on; it is of the last visit that was made, and none comes of a reencoder that refuses no visit. Of bytes that are read, where the section hook adds
+-- from the bytes from the fault on; it is of the last visit that was made, and none comes of a reencoder that refuses no visit. Of bytes that are read, where the section hooks add
 -- nothing, any error but out of memory is of the first moment of the walk that is not passed: a visit that is refused, or a frame above the
 -- ceiling that closes.
 pub record ErrorTells {S E A : Type 0} (k : Taking) (i : Ghosts S E) (promised : Promises S E A) : Type 0 where

@@ -1,4 +1,4 @@
--- The law of the walk over the sections of a component in terms of the run, where the section hook may add sections to nested modules: the
+-- The law of the walk over the sections of a component in terms of the run, where the section hooks may add sections to nested modules: the
 -- filled reading, with what the hook adds in its places.
 use Rattle.std.specs.Prelude.{◌≡◌, ◌≤◌, ℕ, List, length, take, drop, Result, Ok, Err}
 use Rattle.wasm_shapes.specs.declared.Visit.TheVariants.{Push}
@@ -68,12 +68,12 @@ abbrev pub IfWoven : {S E : Type 0} → Asks S E → Puts S SectionRow → ℕ �
 IfWoven asked adds depth bytes s old m new (Ok _) = (out : List ℕ) × Adds old new out × IsWoven asked (added adds) old.ceiling depth bytes s m out
 IfWoven asked adds depth bytes s old m new (Err e) = Unit {0}
 
--- Whatever the section hook adds, Ok comes only where the bytes are read as a component at this depth, whose visits are accepted and whose
+-- Whatever the section hooks add, Ok comes only where the bytes are read as a component at this depth, whose visits are accepted and whose
 -- woven frames fit; what was added is the normal spelling of the woven tree, and the state is the one that the run leaves.
 abbrev pub OkIsWoven : {S E : Type 0} → Ghosts S E → Type 0
 OkIsWoven i = OfCalls i (λ depth bytes s old m new result. IfWoven (asks i) i.adds depth bytes s old m new result)
 
--- Whatever the section hook adds, bytes that are read as such a component come to that output and that state, or memory runs out, where no
+-- Whatever the section hooks add, bytes that are read as such a component come to that output and that state, or memory runs out, where no
 -- section that is added at a section visit of the run has a body above the ceiling.
 abbrev pub WovenIsAnswered : {S E : Type 0} → Ghosts S E → Type 0
 WovenIsAnswered {S} i =

@@ -29,7 +29,7 @@ pub fn component_fault_is_one()
     ensures { FaultIsOne }
 {}
 
-/// Where the section hook adds nothing, the walk over the sections of a component is the plain walk.
+/// Where the section hooks add nothing, the walk over the sections of a component is the plain walk.
 #[tactic(auto, using(crate::proofs::WeavesIn::weave_in_of_nothing))]
 pub fn weave_in_of_nothing<T: ReencodeIndices>(_reencoder: &T)
     ensures { WeaveInOfNothing (ask T.reply T.next) }
@@ -37,7 +37,7 @@ pub fn weave_in_of_nothing<T: ReencodeIndices>(_reencoder: &T)
 
 /// What is added by a call with the clauses of `parse_component` is the component that the bytes are read as, reencoded.
 ///
-/// Where the reencoder keeps the defaults and its section hook adds nothing, Ok comes only where the bytes are read as a component
+/// Where the reencoder keeps the defaults and its section hooks add nothing, Ok comes only where the bytes are read as a component
 /// whose visits the hooks accept and whose filled frames fit under the ceiling. What was added is then the normal spelling of the
 /// filled sections, and the state is the one that the run over the visits leaves.
 pub fn component_is_reencoded<T: ReencodeIndices>(_reencoder: &T)
@@ -46,7 +46,7 @@ pub fn component_is_reencoded<T: ReencodeIndices>(_reencoder: &T)
 
 /// A call with the clauses of `parse_component` is complete.
 ///
-/// Where the reencoder keeps the defaults and its section hook adds nothing, bytes that are read as a component whose visits are
+/// Where the reencoder keeps the defaults and its section hooks add nothing, bytes that are read as a component whose visits are
 /// accepted and whose filled frames fit give Ok with that output and that state, or out of memory.
 pub fn component_is_answered<T: ReencodeIndices>(_reencoder: &T)
     ensures { ReencodedIsAnswered T.ReencodeIndices }
@@ -62,27 +62,27 @@ pub fn component_fault_is_answered<T: ReencodeIndices>(_reencoder: &T)
 /// over the visits of the sections before the fault, or over further ones behind these, which are drawn from the bytes from the fault
 /// on. None comes of a reencoder that refuses no visit.
 ///
-/// Where its section hook adds nothing, no frame above the ceiling closes before the visit that was refused; and with a size that is
+/// Where its section hooks add nothing, no frame above the ceiling closes before the visit that was refused; and with a size that is
 /// too large the first frame above the ceiling closes, behind visits that were all accepted.
 pub fn component_refusal_tells<T: ReencodeIndices>(_reencoder: &T)
     ensures { ComponentRefusalTells T.ReencodeIndices }
 {}
 
 /// With an error of the bytes whose fault stands behind their header, the component has gained what all the sections before the fault
-/// became, and no more, where the section hook adds nothing.
+/// became, and no more, where the section hooks add nothing.
 pub fn component_fault_gains<T: ReencodeIndices>(_reencoder: &T)
     ensures { ComponentFaultGains T.ReencodeIndices }
 {}
 
 /// The walk over the sections of a component is accepted exactly where the fold of the hooks over its visits is, and no frame round
-/// what a section becomes is above the ceiling; it gives the filled tree with what the section hook adds to nested modules where it is.
+/// what a section becomes is above the ceiling; it gives the filled tree with what the section hooks add to nested modules where it is.
 #[tactic(auto, using(crate::proofs::WovenIn::weave_in_is_run))]
 pub fn weave_in_is_run<T: ReencodeIndices>(_reencoder: &T)
     ensures { WeaveInIsRun (ask T.reply T.next) }
 {}
 
 /// What is added by a call with the clauses of `parse_component` is the component that the bytes are read as, reencoded, with what the
-/// section hook adds to nested modules where it is.
+/// section hooks add to nested modules where it is.
 ///
 /// Where the reencoder keeps the defaults, Ok comes only where the bytes are read as a component whose visits the hooks accept and
 /// whose frames fit under the ceiling, the added sections counted. What was added is then the normal spelling of that, and the state is
@@ -91,7 +91,7 @@ pub fn component_is_woven<T: ReencodeIndices>(_reencoder: &T)
     ensures { OkIsWoven T.ReencodeIndices }
 {}
 
-/// A call with the clauses of `parse_component` is complete, also where the section hook adds to nested modules.
+/// A call with the clauses of `parse_component` is complete, also where the section hooks add to nested modules.
 ///
 /// Where the reencoder keeps the defaults, bytes that are read as a component whose visits are accepted and whose frames fit, the added
 /// sections counted, give Ok with that output and that state, or out of memory, if no section that the hook adds at a visit of the run
@@ -102,7 +102,7 @@ pub fn woven_component_is_answered<T: ReencodeIndices>(_reencoder: &T)
 
 /// What `reencode_core` answers, in terms of the reading: of a call with its clauses, where the reencoder keeps the defaults.
 ///
-/// Where its section hook adds nothing, Ok comes only where the bytes are read as a core module whose visits the hooks accept and whose
+/// Where its section hooks add nothing, Ok comes only where the bytes are read as a core module whose visits the hooks accept and whose
 /// filled frames fit under the ceiling; it is the normal spelling of the filled reading, in the state that the run over the visits
 /// leaves. And wherever they are, that is answered, or memory runs out. `A` is the answer's type; the slice may be empty.
 pub fn module_is_reencoded<T: ReencodeIndices, A>(_reencoder: &T, _answers: &[A])

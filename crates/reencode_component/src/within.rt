@@ -47,7 +47,7 @@ fn reencode_component<R: ReencodeComponent>(
 /// one, by `parse_component`, and of a core module, by `reencode_joined`, where they do not.
 ///
 /// So an overridden `parse_core_module`, `parse_section` or `parse_code_section` is asked of modules nested in a component alone,
-/// and the section hook of a core module is handed a module without sections. `reencode_core` goes by these methods.
+/// and the section hooks of a core module are handed a module without sections. `reencode_core` goes by these methods.
 ///
 /// A `ParseError` holds the place of the section in fault, counted from the first byte of the header, or 0 where neither header
 /// stands there. An error that tells the kind of a binary, or the size of a code section, may come of a binary inside.

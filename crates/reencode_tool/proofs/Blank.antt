@@ -5,7 +5,7 @@ use Rattle.std.specs.FinMap as entries
 use Rattle.wasm_shapes.specs.declared.Space.{Space}
 use Rattle.wasm_shapes.specs.declared.Space.TheVariants as space
 use Rattle.wasm_shapes.specs.declared.Visit.{Visit}
-use Rattle.wasm_shapes.specs.declared.Visit.TheVariants.{Index, Outer, Section, Push, Pop}
+use Rattle.wasm_shapes.specs.declared.Visit.TheVariants.{Index, Outer, Section, Closed, Push, Pop}
 use Rattle.wasm_shapes.specs.Tree.{Tree, visits, fill}
 use Rattle.wasm_shapes.specs.Spells.{Spelled}
 use Rattle.wasm_shapes.specs.Own.{asked_index, own}
@@ -20,7 +20,7 @@ use Rattle.reencode_hooks.specs.Walk.{walk}
 use Rattle.reencode_hooks.specs.Moments as moment
 use Rattle.reencode_hooks.proofs.Walks.{walk_is_run, walk_stops}
 use Rattle.reencode_hooks.proofs.Moments as moments
-use Rattle.reencode_tool.specs.Counts.{raised, visit_place}
+use Rattle.reencode_tool.specs.Counts.{counted_at}
 use Rattle.wasm_write.proofs.FramesFit.{frames_in_text}
 
 -- ---- one visit
@@ -51,6 +51,7 @@ pub blank_asked : {s : Renaming} → Blank s → (v : Visit) → asks s v ≡ ac
 blank_asked {s} b (Index p i) = ap (λ (r : Result ℕ Unmapped). answered r (renamer_next s (Index p i))) (itself b p i)
 blank_asked {s} b (Outer p k i) = ap (λ (r : Result ℕ Unmapped). answered r (renamer_next s (Outer p k i))) (itself b p i)
 blank_asked b (Section x y) = refl
+blank_asked b (Closed k) = refl
 blank_asked b Push = refl
 blank_asked b Pop = refl
 
@@ -58,6 +59,7 @@ pub blank_next : {s : Renaming} → Blank s → (v : Visit) → Blank (renamer_n
 blank_next b (Index p i) = record { entries = b.entries; strict = b.strict }
 blank_next b (Outer p k i) = record { entries = b.entries; strict = b.strict }
 blank_next b (Section x y) = record { entries = b.entries; strict = b.strict }
+blank_next b (Closed k) = b
 blank_next b Push = record { entries = b.entries; strict = b.strict }
 blank_next b Pop = record { entries = b.entries; strict = b.strict }
 
@@ -72,10 +74,11 @@ pub blank_after : (vs : List Visit) {s : Renaming} → Blank s → Blank (after_
 blank_after [] b = b
 blank_after (v ∷ vs) b = blank_after vs (blank_next b v)
 
-pub counts_next : (s : Renaming) (v : Visit) → (renamer_next s v).counts ≡ raised s.counts (visit_place v)
+pub counts_next : (s : Renaming) (v : Visit) → (renamer_next s v).counts ≡ counted_at s.counts v
 counts_next s (Index p i) = refl
 counts_next s (Outer p k i) = refl
 counts_next s (Section x y) = refl
+counts_next s (Closed k) = refl
 counts_next s Push = refl
 counts_next s Pop = refl
 

@@ -5,7 +5,7 @@ use Rattle.std.specs.Prelude.{◌&&◌}
 use Rattle.wasm_shapes.specs.declared.SectionId.{SectionId}
 use Rattle.wasm_shapes.specs.declared.Space.{Space}
 use Rattle.wasm_shapes.specs.declared.Visit.{Visit}
-use Rattle.wasm_shapes.specs.declared.Visit.TheVariants.{Index, Outer, Section, Push, Pop}
+use Rattle.wasm_shapes.specs.declared.Visit.TheVariants.{Index, Outer, Section, Closed, Push, Pop}
 use Rattle.wasm_shapes.specs.Tree.{Tree, visits}
 use Rattle.wasm_shapes.specs.Spells.{Spelled}
 use Rattle.wasm_shapes.specs.Types.{is_core}
@@ -23,7 +23,7 @@ use Rattle.reencode_hooks.specs.Moments as moment
 use Rattle.reencode_hooks.proofs.Walks.{walk_is_run, walk_stops}
 use Rattle.reencode_hooks.proofs.Moments as moments
 use Rattle.reencode_core.specs.Rules.{Refuses}
-use Rattle.reencode_tool.specs.Counts.{counted, raised, visit_place}
+use Rattle.reencode_tool.specs.Counts.{counted, counted_at}
 use Rattle.reencode_tool.specs.declared.renamers.Renamers.{Renamers}
 use Rattle.reencode_tool.specs.declared.renamers.Renamers.TheVariants.{Alone, Both}
 use Rattle.reencode_tool.specs.Renamers.{IsLacking, IsUnmapped, Lack, State, all_counted, asks_of, begun, counts_in, next_of, reply_of, rule_of}
@@ -51,6 +51,7 @@ pub replies : {r s : Renaming} → Like r s → (v : Visit) → renamer_reply s 
 replies l (Index p i) = same_renamed l p i
 replies l (Outer p k i) = same_renamed l p i
 replies l (Section a b) = refl
+replies l (Closed k) = refl
 replies l Push = refl
 replies l Pop = refl
 
@@ -58,6 +59,7 @@ pub like_next : {r s : Renaming} → Like r s → (v : Visit) → Like r (rename
 like_next l (Index p i) = record { entries = l.entries; strict = l.strict }
 like_next l (Outer p k i) = record { entries = l.entries; strict = l.strict }
 like_next l (Section x y) = record { entries = l.entries; strict = l.strict }
+like_next l (Closed k) = l
 like_next l Push = record { entries = l.entries; strict = l.strict }
 like_next l Pop = record { entries = l.entries; strict = l.strict }
 
@@ -102,21 +104,22 @@ pub now_begun : (rs : Renamers) → now rs (begun rs) ≡ rs
 now_begun (Alone r) = refl
 now_begun (Both c) = refl
 
-place_again : (v : Visit) (n : ℕ) → visit_place (reindexed v n) ≡ visit_place v
-place_again (Index p i) n = refl
-place_again (Outer p k i) n = refl
-place_again (Section a b) n = refl
-place_again Push n = refl
-place_again Pop n = refl
+counted_again : (counts : List ℕ) (v : Visit) (n : ℕ) → counted_at counts (reindexed v n) ≡ counted_at counts v
+counted_again counts (Index p i) n = refl
+counted_again counts (Outer p k i) n = refl
+counted_again counts (Section a b) n = refl
+counted_again counts (Closed k) n = refl
+counted_again counts Push n = refl
+counted_again counts Pop n = refl
 
 then_counted : (x : Result ℕ Unmapped) (second : ℕ → Result ℕ Unmapped) (s : Renaming) (v : Visit) (n : ℕ) → first_then x second ≡ Ok n →
-    (unless_err x s (λ k. renamer_next s (reindexed v k))).counts ≡ raised s.counts (visit_place v)
-then_counted (Ok k) second s v n e = counts_next s (reindexed v k) ∙ ap (λ (p : ℕ). raised s.counts p) (place_again v k)
+    (unless_err x s (λ k. renamer_next s (reindexed v k))).counts ≡ counted_at s.counts v
+then_counted (Ok k) second s v n e = counts_next s (reindexed v k) ∙ counted_again s.counts v k
 then_counted (Err u) second s v n e = absurd cc
 
 -- one visit more is counted for each
 pub all_raised : (rs : Renamers) (s : State rs) (v : Visit) (n : ℕ) → reply_of rs s v ≡ Ok n →
-    counts_in (now rs (next_of rs s v)) ≡ map (λ c. raised c (visit_place v)) (counts_in (now rs s))
+    counts_in (now rs (next_of rs s v)) ≡ map (λ c. counted_at c v) (counts_in (now rs s))
 all_raised (Alone r) s v n e = ap (λ (c : List ℕ). c ∷ []) (counts_next s v)
 all_raised (Both c) s v n e =
     ap₂ (λ (x y : List ℕ). x ∷ y ∷ []) (counts_next s.a v) (then_counted (renamer_reply s.a v) (λ k. renamer_reply s.b (reindexed v k)) s.b v n e)
@@ -125,9 +128,9 @@ none_counted : (counts : List (List ℕ)) → counts ≡ all_counted counts []
 none_counted [] = refl
 none_counted (c ∷ cs) = ap (λ (z : List (List ℕ)). c ∷ z) (none_counted cs)
 
-more_counted : (counts : List (List ℕ)) (v : Visit) (vs : List Visit) → all_counted (map (λ c. raised c (visit_place v)) counts) vs ≡ all_counted counts (v ∷ vs)
+more_counted : (counts : List (List ℕ)) (v : Visit) (vs : List Visit) → all_counted (map (λ c. counted_at c v) counts) vs ≡ all_counted counts (v ∷ vs)
 more_counted [] v vs = refl
-more_counted (c ∷ cs) v vs = ap (λ (z : List (List ℕ)). counted (raised c (visit_place v)) vs ∷ z) (more_counted cs v vs)
+more_counted (c ∷ cs) v vs = ap (λ (z : List (List ℕ)). counted (counted_at c v) vs ∷ z) (more_counted cs v vs)
 
 -- ---- one visit that is refused
 
@@ -151,6 +154,7 @@ no_entry : (r : Renaming) (v : Visit) (u : Unmapped) → rule r v ≡ Err u → 
 no_entry r (Index p i) u e = unmapped r p i u e
 no_entry r (Outer p k i) u e = unmapped r p i u e
 no_entry r (Section a b) u e = absurd cc
+no_entry r (Closed k) u e = absurd cc
 no_entry r Push u e = absurd cc
 no_entry r Pop u e = absurd cc
 

@@ -3,7 +3,7 @@ use Rattle.std.proofs.Common.{◌≡◌, ◌≢◌, ℕ, ◌<◌, ◌≤◌, ◌
 use Rattle.std.proofs.lemmas.List.{length-set}
 use Rattle.wasm_shapes.specs.declared.SectionId.{SectionId}
 use Rattle.wasm_shapes.specs.declared.Visit.{Visit}
-use Rattle.wasm_shapes.specs.declared.Visit.TheVariants.{Section, Push}
+use Rattle.wasm_shapes.specs.declared.Visit.TheVariants.{Index, Outer, Section, Closed, Push, Pop}
 use Rattle.wasm_shapes.specs.Tree.{Tree, fill, normal, visits}
 use Rattle.wasm_shapes.specs.Fits.{Fits}
 use Rattle.wasm_leb.specs.declared.fault.Fault.{Fault}
@@ -35,7 +35,7 @@ use Rattle.reencode_component.specs.Within.{ComponentBytesClauses, HasComponentH
 use Rattle.reencode_component.specs.WithinLaws.{ErrorTells, OutputIsTaken}
 use Rattle.reencode_component.proofs.ComponentLaws as components
 use Rattle.reencode_component.proofs.WithinLaws.{binary_error_tells, binary_output, heading_or_not, module_error_tells, module_output}
-use Rattle.reencode_tool.specs.Counts.{counted, raised, visit_place}
+use Rattle.reencode_tool.specs.Counts.{counted, counted_at}
 use Rattle.reencode_tool.specs.declared.answer.ReencodingFault.{ReencodingFault}
 use Rattle.reencode_tool.specs.declared.renamers.Renamers.{Renamers}
 use Rattle.reencode_tool.specs.declared.renamers.Renamers.TheVariants.{Alone, Both}
@@ -79,9 +79,17 @@ given k c rs bytes m out view g =
       asked = n.counts ∙ ap (λ (z : Renamers). all_counted (counts_in z) (visits h.tree)) (now_begun rs);
     }
 
+length-at : (counts : List ℕ) (v : Visit) → length (counted_at counts v) ≡ length counts
+length-at counts (Index p i) = length-set counts _ _
+length-at counts (Outer p k i) = length-set counts _ _
+length-at counts (Section a b) = length-set counts _ _
+length-at counts (Closed k) = refl
+length-at counts Push = length-set counts _ _
+length-at counts Pop = length-set counts _ _
+
 length-counted : (counts : List ℕ) (vs : List Visit) → length (counted counts vs) ≡ length counts
 length-counted counts [] = refl
-length-counted counts (v ∷ vs) = length-counted (raised counts (visit_place v)) vs ∙ length-set counts (visit_place v) _
+length-counted counts (v ∷ vs) = length-counted (counted_at counts v) vs ∙ length-at counts v
 
 first_of : {x y : List ℕ} {xs ys : List (List ℕ)} → x ∷ xs ≡ y ∷ ys → x ≡ y
 first_of e = cc

@@ -1,14 +1,16 @@
 use Rattle.std.proofs.Common.{◌≡◌, ◌+◌, ◌-◌, ◌++◌, ℕ, List, Some, inr, length, refl, sym, ap, ◌∙◌, append_assoc, subst, arith}
-use Rattle.wasm_shapes.specs.declared.Visit.TheVariants.{Section}
+use Rattle.wasm_shapes.specs.declared.Visit.TheVariants.{Section, Closed}
 use Rattle.wasm_shapes.specs.Module.{core_header}
-use Rattle.reencode_core.proofs.EachSection.{core_headless, core_more, core_section_refused, core_unframed, custom_called, kind_called, sections_begun, unknown_called}
+use Rattle.reencode_core.proofs.EachSection.{core_closed, core_headless, core_more, core_section_refused, core_unframed, custom_called, kind_called, sections_begun, unknown_called}
+use Rattle.reencode_core.specs.Woven.{AddedAt}
+use Rattle.reencode_core.proofs.CoreLoop.{nothing_put}
 use Rattle.reencode_core.proofs.Known.{frame_id}
 use Rattle.reencode_core.specs.Pieces.{Range}
 use Rattle.reencode_core.specs.Sinks.{KeepsKind, StandsAt}
 use Rattle.reencode_core.specs.Clauses.{asks}
 use Rattle.reencode_core.proofs.Ranges.{body_place, custom_not_code, kind_one, ranges_begun, ranges_end, ranges_more, unknown_not_code}
 use Rattle.reencode_core.proofs.Standing.{section_stands, text_within}
-use Rattle.reencode_core.proofs.Walking.{between_ended, between_refused, hook_answered}
+use Rattle.reencode_core.proofs.Walking.{behind_refused, between_ended, between_refused, hook_answered}
 use Rattle.reencode_core.proofs.pieces.reencode.walk.Goals as goal
 
 -- what is left behind a part
@@ -113,6 +115,54 @@ add_kind-requires g c =
     let input = c.in_ok-add_between-in-Some-Section.ensures.input ∙ inv.same in
     subst P (sym input) (subst Q end stands)
 
+pub returns-in_err-add_between-in-Ok-clause-default : goal.returns-in_err-add_between-in-Ok-clause-default
+returns-in_err-add_between-in-Ok-clause-default g c =
+    let keeps = g.met.R.ReencodeIndices.adds_ok in
+    let header = c.in_ok-payloads.ensures.ok in
+    let inv = c.sections.invariant in
+    let frame = rw (c.in-Some-Section.is, c.in-Some-Section.field-0-is) at c.in_ok-id.ensures.some in
+    let e = c.in-Ok.ensures in
+    (behind_refused g.R.ReencodeIndices keeps header inv.done c.in-Some-Section.id _
+    (kind_called g.R.ReencodeIndices keeps header inv.done c.in-Some-Section.id frame (hook_answered g.R.ReencodeIndices c.sections.reencoder c.add_between.new.reencoder c.sections.sink.sections c.add_between.new.sink.sections (Section c.sections.last (Some c.in-Some-Section.id)) c.in_ok-add_between-in-Some-Section.ensures.answer c.in_ok-add_between-in-Some-Section.ensures.fits) (record { kept = e.kept; default = e.default; after_error = e.after_error }))
+    (hook_answered g.R.ReencodeIndices c.sections.reencoder c.add_between.new.reencoder c.sections.sink.sections c.add_between.new.sink.sections (Section c.sections.last (Some c.in-Some-Section.id)) c.in_ok-add_between-in-Some-Section.ensures.answer c.in_ok-add_between-in-Some-Section.ensures.fits)
+    c.in_err-add_between-in-Ok.ensures.answer c.in_err-add_between-in-Ok.ensures.leaves _ c.from_residual-in_err-add_between-in-Ok.ensures.1).default
+
+pub returns-in_err-add_between-in-Ok-clause-woven : goal.returns-in_err-add_between-in-Ok-clause-woven
+returns-in_err-add_between-in-Ok-clause-woven g c =
+    let keeps = g.met.R.ReencodeIndices.adds_ok in
+    let header = c.in_ok-payloads.ensures.ok in
+    let inv = c.sections.invariant in
+    let frame = rw (c.in-Some-Section.is, c.in-Some-Section.field-0-is) at c.in_ok-id.ensures.some in
+    let e = c.in-Ok.ensures in
+    (behind_refused g.R.ReencodeIndices keeps header inv.done c.in-Some-Section.id _
+    (kind_called g.R.ReencodeIndices keeps header inv.done c.in-Some-Section.id frame (hook_answered g.R.ReencodeIndices c.sections.reencoder c.add_between.new.reencoder c.sections.sink.sections c.add_between.new.sink.sections (Section c.sections.last (Some c.in-Some-Section.id)) c.in_ok-add_between-in-Some-Section.ensures.answer c.in_ok-add_between-in-Some-Section.ensures.fits) (record { kept = e.kept; default = e.default; after_error = e.after_error }))
+    (hook_answered g.R.ReencodeIndices c.sections.reencoder c.add_between.new.reencoder c.sections.sink.sections c.add_between.new.sink.sections (Section c.sections.last (Some c.in-Some-Section.id)) c.in_ok-add_between-in-Some-Section.ensures.answer c.in_ok-add_between-in-Some-Section.ensures.fits)
+    c.in_err-add_between-in-Ok.ensures.answer c.in_err-add_between-in-Ok.ensures.leaves _ c.from_residual-in_err-add_between-in-Ok.ensures.1).woven
+
+pub returns-in_err-add_between-in-Ok-clause-after_error : goal.returns-in_err-add_between-in-Ok-clause-after_error
+returns-in_err-add_between-in-Ok-clause-after_error g c =
+    let keeps = g.met.R.ReencodeIndices.adds_ok in
+    let header = c.in_ok-payloads.ensures.ok in
+    let inv = c.sections.invariant in
+    let frame = rw (c.in-Some-Section.is, c.in-Some-Section.field-0-is) at c.in_ok-id.ensures.some in
+    let e = c.in-Ok.ensures in
+    (behind_refused g.R.ReencodeIndices keeps header inv.done c.in-Some-Section.id _
+    (kind_called g.R.ReencodeIndices keeps header inv.done c.in-Some-Section.id frame (hook_answered g.R.ReencodeIndices c.sections.reencoder c.add_between.new.reencoder c.sections.sink.sections c.add_between.new.sink.sections (Section c.sections.last (Some c.in-Some-Section.id)) c.in_ok-add_between-in-Some-Section.ensures.answer c.in_ok-add_between-in-Some-Section.ensures.fits) (record { kept = e.kept; default = e.default; after_error = e.after_error }))
+    (hook_answered g.R.ReencodeIndices c.sections.reencoder c.add_between.new.reencoder c.sections.sink.sections c.add_between.new.sink.sections (Section c.sections.last (Some c.in-Some-Section.id)) c.in_ok-add_between-in-Some-Section.ensures.answer c.in_ok-add_between-in-Some-Section.ensures.fits)
+    c.in_err-add_between-in-Ok.ensures.answer c.in_err-add_between-in-Ok.ensures.leaves _ c.from_residual-in_err-add_between-in-Ok.ensures.1).after_error
+
+pub returns-in_err-add_between-in-Ok-clause-headless : goal.returns-in_err-add_between-in-Ok-clause-headless
+returns-in_err-add_between-in-Ok-clause-headless g c =
+    let keeps = g.met.R.ReencodeIndices.adds_ok in
+    let header = c.in_ok-payloads.ensures.ok in
+    let inv = c.sections.invariant in
+    let frame = rw (c.in-Some-Section.is, c.in-Some-Section.field-0-is) at c.in_ok-id.ensures.some in
+    let e = c.in-Ok.ensures in
+    (behind_refused g.R.ReencodeIndices keeps header inv.done c.in-Some-Section.id _
+    (kind_called g.R.ReencodeIndices keeps header inv.done c.in-Some-Section.id frame (hook_answered g.R.ReencodeIndices c.sections.reencoder c.add_between.new.reencoder c.sections.sink.sections c.add_between.new.sink.sections (Section c.sections.last (Some c.in-Some-Section.id)) c.in_ok-add_between-in-Some-Section.ensures.answer c.in_ok-add_between-in-Some-Section.ensures.fits) (record { kept = e.kept; default = e.default; after_error = e.after_error }))
+    (hook_answered g.R.ReencodeIndices c.sections.reencoder c.add_between.new.reencoder c.sections.sink.sections c.add_between.new.sink.sections (Section c.sections.last (Some c.in-Some-Section.id)) c.in_ok-add_between-in-Some-Section.ensures.answer c.in_ok-add_between-in-Some-Section.ensures.fits)
+    c.in_err-add_between-in-Ok.ensures.answer c.in_err-add_between-in-Ok.ensures.leaves _ c.from_residual-in_err-add_between-in-Ok.ensures.1).headless
+
 pub sections-preserved-in-Ok : goal.sections-preserved-in-Ok
 sections-preserved-in-Ok g c =
     let keeps = g.met.R.ReencodeIndices.adds_ok in
@@ -126,13 +176,15 @@ sections-preserved-in-Ok g c =
     let call = kind_called g.R.ReencodeIndices keeps header inv.done c.in-Some-Section.id frame (hook_answered g.R.ReencodeIndices c.sections.reencoder c.add_between.new.reencoder c.sections.sink.sections c.add_between.new.sink.sections (Section c.sections.last (Some c.in-Some-Section.id)) c.in_ok-add_between-in-Some-Section.ensures.answer c.in_ok-add_between-in-Some-Section.ensures.fits) (record { kept = e.kept; default = e.default; after_error = e.after_error }) in
     let same_kept = c.in_ok-add_between-in-Some-Section.ensures.ranges in
     record {
-      done = core_more g.R.ReencodeIndices keeps header inv.done refl c.in_ok-id.ensures.len (kind_called g.R.ReencodeIndices keeps header inv.done c.in-Some-Section.id frame (hook_answered g.R.ReencodeIndices c.sections.reencoder c.add_between.new.reencoder c.sections.sink.sections c.add_between.new.sink.sections (Section c.sections.last (Some c.in-Some-Section.id)) c.in_ok-add_between-in-Some-Section.ensures.answer c.in_ok-add_between-in-Some-Section.ensures.fits) (record { kept = e.kept; default = e.default; after_error = e.after_error }));
-      same = e.input ∙ c.in_ok-add_between-in-Some-Section.ensures.input ∙ inv.same;
+      done = core_closed g.R.ReencodeIndices keeps header inv.done c.in-Some-Section.id refl c.in_ok-id.ensures.len (kind_called g.R.ReencodeIndices keeps header inv.done c.in-Some-Section.id frame (hook_answered g.R.ReencodeIndices c.sections.reencoder c.add_between.new.reencoder c.sections.sink.sections c.add_between.new.sink.sections (Section c.sections.last (Some c.in-Some-Section.id)) c.in_ok-add_between-in-Some-Section.ensures.answer c.in_ok-add_between-in-Some-Section.ensures.fits) (record { kept = e.kept; default = e.default; after_error = e.after_error })) (hook_answered g.R.ReencodeIndices c.add_kind.new.reencoder c.add_between-in-Ok.new.reencoder c.add_kind.new.sink.sections c.add_between-in-Ok.new.sink.sections (Closed c.in-Some-Section.id) c.in_ok-add_between-in-Ok.ensures.answer c.in_ok-add_between-in-Ok.ensures.fits);
+      same = c.in_ok-add_between-in-Ok.ensures.input ∙ e.input ∙ c.in_ok-add_between-in-Some-Section.ensures.input ∙ inv.same;
       stands = (inv.stands.0 ++ frame.text, behind c.args.bytes.now inv.stands.0 _ frame.text _ inv.stands.1 frame.reads);
       ranges = λ d.
           let K : List Range → Type 0 = λ z. KeepsKind (asks g.R.ReencodeIndices) c.add_between.new.sink.sections.ceiling c.in-Some-Section.id c.saturating_sub-start.result c.in-Some-Section.body.now c.add_between.new.reencoder c.add_kind.new.reencoder z c.add_kind.new.sink.kept in
-          ranges_more (asks g.R.ReencodeIndices) g.R.ReencodeIndices.adds _ c.sections.sink.kept c.add_kind.new.sink.kept (inv.ranges d) (call.reached d) call.put (call.gives d)
-          (λ text x t u st rd i w. kind_one (asks g.R.ReencodeIndices) _ c.in-Some-Section.id _ _ c.saturating_sub-start.result (8 + length text) _ x _ c.in-Some-Section.body.now t u _ _ (subst K same_kept (e.ranges d)) i rd frame
+          let L : List Range → Type 0 = λ z. KeepsKind (asks g.R.ReencodeIndices) c.add_between.new.sink.sections.ceiling c.in-Some-Section.id c.saturating_sub-start.result c.in-Some-Section.body.now c.add_between.new.reencoder c.add_kind.new.reencoder c.sections.sink.kept z in
+          ranges_more (asks g.R.ReencodeIndices) g.R.ReencodeIndices.adds _ c.sections.sink.kept c.add_between-in-Ok.new.sink.kept (inv.ranges d) (call.reached d) call.put (call.gives d)
+          (record { own = g.R.ReencodeIndices.adds c.add_kind.new.reencoder (Closed c.in-Some-Section.id); gains = c.in_ok-add_between-in-Ok.ensures.answer.1; there = AddedAt.known c.in-Some-Section.id c.in-Some-Section.body.now c.add_between-in-Ok.new.reencoder c.in_ok-add_between-in-Ok.ensures.answer.0; fits = c.in_ok-add_between-in-Ok.ensures.fits })
+          (λ text x t u st rd i w. kind_one (asks g.R.ReencodeIndices) _ c.in-Some-Section.id _ _ c.saturating_sub-start.result (8 + length text) _ x _ c.in-Some-Section.body.now t u _ _ (subst L (sym c.in_ok-add_between-in-Ok.ensures.ranges) (subst K same_kept (e.ranges d))) i rd frame
           (body_place c.args.bytes.now _ text _ x _ _ header.stands st rd end) w);
     }
 
@@ -185,10 +237,10 @@ sections-preserved-in-Ok-add_custom g c =
     let e = c.in-Ok-add_custom.ensures in
     let call = custom_called g.R.ReencodeIndices keeps header inv.done frame (record { kept = e.kept; default = e.default; after_error = e.after_error }) in
     record {
-      done = core_more g.R.ReencodeIndices keeps header inv.done refl c.in_ok-id.ensures.len (custom_called g.R.ReencodeIndices keeps header inv.done frame (record { kept = e.kept; default = e.default; after_error = e.after_error }));
+      done = core_more g.R.ReencodeIndices keeps header inv.done refl c.in_ok-id.ensures.len (custom_called g.R.ReencodeIndices keeps header inv.done frame (record { kept = e.kept; default = e.default; after_error = e.after_error })) (AddedAt.custom _ _);
       same = e.input ∙ inv.same;
       stands = (inv.stands.0 ++ frame.text, behind c.args.bytes.now inv.stands.0 _ frame.text _ inv.stands.1 frame.reads);
-      ranges = λ d. ranges_more (asks g.R.ReencodeIndices) g.R.ReencodeIndices.adds _ c.sections.sink.kept c.add_custom.new.sink.kept (inv.ranges d) (call.reached d) call.put (call.gives d) (λ text x t u st rd i w. inr (custom_not_code _ _ t i, e.ranges));
+      ranges = λ d. ranges_more (asks g.R.ReencodeIndices) g.R.ReencodeIndices.adds _ c.sections.sink.kept c.add_custom.new.sink.kept (inv.ranges d) (call.reached d) call.put (call.gives d) (nothing_put (AddedAt.custom _ _)) (λ text x t u st rd i w. inr (custom_not_code _ _ t i, e.ranges));
     }
 
 pub returns-in-Err-add_custom-clause-default : goal.returns-in-Err-add_custom-clause-default
@@ -245,10 +297,10 @@ sections-preserved g c =
     let e = c.in-Ok-add_unknown.ensures in
     let call = unknown_called g.R.ReencodeIndices keeps header inv.done low frame (record { kept = e.kept; default = e.default; after_error = e.after_error; usual = e.usual }) in
     record {
-      done = core_more g.R.ReencodeIndices keeps header inv.done refl c.in_ok-id.ensures.len (unknown_called g.R.ReencodeIndices keeps header inv.done low frame (record { kept = e.kept; default = e.default; after_error = e.after_error; usual = e.usual }));
+      done = core_more g.R.ReencodeIndices keeps header inv.done refl c.in_ok-id.ensures.len (unknown_called g.R.ReencodeIndices keeps header inv.done low frame (record { kept = e.kept; default = e.default; after_error = e.after_error; usual = e.usual })) (AddedAt.unknown _ _ low);
       same = e.input ∙ inv.same;
       stands = (inv.stands.0 ++ frame.text, behind c.args.bytes.now inv.stands.0 _ frame.text _ inv.stands.1 frame.reads);
-      ranges = λ d. ranges_more (asks g.R.ReencodeIndices) g.R.ReencodeIndices.adds _ c.sections.sink.kept c.add_unknown.new.sink.kept (inv.ranges d) (call.reached d) call.put (call.gives d) (λ text x t u st rd i w. inr (unknown_not_code _ _ t low i, e.ranges));
+      ranges = λ d. ranges_more (asks g.R.ReencodeIndices) g.R.ReencodeIndices.adds _ c.sections.sink.kept c.add_unknown.new.sink.kept (inv.ranges d) (call.reached d) call.put (call.gives d) (nothing_put (AddedAt.unknown _ _ low)) (λ text x t u st rd i w. inr (unknown_not_code _ _ t low i, e.ranges));
     }
 
 pub returns-in-Err-add_unknown-clause-default : goal.returns-in-Err-add_unknown-clause-default
