@@ -3,7 +3,7 @@ use Rattle.std.proofs.Common.{◌≡◌, ◌≢◌, ℕ, List, [], ◌∷◌, �
 use Rattle.wasm_shapes.specs.declared.SectionId.{SectionId}
 use Rattle.wasm_shapes.specs.declared.Visit.{Visit}
 use Rattle.wasm_shapes.specs.declared.Visit.TheVariants.{Section, Closed}
-use Rattle.wasm_shapes.specs.Tree.{Tree, normal}
+use Rattle.wasm_shapes.specs.Tree.{Tree}
 use Rattle.wasm_shapes.specs.Module.{alsos}
 use Rattle.wasm_write.specs.Sections.{Sections, SectionRow, framed_tree, section_bytes, sections_bytes}
 use Rattle.reencode_hooks.specs.declared.error.Error.{Error}

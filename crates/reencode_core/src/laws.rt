@@ -24,7 +24,7 @@ pub fn fault_tells<T: ReencodeIndices>(_reencoder: &T)
 {}
 
 /// With an error of the bytes the module has gained what all the sections before the fault became, with what the section hook
-/// added before each, and of its own sections before what is at fault all of them.
+/// added before each and the closing hook behind it, and of the section hook's own sections before what is at fault all of them.
 pub fn fault_gains<T: ReencodeIndices>(_reencoder: &T)
     ensures { FaultGains (ask T.reply T.next) T.adds }
 {}
@@ -44,30 +44,31 @@ pub fn fault_is_answered<T: ReencodeIndices, A>(_reencoder: &T, _answers: &[A])
     ensures { (view : A → List ℕ) → FaultIsAnswered (ask T.reply T.next) T.adds view }
 {}
 
-/// Where a section hook adds nothing, the walk with what it adds is the plain walk.
+/// Where the section hooks add nothing, the walk with what they add is the plain walk.
 pub fn weave_of_nothing<T: ReencodeIndices>(_reencoder: &T)
     ensures { WeaveOfNothing (ask T.reply T.next) }
 {}
 
-/// Whatever a section hook adds, the walk with it ends as the plain walk does: accepted or by the same refusal, in the same state.
+/// Whatever the section hooks add, the walk with it ends as the plain walk does: accepted or by the same refusal, in the same
+/// state.
 pub fn weave_ends<T: ReencodeIndices>(_reencoder: &T)
     ensures { WeaveEnds (ask T.reply T.next) }
 {}
 
-/// A walk with what a section hook adds over a tree that bytes spell is accepted exactly where the fold of the hooks over its
+/// A walk with what the section hooks add over a tree that bytes spell is accepted exactly where the fold of the hooks over its
 /// visits is, and no frame of the filled tree is above the ceiling; it gives the filled tree with what is added where it is.
 pub fn weave_is_run<T: ReencodeIndices>(_reencoder: &T)
     ensures { WeaveIsRun (ask T.reply T.next) }
 {}
 
-/// Where the sections that the hook adds at the section visits of a reading have readings, the output of an accepted walk over it
+/// Where the sections that the hooks add at the section visits of a reading have readings, the output of an accepted walk over it
 /// is read as one tree alone: the filled tree, with the readings of what was added in their places.
 pub fn output_is_read<T: ReencodeIndices>(_reencoder: &T)
     ensures { OutputIsRead (ask T.reply T.next) T.adds }
 {}
 
 /// What answers as the clause `woven` of `reencode_core` says is complete: where the bytes have a reading, no section that the
-/// section hook adds at one of its visits is above the ceiling, and the walk over the reading with the added sections is accepted,
+/// section hooks add at one of its visits is above the ceiling, and the walk over the reading with the added sections is accepted,
 /// the answer is the normal spelling of its tree, in its state, or memory runs out. `A` is the answer's type; the slice may be
 /// empty.
 pub fn accepted_is_answered<T: ReencodeIndices, A>(_reencoder: &T, _answers: &[A])
