@@ -9,7 +9,7 @@ use Rattle.wasm_shapes.specs.declared.Visit.{Visit}
 use Rattle.wasm_shapes.specs.declared.Visit.TheVariants.{Section, Closed}
 use Rattle.wasm_shapes.specs.Drawn.{Drawn}
 use Rattle.wasm_shapes.specs.Tree.{Tree, before, behind, kind, normal, visits, visits_from}
-use Rattle.wasm_shapes.proofs.Drawn.{drawn_behind, drawn_closing, drawn_front, drawn_hook, drawn_joined, drawn_none}
+use Rattle.wasm_shapes.proofs.Drawn.{drawn_behind, drawn_front, drawn_hook, drawn_joined, drawn_none}
 use Rattle.wasm_shapes.specs.Spells.{Is, Spelled, Spells}
 use Rattle.wasm_shapes.specs.Place.{Begins, BeginsNone}
 use Rattle.wasm_shapes.specs.CodeSize.{InvalidCodeSize}
@@ -36,7 +36,7 @@ use Rattle.reencode_core.specs.Holds.{FrameLeaves, HoldsSections}
 use Rattle.reencode_core.specs.Rows.{Asks}
 use Rattle.reencode_core.specs.Core.{hooked, closed_off, onto, AcceptsSections, RefusedIn, StopsThere, BeforeFault, IsCause}
 use Rattle.reencode_core.specs.Weave.{Puts, added, kind_after, put_at, put_before, put_behind, woven_one, weave, weave_from}
-use Rattle.reencode_core.specs.Woven.{AddsFit, IsOwn, IsPart, StopsHook, StopsHooked, StopsNext, WeavesSections, StopsWoven, GivesWovenModule, OwnBehind, OwnNext, WovenFront, OwnTooLarge, IsWovenCause, AddedAt, AddedThere, GainsBefore, GivesWoven}
+use Rattle.reencode_core.specs.Woven.{AddsFit, IsOwn, IsPart, StopsHook, StopsHooked, StopsNext, WeavesSections, StopsWoven, GivesWovenModule, OwnNext, WovenFront, OwnTooLarge, IsWovenCause, AddedAt, AddedThere, GainsBefore, GivesWoven}
 use Rattle.reencode_core.proofs.AddsNothing.{none_own}
 use Rattle.reencode_core.proofs.Fitting.{fits_begin, fits_more, none_too_large, rows_none}
 use Rattle.reencode_core.proofs.Weaves.{alsos-append}
@@ -779,17 +779,23 @@ module _ {S E : Type 0} (asked : Asks S E) (adds : Puts S SectionRow) where
         why : IsOwn held.ceiling closing e ⊎ ((e ≢ NoMemory → asked l (Closed k) ≡ refused e s') × IfParse e (λ at. ⊥)) →
             OwnTooLarge asked adds old.ceiling bytes s0 e ⊎ Refuses (numbered_frame (number k) body) e s'
         why (inl x) =
-            inl (own_large {e = e} (inr (k, body, left, there, inr (record {
-              from = n;
-              told = told.0;
-              fits = fitting;
-              tree = t;
-              there = in_it;
-              made = (g.reading t in_it).0;
-              at = l;
-              walked = walked t in_it;
-              own = own_there e x;
-            }))))
+            inl (own_large {e = e} (inr (
+              k,
+              body,
+              left,
+              there,
+              inr (record {
+                from = n;
+                told = told.0;
+                fits = fitting;
+                tree = t;
+                there = in_it;
+                made = (g.reading t in_it).0;
+                at = l;
+                walked = walked t in_it;
+                own = own_there e x;
+              }),
+            )))
         why (inr r) = inr (
           (λ u i other. followed_refused asked old.ceiling last s n l s' u (g.reading u i).0 e (announced_is u i) (walked u i) (kind_followed asked k l i ∙ r.0 other)),
           r.1,

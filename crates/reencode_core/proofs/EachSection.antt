@@ -35,7 +35,7 @@ use Rattle.reencode_core.specs.Holds.{FrameLeaves, HoldsCore}
 use Rattle.reencode_core.specs.Leaves.{CoreUpTo, EndsBy, Leaves, TellsFault, LeavesCore, NoCoreHeading, LeavesMade, custom_in, module_in, section_in}
 use Rattle.reencode_core.specs.Clauses.{CustomClauses, ModuleClauses, SectionClauses, UnknownClauses, asks}
 use Rattle.reencode_core.proofs.AddsNothing.{added_none, core_given}
-use Rattle.reencode_core.proofs.CoreLoop.{SectionsDone, Put, PutBefore, nothing_put, closing_refused, core_leaves_closing, core_leaves_hook, core_leaves_inside, core_leaves_none, end_given, end_left, header_wrong, hook_refused, hook_told, hook_usual, no_header, hook_stops, no_frame, section_err, section_held, sections_begin, sections_more}
+use Rattle.reencode_core.proofs.CoreLoop.{SectionsDone, PutBefore, nothing_put, closing_refused, core_leaves_closing, core_leaves_hook, core_leaves_inside, core_leaves_none, end_given, end_left, header_wrong, hook_refused, hook_told, hook_usual, no_header, hook_stops, no_frame, section_err, section_held, sections_begin, sections_more}
 use Rattle.reencode_core.proofs.AnySection.{GivesFramed, Reached, kind_gives, kind_reached, custom_gives, custom_reached, unknown_gives, unknown_reached}
 use Rattle.reencode_core.proofs.Known.{keeps_same, keeps_more, hook_keeps}
 use Rattle.reencode_core.proofs.OneRow.{answers}

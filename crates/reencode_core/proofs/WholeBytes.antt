@@ -78,17 +78,23 @@ module _ {S E : Type 0} (asked : Asks S E) (adds : Puts S SectionRow) where
       go : {u g : Tree} → InFrame u g → Spells frame b.1.text g → announced asked s last u ≡ accepted 0 n → ((size : ℕ) → ¬ HasTooLarge c (put_before adds s last u) size) → walk asked c n u ≡ accepted made l →
           IsOwn c (put_behind adds l u) e → OwnNext asked adds c last s x e
       go (InFrame.of_kind k u body low r) spells told fits walked h =
-          inr (k, body, b.0, record { text = b.1.text; spells = spells; reads = b.1.reads }, inr (record {
-            from = n;
-            told = told;
-            fits = fits;
-            tree = tree_of k u;
-            there = InFrame.of_kind k u body low r;
-            made = made;
-            at = l;
-            walked = walked;
-            own = h;
-          }))
+          inr (
+            k,
+            body,
+            b.0,
+            record { text = b.1.text; spells = spells; reads = b.1.reads },
+            inr (record {
+              from = n;
+              told = told;
+              fits = fits;
+              tree = tree_of k u;
+              there = InFrame.of_kind k u body low r;
+              made = made;
+              at = l;
+              walked = walked;
+              own = h;
+            }),
+          )
       go (InFrame.of_custom name contents u r) spells told fits walked h = absurd (none_own c [] e refl h)
       go (InFrame.of_unknown id contents low high) spells told fits walked h = absurd (none_own c [] e refl h)
 

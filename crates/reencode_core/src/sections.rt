@@ -11,8 +11,8 @@ ghost use Rattle.reencode_core.specs.Sections.{AddsMapped, HasBody, NoBody, NoIt
 use reencode_hooks::{Error, ReencodeIndices};
 use wasm_leb::{ReadError, front_u32};
 use wasm_read as r;
-use wasm_shapes::{SectionId, Visit};
 use wasm_shapes::kinds::SectionKind;
+use wasm_shapes::{SectionId, Visit};
 use wasm_write::{Module, RowSection, Section};
 
 /// The one item that fills the body of a section. The error holds the place where it is due and none begins, or where bytes
