@@ -20,6 +20,8 @@ mod refusing_tests;
 #[cfg(test)]
 mod section_tests;
 #[cfg(test)]
+mod told;
+#[cfg(test)]
 mod type_calls_tests;
 #[cfg(test)]
 mod type_tests;

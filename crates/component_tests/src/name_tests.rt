@@ -173,51 +173,79 @@ fn section_of_names(rt: HostRuntime) -> Result<(), WriteFault> {
     Ok(())
 }
 
-/// Each index of a map is asked in the space of its sort; what is read by its bytes stays.
-#[test]
-fn names_are_mapped(rt: HostRuntime) -> Result<(), Error<Unmapped>> {
-    let alloc = rt.alloc();
-    let mut renamer = Renamer::new(alloc);
-    renamer.set(Space::ComponentFunc, 0, 2)?;
-    renamer.set(Space::Instance, 0, 3)?;
-    let body =
-        b"\x00\x02\x01c\x01\x05\x01\x01\x00\x01f\x01\x06\x00\x12\x01\x00\x01i\x01\x05\x02\x01\x00\x01v\x07\x01\x09";
-    let made =
-        b"\x00\x02\x01c\x01\x05\x01\x01\x02\x01f\x01\x06\x00\x12\x01\x03\x01i\x01\x05\x02\x01\x00\x01v\x07\x01\x09";
-    for by_function in [false, true] {
-        let rows = ComponentNameSectionReader::new(body)?;
-        let names = if by_function {
-            component_utils::custom_component_name_section(&mut renamer, alloc, rows, 1000)?
-        } else {
-            renamer.custom_component_name_section(alloc, rows, 1000)?
-        };
-        let mut bytes = Vec::new(alloc);
-        assert_eq!(rt; names.encode_body(&mut bytes), Ok(()));
-        assert_eq!(rt; behind_name(bytes.as_slice()), made as &[u8]);
+/// Names of a component, of function 0, of instance 0 and of value 0, and what is read by its bytes.
+const NAMES: &[u8] =
+    b"\x00\x02\x01c\x01\x05\x01\x01\x00\x01f\x01\x06\x00\x12\x01\x00\x01i\x01\x05\x02\x01\x00\x01v\x07\x01\x09";
+
+/// The same of function 2 and instance 3.
+const RENAMED: &[u8] =
+    b"\x00\x02\x01c\x01\x05\x01\x01\x02\x01f\x01\x06\x00\x12\x01\x03\x01i\x01\x05\x02\x01\x00\x01v\x07\x01\x09";
+
+/// Whether a section holds these subsections behind its name.
+fn holds(alloc: Global, names: ComponentNameSection, subsections: &[u8]) -> bool {
+    let mut bytes = Vec::new(alloc);
+    match names.encode_body(&mut bytes) {
+        Ok(()) => behind_name(bytes.as_slice()) == subsections,
+        Err(_) => false,
     }
-    Ok(())
+}
+
+/// Each index of a map is asked in the space of its sort; what is read by its bytes stays.
+fn mapped<R: ReencodeComponent>(of: &mut R, alloc: Global) -> Result<[bool; 2], Error<R::Error>> {
+    let rows = ComponentNameSectionReader::new(NAMES)?;
+    let by_method = of.custom_component_name_section(alloc, rows, 1000)?;
+    let rows = ComponentNameSectionReader::new(NAMES)?;
+    let by_function = component_utils::custom_component_name_section(of, alloc, rows, 1000)?;
+    Ok([
+        holds(alloc, by_method, RENAMED),
+        holds(alloc, by_function, RENAMED),
+    ])
 }
 
 /// The place is that of the subsection in fault.
-#[test]
-fn names_in_fault(rt: HostRuntime) -> Result<(), Error<Unmapped>> {
-    let mut renamer = Renamer::new(rt.alloc());
+fn in_fault<R: ReencodeComponent>(of: &mut R, alloc: Global) -> Result<bool, Error<R::Error>>
+where
+    R::Error: Drop,
+{
     let rows = ComponentNameSectionReader::new(&[7u8, 0, 1, 3, 1, 1, 0])?;
-    match renamer.custom_component_name_section(rt.alloc(), rows, 1000) {
-        Err(Error::ParseError(error)) => assert_eq!(rt; error, ReadError { at: 2 }),
-        _ => assert!(rt; false),
-    }
+    Ok(match of.custom_component_name_section(alloc, rows, 1000) {
+        Err(Error::ParseError(ReadError { at })) => at == 2,
+        _ => false,
+    })
+}
+
+/// Both.
+fn all<R: ReencodeComponent>(
+    of: &mut R,
+    alloc: Global,
+) -> Result<([bool; 2], bool), Error<R::Error>>
+where
+    R::Error: Drop,
+{
+    Ok((mapped(of, alloc)?, in_fault(of, alloc)?))
+}
+
+#[test]
+fn names_are_mapped(rt: HostRuntime) -> Result<(), Error<Unmapped>> {
+    let mut renamer = Renamer::new(rt.alloc());
+    renamer.set(Space::ComponentFunc, 0, 2)?;
+    renamer.set(Space::Instance, 0, 3)?;
+    assert_eq!(rt; all(&mut renamer, rt.alloc())?, ([true; 2], true));
     Ok(())
+}
+
+/// What a component becomes where function 0 becomes function 2.
+fn made(alloc: Global, bytes: &[u8]) -> Result<Vec<u8>, Error<Unmapped>> {
+    let mut renamer = Renamer::new(alloc);
+    renamer.set(Space::ComponentFunc, 0, 2)?;
+    reencode(alloc, &mut renamer, bytes)
 }
 
 /// A function's name follows its index.
 #[test]
 fn names_in_a_component(rt: HostRuntime) -> Result<(), Error<Unmapped>> {
-    let mut renamer = Renamer::new(rt.alloc());
-    renamer.set(Space::ComponentFunc, 0, 2)?;
-    let made = reencode(
+    let made = made(
         rt.alloc(),
-        &mut renamer,
         b"\0asm\x0d\0\x01\0\x00\x16\x0ecomponent-name\x01\x05\x01\x01\x00\x01f",
     )?;
     assert_eq!(rt;
@@ -230,10 +258,8 @@ fn names_in_a_component(rt: HostRuntime) -> Result<(), Error<Unmapped>> {
 /// A custom section of another name is copied.
 #[test]
 fn another_custom_section(rt: HostRuntime) -> Result<(), Error<Unmapped>> {
-    let mut renamer = Renamer::new(rt.alloc());
-    renamer.set(Space::ComponentFunc, 0, 2)?;
     let bytes = b"\0asm\x0d\0\x01\0\x00\x0b\x04name\x01\x04\x01\x00\x01f\x0c\x00" as &[u8];
-    let made = reencode(rt.alloc(), &mut renamer, bytes)?;
+    let made = made(rt.alloc(), bytes)?;
     assert_eq!(rt; made.as_slice(), bytes);
     Ok(())
 }
@@ -241,12 +267,11 @@ fn another_custom_section(rt: HostRuntime) -> Result<(), Error<Unmapped>> {
 /// A body of the id 0 that begins with no name is no section, nor is one whose names have a fault.
 #[test]
 fn custom_sections_without_a_reading(rt: HostRuntime) {
-    let mut renamer = Renamer::new(rt.alloc());
     for bytes in [
         b"\0asm\x0d\0\x01\0\x0c\x00\x00\x02\x02f" as &[u8],
         b"\0asm\x0d\0\x01\0\x0c\x00\x00\x10\x0ecomponent-name\x00",
     ] {
-        match reencode(rt.alloc(), &mut renamer, bytes) {
+        match made(rt.alloc(), bytes) {
             Err(Error::ParseError(error)) => assert_eq!(rt; error, ReadError { at: 10 }),
             _ => assert!(rt; false, "of {bytes:?}"),
         }

@@ -1,6 +1,7 @@
 //! Core modules and components in a component.
-use crate::calls_tests::component_renamer;
+use crate::told::component_renamer;
 use examples::Marks;
+use reencode_component::ReencodeComponent;
 use reencode_component::component_utils::{
     parse_component, parse_component_subcomponent, parse_component_submodule,
 };
@@ -171,16 +172,25 @@ fn scopes(rt: HostRuntime) -> Result<(), Error<Unmapped>> {
     Ok(())
 }
 
+/// Whether neither a module nor a component opens a scope below the last.
+fn is_last<R: ReencodeComponent>(of: &mut R, alloc: Global, component: &mut Component) -> [bool; 2]
+where
+    R::Error: Drop,
+{
+    let module = parse_component_submodule(of, alloc, component, &MODULE, 200);
+    let inner = parse_component_subcomponent(of, alloc, component, &COMPONENT, 200);
+    [
+        matches!(module, Err(Error::ParseError(ReadError { at: 0 }))),
+        matches!(inner, Err(Error::ParseError(ReadError { at: 0 }))),
+    ]
+}
+
 #[test]
 fn no_further_scope(rt: HostRuntime) -> Result<(), Error<Unmapped>> {
     let alloc = rt.alloc();
     let mut renamer = component_renamer(alloc)?;
     let mut component = Component::new(alloc, u32::MAX)?;
-    let module = parse_component_submodule(&mut renamer, alloc, &mut component, &MODULE, 200);
-    let inner = parse_component_subcomponent(&mut renamer, alloc, &mut component, &COMPONENT, 200);
-    for refused in [module, inner] {
-        assert!(rt; matches!(refused, Err(Error::ParseError(ReadError { at: 0 }))));
-    }
+    assert_eq!(rt; is_last(&mut renamer, alloc, &mut component), [true; 2]);
     assert_eq!(rt; (renamer.count(Asked::Push), component.len()), (0, 0));
     Ok(())
 }

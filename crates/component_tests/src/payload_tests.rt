@@ -1,5 +1,5 @@
 //! The call that maps one section of a component, at a payload of each kind.
-use crate::calls_tests::component_renamer;
+use crate::told::component_renamer;
 use reencode_component::component_utils::parse_component_payload;
 use reencode_hooks::{Error, Unmapped};
 use std::alloc::Global;

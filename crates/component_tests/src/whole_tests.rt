@@ -1,5 +1,5 @@
 //! Whole binaries, by their header.
-use crate::calls_tests::component_renamer;
+use crate::told::component_renamer;
 use reencode_component::{reencode, reencode_within};
 use reencode_hooks::{Asked, Error, Renamer, Unmapped};
 use std::alloc::Global;
@@ -21,13 +21,18 @@ fn strict_renamer(alloc: Global) -> Result<Renamer, NoMemory> {
     Ok(renamer)
 }
 
+/// What a renamer makes of a binary.
+fn made(alloc: Global, renamer: &mut Renamer, bytes: &[u8]) -> Result<Vec<u8>, Error<Unmapped>> {
+    reencode(alloc, renamer, bytes)
+}
+
 #[test]
 fn a_component(rt: HostRuntime) -> Result<(), Error<Unmapped>> {
     let alloc = rt.alloc();
     let mut renamer = component_renamer(alloc)?;
-    let made = reencode(alloc, &mut renamer, COMPONENT)?;
+    let same = made(alloc, &mut renamer, COMPONENT)?;
     assert_eq!(rt;
-        made.as_slice(),
+        same.as_slice(),
         b"\0asm\x0d\0\x01\0\x06\x05\x01\x03\x02\x01\x0b" as &[u8]
     );
     let refused = reencode_within(alloc, &mut renamer, COMPONENT, 4);
@@ -38,10 +43,10 @@ fn a_component(rt: HostRuntime) -> Result<(), Error<Unmapped>> {
 #[test]
 fn a_core_module(rt: HostRuntime) -> Result<(), Error<Unmapped>> {
     let alloc = rt.alloc();
-    let made = reencode(alloc, &mut Renamer::new(alloc), MODULE)?;
-    assert_eq!(rt; made.as_slice(), MODULE);
+    let same = made(alloc, &mut Renamer::new(alloc), MODULE)?;
+    assert_eq!(rt; same.as_slice(), MODULE);
     let mut renamer = strict_renamer(alloc)?;
-    let refused = reencode(alloc, &mut renamer, MODULE);
+    let refused = made(alloc, &mut renamer, MODULE);
     assert!(rt;
         matches!(
             &refused,

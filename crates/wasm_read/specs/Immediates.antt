@@ -1,5 +1,6 @@
 -- What immediates stand for, and their kinds (WebAssembly Core Specification 3.0, section 5.4).
-use Rattle.std.specs.Prelude.{ℕ, if◌then◌else◌, List, [], ◌∷◌, length, map, Option}
+use Rattle.std.specs.Prelude.{ℕ, ◌≡◌, ⊤, if◌then◌else◌, List, [], ◌∷◌, length, map, Option, Some, None}
+use Rattle.std.specs.Borrow.{Bor}
 use Rattle.std.specs.Int.{to_le_bytes, w32, w64}
 use Rattle.wasm_shapes.specs.declared.Space.TheVariants as space
 use Rattle.wasm_shapes.specs.declared.ImmKind.{ImmKind}
@@ -25,6 +26,13 @@ Imm = of_imm.Imm BlockType UnpackedIndex
 -- its kind, or none
 abbrev pub imm_kind : Imm → Option ImmKind
 imm_kind i = of.imm_kind i
+
+-- this stands behind what was read, where something was
+abbrev pub IsBehind : Option (Imm × Bor (List ℕ)) → Option (Bor (List ℕ)) → Type 0
+IsBehind (Some read) (Some rest) = read.1 ≡ rest
+IsBehind (Some read) None = ⊥
+IsBehind None (Some rest) = ⊥
+IsBehind None None = ⊤
 
 -- ---- trees
 

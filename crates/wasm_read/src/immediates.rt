@@ -6,7 +6,7 @@ ghost use Rattle.wasm_shapes.specs.Tree.{Tree};
 ghost use Rattle.wasm_shapes.specs.Operators.{code_of};
 ghost use Rattle.wasm_shapes.specs.Types.{cast_flags};
 ghost use Rattle.wasm_read.specs.Types.{heap_type_tree};
-ghost use Rattle.wasm_read.specs.Immediates.{block_type_tree, imm_tree, imms_tree, imm_kind, is_core};
+ghost use Rattle.wasm_read.specs.Immediates.{block_type_tree, IsBehind, imm_tree, imms_tree, imm_kind, is_core};
 ghost use Rattle.wasm_read.specs.Operations.{BeginsCode, BeginsNoCode, is_core_kind, AreCore};
 
 use crate::types::{
@@ -541,18 +541,18 @@ pub fn front_imms<'a>(
     Ok(Some((imms, rest)))
 }
 
-/// The bytes behind what was read.
-macro_rules! behind {
-    ($read:expr) => {
-        match $read {
-            Some((_, rest)) => Some(rest),
-            None => None,
-        }
-    };
+/// The bytes behind an immediate that was read.
+#[inline(always)]
+fn behind<'a>(read: Option<(Imm<'a>, &'a [u8])>) -> Option<&'a [u8]>
+    ensures { IsBehind read.entry result }
+{
+    match read {
+        Some((_, rest)) => Some(rest),
+        None => None,
+    }
 }
 
 /// The bytes behind the immediate of a kind at the front of some bytes. It takes no memory.
-#[tactic(auto, using(crate::proofs::OfKinds::passed))]
 fn behind_imm(kind: ImmKind, bytes: &[u8]) -> Option<&[u8]>
     requires { is_core_kind kind ≡ true }
     ensures some { IfSome result (λ r.
@@ -560,27 +560,27 @@ fn behind_imm(kind: ImmKind, bytes: &[u8]) -> Option<&[u8]>
     ensures none { IfNone result (BeginsNone (shape_of_kind kind) bytes.now) }
 {
     match kind {
-        ImmKind::Block => behind!(front_block(bytes)),
-        ImmKind::Label => behind!(front_label(bytes)),
+        ImmKind::Block => behind(front_block(bytes)),
+        ImmKind::Label => behind(front_label(bytes)),
         ImmKind::Labels => behind_labels(bytes),
-        ImmKind::Index(space) => behind!(front_index(space, bytes)),
-        ImmKind::Local => behind!(front_local(bytes)),
-        ImmKind::Field => behind!(front_field(bytes)),
-        ImmKind::Size => behind!(front_size(bytes)),
+        ImmKind::Index(space) => behind(front_index(space, bytes)),
+        ImmKind::Local => behind(front_local(bytes)),
+        ImmKind::Field => behind(front_field(bytes)),
+        ImmKind::Size => behind(front_size(bytes)),
         ImmKind::Types => behind_vec::<ValType>(bytes),
-        ImmKind::Mem => behind!(front_mem(bytes)),
-        ImmKind::S32 => behind!(front_s32_imm(bytes)),
-        ImmKind::S64 => behind!(front_s64_imm(bytes)),
-        ImmKind::Four => behind!(front_four(bytes)),
-        ImmKind::Eight => behind!(front_eight(bytes)),
-        ImmKind::Sixteen => behind!(front_sixteen(bytes)),
-        ImmKind::Lanes => behind!(front_lanes(bytes)),
-        ImmKind::Lane => behind!(front_lane(bytes)),
-        ImmKind::Heap => behind!(front_heap(bytes)),
+        ImmKind::Mem => behind(front_mem(bytes)),
+        ImmKind::S32 => behind(front_s32_imm(bytes)),
+        ImmKind::S64 => behind(front_s64_imm(bytes)),
+        ImmKind::Four => behind(front_four(bytes)),
+        ImmKind::Eight => behind(front_eight(bytes)),
+        ImmKind::Sixteen => behind(front_sixteen(bytes)),
+        ImmKind::Lanes => behind(front_lanes(bytes)),
+        ImmKind::Lane => behind(front_lane(bytes)),
+        ImmKind::Heap => behind(front_heap(bytes)),
         ImmKind::Catches => behind_vec::<Catch>(bytes),
-        ImmKind::Cast => behind!(front_cast(bytes)),
+        ImmKind::Cast => behind(front_cast(bytes)),
         ImmKind::Handlers => behind_vec::<Handle>(bytes),
-        ImmKind::Zero => behind!(front_zero(bytes)),
+        ImmKind::Zero => behind(front_zero(bytes)),
     }
 }
 
@@ -593,7 +593,10 @@ fn behind_labels(bytes: &[u8]) -> Option<&[u8]>
     let Some(rest) = behind_vec::<u32>(bytes) else {
         return None;
     };
-    behind!(front_u32(rest))
+    match front_u32(rest) {
+        Some((_, rest)) => Some(rest),
+        None => None,
+    }
 }
 
 /// The bytes behind immediates of some kinds at the front of some bytes. It takes no memory.
