@@ -9,115 +9,93 @@ use wasm_read_component as r;
 use wasm_shapes::Space;
 use wasm_write_component as w;
 
-/// Whether the rows of a body become these, twice: by a section's method, and by its function.
+/// The body of a section, and what its rows become, twice.
+type Rows = (&'static [u8], &'static [u8]);
+
+const IMPORTS: Rows = (
+    &[1, 0x01, 1, 0x61, 0x01, 1],
+    &[0x00, 1, 0x61, 0x01, 11, 0x00, 1, 0x61, 0x01, 11],
+);
+
+const ALIASES: Rows = (
+    &[1, 0x03, 0x02, 1, 1],
+    &[0x03, 0x02, 1, 11, 0x03, 0x02, 1, 11],
+);
+
+const EXPORTS: Rows = (
+    &[1, 0x00, 1, 0x61, 0x02, 1, 0x00],
+    &[0x00, 1, 0x61, 0x02, 11, 0x00, 0x00, 1, 0x61, 0x02, 11, 0x00],
+);
+
+const CANONICALS: Rows = (
+    &[1, 0x00, 0x00, 1, 1, 0x03, 1, 1],
+    &[
+        0x00, 0x00, 11, 1, 0x03, 11, 11, 0x00, 0x00, 11, 1, 0x03, 11, 11,
+    ],
+);
+
+const COMPONENT_INSTANCES: Rows = (
+    &[1, 0x00, 1, 1, 1, 0x61, 0x05, 1],
+    &[
+        0x00, 11, 1, 1, 0x61, 0x05, 11, 0x00, 11, 1, 1, 0x61, 0x05, 11,
+    ],
+);
+
+const INSTANCES: Rows = (
+    &[1, 0x00, 1, 1, 1, 0x61, 0x12, 1],
+    &[
+        0x00, 11, 1, 1, 0x61, 0x12, 11, 0x00, 11, 1, 1, 0x61, 0x12, 11,
+    ],
+);
+
+/// Whether they become that: by a section's method, and by its function.
 macro_rules! becomes {
-    ($of:ident, $alloc:ident, $body:ident, $right:ident; $method:ident, $reader:ident, $sink:ident) => {{
+    ($of:ident, $alloc:ident, $rows:ident; $method:ident, $reader:ident, $sink:ident) => {{
+        let (body, right) = $rows;
         let mut made = w::$sink::new($alloc);
-        let rows = r::$reader::new($body)?;
+        let rows = r::$reader::new(body)?;
         $of.$method($alloc, &mut made, rows)?;
-        let rows = r::$reader::new($body)?;
+        let rows = r::$reader::new(body)?;
         component_utils::$method($of, $alloc, &mut made, rows)?;
-        Ok(made.as_slice() == $right)
+        Ok(made.as_slice() == right)
     }};
 }
 
-type Holds<R> = Result<bool, Error<R>>;
+type Holds<E> = Result<bool, Error<E>>;
 
-fn imports<R: Told>(of: &mut R, alloc: Global, body: &[u8], right: &[u8]) -> Holds<R::Error> {
-    becomes!(of, alloc, body, right; parse_component_import_section, ComponentImportSectionReader, ComponentImportSection)
+fn imports<R: Told>(of: &mut R, alloc: Global, rows: Rows) -> Holds<R::Error> {
+    becomes!(of, alloc, rows; parse_component_import_section, ComponentImportSectionReader, ComponentImportSection)
 }
 
-fn aliases<R: Told>(of: &mut R, alloc: Global, body: &[u8], right: &[u8]) -> Holds<R::Error> {
-    becomes!(of, alloc, body, right; parse_component_alias_section, ComponentAliasSectionReader, ComponentAliasSection)
+fn aliases<R: Told>(of: &mut R, alloc: Global, rows: Rows) -> Holds<R::Error> {
+    becomes!(of, alloc, rows; parse_component_alias_section, ComponentAliasSectionReader, ComponentAliasSection)
 }
 
-fn exports<R: Told>(of: &mut R, alloc: Global, body: &[u8], right: &[u8]) -> Holds<R::Error> {
-    becomes!(of, alloc, body, right; parse_component_export_section, ComponentExportSectionReader, ComponentExportSection)
+fn exports<R: Told>(of: &mut R, alloc: Global, rows: Rows) -> Holds<R::Error> {
+    becomes!(of, alloc, rows; parse_component_export_section, ComponentExportSectionReader, ComponentExportSection)
 }
 
-fn canonicals<R: Told>(of: &mut R, alloc: Global, body: &[u8], right: &[u8]) -> Holds<R::Error> {
-    becomes!(of, alloc, body, right; parse_component_canonical_section, ComponentCanonicalSectionReader, CanonicalFunctionSection)
+fn canonicals<R: Told>(of: &mut R, alloc: Global, rows: Rows) -> Holds<R::Error> {
+    becomes!(of, alloc, rows; parse_component_canonical_section, ComponentCanonicalSectionReader, CanonicalFunctionSection)
 }
 
-fn component_instances<R: Told>(
-    of: &mut R,
-    alloc: Global,
-    body: &[u8],
-    right: &[u8],
-) -> Holds<R::Error> {
-    becomes!(of, alloc, body, right; parse_component_instance_section, ComponentInstanceSectionReader, ComponentInstanceSection)
+fn component_instances<R: Told>(of: &mut R, alloc: Global, rows: Rows) -> Holds<R::Error> {
+    becomes!(of, alloc, rows; parse_component_instance_section, ComponentInstanceSectionReader, ComponentInstanceSection)
 }
 
-fn instances<R: Told>(of: &mut R, alloc: Global, body: &[u8], right: &[u8]) -> Holds<R::Error> {
-    becomes!(of, alloc, body, right; parse_instance_section, InstanceSectionReader, InstanceSection)
+fn instances<R: Told>(of: &mut R, alloc: Global, rows: Rows) -> Holds<R::Error> {
+    becomes!(of, alloc, rows; parse_instance_section, InstanceSectionReader, InstanceSection)
 }
 
-/// What sections become.
-fn sections<R: Told>(
-    of: &mut R,
-    alloc: Global,
-) -> Result<[(&'static str, bool); 6], Error<R::Error>> {
+/// Whether sections become what they must.
+fn sections<R: Told>(of: &mut R, alloc: Global) -> Result<[bool; 6], Error<R::Error>> {
     Ok([
-        (
-            "imports",
-            imports(
-                of,
-                alloc,
-                &[1, 0x01, 1, 0x61, 0x01, 1],
-                &[0x00, 1, 0x61, 0x01, 11, 0x00, 1, 0x61, 0x01, 11],
-            )?,
-        ),
-        (
-            "aliases",
-            aliases(
-                of,
-                alloc,
-                &[1, 0x03, 0x02, 1, 1],
-                &[0x03, 0x02, 1, 11, 0x03, 0x02, 1, 11],
-            )?,
-        ),
-        (
-            "exports",
-            exports(
-                of,
-                alloc,
-                &[1, 0x00, 1, 0x61, 0x02, 1, 0x00],
-                &[0x00, 1, 0x61, 0x02, 11, 0x00, 0x00, 1, 0x61, 0x02, 11, 0x00],
-            )?,
-        ),
-        (
-            "canonical functions",
-            canonicals(
-                of,
-                alloc,
-                &[1, 0x00, 0x00, 1, 1, 0x03, 1, 1],
-                &[
-                    0x00, 0x00, 11, 1, 0x03, 11, 11, 0x00, 0x00, 11, 1, 0x03, 11, 11,
-                ],
-            )?,
-        ),
-        (
-            "component instances",
-            component_instances(
-                of,
-                alloc,
-                &[1, 0x00, 1, 1, 1, 0x61, 0x05, 1],
-                &[
-                    0x00, 11, 1, 1, 0x61, 0x05, 11, 0x00, 11, 1, 1, 0x61, 0x05, 11,
-                ],
-            )?,
-        ),
-        (
-            "instances",
-            instances(
-                of,
-                alloc,
-                &[1, 0x00, 1, 1, 1, 0x61, 0x12, 1],
-                &[
-                    0x00, 11, 1, 1, 0x61, 0x12, 11, 0x00, 11, 1, 1, 0x61, 0x12, 11,
-                ],
-            )?,
-        ),
+        imports(of, alloc, IMPORTS)?,
+        aliases(of, alloc, ALIASES)?,
+        exports(of, alloc, EXPORTS)?,
+        canonicals(of, alloc, CANONICALS)?,
+        component_instances(of, alloc, COMPONENT_INSTANCES)?,
+        instances(of, alloc, INSTANCES)?,
     ])
 }
 
@@ -209,8 +187,8 @@ fn unknown<R: Told>(of: &mut R, alloc: Global) -> Holds<R::Error> {
     Ok(is_behind(made, &[12, 2, 1, 2, 127, 0]))
 }
 
-/// What rows and other sections become.
-fn rows<R: Told>(of: &mut R, alloc: Global) -> Result<[(&'static str, bool); 7], Error<R::Error>>
+/// Whether rows and other sections become what they must.
+fn rows<R: Told>(of: &mut R, alloc: Global) -> Result<[bool; 7], Error<R::Error>>
 where
     R::Error: Drop,
 {
@@ -226,19 +204,13 @@ where
         ty: Some(r::ComponentTypeRef::Func(1)),
     };
     Ok([
-        ("canonical function", canonical(of, alloc, spawn, new)?),
-        (
-            "component instance",
-            component_instance(of, alloc, &[2, 0x01, 1, 0x00, 1, 0x61, 0x04, 1, 0x01, 0])?,
-        ),
-        (
-            "instance",
-            instance(of, alloc, &[2, 0x01, 1, 1, 0x61, 0x20, 1, 0x01, 0])?,
-        ),
-        ("export", export(of, alloc, exported)?),
-        ("start", starts(of, alloc)?),
-        ("long start", long_start(of, alloc)?),
-        ("unknown", unknown(of, alloc)?),
+        canonical(of, alloc, spawn, new)?,
+        component_instance(of, alloc, &[2, 0x01, 1, 0x00, 1, 0x61, 0x04, 1, 0x01, 0])?,
+        instance(of, alloc, &[2, 0x01, 1, 1, 0x61, 0x20, 1, 0x01, 0])?,
+        export(of, alloc, exported)?,
+        starts(of, alloc)?,
+        long_start(of, alloc)?,
+        unknown(of, alloc)?,
     ])
 }
 
@@ -264,58 +236,38 @@ where
 
 /// Memory 2 is refused: behind the type of a lifted function, and in front of the type of a task's result, and of a stream that is
 /// read.
-fn refused<R: Told>(of: &mut R, alloc: Global) -> Result<[(&'static str, bool); 3], Error<R::Error>>
+fn refused<R: Told>(of: &mut R, alloc: Global) -> Result<[u64; 3], Error<R::Error>>
 where
     R::Error: Drop,
 {
     Ok([
-        (
-            "lifted",
-            types_before(of, alloc, &[1, 0x00, 0x00, 1, 1, 0x03, 2, 1])? == 1,
-        ),
-        (
-            "task",
-            types_before(of, alloc, &[1, 0x09, 0x00, 1, 1, 0x03, 2])? == 0,
-        ),
-        (
-            "stream",
-            types_before(of, alloc, &[1, 0x0f, 1, 1, 0x03, 2])? == 0,
-        ),
+        types_before(of, alloc, &[1, 0x00, 0x00, 1, 1, 0x03, 2, 1])?,
+        types_before(of, alloc, &[1, 0x09, 0x00, 1, 1, 0x03, 2])?,
+        types_before(of, alloc, &[1, 0x0f, 1, 1, 0x03, 2])?,
     ])
 }
 
-/// What holds of a usual reencoder and of a strict one.
-#[derive(Drop)]
-struct Holding {
-    sections: [(&'static str, bool); 6],
-    rows: [(&'static str, bool); 7],
-    refused: [(&'static str, bool); 3],
-}
-
-fn all<R: Told>(usual: &mut R, strict: &mut R, alloc: Global) -> Result<Holding, Error<R::Error>>
+/// All of them, of a usual reencoder and of a strict one.
+fn all<R: Told>(
+    usual: &mut R,
+    strict: &mut R,
+    alloc: Global,
+) -> Result<([bool; 6], [bool; 7], [u64; 3]), Error<R::Error>>
 where
     R::Error: Drop,
 {
-    Ok(Holding {
-        sections: sections(usual, alloc)?,
-        rows: rows(usual, alloc)?,
-        refused: refused(strict, alloc)?,
-    })
+    Ok((
+        sections(usual, alloc)?,
+        rows(usual, alloc)?,
+        refused(strict, alloc)?,
+    ))
 }
 
 #[test]
 fn calls_map(rt: HostRuntime) -> Result<(), Error<Unmapped>> {
     let alloc = rt.alloc();
     let mut usual = component_renamer(alloc)?;
-    let holding = all(&mut usual, &mut strict_renamer(alloc)?, alloc)?;
-    for (what, holds) in holding.sections {
-        assert!(rt; holds, "{what}");
-    }
-    for (what, holds) in holding.rows {
-        assert!(rt; holds, "{what}");
-    }
-    for (what, holds) in holding.refused {
-        assert!(rt; holds, "{what}");
-    }
+    let all = all(&mut usual, &mut strict_renamer(alloc)?, alloc)?;
+    assert_eq!(rt; all, ([true; 6], [true; 7], [1, 0, 0]));
     Ok(())
 }
