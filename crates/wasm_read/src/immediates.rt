@@ -96,6 +96,7 @@ fn front_block_type(bytes: &[u8]) -> Option<(BlockType, &[u8])>
 }
 
 /// The type of a block.
+#[inline(always)]
 fn front_block<'a>(bytes: &'a [u8]) -> Option<(Imm<'a>, &'a [u8])>
     ensures some { IfSome result (λ r.
         Begins (shape_of_kind ImmKind.Block) bytes.now (imm_tree r.0) r.1.now) }
@@ -387,6 +388,7 @@ fn front_lanes<'a>(bytes: &'a [u8]) -> Option<(Imm<'a>, &'a [u8])>
 }
 
 /// Where a memory access goes: flags below 128, the memory where bit 6 is set, and the offset.
+#[inline(always)]
 fn front_mem<'a>(bytes: &'a [u8]) -> Option<(Imm<'a>, &'a [u8])>
     ensures some { IfSome result (λ r.
         Begins (shape_of_kind ImmKind.Mem) bytes.now (imm_tree r.0) r.1.now) }

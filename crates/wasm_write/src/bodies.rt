@@ -109,6 +109,7 @@ impl Function {
     }
 
     /// Adds an operator. The one refusal is out of memory, and changes nothing.
+    #[inline(always)]
     pub fn instruction(&mut self, instruction: &Instruction<'_>) -> Result<(), WriteFault>
         ensures ok { OnOk result
             (self.new ≡ with_operator self.old (instruction_tree instruction.now)) }
