@@ -9,6 +9,7 @@ use reencode_hooks::{Error, ReencodeIndices};
 
 /// Passes the operators at the front of some bytes that do not change: so many bytes of them. What is to be done with the
 /// operator behind them stands in `next` then.
+#[inline(always)]
 pub fn pass_run<R: ReencodeIndices>(
     reencoder: &mut R,
     bytes: &[u8],
