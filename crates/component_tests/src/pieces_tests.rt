@@ -1,9 +1,8 @@
 //! Which way a whole core module goes.
 ghost use Rattle.std.specs.Prelude.{◌≡◌};
-ghost use Rattle.examples.specs.Marks.{custom_row};
-ghost use Rattle.component_tests.specs.Before.{before_code};
+ghost use Rattle.examples.specs.Marks.{custom_row, of_kind};
+ghost use Rattle.component_tests.specs.Before.{before_kind};
 
-use examples::Marks;
 use reencode_component::{
     DefaultComponent, DefaultComponentItems, DefaultComponentRows, ReencodeComponentIndices,
     reencode, reencode_within,
@@ -239,56 +238,6 @@ const MARKED: [u8; 43] = [
     0x0a, 0x09, 0x01, 0x07, 0x00, 0x20, 0x00, 0x20, 0x01, 0x6a, 0x0b,
 ];
 
-#[test]
-fn sections_are_added_by_pieces(rt: HostRuntime) -> Result<(), Error<Infallible>> {
-    let mut adding = Adding {
-        reencoder: RoundtripReencoder,
-        sections: Marks {
-            behind: SectionId::Export,
-            name: "x",
-            contents: &[],
-        },
-    };
-    let bytes = reencode(rt.alloc(), &mut adding, &MODULE)?;
-    assert!(rt; bytes.as_slice() == MARKED.as_slice());
-    Ok(())
-}
-
-/// Adds the empty custom section `x` before a section of code.
-#[derive(Clone, Copy)]
-struct BeforeCode;
-
-impl SectionRule for BeforeCode {
-    ghost use Rattle.std.specs.Prelude.{codes, []};
-
-    ghost sections = { λ _ after before. before_code (custom_row (codes "x") []) before };
-
-    ghost behind = { λ _ _. [] };
-
-    fn add_sections(
-        &self,
-        module: &mut w::Module,
-        _after: Option<SectionId>,
-        before: Option<SectionId>,
-    ) -> Result<(), w::WriteFault> {
-        match before {
-            Some(SectionId::Code) => module.section(&w::CustomSection {
-                name: "x",
-                contents: &[],
-            }),
-            _ => Ok(()),
-        }
-    }
-
-    fn add_behind(
-        &self,
-        _module: &mut w::Module,
-        _section: SectionId,
-    ) -> Result<(), w::WriteFault> {
-        Ok(())
-    }
-}
-
 /// The same module with the custom section `y` at its end.
 const CLOSED_CODE: [u8; 43] = [
     0x00, 0x61, 0x73, 0x6d, 0x01, 0x00, 0x00, 0x00, 0x01, 0x07, 0x01, 0x60, 0x02, 0x7f, 0x7f, 0x01,
@@ -315,36 +264,73 @@ const CLOSED_TYPES: [u8; 26] = [
     0x02, 0x01, 0x7a, 0x01, 0x01, 0x00, 0x00, 0x02, 0x01, 0x79,
 ];
 
-/// The module with what a reencoder adds, and with the custom section `y` behind each section of a kind.
-fn closed<R: ReencodeComponentIndices + Drop>(
-    alloc: Global,
-    reencoder: R,
+/// Adds the empty custom section `x` before each section of a kind, and `y` behind each section of a kind.
+#[derive(Clone, Copy)]
+struct Beside {
+    before: SectionId,
     behind: SectionId,
-    bytes: &[u8],
-) -> Result<Vec<u8>, Error<R::Error>> {
+}
+
+impl SectionRule for Beside {
+    ghost use Rattle.std.specs.Prelude.{codes, []};
+
+    ghost sections = { λ s _. before_kind s.before (custom_row (codes "x") []) };
+
+    ghost behind = { λ s. of_kind s.behind (custom_row (codes "y") []) };
+
+    fn add_sections(
+        &self,
+        module: &mut w::Module,
+        _after: Option<SectionId>,
+        before: Option<SectionId>,
+    ) -> Result<(), w::WriteFault> {
+        let Some(kind) = before else {
+            return Ok(());
+        };
+        if kind == self.before {
+            module.section(&w::CustomSection {
+                name: "x",
+                contents: &[],
+            })?;
+        }
+        Ok(())
+    }
+
+    fn add_behind(&self, module: &mut w::Module, section: SectionId) -> Result<(), w::WriteFault> {
+        if section == self.behind {
+            module.section(&w::CustomSection {
+                name: "y",
+                contents: &[],
+            })?;
+        }
+        Ok(())
+    }
+}
+
+/// A module with what a rule adds. The rule is handed over here alone, which is dear.
+fn with(alloc: Global, sections: Beside, bytes: &[u8]) -> Result<Vec<u8>, Error<Infallible>> {
     let mut adding = Adding {
-        reencoder,
-        sections: Marks {
-            behind,
-            name: "y",
-            contents: &[],
-        },
+        reencoder: RoundtripReencoder,
+        sections,
     };
     reencode(alloc, &mut adding, bytes)
 }
 
+/// No module here has a start section.
 #[test]
-fn sections_are_added_behind_by_pieces(rt: HostRuntime) -> Result<(), Error<Infallible>> {
-    let same = RoundtripReencoder;
-    let bytes = closed(rt.alloc(), same, SectionId::Code, &MODULE)?;
-    assert!(rt; bytes.as_slice() == CLOSED_CODE.as_slice());
-    let first = Adding {
-        reencoder: same,
-        sections: BeforeCode,
+fn sections_are_added_by_pieces(rt: HostRuntime) -> Result<(), Error<Infallible>> {
+    let alloc = rt.alloc();
+    let mut rule = Beside {
+        before: SectionId::Code,
+        behind: SectionId::Start,
     };
-    let bytes = closed(rt.alloc(), first, SectionId::Export, &MODULE)?;
-    assert!(rt; bytes.as_slice() == CLOSED_EXPORTS.as_slice());
-    let bytes = closed(rt.alloc(), same, SectionId::Type_, &TYPES)?;
-    assert!(rt; bytes.as_slice() == CLOSED_TYPES.as_slice());
+    assert!(rt; with(alloc, rule, &MODULE)?.as_slice() == MARKED.as_slice());
+    rule.behind = SectionId::Export;
+    assert!(rt; with(alloc, rule, &MODULE)?.as_slice() == CLOSED_EXPORTS.as_slice());
+    rule.before = SectionId::Start;
+    rule.behind = SectionId::Code;
+    assert!(rt; with(alloc, rule, &MODULE)?.as_slice() == CLOSED_CODE.as_slice());
+    rule.behind = SectionId::Type_;
+    assert!(rt; with(alloc, rule, &TYPES)?.as_slice() == CLOSED_TYPES.as_slice());
     Ok(())
 }
