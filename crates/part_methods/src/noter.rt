@@ -4,13 +4,12 @@
 //! asks others has its default body in one kind, and there all that it asks is overridden.
 ghost use Rattle.std.specs.Prelude.{◌≡◌};
 
-use reencode_hooks::{Error, ReencodeIndices};
+use reencode_hooks::{AnswerVisits, Error, utils};
 use std::alloc::Global;
 use std::convert::Infallible;
 use std::fmt::Write;
 use std::marker::Model;
-use wasm_shapes::SectionId;
-use wasm_write::Module;
+use wasm_shapes::{Space, Visit};
 
 pub type Made<T> = Result<T, Error<Infallible>>;
 
@@ -122,8 +121,8 @@ macro_rules! added {
 
 pub(crate) use added;
 
-impl<K> ReencodeIndices for Noter<K> {
-    ghost use Rattle.std.specs.Prelude.{true, false, Ok, refl, []};
+impl<K> AnswerVisits for Noter<K> {
+    ghost use Rattle.std.specs.Prelude.{false, Ok};
     ghost use Rattle.reencode_hooks.specs.Hooks.{index_of, index_of-given};
 
     type Error = Infallible;
@@ -132,78 +131,23 @@ impl<K> ReencodeIndices for Noter<K> {
 
     ghost next = { λ s _. s };
 
-    ghost adds = { λ _ _. [] };
-
     ghost keeps_defaults = { false };
-
-    ghost adds_nothing = { true };
-
-    ghost sure = { true };
 
     ghost answers_ok = { λ _ visit h. index_of-given visit h };
 
-    ghost adds_ok = { λ _ _ _. refl };
-
-    fn data_index(&mut self, index: u32) -> Made<u32> {
-        self.note("data_index");
-        Ok(index)
-    }
-
-    fn element_index(&mut self, index: u32) -> Made<u32> {
-        self.note("element_index");
-        Ok(index)
-    }
-
-    fn function_index(&mut self, index: u32) -> Made<u32> {
-        self.note("function_index");
-        Ok(index)
-    }
-
-    fn global_index(&mut self, index: u32) -> Made<u32> {
-        self.note("global_index");
-        Ok(index)
-    }
-
-    fn memory_index(&mut self, index: u32) -> Made<u32> {
-        self.note("memory_index");
-        Ok(index)
-    }
-
-    fn table_index(&mut self, index: u32) -> Made<u32> {
-        self.note("table_index");
-        Ok(index)
-    }
-
-    fn tag_index(&mut self, index: u32) -> Made<u32> {
-        self.note("tag_index");
-        Ok(index)
-    }
-
-    fn type_index(&mut self, index: u32) -> Made<u32> {
-        self.note("type_index");
-        Ok(index)
-    }
-
-    fn data_count(&mut self, count: u32) -> Made<u32> {
-        self.note("data_count");
-        Ok(count)
-    }
-
-    fn intersperse_section_hook(
-        &mut self,
-        _module: &mut Module,
-        after: Option<SectionId>,
-        before: Option<SectionId>,
-    ) -> Made<()> {
-        let _ = write!(
-            self.notes,
-            " intersperse_section_hook({after:?}, {before:?})"
-        );
-        Ok(())
-    }
-
-    fn close_section_hook(&mut self, _module: &mut Module, section: SectionId) -> Made<()> {
-        let _ = write!(self.notes, " close_section_hook({section:?})");
-        Ok(())
+    fn answer(&mut self, visit: Visit) -> Result<u32, Infallible> {
+        let _ = match visit {
+            Visit::Index(Space::DataCount, _) => write!(self.notes, " data_count"),
+            Visit::Index(space, _) => write!(self.notes, " {}_index", space.name()),
+            Visit::Section(after, before) => {
+                write!(
+                    self.notes,
+                    " intersperse_section_hook({after:?}, {before:?})"
+                )
+            }
+            Visit::Closed(section) => write!(self.notes, " close_section_hook({section:?})"),
+            _ => Ok(()),
+        };
+        Ok(utils::index_of(visit))
     }
 }
