@@ -1,6 +1,7 @@
 //! The rows of a component's sections, put together and written, against bytes that were spelled by hand from the grammar.
 use crate::write_tests::list_of;
 use reencode_hooks::Error;
+use std::alloc::Global;
 use std::convert::Infallible;
 use wasm_write::{Module, Section, WriteFault};
 use wasm_write_component::{
@@ -113,16 +114,27 @@ fn starts(rt: HostRuntime) -> Result<(), Error<Infallible>> {
     Ok(())
 }
 
-#[test]
-fn components(rt: HostRuntime) -> Result<(), Error<Infallible>> {
-    let alloc = rt.alloc();
+/// A component with a canonical function.
+fn inner(alloc: Global) -> Result<Component, Error<Infallible>> {
     let mut functions = CanonicalFunctionSection::new(alloc);
     functions.add(&CanonicalFunction::TaskCancel)?;
-    let mut inner = Component::new(alloc, 10)?;
-    inner.section(&functions)?;
+    let mut component = Component::new(alloc, 10)?;
+    component.section(&functions)?;
+    Ok(component)
+}
+
+/// A component with a module without sections.
+fn outer(alloc: Global) -> Result<Component, Error<Infallible>> {
     let module = Module::new(alloc, 10)?;
-    let mut outer = Component::new(alloc, 11)?;
-    outer.section(&ModuleSection(&module))?;
+    let mut component = Component::new(alloc, 11)?;
+    component.section(&ModuleSection(&module))?;
+    Ok(component)
+}
+
+#[test]
+fn a_nested_component_is_too_large(rt: HostRuntime) -> Result<(), Error<Infallible>> {
+    let inner = inner(rt.alloc())?;
+    let mut outer = outer(rt.alloc())?;
     assert_eq!(rt;
         outer.section(&NestedComponentSection(&inner)),
         Err(WriteFault::TooLarge { size: 12 })
@@ -135,7 +147,13 @@ fn components(rt: HostRuntime) -> Result<(), Error<Infallible>> {
             0x00, 0x00, 0x00
         ] as &[u8]
     );
-    let mut outer = Component::new(alloc, 12)?;
+    Ok(())
+}
+
+#[test]
+fn components(rt: HostRuntime) -> Result<(), Error<Infallible>> {
+    let inner = inner(rt.alloc())?;
+    let mut outer = Component::new(rt.alloc(), 12)?;
     outer.section(&NestedComponentSection(&inner))?;
     assert_eq!(rt;
         outer.finish().as_slice(),
