@@ -1,15 +1,15 @@
 //! What no clause says: that the calls succeed over memory, what is printed and said, and how the
 //! program ends where the outside is slow or fails.
-use crate::answer::{Answer, ReencodingFault, reencoding_fault};
-use crate::memory::{MemShelf, MemSink, MemSource};
-use crate::outside::{Failed, Shelf, ShelfFault, Sink, Source};
-use crate::renamers::{Refusal, Renamers};
-use crate::renaming::{RenamingFault, renaming_of};
-use crate::report::tail;
-use crate::standard::FileShelf;
-use crate::sure::{SureShelf, SureSink, SureSource};
-use crate::tool::run;
 use reencode_hooks::{Asked, Chain, ChainError, Error, Renamer, Unmapped};
+use reencode_run::answer::{Answer, ReencodingFault, reencoding_fault};
+use reencode_run::memory::{MemShelf, MemSink, MemSource};
+use reencode_run::outside::{Failed, Shelf, ShelfFault, Sink, Source};
+use reencode_run::renamers::{Refusal, Renamers};
+use reencode_run::renaming::{RenamingFault, renaming_of};
+use reencode_run::report::tail;
+use reencode_run::standard::FileShelf;
+use reencode_run::sure::{SureShelf, SureSink, SureSource};
+use reencode_run::tool::run;
 use std::alloc::Global;
 use std::process::Abort;
 use std::test::Fail;

@@ -1,0 +1,248 @@
+-- How each stage ends the program, and what a status says of how it ended.
+use Rattle.std.proofs.Common.{◌≡◌, ◌≢◌, ℕ, inl, inr, true, Bool, Option, Some, None, Result, Err, List, [], ◌∷◌, ◌++◌, codes, decimal, refl, sym, ap, ◌∙◌, subst, arith, lit<}
+use Rattle.std.specs.Prelude.{Contains, MatchOption}
+use Rattle.reencode_hooks.specs.Renamings.{Renaming, no_renaming}
+use Rattle.reencode_run.specs.declared.answer.Answer.{Answer}
+use Rattle.reencode_run.specs.declared.answer.Answer.TheVariants.{File, Input, Digits, Reencoding}
+use Rattle.reencode_run.specs.declared.answer.FileFault.{FileFault}
+use Rattle.reencode_run.specs.declared.answer.FileFault.TheVariants as file_fault
+use Rattle.reencode_run.specs.declared.input.InputFault.{InputFault}
+use Rattle.reencode_run.specs.declared.input.InputFault.TheVariants as input_fault
+use Rattle.reencode_run.specs.declared.hexadecimal.TextFault.{TextFault}
+use Rattle.reencode_run.specs.declared.hexadecimal.TextFault.TheVariants as digits_fault
+use Rattle.reencode_run.specs.declared.answer.ReencodingFault.{ReencodingFault}
+use Rattle.reencode_run.specs.declared.answer.ReencodingFault.TheVariants as reencoding_fault
+use Rattle.reencode_run.specs.declared.renamers.Refusal.{Refusal}
+use Rattle.reencode_run.specs.declared.renamers.Renamers.{Renamers}
+use Rattle.reencode_run.specs.declared.renamers.Renamers.TheVariants.{Alone}
+use Rattle.reencode_run.specs.declared.taken.Taken.{Taken}
+use Rattle.reencode_run.specs.Answer.{AtFile, Ends, EndsFor, FilesSay, ForJob, HasNoDigits, IsBadFile, IsTooLong, IsUnfetched, IsUnread, MadeFor, Outside, PlainFor, RefusesDigits, RefusesFrom, RefusesInput, RefusesRenaming, Says, StopsFor, StopsWith, Texts, Uses, message, most_bytes, report_of, status_of, text_of}
+use Rattle.reencode_run.specs.Outside.{Rose, GaveAll, TookFront, TookMore, WhereTold, followed}
+use Rattle.reencode_run.specs.Hexadecimal.{binary}
+use Rattle.reencode_run.specs.Reencoded.{IsReencoded}
+use Rattle.reencode_run.specs.Renamers.{refusal_text, renamers_of}
+use Rattle.reencode_run.specs.Words.{Command, Job, files, functions}
+use Rattle.reencode_run.proofs.Outcomes.{plain_of}
+
+-- where no file is named, nothing is renamed, and the output is the normal spelling itself
+none_said : (texts : Texts) (names : List (List ℕ)) (said : List Renaming) (rs : Renamers) → FilesSay texts names said → rs ≡ renamers_of said → names ≡ [] → rs ≡ Alone no_renaming
+none_said texts [] [] rs f e n = e
+none_said texts [] (r ∷ said) rs f e n = absurd f
+none_said texts (name ∷ names) said rs f e n = absurd cc
+
+pub none_used : (command : Command) (texts : Texts) (rs : Renamers) → Uses command texts rs → files command ≡ [] → rs ≡ Alone no_renaming
+none_used command texts rs u n = none_said texts (files command) u.0 rs u.1 u.2 n
+
+pub plain_for : {k : Taken} {c : ℕ} {rs : Renamers} {bytes output : List ℕ} {counts : List (List ℕ)} (names : List (List ℕ)) → (names ≡ [] → rs ≡ Alone no_renaming) → IsReencoded k c rs bytes output counts
+    → PlainFor k names bytes output counts
+plain_for {k} {c} {rs} {bytes} {output} {counts} [] none h = plain_of (subst (λ (z : Renamers). IsReencoded k c z bytes output counts) (none refl) h)
+plain_for (name ∷ names) none h = tt
+
+-- ---- the stages
+
+-- where the shelf and the source stood and stand, and the sink however it does
+abbrev pub before_output : Texts → (a b : ℕ) (left_old left_new : Option (List ℕ)) (r s : ℕ) (held_old held_new : Option (List ℕ)) (w x : ℕ) → Outside
+before_output texts a b left_old left_new r s held_old held_new w x = record {
+  texts = texts;
+  shelf_faults_old = a;
+  shelf_faults_new = b;
+  left_old = left_old;
+  left_new = left_new;
+  read_faults_old = r;
+  read_faults_new = s;
+  held_old = held_old;
+  held_new = held_new;
+  write_faults_old = w;
+  write_faults_new = x;
+}
+
+pub input_refused : {T : Type 0} (fault : InputFault) (a b : ℕ) (old new : Option (List ℕ)) → (◌≡◌ {A = Result T InputFault} (Err fault) (Err input_fault.Failed) → Rose a b)
+    → (◌≡◌ {A = Result T InputFault} (Err fault) (Err input_fault.TooLong) → TookMore most_bytes old new) → RefusesInput a b old new fault
+input_refused input_fault.Failed a b old new failed long = failed refl
+input_refused input_fault.TooLong a b old new failed long = long refl
+input_refused input_fault.NoMemory a b old new failed long = tt
+
+pub digits_refused : {T : Type 0} (fault : TextFault) (is_text : Bool) (text : List ℕ) (old new : Option (List ℕ)) → is_text ≡ true → GaveAll most_bytes old new text
+    → (◌≡◌ {A = Result T TextFault} (Err fault) (Err digits_fault.NotHexadecimal) → binary text ≡ None) → RefusesDigits is_text old new fault
+digits_refused digits_fault.NotHexadecimal is_text text old new is gave refused = (is, (text, gave, refused refl))
+digits_refused digits_fault.NoMemory is_text text old new is gave refused = tt
+
+module _ (job : Job) (o : Outside) (U : Type 0) where
+  -- how an answer ends the program
+  abbrev pub Stopped : Answer → Type 0
+  Stopped answer = Ends job o U (status_of answer) (text_of answer)
+
+  pub by_file : (fault : FileFault) → RefusesRenaming job.command o.texts o.shelf_faults_old o.shelf_faults_new fault → U → Stopped (File fault)
+  by_file file_fault.Failed h u = Ends.unfetched h u
+  by_file file_fault.TooLong h u = Ends.too_long (inl (h, u))
+  by_file file_fault.Bad h u = Ends.bad_file h u
+  by_file file_fault.NoMemory h u = Ends.no_memory
+
+  reads : (source : Option ℕ) → source ≡ None → MatchOption source ⊥ (λ n. Unit {0}) → ⊥
+  reads None e h = h
+  reads (Some n) e h = cc
+
+  by_input : (rs : Renamers) → Uses job.command o.texts rs → functions job.command ≡ None → (fault : InputFault)
+      → RefusesInput o.read_faults_old o.read_faults_new o.left_old o.left_new fault → Stopped (Input fault)
+  by_input rs uses e input_fault.Failed h = Ends.read_fault (reads (functions job.command) e, (rs, uses), h)
+  by_input rs uses e input_fault.TooLong h = Ends.too_long (inr (reads (functions job.command) e, (rs, uses), h))
+  by_input rs uses e input_fault.NoMemory h = Ends.no_memory
+
+  by_digits : (rs : Renamers) → Uses job.command o.texts rs → functions job.command ≡ None → (fault : TextFault)
+      → RefusesDigits job.is_text o.left_old o.left_new fault → Stopped (Digits fault)
+  by_digits rs uses e digits_fault.NotHexadecimal h = Ends.no_digits (record { reads = reads (functions job.command) e; renamings = (rs, uses); digits = h })
+  by_digits rs uses e digits_fault.NoMemory h = Ends.no_memory
+
+  pub by_source : (rs : Renamers) → Uses job.command o.texts rs → (source : Option ℕ) → functions job.command ≡ source → (answer : Answer)
+      → RefusesFrom source job.is_text o.read_faults_old o.read_faults_new o.left_old o.left_new answer → Stopped answer
+  by_source rs uses None e (Input fault) h = by_input rs uses e fault h
+  by_source rs uses None e (Digits fault) h = by_digits rs uses e fault h
+  by_source rs uses None e _ h = absurd h
+  by_source rs uses (Some n) e answer h = subst Stopped (sym h) Ends.no_memory
+
+  pub by_reencoding : (fault : ReencodingFault) → StopsFor job o fault → Stopped (Reencoding fault)
+  by_reencoding (reencoding_fault.ParseError at) h = Ends.parse_error at h
+  by_reencoding (reencoding_fault.Refused u) h = Ends.refused u h
+  by_reencoding reencoding_fault.CodeSectionSize h = Ends.code_size h
+  by_reencoding reencoding_fault.NonCoreModule h = Ends.component h
+  by_reencoding reencoding_fault.NonComponent h = Ends.core_module h
+  by_reencoding (reencoding_fault.TooLarge size ceiling) h = Ends.too_large size ceiling h
+  by_reencoding reencoding_fault.NoMemory h = Ends.no_memory
+
+-- ---- what each status says
+
+-- the end with a status that is that of the answer
+pub at_status : (answer : Answer) (j : Option Job) (o : Outside) (U F : Type 0) (status n : ℕ) → status ≡ status_of answer → status ≡ n
+    → EndsFor j o U F (status_of answer) (text_of answer) → EndsFor j o U F n (text_of answer)
+at_status answer j o U F status n s e h = subst (λ (k : ℕ). EndsFor j o U F k (text_of answer)) (sym s ∙ e) h
+
+pub not_zero : (a status n : ℕ) → status ≡ a → status ≡ n → (n ≡ 0 → ⊥) → a ≡ 0 → ⊥
+not_zero a status n s e other zero = other (sym e ∙ s ∙ zero)
+
+-- what a status other than 2 says
+pub for_any : (n : ℕ) (t : List ℕ) (j : Option Job) (o : Outside) (U F P : Type 0) → (n ≡ 2 → ⊥) → EndsFor j o U F n t → ((job : Job) → Ends job o U n t → P) → P
+for_any n t None o U F P other h f = absurd (other h.0)
+for_any n t (Some job) o U F P other h f = f job h
+
+pub for_job : (n : ℕ) (t : List ℕ) (j : Option Job) (o : Outside) (U F : Type 0) (P : Job → Type 0) → (n ≡ 2 → ⊥) → EndsFor j o U F n t
+    → ((job : Job) → Ends job o U n t → P job) → ForJob j P
+for_job n t None o U F P other h f = absurd (other h.0)
+for_job n t (Some job) o U F P other h f = f job h
+
+pub of_usage : (t : List ℕ) (j : Option Job) (o : Outside) (U F : Type 0) → EndsFor j o U F 2 t → (j ≡ None) × U × F
+of_usage t None o U F h = (refl, h.2, h.3)
+of_usage t (Some job) o U F h = elim h [ ]
+
+-- without a job the status is 2
+pub usage_of : (n : ℕ) (t : List ℕ) (j : Option Job) (o : Outside) (U F : Type 0) → EndsFor j o U F n t → j ≡ None → n ≡ 2
+usage_of n t None o U F h e = h.0
+usage_of n t (Some job) o U F h e = absurd cc
+
+-- the text of an end is said as another that it is
+pub said : (faults_old faults_new : ℕ) (held_old held_new : Option (List ℕ)) (t u : List ℕ) → t ≡ u → Says faults_old faults_new held_old held_new (t ++ codes "\n")
+    → Says faults_old faults_new held_old held_new (u ++ codes "\n")
+said faults_old faults_new held_old held_new t u e h = subst (λ (z : List ℕ). Says faults_old faults_new held_old held_new (z ++ codes "\n")) e h
+
+pub of_printed : {job : Job} {o : Outside} {U : Type 0} {t : List ℕ} → Ends job o U 0 t → (made : MadeFor job o) × WhereTold o.held_new (followed o.held_old (report_of made))
+of_printed (Ends.printed made told) = (made, told)
+
+pub of_read_fault : {job : Job} {o : Outside} {U : Type 0} {t : List ℕ} → Ends job o U 3 t → IsUnread job.command o.texts o.read_faults_old o.read_faults_new
+of_read_fault (Ends.read_fault h) = h
+
+pub of_write_fault : {job : Job} {o : Outside} {U : Type 0} {t : List ℕ} → Ends job o U 4 t → (made : MadeFor job o) × TookFront o.held_old o.held_new (report_of made)
+of_write_fault (Ends.write_fault made took rose) = (made, took)
+
+pub unwritten : {job : Job} {o : Outside} {U : Type 0} {t : List ℕ} → Ends job o U 4 t → Rose o.write_faults_old o.write_faults_new
+unwritten (Ends.write_fault made took rose) = rose
+
+pub of_code_size : {job : Job} {o : Outside} {U : Type 0} {t : List ℕ} → Ends job o U 7 t → StopsFor job o reencoding_fault.CodeSectionSize
+of_code_size (Ends.code_size h) = h
+
+pub of_component : {job : Job} {o : Outside} {U : Type 0} {t : List ℕ} → Ends job o U 8 t → StopsFor job o reencoding_fault.NonCoreModule
+of_component (Ends.component h) = h
+
+pub of_core_module : {job : Job} {o : Outside} {U : Type 0} {t : List ℕ} → Ends job o U 9 t → StopsFor job o reencoding_fault.NonComponent
+of_core_module (Ends.core_module h) = h
+
+pub of_bad_file : {job : Job} {o : Outside} {U : Type 0} {t : List ℕ} → Ends job o U 11 t → IsBadFile job.command o.texts × U
+of_bad_file (Ends.bad_file h u) = (h, u)
+
+pub of_unfetched : {job : Job} {o : Outside} {U : Type 0} {t : List ℕ} → Ends job o U 12 t → IsUnfetched job.command o.texts o.shelf_faults_old o.shelf_faults_new × U
+of_unfetched (Ends.unfetched h u) = (h, u)
+
+pub of_too_long : {job : Job} {o : Outside} {U : Type 0} {t : List ℕ} → Ends job o U 13 t → IsTooLong job.command o.texts o.left_old o.left_new U
+of_too_long (Ends.too_long h) = h
+
+pub of_no_digits : {job : Job} {o : Outside} {U : Type 0} {t : List ℕ} → Ends job o U 14 t → HasNoDigits job o.texts o.left_old o.left_new
+of_no_digits (Ends.no_digits h) = h
+
+-- of a place, a refusal and a size also the text
+pub of_parse_error : (t : List ℕ) (j : Option Job) (o : Outside) (U F : Type 0) → EndsFor j o U F 5 t
+    → (at : ℕ) × StopsWith j o.texts o.left_old o.left_new (reencoding_fault.ParseError at) × (t ≡ codes "parse error at " ++ decimal at)
+of_parse_error t None o U F h = absurd (omega (arith, h.0))
+of_parse_error t (Some job) o U F (Ends.parse_error at h) = (at, h, refl)
+
+pub of_refused : (t : List ℕ) (j : Option Job) (o : Outside) (U F : Type 0) → EndsFor j o U F 6 t
+    → (u : Refusal) × StopsWith j o.texts o.left_old o.left_new (reencoding_fault.Refused u) × (t ≡ refusal_text u)
+of_refused t None o U F h = absurd (omega (arith, h.0))
+of_refused t (Some job) o U F (Ends.refused u h) = (u, h, refl)
+
+pub of_too_large : (t : List ℕ) (j : Option Job) (o : Outside) (U F : Type 0) → EndsFor j o U F 10 t
+    → (size : ℕ) × (ceiling : ℕ) × StopsWith j o.texts o.left_old o.left_new (reencoding_fault.TooLarge size ceiling)
+    × (t ≡ codes "too large: " ++ decimal size ++ codes " over " ++ decimal ceiling)
+of_too_large t None o U F h = absurd (omega (arith, h.0))
+of_too_large t (Some job) o U F (Ends.too_large size ceiling h) = (size, ceiling, h, refl)
+
+-- what is said of a file without its name holds where it holds of one
+at_some : (texts : Texts) (names : List (List ℕ)) {P : Type 0} → AtFile texts names (λ name. P) → P
+at_some texts [] h = absurd h
+at_some texts (name ∷ names) (inl h) = h
+at_some texts (name ∷ names) (inr h) = at_some texts names h.1
+
+pub unfetched_rose : {job : Job} {o : Outside} {U : Type 0} {t : List ℕ} → Ends job o U 12 t → Rose o.shelf_faults_old o.shelf_faults_new
+unfetched_rose {job} {o} (Ends.unfetched h u) = at_some o.texts (files job.command) h
+
+-- ---- the statuses and their texts
+
+job_message : {job : Job} {o : Outside} {U : Type 0} {n : ℕ} {t : List ℕ} → Ends job o U n t → n ≢ 0 → n ≢ 5 → n ≢ 6 → n ≢ 10 → t ≡ message n
+job_message (Ends.printed made told) z p r l = absurd (z refl)
+job_message Ends.no_memory z p r l = refl
+job_message (Ends.read_fault h) z p r l = refl
+job_message (Ends.write_fault made took rose) z p r l = refl
+job_message (Ends.parse_error at h) z p r l = absurd (p refl)
+job_message (Ends.refused u h) z p r l = absurd (r refl)
+job_message (Ends.code_size h) z p r l = refl
+job_message (Ends.component h) z p r l = refl
+job_message (Ends.core_module h) z p r l = refl
+job_message (Ends.too_large size ceiling h) z p r l = absurd (l refl)
+job_message (Ends.bad_file h u) z p r l = refl
+job_message (Ends.unfetched h u) z p r l = refl
+job_message (Ends.too_long h) z p r l = refl
+job_message (Ends.no_digits h) z p r l = refl
+
+pub message_of : (n : ℕ) (t : List ℕ) (j : Option Job) (o : Outside) (U F : Type 0) → EndsFor j o U F n t → n ≢ 0 → n ≢ 5 → n ≢ 6 → n ≢ 10 → t ≡ message n
+message_of n t None o U F h z p r l = h.1 ∙ ap message (sym h.0)
+message_of n t (Some job) o U F h z p r l = job_message h z p r l
+
+abbrev pub IsStatus : ℕ → Type 0
+IsStatus n = Contains (0 ∷ 1 ∷ 2 ∷ 3 ∷ 4 ∷ 5 ∷ 6 ∷ 7 ∷ 8 ∷ 9 ∷ 10 ∷ 11 ∷ 12 ∷ 13 ∷ 14 ∷ []) n
+
+job_status : {job : Job} {o : Outside} {U : Type 0} {n : ℕ} {t : List ℕ} → Ends job o U n t → IsStatus n
+job_status (Ends.printed made told) = (0, lit< tt, refl)
+job_status Ends.no_memory = (1, lit< tt, refl)
+job_status (Ends.read_fault h) = (3, lit< tt, refl)
+job_status (Ends.write_fault made took rose) = (4, lit< tt, refl)
+job_status (Ends.parse_error at h) = (5, lit< tt, refl)
+job_status (Ends.refused u h) = (6, lit< tt, refl)
+job_status (Ends.code_size h) = (7, lit< tt, refl)
+job_status (Ends.component h) = (8, lit< tt, refl)
+job_status (Ends.core_module h) = (9, lit< tt, refl)
+job_status (Ends.too_large size ceiling h) = (10, lit< tt, refl)
+job_status (Ends.bad_file h u) = (11, lit< tt, refl)
+job_status (Ends.unfetched h u) = (12, lit< tt, refl)
+job_status (Ends.too_long h) = (13, lit< tt, refl)
+job_status (Ends.no_digits h) = (14, lit< tt, refl)
+
+pub status_among : (n : ℕ) (t : List ℕ) (j : Option Job) (o : Outside) (U F : Type 0) → EndsFor j o U F n t → IsStatus n
+status_among n t None o U F h = subst IsStatus (sym h.0) (2, lit< tt, refl)
+status_among n t (Some job) o U F h = job_status h

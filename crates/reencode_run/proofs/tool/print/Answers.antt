@@ -1,0 +1,10 @@
+use Rattle.hex.specs.Hex.{encode_lower}
+use Rattle.reencode_run.proofs.OutsideLemmas.{TookFront-behind_err, TookFront-longer}
+use Rattle.reencode_run.proofs.tool.print.Goals as goal
+
+pub returns-in-Ok-clause-front : goal.returns-in-Ok-clause-front
+returns-in-Ok-clause-front g c =
+    TookFront-behind_err _ _ _ _ (encode_lower c.args.output.now) c.args.tail.now c.in-Ok.ensures.ok c.write_all.ensures.front
+
+pub returns-in-Err-clause-front : goal.returns-in-Err-clause-front
+returns-in-Err-clause-front g c = TookFront-longer _ _ (encode_lower c.args.output.now) c.args.tail.now c.in-Err.ensures.front

@@ -1,0 +1,98 @@
+-- What the words of the command line ask for.
+use Rattle.std.specs.Prelude.{ℕ, ◌-◌, ◌^◌, ◌&&◌, nat_eq, nat_le, Bool, true, false, codes, List, [], ◌∷◌, Option, Some, None, option_map, option_and_then, if◌then◌else◌}
+use Rattle.std.specs.Cmp.Lexicographic.{pointwise}
+use Rattle.reencode_run.specs.declared.words.Command as of_command
+use Rattle.reencode_run.specs.declared.words.Command.TheVariants as said
+use Rattle.reencode_run.specs.declared.words.Job as of_job
+use Rattle.reencode_run.specs.declared.taken.Taken.{Taken}
+use Rattle.reencode_run.specs.declared.taken.Taken.TheVariants.{Modules, Binaries}
+use Rattle.reencode_run.specs.Numerals.{index_of}
+
+-- what is to be done
+pub data Command : Type 0 where
+  plain : Command
+  rename : List ℕ → Command
+  twice : List ℕ → List ℕ → Command
+  generate : ℕ → Command
+  keep_report : Command
+
+-- whether the input is hexadecimal text, the most bytes that a frame of the output may have, and what is to be done
+pub record Job : Type 0 where
+  pub is_text : Bool
+  pub ceiling : ℕ
+  pub command : Command
+
+-- the files of renamings that a command names, in order
+abbrev pub files : Command → List (List ℕ)
+files (rename name) = name ∷ []
+files (twice first second) = first ∷ second ∷ []
+files _ = []
+
+-- how many functions a command makes a module of, where it makes one
+abbrev pub functions : Command → Option ℕ
+functions (generate n) = Some n
+functions _ = None
+
+-- what kinds of binaries a command takes
+abbrev pub taken : Command → Taken
+taken (generate n) = Modules
+taken keep_report = Modules
+taken _ = Binaries
+
+abbrev pub is_word : List ℕ → List ℕ → Bool
+is_word word text = pointwise nat_eq word text
+
+-- whether `-x` stands in front, and the words without it
+abbrev pub without_flag : List (List ℕ) → Bool × List (List ℕ)
+without_flag [] = (false, [])
+without_flag (w ∷ ws) = if is_word w (codes "-x") then (true, ws) else (false, w ∷ ws)
+
+abbrev with_rest : List (List ℕ) → Option ℕ → Option (ℕ × List (List ℕ))
+with_rest ws ceiling = option_map (λ c. (c, ws)) ceiling
+
+-- the ceiling that stands in front, or the greatest, and the words without it
+abbrev pub without_ceiling : List (List ℕ) → Option (ℕ × List (List ℕ))
+without_ceiling (w ∷ c ∷ ws) = if is_word w (codes "-m") then with_rest ws (index_of c) else Some (2 ^ 32 - 1, w ∷ c ∷ ws)
+without_ceiling ws = Some (2 ^ 32 - 1, ws)
+
+abbrev pub short_command : List ℕ → Option Command
+short_command w =
+    if is_word w (codes "plain") then Some plain
+    else if is_word w (codes "keep-report") then Some keep_report
+    else None
+
+-- a number of functions, from 1 to 1,000,000
+abbrev pub some_functions : ℕ → Option Command
+some_functions n = if nat_le 1 n && nat_le n 1000000 then Some (generate n) else None
+
+abbrev pub long_command : List ℕ → List ℕ → Option Command
+long_command w a =
+    if is_word w (codes "rename") then Some (rename a)
+    else if is_word w (codes "generate") then option_and_then some_functions (index_of a)
+    else None
+
+abbrev pub longer_command : List ℕ → List ℕ → List ℕ → Option Command
+longer_command w a b = if is_word w (codes "twice") then Some (twice a b) else None
+
+abbrev pub command : List (List ℕ) → Option Command
+command (w ∷ []) = short_command w
+command (w ∷ a ∷ []) = long_command w a
+command (w ∷ a ∷ b ∷ []) = longer_command w a b
+command _ = None
+
+-- what all words ask for, or nothing
+abbrev pub job : List (List ℕ) → Option Job
+job words =
+    option_and_then (λ p. option_map (λ c. record { is_text = (without_flag words).0; ceiling = p.0; command = c }) (command p.1))
+    (without_ceiling (without_flag words).1)
+
+-- what is seen of a command and of a job
+abbrev pub command_seen : of_command.Command → Command
+command_seen said.Plain = plain
+command_seen (said.Rename name) = rename name.now
+command_seen (said.Twice first second) = twice first.now second.now
+command_seen (said.Generate n) = generate n
+command_seen said.KeepReport = keep_report
+
+abbrev pub job_seen : of_job.Job → Job
+job_seen j = record { is_text = j.is_text; ceiling = j.ceiling; command = command_seen j.command }

@@ -1,0 +1,281 @@
+//! From a job to what is printed.
+ghost use Rattle.std.specs.Prelude.{◌≡◌, ◌≤◌, ◌++◌, ℕ, List, Option, [], length, replicate, IfOk, IfErr, vec_len};
+ghost use Rattle.hex.specs.Hex.{encode_lower};
+ghost use Rattle.reencode_hooks.specs.Renamings.{no_renaming};
+ghost use Rattle.reencode_run.specs.Answer.{Ends, FileSays, HasBytes, IsMaking, Made, Output, RefusesBytes, RefusesFile, RefusesRenaming, RefusesSource, Reports, Takes, Uses, output_text, report_of, status_of, text_of};
+ghost use Rattle.reencode_run.specs.Generated.{generated};
+ghost use Rattle.reencode_run.specs.Reencoded.{IsMakingFault, IsRefused};
+ghost use Rattle.reencode_run.specs.Renamers.{AreCounts};
+ghost use Rattle.reencode_run.specs.Report.{lengths_report, report};
+ghost use Rattle.reencode_run.specs.Words.{command_seen, files, functions, job_seen, taken};
+
+use crate::answer::{Answer, FileFault, ReencodingFault, WritingFault};
+use crate::buffer::zeros;
+use crate::generate::generated;
+use crate::hexadecimal::binary;
+use crate::input::{InputFault, read_all};
+use crate::kept::kept_report;
+use crate::outside::{Shelf, ShelfFault, Source};
+use crate::reencoded::reencoded;
+use crate::renamers::Renamers;
+use crate::renaming::{RenamingFault, renaming_of};
+use crate::report::{made_lines, tail};
+use crate::taken::Taken;
+use crate::words::{Command, Job, functions};
+use reencode_hooks::{Chain, Renamer};
+use std::alloc::Global;
+
+/// The most bytes that an input may have: 64 MiB.
+const MOST_INPUT: u32 = 67_108_864;
+
+/// The most bytes that the file of a renaming may have: 1 MiB.
+const MOST_RENAMING: u32 = 1_048_576;
+
+/// The size of the buffer through which digits are written: 64 KiB.
+const PIECE: usize = 65_536;
+
+/// What is to be printed, with all memory that this takes.
+#[derive(Drop)]
+pub struct Ready {
+    /// The bytes to be printed as digits.
+    pub output: Vec<u8>,
+    /// The text behind the digits.
+    pub tail: Vec<u8>,
+    /// The room through which the digits go.
+    pub buffer: Vec<u8>,
+}
+
+/// The renamer that a file says.
+fn renamer_of_file<F: Shelf>(alloc: Global, file: &str, shelf: &mut F) -> Result<Renamer, FileFault>
+    ensures rises { F.faults shelf.old ≤ F.faults shelf.new }
+    ensures same { F.texts shelf.new ≡ F.texts shelf.old }
+    ensures says { IfOk result (λ renamer. FileSays (F.texts shelf.old) file.now renamer) }
+    ensures counts { IfOk result (λ renamer. renamer.counts ≡ replicate 19 0) }
+    ensures stops { IfErr result
+        (λ fault. RefusesFile file.now (F.texts shelf.old) (F.faults shelf.old)
+        (F.faults shelf.new) fault) }
+{
+    let text = match shelf.fetch(alloc, file, MOST_RENAMING) {
+        Ok(text) => text,
+        Err(ShelfFault::Failed) => return Err(FileFault::Failed),
+        Err(ShelfFault::TooLong) => return Err(FileFault::TooLong),
+        Err(ShelfFault::NoMemory) => return Err(FileFault::NoMemory),
+    };
+    match renaming_of(alloc, text.as_slice()) {
+        Ok(renamer) => Ok(renamer),
+        Err(RenamingFault::Bad) => Err(FileFault::Bad),
+        Err(RenamingFault::NoMemory) => Err(FileFault::NoMemory),
+    }
+}
+
+/// The renamers of a command.
+fn renamers_of<F: Shelf>(
+    alloc: Global,
+    command: Command<'_>,
+    shelf: &mut F,
+) -> Result<Renamers, FileFault>
+    ensures rises { F.faults shelf.old ≤ F.faults shelf.new }
+    ensures uses { IfOk result
+        (λ renamers. Uses (command_seen command.entry) (F.texts shelf.old) renamers) }
+    ensures counts { IfOk result AreCounts }
+    ensures stops { IfErr result
+        (λ fault. RefusesRenaming (command_seen command.entry) (F.texts shelf.old)
+        (F.faults shelf.old) (F.faults shelf.new) fault) }
+    ensures unfetched { files (command_seen command.entry) ≡ [] → shelf.new ≡ shelf.old }
+{
+    match command {
+        Command::Rename(file) => Ok(Renamers::Alone(renamer_of_file(alloc, file, shelf)?)),
+        Command::Twice(first, second) => {
+            let a = renamer_of_file(alloc, first, shelf)?;
+            let b = renamer_of_file(alloc, second, shelf)?;
+            Ok(Renamers::Both(Chain::new(a, b)))
+        }
+        Command::Plain => Ok(Renamers::Alone(Renamer::new(alloc))),
+        Command::Generate(_) => Ok(Renamers::Alone(Renamer::new(alloc))),
+        Command::KeepReport => Ok(Renamers::Alone(Renamer::new(alloc))),
+    }
+}
+
+/// The bytes that the input is, or is the hexadecimal text of.
+fn read_bytes<S: Source>(alloc: Global, is_text: bool, input: &mut S) -> Result<Vec<u8>, Answer>
+    requires { S.can_read input.old }
+    ensures rises { S.faults input.old ≤ S.faults input.new }
+    ensures ok { IfOk result
+        (λ bytes. HasBytes is_text (S.left input.old) (S.left input.new) bytes.items) }
+    ensures stops { IfErr result
+        (λ answer. RefusesSource is_text (S.faults input.old) (S.faults input.new)
+        (S.left input.old) (S.left input.new) answer) }
+{
+    let text = match read_all(alloc, input, MOST_INPUT) {
+        Ok(text) => text,
+        Err(fault) => return Err(Answer::Input(fault)),
+    };
+    if !is_text {
+        return Ok(text);
+    }
+    match binary(alloc, text) {
+        Ok(bytes) => Ok(bytes),
+        Err(fault) => Err(Answer::Digits(fault)),
+    }
+}
+
+/// The bytes of a made module.
+fn made_bytes(alloc: Global, n: u32) -> Result<Vec<u8>, Answer>
+    ensures ok { IfOk result (λ bytes. bytes.items ≡ generated n) }
+    ensures stops { IfErr result (λ answer. answer ≡ Answer.Input InputFault.NoMemory) }
+{
+    match generated(alloc, n) {
+        Ok(bytes) => Ok(bytes),
+        Err(_) => Err(Answer::Input(InputFault::NoMemory)),
+    }
+}
+
+/// The bytes of a command.
+fn bytes_of<S: Source>(
+    alloc: Global,
+    command: Command<'_>,
+    is_text: bool,
+    input: &mut S,
+) -> Result<Vec<u8>, Answer>
+    requires { functions (command_seen command) ≡ None → S.can_read input.old }
+    ensures rises { S.faults input.old ≤ S.faults input.new }
+    ensures takes { IfOk result
+        (λ bytes. Takes (command_seen command.entry) is_text (S.left input.old) (S.left input.new)
+        bytes.items) }
+    ensures stops { IfErr result
+        (λ answer. RefusesBytes (command_seen command.entry) is_text (S.faults input.old)
+        (S.faults input.new) (S.left input.old) (S.left input.new) answer) }
+    ensures unread { IsMaking (command_seen command.entry) → input.new ≡ input.old }
+{
+    match functions(command) {
+        Some(n) => made_bytes(alloc, n),
+        None => read_bytes(alloc, is_text, input),
+    }
+}
+
+/// The digits of what the re-encoding makes, and the lines of the counts.
+fn digits(
+    alloc: Global,
+    renamers: Renamers,
+    bytes: &[u8],
+    ceiling: u32,
+) -> Result<(Vec<u8>, Vec<u8>), ReencodingFault>
+    requires { AreCounts renamers }
+    ensures ok { IfOk result (λ p. Reports Taken.Binaries ceiling renamers bytes.now report
+        (encode_lower p.0.items ++ p.1.items)) }
+    ensures refused { IfErr result (λ fault. IsRefused Taken.Binaries ceiling renamers bytes.now fault) }
+    ensures made { IfErr result (λ fault. IsMakingFault Taken.Binaries ceiling renamers bytes.now fault) }
+{
+    let (output, renamers) = reencoded(alloc, Taken::Binaries, renamers, bytes, ceiling)?;
+    match tail(alloc, &renamers) {
+        Ok(tail) => Ok((output, tail)),
+        Err(_) => Err(ReencodingFault::NoMemory),
+    }
+}
+
+/// How long the bytes and what the re-encoding makes of them are, and the lines of the counts.
+fn lengths(
+    alloc: Global,
+    functions: u32,
+    renamers: Renamers,
+    bytes: &[u8],
+    ceiling: u32,
+) -> Result<Vec<u8>, ReencodingFault>
+    requires { AreCounts renamers }
+    ensures ok { IfOk result (λ text. Reports Taken.Modules ceiling renamers bytes.now
+        (lengths_report functions (length bytes.now)) text.items) }
+    ensures refused { IfErr result (λ fault. IsRefused Taken.Modules ceiling renamers bytes.now fault) }
+    ensures made { IfErr result (λ fault. IsMakingFault Taken.Modules ceiling renamers bytes.now fault) }
+{
+    let (output, renamers) = reencoded(alloc, Taken::Modules, renamers, bytes, ceiling)?;
+    match made_lines(alloc, functions, bytes.len(), output.len(), &renamers) {
+        Ok(lines) => Ok(lines),
+        Err(_) => Err(ReencodingFault::NoMemory),
+    }
+}
+
+/// The output of a job as it is printed: the digits of the output, and the text behind them.
+fn shown(
+    alloc: Global,
+    command: Command<'_>,
+    renamers: Renamers,
+    bytes: &[u8],
+    ceiling: u32,
+) -> Result<(Vec<u8>, Vec<u8>), ReencodingFault>
+    requires counts { AreCounts renamers }
+    requires none { files (command_seen command) ≡ []
+        → renamers ≡ Renamers.Alone no_renaming }
+    ensures ok { IfOk result
+        (λ p. (m : Output (command_seen command.entry) ceiling renamers bytes.now)
+        × (encode_lower p.0.items ++ p.1.items ≡ output_text m)) }
+    ensures refused { IfErr result (λ fault. IsRefused (taken (command_seen command.entry)) ceiling renamers bytes.now fault) }
+    ensures made { IfErr result (λ fault. IsMakingFault (taken (command_seen command.entry)) ceiling renamers bytes.now fault) }
+{
+    match command {
+        Command::Plain => digits(alloc, renamers, bytes, ceiling),
+        Command::Rename(_) => digits(alloc, renamers, bytes, ceiling),
+        Command::Twice(_, _) => digits(alloc, renamers, bytes, ceiling),
+        Command::Generate(n) => {
+            let lines = lengths(alloc, n, renamers, bytes, ceiling)?;
+            Ok((Vec::new(alloc), lines))
+        }
+        Command::KeepReport => {
+            let lines = kept_report(alloc, bytes, ceiling)?;
+            Ok((Vec::new(alloc), lines))
+        }
+    }
+}
+
+/// Does a job up to what is to be printed.
+pub fn make<F: Shelf, S: Source>(
+    alloc: Global,
+    job: Job<'_>,
+    shelf: &mut F,
+    input: &mut S,
+) -> Result<Ready, Answer>
+    requires { functions (job_seen job).command ≡ None → S.can_read input.old }
+    ensures shelf_rises { F.faults shelf.old ≤ F.faults shelf.new }
+    ensures rises { S.faults input.old ≤ S.faults input.new }
+    ensures made { IfOk result (λ ready. (made : Made (job_seen job.entry) (F.texts shelf.old)
+        (S.left input.old) (S.left input.new))
+        × (encode_lower ready.output.items ++ ready.tail.items ≡ report_of made)) }
+    ensures room { IfOk result (λ ready. 2 ≤ vec_len ready.buffer) }
+    // However the sink stands.
+    ensures stops { IfErr result (λ answer. (held_old : Option (List ℕ))
+        (held_new : Option (List ℕ)) (write_faults_old : ℕ) (write_faults_new : ℕ)
+        → Ends (job_seen job.entry) (record {
+          texts = F.texts shelf.old;
+          shelf_faults_old = F.faults shelf.old;
+          shelf_faults_new = F.faults shelf.new;
+          left_old = S.left input.old;
+          left_new = S.left input.new;
+          read_faults_old = S.faults input.old;
+          read_faults_new = S.faults input.new;
+          held_old = held_old;
+          held_new = held_new;
+          write_faults_old = write_faults_old;
+          write_faults_new = write_faults_new;
+        }) (input.new ≡ input.old) (status_of answer) (text_of answer)) }
+    ensures unread { IsMaking (job_seen job.entry).command → input.new ≡ input.old }
+    ensures unfetched { files (job_seen job.entry).command ≡ [] → shelf.new ≡ shelf.old }
+{
+    let renamers = match renamers_of(alloc, job.command, shelf) {
+        Ok(renamers) => renamers,
+        Err(fault) => return Err(Answer::File(fault)),
+    };
+    let bytes = match bytes_of(alloc, job.command, job.is_text, input) {
+        Ok(bytes) => bytes,
+        Err(answer) => return Err(answer),
+    };
+    match shown(alloc, job.command, renamers, bytes.as_slice(), job.ceiling) {
+        Ok(made) => match zeros(alloc, PIECE) {
+            Ok(buffer) => Ok(Ready {
+                output: made.0,
+                tail: made.1,
+                buffer,
+            }),
+            Err(_) => Err(Answer::Writing(WritingFault::NoMemory)),
+        },
+        Err(fault) => Err(Answer::Reencoding(fault)),
+    }
+}

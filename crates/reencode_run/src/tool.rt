@@ -1,0 +1,282 @@
+//! The top call.
+ghost use Rattle.std.specs.Prelude.{None, Some, ℕ, [], ◌∷◌, ◌<◌, Contains, decimal, ◌≡◌, ◌≢◌, ◌≤◌, ◌++◌, ◌↔◌, ◌⊎◌, codes, map, length, string_bytes, vec_len, OnOk, OnErr};
+ghost use Rattle.hex.specs.Hex.{encode_lower};
+ghost use Rattle.reencode_run.specs.Answer.{Ends, EndsFor, ForJob, HasNoDigits, IsBadFile, IsDecided, IsMaking, IsTooLong, IsUnfetched, IsUnread, Made, MakesModule, NamesNone, ReadsSource, Says, StopsWith, message, report_of, status_of, text_of};
+ghost use Rattle.reencode_run.specs.Words.{files, functions, job, job_seen};
+ghost use Rattle.reencode_run.specs.declared.renamers.Refusal.{Refusal};
+ghost use Rattle.reencode_run.specs.Renamers.{refusal_text};
+ghost use Rattle.reencode_run.specs.Outside.{Rose, TookFront, WhereTold, followed};
+
+use crate::answer::{Answer, ReencodingFault, WordsFault, WritingFault};
+use crate::make::{Ready, make};
+use crate::outside::{Failed, Shelf, Sink, Source};
+use crate::words::{Job, job_of};
+use crate::write::{write_all, write_digits};
+use std::alloc::Global;
+
+/// Prints output as digits through a buffer, and then the text behind them. After a failure a front
+/// of both was taken.
+fn print<K: Sink>(out: &mut K, output: &[u8], tail: &[u8], buffer: &mut [u8]) -> Result<(), Failed>
+    requires { 2 ≤ length buffer.old }
+    ensures rises { K.faults out.old ≤ K.faults out.new }
+    ensures ok { OnOk result
+        (WhereTold (K.held out.new)
+        (followed (K.held out.old) (encode_lower output.now ++ tail.now))) }
+    ensures failed { OnErr result (Rose (K.faults out.old) (K.faults out.new)) }
+    ensures front { OnErr result
+        (TookFront (K.held out.old) (K.held out.new) (encode_lower output.now ++ tail.now)) }
+{
+    match write_digits(out, output, buffer) {
+        Ok(()) => write_all(out, tail),
+        Err(Failed) => Err(Failed),
+    }
+}
+
+/// Prints what is ready.
+fn print_ready<K: Sink>(out: &mut K, ready: Ready) -> Result<(), Failed>
+    requires { 2 ≤ vec_len ready.buffer }
+    ensures rises { K.faults out.old ≤ K.faults out.new }
+    ensures ok { OnOk result
+        (WhereTold (K.held out.new)
+        (followed (K.held out.old) (encode_lower ready.output.items ++ ready.tail.items))) }
+    ensures failed { OnErr result (Rose (K.faults out.old) (K.faults out.new)) }
+    ensures front { OnErr result
+        (TookFront (K.held out.old) (K.held out.new)
+        (encode_lower ready.output.items ++ ready.tail.items)) }
+{
+    let Ready {
+        output,
+        tail,
+        mut buffer,
+    } = ready;
+    print(
+        out,
+        output.as_slice(),
+        tail.as_slice(),
+        buffer.as_mut_slice(),
+    )
+}
+
+/// Does a job, and prints what is made.
+fn perform<F: Shelf, S: Source, K: Sink>(
+    alloc: Global,
+    job: Job<'_>,
+    shelf: &mut F,
+    input: &mut S,
+    out: &mut K,
+) -> Answer
+    requires { functions (job_seen job).command ≡ None → S.can_read input.old }
+    ensures ends { Ends (job_seen job.entry) (record {
+      texts = F.texts shelf.old;
+      shelf_faults_old = F.faults shelf.old;
+      shelf_faults_new = F.faults shelf.new;
+      left_old = S.left input.old;
+      left_new = S.left input.new;
+      read_faults_old = S.faults input.old;
+      read_faults_new = S.faults input.new;
+      held_old = K.held out.old;
+      held_new = K.held out.new;
+      write_faults_old = K.faults out.old;
+      write_faults_new = K.faults out.new;
+    }) (input.new ≡ input.old) (status_of result) (text_of result) }
+    ensures shelf_rises { F.faults shelf.old ≤ F.faults shelf.new }
+    ensures input_rises { S.faults input.old ≤ S.faults input.new }
+    ensures out_rises { K.faults out.old ≤ K.faults out.new }
+    ensures unread { IsMaking (job_seen job.entry).command → input.new ≡ input.old }
+    ensures unfetched { files (job_seen job.entry).command ≡ [] → shelf.new ≡ shelf.old }
+    ensures untouched { status_of result ≢ 0 → status_of result ≢ 4 → out.new ≡ out.old }
+{
+    match make(alloc, job, shelf, input) {
+        Ok(ready) => match print_ready(out, ready) {
+            Ok(()) => Answer::Printed,
+            Err(Failed) => Answer::Writing(WritingFault::Failed),
+        },
+        Err(answer) => answer,
+    }
+}
+
+/// Does what the words ask for.
+fn perform_words<F: Shelf, S: Source, K: Sink>(
+    alloc: Global,
+    words: &[String],
+    shelf: &mut F,
+    input: &mut S,
+    out: &mut K,
+) -> Answer
+    requires { ReadsSource (job (map string_bytes words.now)) → S.can_read input.old }
+    ensures ends { EndsFor (job (map string_bytes words.now)) (record {
+      texts = F.texts shelf.old;
+      shelf_faults_old = F.faults shelf.old;
+      shelf_faults_new = F.faults shelf.new;
+      left_old = S.left input.old;
+      left_new = S.left input.new;
+      read_faults_old = S.faults input.old;
+      read_faults_new = S.faults input.new;
+      held_old = K.held out.old;
+      held_new = K.held out.new;
+      write_faults_old = K.faults out.old;
+      write_faults_new = K.faults out.new;
+    }) (input.new ≡ input.old) (shelf.new ≡ shelf.old) (status_of result) (text_of result) }
+    ensures shelf_rises { F.faults shelf.old ≤ F.faults shelf.new }
+    ensures input_rises { S.faults input.old ≤ S.faults input.new }
+    ensures out_rises { K.faults out.old ≤ K.faults out.new }
+    ensures made { MakesModule (job (map string_bytes words.now)) → input.new ≡ input.old }
+    ensures unnamed { NamesNone (job (map string_bytes words.now)) → shelf.new ≡ shelf.old }
+    ensures untouched { status_of result ≢ 0 → status_of result ≢ 4 → out.new ≡ out.old }
+{
+    match job_of(words) {
+        Some(job) => perform(alloc, job, shelf, input, out),
+        None => Answer::Words(WordsFault::NotAccepted),
+    }
+}
+
+/// Says how the program ends, unless all was printed.
+fn tell<D: Sink>(answer: Answer, err: &mut D)
+    ensures rises { D.faults err.old ≤ D.faults err.new }
+    ensures quiet { status_of answer ≡ 0 → err.new ≡ err.old }
+    ensures says { status_of answer ≢ 0
+        → Says (D.faults err.old) (D.faults err.new) (D.held err.old) (D.held err.new)
+        (text_of answer ++ codes "\n") }
+{
+    if answer.status() != 0 {
+        let _ = answer.say(err);
+    }
+}
+
+/// Runs the program: `words` are the words behind its name. They are, in this order, `-x` or nothing,
+/// `-m CEILING` or nothing, and one of `plain`, `rename FILE`, `twice FILE FILE`, `generate N` and
+/// `keep-report`.
+///
+/// `plain` re-encodes the input's bytes with no index renamed, and `rename` with the indices renamed as the
+/// text says that the shelf has under FILE. `twice` renames each index as the first text says, and what
+/// comes of it as the second says. With `-x` the input is the bytes' hexadecimal text. The output is printed
+/// as hexadecimal digits, and behind it a line for each renaming of how often each hook was called.
+/// `generate` makes a module of N functions, re-encodes it, and prints both lengths and the counts.
+/// `keep-report` re-encodes the input's bytes as `plain` does, and prints where the function bodies stand
+/// in the input that stay as they are, how many bytes they have and how many the output, and the counts.
+///
+/// It answers the status that the program ends with, and says on `err` what went wrong. A failure of
+/// `err` ends that text and changes no status.
+///
+/// | Status | |
+/// |---|---|
+/// | 0 | all output was written, and the input was read to its end, but for `generate` |
+/// | 1 | memory ran out |
+/// | 2 | the words are not accepted |
+/// | 3 | the input could not be read |
+/// | 4 | the output could not be written |
+/// | 5 | the bytes have no reading, in any other case than 7, 8 and 9 |
+/// | 6 | a renaming is strict and has no entry for an index |
+/// | 7 | the bytes have no reading, for a code section whose size passes their end |
+/// | 8 | where a core module is to stand, the bytes begin with the header of a component: those of `keep-report`, or of a nested module |
+/// | 9 | the bytes of a nested component begin with the header of a core module |
+/// | 10 | a frame of the output is above the ceiling |
+/// | 11 | a FILE says no renaming |
+/// | 12 | a FILE could not be fetched |
+/// | 13 | the input has more than 67,108,864 bytes, or a FILE more than 1,048,576 |
+/// | 14 | the input is not pairs of hexadecimal digits |
+///
+/// The words are tried first, then each FILE, which is fetched and then read, the input, its digits, the
+/// re-encoding and the output. All memory is taken before the first write to `out`.
+pub fn run<F: Shelf, S: Source, K: Sink, D: Sink>(
+    alloc: Global,
+    words: &[String],
+    shelf: &mut F,
+    input: &mut S,
+    out: &mut K,
+    err: &mut D,
+) -> u8
+    // A source is read only where the words ask for it, and no further behind its end or a failure: only
+    // bytes that it gave leave it readable. No piece that is written is empty.
+    requires { ReadsSource (job (map string_bytes words.now)) → S.can_read input.old }
+
+    // With status 0 the report of the re-encoding stands behind what the sink held.
+    ensures printed { result ≡ 0 → ForJob (job (map string_bytes words.now))
+        (λ j. (made : Made j (F.texts shelf.old) (S.left input.old) (S.left input.new))
+        × WhereTold (K.held out.new) (followed (K.held out.old) (report_of made))) }
+
+    // Status 2 comes by the words alone, and before anything is read or fetched.
+    ensures usage { (result ≡ 2) ↔ (job (map string_bytes words.now) ≡ None) }
+    ensures unread { result ≡ 2 → input.new ≡ input.old }
+    ensures unfetched { result ≡ 2 → shelf.new ≡ shelf.old }
+
+    // A made module takes nothing of the source, a command without a file nothing of the shelf, and
+    // a file that gives no renaming comes before anything is read.
+    ensures makes { MakesModule (job (map string_bytes words.now)) → input.new ≡ input.old }
+    ensures unnamed { NamesNone (job (map string_bytes words.now)) → shelf.new ≡ shelf.old }
+    ensures files_first { (result ≡ 11) ⊎ (result ≡ 12) → input.new ≡ input.old }
+
+    // Status 3, 4 and 12 come only where the source, the sink or the shelf failed; with 3 all files were
+    // accepted, with 12 all before that file, and with 4 a front of the report was taken.
+    ensures read_fault { result ≡ 3 → Rose (S.faults input.old) (S.faults input.new) }
+    ensures write_fault { result ≡ 4 → Rose (K.faults out.old) (K.faults out.new) }
+    ensures shelf_fault { result ≡ 12 → Rose (F.faults shelf.old) (F.faults shelf.new) }
+    ensures input_fault { result ≡ 3 → ForJob (job (map string_bytes words.now))
+        (λ j. IsUnread j.command (F.texts shelf.old) (S.faults input.old) (S.faults input.new)) }
+    ensures file_fault { result ≡ 12 → ForJob (job (map string_bytes words.now))
+        (λ j. IsUnfetched j.command (F.texts shelf.old)
+        (F.faults shelf.old) (F.faults shelf.new)) }
+    ensures front { result ≡ 4 → ForJob (job (map string_bytes words.now))
+        (λ j. (made : Made j (F.texts shelf.old) (S.left input.old) (S.left input.new))
+        × TookFront (K.held out.old) (K.held out.new) (report_of made)) }
+
+    // Status 5 to 10 come only by the renamings and the bytes.
+    ensures parse_error { result ≡ 5
+        → (at : ℕ) × StopsWith (job (map string_bytes words.now)) (F.texts shelf.old)
+        (S.left input.old) (S.left input.new) (ReencodingFault.ParseError at)
+        × Says (D.faults err.old) (D.faults err.new) (D.held err.old) (D.held err.new)
+        (codes "parse error at " ++ decimal at ++ codes "\n") }
+    ensures refused { result ≡ 6
+        → (u : Refusal) × StopsWith (job (map string_bytes words.now)) (F.texts shelf.old)
+        (S.left input.old) (S.left input.new) (ReencodingFault.Refused u)
+        × Says (D.faults err.old) (D.faults err.new) (D.held err.old) (D.held err.new)
+        (refusal_text u ++ codes "\n") }
+    ensures code_size { result ≡ 7 → StopsWith (job (map string_bytes words.now))
+        (F.texts shelf.old) (S.left input.old) (S.left input.new) ReencodingFault.CodeSectionSize }
+    ensures component { result ≡ 8 → StopsWith (job (map string_bytes words.now))
+        (F.texts shelf.old) (S.left input.old) (S.left input.new) ReencodingFault.NonCoreModule }
+    ensures core_module { result ≡ 9 → StopsWith (job (map string_bytes words.now))
+        (F.texts shelf.old) (S.left input.old) (S.left input.new) ReencodingFault.NonComponent }
+    ensures too_large { result ≡ 10
+        → (size : ℕ) × (ceiling : ℕ) × StopsWith (job (map string_bytes words.now))
+        (F.texts shelf.old) (S.left input.old) (S.left input.new) (ReencodingFault.TooLarge size ceiling)
+        × Says (D.faults err.old) (D.faults err.new) (D.held err.old) (D.held err.new)
+        (codes "too large: " ++ decimal size ++ codes " over " ++ decimal ceiling ++ codes "\n") }
+
+    // Status 11, 13 and 14 come only by what the shelf and the source gave.
+    ensures bad_renaming { result ≡ 11 → ForJob (job (map string_bytes words.now))
+        (λ j. IsBadFile j.command (F.texts shelf.old)) }
+    ensures too_long { result ≡ 13 → ForJob (job (map string_bytes words.now))
+        (λ j. IsTooLong j.command (F.texts shelf.old) (S.left input.old) (S.left input.new)
+        (input.new ≡ input.old)) }
+    ensures not_hexadecimal { result ≡ 14 → ForJob (job (map string_bytes words.now))
+        (λ j. HasNoDigits j (F.texts shelf.old) (S.left input.old) (S.left input.new)) }
+
+    // The words, each file, the input, its digits, the re-encoding and the sink decide, in this order:
+    // what stands first is told, whatever failed behind it.
+    ensures decided { IsDecided (Rose (F.faults shelf.old) (F.faults shelf.new))
+        (Rose (S.faults input.old) (S.faults input.new))
+        (Rose (K.faults out.old) (K.faults out.new))
+        (job (map string_bytes words.now)) (F.texts shelf.old) (S.left input.old) result }
+
+    // No other status comes, and with each but 0 and 4 the sink is as it was.
+    ensures statuses { Contains
+        (0 ∷ 1 ∷ 2 ∷ 3 ∷ 4 ∷ 5 ∷ 6 ∷ 7 ∷ 8 ∷ 9 ∷ 10 ∷ 11 ∷ 12 ∷ 13 ∷ 14 ∷ []) result }
+    ensures untouched { result ≢ 0 → result ≢ 4 → out.new ≡ out.old }
+
+    // Each status but 0 has its message.
+    ensures quiet { result ≡ 0 → err.new ≡ err.old }
+    ensures says { result ≢ 0 → result ≢ 5 → result ≢ 6 → result ≢ 10
+        → Says (D.faults err.old) (D.faults err.new) (D.held err.old) (D.held err.new)
+        (message result ++ codes "\n") }
+
+    // No count of failures falls.
+    ensures shelf_rises { F.faults shelf.old ≤ F.faults shelf.new }
+    ensures input_rises { S.faults input.old ≤ S.faults input.new }
+    ensures out_rises { K.faults out.old ≤ K.faults out.new }
+    ensures err_rises { D.faults err.old ≤ D.faults err.new }
+{
+    let answer = perform_words(alloc, words, shelf, input, out);
+    tell(answer, err);
+    answer.status()
+}

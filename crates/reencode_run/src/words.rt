@@ -1,0 +1,144 @@
+//! The words of the command line.
+ghost use Rattle.std.specs.Prelude.{◌≡◌, map, option_map, string_bytes};
+ghost use Rattle.reencode_run.specs.Words.{command, command_seen, job, job_seen, functions, long_command, longer_command, short_command, without_ceiling, without_flag};
+
+use crate::index::index_of;
+
+/// The most functions that a made module may have.
+const MOST_FUNCTIONS: u32 = 1_000_000;
+
+/// What is to be done.
+#[derive(Clone, Copy, Debug)]
+pub enum Command<'a> {
+    /// The input is re-encoded, and no index is renamed.
+    Plain,
+    /// The input is re-encoded with the indices renamed as the file of this name says.
+    Rename(&'a str),
+    /// The input is re-encoded with the indices renamed as the first file says, and these as the second says.
+    Twice(&'a str, &'a str),
+    /// A module of so many functions is made and re-encoded.
+    Generate(u32),
+    /// The input is re-encoded, no index is renamed, and what of it is kept is told.
+    KeepReport,
+}
+
+/// How many functions a command makes a module of, where it makes one.
+pub fn functions(command: Command<'_>) -> Option<u32>
+    ensures { result ≡ functions (command_seen command.entry) }
+{
+    match command {
+        Command::Generate(n) => Some(n),
+        Command::Plain => None,
+        Command::Rename(_) => None,
+        Command::Twice(_, _) => None,
+        Command::KeepReport => None,
+    }
+}
+
+/// What the words ask for.
+#[derive(Clone, Copy, Debug)]
+pub struct Job<'a> {
+    /// Whether the input is hexadecimal text.
+    pub is_text: bool,
+    /// The most bytes that a frame of the output may have.
+    pub ceiling: u32,
+    /// What is to be done.
+    pub command: Command<'a>,
+}
+
+/// Whether the first word is `-x`, and the words behind it.
+fn flag_of(words: &[String]) -> (bool, &[String])
+    ensures { (result.0, map string_bytes result.1.now)
+        ≡ without_flag (map string_bytes words.now) }
+{
+    match words {
+        [first, rest @ ..] if first.as_str() == "-x" => (true, rest),
+        _ => (false, words),
+    }
+}
+
+/// The ceiling that the first two words may say, and the words behind them.
+fn ceiling_of(words: &[String]) -> Option<(u32, &[String])>
+    ensures { option_map (λ p. (p.0, map string_bytes p.1.now)) result
+        ≡ without_ceiling (map string_bytes words.now) }
+{
+    match words {
+        [first, second, rest @ ..] if first.as_str() == "-m" => match index_of(second.as_str()) {
+            Some(ceiling) => Some((ceiling, rest)),
+            None => None,
+        },
+        _ => Some((u32::MAX, words)),
+    }
+}
+
+/// The command that is one word.
+fn short_command(word: &str) -> Option<Command<'static>>
+    ensures { option_map command_seen result ≡ short_command word.now }
+{
+    if word == "plain" {
+        return Some(Command::Plain);
+    }
+    if word == "keep-report" {
+        return Some(Command::KeepReport);
+    }
+    None
+}
+
+/// The command that is a word and an argument.
+fn long_command<'a>(word: &str, argument: &'a str) -> Option<Command<'a>>
+    ensures { option_map command_seen result ≡ long_command word.now argument.now }
+{
+    if word == "rename" {
+        return Some(Command::Rename(argument));
+    }
+    if word == "generate" {
+        return match index_of(argument) {
+            Some(n) if n >= 1 && n <= MOST_FUNCTIONS => Some(Command::Generate(n)),
+            _ => None,
+        };
+    }
+    None
+}
+
+/// The command that is a word and two arguments.
+fn longer_command<'a>(word: &str, first: &'a str, second: &'a str) -> Option<Command<'a>>
+    ensures { option_map command_seen result ≡ longer_command word.now first.now second.now }
+{
+    if word == "twice" {
+        Some(Command::Twice(first, second))
+    } else {
+        None
+    }
+}
+
+/// The command that the words are.
+fn command_of(words: &[String]) -> Option<Command<'_>>
+    ensures { option_map command_seen result ≡ command (map string_bytes words.now) }
+{
+    match words {
+        [word] => short_command(word.as_str()),
+        [word, argument] => long_command(word.as_str(), argument.as_str()),
+        [word, first, second] => longer_command(word.as_str(), first.as_str(), second.as_str()),
+        _ => None,
+    }
+}
+
+/// What the words ask for: `-x` or nothing, `-m CEILING` or nothing, and then `plain`, `rename FILE`,
+/// `twice FILE FILE`, `generate N` or `keep-report`. CEILING and N are decimal digits that do not begin with `0`, or `0`; CEILING is below
+/// 2^32 and is 2^32 - 1 where it is left out, and N is from 1 to 1,000,000.
+pub fn job_of(words: &[String]) -> Option<Job<'_>>
+    ensures { option_map job_seen result ≡ job (map string_bytes words.now) }
+{
+    let (is_text, rest) = flag_of(words);
+    match ceiling_of(rest) {
+        Some((ceiling, rest)) => match command_of(rest) {
+            Some(command) => Some(Job {
+                is_text,
+                ceiling,
+                command,
+            }),
+            None => None,
+        },
+        None => None,
+    }
+}
