@@ -1,7 +1,6 @@
 -- How each stage ends the program, and what a status says of how it ended.
 use Rattle.std.proofs.Common.{◌≡◌, ◌≢◌, ℕ, inl, inr, true, Bool, Option, Some, None, Result, Err, List, [], ◌∷◌, ◌++◌, codes, decimal, refl, sym, ap, ◌∙◌, subst, arith, lit<}
 use Rattle.std.specs.Prelude.{Contains, MatchOption}
-use Rattle.reencode_hooks.specs.Renamings.{Renaming, no_renaming}
 use Rattle.reencode_run.specs.declared.answer.Answer.{Answer}
 use Rattle.reencode_run.specs.declared.answer.Answer.TheVariants.{File, Input, Digits, Reencoding}
 use Rattle.reencode_run.specs.declared.answer.FileFault.{FileFault}
@@ -13,30 +12,12 @@ use Rattle.reencode_run.specs.declared.hexadecimal.TextFault.TheVariants as digi
 use Rattle.reencode_run.specs.declared.answer.ReencodingFault.{ReencodingFault}
 use Rattle.reencode_run.specs.declared.answer.ReencodingFault.TheVariants as reencoding_fault
 use Rattle.reencode_run.specs.declared.renamers.Refusal.{Refusal}
-use Rattle.reencode_run.specs.declared.renamers.Renamers.{Renamers}
-use Rattle.reencode_run.specs.declared.renamers.Renamers.TheVariants.{Alone}
-use Rattle.reencode_run.specs.declared.taken.Taken.{Taken}
-use Rattle.reencode_run.specs.Answer.{AtFile, Ends, EndsFor, FilesSay, ForJob, HasNoDigits, IsBadFile, IsTooLong, IsUnfetched, IsUnread, MadeFor, Outside, PlainFor, RefusesDigits, RefusesFrom, RefusesInput, RefusesRenaming, Says, StopsFor, StopsWith, Texts, Uses, message, most_bytes, report_of, status_of, text_of}
+use Rattle.reencode_run.specs.declared.task.Task.{Task}
+use Rattle.reencode_run.specs.Answer.{AtFile, Ends, EndsFor, ForJob, HasNoDigits, IsBadFile, IsTooLong, IsUnfetched, IsUnread, MadeFor, Outside, RefusesDigits, RefusesFrom, RefusesInput, RefusesTask, Says, StopsFor, StopsWith, Texts, Uses, message, most_bytes, report_of, status_of, text_of}
 use Rattle.reencode_run.specs.Outside.{Rose, GaveAll, TookFront, TookMore, WhereTold, followed}
 use Rattle.reencode_run.specs.Hexadecimal.{binary}
-use Rattle.reencode_run.specs.Reencoded.{IsReencoded}
-use Rattle.reencode_run.specs.Renamers.{refusal_text, renamers_of}
-use Rattle.reencode_run.specs.Words.{Command, Job, files, functions}
-use Rattle.reencode_run.proofs.Outcomes.{plain_of}
-
--- where no file is named, nothing is renamed, and the output is the normal spelling itself
-none_said : (texts : Texts) (names : List (List ℕ)) (said : List Renaming) (rs : Renamers) → FilesSay texts names said → rs ≡ renamers_of said → names ≡ [] → rs ≡ Alone no_renaming
-none_said texts [] [] rs f e n = e
-none_said texts [] (r ∷ said) rs f e n = absurd f
-none_said texts (name ∷ names) said rs f e n = absurd cc
-
-pub none_used : (command : Command) (texts : Texts) (rs : Renamers) → Uses command texts rs → files command ≡ [] → rs ≡ Alone no_renaming
-none_used command texts rs u n = none_said texts (files command) u.0 rs u.1 u.2 n
-
-pub plain_for : {k : Taken} {c : ℕ} {rs : Renamers} {bytes output : List ℕ} {counts : List (List ℕ)} (names : List (List ℕ)) → (names ≡ [] → rs ≡ Alone no_renaming) → IsReencoded k c rs bytes output counts
-    → PlainFor k names bytes output counts
-plain_for {k} {c} {rs} {bytes} {output} {counts} [] none h = plain_of (subst (λ (z : Renamers). IsReencoded k c z bytes output counts) (none refl) h)
-plain_for (name ∷ names) none h = tt
+use Rattle.reencode_run.specs.Renamers.{refusal_text}
+use Rattle.reencode_run.specs.Words.{Job, Kind, files, functions, says}
 
 -- ---- the stages
 
@@ -72,7 +53,7 @@ module _ (job : Job) (o : Outside) (U : Type 0) where
   abbrev pub Stopped : Answer → Type 0
   Stopped answer = Ends job o U (status_of answer) (text_of answer)
 
-  pub by_file : (fault : FileFault) → RefusesRenaming job.command o.texts o.shelf_faults_old o.shelf_faults_new fault → U → Stopped (File fault)
+  pub by_file : (fault : FileFault) → RefusesTask job.command o.texts o.shelf_faults_old o.shelf_faults_new fault → U → Stopped (File fault)
   by_file file_fault.Failed h u = Ends.unfetched h u
   by_file file_fault.TooLong h u = Ends.too_long (inl (h, u))
   by_file file_fault.Bad h u = Ends.bad_file h u
@@ -82,23 +63,23 @@ module _ (job : Job) (o : Outside) (U : Type 0) where
   reads None e h = h
   reads (Some n) e h = cc
 
-  by_input : (rs : Renamers) → Uses job.command o.texts rs → functions job.command ≡ None → (fault : InputFault)
+  by_input : (t : Task) → Uses job.command o.texts t → functions job.command ≡ None → (fault : InputFault)
       → RefusesInput o.read_faults_old o.read_faults_new o.left_old o.left_new fault → Stopped (Input fault)
-  by_input rs uses e input_fault.Failed h = Ends.read_fault (reads (functions job.command) e, (rs, uses), h)
-  by_input rs uses e input_fault.TooLong h = Ends.too_long (inr (reads (functions job.command) e, (rs, uses), h))
-  by_input rs uses e input_fault.NoMemory h = Ends.no_memory
+  by_input t uses e input_fault.Failed h = Ends.read_fault (reads (functions job.command) e, (t, uses), h)
+  by_input t uses e input_fault.TooLong h = Ends.too_long (inr (reads (functions job.command) e, (t, uses), h))
+  by_input t uses e input_fault.NoMemory h = Ends.no_memory
 
-  by_digits : (rs : Renamers) → Uses job.command o.texts rs → functions job.command ≡ None → (fault : TextFault)
+  by_digits : (t : Task) → Uses job.command o.texts t → functions job.command ≡ None → (fault : TextFault)
       → RefusesDigits job.is_text o.left_old o.left_new fault → Stopped (Digits fault)
-  by_digits rs uses e digits_fault.NotHexadecimal h = Ends.no_digits (record { reads = reads (functions job.command) e; renamings = (rs, uses); digits = h })
-  by_digits rs uses e digits_fault.NoMemory h = Ends.no_memory
+  by_digits t uses e digits_fault.NotHexadecimal h = Ends.no_digits (record { reads = reads (functions job.command) e; files = (t, uses); digits = h })
+  by_digits t uses e digits_fault.NoMemory h = Ends.no_memory
 
-  pub by_source : (rs : Renamers) → Uses job.command o.texts rs → (source : Option ℕ) → functions job.command ≡ source → (answer : Answer)
+  pub by_source : (t : Task) → Uses job.command o.texts t → (source : Option ℕ) → functions job.command ≡ source → (answer : Answer)
       → RefusesFrom source job.is_text o.read_faults_old o.read_faults_new o.left_old o.left_new answer → Stopped answer
-  by_source rs uses None e (Input fault) h = by_input rs uses e fault h
-  by_source rs uses None e (Digits fault) h = by_digits rs uses e fault h
-  by_source rs uses None e _ h = absurd h
-  by_source rs uses (Some n) e answer h = subst Stopped (sym h) Ends.no_memory
+  by_source t uses None e (Input fault) h = by_input t uses e fault h
+  by_source t uses None e (Digits fault) h = by_digits t uses e fault h
+  by_source t uses None e _ h = absurd h
+  by_source t uses (Some n) e answer h = subst Stopped (sym h) Ends.no_memory
 
   pub by_reencoding : (fault : ReencodingFault) → StopsFor job o fault → Stopped (Reencoding fault)
   by_reencoding (reencoding_fault.ParseError at) h = Ends.parse_error at h
@@ -194,13 +175,13 @@ of_too_large t None o U F h = absurd (omega (arith, h.0))
 of_too_large t (Some job) o U F (Ends.too_large size ceiling h) = (size, ceiling, h, refl)
 
 -- what is said of a file without its name holds where it holds of one
-at_some : (texts : Texts) (names : List (List ℕ)) {P : Type 0} → AtFile texts names (λ name. P) → P
-at_some texts [] h = absurd h
-at_some texts (name ∷ names) (inl h) = h
-at_some texts (name ∷ names) (inr h) = at_some texts names h.1
+at_some : (k : Kind) (texts : Texts) (names : List (List ℕ)) {P : Type 0} → AtFile k texts names (λ name. P) → P
+at_some k texts [] h = absurd h
+at_some k texts (name ∷ names) (inl h) = h
+at_some k texts (name ∷ names) (inr h) = at_some k texts names h.1
 
 pub unfetched_rose : {job : Job} {o : Outside} {U : Type 0} {t : List ℕ} → Ends job o U 12 t → Rose o.shelf_faults_old o.shelf_faults_new
-unfetched_rose {job} {o} (Ends.unfetched h u) = at_some o.texts (files job.command) h
+unfetched_rose {job} {o} (Ends.unfetched h u) = at_some (says job.command) o.texts (files job.command) h
 
 -- ---- the statuses and their texts
 

@@ -2,19 +2,17 @@
 use Rattle.std.proofs.Common.{◌≡◌, ℕ, ◌<◌, ◌≤◌, ◌⊎◌, inl, inr, true, Bool, Option, Some, None, List, [], ◌∷◌, ◌++◌, length, length-append, refl, sym, ap, ◌∙◌, subst, arith}
 use Rattle.std.proofs.lemmas.List.{append-nil}
 use Rattle.std.specs.Prelude.{MatchOption}
-use Rattle.reencode_hooks.specs.Renamings.{Renaming}
 use Rattle.reencode_run.specs.declared.answer.ReencodingFault.{ReencodingFault}
 use Rattle.reencode_run.specs.declared.answer.ReencodingFault.TheVariants as reencoding_fault
-use Rattle.reencode_run.specs.declared.renamers.Renamers.{Renamers}
-use Rattle.reencode_run.specs.declared.taken.Taken.{Taken}
+use Rattle.reencode_run.specs.declared.task.Task.{Task}
 use Rattle.reencode_run.specs.declared.answer.Answer.TheVariants.{Reencoding}
-use Rattle.reencode_run.specs.Answer.{AtFile, Ends, EndsFor, FileSays, FilesSay, HasBytes, IsDecided, IsDecidedByBytes, IsDecidedByFile, IsDecidedByFiles, IsDecidedByForm, IsDecidedByInput, IsDecidedByJob, IsDecidedByLeft, IsMaking, IsTooLong, MadeFor, Outside, SaysNone, StopsFor, TakesFrom, Texts, Uses, Work, most_bytes, most_renaming, status_of, told_text}
+use Rattle.reencode_run.specs.Answer.{AtFile, Ends, EndsFor, FileSays, FilesSay, HasBytes, IsDecided, IsDecidedByBytes, IsDecidedByFile, IsDecidedByFiles, IsDecidedByForm, IsDecidedByInput, IsDecidedByJob, IsDecidedByLeft, IsMaking, IsTooLong, MadeFor, Outside, SaysNone, StopsFor, TakesFrom, Texts, Uses, Work, most_bytes, status_of, told_text}
 use Rattle.reencode_run.specs.Generated.{generated}
 use Rattle.reencode_run.specs.Hexadecimal.{binary, bytes_of}
 use Rattle.reencode_run.specs.Outside.{GaveAll, HasText, IsLonger, Rose, TookMore, WhereTold}
-use Rattle.reencode_run.specs.Renamers.{renamers_of}
-use Rattle.reencode_run.specs.Renamings.{IsRenaming}
-use Rattle.reencode_run.specs.Words.{Job, files, functions, taken}
+use Rattle.reencode_run.specs.Tasks.{Content, IsContent, most_of, task_of}
+use Rattle.reencode_run.specs.Words.{Job, Kind, of_renaming, files, functions, says}
+use Rattle.reencode_run.proofs.Reports.{wants_memory}
 
 -- ---- texts that are told
 
@@ -47,188 +45,192 @@ has (Some texts) name text h t e = go (texts name) refl h
     go (Some u) is h = let P : Option (List ℕ) → Type 0 = λ z. WhereTold z (Some text) in
         let same : Some text ≡ Some u = subst P is h in cc
 
-same_renaming : (text t : List ℕ) (r q : Renaming) → t ≡ text → IsRenaming text r → IsRenaming t q → r ≡ q
-same_renaming text t r q e h k = let k' = subst (λ (z : List ℕ). IsRenaming z q) e k in let both : Some r ≡ Some q = sym h.is ∙ k'.is in cc
+same_content : (k : Kind) (text t : List ℕ) (c d : Content k) → t ≡ text → IsContent k text c → IsContent k t d → c ≡ d
+same_content of_renaming text t c d e h j = let j' = subst (λ (z : List ℕ). IsContent of_renaming z d) e j in let both : Some c ≡ Some d = sym h.is ∙ j'.is in cc
 
 module _ (H R W : Type 0) where
   -- H, R and W are that the shelf, the source and the sink failed
 
   -- ---- out of memory
 
-  memory_bytes : (k : Taken) (c : ℕ) (rs : Renamers) (bytes : List ℕ) → IsDecidedByBytes W k c rs bytes 1
-  memory_bytes k c rs bytes = inr (reencoding_fault.NoMemory, refl, tt, λ t given reading all fits. refl)
+  memory_bytes : (t : Task) (c : ℕ) (bytes : List ℕ) → IsDecidedByBytes W t c bytes 1
+  memory_bytes t c bytes = inr (reencoding_fault.NoMemory, refl, wants_memory t c bytes)
 
-  memory_form : (k : Taken) (c : ℕ) (rs : Renamers) (form : Option (List ℕ)) → IsDecidedByForm W k c rs form 1
-  memory_form k c rs None = inr refl
-  memory_form k c rs (Some bytes) = memory_bytes k c rs bytes
+  memory_form : (t : Task) (c : ℕ) (form : Option (List ℕ)) → IsDecidedByForm W t c form 1
+  memory_form t c None = inr refl
+  memory_form t c (Some bytes) = memory_bytes t c bytes
 
-  memory_left : (job : Job) (rs : Renamers) (left : Option (List ℕ)) → IsDecidedByLeft R W job rs left 1
-  memory_left job rs None = tt
-  memory_left job rs (Some text) = inr (record { long = λ more. inr refl; short = λ less. memory_form (taken job.command) job.ceiling rs (bytes_of job.is_text text) })
+  memory_left : (job : Job) (t : Task) (left : Option (List ℕ)) → IsDecidedByLeft R W job t left 1
+  memory_left job t None = tt
+  memory_left job t (Some text) = inr (record { long = λ more. inr refl; short = λ less. memory_form t job.ceiling (bytes_of job.is_text text) })
 
-  memory_input : (source : Option ℕ) (job : Job) (rs : Renamers) (left : Option (List ℕ)) → IsDecidedByInput R W source job rs left 1
-  memory_input None job rs left = memory_left job rs left
-  memory_input (Some n) job rs left = memory_bytes (taken job.command) job.ceiling rs (generated n)
+  memory_input : (source : Option ℕ) (job : Job) (t : Task) (left : Option (List ℕ)) → IsDecidedByInput R W source job t left 1
+  memory_input None job t left = memory_left job t left
+  memory_input (Some n) job t left = memory_bytes t job.ceiling (generated n)
 
-  memory_file : (file : Option (List ℕ)) (by : Renaming → Type 0) → ((r : Renaming) → by r) → IsDecidedByFile H file 1 by
-  memory_file None by all = tt
-  memory_file (Some text) by all = inr (record {
+  memory_file : (k : Kind) (file : Option (List ℕ)) (by : Content k → Type 0) → ((c : Content k) → by c) → IsDecidedByFile H k file 1 by
+  memory_file k None by all = tt
+  memory_file k (Some text) by all = inr (record {
     long = λ more. inr refl;
     none = λ less never. inr refl;
-    some = λ less r is. all r;
+    some = λ less c is. all c;
   })
 
-  memory_files : (texts : Texts) (names : List (List ℕ)) (by : List Renaming → Type 0) → ((said : List Renaming) → by said) → IsDecidedByFiles H texts names 1 by
-  memory_files texts [] by all = all []
-  memory_files texts (name ∷ names) by all =
-      memory_file (told_text texts name) _ (λ r. memory_files texts names (λ said. by (r ∷ said)) (λ said. all (r ∷ said)))
+  memory_files : (k : Kind) (texts : Texts) (names : List (List ℕ)) (by : List (Content k) → Type 0) → ((said : List (Content k)) → by said) → IsDecidedByFiles H k texts names 1 by
+  memory_files k texts [] by all = all []
+  memory_files k texts (name ∷ names) by all =
+      memory_file k (told_text texts name) _ (λ c. memory_files k texts names (λ said. by (c ∷ said)) (λ said. all (c ∷ said)))
 
   -- ---- the input
 
-  by_bytes : (job : Job) (rs : Renamers) (old new : Option (List ℕ)) (bytes : List ℕ) (n : ℕ) → HasBytes job.is_text old new bytes → IsDecidedByBytes W (taken job.command) job.ceiling rs bytes n
-      → IsDecidedByLeft R W job rs old n
-  by_bytes job rs None new bytes n h d = tt
-  by_bytes job rs (Some told) new bytes n h d =
+  by_bytes : (job : Job) (t : Task) (old new : Option (List ℕ)) (bytes : List ℕ) (n : ℕ) → HasBytes job.is_text old new bytes → IsDecidedByBytes W t job.ceiling bytes n
+      → IsDecidedByLeft R W job t old n
+  by_bytes job t None new bytes n h d = tt
+  by_bytes job t (Some told) new bytes n h d =
       let e = gave_told most_bytes new h.text told h.gave in
       let form : bytes_of job.is_text told ≡ Some bytes = ap (bytes_of job.is_text) e ∙ h.are in
       inr (record {
         long = λ more. absurd (not_long most_bytes told h.text e h.gave.within more);
-        short = λ less. subst (λ (f : Option (List ℕ)). IsDecidedByForm W (taken job.command) job.ceiling rs f n) (sym form) d;
+        short = λ less. subst (λ (f : Option (List ℕ)). IsDecidedByForm W t job.ceiling f n) (sym form) d;
       })
 
-  by_takes : (source : Option ℕ) (job : Job) (rs : Renamers) (old new : Option (List ℕ)) (bytes : List ℕ) (n : ℕ) → TakesFrom source job.is_text old new bytes
-      → IsDecidedByBytes W (taken job.command) job.ceiling rs bytes n → IsDecidedByInput R W source job rs old n
-  by_takes None job rs old new bytes n h d = by_bytes job rs old new bytes n h d
-  by_takes (Some k) job rs old new bytes n h d = subst (λ (b : List ℕ). IsDecidedByBytes W (taken job.command) job.ceiling rs b n) h d
+  by_takes : (source : Option ℕ) (job : Job) (t : Task) (old new : Option (List ℕ)) (bytes : List ℕ) (n : ℕ) → TakesFrom source job.is_text old new bytes
+      → IsDecidedByBytes W t job.ceiling bytes n → IsDecidedByInput R W source job t old n
+  by_takes None job t old new bytes n h d = by_bytes job t old new bytes n h d
+  by_takes (Some k) job t old new bytes n h d = subst (λ (b : List ℕ). IsDecidedByBytes W t job.ceiling b n) h d
 
-  long_left : (job : Job) (rs : Renamers) (old new : Option (List ℕ)) → TookMore most_bytes old new → IsDecidedByLeft R W job rs old 13
-  long_left job rs None new h = tt
-  long_left job rs (Some told) new h =
+  long_left : (job : Job) (t : Task) (old new : Option (List ℕ)) → TookMore most_bytes old new → IsDecidedByLeft R W job t old 13
+  long_left job t None new h = tt
+  long_left job t (Some told) new h =
       let more = took_longer most_bytes new told h in
       inr (record { long = λ m. inl refl; short = λ less. absurd (omega (arith, more, less)) })
 
-  no_digits : (job : Job) (rs : Renamers) (old new : Option (List ℕ)) (text : List ℕ) → job.is_text ≡ true → GaveAll most_bytes old new text → binary text ≡ None
-      → IsDecidedByLeft R W job rs old 14
-  no_digits job rs None new text is gave none = tt
-  no_digits job rs (Some told) new text is gave none =
+  no_digits : (job : Job) (t : Task) (old new : Option (List ℕ)) (text : List ℕ) → job.is_text ≡ true → GaveAll most_bytes old new text → binary text ≡ None
+      → IsDecidedByLeft R W job t old 14
+  no_digits job t None new text is gave none = tt
+  no_digits job t (Some told) new text is gave none =
       let e = gave_told most_bytes new text told gave in
       let form : bytes_of job.is_text told ≡ None = ap (λ (b : Bool). bytes_of b told) is ∙ ap binary e ∙ none in
       inr (record {
         long = λ more. absurd (not_long most_bytes told text e gave.within more);
-        short = λ less. subst (λ (f : Option (List ℕ)). IsDecidedByForm W (taken job.command) job.ceiling rs f 14) (sym form) (inl refl);
+        short = λ less. subst (λ (f : Option (List ℕ)). IsDecidedByForm W t job.ceiling f 14) (sym form) (inl refl);
       })
 
-  unread : (job : Job) (rs : Renamers) (old : Option (List ℕ)) → R → IsDecidedByLeft R W job rs old 3
-  unread job rs None r = tt
-  unread job rs (Some told) r = inl (refl, r)
+  unread : (job : Job) (t : Task) (old : Option (List ℕ)) → R → IsDecidedByLeft R W job t old 3
+  unread job t None r = tt
+  unread job t (Some told) r = inl (refl, r)
 
   -- what comes of the source comes for a command that makes no module
-  by_left : (job : Job) (rs : Renamers) (old : Option (List ℕ)) (n : ℕ) → ¬ IsMaking job.command → IsDecidedByLeft R W job rs old n
-      → IsDecidedByInput R W (functions job.command) job rs old n
-  by_left job rs old n never d = go (functions job.command) never
+  by_left : (job : Job) (t : Task) (old : Option (List ℕ)) (n : ℕ) → ¬ IsMaking job.command → IsDecidedByLeft R W job t old n
+      → IsDecidedByInput R W (functions job.command) job t old n
+  by_left job t old n never d = go (functions job.command) never
     where
-      go : (source : Option ℕ) → (MatchOption source ⊥ (λ k. Unit {0}) → ⊥) → IsDecidedByInput R W source job rs old n
+      go : (source : Option ℕ) → (MatchOption source ⊥ (λ k. Unit {0}) → ⊥) → IsDecidedByInput R W source job t old n
       go None reads = d
       go (Some k) reads = absurd (reads tt)
 
   -- ---- the files
 
-  by_says : (name : List ℕ) (texts : Texts) (r : Renaming) (n : ℕ) (by : Renaming → Type 0) → FileSays texts name r → by r
-      → (file : Option (List ℕ)) → told_text texts name ≡ file → IsDecidedByFile H file n by
-  by_says name texts r n by u d None e = tt
-  by_says name texts r n by u d (Some t) e =
+  by_says : (k : Kind) (name : List ℕ) (texts : Texts) (c : Content k) (n : ℕ) (by : Content k → Type 0) → FileSays k texts name c → by c
+      → (file : Option (List ℕ)) → told_text texts name ≡ file → IsDecidedByFile H k file n by
+  by_says k name texts c n by u d None e = tt
+  by_says k name texts c n by u d (Some t) e =
       let same : t ≡ u.0 = has texts name u.0 u.1 t e in
-      let within : length u.0 ≤ most_renaming = u.2 in
+      let within : length u.0 ≤ most_of k = u.2 in
       inr (record {
-        long = λ more. absurd (not_long most_renaming t u.0 same within more);
-        none = λ less never. absurd (never r (subst (λ (z : List ℕ). IsRenaming z r) (sym same) u.3));
-        some = λ less q is. subst by (same_renaming u.0 t r q same u.3 is) d;
+        long = λ more. absurd (not_long (most_of k) t u.0 same within more);
+        none = λ less never. absurd (never c (subst (λ (z : List ℕ). IsContent k z c) (sym same) u.3));
+        some = λ less q is. subst by (same_content k u.0 t c q same u.3 is) d;
       })
 
-  by_uses : (texts : Texts) (names : List (List ℕ)) (said : List Renaming) (n : ℕ) (by : List Renaming → Type 0) → FilesSay texts names said → by said
-      → IsDecidedByFiles H texts names n by
-  by_uses texts [] [] n by f d = d
-  by_uses texts [] (r ∷ said) n by f d = absurd f
-  by_uses texts (name ∷ names) [] n by f d = absurd f
-  by_uses texts (name ∷ names) (r ∷ said) n by f d =
-      by_says name texts r n (λ q. IsDecidedByFiles H texts names n (λ rs. by (q ∷ rs))) f.0 (by_uses texts names said n (λ rs. by (r ∷ rs)) f.1 d) (told_text texts name) refl
+  by_uses : (k : Kind) (texts : Texts) (names : List (List ℕ)) (said : List (Content k)) (n : ℕ) (by : List (Content k) → Type 0) → FilesSay k texts names said → by said
+      → IsDecidedByFiles H k texts names n by
+  by_uses k texts [] [] n by f d = d
+  by_uses k texts [] (c ∷ said) n by f d = absurd f
+  by_uses k texts (name ∷ names) [] n by f d = absurd f
+  by_uses k texts (name ∷ names) (c ∷ said) n by f d =
+      by_says k name texts c n (λ q. IsDecidedByFiles H k texts names n (λ cs. by (q ∷ cs))) f.0 (by_uses k texts names said n (λ cs. by (c ∷ cs)) f.1 d) (told_text texts name) refl
 
-  bad_file : (name : List ℕ) (texts : Texts) (by : Renaming → Type 0) → SaysNone name texts
-      → (file : Option (List ℕ)) → told_text texts name ≡ file → IsDecidedByFile H file 11 by
-  bad_file name texts by h None e = tt
-  bad_file name texts by h (Some t) e =
+  bad_file : (k : Kind) (name : List ℕ) (texts : Texts) (by : Content k → Type 0) → SaysNone k name texts
+      → (file : Option (List ℕ)) → told_text texts name ≡ file → IsDecidedByFile H k file 11 by
+  bad_file k name texts by h None e = tt
+  bad_file k name texts by h (Some t) e =
       let same : t ≡ h.0 = has texts name h.0 h.1 t e in
-      let within : length h.0 ≤ most_renaming = h.2 in
+      let within : length h.0 ≤ most_of k = h.2 in
       inr (record {
-        long = λ more. absurd (not_long most_renaming t h.0 same within more);
+        long = λ more. absurd (not_long (most_of k) t h.0 same within more);
         none = λ less n. inl refl;
-        some = λ less q is. absurd (h.3 q (subst (λ (z : List ℕ). IsRenaming z q) same is));
+        some = λ less q is. absurd (h.3 q (subst (λ (z : List ℕ). IsContent k z q) same is));
       })
 
-  long_file : (name : List ℕ) (texts : Texts) (by : Renaming → Type 0) → IsLonger texts name most_renaming
-      → (file : Option (List ℕ)) → told_text texts name ≡ file → IsDecidedByFile H file 13 by
-  long_file name texts by h None e = tt
-  long_file name None by h (Some t) e = absurd cc
-  long_file name (Some texts) by h (Some t) e =
+  long_file : (k : Kind) (name : List ℕ) (texts : Texts) (by : Content k → Type 0) → IsLonger texts name (most_of k)
+      → (file : Option (List ℕ)) → told_text texts name ≡ file → IsDecidedByFile H k file 13 by
+  long_file k name texts by h None e = tt
+  long_file k name None by h (Some t) e = absurd cc
+  long_file k name (Some texts) by h (Some t) e =
       let same : Some h.0 ≡ Some t = sym h.1 ∙ e in
       let text : h.0 ≡ t = cc in
-      let more : most_renaming < length t = subst (λ (z : List ℕ). most_renaming < length z) text h.2 in
+      let more : most_of k < length t = subst (λ (z : List ℕ). most_of k < length z) text h.2 in
       inr (record {
         long = λ m. inl refl;
         none = λ less n. absurd (omega (arith, more, less));
         some = λ less q is. absurd (omega (arith, more, less));
       })
 
-  unfetched_file : (file : Option (List ℕ)) (by : Renaming → Type 0) → H → IsDecidedByFile H file 12 by
-  unfetched_file None by h = tt
-  unfetched_file (Some t) by h = inl (refl, h)
+  unfetched_file : (k : Kind) (file : Option (List ℕ)) (by : Content k → Type 0) → H → IsDecidedByFile H k file 12 by
+  unfetched_file k None by h = tt
+  unfetched_file k (Some t) by h = inl (refl, h)
 
-  -- what decides at one of the files, where all before it say renamings
-  at_file : (texts : Texts) (names : List (List ℕ)) (n : ℕ) {P : List ℕ → Type 0} (by : List Renaming → Type 0)
-      → ((name : List ℕ) (later : Renaming → Type 0) → P name → IsDecidedByFile H (told_text texts name) n later) → AtFile texts names P → IsDecidedByFiles H texts names n by
-  at_file texts [] n by here h = absurd h
-  at_file texts (name ∷ names) n by here (inl h) = here name _ h
-  at_file texts (name ∷ names) n by here (inr h) =
-      by_says name texts h.0.0 n (λ q. IsDecidedByFiles H texts names n (λ rs. by (q ∷ rs))) h.0.1
-      (at_file texts names n (λ said. by (h.0.0 ∷ said)) here h.1) (told_text texts name) refl
+  -- what decides at one of the files, where all before it say what they are to say
+  at_file : (k : Kind) (texts : Texts) (names : List (List ℕ)) (n : ℕ) {P : List ℕ → Type 0} (by : List (Content k) → Type 0)
+      → ((name : List ℕ) (later : Content k → Type 0) → P name → IsDecidedByFile H k (told_text texts name) n later) → AtFile k texts names P → IsDecidedByFiles H k texts names n by
+  at_file k texts [] n by here h = absurd h
+  at_file k texts (name ∷ names) n by here (inl h) = here name _ h
+  at_file k texts (name ∷ names) n by here (inr h) =
+      by_says k name texts h.0.0 n (λ q. IsDecidedByFiles H k texts names n (λ cs. by (q ∷ cs))) h.0.1
+      (at_file k texts names n (λ said. by (h.0.0 ∷ said)) here h.1) (told_text texts name) refl
 
   -- ---- the whole
 
-  -- which status comes for a job where its files say these renamings
-  abbrev By : Job → Option (List ℕ) → ℕ → List Renaming → Type 0
-  By job left n said = IsDecidedByInput R W (functions job.command) job (renamers_of said) left n
+  -- which status comes for a job where its files say this
+  abbrev By : (job : Job) → Option (List ℕ) → ℕ → List (Content (says job.command)) → Type 0
+  By job left n said = IsDecidedByInput R W (functions job.command) job (task_of job.command said) left n
 
-  by_renamers : (job : Job) (texts : Texts) (rs : Renamers) (left : Option (List ℕ)) (n : ℕ) → Uses job.command texts rs
-      → IsDecidedByInput R W (functions job.command) job rs left n → IsDecidedByJob H R W job texts left n
-  by_renamers job texts rs left n u d =
-      by_uses texts (files job.command) u.0 n (By job left n) u.1
-      (subst (λ (z : Renamers). IsDecidedByInput R W (functions job.command) job z left n) u.2 d)
+  by_task : (job : Job) (texts : Texts) (t : Task) (left : Option (List ℕ)) (n : ℕ) → Uses job.command texts t
+      → IsDecidedByInput R W (functions job.command) job t left n → IsDecidedByJob H R W job texts left n
+  by_task job texts t left n u d =
+      by_uses (says job.command) texts (files job.command) u.0 n (By job left n) u.1
+      (subst (λ (z : Task). IsDecidedByInput R W (functions job.command) job z left n) u.2 d)
 
-  by_work : (job : Job) (texts : Texts) (old new : Option (List ℕ)) (n : ℕ) (w : Work job texts old new) → IsDecidedByBytes W (taken job.command) job.ceiling w.renamers w.bytes n
+  by_work : (job : Job) (texts : Texts) (old new : Option (List ℕ)) (n : ℕ) (w : Work job texts old new) → IsDecidedByBytes W w.task job.ceiling w.bytes n
       → IsDecidedByJob H R W job texts old n
   by_work job texts old new n w d =
-      by_renamers job texts w.renamers old n w.uses (by_takes (functions job.command) job w.renamers old new w.bytes n w.takes d)
+      by_task job texts w.task old n w.uses (by_takes (functions job.command) job w.task old new w.bytes n w.takes d)
 
   by_refused : (job : Job) (o : Outside) (fault : ReencodingFault) → StopsFor job o fault → IsDecidedByJob H R W job o.texts o.left_old (status_of (Reencoding fault))
-  by_refused job o fault h = by_work job o.texts o.left_old o.left_new (status_of (Reencoding fault)) h.work (inr (fault, refl, h.stops, h.made))
+  by_refused job o fault h = by_work job o.texts o.left_old o.left_new (status_of (Reencoding fault)) h.work (inr (fault, refl, h.stops))
 
   by_made : (job : Job) (o : Outside) (n : ℕ) → (n ≡ 0) ⊎ ((n ≡ 4) × W) → MadeFor job o → IsDecidedByJob H R W job o.texts o.left_old n
-  by_made job o n s made =
-      by_work job o.texts o.left_old o.left_new n made.work (inl (s, (made.made.output, made.made.counts, made.made.reencoded)))
+  by_made job o n s made = by_work job o.texts o.left_old o.left_new n made.work (inl (s, (made.text, made.does)))
+
+  at_file_of : (job : Job) (o : Outside) (n : ℕ) {P : List ℕ → Type 0}
+      → ((name : List ℕ) (later : Content (says job.command) → Type 0) → P name → IsDecidedByFile H (says job.command) (told_text o.texts name) n later)
+      → AtFile (says job.command) o.texts (files job.command) P → IsDecidedByJob H R W job o.texts o.left_old n
+  at_file_of job o n here h = at_file (says job.command) o.texts (files job.command) n (By job o.left_old n) here h
 
   by_too_long : (job : Job) (o : Outside) (U : Type 0) → IsTooLong job.command o.texts o.left_old o.left_new U → IsDecidedByJob H R W job o.texts o.left_old 13
-  by_too_long job o U (inl h) = at_file o.texts (files job.command) 13 (By job o.left_old 13) (λ name by long. long_file name o.texts by long (told_text o.texts name) refl) h.0
+  by_too_long job o U (inl h) = at_file_of job o 13 (λ name by long. long_file (says job.command) name o.texts by long (told_text o.texts name) refl) h.0
   by_too_long job o U (inr h) =
-      by_renamers job o.texts h.1.0 o.left_old 13 h.1.1 (by_left job h.1.0 o.left_old 13 h.0 (long_left job h.1.0 o.left_old o.left_new h.2))
+      by_task job o.texts h.1.0 o.left_old 13 h.1.1 (by_left job h.1.0 o.left_old 13 h.0 (long_left job h.1.0 o.left_old o.left_new h.2))
 
   -- which status comes where these follow of what failed
   pub decided_job : (job : Job) (o : Outside) {U : Type 0} {n : ℕ} {t : List ℕ} → (Rose o.shelf_faults_old o.shelf_faults_new → H)
       → (Rose o.read_faults_old o.read_faults_new → R) → (Rose o.write_faults_old o.write_faults_new → W) → Ends job o U n t → IsDecidedByJob H R W job o.texts o.left_old n
   decided_job job o f r w (Ends.printed made told) = by_made job o 0 (inl refl) made
   decided_job job o f r w Ends.no_memory =
-      memory_files o.texts (files job.command) (By job o.left_old 1) (λ said. memory_input (functions job.command) job (renamers_of said) o.left_old)
+      memory_files (says job.command) o.texts (files job.command) (By job o.left_old 1) (λ said. memory_input (functions job.command) job (task_of job.command said) o.left_old)
   decided_job job o f r w (Ends.read_fault h) =
-      by_renamers job o.texts h.1.0 o.left_old 3 h.1.1 (by_left job h.1.0 o.left_old 3 h.0 (unread job h.1.0 o.left_old (r h.2)))
+      by_task job o.texts h.1.0 o.left_old 3 h.1.1 (by_left job h.1.0 o.left_old 3 h.0 (unread job h.1.0 o.left_old (r h.2)))
   decided_job job o f r w (Ends.write_fault made took rose) = by_made job o 4 (inr (refl, w rose)) made
   decided_job job o f r w (Ends.parse_error at h) = by_refused job o (reencoding_fault.ParseError at) h
   decided_job job o f r w (Ends.refused u h) = by_refused job o (reencoding_fault.Refused u) h
@@ -236,15 +238,13 @@ module _ (H R W : Type 0) where
   decided_job job o f r w (Ends.component h) = by_refused job o reencoding_fault.NonCoreModule h
   decided_job job o f r w (Ends.core_module h) = by_refused job o reencoding_fault.NonComponent h
   decided_job job o f r w (Ends.too_large size ceiling h) = by_refused job o (reencoding_fault.TooLarge size ceiling) h
-  decided_job job o f r w (Ends.bad_file h u) =
-      at_file o.texts (files job.command) 11 (By job o.left_old 11) (λ name by none. bad_file name o.texts by none (told_text o.texts name) refl) h
-  decided_job job o f r w (Ends.unfetched h u) =
-      at_file o.texts (files job.command) 12 (By job o.left_old 12) (λ name by rose. unfetched_file (told_text o.texts name) by (f rose)) h
+  decided_job job o f r w (Ends.bad_file h u) = at_file_of job o 11 (λ name by none. bad_file (says job.command) name o.texts by none (told_text o.texts name) refl) h
+  decided_job job o f r w (Ends.unfetched h u) = at_file_of job o 12 (λ name by rose. unfetched_file (says job.command) (told_text o.texts name) by (f rose)) h
   decided_job job o {U} f r w (Ends.too_long h) = by_too_long job o U h
   decided_job job o f r w (Ends.no_digits h) =
-      let rs = h.renamings.0 in
-      by_renamers job o.texts rs o.left_old 14 h.renamings.1
-      (by_left job rs o.left_old 14 h.reads (no_digits job rs o.left_old o.left_new h.digits.1.0 h.digits.0 h.digits.1.1 h.digits.1.2))
+      let t = h.files.0 in
+      by_task job o.texts t o.left_old 14 h.files.1
+      (by_left job t o.left_old 14 h.reads (no_digits job t o.left_old o.left_new h.digits.1.0 h.digits.0 h.digits.1.1 h.digits.1.2))
 
 pub decided_of : (n : ℕ) (t : List ℕ) (j : Option Job) (o : Outside) (U F : Type 0) → EndsFor j o U F n t
     → IsDecided (Rose o.shelf_faults_old o.shelf_faults_new) (Rose o.read_faults_old o.read_faults_new) (Rose o.write_faults_old o.write_faults_new) j o.texts o.left_old n

@@ -15,7 +15,7 @@ use Rattle.reencode_run.specs.Kept.{Keeps, kept_report}
 use Rattle.reencode_run.specs.Renamers.{State, asks_of, begun, hooks_of}
 use Rattle.reencode_run.specs.Reencoded.{IsReencoded}
 use Rattle.reencode_run.proofs.ByRule.{keeps_begun, ran}
-use Rattle.reencode_run.proofs.Outcomes.{given, one_answer, still_counts}
+use Rattle.reencode_run.proofs.Outcomes.{given, one_answer, plain_of, still_counts}
 
 -- what is kept under the answers of a run is kept under those of the output
 pub kept_of : {c : ℕ} (rs : Renamers) {bytes output : List ℕ} {counts : List (List ℕ)} (m : State rs) (ranges : List Range) (p : IsReencoded Modules c rs bytes output counts)
@@ -40,6 +40,7 @@ keeps_given c bytes r m out view text ranges same g k told =
       output = view out;
       counts = m.counts ∷ [];
       reencoded = p;
+      plain = plain_of p;
       ranges = ranges;
       kept = kept_of (Alone no_renaming) m ranges p (subst Q same k);
       told = told (still_counts m p refl);

@@ -1,8 +1,5 @@
 -- How the program ends.
-use Rattle.std.specs.Prelude.{◌≡◌, ℕ, ◌<◌, ◌≤◌, ◌==◌, ◌⊎◌, if◌then◌else◌, Bool, true, Option, Some, None, MatchOption, List, [], ◌∷◌, ◌++◌, codes, decimal, length}
-use Rattle.wasm_shapes.specs.Tree.{Tree}
-use Rattle.reencode_core.specs.Pieces.{Range}
-use Rattle.reencode_core.specs.Kept.{Kept}
+use Rattle.std.specs.Prelude.{◌≡◌, ℕ, ◌<◌, ◌≤◌, ◌==◌, ◌⊎◌, if◌then◌else◌, Bool, true, Option, Some, None, MatchOption, List, [], ◌∷◌, ◌++◌, codes, decimal, length, Ok, Err}
 use Rattle.reencode_run.specs.declared.answer.Answer.{Answer}
 use Rattle.reencode_run.specs.declared.answer.Answer.TheVariants.{Printed, Words, File, Input, Digits, Reencoding, Writing}
 use Rattle.reencode_run.specs.declared.answer.WordsFault.TheVariants as words_fault
@@ -16,32 +13,23 @@ use Rattle.reencode_run.specs.declared.answer.ReencodingFault.{ReencodingFault}
 use Rattle.reencode_run.specs.declared.answer.ReencodingFault.TheVariants as reencoding_fault
 use Rattle.reencode_run.specs.declared.answer.WritingFault.TheVariants as writing_fault
 use Rattle.reencode_run.specs.declared.renamers.Refusal.{Refusal}
-use Rattle.reencode_run.specs.declared.renamers.Renamers.{Renamers}
-use Rattle.reencode_run.specs.declared.taken.Taken.{Taken}
+use Rattle.reencode_run.specs.declared.task.Task.{Task}
 use Rattle.reencode_hooks.specs.declared.error.Error.{Error}
 use Rattle.reencode_hooks.specs.declared.error.Error.TheVariants as error
-use Rattle.reencode_hooks.specs.Renamings.{Renaming}
 use Rattle.reencode_run.specs.Outside.{Rose, WhereTold, followed, HasText, IsLonger, GaveAll, TookMore, TookFront}
 use Rattle.reencode_run.specs.Hexadecimal.{binary, bytes_of}
-use Rattle.reencode_run.specs.Renamings.{IsRenaming, NoRenaming}
-use Rattle.reencode_run.specs.Renamers.{refusal_text, renamers_of}
+use Rattle.reencode_run.specs.Renamers.{refusal_text}
 use Rattle.reencode_run.specs.Generated.{generated}
-use Rattle.reencode_run.specs.Kept.{kept_report}
-use Rattle.reencode_run.specs.Report.{lengths_report, report}
-use Rattle.reencode_run.specs.Plain.{IsPlain}
-use Rattle.reencode_run.specs.Reencoded.{IsReencoded, IsRefused, IsMakingFault}
-use Rattle.reencode_run.specs.Words.{Command, generate, keep_report, Job, files, functions, taken}
+use Rattle.reencode_run.specs.Tasks.{Content, Does, IsContent, NoContent, most_of, task_of}
+use Rattle.reencode_run.specs.Words.{Command, Job, Kind, files, functions, says}
 
 -- what shelves tell
 abbrev pub Texts : Type 0
 Texts = Option (List ℕ → Option (List ℕ))
 
--- the most bytes that an input may have, and the file of a renaming
+-- the most bytes that an input may have
 abbrev pub most_bytes : ℕ
 most_bytes = 67108864
-
-abbrev pub most_renaming : ℕ
-most_renaming = 1048576
 
 -- where the shelf, the source and the sink stood before the program and stand after it
 pub record Outside : Type 0 where
@@ -57,30 +45,34 @@ pub record Outside : Type 0 where
   pub write_faults_old : ℕ
   pub write_faults_new : ℕ
 
--- ---- what is re-encoded
+-- ---- what is done
 
--- the file of this name says this renaming
-abbrev pub FileSays : Texts → List ℕ → Renaming → Type 0
-FileSays texts name r = (text : List ℕ) × HasText texts name text × (length text ≤ most_renaming) × IsRenaming text r
+-- the file of this name, which is of this kind, says this
+abbrev pub FileSays : (k : Kind) → Texts → List ℕ → Content k → Type 0
+FileSays k texts name c = (text : List ℕ) × HasText texts name text × (length text ≤ most_of k) × IsContent k text c
 
--- the files of these names say these renamings, in order
-abbrev pub FilesSay : Texts → List (List ℕ) → List Renaming → Type 0
-FilesSay texts [] [] = Unit {0}
-FilesSay texts (name ∷ names) (r ∷ rs) = FileSays texts name r × FilesSay texts names rs
-FilesSay texts _ _ = ⊥
+-- the files of these names say this, in order
+abbrev pub FilesSay : (k : Kind) → Texts → List (List ℕ) → List (Content k) → Type 0
+FilesSay k texts [] [] = Unit {0}
+FilesSay k texts (name ∷ names) (c ∷ cs) = FileSays k texts name c × FilesSay k texts names cs
+FilesSay k texts _ _ = ⊥
 
--- this holds of one of these files, and all before it say renamings
-abbrev pub AtFile : Texts → List (List ℕ) → (List ℕ → Type 0) → Type 0
-AtFile texts [] P = ⊥
-AtFile texts (name ∷ names) P = P name ⊎ (((r : Renaming) × FileSays texts name r) × AtFile texts names P)
+-- this holds of one of these files, and all before it say what they are to say
+abbrev pub AtFile : (k : Kind) → Texts → List (List ℕ) → (List ℕ → Type 0) → Type 0
+AtFile k texts [] P = ⊥
+AtFile k texts (name ∷ names) P = P name ⊎ (((c : Content k) × FileSays k texts name c) × AtFile k texts names P)
 
--- the renamings of a command: those that its files say
-abbrev pub Uses : Command → Texts → Renamers → Type 0
-Uses command texts rs = (said : List Renaming) × FilesSay texts (files command) said × (rs ≡ renamers_of said)
+-- the same of the files of a command
+abbrev pub AtFileOf : Command → Texts → (List ℕ → Type 0) → Type 0
+AtFileOf command texts P = AtFile (says command) texts (files command) P
 
--- each file of a command says a renaming
-abbrev pub HasRenamings : Command → Texts → Type 0
-HasRenamings command texts = (rs : Renamers) × Uses command texts rs
+-- the task of a command, by what its files say
+abbrev pub Uses : Command → Texts → Task → Type 0
+Uses command texts task = (said : List (Content (says command))) × FilesSay (says command) texts (files command) said × (task ≡ task_of command said)
+
+-- each file of a command says what it is to say
+abbrev pub HasTask : Command → Texts → Type 0
+HasTask command texts = (task : Task) × Uses command texts task
 
 -- the source was read to its end, and these are the bytes that its text is, or is the hexadecimal text of
 pub record HasBytes (is_text : Bool) (left_old left_new : Option (List ℕ)) (bytes : List ℕ) : Type 0 where
@@ -97,75 +89,43 @@ TakesFrom (Some n) is_text left_old left_new bytes = bytes ≡ generated n
 abbrev pub Takes : Command → Bool → (left_old left_new : Option (List ℕ)) → List ℕ → Type 0
 Takes command is_text left_old left_new bytes = TakesFrom (functions command) is_text left_old left_new bytes
 
--- the renamings of a job and its bytes
+-- the task of a job and its bytes
 pub record Work (job : Job) (texts : Texts) (left_old left_new : Option (List ℕ)) : Type 0 where
-  pub renamers : Renamers
+  pub task : Task
   pub bytes : List ℕ
-  pub uses : Uses job.command texts renamers
+  pub uses : Uses job.command texts task
   pub takes : Takes job.command job.is_text left_old left_new bytes
 
--- the text tells the output and the counts that the bytes have under these renamings and the ceiling
-abbrev pub Reports : Taken → ℕ → Renamers → (bytes : List ℕ) → (List ℕ → List (List ℕ) → List ℕ) → (text : List ℕ) → Type 0
-Reports k ceiling rs bytes shown text =
-    (output : List ℕ) × (counts : List (List ℕ)) × IsReencoded k ceiling rs bytes output counts × (text ≡ shown output counts)
-
--- what is printed of a re-encoding: the lengths of a made module, what is kept, or the digits of the output; and the counts
-abbrev pub report_by : Command → (input : ℕ) → (output : List ℕ) → List Range → List (List ℕ) → List ℕ
-report_by (generate n) input output ranges counts = lengths_report n input output counts
-report_by keep_report input output ranges counts = kept_report ranges (length output) counts
-report_by _ input output ranges counts = report output counts
-
--- where it is told what is kept, these ranges are those of the function bodies that are spelled normally and stay as they are
-abbrev pub KeptFor : Command → (bytes : List ℕ) → Tree → (answers : List ℕ) → List Range → Type 0
-KeptFor keep_report bytes tree answers ranges = Kept bytes tree answers ranges
-KeptFor _ bytes tree answers ranges = ranges ≡ []
-
--- where nothing is renamed, the output is the normal spelling itself
-abbrev pub PlainFor : Taken → (names : List (List ℕ)) → (bytes output : List ℕ) → List (List ℕ) → Type 0
-PlainFor k [] bytes output counts = IsPlain k bytes output counts
-PlainFor k (name ∷ names) bytes output counts = Unit {0}
-
--- The bytes have this output and these counts under these renamings and this ceiling.
-pub record Output (command : Command) (ceiling : ℕ) (rs : Renamers) (bytes : List ℕ) : Type 0 where
-  pub output : List ℕ
-  pub counts : List (List ℕ)
-  pub reencoded : IsReencoded (taken command) ceiling rs bytes output counts
-  pub ranges : List Range
-  pub kept : KeptFor command bytes reencoded.tree reencoded.answers ranges
-
--- The bytes of a job have this output under its renamings and its ceiling.
+-- This text is printed for a job.
 pub record Made (job : Job) (texts : Texts) (left_old left_new : Option (List ℕ)) : Type 0 where
   pub work : Work job texts left_old left_new
-  pub made : Output job.command job.ceiling work.renamers work.bytes
-  pub plain : PlainFor (taken job.command) (files job.command) work.bytes made.output made.counts
-
-abbrev pub output_text : {command : Command} {ceiling : ℕ} {rs : Renamers} {bytes : List ℕ} → Output command ceiling rs bytes → List ℕ
-output_text {command} {bytes = bytes} made = report_by command (length bytes) made.output made.ranges made.counts
+  pub text : List ℕ
+  pub does : Does work.task job.ceiling work.bytes (Ok text)
 
 -- what is printed of what was made
 abbrev pub report_of : {job : Job} {texts : Texts} {left_old left_new : Option (List ℕ)} → Made job texts left_old left_new → List ℕ
-report_of made = output_text made.made
+report_of made = made.text
 
 abbrev pub MadeFor : Job → Outside → Type 0
 MadeFor job o = Made job o.texts o.left_old o.left_new
 
 -- ---- why nothing is printed
 
--- the file of this name was read whole, and says no renaming
-abbrev pub SaysNone : List ℕ → Texts → Type 0
-SaysNone name texts = (text : List ℕ) × HasText texts name text × (length text ≤ most_renaming) × NoRenaming text
+-- the file of this name was read whole, and says nothing of its kind
+abbrev pub SaysNone : Kind → List ℕ → Texts → Type 0
+SaysNone k name texts = (text : List ℕ) × HasText texts name text × (length text ≤ most_of k) × NoContent k text
 
--- why the file of this name gives no renaming
-abbrev pub RefusesFile : List ℕ → Texts → (faults_old faults_new : ℕ) → FileFault → Type 0
-RefusesFile name texts faults_old faults_new file_fault.Failed = Rose faults_old faults_new
-RefusesFile name texts faults_old faults_new file_fault.TooLong = IsLonger texts name most_renaming
-RefusesFile name texts faults_old faults_new file_fault.Bad = SaysNone name texts
-RefusesFile name texts faults_old faults_new file_fault.NoMemory = Unit {0}
+-- why the file of this name says nothing
+abbrev pub RefusesFile : Kind → List ℕ → Texts → (faults_old faults_new : ℕ) → FileFault → Type 0
+RefusesFile k name texts faults_old faults_new file_fault.Failed = Rose faults_old faults_new
+RefusesFile k name texts faults_old faults_new file_fault.TooLong = IsLonger texts name (most_of k)
+RefusesFile k name texts faults_old faults_new file_fault.Bad = SaysNone k name texts
+RefusesFile k name texts faults_old faults_new file_fault.NoMemory = Unit {0}
 
--- why a command has no renamings: one of its files gives none, and all before it give one
-abbrev pub RefusesRenaming : Command → Texts → (faults_old faults_new : ℕ) → FileFault → Type 0
-RefusesRenaming command texts faults_old faults_new fault =
-    AtFile texts (files command) (λ name. RefusesFile name texts faults_old faults_new fault)
+-- why a command has no task: one of its files says nothing, and all before it say what they are to say
+abbrev pub RefusesTask : Command → Texts → (faults_old faults_new : ℕ) → FileFault → Type 0
+RefusesTask command texts faults_old faults_new fault =
+    AtFileOf command texts (λ name. RefusesFile (says command) name texts faults_old faults_new fault)
 
 -- why the source gives no text
 abbrev pub RefusesInput : (faults_old faults_new : ℕ) (left_old left_new : Option (List ℕ)) → InputFault → Type 0
@@ -203,12 +163,10 @@ abbrev pub RefusesBytes : Command → Bool → (faults_old faults_new : ℕ) (le
 RefusesBytes command is_text faults_old faults_new left_old left_new answer =
     RefusesFrom (functions command) is_text faults_old faults_new left_old left_new answer
 
--- The renamings and the bytes were accepted, and the re-encoding is refused. Where all visits are accepted and all frames fit, that is
--- out of memory alone.
+-- The files and the bytes were accepted, and the task makes nothing of these.
 pub record StopsAtReencoding (job : Job) (texts : Texts) (left_old left_new : Option (List ℕ)) (fault : ReencodingFault) : Type 0 where
   pub work : Work job texts left_old left_new
-  pub stops : IsRefused (taken job.command) job.ceiling work.renamers work.bytes fault
-  pub made : IsMakingFault (taken job.command) job.ceiling work.renamers work.bytes fault
+  pub stops : Does work.task job.ceiling work.bytes (Err fault)
 
 abbrev pub StopsFor : Job → Outside → ReencodingFault → Type 0
 StopsFor job o fault = StopsAtReencoding job o.texts o.left_old o.left_new fault
@@ -220,7 +178,7 @@ abbrev pub ForJob : Option Job → (Job → Type 0) → Type 0
 ForJob None P = ⊥
 ForJob (Some job) P = P job
 
--- the renamings and the bytes were accepted, and the re-encoding ends so
+-- the files and the bytes were accepted, and the re-encoding ends so
 abbrev pub StopsWith : Option Job → Texts → (left_old left_new : Option (List ℕ)) → ReencodingFault → Type 0
 StopsWith j texts left_old left_new fault = ForJob j (λ job. StopsAtReencoding job texts left_old left_new fault)
 
@@ -236,29 +194,29 @@ ReadsSource j = ForJob j (λ job. functions job.command ≡ None)
 abbrev pub NamesNone : Option Job → Type 0
 NamesNone j = ForJob j (λ job. files job.command ≡ [])
 
--- a file of the command was read whole, and says no renaming; all before it say one
+-- a file of the command was read whole, and says nothing of its kind; all before it say what they are to say
 abbrev pub IsBadFile : Command → Texts → Type 0
-IsBadFile command texts = AtFile texts (files command) (λ name. SaysNone name texts)
+IsBadFile command texts = AtFileOf command texts (λ name. SaysNone (says command) name texts)
 
--- a file of the command could not be fetched; all before it say renamings
+-- a file of the command could not be fetched; all before it say what they are to say
 abbrev pub IsUnfetched : Command → Texts → (faults_old faults_new : ℕ) → Type 0
-IsUnfetched command texts faults_old faults_new = AtFile texts (files command) (λ name. Rose faults_old faults_new)
+IsUnfetched command texts faults_old faults_new = AtFileOf command texts (λ name. Rose faults_old faults_new)
 
--- the source could not be read; all files of the command say renamings
+-- the source could not be read; all files of the command say what they are to say
 abbrev pub IsUnread : Command → Texts → (faults_old faults_new : ℕ) → Type 0
-IsUnread command texts faults_old faults_new = ¬ IsMaking command × HasRenamings command texts × Rose faults_old faults_new
+IsUnread command texts faults_old faults_new = ¬ IsMaking command × HasTask command texts × Rose faults_old faults_new
 
--- A file of the command is too long, and all before it say renamings, and this holds, which is that the source is as it was; or all say
--- one, and the input is too long.
+-- A file of the command is too long, and all before it say what they are to say, and this holds, which is that the source is as it was; or
+-- all say it, and the input is too long.
 abbrev pub IsTooLong : Command → Texts → (left_old left_new : Option (List ℕ)) → (Unread : Type 0) → Type 0
 IsTooLong command texts left_old left_new Unread =
-    (AtFile texts (files command) (λ name. IsLonger texts name most_renaming) × Unread)
-    ⊎ (¬ IsMaking command × HasRenamings command texts × TookMore most_bytes left_old left_new)
+    (AtFileOf command texts (λ name. IsLonger texts name (most_of (says command))) × Unread)
+    ⊎ (¬ IsMaking command × HasTask command texts × TookMore most_bytes left_old left_new)
 
--- The renamings were accepted, the source was read to its end, and its text is no hexadecimal text, as `-x` asks.
+-- The files were accepted, the source was read to its end, and its text is no hexadecimal text, as `-x` asks.
 pub record HasNoDigits (job : Job) (texts : Texts) (left_old left_new : Option (List ℕ)) : Type 0 where
   pub reads : ¬ IsMaking job.command
-  pub renamings : HasRenamings job.command texts
+  pub files : HasTask job.command texts
   pub digits : NoDigits job.is_text left_old left_new
 
 -- ---- statuses and what is said with them
@@ -359,61 +317,60 @@ EndsAs told ceiling _ fault = ⊥
 
 -- ---- what decides: the words, each file, the input, its digits, the re-encoding and the output, in this order
 
--- Which status comes by the renamings and the bytes. Where all visits are accepted and all frames fit, it is 0, or 4 where the sink
--- failed, or memory runs out.
-abbrev pub IsDecidedByBytes : (Unwritten : Type 0) → Taken → ℕ → Renamers → List ℕ → ℕ → Type 0
-IsDecidedByBytes Unwritten k ceiling rs bytes status =
-    (((status ≡ 0) ⊎ ((status ≡ 4) × Unwritten)) × ((output : List ℕ) × (counts : List (List ℕ)) × IsReencoded k ceiling rs bytes output counts))
-    ⊎ ((fault : ReencodingFault) × (status ≡ status_of (Reencoding fault)) × IsRefused k ceiling rs bytes fault × IsMakingFault k ceiling rs bytes fault)
+-- Which status comes by the task and the bytes: 0, or 4 where the sink failed, where the task makes a text of them, and else by why it makes none.
+abbrev pub IsDecidedByBytes : (Unwritten : Type 0) → Task → ℕ → List ℕ → ℕ → Type 0
+IsDecidedByBytes Unwritten task ceiling bytes status =
+    (((status ≡ 0) ⊎ ((status ≡ 4) × Unwritten)) × ((text : List ℕ) × Does task ceiling bytes (Ok text)))
+    ⊎ ((fault : ReencodingFault) × (status ≡ status_of (Reencoding fault)) × Does task ceiling bytes (Err fault))
 
 -- which status comes by the form of the text and the bytes that it is
-abbrev pub IsDecidedByForm : (Unwritten : Type 0) → Taken → ℕ → Renamers → Option (List ℕ) → ℕ → Type 0
-IsDecidedByForm Unwritten k ceiling rs None status = (status ≡ 14) ⊎ (status ≡ 1)
-IsDecidedByForm Unwritten k ceiling rs (Some bytes) status = IsDecidedByBytes Unwritten k ceiling rs bytes status
+abbrev pub IsDecidedByForm : (Unwritten : Type 0) → Task → ℕ → Option (List ℕ) → ℕ → Type 0
+IsDecidedByForm Unwritten task ceiling None status = (status ≡ 14) ⊎ (status ≡ 1)
+IsDecidedByForm Unwritten task ceiling (Some bytes) status = IsDecidedByBytes Unwritten task ceiling bytes status
 
 -- which status comes for an input that was read
-pub record IsDecidedFor (Unwritten : Type 0) (job : Job) (rs : Renamers) (text : List ℕ) (status : ℕ) : Type 0 where
+pub record IsDecidedFor (Unwritten : Type 0) (job : Job) (task : Task) (text : List ℕ) (status : ℕ) : Type 0 where
   pub long : most_bytes < length text → (status ≡ 13) ⊎ (status ≡ 1)
-  pub short : length text ≤ most_bytes → IsDecidedByForm Unwritten (taken job.command) job.ceiling rs (bytes_of job.is_text text) status
+  pub short : length text ≤ most_bytes → IsDecidedByForm Unwritten task job.ceiling (bytes_of job.is_text text) status
 
 -- which status comes for the input, where it is told: 3 where the source failed, and else by what was read
-abbrev pub IsDecidedByLeft : (Unread Unwritten : Type 0) → Job → Renamers → Option (List ℕ) → ℕ → Type 0
-IsDecidedByLeft Unread Unwritten job rs None status = Unit {0}
-IsDecidedByLeft Unread Unwritten job rs (Some text) status = ((status ≡ 3) × Unread) ⊎ IsDecidedFor Unwritten job rs text status
+abbrev pub IsDecidedByLeft : (Unread Unwritten : Type 0) → Job → Task → Option (List ℕ) → ℕ → Type 0
+IsDecidedByLeft Unread Unwritten job task None status = Unit {0}
+IsDecidedByLeft Unread Unwritten job task (Some text) status = ((status ≡ 3) × Unread) ⊎ IsDecidedFor Unwritten job task text status
 
--- which status comes under some renamings, for a made module of so many functions or the input
-abbrev pub IsDecidedByInput : (Unread Unwritten : Type 0) → Option ℕ → Job → Renamers → Option (List ℕ) → ℕ → Type 0
-IsDecidedByInput Unread Unwritten None job rs left status = IsDecidedByLeft Unread Unwritten job rs left status
-IsDecidedByInput Unread Unwritten (Some n) job rs left status = IsDecidedByBytes Unwritten (taken job.command) job.ceiling rs (generated n) status
+-- which status comes of a task, for a made module of so many functions or the input
+abbrev pub IsDecidedByInput : (Unread Unwritten : Type 0) → Option ℕ → Job → Task → Option (List ℕ) → ℕ → Type 0
+IsDecidedByInput Unread Unwritten None job task left status = IsDecidedByLeft Unread Unwritten job task left status
+IsDecidedByInput Unread Unwritten (Some n) job task left status = IsDecidedByBytes Unwritten task job.ceiling (generated n) status
 
--- which status comes for the text of a file that was fetched, where that of a renaming is told
-pub record IsDecidedForFile (text : List ℕ) (status : ℕ) (by : Renaming → Type 0) : Type 0 where
-  pub long : most_renaming < length text → (status ≡ 13) ⊎ (status ≡ 1)
-  pub none : length text ≤ most_renaming → NoRenaming text → (status ≡ 11) ⊎ (status ≡ 1)
-  pub some : length text ≤ most_renaming → (r : Renaming) → IsRenaming text r → by r
+-- which status comes for the text of a file of this kind that was fetched, where that of what it says is told
+pub record IsDecidedForFile (k : Kind) (text : List ℕ) (status : ℕ) (by : Content k → Type 0) : Type 0 where
+  pub long : most_of k < length text → (status ≡ 13) ⊎ (status ≡ 1)
+  pub none : length text ≤ most_of k → NoContent k text → (status ≡ 11) ⊎ (status ≡ 1)
+  pub some : length text ≤ most_of k → (c : Content k) → IsContent k text c → by c
 
 -- which status comes for a file, where its text is told: 12 where the shelf failed, and else by what was fetched
-abbrev pub IsDecidedByFile : (Unfetched : Type 0) → Option (List ℕ) → ℕ → (Renaming → Type 0) → Type 0
-IsDecidedByFile Unfetched None status by = Unit {0}
-IsDecidedByFile Unfetched (Some text) status by = ((status ≡ 12) × Unfetched) ⊎ IsDecidedForFile text status by
+abbrev pub IsDecidedByFile : (Unfetched : Type 0) (k : Kind) → Option (List ℕ) → ℕ → (Content k → Type 0) → Type 0
+IsDecidedByFile Unfetched k None status by = Unit {0}
+IsDecidedByFile Unfetched k (Some text) status by = ((status ≡ 12) × Unfetched) ⊎ IsDecidedForFile k text status by
 
 -- the text of a name, where it is told
 abbrev pub told_text : Texts → List ℕ → Option (List ℕ)
 told_text None name = None
 told_text (Some texts) name = texts name
 
--- which status comes for some files, where that of the renamings that they say is told
-abbrev pub IsDecidedByFiles : (Unfetched : Type 0) → Texts → List (List ℕ) → ℕ → (List Renaming → Type 0) → Type 0
-IsDecidedByFiles Unfetched texts [] status by = by []
-IsDecidedByFiles Unfetched texts (name ∷ names) status by =
-    IsDecidedByFile Unfetched (told_text texts name) status (λ r. IsDecidedByFiles Unfetched texts names status (λ rs. by (r ∷ rs)))
+-- which status comes for some files, where that of what they say is told
+abbrev pub IsDecidedByFiles : (Unfetched : Type 0) (k : Kind) → Texts → List (List ℕ) → ℕ → (List (Content k) → Type 0) → Type 0
+IsDecidedByFiles Unfetched k texts [] status by = by []
+IsDecidedByFiles Unfetched k texts (name ∷ names) status by =
+    IsDecidedByFile Unfetched k (told_text texts name) status (λ c. IsDecidedByFiles Unfetched k texts names status (λ cs. by (c ∷ cs)))
 
--- Which status comes for a job. What stands first decides, whatever failed behind it: where a file, its shelf not having failed, says no
--- renaming, it is 11, and where the input, its source not having failed either, is no hexadecimal text, it is 14; or memory runs out.
+-- Which status comes for a job. What stands first decides, whatever failed behind it: where a file, its shelf not having failed, says nothing of
+-- its kind, it is 11, and where the input, its source not having failed either, is no hexadecimal text, it is 14; or memory runs out.
 abbrev pub IsDecidedByJob : (Unfetched Unread Unwritten : Type 0) → Job → Texts → Option (List ℕ) → ℕ → Type 0
 IsDecidedByJob Unfetched Unread Unwritten job texts left status =
-    IsDecidedByFiles Unfetched texts (files job.command) status
-    (λ said. IsDecidedByInput Unread Unwritten (functions job.command) job (renamers_of said) left status)
+    IsDecidedByFiles Unfetched (says job.command) texts (files job.command) status
+    (λ said. IsDecidedByInput Unread Unwritten (functions job.command) job (task_of job.command said) left status)
 
 -- Which status comes for the words, where this is that the shelf failed, that the source did, and that the sink did.
 abbrev pub IsDecided : (Unfetched Unread Unwritten : Type 0) → Option Job → Texts → Option (List ℕ) → ℕ → Type 0

@@ -7,6 +7,7 @@ use Rattle.reencode_core.specs.Pieces.{Range, range}
 use Rattle.reencode_core.specs.Kept.{Kept}
 use Rattle.reencode_run.specs.declared.renamers.Renamers.TheVariants.{Alone}
 use Rattle.reencode_run.specs.declared.taken.Taken.TheVariants.{Modules}
+use Rattle.reencode_run.specs.Plain.{IsPlain}
 use Rattle.reencode_run.specs.Reencoded.{IsReencoded}
 use Rattle.reencode_run.specs.Report.{tail}
 
@@ -41,11 +42,12 @@ abbrev pub kept_len : Piece → ℕ
 kept_len (piece.Kept start end) = end - start
 kept_len (piece.Made bytes) = 0
 
--- The text tells which function bodies of the bytes are kept where nothing is renamed.
+-- The text tells which function bodies of the bytes are kept where nothing is renamed. The output is the normal spelling itself.
 pub record Keeps (ceiling : ℕ) (bytes text : List ℕ) : Type 0 where
   pub output : List ℕ
   pub counts : List (List ℕ)
   pub reencoded : IsReencoded Modules ceiling (Alone no_renaming) bytes output counts
   pub ranges : List Range
+  pub plain : IsPlain Modules bytes output counts
   pub kept : Kept bytes reencoded.tree reencoded.answers ranges
   pub told : text ≡ kept_report ranges (length output) counts

@@ -11,5 +11,6 @@ pub mod Plain
 pub mod Renamers
 pub mod Reencoded
 pub mod Kept
+pub mod Tasks
 pub mod Answer
 pub mod Memory

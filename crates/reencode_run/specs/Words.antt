@@ -4,8 +4,6 @@ use Rattle.std.specs.Cmp.Lexicographic.{pointwise}
 use Rattle.reencode_run.specs.declared.words.Command as of_command
 use Rattle.reencode_run.specs.declared.words.Command.TheVariants as said
 use Rattle.reencode_run.specs.declared.words.Job as of_job
-use Rattle.reencode_run.specs.declared.taken.Taken.{Taken}
-use Rattle.reencode_run.specs.declared.taken.Taken.TheVariants.{Modules, Binaries}
 use Rattle.reencode_run.specs.Numerals.{index_of}
 
 -- what is to be done
@@ -22,22 +20,31 @@ pub record Job : Type 0 where
   pub ceiling : ℕ
   pub command : Command
 
--- the files of renamings that a command names, in order
+-- what a file of a command is to say
+pub data Kind : Type 0 where
+  of_renaming : Kind
+
+-- What a command is: what its files are to say, these files in order, and how many functions it makes a module of, where it reads no source.
+pub record Form : Type 0 where
+  pub says : Kind
+  pub files : List (List ℕ)
+  pub functions : Option ℕ
+
+abbrev pub form : Command → Form
+form plain = record { says = of_renaming; files = []; functions = None }
+form (rename name) = record { says = of_renaming; files = name ∷ []; functions = None }
+form (twice first second) = record { says = of_renaming; files = first ∷ second ∷ []; functions = None }
+form (generate n) = record { says = of_renaming; files = []; functions = Some n }
+form keep_report = record { says = of_renaming; files = []; functions = None }
+
+abbrev pub says : Command → Kind
+says command = (form command).says
+
 abbrev pub files : Command → List (List ℕ)
-files (rename name) = name ∷ []
-files (twice first second) = first ∷ second ∷ []
-files _ = []
+files command = (form command).files
 
--- how many functions a command makes a module of, where it makes one
 abbrev pub functions : Command → Option ℕ
-functions (generate n) = Some n
-functions _ = None
-
--- what kinds of binaries a command takes
-abbrev pub taken : Command → Taken
-taken (generate n) = Modules
-taken keep_report = Modules
-taken _ = Binaries
+functions command = (form command).functions
 
 abbrev pub is_word : List ℕ → List ℕ → Bool
 is_word word text = pointwise nat_eq word text

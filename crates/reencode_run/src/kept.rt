@@ -3,8 +3,8 @@ ghost use Rattle.std.specs.Prelude.{◌≡◌, ℕ, ◌-◌, ◌^◌, ◌<◌, �
 ghost use Rattle.reencode_core.specs.Pieces.{AreWithin, IsWithin, kept_ranges, total};
 ghost use Rattle.reencode_hooks.specs.Renamings.{no_renaming};
 ghost use Rattle.reencode_run.specs.Kept.{Keeps, kept_len, kept_line, kept_lines, kept_report, kept_total};
-ghost use Rattle.reencode_run.specs.Reencoded.{IsMakingFault, IsRefused};
 ghost use Rattle.reencode_run.specs.Renamers.{AreCounts, counts_in};
+ghost use Rattle.reencode_run.specs.Tasks.{IsStopped};
 
 use crate::answer::{ReencodingFault, reencoding_fault};
 use crate::renamers::Renamers;
@@ -73,10 +73,8 @@ fn lines_of(alloc: Global, pieces: &Pieces, renamers: &Renamers) -> Result<Vec<u
 /// are kept.
 pub fn kept_report(alloc: Global, bytes: &[u8], ceiling: u32) -> Result<Vec<u8>, ReencodingFault>
     ensures ok { IfOk result (λ text. Keeps ceiling bytes.now text.items) }
-    ensures refused { IfErr result
-        (λ fault. IsRefused Taken.Modules ceiling (Renamers.Alone no_renaming) bytes.now fault) }
-    ensures made { IfErr result
-        (λ fault. IsMakingFault Taken.Modules ceiling (Renamers.Alone no_renaming) bytes.now fault) }
+    ensures stops { IfErr result
+        (λ fault. IsStopped Taken.Modules ceiling (Renamers.Alone no_renaming) bytes.now fault) }
 {
     let mut renamer = Renamer::new(alloc);
     let pieces = match reencode_pieces(alloc, &mut renamer, bytes, ceiling) {

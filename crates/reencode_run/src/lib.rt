@@ -18,6 +18,7 @@ pub mod report;
 pub mod standard;
 pub mod sure;
 pub mod taken;
+pub mod task;
 pub mod tool;
 pub mod words;
 mod write;

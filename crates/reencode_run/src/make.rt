@@ -1,13 +1,12 @@
 //! From a job to what is printed.
-ghost use Rattle.std.specs.Prelude.{◌≡◌, ◌≤◌, ◌++◌, ℕ, List, Option, [], length, replicate, IfOk, IfErr, vec_len};
+ghost use Rattle.std.specs.Prelude.{◌≡◌, ◌≤◌, ◌++◌, ℕ, List, Option, [], length, replicate, Ok, Err, IfOk, IfErr, vec_len};
 ghost use Rattle.hex.specs.Hex.{encode_lower};
-ghost use Rattle.reencode_hooks.specs.Renamings.{no_renaming};
-ghost use Rattle.reencode_run.specs.Answer.{Ends, FileSays, HasBytes, IsMaking, Made, Output, RefusesBytes, RefusesFile, RefusesRenaming, RefusesSource, Reports, Takes, Uses, output_text, report_of, status_of, text_of};
+ghost use Rattle.reencode_run.specs.Answer.{Ends, FileSays, HasBytes, IsMaking, Made, RefusesBytes, RefusesFile, RefusesSource, RefusesTask, Takes, Uses, report_of, status_of, text_of};
 ghost use Rattle.reencode_run.specs.Generated.{generated};
-ghost use Rattle.reencode_run.specs.Reencoded.{IsMakingFault, IsRefused};
 ghost use Rattle.reencode_run.specs.Renamers.{AreCounts};
 ghost use Rattle.reencode_run.specs.Report.{lengths_report, report};
-ghost use Rattle.reencode_run.specs.Words.{command_seen, files, functions, job_seen, taken};
+ghost use Rattle.reencode_run.specs.Tasks.{Does, HasCounts, IsStopped, Reports};
+ghost use Rattle.reencode_run.specs.Words.{command_seen, files, functions, job_seen, of_renaming};
 
 use crate::answer::{Answer, FileFault, ReencodingFault, WritingFault};
 use crate::buffer::zeros;
@@ -21,6 +20,7 @@ use crate::renamers::Renamers;
 use crate::renaming::{RenamingFault, renaming_of};
 use crate::report::{made_lines, tail};
 use crate::taken::Taken;
+use crate::task::Task;
 use crate::words::{Command, Job, functions};
 use reencode_hooks::{Chain, Renamer};
 use std::alloc::Global;
@@ -49,10 +49,10 @@ pub struct Ready {
 fn renamer_of_file<F: Shelf>(alloc: Global, file: &str, shelf: &mut F) -> Result<Renamer, FileFault>
     ensures rises { F.faults shelf.old ≤ F.faults shelf.new }
     ensures same { F.texts shelf.new ≡ F.texts shelf.old }
-    ensures says { IfOk result (λ renamer. FileSays (F.texts shelf.old) file.now renamer) }
+    ensures says { IfOk result (λ renamer. FileSays of_renaming (F.texts shelf.old) file.now renamer) }
     ensures counts { IfOk result (λ renamer. renamer.counts ≡ replicate 19 0) }
     ensures stops { IfErr result
-        (λ fault. RefusesFile file.now (F.texts shelf.old) (F.faults shelf.old)
+        (λ fault. RefusesFile of_renaming file.now (F.texts shelf.old) (F.faults shelf.old)
         (F.faults shelf.new) fault) }
 {
     let text = match shelf.fetch(alloc, file, MOST_RENAMING) {
@@ -68,31 +68,30 @@ fn renamer_of_file<F: Shelf>(alloc: Global, file: &str, shelf: &mut F) -> Result
     }
 }
 
-/// The renamers of a command.
-fn renamers_of<F: Shelf>(
-    alloc: Global,
-    command: Command<'_>,
-    shelf: &mut F,
-) -> Result<Renamers, FileFault>
+/// What a command does, by what its files say.
+fn task_of<F: Shelf>(alloc: Global, command: Command<'_>, shelf: &mut F) -> Result<Task, FileFault>
     ensures rises { F.faults shelf.old ≤ F.faults shelf.new }
     ensures uses { IfOk result
-        (λ renamers. Uses (command_seen command.entry) (F.texts shelf.old) renamers) }
-    ensures counts { IfOk result AreCounts }
+        (λ task. Uses (command_seen command.entry) (F.texts shelf.old) task) }
+    ensures counts { IfOk result HasCounts }
     ensures stops { IfErr result
-        (λ fault. RefusesRenaming (command_seen command.entry) (F.texts shelf.old)
+        (λ fault. RefusesTask (command_seen command.entry) (F.texts shelf.old)
         (F.faults shelf.old) (F.faults shelf.new) fault) }
     ensures unfetched { files (command_seen command.entry) ≡ [] → shelf.new ≡ shelf.old }
 {
     match command {
-        Command::Rename(file) => Ok(Renamers::Alone(renamer_of_file(alloc, file, shelf)?)),
+        Command::Plain => Ok(Task::Reencode(Renamers::Alone(Renamer::new(alloc)))),
+        Command::Rename(file) => {
+            let renamer = renamer_of_file(alloc, file, shelf)?;
+            Ok(Task::Reencode(Renamers::Alone(renamer)))
+        }
         Command::Twice(first, second) => {
             let a = renamer_of_file(alloc, first, shelf)?;
             let b = renamer_of_file(alloc, second, shelf)?;
-            Ok(Renamers::Both(Chain::new(a, b)))
+            Ok(Task::Reencode(Renamers::Both(Chain::new(a, b))))
         }
-        Command::Plain => Ok(Renamers::Alone(Renamer::new(alloc))),
-        Command::Generate(_) => Ok(Renamers::Alone(Renamer::new(alloc))),
-        Command::KeepReport => Ok(Renamers::Alone(Renamer::new(alloc))),
+        Command::Generate(n) => Ok(Task::Generate(n)),
+        Command::KeepReport => Ok(Task::KeepReport),
     }
 }
 
@@ -163,8 +162,8 @@ fn digits(
     requires { AreCounts renamers }
     ensures ok { IfOk result (λ p. Reports Taken.Binaries ceiling renamers bytes.now report
         (encode_lower p.0.items ++ p.1.items)) }
-    ensures refused { IfErr result (λ fault. IsRefused Taken.Binaries ceiling renamers bytes.now fault) }
-    ensures made { IfErr result (λ fault. IsMakingFault Taken.Binaries ceiling renamers bytes.now fault) }
+    ensures stops { IfErr result
+        (λ fault. IsStopped Taken.Binaries ceiling renamers bytes.now fault) }
 {
     let (output, renamers) = reencoded(alloc, Taken::Binaries, renamers, bytes, ceiling)?;
     match tail(alloc, &renamers) {
@@ -184,8 +183,8 @@ fn lengths(
     requires { AreCounts renamers }
     ensures ok { IfOk result (λ text. Reports Taken.Modules ceiling renamers bytes.now
         (lengths_report functions (length bytes.now)) text.items) }
-    ensures refused { IfErr result (λ fault. IsRefused Taken.Modules ceiling renamers bytes.now fault) }
-    ensures made { IfErr result (λ fault. IsMakingFault Taken.Modules ceiling renamers bytes.now fault) }
+    ensures stops { IfErr result
+        (λ fault. IsStopped Taken.Modules ceiling renamers bytes.now fault) }
 {
     let (output, renamers) = reencoded(alloc, Taken::Modules, renamers, bytes, ceiling)?;
     match made_lines(alloc, functions, bytes.len(), output.len(), &renamers) {
@@ -194,32 +193,26 @@ fn lengths(
     }
 }
 
-/// The output of a job as it is printed: the digits of the output, and the text behind them.
+/// What a task prints: the digits of its output, where it prints them, and the text behind them.
 fn shown(
     alloc: Global,
-    command: Command<'_>,
-    renamers: Renamers,
+    task: Task,
     bytes: &[u8],
     ceiling: u32,
 ) -> Result<(Vec<u8>, Vec<u8>), ReencodingFault>
-    requires counts { AreCounts renamers }
-    requires none { files (command_seen command) ≡ []
-        → renamers ≡ Renamers.Alone no_renaming }
+    requires { HasCounts task }
     ensures ok { IfOk result
-        (λ p. (m : Output (command_seen command.entry) ceiling renamers bytes.now)
-        × (encode_lower p.0.items ++ p.1.items ≡ output_text m)) }
-    ensures refused { IfErr result (λ fault. IsRefused (taken (command_seen command.entry)) ceiling renamers bytes.now fault) }
-    ensures made { IfErr result (λ fault. IsMakingFault (taken (command_seen command.entry)) ceiling renamers bytes.now fault) }
+        (λ p. Does task ceiling bytes.now (Ok (encode_lower p.0.items ++ p.1.items))) }
+    ensures stops { IfErr result (λ fault. Does task ceiling bytes.now (Err fault)) }
 {
-    match command {
-        Command::Plain => digits(alloc, renamers, bytes, ceiling),
-        Command::Rename(_) => digits(alloc, renamers, bytes, ceiling),
-        Command::Twice(_, _) => digits(alloc, renamers, bytes, ceiling),
-        Command::Generate(n) => {
+    match task {
+        Task::Reencode(renamers) => digits(alloc, renamers, bytes, ceiling),
+        Task::Generate(n) => {
+            let renamers = Renamers::Alone(Renamer::new(alloc));
             let lines = lengths(alloc, n, renamers, bytes, ceiling)?;
             Ok((Vec::new(alloc), lines))
         }
-        Command::KeepReport => {
+        Task::KeepReport => {
             let lines = kept_report(alloc, bytes, ceiling)?;
             Ok((Vec::new(alloc), lines))
         }
@@ -259,15 +252,15 @@ pub fn make<F: Shelf, S: Source>(
     ensures unread { IsMaking (job_seen job.entry).command → input.new ≡ input.old }
     ensures unfetched { files (job_seen job.entry).command ≡ [] → shelf.new ≡ shelf.old }
 {
-    let renamers = match renamers_of(alloc, job.command, shelf) {
-        Ok(renamers) => renamers,
+    let task = match task_of(alloc, job.command, shelf) {
+        Ok(task) => task,
         Err(fault) => return Err(Answer::File(fault)),
     };
     let bytes = match bytes_of(alloc, job.command, job.is_text, input) {
         Ok(bytes) => bytes,
         Err(answer) => return Err(answer),
     };
-    match shown(alloc, job.command, renamers, bytes.as_slice(), job.ceiling) {
+    match shown(alloc, task, bytes.as_slice(), job.ceiling) {
         Ok(made) => match zeros(alloc, PIECE) {
             Ok(buffer) => Ok(Ready {
                 output: made.0,

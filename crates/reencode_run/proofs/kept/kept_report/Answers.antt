@@ -5,30 +5,24 @@ use Rattle.reencode_hooks.specs.Renamings.{Renaming}
 use Rattle.reencode_run.specs.declared.renamers.Renamers.TheVariants as renamers
 use Rattle.reencode_run.specs.declared.taken.Taken.TheVariants.{Modules}
 use Rattle.reencode_run.specs.Kept.{kept_report}
-use Rattle.reencode_run.specs.Reencoded.{IsMakingFault, IsRefused}
 use Rattle.reencode_run.specs.Renamers.{hooks_of}
+use Rattle.reencode_run.specs.Tasks.{IsStopped}
 use Rattle.reencode_run.proofs.Keeping.{keeps_given}
 use Rattle.reencode_run.proofs.Outcomes.{made_as, refused_as, why_given}
 use Rattle.reencode_run.proofs.kept.kept_report.Goals as goal
 
-pub returns-in-Err-clause-refused : goal.returns-in-Err-clause-refused
-returns-in-Err-clause-refused c =
+pub returns-in-Err-clause-stops : goal.returns-in-Err-clause-stops
+returns-in-Err-clause-stops c =
     let r = c.new-renamer.result in
     let e = c.in-Err.ensures in
-    let g : BytesClauses (hooks_of (renamers.Alone r)) c.args.ceiling c.args.bytes.now r c.reencode_pieces.new.r (Err c.in-Err.e) (joined c.args.bytes.now) =
+    let rs = renamers.Alone r in
+    let g : BytesClauses (hooks_of rs) c.args.ceiling c.args.bytes.now r c.reencode_pieces.new.r (Err c.in-Err.e) (joined c.args.bytes.now) =
     record { default = e.default; woven = e.woven; after_error = e.after_error; headless = e.headless } in
-    let why = why_given Modules c.args.ceiling (renamers.Alone r) c.args.bytes.now c.reencode_pieces.new.r (joined c.args.bytes.now) c.in-Err.e g in
-    subst (λ (z : Renaming). IsRefused Modules c.args.ceiling (renamers.Alone z) c.args.bytes.now c.reencoding_fault.result) c.new-renamer.ensures
-    (refused_as Modules c.args.ceiling (renamers.Alone r) c.args.bytes.now c.in-Err.e c.reencoding_fault.result why c.reencoding_fault.ensures)
-
-pub returns-in-Err-clause-made : goal.returns-in-Err-clause-made
-returns-in-Err-clause-made c =
-    let r = c.new-renamer.result in
-    let e = c.in-Err.ensures in
-    let g : BytesClauses (hooks_of (renamers.Alone r)) c.args.ceiling c.args.bytes.now r c.reencode_pieces.new.r (Err c.in-Err.e) (joined c.args.bytes.now) =
-    record { default = e.default; woven = e.woven; after_error = e.after_error; headless = e.headless } in
-    subst (λ (z : Renaming). IsMakingFault Modules c.args.ceiling (renamers.Alone z) c.args.bytes.now c.reencoding_fault.result) c.new-renamer.ensures
-    (made_as Modules c.args.ceiling (renamers.Alone r) c.args.bytes.now c.reencode_pieces.new.r (joined c.args.bytes.now) c.in-Err.e g c.reencoding_fault.result c.reencoding_fault.ensures)
+    let why = why_given Modules c.args.ceiling rs c.args.bytes.now c.reencode_pieces.new.r (joined c.args.bytes.now) c.in-Err.e g in
+    subst (λ (z : Renaming). IsStopped Modules c.args.ceiling (renamers.Alone z) c.args.bytes.now c.reencoding_fault.result) c.new-renamer.ensures (
+      refused_as Modules c.args.ceiling rs c.args.bytes.now c.in-Err.e c.reencoding_fault.result why c.reencoding_fault.ensures,
+      made_as Modules c.args.ceiling rs c.args.bytes.now c.reencode_pieces.new.r (joined c.args.bytes.now) c.in-Err.e g c.reencoding_fault.result c.reencoding_fault.ensures,
+    )
 
 pub returns-in-Ok-lines_of-clause-ok : goal.returns-in-Ok-lines_of-clause-ok
 returns-in-Ok-lines_of-clause-ok c =

@@ -1,0 +1,81 @@
+-- What the files of a command say, and what the command then does: its task.
+use Rattle.std.specs.Prelude.{◌≡◌, ℕ, ◌≤◌, List, ◌++◌, length, Result, Ok, Err}
+use Rattle.reencode_hooks.specs.Renamings.{Renaming, no_renaming}
+use Rattle.reencode_run.specs.declared.answer.ReencodingFault.{ReencodingFault}
+use Rattle.reencode_run.specs.declared.renamers.Renamers.{Renamers}
+use Rattle.reencode_run.specs.declared.renamers.Renamers.TheVariants.{Alone}
+use Rattle.reencode_run.specs.declared.taken.Taken.{Taken}
+use Rattle.reencode_run.specs.declared.taken.Taken.TheVariants.{Modules, Binaries}
+use Rattle.reencode_run.specs.declared.task.Task.{Task}
+use Rattle.reencode_run.specs.declared.task.Task.TheVariants as task
+use Rattle.reencode_run.specs.Kept.{Keeps}
+use Rattle.reencode_run.specs.Plain.{IsPlain}
+use Rattle.reencode_run.specs.Reencoded.{IsMakingFault, IsReencoded, IsRefused}
+use Rattle.reencode_run.specs.Renamers.{AreCounts, renamers_of}
+use Rattle.reencode_run.specs.Renamings.{IsRenaming}
+use Rattle.reencode_run.specs.Report.{lengths_report, report}
+use Rattle.reencode_run.specs.Words.{Command, plain, rename, twice, generate, keep_report, Kind, of_renaming, says}
+
+-- ---- what a file says, by its kind
+
+-- what is said
+abbrev pub Content : Kind → Type 0
+Content of_renaming = Renaming
+
+-- the most bytes that the file may have
+abbrev pub most_of : Kind → ℕ
+most_of of_renaming = 1048576
+
+-- the text of the file says this
+abbrev pub IsContent : (k : Kind) → List ℕ → Content k → Type 0
+IsContent of_renaming text r = IsRenaming text r
+
+-- it says nothing of its kind
+abbrev pub NoContent : Kind → List ℕ → Type 0
+NoContent k text = (c : Content k) → IsContent k text c → ⊥
+
+-- the task of a command whose files say this
+abbrev pub task_of : (c : Command) → List (Content (says c)) → Task
+task_of plain said = task.Reencode (renamers_of said)
+task_of (rename name) said = task.Reencode (renamers_of said)
+task_of (twice first second) said = task.Reencode (renamers_of said)
+task_of (generate n) said = task.Generate n
+task_of keep_report said = task.KeepReport
+
+-- ---- what a task does
+
+-- The text shows the output and the counts that the bytes have under these renamings and the ceiling. Where nothing is renamed, the output
+-- is the normal spelling itself.
+pub record Reports (k : Taken) (ceiling : ℕ) (rs : Renamers) (bytes : List ℕ) (shown : List ℕ → List (List ℕ) → List ℕ) (text : List ℕ) : Type 0 where
+  pub output : List ℕ
+  pub counts : List (List ℕ)
+  pub reencoded : IsReencoded k ceiling rs bytes output counts
+  pub plain : rs ≡ Alone no_renaming → IsPlain k bytes output counts
+  pub told : text ≡ shown output counts
+
+-- The re-encoding is refused. Where all visits are accepted and all frames fit, that is out of memory alone.
+abbrev pub IsStopped : Taken → ℕ → Renamers → List ℕ → ReencodingFault → Type 0
+IsStopped k ceiling rs bytes fault = IsRefused k ceiling rs bytes fault × IsMakingFault k ceiling rs bytes fault
+
+-- what is printed of a re-encoding, or why nothing is
+abbrev pub Reencodes : Taken → ℕ → Renamers → List ℕ → (List ℕ → List (List ℕ) → List ℕ) → Result (List ℕ) ReencodingFault → Type 0
+Reencodes k ceiling rs bytes shown (Ok text) = Reports k ceiling rs bytes shown text
+Reencodes k ceiling rs bytes shown (Err fault) = IsStopped k ceiling rs bytes fault
+
+-- the same of one that tells what it keeps
+abbrev pub TellsKept : ℕ → List ℕ → Result (List ℕ) ReencodingFault → Type 0
+TellsKept ceiling bytes (Ok text) = Keeps ceiling bytes text
+TellsKept ceiling bytes (Err fault) = IsStopped Modules ceiling (Alone no_renaming) bytes fault
+
+-- What a task does with some bytes under a ceiling: the text that is printed, or why nothing is. It is the digits of the output, the lengths of a
+-- made module and its output, or what is kept; and the counts.
+abbrev pub Does : Task → ℕ → List ℕ → Result (List ℕ) ReencodingFault → Type 0
+Does (task.Reencode rs) ceiling bytes result = Reencodes Binaries ceiling rs bytes report result
+Does (task.Generate n) ceiling bytes result = Reencodes Modules ceiling (Alone no_renaming) bytes (lengths_report n (length bytes)) result
+Does task.KeepReport ceiling bytes result = TellsKept ceiling bytes result
+
+-- each renamer has a count of everything that is counted
+abbrev pub HasCounts : Task → Type 0
+HasCounts (task.Reencode rs) = AreCounts rs
+HasCounts (task.Generate n) = Unit {0}
+HasCounts task.KeepReport = Unit {0}
