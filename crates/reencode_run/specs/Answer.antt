@@ -268,6 +268,14 @@ text_of (Reencoding (reencoding_fault.Refused u)) = refusal_text u
 text_of (Reencoding (reencoding_fault.TooLarge size ceiling)) = codes "too large: " ++ decimal size ++ codes " over " ++ decimal ceiling
 text_of answer = message (status_of answer)
 
+-- it is the status's message alone
+abbrev pub HasMessage : Answer → Type 0
+HasMessage Printed = Unit {0}
+HasMessage (Reencoding (reencoding_fault.ParseError at)) = ⊥
+HasMessage (Reencoding (reencoding_fault.Refused u)) = ⊥
+HasMessage (Reencoding (reencoding_fault.TooLarge size ceiling)) = ⊥
+HasMessage answer = Unit {0}
+
 -- a sink took this text, or a front of it where it failed
 abbrev pub Says : (faults_old faults_new : ℕ) (held_old held_new : Option (List ℕ)) → List ℕ → Type 0
 Says faults_old faults_new held_old held_new text =

@@ -1,6 +1,6 @@
 //! How the program ends: by a fault of one of its stages, or with all output written.
 ghost use Rattle.std.specs.Prelude.{◌≡◌, ◌≤◌, ◌++◌, codes, decimal, OnOk, OnErr};
-ghost use Rattle.reencode_run.specs.Answer.{EndsAs, HasStatus, status_of, text_of};
+ghost use Rattle.reencode_run.specs.Answer.{EndsAs, HasMessage, HasStatus, status_of, text_of};
 ghost use Rattle.reencode_run.specs.Renamers.{refusal_text};
 ghost use Rattle.reencode_hooks.specs.Renamings.{unmapped_text};
 ghost use Rattle.reencode_run.specs.Outside.{Rose, WhereTold, followed, TookFront};
@@ -90,32 +90,54 @@ pub enum Answer {
 }
 
 impl Answer {
-    /// The status that the program ends with.
-    pub fn status(self) -> u8
-        ensures { result ≡ status_of self }
+    /// The status that the program ends with, and what is said with it, with a line end behind it. What holds numbers or a name is said by
+    /// `say`.
+    fn ending(self) -> (u8, &'static [u8])
+        ensures status { result.0 ≡ status_of self }
+        ensures text { HasMessage self → result.1.now ≡ text_of self ++ codes "\n" }
     {
         match self {
-            Answer::Printed => 0,
+            Answer::Printed => (0, b"\n"),
             Answer::Words(WordsFault::NoMemory)
             | Answer::File(FileFault::NoMemory)
             | Answer::Input(InputFault::NoMemory)
             | Answer::Digits(TextFault::NoMemory)
             | Answer::Reencoding(ReencodingFault::NoMemory)
-            | Answer::Writing(WritingFault::NoMemory) => 1,
-            Answer::Words(WordsFault::NotAccepted) => 2,
-            Answer::Input(InputFault::Failed) => 3,
-            Answer::Writing(WritingFault::Failed) => 4,
-            Answer::Reencoding(ReencodingFault::ParseError { at: _ }) => 5,
-            Answer::Reencoding(ReencodingFault::Refused(_)) => 6,
-            Answer::Reencoding(ReencodingFault::CodeSectionSize) => 7,
-            Answer::Reencoding(ReencodingFault::NonCoreModule) => 8,
-            Answer::Reencoding(ReencodingFault::NonComponent) => 9,
-            Answer::Reencoding(ReencodingFault::TooLarge { .. }) => 10,
-            Answer::File(FileFault::Bad) => 11,
-            Answer::File(FileFault::Failed) => 12,
-            Answer::File(FileFault::TooLong) | Answer::Input(InputFault::TooLong) => 13,
-            Answer::Digits(TextFault::NotHexadecimal) => 14,
+            | Answer::Writing(WritingFault::NoMemory) => (1, b"no memory\n"),
+            Answer::Words(WordsFault::NotAccepted) => (
+                2,
+                b"usage: [-x] [-m CEILING] plain | rename FILE | twice FILE FILE | generate N | keep-report\n",
+            ),
+            Answer::Input(InputFault::Failed) => (3, b"read fault\n"),
+            Answer::Writing(WritingFault::Failed) => (4, b"write fault\n"),
+            Answer::Reencoding(ReencodingFault::ParseError { at: _ }) => (5, b""),
+            Answer::Reencoding(ReencodingFault::Refused(_)) => (6, b""),
+            Answer::Reencoding(ReencodingFault::CodeSectionSize) => {
+                (7, b"invalid code section size\n")
+            }
+            Answer::Reencoding(ReencodingFault::NonCoreModule) => (
+                8,
+                b"There was a section that does not belong in a core wasm module\n",
+            ),
+            Answer::Reencoding(ReencodingFault::NonComponent) => (
+                9,
+                b"There was a section that does not belong in a component\n",
+            ),
+            Answer::Reencoding(ReencodingFault::TooLarge { .. }) => (10, b""),
+            Answer::File(FileFault::Bad) => (11, b"bad renaming\n"),
+            Answer::File(FileFault::Failed) => (12, b"shelf fault\n"),
+            Answer::File(FileFault::TooLong) | Answer::Input(InputFault::TooLong) => {
+                (13, b"too long\n")
+            }
+            Answer::Digits(TextFault::NotHexadecimal) => (14, b"not hex\n"),
         }
+    }
+
+    /// The status that the program ends with.
+    pub fn status(self) -> u8
+        ensures { result ≡ status_of self }
+    {
+        self.ending().0
     }
 
     /// Says how the program ends, with a line end behind it. After a failure a front of it was taken.
@@ -128,43 +150,14 @@ impl Answer {
             (TookFront (D.held err.old) (D.held err.new) (text_of self ++ codes "\n")) }
     {
         match self {
-            Answer::Printed => write_all(err, b"\n"),
-            Answer::Words(WordsFault::NoMemory)
-            | Answer::File(FileFault::NoMemory)
-            | Answer::Input(InputFault::NoMemory)
-            | Answer::Digits(TextFault::NoMemory)
-            | Answer::Reencoding(ReencodingFault::NoMemory)
-            | Answer::Writing(WritingFault::NoMemory) => write_all(err, b"no memory\n"),
-            Answer::Words(WordsFault::NotAccepted) => write_all(
-                err,
-                b"usage: [-x] [-m CEILING] plain | rename FILE | twice FILE FILE | generate N | keep-report\n",
-            ),
-            Answer::Input(InputFault::Failed) => write_all(err, b"read fault\n"),
-            Answer::Writing(WritingFault::Failed) => write_all(err, b"write fault\n"),
             Answer::Reencoding(ReencodingFault::ParseError { at }) => {
                 write_line(err, b"parse error at ", at as u64)
             }
             Answer::Reencoding(ReencodingFault::Refused(refusal)) => say_refused(err, refusal),
-            Answer::Reencoding(ReencodingFault::CodeSectionSize) => {
-                write_all(err, b"invalid code section size\n")
-            }
-            Answer::Reencoding(ReencodingFault::NonCoreModule) => write_all(
-                err,
-                b"There was a section that does not belong in a core wasm module\n",
-            ),
-            Answer::Reencoding(ReencodingFault::NonComponent) => write_all(
-                err,
-                b"There was a section that does not belong in a component\n",
-            ),
             Answer::Reencoding(ReencodingFault::TooLarge { size, ceiling }) => {
                 say_too_large(err, size, ceiling)
             }
-            Answer::File(FileFault::Bad) => write_all(err, b"bad renaming\n"),
-            Answer::File(FileFault::Failed) => write_all(err, b"shelf fault\n"),
-            Answer::File(FileFault::TooLong) | Answer::Input(InputFault::TooLong) => {
-                write_all(err, b"too long\n")
-            }
-            Answer::Digits(TextFault::NotHexadecimal) => write_all(err, b"not hex\n"),
+            _ => write_all(err, self.ending().1),
         }
     }
 }

@@ -1,6 +1,7 @@
 //! From a job to what is printed.
 ghost use Rattle.std.specs.Prelude.{◌≡◌, ◌≤◌, ◌++◌, ℕ, List, Option, [], length, replicate, Ok, Err, IfOk, IfErr, vec_len};
 ghost use Rattle.hex.specs.Hex.{encode_lower};
+ghost use Rattle.reencode_hooks.specs.Renamings.{no_renaming};
 ghost use Rattle.reencode_run.specs.Answer.{Ends, FileSays, HasBytes, IsMaking, Made, RefusesBytes, RefusesFile, RefusesSource, RefusesTask, Takes, Uses, report_of, status_of, text_of};
 ghost use Rattle.reencode_run.specs.Generated.{generated};
 ghost use Rattle.reencode_run.specs.Renamers.{AreCounts};
@@ -153,6 +154,7 @@ fn bytes_of<S: Source>(
 }
 
 /// The digits of what the re-encoding makes, and the lines of the counts.
+#[tactic(auto, using(crate::proofs::Reports::reports))]
 fn digits(
     alloc: Global,
     renamers: Renamers,
@@ -165,32 +167,39 @@ fn digits(
     ensures stops { IfErr result
         (λ fault. IsStopped Taken.Binaries ceiling renamers bytes.now fault) }
 {
-    let (output, renamers) = reencoded(alloc, Taken::Binaries, renamers, bytes, ceiling)?;
-    match tail(alloc, &renamers) {
-        Ok(tail) => Ok((output, tail)),
+    let made = reencoded(alloc, Taken::Binaries, renamers, bytes, ceiling)?;
+    match tail(alloc, &made.1) {
+        Ok(tail) => Ok((made.0, tail)),
         Err(_) => Err(ReencodingFault::NoMemory),
     }
 }
 
-/// How long the bytes and what the re-encoding makes of them are, and the lines of the counts.
+/// How long the bytes and what the re-encoding makes of them are where nothing is renamed, and the lines of the counts.
 fn lengths(
     alloc: Global,
     functions: u32,
-    renamers: Renamers,
     bytes: &[u8],
     ceiling: u32,
 ) -> Result<Vec<u8>, ReencodingFault>
-    requires { AreCounts renamers }
-    ensures ok { IfOk result (λ text. Reports Taken.Modules ceiling renamers bytes.now
+    ensures ok { IfOk result
+        (λ text. Reports Taken.Modules ceiling (Renamers.Alone no_renaming) bytes.now
         (lengths_report functions (length bytes.now)) text.items) }
     ensures stops { IfErr result
-        (λ fault. IsStopped Taken.Modules ceiling renamers bytes.now fault) }
+        (λ fault. IsStopped Taken.Modules ceiling (Renamers.Alone no_renaming) bytes.now fault) }
 {
-    let (output, renamers) = reencoded(alloc, Taken::Modules, renamers, bytes, ceiling)?;
-    match made_lines(alloc, functions, bytes.len(), output.len(), &renamers) {
+    let renamers = Renamers::Alone(Renamer::new(alloc));
+    let made = reencoded(alloc, Taken::Modules, renamers, bytes, ceiling)?;
+    match made_lines(alloc, functions, bytes.len(), made.0.len(), &made.1) {
         Ok(lines) => Ok(lines),
         Err(_) => Err(ReencodingFault::NoMemory),
     }
+}
+
+/// These lines, with no digits in front of them.
+fn undigited(alloc: Global, lines: Vec<u8>) -> (Vec<u8>, Vec<u8>)
+    ensures { encode_lower result.0.items ++ result.1.items ≡ lines.items }
+{
+    (Vec::new(alloc), lines)
 }
 
 /// What a task prints: the digits of its output, where it prints them, and the text behind them.
@@ -207,15 +216,14 @@ fn shown(
 {
     match task {
         Task::Reencode(renamers) => digits(alloc, renamers, bytes, ceiling),
-        Task::Generate(n) => {
-            let renamers = Renamers::Alone(Renamer::new(alloc));
-            let lines = lengths(alloc, n, renamers, bytes, ceiling)?;
-            Ok((Vec::new(alloc), lines))
-        }
-        Task::KeepReport => {
-            let lines = kept_report(alloc, bytes, ceiling)?;
-            Ok((Vec::new(alloc), lines))
-        }
+        Task::Generate(n) => match lengths(alloc, n, bytes, ceiling) {
+            Ok(lines) => Ok(undigited(alloc, lines)),
+            Err(fault) => Err(fault),
+        },
+        Task::KeepReport => match kept_report(alloc, bytes, ceiling) {
+            Ok(lines) => Ok(undigited(alloc, lines)),
+            Err(fault) => Err(fault),
+        },
     }
 }
 
