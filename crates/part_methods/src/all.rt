@@ -1,4 +1,4 @@
-//! The kind that overrides.
+//! The kind that overrides: the methods of modules and sections.
 use crate::answers;
 use crate::noter::{Made, Noter, Notes, answered};
 use reencode_core::Reencode;
@@ -8,7 +8,7 @@ use wasm_read as r;
 use wasm_shapes::SectionId;
 use wasm_write as w;
 
-/// Overrides all methods but `parse_imports`, so that a section of imports shows that it asks for no import alone.
+/// Overrides all methods but `parse_imports`: so a section of imports is seen to ask for no import alone.
 #[derive(Drop)]
 pub struct All;
 

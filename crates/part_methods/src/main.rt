@@ -1,12 +1,14 @@
-//! Says, of each method of a reencoder and of its function, which methods and hooks it asks for an item, a row, a section, a module
-//! or a component, in order.
+//! Says, of the methods of a reencoder and of their functions, which methods and hooks each asks for an item, a row, a section, a
+//! module or a component, in order.
 //!
-//! A line without a bar is of a method and of its function, which are one text: both call one function of their crate, or are one
-//! macro of `default_bodies.rt` or `type_bodies.rt`. The function is asked, of a reencoder that overrides what it may ask.
-//! A line with a bar between two lists has a method's and that of its function, which are two texts: each names for itself what
-//! it asks for a row (the loop `each_row!` of `reencode_core`), for the locals of a body (`parse_function_body!`), or all that it
-//! asks (`parse_import`). Of a method that has no function (`start_section`, `component_external_index`) a line has no bar, and of a
-//! function that no method is, it begins with one.
+//! A line without a bar is of a method and of its function, which are one text: the method's body is a call of the function, or
+//! both bodies are one macro of `default_bodies.rt` or `type_bodies.rt`, with the same arguments. The function is asked, of a
+//! reencoder that overrides what it may ask (`all.rt`).
+//!
+//! A line with a bar between has the list of a method, and behind the bar that of its function, which are two texts: each names
+//! for itself what it asks. The method is asked of a reencoder that keeps its default (`kept.rt`). `start_section` and
+//! `component_external_index` have no function: their lines, without a bar, are of the method. A line that begins with a bar is of a
+//! function alone: one that is no method's, or that of imports over a default below it.
 #![tactic(auto)]
 
 mod all;
