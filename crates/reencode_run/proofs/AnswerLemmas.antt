@@ -1,6 +1,7 @@
 -- How each stage ends the program, and what a status says of how it ended.
-use Rattle.std.proofs.Common.{◌≡◌, ◌≢◌, ℕ, inl, inr, true, Bool, Option, Some, None, Result, Err, List, [], ◌∷◌, ◌++◌, codes, decimal, refl, sym, ap, ◌∙◌, subst, arith, lit<}
+use Rattle.std.proofs.Common.{◌≡◌, ◌≢◌, ℕ, ◌≤◌, inl, inr, true, Bool, Option, Some, None, Result, Err, List, [], ◌∷◌, ◌++◌, codes, decimal, refl, sym, ap, ◌∙◌, subst, arith, lit<}
 use Rattle.std.specs.Prelude.{Contains, MatchOption}
+use Rattle.reencode_hooks.specs.Renamings.{Renaming}
 use Rattle.reencode_run.specs.declared.answer.Answer.{Answer}
 use Rattle.reencode_run.specs.declared.answer.Answer.TheVariants.{File, Input, Digits, Reencoding}
 use Rattle.reencode_run.specs.declared.answer.FileFault.{FileFault}
@@ -13,11 +14,11 @@ use Rattle.reencode_run.specs.declared.answer.ReencodingFault.{ReencodingFault}
 use Rattle.reencode_run.specs.declared.answer.ReencodingFault.TheVariants as reencoding_fault
 use Rattle.reencode_run.specs.declared.renamers.Refusal.{Refusal}
 use Rattle.reencode_run.specs.declared.task.Task.{Task}
-use Rattle.reencode_run.specs.Answer.{AtFile, Ends, EndsFor, ForJob, HasNoDigits, IsBadFile, IsTooLong, IsUnfetched, IsUnread, MadeFor, Outside, RefusesDigits, RefusesFrom, RefusesInput, RefusesTask, Says, StopsFor, StopsWith, Texts, Uses, message, most_bytes, report_of, status_of, text_of}
+use Rattle.reencode_run.specs.Answer.{AtFile, Ends, EndsFor, ForJob, FileSays, HasNoDigits, IsBadFile, IsTooLong, IsUnfetched, IsUnread, MadeFor, Outside, RefusesDigits, RefusesFile, RefusesFrom, RefusesInput, RefusesTask, Says, StopsFor, StopsWith, Texts, Uses, message, most_bytes, report_of, status_of, text_of}
 use Rattle.reencode_run.specs.Outside.{Rose, GaveAll, TookFront, TookMore, WhereTold, followed}
 use Rattle.reencode_run.specs.Hexadecimal.{binary}
 use Rattle.reencode_run.specs.Renamers.{refusal_text}
-use Rattle.reencode_run.specs.Words.{Job, Kind, files, functions, says}
+use Rattle.reencode_run.specs.Words.{Job, Kind, of_renaming, files, functions, says, twice}
 
 -- ---- the stages
 
@@ -47,6 +48,23 @@ pub digits_refused : {T : Type 0} (fault : TextFault) (is_text : Bool) (text : L
     → (◌≡◌ {A = Result T TextFault} (Err fault) (Err digits_fault.NotHexadecimal) → binary text ≡ None) → RefusesDigits is_text old new fault
 digits_refused digits_fault.NotHexadecimal is_text text old new is gave refused = (is, (text, gave, refused refl))
 digits_refused digits_fault.NoMemory is_text text old new is gave refused = tt
+
+rose_from : (a b c : ℕ) → a ≤ b → Rose b c → Rose a c
+rose_from a b c le (inl h) = inl (omega (arith, le, h))
+rose_from a b c le (inr h) = inr h
+
+-- what a later call of the shelf refuses counts from before an earlier one
+refused_from : (k : Kind) (name : List ℕ) (texts : Texts) (a b c : ℕ) (fault : FileFault) → a ≤ b → RefusesFile k name texts b c fault → RefusesFile k name texts a c fault
+refused_from k name texts a b c file_fault.Failed le h = rose_from a b c le h
+refused_from k name texts a b c file_fault.TooLong le h = h
+refused_from k name texts a b c file_fault.Bad le h = h
+refused_from k name texts a b c file_fault.NoMemory le h = tt
+
+-- the second of two files says nothing
+pub second_refused : (first second : List ℕ) (old mid : Texts) (a b c : ℕ) (r : Renaming) (fault : FileFault) → mid ≡ old → a ≤ b → FileSays of_renaming old first r
+    → RefusesFile of_renaming second mid b c fault → RefusesTask (twice first second) old a c fault
+second_refused first second old mid a b c r fault same le says h =
+    inr ((r, says), inl (refused_from of_renaming second old a b c fault le (subst (λ (t : Texts). RefusesFile of_renaming second t b c fault) same h)))
 
 module _ (job : Job) (o : Outside) (U : Type 0) where
   -- how an answer ends the program

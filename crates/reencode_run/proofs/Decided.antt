@@ -10,7 +10,7 @@ use Rattle.reencode_run.specs.Answer.{AtFile, Ends, EndsFor, FileSays, FilesSay,
 use Rattle.reencode_run.specs.Generated.{generated}
 use Rattle.reencode_run.specs.Hexadecimal.{binary, bytes_of}
 use Rattle.reencode_run.specs.Outside.{GaveAll, HasText, IsLonger, Rose, TookMore, WhereTold}
-use Rattle.reencode_run.specs.Tasks.{Content, IsContent, most_of, task_of}
+use Rattle.reencode_run.specs.Tasks.{Saying, IsSaying, most_of, task_of}
 use Rattle.reencode_run.specs.Words.{Job, Kind, of_renaming, files, functions, says}
 use Rattle.reencode_run.proofs.Reports.{wants_memory}
 
@@ -45,8 +45,8 @@ has (Some texts) name text h t e = go (texts name) refl h
     go (Some u) is h = let P : Option (List ℕ) → Type 0 = λ z. WhereTold z (Some text) in
         let same : Some text ≡ Some u = subst P is h in cc
 
-same_content : (k : Kind) (text t : List ℕ) (c d : Content k) → t ≡ text → IsContent k text c → IsContent k t d → c ≡ d
-same_content of_renaming text t c d e h j = let j' = subst (λ (z : List ℕ). IsContent of_renaming z d) e j in let both : Some c ≡ Some d = sym h.is ∙ j'.is in cc
+same_saying : (k : Kind) (text t : List ℕ) (c d : Saying k) → t ≡ text → IsSaying k text c → IsSaying k t d → c ≡ d
+same_saying of_renaming text t c d e h j = let j' = subst (λ (z : List ℕ). IsSaying of_renaming z d) e j in let both : Some c ≡ Some d = sym h.is ∙ j'.is in cc
 
 module _ (H R W : Type 0) where
   -- H, R and W are that the shelf, the source and the sink failed
@@ -68,7 +68,7 @@ module _ (H R W : Type 0) where
   memory_input None job t left = memory_left job t left
   memory_input (Some n) job t left = memory_bytes t job.ceiling (generated n)
 
-  memory_file : (k : Kind) (file : Option (List ℕ)) (by : Content k → Type 0) → ((c : Content k) → by c) → IsDecidedByFile H k file 1 by
+  memory_file : (k : Kind) (file : Option (List ℕ)) (by : Saying k → Type 0) → ((c : Saying k) → by c) → IsDecidedByFile H k file 1 by
   memory_file k None by all = tt
   memory_file k (Some text) by all = inr (record {
     long = λ more. inr refl;
@@ -76,7 +76,7 @@ module _ (H R W : Type 0) where
     some = λ less c is. all c;
   })
 
-  memory_files : (k : Kind) (texts : Texts) (names : List (List ℕ)) (by : List (Content k) → Type 0) → ((said : List (Content k)) → by said) → IsDecidedByFiles H k texts names 1 by
+  memory_files : (k : Kind) (texts : Texts) (names : List (List ℕ)) (by : List (Saying k) → Type 0) → ((said : List (Saying k)) → by said) → IsDecidedByFiles H k texts names 1 by
   memory_files k texts [] by all = all []
   memory_files k texts (name ∷ names) by all =
       memory_file k (told_text texts name) _ (λ c. memory_files k texts names (λ said. by (c ∷ said)) (λ said. all (c ∷ said)))
@@ -131,7 +131,7 @@ module _ (H R W : Type 0) where
 
   -- ---- the files
 
-  by_says : (k : Kind) (name : List ℕ) (texts : Texts) (c : Content k) (n : ℕ) (by : Content k → Type 0) → FileSays k texts name c → by c
+  by_says : (k : Kind) (name : List ℕ) (texts : Texts) (c : Saying k) (n : ℕ) (by : Saying k → Type 0) → FileSays k texts name c → by c
       → (file : Option (List ℕ)) → told_text texts name ≡ file → IsDecidedByFile H k file n by
   by_says k name texts c n by u d None e = tt
   by_says k name texts c n by u d (Some t) e =
@@ -139,11 +139,11 @@ module _ (H R W : Type 0) where
       let within : length u.0 ≤ most_of k = u.2 in
       inr (record {
         long = λ more. absurd (not_long (most_of k) t u.0 same within more);
-        none = λ less never. absurd (never c (subst (λ (z : List ℕ). IsContent k z c) (sym same) u.3));
-        some = λ less q is. subst by (same_content k u.0 t c q same u.3 is) d;
+        none = λ less never. absurd (never c (subst (λ (z : List ℕ). IsSaying k z c) (sym same) u.3));
+        some = λ less q is. subst by (same_saying k u.0 t c q same u.3 is) d;
       })
 
-  by_uses : (k : Kind) (texts : Texts) (names : List (List ℕ)) (said : List (Content k)) (n : ℕ) (by : List (Content k) → Type 0) → FilesSay k texts names said → by said
+  by_uses : (k : Kind) (texts : Texts) (names : List (List ℕ)) (said : List (Saying k)) (n : ℕ) (by : List (Saying k) → Type 0) → FilesSay k texts names said → by said
       → IsDecidedByFiles H k texts names n by
   by_uses k texts [] [] n by f d = d
   by_uses k texts [] (c ∷ said) n by f d = absurd f
@@ -151,7 +151,7 @@ module _ (H R W : Type 0) where
   by_uses k texts (name ∷ names) (c ∷ said) n by f d =
       by_says k name texts c n (λ q. IsDecidedByFiles H k texts names n (λ cs. by (q ∷ cs))) f.0 (by_uses k texts names said n (λ cs. by (c ∷ cs)) f.1 d) (told_text texts name) refl
 
-  bad_file : (k : Kind) (name : List ℕ) (texts : Texts) (by : Content k → Type 0) → SaysNone k name texts
+  bad_file : (k : Kind) (name : List ℕ) (texts : Texts) (by : Saying k → Type 0) → SaysNone k name texts
       → (file : Option (List ℕ)) → told_text texts name ≡ file → IsDecidedByFile H k file 11 by
   bad_file k name texts by h None e = tt
   bad_file k name texts by h (Some t) e =
@@ -160,10 +160,10 @@ module _ (H R W : Type 0) where
       inr (record {
         long = λ more. absurd (not_long (most_of k) t h.0 same within more);
         none = λ less n. inl refl;
-        some = λ less q is. absurd (h.3 q (subst (λ (z : List ℕ). IsContent k z q) same is));
+        some = λ less q is. absurd (h.3 q (subst (λ (z : List ℕ). IsSaying k z q) same is));
       })
 
-  long_file : (k : Kind) (name : List ℕ) (texts : Texts) (by : Content k → Type 0) → IsLonger texts name (most_of k)
+  long_file : (k : Kind) (name : List ℕ) (texts : Texts) (by : Saying k → Type 0) → IsLonger texts name (most_of k)
       → (file : Option (List ℕ)) → told_text texts name ≡ file → IsDecidedByFile H k file 13 by
   long_file k name texts by h None e = tt
   long_file k name None by h (Some t) e = absurd cc
@@ -177,13 +177,13 @@ module _ (H R W : Type 0) where
         some = λ less q is. absurd (omega (arith, more, less));
       })
 
-  unfetched_file : (k : Kind) (file : Option (List ℕ)) (by : Content k → Type 0) → H → IsDecidedByFile H k file 12 by
+  unfetched_file : (k : Kind) (file : Option (List ℕ)) (by : Saying k → Type 0) → H → IsDecidedByFile H k file 12 by
   unfetched_file k None by h = tt
   unfetched_file k (Some t) by h = inl (refl, h)
 
   -- what decides at one of the files, where all before it say what they are to say
-  at_file : (k : Kind) (texts : Texts) (names : List (List ℕ)) (n : ℕ) {P : List ℕ → Type 0} (by : List (Content k) → Type 0)
-      → ((name : List ℕ) (later : Content k → Type 0) → P name → IsDecidedByFile H k (told_text texts name) n later) → AtFile k texts names P → IsDecidedByFiles H k texts names n by
+  at_file : (k : Kind) (texts : Texts) (names : List (List ℕ)) (n : ℕ) {P : List ℕ → Type 0} (by : List (Saying k) → Type 0)
+      → ((name : List ℕ) (later : Saying k → Type 0) → P name → IsDecidedByFile H k (told_text texts name) n later) → AtFile k texts names P → IsDecidedByFiles H k texts names n by
   at_file k texts [] n by here h = absurd h
   at_file k texts (name ∷ names) n by here (inl h) = here name _ h
   at_file k texts (name ∷ names) n by here (inr h) =
@@ -193,7 +193,7 @@ module _ (H R W : Type 0) where
   -- ---- the whole
 
   -- which status comes for a job where its files say this
-  abbrev By : (job : Job) → Option (List ℕ) → ℕ → List (Content (says job.command)) → Type 0
+  abbrev By : (job : Job) → Option (List ℕ) → ℕ → List (Saying (says job.command)) → Type 0
   By job left n said = IsDecidedByInput R W (functions job.command) job (task_of job.command said) left n
 
   by_task : (job : Job) (texts : Texts) (t : Task) (left : Option (List ℕ)) (n : ℕ) → Uses job.command texts t
@@ -214,7 +214,7 @@ module _ (H R W : Type 0) where
   by_made job o n s made = by_work job o.texts o.left_old o.left_new n made.work (inl (s, (made.text, made.does)))
 
   at_file_of : (job : Job) (o : Outside) (n : ℕ) {P : List ℕ → Type 0}
-      → ((name : List ℕ) (later : Content (says job.command) → Type 0) → P name → IsDecidedByFile H (says job.command) (told_text o.texts name) n later)
+      → ((name : List ℕ) (later : Saying (says job.command) → Type 0) → P name → IsDecidedByFile H (says job.command) (told_text o.texts name) n later)
       → AtFile (says job.command) o.texts (files job.command) P → IsDecidedByJob H R W job o.texts o.left_old n
   at_file_of job o n here h = at_file (says job.command) o.texts (files job.command) n (By job o.left_old n) here h
 

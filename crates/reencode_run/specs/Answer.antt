@@ -20,7 +20,7 @@ use Rattle.reencode_run.specs.Outside.{Rose, WhereTold, followed, HasText, IsLon
 use Rattle.reencode_run.specs.Hexadecimal.{binary, bytes_of}
 use Rattle.reencode_run.specs.Renamers.{refusal_text}
 use Rattle.reencode_run.specs.Generated.{generated}
-use Rattle.reencode_run.specs.Tasks.{Content, Does, IsContent, NoContent, most_of, task_of}
+use Rattle.reencode_run.specs.Tasks.{Saying, Does, IsSaying, NoSaying, most_of, task_of}
 use Rattle.reencode_run.specs.Words.{Command, Job, Kind, files, functions, says}
 
 -- what shelves tell
@@ -48,11 +48,11 @@ pub record Outside : Type 0 where
 -- ---- what is done
 
 -- the file of this name, which is of this kind, says this
-abbrev pub FileSays : (k : Kind) → Texts → List ℕ → Content k → Type 0
-FileSays k texts name c = (text : List ℕ) × HasText texts name text × (length text ≤ most_of k) × IsContent k text c
+abbrev pub FileSays : (k : Kind) → Texts → List ℕ → Saying k → Type 0
+FileSays k texts name c = (text : List ℕ) × HasText texts name text × (length text ≤ most_of k) × IsSaying k text c
 
 -- the files of these names say this, in order
-abbrev pub FilesSay : (k : Kind) → Texts → List (List ℕ) → List (Content k) → Type 0
+abbrev pub FilesSay : (k : Kind) → Texts → List (List ℕ) → List (Saying k) → Type 0
 FilesSay k texts [] [] = Unit {0}
 FilesSay k texts (name ∷ names) (c ∷ cs) = FileSays k texts name c × FilesSay k texts names cs
 FilesSay k texts _ _ = ⊥
@@ -60,7 +60,7 @@ FilesSay k texts _ _ = ⊥
 -- this holds of one of these files, and all before it say what they are to say
 abbrev pub AtFile : (k : Kind) → Texts → List (List ℕ) → (List ℕ → Type 0) → Type 0
 AtFile k texts [] P = ⊥
-AtFile k texts (name ∷ names) P = P name ⊎ (((c : Content k) × FileSays k texts name c) × AtFile k texts names P)
+AtFile k texts (name ∷ names) P = P name ⊎ (((c : Saying k) × FileSays k texts name c) × AtFile k texts names P)
 
 -- the same of the files of a command
 abbrev pub AtFileOf : Command → Texts → (List ℕ → Type 0) → Type 0
@@ -68,7 +68,7 @@ AtFileOf command texts P = AtFile (says command) texts (files command) P
 
 -- the task of a command, by what its files say
 abbrev pub Uses : Command → Texts → Task → Type 0
-Uses command texts task = (said : List (Content (says command))) × FilesSay (says command) texts (files command) said × (task ≡ task_of command said)
+Uses command texts task = (said : List (Saying (says command))) × FilesSay (says command) texts (files command) said × (task ≡ task_of command said)
 
 -- each file of a command says what it is to say
 abbrev pub HasTask : Command → Texts → Type 0
@@ -113,7 +113,7 @@ MadeFor job o = Made job o.texts o.left_old o.left_new
 
 -- the file of this name was read whole, and says nothing of its kind
 abbrev pub SaysNone : Kind → List ℕ → Texts → Type 0
-SaysNone k name texts = (text : List ℕ) × HasText texts name text × (length text ≤ most_of k) × NoContent k text
+SaysNone k name texts = (text : List ℕ) × HasText texts name text × (length text ≤ most_of k) × NoSaying k text
 
 -- why the file of this name says nothing
 abbrev pub RefusesFile : Kind → List ℕ → Texts → (faults_old faults_new : ℕ) → FileFault → Type 0
@@ -352,13 +352,13 @@ IsDecidedByInput Unread Unwritten None job task left status = IsDecidedByLeft Un
 IsDecidedByInput Unread Unwritten (Some n) job task left status = IsDecidedByBytes Unwritten task job.ceiling (generated n) status
 
 -- which status comes for the text of a file of this kind that was fetched, where that of what it says is told
-pub record IsDecidedForFile (k : Kind) (text : List ℕ) (status : ℕ) (by : Content k → Type 0) : Type 0 where
+pub record IsDecidedForFile (k : Kind) (text : List ℕ) (status : ℕ) (by : Saying k → Type 0) : Type 0 where
   pub long : most_of k < length text → (status ≡ 13) ⊎ (status ≡ 1)
-  pub none : length text ≤ most_of k → NoContent k text → (status ≡ 11) ⊎ (status ≡ 1)
-  pub some : length text ≤ most_of k → (c : Content k) → IsContent k text c → by c
+  pub none : length text ≤ most_of k → NoSaying k text → (status ≡ 11) ⊎ (status ≡ 1)
+  pub some : length text ≤ most_of k → (c : Saying k) → IsSaying k text c → by c
 
 -- which status comes for a file, where its text is told: 12 where the shelf failed, and else by what was fetched
-abbrev pub IsDecidedByFile : (Unfetched : Type 0) (k : Kind) → Option (List ℕ) → ℕ → (Content k → Type 0) → Type 0
+abbrev pub IsDecidedByFile : (Unfetched : Type 0) (k : Kind) → Option (List ℕ) → ℕ → (Saying k → Type 0) → Type 0
 IsDecidedByFile Unfetched k None status by = Unit {0}
 IsDecidedByFile Unfetched k (Some text) status by = ((status ≡ 12) × Unfetched) ⊎ IsDecidedForFile k text status by
 
@@ -368,7 +368,7 @@ told_text None name = None
 told_text (Some texts) name = texts name
 
 -- which status comes for some files, where that of what they say is told
-abbrev pub IsDecidedByFiles : (Unfetched : Type 0) (k : Kind) → Texts → List (List ℕ) → ℕ → (List (Content k) → Type 0) → Type 0
+abbrev pub IsDecidedByFiles : (Unfetched : Type 0) (k : Kind) → Texts → List (List ℕ) → ℕ → (List (Saying k) → Type 0) → Type 0
 IsDecidedByFiles Unfetched k texts [] status by = by []
 IsDecidedByFiles Unfetched k texts (name ∷ names) status by =
     IsDecidedByFile Unfetched k (told_text texts name) status (λ c. IsDecidedByFiles Unfetched k texts names status (λ cs. by (c ∷ cs)))

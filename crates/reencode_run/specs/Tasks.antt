@@ -19,23 +19,23 @@ use Rattle.reencode_run.specs.Words.{Command, plain, rename, twice, generate, ke
 -- ---- what a file says, by its kind
 
 -- what is said
-abbrev pub Content : Kind → Type 0
-Content of_renaming = Renaming
+abbrev pub Saying : Kind → Type 0
+Saying of_renaming = Renaming
 
 -- the most bytes that the file may have
 abbrev pub most_of : Kind → ℕ
 most_of of_renaming = 1048576
 
 -- the text of the file says this
-abbrev pub IsContent : (k : Kind) → List ℕ → Content k → Type 0
-IsContent of_renaming text r = IsRenaming text r
+abbrev pub IsSaying : (k : Kind) → List ℕ → Saying k → Type 0
+IsSaying of_renaming text r = IsRenaming text r
 
 -- it says nothing of its kind
-abbrev pub NoContent : Kind → List ℕ → Type 0
-NoContent k text = (c : Content k) → IsContent k text c → ⊥
+abbrev pub NoSaying : Kind → List ℕ → Type 0
+NoSaying k text = (c : Saying k) → IsSaying k text c → ⊥
 
 -- the task of a command whose files say this
-abbrev pub task_of : (c : Command) → List (Content (says c)) → Task
+abbrev pub task_of : (c : Command) → List (Saying (says c)) → Task
 task_of plain said = task.Reencode (renamers_of said)
 task_of (rename name) said = task.Reencode (renamers_of said)
 task_of (twice first second) said = task.Reencode (renamers_of said)

@@ -37,12 +37,15 @@ form (twice first second) = record { says = of_renaming; files = first ∷ secon
 form (generate n) = record { says = of_renaming; files = []; functions = Some n }
 form keep_report = record { says = of_renaming; files = []; functions = None }
 
+-- what its files are to say
 abbrev pub says : Command → Kind
 says command = (form command).says
 
+-- the files that it names, in order
 abbrev pub files : Command → List (List ℕ)
 files command = (form command).files
 
+-- how many functions it makes a module of, where it makes one
 abbrev pub functions : Command → Option ℕ
 functions command = (form command).functions
 

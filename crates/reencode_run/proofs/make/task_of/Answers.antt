@@ -1,19 +1,27 @@
-use Rattle.std.proofs.Common.{refl, ap, subst, [], ◌∷◌}
-use Rattle.reencode_run.specs.declared.renamers.Renamers.{Renamers}
+use Rattle.std.proofs.Common.{inl, inr, refl, ap, subst, [], ◌∷◌}
 use Rattle.reencode_run.specs.declared.renamers.Renamers.TheVariants as renamers
 use Rattle.reencode_run.specs.declared.task.Task.TheVariants as task
 use Rattle.reencode_run.specs.Answer.{FileSays, Texts}
 use Rattle.reencode_run.specs.Words.{of_renaming}
+use Rattle.reencode_run.proofs.AnswerLemmas.{second_refused}
 use Rattle.reencode_run.proofs.make.task_of.Goals as goal
+
+pub returns-in-Plain-clause-uses : goal.returns-in-Plain-clause-uses
+returns-in-Plain-clause-uses g c = rw c.in-Plain.is ([], tt, ap (λ r. task.Reencode (renamers.Alone r)) c.new.ensures)
 
 pub returns-in_ok-renamer-in-Rename-clause-uses : goal.returns-in_ok-renamer-in-Rename-clause-uses
 returns-in_ok-renamer-in-Rename-clause-uses g c =
     let a = c.in_ok-renamer-in-Rename in
     rw c.in-Rename.is (a.renamer ∷ [], (a.ensures.says, tt), refl)
 
+pub returns-in_err-b-in-Twice-clause-stops : goal.returns-in_err-b-in-Twice-clause-stops
+returns-in_err-b-in-Twice-clause-stops g c =
+    let a = c.in_ok-a-in-Twice in
+    rw c.in-Twice.is (second_refused c.in-Twice.first.now c.in-Twice.second.now _ _ _ _ _ a.a _ a.ensures.same a.ensures.rises a.ensures.says c.in_err-b-in-Twice.ensures.stops)
+
 pub returns-in_ok-b-in-Twice-clause-uses : goal.returns-in_ok-b-in-Twice-clause-uses
 returns-in_ok-b-in-Twice-clause-uses g c =
     let a = c.in_ok-a-in-Twice in
     let b = c.in_ok-b-in-Twice in
     let says = subst (λ (t : Texts). FileSays of_renaming t c.in-Twice.second.now b.b) a.ensures.same b.ensures.says in
-    rw c.in-Twice.is (a.a ∷ b.b ∷ [], (a.ensures.says, (says, tt)), ap (λ both. task.Reencode (renamers.Both both)) c.new.ensures)
+    rw c.in-Twice.is (a.a ∷ b.b ∷ [], (a.ensures.says, (says, tt)), ap (λ both. task.Reencode (renamers.Both both)) c.new-in-Twice.ensures)
