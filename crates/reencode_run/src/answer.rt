@@ -134,6 +134,24 @@ impl Answer {
     }
 
     /// The status that the program ends with.
+    ///
+    /// | Status | |
+    /// |---|---|
+    /// | 0 | all output was written, and the input was read to its end, but for `generate` |
+    /// | 1 | memory ran out |
+    /// | 2 | the words are not accepted |
+    /// | 3 | the input could not be read |
+    /// | 4 | the output could not be written |
+    /// | 5 | the bytes have no reading, in any other case than 7, 8 and 9 |
+    /// | 6 | a renaming is strict and has no entry for an index |
+    /// | 7 | the bytes have no reading, for a code section whose size passes their end |
+    /// | 8 | where a core module is to stand, the bytes begin with the header of a component: those of `keep-report`, or of a nested module |
+    /// | 9 | the bytes of a nested component begin with the header of a core module |
+    /// | 10 | a frame of the output is above the ceiling |
+    /// | 11 | a FILE says no renaming |
+    /// | 12 | a FILE could not be fetched |
+    /// | 13 | the input has more than 67,108,864 bytes, or a FILE more than 1,048,576 |
+    /// | 14 | the input is not pairs of hexadecimal digits |
     pub fn status(self) -> u8
         ensures { result ≡ status_of self }
     {

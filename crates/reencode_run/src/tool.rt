@@ -155,26 +155,8 @@ fn tell<D: Sink>(answer: Answer, err: &mut D)
 /// `keep-report` re-encodes the input's bytes as `plain` does, and prints where the function bodies stand
 /// in the input that stay as they are, how many bytes they have and how many the output, and the counts.
 ///
-/// It answers the status that the program ends with, and says on `err` what went wrong. A failure of
-/// `err` ends that text and changes no status.
-///
-/// | Status | |
-/// |---|---|
-/// | 0 | all output was written, and the input was read to its end, but for `generate` |
-/// | 1 | memory ran out |
-/// | 2 | the words are not accepted |
-/// | 3 | the input could not be read |
-/// | 4 | the output could not be written |
-/// | 5 | the bytes have no reading, in any other case than 7, 8 and 9 |
-/// | 6 | a renaming is strict and has no entry for an index |
-/// | 7 | the bytes have no reading, for a code section whose size passes their end |
-/// | 8 | where a core module is to stand, the bytes begin with the header of a component: those of `keep-report`, or of a nested module |
-/// | 9 | the bytes of a nested component begin with the header of a core module |
-/// | 10 | a frame of the output is above the ceiling |
-/// | 11 | a FILE says no renaming |
-/// | 12 | a FILE could not be fetched |
-/// | 13 | the input has more than 67,108,864 bytes, or a FILE more than 1,048,576 |
-/// | 14 | the input is not pairs of hexadecimal digits |
+/// It answers the status that the program ends with, as `Answer::status` tells them, and says on `err` what
+/// went wrong. A failure of `err` ends that text and changes no status.
 ///
 /// The words are tried first, then each FILE, which is fetched and then read, the input, its digits, the
 /// re-encoding and the output. All memory is taken before the first write to `out`.
