@@ -1,7 +1,9 @@
 //! The calls by their names.
 use crate::case::Case;
 use crate::stop::Stop;
-use crate::{components, modules, numbers, pieces, readers, sections, written};
+use crate::{
+    component_rows, components, modules, numbers, pieces, readers, refusing, sections, written,
+};
 use std::alloc::{AllocError, Global};
 
 /// What a reader at a place gives, where there is one of this name.
@@ -22,6 +24,9 @@ fn of_whole(alloc: Global, call: &str, bytes: &[u8]) -> Result<Option<String>, S
 
 /// What a reader gives, where there is one of this name.
 fn of_reader(alloc: Global, case: &Case<'_>, bytes: &[u8]) -> Result<Option<String>, Stop> {
+    if let Some(given) = component_rows::answer(alloc, case, bytes)? {
+        return Ok(Some(given));
+    }
     if let Some(given) = of_place(alloc, case.call, bytes, case.place()?)? {
         return Ok(Some(given));
     }
@@ -32,6 +37,9 @@ fn of_reader(alloc: Global, case: &Case<'_>, bytes: &[u8]) -> Result<Option<Stri
 fn of_bytes(alloc: Global, case: &Case<'_>) -> Result<Option<String>, Stop> {
     let bytes = case.bytes(alloc)?;
     let bytes = bytes.as_slice();
+    if let Some(given) = refusing::answer(alloc, case, bytes)? {
+        return Ok(Some(given));
+    }
     if let Some(given) = modules::answer(alloc, case.call, case.words, bytes)? {
         return Ok(Some(given));
     }

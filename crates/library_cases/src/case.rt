@@ -1,4 +1,6 @@
 //! The lines of the input.
+ghost use Rattle.std.specs.Prelude.{◌≤◌, IfOk};
+
 use crate::stop::Stop;
 use std::alloc::Global;
 use std::str::FromStr;
@@ -40,15 +42,34 @@ impl<'a> Case<'a> {
         }
     }
 
-    /// The place of the word `at=PLACE`, and 0 where there is no word.
-    pub fn place(&self) -> Result<usize, Stop> {
+    /// The number of the one word `KEY=NUMBER`, and 0 where there is no word.
+    fn number_of<T: FromStr>(&self, key: &str) -> Result<T, Stop>
+    where
+        T::Err: Drop,
+    {
         if self.words.is_empty() {
-            return Ok(0);
+            return number("0");
         }
-        match self.words.split_once("at=") {
-            Some(("", place)) => number(place),
+        match self.words.split_once('=') {
+            Some((word, value)) if word == key => number(value),
             _ => Err(Stop::Unread),
         }
+    }
+
+    /// The place of the word `at=PLACE`, and 0 where there is no word.
+    pub fn place(&self) -> Result<usize, Stop> {
+        self.number_of("at")
+    }
+
+    /// The number of the word `depth=SCOPES`, and 0 where there is no word.
+    pub fn depth(&self) -> Result<u32, Stop>
+        ensures { IfOk result (λ depth. depth ≤ 200) }
+    {
+        let depth = self.number_of("depth")?;
+        if depth > 200 {
+            return Err(Stop::Unread);
+        }
+        Ok(depth)
     }
 }
 

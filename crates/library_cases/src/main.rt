@@ -4,12 +4,15 @@
 mod bodies;
 mod calls;
 mod case;
+mod component_rows;
 mod components;
 mod groups;
 mod modules;
 mod numbers;
 mod pieces;
 mod readers;
+mod refusing;
+mod row_text;
 mod sections;
 mod stop;
 mod text;

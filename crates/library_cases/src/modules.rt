@@ -65,10 +65,25 @@ pub struct Way {
     pub renamer: Renamer,
     pub ceiling: u32,
     pub is_counted: bool,
+    /// How many scopes are open round a component.
+    pub depth: u32,
+    /// The number of the call of a hook that is refused.
+    pub refused: Option<u32>,
 }
 
 impl Way {
-    /// Follows a word: `strict`, `counted`, `under=CEILING`, or `SPACE.FROM=TO`.
+    /// Follows a word with a number: `under=CEILING`, `depth=SCOPES`, or `refuse=CALL`.
+    fn follow_number(&mut self, key: &str, value: &str) -> Result<(), Stop> {
+        match key {
+            "under" => self.ceiling = number(value)?,
+            "depth" => self.depth = number(value)?,
+            "refuse" => self.refused = Some(number(value)?),
+            _ => return Err(Stop::Unread),
+        }
+        Ok(())
+    }
+
+    /// Follows a word: `strict`, `counted`, `SPACE.FROM=TO`, or one with a number.
     fn follow(&mut self, word: &str) -> Result<(), Stop> {
         match word {
             "strict" => self.renamer.set_strict(true),
@@ -81,7 +96,7 @@ impl Way {
                     Some((name, from)) => {
                         self.renamer.set(space(name)?, number(from)?, number(to)?)?;
                     }
-                    None => self.ceiling = number(to)?,
+                    None => self.follow_number(key, to)?,
                 }
             }
         }
@@ -95,6 +110,8 @@ pub fn way_of(alloc: Global, words: &str) -> Result<Way, Stop> {
         renamer: Renamer::new(alloc),
         ceiling: u32::MAX,
         is_counted: false,
+        depth: 0,
+        refused: None,
     };
     for word in words.split_whitespace() {
         way.follow(word)?;

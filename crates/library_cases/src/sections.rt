@@ -1,8 +1,9 @@
 //! The frames of a module, and the rows of sections.
 use crate::bodies::add_operators;
 use crate::groups::add_group;
+use crate::row_text::{AddRow, rows_of};
 use crate::stop::Stop;
-use crate::text::{add, add_bytes, add_place, add_refusal, add_word};
+use crate::text::{add, add_bytes, add_refusal, add_word};
 use std::alloc::{AllocError, Global};
 use std::fmt::{Debug, Write};
 use wasm_read::{
@@ -88,12 +89,6 @@ fn items<'a, T: SmallEntry<'a> + Debug + Drop>(
     let mut text = String::new(alloc);
     add_items(&mut text, items)?;
     Ok(Some(text))
-}
-
-/// A row of a section, as text.
-trait AddRow {
-    /// Adds the row.
-    fn add_row(self, alloc: Global, text: &mut String) -> Result<(), AllocError>;
 }
 
 impl AddRow for RecGroup {
@@ -238,24 +233,8 @@ fn rows<'a, K: ReadRow<'a>>(alloc: Global, bytes: &'a [u8]) -> Result<Option<Str
 where
     K::Row: AddRow + Drop,
 {
-    let mut rows: SectionReader<'a, K> = SectionReader::new(bytes)?;
-    let mut text = String::new(alloc);
-    'rows: for _ in 0..u64::MAX {
-        match rows.next_row(alloc) {
-            Ok(Some(row)) => row.add_row(alloc, &mut text)?,
-            Ok(None) => {
-                add_word(&mut text, "end")?;
-                break 'rows;
-            }
-            Err(fault) => {
-                add_refusal(alloc, &mut text, fault)?;
-                break 'rows;
-            }
-        }
-        add_place(&mut text, rows.place())?;
-        add_word(&mut text, "|")?;
-    }
-    Ok(Some(text))
+    let rows: SectionReader<'a, K> = SectionReader::new(bytes)?;
+    rows_of(alloc, rows)
 }
 
 /// What the reader of a section whose rows hold expressions gives.
