@@ -15,7 +15,7 @@ pub struct Case<'a> {
 impl<'a> Case<'a> {
     /// The case of a line `CALL WORDS : INPUT -> WANTED`.
     pub fn of_line(line: &'a str) -> Option<Case<'a>> {
-        let (call, rest) = line.split_once(':')?;
+        let (call, rest) = line.split_once(" :")?;
         let (input, wanted) = rest.split_once("->")?;
         let call = call.trim();
         let (call, words) = call.split_once(' ').unwrap_or((call, ""));
@@ -33,11 +33,7 @@ impl<'a> Case<'a> {
         for part in self.input.split_whitespace() {
             digits.push_str(part)?;
         }
-        match hex::decode(alloc, digits.as_str()) {
-            Ok(bytes) => Ok(bytes),
-            Err(hex::FromHexError::OutOfMemory) => Err(Stop::NoMemory),
-            Err(_) => Err(Stop::Unread),
-        }
+        bytes_of(alloc, digits.as_str())
     }
 
     /// The place of the word `at=PLACE`, and 0 where there is no word.
@@ -49,6 +45,15 @@ impl<'a> Case<'a> {
             Some(("", place)) => number(place),
             _ => Err(Stop::Unread),
         }
+    }
+}
+
+/// The bytes of hexadecimal digits.
+pub fn bytes_of(alloc: Global, digits: &str) -> Result<Vec<u8>, Stop> {
+    match hex::decode(alloc, digits) {
+        Ok(bytes) => Ok(bytes),
+        Err(hex::FromHexError::OutOfMemory) => Err(Stop::NoMemory),
+        Err(_) => Err(Stop::Unread),
     }
 }
 

@@ -1,36 +1,36 @@
 //! Whole components.
-use crate::modules::{Way, add_counts, way_of};
-use crate::stop::{Stop, refusal};
-use crate::text::{add_bytes, add_word};
+use crate::modules::add_made;
+use reencode_component::ReencodeComponent;
 use reencode_component::component_utils::parse_component;
-use std::alloc::Global;
+use reencode_hooks::Error;
+use std::alloc::{AllocError, Global};
+use std::fmt::Display;
 use wasm_write_component::Component;
 
-/// What comes of a component: its bytes, or the refusal.
-fn made(alloc: Global, way: &mut Way, bytes: &[u8]) -> Result<String, Stop> {
-    let mut component = Component::new(alloc, way.ceiling)?;
-    let mut text = String::new(alloc);
-    match parse_component(&mut way.renamer, alloc, &mut component, bytes, 0) {
-        Ok(()) => add_bytes(alloc, &mut text, component.finish().as_slice())?,
-        Err(e) => add_word(&mut text, refusal(alloc, &e)?.as_str())?,
-    }
-    Ok(text)
+/// A component re-encoded.
+fn reencoded<R: ReencodeComponent>(
+    alloc: Global,
+    reencoder: &mut R,
+    bytes: &[u8],
+    ceiling: u32,
+) -> Result<Vec<u8>, Error<R::Error>> {
+    let mut component = Component::new(alloc, ceiling)?;
+    parse_component(reencoder, alloc, &mut component, bytes, 0)?;
+    Ok(component.finish())
 }
 
-/// What comes of a component where it is renamed.
-pub fn answer(
+/// What comes of a component, or the refusal.
+pub fn made<R: ReencodeComponent>(
     alloc: Global,
-    call: &str,
-    words: &str,
+    reencoder: &mut R,
     bytes: &[u8],
-) -> Result<Option<String>, Stop> {
-    if call != "component" {
-        return Ok(None);
-    }
-    let mut way = way_of(alloc, words)?;
-    let mut text = made(alloc, &mut way, bytes)?;
-    if way.is_counted {
-        add_counts(&mut text, &way.renamer)?;
-    }
-    Ok(Some(text))
+    ceiling: u32,
+) -> Result<String, AllocError>
+where
+    R::Error: Display + Drop,
+{
+    let mut text = String::new(alloc);
+    let made = reencoded(alloc, reencoder, bytes, ceiling);
+    add_made(alloc, &mut text, made)?;
+    Ok(text)
 }

@@ -1,6 +1,7 @@
 //! Tries cases: each line of the input is a call of the libraries and what is to come of it.
 #![tactic(auto)]
 
+mod additions;
 mod bodies;
 mod calls;
 mod case;
@@ -10,6 +11,7 @@ mod modules;
 mod numbers;
 mod pieces;
 mod readers;
+mod renamed;
 mod sections;
 mod stop;
 mod text;
