@@ -1,9 +1,7 @@
 //! The calls by their names.
 use crate::case::Case;
 use crate::stop::Stop;
-use crate::{
-    component_rows, components, modules, numbers, pieces, readers, refusing, sections, written,
-};
+use crate::{component_rows, numbers, readers, renamed, sections, written};
 use std::alloc::{AllocError, Global};
 
 /// What a reader at a place gives, where there is one of this name.
@@ -37,16 +35,7 @@ fn of_reader(alloc: Global, case: &Case<'_>, bytes: &[u8]) -> Result<Option<Stri
 fn of_bytes(alloc: Global, case: &Case<'_>) -> Result<Option<String>, Stop> {
     let bytes = case.bytes(alloc)?;
     let bytes = bytes.as_slice();
-    if let Some(given) = refusing::answer(alloc, case, bytes)? {
-        return Ok(Some(given));
-    }
-    if let Some(given) = modules::answer(alloc, case.call, case.words, bytes)? {
-        return Ok(Some(given));
-    }
-    if let Some(given) = pieces::answer(alloc, case.call, case.words, bytes)? {
-        return Ok(Some(given));
-    }
-    if let Some(given) = components::answer(alloc, case.call, case.words, bytes)? {
+    if let Some(given) = renamed::answer(alloc, case.call, case.words, bytes)? {
         return Ok(Some(given));
     }
     of_reader(alloc, case, bytes)

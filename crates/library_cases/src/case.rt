@@ -1,6 +1,4 @@
 //! The lines of the input.
-ghost use Rattle.std.specs.Prelude.{◌≤◌, IfOk};
-
 use crate::stop::Stop;
 use std::alloc::Global;
 use std::str::FromStr;
@@ -17,7 +15,7 @@ pub struct Case<'a> {
 impl<'a> Case<'a> {
     /// The case of a line `CALL WORDS : INPUT -> WANTED`.
     pub fn of_line(line: &'a str) -> Option<Case<'a>> {
-        let (call, rest) = line.split_once(':')?;
+        let (call, rest) = line.split_once(" :")?;
         let (input, wanted) = rest.split_once("->")?;
         let call = call.trim();
         let (call, words) = call.split_once(' ').unwrap_or((call, ""));
@@ -35,11 +33,7 @@ impl<'a> Case<'a> {
         for part in self.input.split_whitespace() {
             digits.push_str(part)?;
         }
-        match hex::decode(alloc, digits.as_str()) {
-            Ok(bytes) => Ok(bytes),
-            Err(hex::FromHexError::OutOfMemory) => Err(Stop::NoMemory),
-            Err(_) => Err(Stop::Unread),
-        }
+        bytes_of(alloc, digits.as_str())
     }
 
     /// The number of the one word `KEY=NUMBER`, and 0 where there is no word.
@@ -62,14 +56,17 @@ impl<'a> Case<'a> {
     }
 
     /// The number of the word `depth=SCOPES`, and 0 where there is no word.
-    pub fn depth(&self) -> Result<u32, Stop>
-        ensures { IfOk result (λ depth. depth ≤ 200) }
-    {
-        let depth = self.number_of("depth")?;
-        if depth > 200 {
-            return Err(Stop::Unread);
-        }
-        Ok(depth)
+    pub fn depth(&self) -> Result<u32, Stop> {
+        self.number_of("depth")
+    }
+}
+
+/// The bytes of hexadecimal digits.
+pub fn bytes_of(alloc: Global, digits: &str) -> Result<Vec<u8>, Stop> {
+    match hex::decode(alloc, digits) {
+        Ok(bytes) => Ok(bytes),
+        Err(hex::FromHexError::OutOfMemory) => Err(Stop::NoMemory),
+        Err(_) => Err(Stop::Unread),
     }
 }
 

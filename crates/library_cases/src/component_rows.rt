@@ -290,7 +290,7 @@ pub fn answer(alloc: Global, case: &Case<'_>, bytes: &[u8]) -> Result<Option<Str
     }
     match case.call {
         "core_types" | "component_types" => {
-            let depth = case.depth()?;
+            let depth = case.depth()?.min(200);
             of_types(alloc, case.call, bytes, depth)
         }
         _ => Ok(None),

@@ -1,6 +1,7 @@
 //! Tries cases: each line of the input is a call of the libraries and what is to come of it.
 #![tactic(auto)]
 
+mod additions;
 mod bodies;
 mod calls;
 mod case;
@@ -12,6 +13,7 @@ mod numbers;
 mod pieces;
 mod readers;
 mod refusing;
+mod renamed;
 mod row_text;
 mod sections;
 mod stop;

@@ -3,11 +3,10 @@ ghost use Rattle.std.specs.Prelude.{◌≡◌, not};
 ghost use Rattle.reencode_hooks.specs.Hooks.{is_of_components};
 ghost use Rattle.library_cases.specs.Refusing.{may_refuse, next_call, refuses_call, refuses_call-given};
 
-use crate::case::Case;
-use crate::components::made;
-use crate::modules::{Way, way_of};
+use crate::modules::Bounds;
+use crate::renamed::{Of, made_of};
 use crate::stop::Stop;
-use crate::text::{add, add_word};
+use crate::text::add_as;
 use reencode_component::{
     AnswerComponentVisits, DefaultComponent, DefaultComponentItems, DefaultComponentRows,
 };
@@ -88,33 +87,19 @@ impl DefaultComponentRows for Refusing {}
 
 impl DefaultComponent for Refusing {}
 
-/// What comes of a binary whose call of one number is refused.
-fn refused(
+/// What comes of it where the call of one number is refused, and how many calls were made.
+pub fn told(
     alloc: Global,
-    case: &Case<'_>,
-    way: &Way,
+    of: Of,
     at: u32,
     bytes: &[u8],
+    bounds: Bounds,
+    is_counted: bool,
 ) -> Result<String, Stop> {
     let mut refusing = Refusing { calls: 0, at };
-    let mut text = made(alloc, &mut refusing, case.call, bytes, way.ceiling, 0)?;
-    if way.is_counted {
-        add_word(&mut text, "after")?;
-        add(&mut text, &refusing.calls)?;
-        add_word(&mut text, "calls")?;
+    let mut text = made_of(alloc, &mut refusing, of, bytes, bounds)?;
+    if is_counted {
+        add_as(&mut text, "calls", &refusing.calls)?;
     }
     Ok(text)
-}
-
-/// What comes of a binary where its words refuse a call.
-pub fn answer(alloc: Global, case: &Case<'_>, bytes: &[u8]) -> Result<Option<String>, Stop> {
-    match case.call {
-        "rename" | "component" | "binary" => {}
-        _ => return Ok(None),
-    }
-    let way = way_of(alloc, case.words)?;
-    match way.refused {
-        Some(at) => Ok(Some(refused(alloc, case, &way, at, bytes)?)),
-        None => Ok(None),
-    }
 }
