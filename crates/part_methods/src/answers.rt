@@ -1,6 +1,8 @@
 //! What an overridden method answers, whatever it was given.
+use crate::noter::{Made, UNASKED};
 use std::alloc::Global;
 use wasm_leb::List;
+use wasm_shapes::END;
 use wasm_write as w;
 
 pub const HEAP: w::HeapType = w::HeapType::Concrete(0);
@@ -88,4 +90,14 @@ pub fn group(alloc: Global) -> w::RecGroup {
         explicit: true,
         types: List::new(alloc),
     }
+}
+
+/// The operator `end`.
+pub fn end<'a>(alloc: Global) -> Made<w::Instruction<'a>> {
+    w::Instruction::new(END, List::new(alloc)).ok_or(UNASKED)
+}
+
+/// A body without locals and operators.
+pub fn body(alloc: Global) -> Made<w::Function> {
+    Ok(w::Function::new(alloc, &List::new(alloc))?)
 }

@@ -1,14 +1,16 @@
-//! A reencoder that notes what it is asked, in three kinds.
+//! A reencoder that notes what it is asked, in two kinds.
 //!
-//! That a method asks another is seen where the first has its default body and the second is overridden. So each method that
-//! asks others has its default body in one kind, and there all that it asks is overridden.
+//! That something asks a method is seen where this method is overridden. So one kind overrides the methods, and the functions
+//! are asked with it. A method that is one text with its function asks what this asks, and needs no default body of its own here,
+//! which is dear to prove; the other kind keeps the defaults of the others, and overrides what they ask.
 ghost use Rattle.std.specs.Prelude.{◌≡◌};
 
+use reencode_component::AnswerComponentVisits;
 use reencode_hooks::{AnswerVisits, Error, utils};
 use std::alloc::Global;
 use std::convert::Infallible;
 use std::fmt::Write;
-use std::marker::Model;
+use std::marker::{Model, PhantomData};
 use wasm_shapes::{Space, Visit};
 
 pub type Made<T> = Result<T, Error<Infallible>>;
@@ -16,12 +18,26 @@ pub type Made<T> = Result<T, Error<Infallible>>;
 /// What a method answers in a kind where nothing asks it.
 pub const UNASKED: Error<Infallible> = Error::UnsupportedCoreTypeInComponent;
 
+/// What becomes of the operator that is read.
+#[derive(Clone, Copy)]
+pub enum Way {
+    /// It is mapped.
+    Maps,
+    /// It becomes `end`.
+    Ends,
+    /// It is mapped, and the operator behind it is passed by.
+    PassesBy,
+    /// It is refused.
+    Refuses,
+}
+
 /// Notes each hook that is asked, and each method that its kind overrides. Hooks answer as the reencoder that changes nothing,
 /// and methods with something of their type.
 #[derive(Drop)]
 pub struct Noter<K> {
     notes: String,
-    pub kind: K,
+    pub way: Way,
+    kind: PhantomData<K>,
 }
 
 // What it noted is no part of what its answers depend on.
@@ -34,10 +50,11 @@ impl<K> Model for Noter<K> {
 }
 
 impl<K> Noter<K> {
-    pub fn new(alloc: Global, kind: K) -> Noter<K> {
+    pub fn new(alloc: Global) -> Noter<K> {
         Noter {
             notes: String::new(alloc),
-            kind,
+            way: Way::Maps,
+            kind: PhantomData,
         }
     }
 
@@ -54,8 +71,12 @@ pub trait Notes {
     fn note(&mut self, word: &str)
         ensures { self.new ≡ self.old };
 
-    /// Begins the line of a call.
-    fn begin(&mut self, call: &str)
+    /// Begins the line of a call, at a case where it has several.
+    fn begin(&mut self, call: &str, case: &str)
+        ensures { self.new ≡ self.old };
+
+    /// Operators are mapped in this way from then on.
+    fn turn(&mut self, way: Way)
         ensures { self.new ≡ self.old };
 }
 
@@ -65,61 +86,21 @@ impl<K> Notes for Noter<K> {
         let _ = self.notes.push_str(word);
     }
 
-    fn begin(&mut self, call: &str) {
+    fn begin(&mut self, call: &str, case: &str) {
         if !self.notes.is_empty() {
             let _ = self.notes.push_str("\n");
         }
         let _ = self.notes.push_str(call);
+        if !case.is_empty() {
+            self.note(case);
+        }
         let _ = self.notes.push_str(":");
     }
+
+    fn turn(&mut self, way: Way) {
+        self.way = way;
+    }
 }
-
-/// Notes a method, and answers as the reencoder that changes nothing.
-macro_rules! noted {
-    ($noter:ident, $method:ident($($arg:expr),*)) => {{
-        $noter.note(stringify!($method));
-        RoundtripReencoder.$method($($arg),*)
-    }};
-}
-
-pub(crate) use noted;
-
-/// Notes a method, and answers with this. It costs a third of what `noted` costs, where the answer goes nowhere.
-macro_rules! answered {
-    ($noter:ident, $method:ident, $answer:expr) => {{
-        $noter.note(stringify!($method));
-        Ok($answer)
-    }};
-}
-
-pub(crate) use answered;
-
-/// The line of a call: what the method asks, and what its function asks. What is mapped is given twice, by parameters: a
-/// function that makes what it hands over costs its check more than twice as much. Two lines in one function cost more than each
-/// in one of its own.
-macro_rules! both {
-    ($noter:ident, $method:ident($($arg:expr),*), ($($again:expr),*)) => {{
-        $noter.begin(stringify!($method));
-        $noter.$method($($arg),*)?;
-        $noter.note("|");
-        utils::$method($noter, $($again),*)?;
-        Ok(())
-    }};
-}
-
-pub(crate) use both;
-
-/// The same, where what is mapped is added to something.
-macro_rules! added {
-    ($noter:ident, $method:ident($($arg:expr),*), ($($again:expr),*)) => {{
-        $noter.begin(stringify!($method));
-        $noter.$method($($arg),*)?;
-        $noter.note("|");
-        utils::$method($noter, $($again),*)
-    }};
-}
-
-pub(crate) use added;
 
 impl<K> AnswerVisits for Noter<K> {
     ghost use Rattle.std.specs.Prelude.{false, Ok};
@@ -139,6 +120,7 @@ impl<K> AnswerVisits for Noter<K> {
         let _ = match visit {
             Visit::Index(Space::DataCount, _) => write!(self.notes, " data_count"),
             Visit::Index(space, _) => write!(self.notes, " {}_index", space.name()),
+            Visit::Outer(space, _, _) => write!(self.notes, " outer_{}_index", space.name()),
             Visit::Section(after, before) => {
                 write!(
                     self.notes,
@@ -146,8 +128,99 @@ impl<K> AnswerVisits for Noter<K> {
                 )
             }
             Visit::Closed(section) => write!(self.notes, " close_section_hook({section:?})"),
-            _ => Ok(()),
+            Visit::Push => write!(self.notes, " push_depth"),
+            Visit::Pop => write!(self.notes, " pop_depth"),
         };
         Ok(utils::index_of(visit))
     }
 }
+
+impl<K> AnswerComponentVisits for Noter<K> {}
+
+/// Notes a method, and answers with this.
+macro_rules! answered {
+    ($noter:ident, $method:ident, $answer:expr) => {{
+        $noter.note(stringify!($method));
+        $answer
+    }};
+}
+
+pub(crate) use answered;
+
+/// Notes a method, and answers as the reencoder that changes nothing, where an answer must fit what was given. It costs three times
+/// as much as `answered`, where the answer goes nowhere.
+macro_rules! noted {
+    ($noter:ident, $method:ident($($arg:expr),*)) => {{
+        $noter.note(stringify!($method));
+        RoundtripReencoder.$method($($arg),*)
+    }};
+}
+
+pub(crate) use noted;
+
+/// The line of a function that maps an item. What is mapped is given by parameters: a function that makes what it hands over
+/// costs its check more than twice as much. Two lines in one function cost more than each in one of its own.
+macro_rules! mapped {
+    ($noter:ident, $method:ident($($arg:expr),*)) => {
+        mapped!($noter, "", $method($($arg),*))
+    };
+    ($noter:ident, $case:expr, $method:ident($($arg:expr),*)) => {{
+        $noter.begin(stringify!($method), $case);
+        utils::$method($noter, $($arg),*)?;
+        Ok(())
+    }};
+}
+
+pub(crate) use mapped;
+
+/// The same of a function that refuses nothing.
+macro_rules! sure {
+    ($noter:ident, $method:ident($arg:expr)) => {
+        sure!($noter, "", $method($arg))
+    };
+    ($noter:ident, $case:expr, $method:ident($arg:expr)) => {{
+        $noter.begin(stringify!($method), $case);
+        let _ = utils::$method($noter, $arg);
+    }};
+}
+
+pub(crate) use sure;
+
+/// The same of a function that adds what it maps to something.
+macro_rules! added {
+    ($noter:ident, $method:ident($($arg:expr),*)) => {
+        added!($noter, "", $method($($arg),*))
+    };
+    ($noter:ident, $case:expr, $method:ident($($arg:expr),*)) => {{
+        $noter.begin(stringify!($method), $case);
+        utils::$method($noter, $($arg),*)
+    }};
+}
+
+pub(crate) use added;
+
+/// The same of a function that no method is one text with.
+macro_rules! alone {
+    ($noter:ident, $method:ident($($arg:expr),*)) => {
+        alone!($noter, "", $method($($arg),*))
+    };
+    ($noter:ident, $case:expr, $method:ident($($arg:expr),*)) => {{
+        $noter.begin(stringify!($method), $case);
+        $noter.note("|");
+        utils::$method($noter, $($arg),*)
+    }};
+}
+
+pub(crate) use alone;
+
+/// The line of a method and of its function, which add what they map to something, and are two texts.
+macro_rules! both {
+    ($noter:ident, $method:ident($($arg:expr),*), ($($again:expr),*)) => {{
+        $noter.begin(stringify!($method), "");
+        $noter.$method($($arg),*)?;
+        $noter.note("|");
+        utils::$method($noter, $($again),*)
+    }};
+}
+
+pub(crate) use both;

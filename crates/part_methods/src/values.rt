@@ -10,6 +10,42 @@ use wasm_read as r;
 use wasm_read::SectionReader;
 use wasm_shapes::{CALL, Space};
 
+/// Two types of functions.
+pub const TYPES: [u8; 7] = [0x02, 0x60, 0x00, 0x00, 0x60, 0x00, 0x00];
+
+/// The function `a.b` of type 0.
+pub const IMPORTS: [u8; 7] = [0x01, 0x01, 0x61, 0x01, 0x62, 0x00, 0x00];
+
+/// A function of type 0.
+pub const FUNCTIONS: [u8; 2] = [0x01, 0x00];
+
+/// A table of functions, of length 0.
+pub const TABLES: [u8; 4] = [0x01, 0x70, 0x00, 0x00];
+
+/// A memory of length 0.
+pub const MEMORIES: [u8; 3] = [0x01, 0x00, 0x00];
+
+/// A global with the value of an expression.
+pub const GLOBALS: [u8; 6] = [0x01, 0x7f, 0x00, 0x41, 0x00, 0x0b];
+
+/// The index of a function, or a count.
+pub const ITEM: [u8; 1] = [0x00];
+
+/// The function 0 at an offset in a table that is left out.
+pub const ELEMENTS: [u8; 7] = [0x01, 0x00, 0x41, 0x00, 0x0b, 0x01, 0x00];
+
+/// No bytes at an offset in a memory.
+pub const SEGMENTS: [u8; 6] = [0x01, 0x00, 0x41, 0x00, 0x0b, 0x00];
+
+/// A tag of type 0.
+pub const TAGS: [u8; 3] = [0x01, 0x00, 0x00];
+
+/// The function 0 as `a`.
+pub const EXPORTS: [u8; 5] = [0x01, 0x01, 0x61, 0x00, 0x00];
+
+/// A body without locals or operators but `end`.
+pub const CODE: [u8; 4] = [0x01, 0x02, 0x00, 0x0b];
+
 pub const INDEX: r::UnpackedIndex = r::UnpackedIndex::Module(0);
 
 pub const HEAP: r::HeapType = r::HeapType::Abstract {

@@ -1,9 +1,9 @@
-//! What the methods of items ask, and those that ask hooks alone.
+//! What the functions of items of components ask, and those that ask hooks alone.
 ghost use Rattle.std.specs.Prelude.{◌≤◌};
 
-use crate::noter::{Notes, both, sure};
-use crate::values as v;
-use reencode_component::{ReencodeComponent, ReencodeComponentItems, component_utils};
+use crate::component_values as v;
+use crate::noter::{Notes, added, mapped, sure};
+use reencode_component::{ReencodeComponentItems, component_utils as utils};
 use reencode_hooks::Error;
 use std::alloc::Global;
 use wasm_read::ExternalKind;
@@ -83,16 +83,6 @@ const ALIASES: [(&str, r::ComponentAlias<'_>); 6] = [
     ),
 ];
 
-/// Sorts of what a component holds.
-const SORTS: [(&str, r::ComponentExternalKind); 6] = [
-    ("module", r::ComponentExternalKind::Module),
-    ("func", r::ComponentExternalKind::Func),
-    ("value", r::ComponentExternalKind::Value),
-    ("type", r::ComponentExternalKind::Type_),
-    ("instance", r::ComponentExternalKind::Instance),
-    ("component", r::ComponentExternalKind::Component),
-];
-
 /// What a type may be.
 const BOUNDS: [(&str, r::TypeBounds); 2] = [
     ("eq", r::TypeBounds::Eq(0)),
@@ -139,7 +129,7 @@ fn reference<N: ReencodeComponentItems + Notes>(
     case: &str,
     ty: r::ComponentTypeRef,
 ) -> Result<(), Error<N::Error>> {
-    both!(of, case, component_type_ref(ty), (ty))
+    mapped!(of, case, component_type_ref(ty))
 }
 
 /// An alias.
@@ -148,7 +138,7 @@ fn alias<N: ReencodeComponentItems + Notes>(
     case: &str,
     alias: r::ComponentAlias<'_>,
 ) -> Result<(), Error<N::Error>> {
-    both!(of, case, component_alias(alias), (alias))
+    mapped!(of, case, component_alias(alias))
 }
 
 /// Types of what is imported or exported.
@@ -167,31 +157,12 @@ pub fn aliases<N: ReencodeComponentItems + Notes>(of: &mut N) -> Result<(), Erro
     Ok(())
 }
 
-/// An index by its sort, by the method alone.
-fn index<N: ReencodeComponentItems + Notes>(
-    of: &mut N,
-    case: &str,
-    kind: r::ComponentExternalKind,
-) {
-    of.begin("component_external_index", case);
-    let _ = of.component_external_index(kind, 0);
-}
-
 /// Kinds.
 fn kinds<N: ReencodeComponentItems + Notes>(of: &mut N) {
+    sure!(of, component_primitive_val_type(r::PrimitiveValType::Bool));
+    sure!(of, component_export_kind(r::ComponentExternalKind::Func));
     sure!(
         of,
-        "",
-        component_primitive_val_type(r::PrimitiveValType::Bool)
-    );
-    sure!(
-        of,
-        "",
-        component_export_kind(r::ComponentExternalKind::Func)
-    );
-    sure!(
-        of,
-        "",
         component_outer_alias_kind(r::ComponentOuterAliasKind::Type_)
     );
 }
@@ -202,14 +173,13 @@ fn option<N: ReencodeComponentItems + Notes>(
     case: &str,
     ty: r::CanonicalOption,
 ) -> Result<(), Error<N::Error>> {
-    both!(of, case, canonical_option(ty), (ty))
+    mapped!(of, case, canonical_option(ty))
 }
 
-/// Indices, kinds, and what asks hooks.
-pub fn indices<N: ReencodeComponentItems + Notes>(of: &mut N) -> Result<(), Error<N::Error>> {
-    for (case, kind) in SORTS {
-        index(of, case, kind);
-    }
+/// Kinds, and what asks hooks.
+pub fn kinds_and_options<N: ReencodeComponentItems + Notes>(
+    of: &mut N,
+) -> Result<(), Error<N::Error>> {
     kinds(of);
     for (case, ty) in OPTIONS {
         option(of, case, ty)?;
@@ -217,24 +187,18 @@ pub fn indices<N: ReencodeComponentItems + Notes>(of: &mut N) -> Result<(), Erro
     Ok(())
 }
 
-/// The start of a component, which is given twice.
-fn start<N: ReencodeComponent + Notes>(
+/// The start of a component.
+fn start<N: ReencodeComponentItems + Notes>(
     of: &mut N,
     alloc: Global,
     func: r::ComponentStartFunction,
-    again: r::ComponentStartFunction,
     sink: &mut w::Component,
 ) -> Result<(), Error<N::Error>> {
-    both!(
-        of,
-        "",
-        parse_component_start_section(alloc, sink, func),
-        (alloc, sink, again)
-    )
+    added!(of, parse_component_start_section(alloc, sink, func))
 }
 
 /// A section of an id that no table knows.
-fn unknown<N: ReencodeComponent + Notes>(
+fn unknown<N: ReencodeComponentItems + Notes>(
     of: &mut N,
     id: u8,
     contents: &[u8],
@@ -242,29 +206,18 @@ fn unknown<N: ReencodeComponent + Notes>(
 ) -> Result<(), Error<N::Error>>
     requires { id ≤ 127 }
 {
-    both!(
-        of,
-        "",
-        parse_unknown_component_section(sink, id, contents),
-        (sink, id, contents)
-    )
+    added!(of, parse_unknown_component_section(sink, id, contents))
 }
 
 /// The start of function 0 with two values.
 const START: [u8; 5] = [0x00, 0x02, 0x00, 0x00, 0x00];
 
 /// Sections that are added whole.
-pub fn whole_sections<N: ReencodeComponent + Notes>(
+pub fn whole_sections<N: ReencodeComponentItems + Notes>(
     of: &mut N,
     alloc: Global,
 ) -> Result<(), Error<N::Error>> {
     let mut made = w::Component::new(alloc, u32::MAX)?;
-    start(
-        of,
-        alloc,
-        v::start(alloc, &START)?,
-        v::start(alloc, &START)?,
-        &mut made,
-    )?;
+    start(of, alloc, v::start(alloc, &START)?, &mut made)?;
     unknown(of, 12, &[], &mut made)
 }

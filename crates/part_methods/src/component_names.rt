@@ -1,6 +1,6 @@
-//! What custom sections and names of components ask.
-use crate::noter::{Notes, both};
-use reencode_component::{ReencodeComponent, component_utils};
+//! What the functions of custom sections and names of components ask.
+use crate::noter::{Notes, added, mapped};
+use reencode_component::{ReencodeComponent, ReencodeComponentItems, component_utils as utils};
 use reencode_hooks::Error;
 use std::alloc::Global;
 use wasm_read::{CustomSection, NameMap};
@@ -15,51 +15,41 @@ const NAMES: [u8; 11] = [
 /// Function 0 as `f`.
 const MAP: [u8; 4] = [0x01, 0x00, 0x01, 0x66];
 
-/// A custom section, which is given twice.
+/// A custom section.
 fn custom<N: ReencodeComponent + Notes>(
     of: &mut N,
     case: &str,
     alloc: Global,
     component: &mut w::Component,
     section: CustomSection<'_>,
-    again: CustomSection<'_>,
 ) -> Result<(), Error<N::Error>> {
-    both!(
+    added!(
         of,
         case,
-        parse_component_custom_section(alloc, component, section),
-        (alloc, component, again)
+        parse_component_custom_section(alloc, component, section)
     )
 }
 
-/// Names of a component, which are given twice.
+/// Names of a component.
 fn names<N: ReencodeComponent + Notes>(
     of: &mut N,
     alloc: Global,
     rows: r::ComponentNameSectionReader<'_>,
-    again: r::ComponentNameSectionReader<'_>,
 ) -> Result<(), Error<N::Error>> {
-    both!(
-        of,
-        "",
-        custom_component_name_section(alloc, rows, u32::MAX),
-        (alloc, again, u32::MAX)
-    )
+    mapped!(of, custom_component_name_section(alloc, rows, u32::MAX))
 }
 
-/// Names of functions, which are given twice.
-fn functions<N: ReencodeComponent + Notes>(
+/// Names of functions.
+fn functions<N: ReencodeComponentItems + Notes>(
     of: &mut N,
     alloc: Global,
     names: &mut w::ComponentNameSection,
     map: NameMap<'_>,
-    again: NameMap<'_>,
 ) -> Result<(), Error<N::Error>> {
-    both!(
+    added!(
         of,
         "of functions",
-        parse_custom_component_name_subsection(alloc, names, r::ComponentName::Funcs(map)),
-        (alloc, names, r::ComponentName::Funcs(again))
+        parse_custom_component_name_subsection(alloc, names, r::ComponentName::Funcs(map))
     )
 }
 
@@ -73,12 +63,12 @@ pub fn custom_sections<N: ReencodeComponent + Notes>(
         name: "component-name",
         contents: &NAMES,
     };
-    custom(of, "of names", alloc, &mut made, named, named)?;
+    custom(of, "of names", alloc, &mut made, named)?;
     let other = CustomSection {
         name: "name",
         contents: &NAMES,
     };
-    custom(of, "of another name", alloc, &mut made, other, other)
+    custom(of, "of another name", alloc, &mut made, other)
 }
 
 /// Sections of names.
@@ -86,16 +76,14 @@ pub fn name_sections<N: ReencodeComponent + Notes>(
     of: &mut N,
     alloc: Global,
 ) -> Result<(), Error<N::Error>> {
-    let rows = r::ComponentNameSectionReader::new(&NAMES)?;
-    let again = r::ComponentNameSectionReader::new(&NAMES)?;
-    names(of, alloc, rows, again)
+    names(of, alloc, r::ComponentNameSectionReader::new(&NAMES)?)
 }
 
 /// Names by their sorts.
-pub fn sorts<N: ReencodeComponent + Notes>(
+pub fn sorts<N: ReencodeComponentItems + Notes>(
     of: &mut N,
     alloc: Global,
 ) -> Result<(), Error<N::Error>> {
     let mut made = w::ComponentNameSection::new(alloc, u32::MAX);
-    functions(of, alloc, &mut made, NameMap::new(&MAP), NameMap::new(&MAP))
+    functions(of, alloc, &mut made, NameMap::new(&MAP))
 }

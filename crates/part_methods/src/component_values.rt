@@ -1,4 +1,4 @@
-//! The values that are mapped, each from the bytes that spell it.
+//! The values of components that are mapped, each from the bytes that spell it.
 use reencode_hooks::Error;
 use std::alloc::Global;
 use wasm_leb::Fault;
@@ -8,11 +8,6 @@ use wasm_read_component as r;
 /// Why a table has no line: its bytes hold no row.
 fn missing<E>() -> Error<E> {
     Error::UnsupportedCoreTypeInComponent
-}
-
-/// The rows of a section's body.
-pub fn rows<'a, K>(body: &'a [u8]) -> Result<SectionReader<'a, K>, Fault> {
-    SectionReader::new(body)
 }
 
 /// The rows of a section's body in which scopes may be opened.

@@ -1,7 +1,7 @@
-//! What rows and types ask.
-use crate::noter::{Notes, both};
-use crate::values as v;
-use reencode_component::{ReencodeComponent, component_utils};
+//! What the functions of rows of components and of types ask.
+use crate::component_values as v;
+use crate::noter::{Notes, added, mapped};
+use reencode_component::{ReencodeComponentItems, ReencodeComponentRows, component_utils as utils};
 use reencode_hooks::Error;
 use std::alloc::Global;
 use wasm_read_component as r;
@@ -170,68 +170,50 @@ const DECLARATIONS: [(&str, &[u8]); 4] = [
 ];
 
 /// An export.
-fn export<N: ReencodeComponent + Notes>(
+fn export<N: ReencodeComponentItems + Notes>(
     of: &mut N,
     case: &str,
     row: r::ComponentExport<'_>,
     sink: &mut w::ComponentExportSection,
 ) -> Result<(), Error<N::Error>> {
-    both!(of, case, parse_component_export(sink, row), (sink, row))
+    added!(of, case, parse_component_export(sink, row))
 }
 
-/// An instance, which is given twice.
-fn component_instance<N: ReencodeComponent + Notes>(
+/// An instance.
+fn component_instance<N: ReencodeComponentItems + Notes>(
     of: &mut N,
     case: &str,
     alloc: Global,
     row: r::ComponentInstance<'_>,
-    again: r::ComponentInstance<'_>,
     sink: &mut w::ComponentInstanceSection,
 ) -> Result<(), Error<N::Error>> {
-    both!(
-        of,
-        case,
-        parse_component_instance(alloc, sink, row),
-        (alloc, sink, again)
-    )
+    added!(of, case, parse_component_instance(alloc, sink, row))
 }
 
-/// A core instance, which is given twice.
-fn instance<N: ReencodeComponent + Notes>(
+/// A core instance.
+fn instance<N: ReencodeComponentItems + Notes>(
     of: &mut N,
     case: &str,
     alloc: Global,
     row: r::Instance<'_>,
-    again: r::Instance<'_>,
     sink: &mut w::InstanceSection,
 ) -> Result<(), Error<N::Error>> {
-    both!(
-        of,
-        case,
-        parse_instance(alloc, sink, row),
-        (alloc, sink, again)
-    )
+    added!(of, case, parse_instance(alloc, sink, row))
 }
 
-/// A canonical function, which is given twice.
-fn canonical_function<N: ReencodeComponent + Notes>(
+/// A canonical function.
+fn canonical_function<N: ReencodeComponentItems + Notes>(
     of: &mut N,
     case: &str,
     alloc: Global,
     row: r::CanonicalFunction,
-    again: r::CanonicalFunction,
     sink: &mut w::CanonicalFunctionSection,
 ) -> Result<(), Error<N::Error>> {
-    both!(
-        of,
-        case,
-        parse_component_canonical(alloc, sink, row),
-        (alloc, sink, again)
-    )
+    added!(of, case, parse_component_canonical(alloc, sink, row))
 }
 
 /// Rows of sections.
-pub fn rows<N: ReencodeComponent + Notes>(
+pub fn rows<N: ReencodeComponentItems + Notes>(
     of: &mut N,
     alloc: Global,
 ) -> Result<(), Error<N::Error>> {
@@ -244,7 +226,6 @@ pub fn rows<N: ReencodeComponent + Notes>(
             case,
             alloc,
             v::row(alloc, r::ComponentInstanceSectionReader::new(body)?)?,
-            v::row(alloc, r::ComponentInstanceSectionReader::new(body)?)?,
             &mut RowSection::new(alloc),
         )?;
     }
@@ -254,7 +235,6 @@ pub fn rows<N: ReencodeComponent + Notes>(
             case,
             alloc,
             v::row(alloc, r::InstanceSectionReader::new(body)?)?,
-            v::row(alloc, r::InstanceSectionReader::new(body)?)?,
             &mut RowSection::new(alloc),
         )?;
     }
@@ -262,7 +242,7 @@ pub fn rows<N: ReencodeComponent + Notes>(
 }
 
 /// Canonical functions.
-pub fn canonical_functions<N: ReencodeComponent + Notes>(
+pub fn canonical_functions<N: ReencodeComponentItems + Notes>(
     of: &mut N,
     alloc: Global,
 ) -> Result<(), Error<N::Error>> {
@@ -272,124 +252,84 @@ pub fn canonical_functions<N: ReencodeComponent + Notes>(
             case,
             alloc,
             v::row(alloc, r::ComponentCanonicalSectionReader::new(body)?)?,
-            v::row(alloc, r::ComponentCanonicalSectionReader::new(body)?)?,
             &mut RowSection::new(alloc),
         )?;
     }
     Ok(())
 }
 
-/// A function type, which is given twice.
-fn function<N: ReencodeComponent + Notes>(
+/// A function type.
+fn function<N: ReencodeComponentItems + Notes>(
     of: &mut N,
     case: &str,
     alloc: Global,
     ty: r::ComponentFuncType<'_>,
-    again: r::ComponentFuncType<'_>,
 ) -> Result<(), Error<N::Error>> {
-    both!(
-        of,
-        case,
-        parse_component_func_type(alloc, ty),
-        (alloc, again)
-    )
+    mapped!(of, case, parse_component_func_type(alloc, ty))
 }
 
-/// A type of values, which is given twice.
-fn defined<N: ReencodeComponent + Notes>(
+/// A type of values.
+fn defined<N: ReencodeComponentItems + Notes>(
     of: &mut N,
     case: &str,
     alloc: Global,
     ty: r::ComponentDefinedType<'_>,
-    again: r::ComponentDefinedType<'_>,
 ) -> Result<(), Error<N::Error>> {
-    both!(
-        of,
-        case,
-        parse_component_defined_type(alloc, ty),
-        (alloc, again)
-    )
+    mapped!(of, case, parse_component_defined_type(alloc, ty))
 }
 
-/// A core type, which is given twice.
-fn core_type<N: ReencodeComponent + Notes>(
+/// A core type.
+fn core_type<N: ReencodeComponentRows + Notes>(
     of: &mut N,
     case: &str,
     alloc: Global,
     ty: r::CoreType<'_>,
-    again: r::CoreType<'_>,
 ) -> Result<(), Error<N::Error>> {
-    both!(
-        of,
-        case,
-        parse_component_core_type(alloc, ty),
-        (alloc, again)
-    )
+    mapped!(of, case, parse_component_core_type(alloc, ty))
 }
 
-/// What a module type declares, which is given twice.
-fn module_declaration<N: ReencodeComponent + Notes>(
+/// What a module type declares.
+fn module_declaration<N: ReencodeComponentRows + Notes>(
     of: &mut N,
     case: &str,
     alloc: Global,
     row: r::ModuleTypeDeclaration<'_>,
-    again: r::ModuleTypeDeclaration<'_>,
     sink: &mut w::ModuleType,
 ) -> Result<(), Error<N::Error>> {
-    both!(
+    added!(
         of,
         case,
-        parse_component_module_type_declaration(alloc, sink, row),
-        (alloc, sink, again)
+        parse_component_module_type_declaration(alloc, sink, row)
     )
 }
 
 /// Types of functions and of values.
-pub fn types<N: ReencodeComponent + Notes>(
+pub fn types<N: ReencodeComponentItems + Notes>(
     of: &mut N,
     alloc: Global,
 ) -> Result<(), Error<N::Error>> {
     for (case, body) in FUNCTIONS {
-        function(
-            of,
-            case,
-            alloc,
-            v::function(alloc, body)?,
-            v::function(alloc, body)?,
-        )?;
+        function(of, case, alloc, v::function(alloc, body)?)?;
     }
     for (case, body) in DEFINED {
-        defined(
-            of,
-            case,
-            alloc,
-            v::defined(alloc, body)?,
-            v::defined(alloc, body)?,
-        )?;
+        defined(of, case, alloc, v::defined(alloc, body)?)?;
     }
     Ok(())
 }
 
 /// Core types, and what module types declare.
-pub fn core_types<N: ReencodeComponent + Notes>(
+pub fn core_types<N: ReencodeComponentRows + Notes>(
     of: &mut N,
     alloc: Global,
 ) -> Result<(), Error<N::Error>> {
     for (case, body) in CORE_TYPES {
-        core_type(
-            of,
-            case,
-            alloc,
-            v::core_type(alloc, body)?,
-            v::core_type(alloc, body)?,
-        )?;
+        core_type(of, case, alloc, v::core_type(alloc, body)?)?;
     }
     for (case, body) in DECLARATIONS {
         module_declaration(
             of,
             case,
             alloc,
-            v::row(alloc, r::ModuleDeclarations::new(body)?)?,
             v::row(alloc, r::ModuleDeclarations::new(body)?)?,
             &mut RowSection::new(alloc),
         )?;

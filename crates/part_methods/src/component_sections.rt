@@ -1,7 +1,10 @@
-//! What components, sections and module types ask.
-use crate::noter::{Notes, both};
-use crate::values as v;
-use reencode_component::{ReencodeComponent, component_utils};
+//! What the functions of components, of their sections and of module types ask.
+use crate::component_values as v;
+use crate::noter::{Notes, added, alone, mapped};
+use crate::values::rows;
+use reencode_component::{
+    ReencodeComponent, ReencodeComponentItems, ReencodeComponentRows, component_utils as utils,
+};
 use reencode_hooks::Error;
 use std::alloc::Global;
 use wasm_read::CustomSection;
@@ -171,9 +174,7 @@ fn component<N: ReencodeComponent + Notes>(
     component: &mut w::Component,
     bytes: &[u8],
 ) -> Result<(), Error<N::Error>> {
-    of.begin("parse_component", "");
-    of.note("|");
-    component_utils::parse_component(of, alloc, component, bytes, 0)
+    alone!(of, parse_component(alloc, component, bytes, 0))
 }
 
 /// A section, by its function alone.
@@ -184,9 +185,11 @@ fn payload<N: ReencodeComponent + Notes>(
     component: &mut w::Component,
     payload: ComponentPayload<'_>,
 ) -> Result<(), Error<N::Error>> {
-    of.begin("parse_component_payload", case);
-    of.note("|");
-    component_utils::parse_component_payload(of, alloc, component, payload, 0)
+    alone!(
+        of,
+        case,
+        parse_component_payload(alloc, component, payload, 0)
+    )
 }
 
 /// Components, and what they hold.
@@ -203,175 +206,106 @@ pub fn components<N: ReencodeComponent + Notes>(
 }
 
 /// A section of imports.
-fn imports<N: ReencodeComponent + Notes>(
+fn imports<N: ReencodeComponentItems + Notes>(
     of: &mut N,
     alloc: Global,
     rows: r::ComponentImportSectionReader<'_>,
-    again: r::ComponentImportSectionReader<'_>,
     sink: &mut w::ComponentImportSection,
 ) -> Result<(), Error<N::Error>> {
-    both!(
-        of,
-        "",
-        parse_component_import_section(alloc, sink, rows),
-        (alloc, sink, again)
-    )
+    added!(of, parse_component_import_section(alloc, sink, rows))
 }
 
 /// A section of aliases.
-fn aliases<N: ReencodeComponent + Notes>(
+fn aliases<N: ReencodeComponentItems + Notes>(
     of: &mut N,
     alloc: Global,
     rows: r::ComponentAliasSectionReader<'_>,
-    again: r::ComponentAliasSectionReader<'_>,
     sink: &mut w::ComponentAliasSection,
 ) -> Result<(), Error<N::Error>> {
-    both!(
-        of,
-        "",
-        parse_component_alias_section(alloc, sink, rows),
-        (alloc, sink, again)
-    )
+    added!(of, parse_component_alias_section(alloc, sink, rows))
 }
 
 /// A section of exports.
-fn exports<N: ReencodeComponent + Notes>(
+fn exports<N: ReencodeComponentRows + Notes>(
     of: &mut N,
     alloc: Global,
     rows: r::ComponentExportSectionReader<'_>,
-    again: r::ComponentExportSectionReader<'_>,
     sink: &mut w::ComponentExportSection,
 ) -> Result<(), Error<N::Error>> {
-    both!(
-        of,
-        "",
-        parse_component_export_section(alloc, sink, rows),
-        (alloc, sink, again)
-    )
+    added!(of, parse_component_export_section(alloc, sink, rows))
 }
 
 /// A section of canonical functions.
-fn canonical_functions<N: ReencodeComponent + Notes>(
+fn canonical_functions<N: ReencodeComponentRows + Notes>(
     of: &mut N,
     alloc: Global,
     rows: r::ComponentCanonicalSectionReader<'_>,
-    again: r::ComponentCanonicalSectionReader<'_>,
     sink: &mut w::CanonicalFunctionSection,
 ) -> Result<(), Error<N::Error>> {
-    both!(
-        of,
-        "",
-        parse_component_canonical_section(alloc, sink, rows),
-        (alloc, sink, again)
-    )
+    added!(of, parse_component_canonical_section(alloc, sink, rows))
 }
 
 /// A section of instances.
-fn component_instances<N: ReencodeComponent + Notes>(
+fn component_instances<N: ReencodeComponentRows + Notes>(
     of: &mut N,
     alloc: Global,
     rows: r::ComponentInstanceSectionReader<'_>,
-    again: r::ComponentInstanceSectionReader<'_>,
     sink: &mut w::ComponentInstanceSection,
 ) -> Result<(), Error<N::Error>> {
-    both!(
-        of,
-        "",
-        parse_component_instance_section(alloc, sink, rows),
-        (alloc, sink, again)
-    )
+    added!(of, parse_component_instance_section(alloc, sink, rows))
 }
 
 /// A section of core instances.
-fn instances<N: ReencodeComponent + Notes>(
+fn instances<N: ReencodeComponentRows + Notes>(
     of: &mut N,
     alloc: Global,
     rows: r::InstanceSectionReader<'_>,
-    again: r::InstanceSectionReader<'_>,
     sink: &mut w::InstanceSection,
 ) -> Result<(), Error<N::Error>> {
-    both!(
-        of,
-        "",
-        parse_instance_section(alloc, sink, rows),
-        (alloc, sink, again)
-    )
+    added!(of, parse_instance_section(alloc, sink, rows))
 }
 
 /// A section of core types.
-fn core_types<N: ReencodeComponent + Notes>(
+fn core_types<N: ReencodeComponentRows + Notes>(
     of: &mut N,
     alloc: Global,
     rows: r::CoreTypeSectionReader<'_>,
-    again: r::CoreTypeSectionReader<'_>,
     sink: &mut w::CoreTypeSection,
 ) -> Result<(), Error<N::Error>> {
-    both!(
-        of,
-        "",
-        parse_core_type_section(alloc, sink, rows),
-        (alloc, sink, again)
-    )
+    added!(of, parse_core_type_section(alloc, sink, rows))
 }
 
 /// Sections whose rows hold no lists.
-pub fn sections<N: ReencodeComponent + Notes>(
+pub fn sections<N: ReencodeComponentRows + Notes>(
     of: &mut N,
     alloc: Global,
 ) -> Result<(), Error<N::Error>> {
-    imports(
-        of,
-        alloc,
-        v::rows(&IMPORTS)?,
-        v::rows(&IMPORTS)?,
-        &mut RowSection::new(alloc),
-    )?;
-    aliases(
-        of,
-        alloc,
-        v::rows(&ALIASES)?,
-        v::rows(&ALIASES)?,
-        &mut RowSection::new(alloc),
-    )?;
-    exports(
-        of,
-        alloc,
-        v::rows(&EXPORTS)?,
-        v::rows(&EXPORTS)?,
-        &mut RowSection::new(alloc),
-    )
+    imports(of, alloc, rows(&IMPORTS)?, &mut RowSection::new(alloc))?;
+    aliases(of, alloc, rows(&ALIASES)?, &mut RowSection::new(alloc))?;
+    exports(of, alloc, rows(&EXPORTS)?, &mut RowSection::new(alloc))
 }
 
 /// Sections whose rows hold lists.
-pub fn more_sections<N: ReencodeComponent + Notes>(
+pub fn more_sections<N: ReencodeComponentRows + Notes>(
     of: &mut N,
     alloc: Global,
 ) -> Result<(), Error<N::Error>> {
     canonical_functions(
         of,
         alloc,
-        v::rows(&CANONICAL_FUNCTIONS)?,
-        v::rows(&CANONICAL_FUNCTIONS)?,
+        rows(&CANONICAL_FUNCTIONS)?,
         &mut RowSection::new(alloc),
     )?;
     component_instances(
         of,
         alloc,
-        v::rows(&COMPONENT_INSTANCES)?,
-        v::rows(&COMPONENT_INSTANCES)?,
+        rows(&COMPONENT_INSTANCES)?,
         &mut RowSection::new(alloc),
     )?;
-    instances(
-        of,
-        alloc,
-        v::rows(&INSTANCES)?,
-        v::rows(&INSTANCES)?,
-        &mut RowSection::new(alloc),
-    )?;
+    instances(of, alloc, rows(&INSTANCES)?, &mut RowSection::new(alloc))?;
     core_types(
         of,
         alloc,
-        v::types(&CORE_TYPES)?,
         v::types(&CORE_TYPES)?,
         &mut RowSection::new(alloc),
     )
@@ -384,24 +318,16 @@ fn types<N: ReencodeComponent + Notes>(
     rows: r::ComponentTypeSectionReader<'_>,
     sink: &mut w::ComponentTypeSection,
 ) -> Result<(), Error<N::Error>> {
-    of.begin("parse_component_type_section", "");
-    of.note("|");
-    component_utils::parse_component_type_section(of, alloc, sink, rows)
+    alone!(of, parse_component_type_section(alloc, sink, rows))
 }
 
 /// A module type.
-fn module_type<N: ReencodeComponent + Notes>(
+fn module_type<N: ReencodeComponentRows + Notes>(
     of: &mut N,
     alloc: Global,
     declarations: r::ModuleDeclarations<'_>,
-    again: r::ModuleDeclarations<'_>,
 ) -> Result<(), Error<N::Error>> {
-    both!(
-        of,
-        "",
-        component_module_type(alloc, declarations),
-        (alloc, again)
-    )
+    mapped!(of, component_module_type(alloc, declarations))
 }
 
 /// Module types, and types of all sorts.
@@ -415,5 +341,5 @@ pub fn scopes<N: ReencodeComponent + Notes>(
         v::component_types(&TYPES)?,
         &mut RowSection::new(alloc),
     )?;
-    module_type(of, alloc, v::rows(&DECLARATIONS)?, v::rows(&DECLARATIONS)?)
+    module_type(of, alloc, rows(&DECLARATIONS)?)
 }
