@@ -77,6 +77,10 @@ fn add_items<'a, T: SmallEntry<'a> + Debug + Drop>(
             None => break 'items,
         }
     }
+    if let Some(item) = items.next() {
+        add_word(text, "and then")?;
+        add(text, &item)?;
+    }
     Ok(())
 }
 
@@ -233,27 +237,72 @@ impl<'a> AddRow for Data<'a> {
     }
 }
 
-/// The rows of a section with the place after each, up to the end or the first refusal.
+/// Adds the next row with the place after it, or `end`, or the refusal. It answers whether there is a row.
+fn add_next<'a, K: ReadRow<'a>>(
+    alloc: Global,
+    text: &mut String,
+    rows: &mut SectionReader<'a, K>,
+) -> Result<bool, AllocError>
+where
+    K::Row: AddRow + Drop,
+{
+    match rows.next_row(alloc) {
+        Ok(Some(row)) => row.add_row(alloc, text)?,
+        Ok(None) => {
+            add_word(text, "end")?;
+            return Ok(false);
+        }
+        Err(fault) => {
+            add_refusal(alloc, text, fault)?;
+            return Ok(false);
+        }
+    }
+    add_place(text, rows.place())?;
+    add_word(text, "|")?;
+    Ok(true)
+}
+
+/// Adds what comes behind the last, where it is asked again, if that is not the same.
+fn add_again<'a, K: ReadRow<'a>>(
+    alloc: Global,
+    text: &mut String,
+    rows: &mut SectionReader<'a, K>,
+    last: &str,
+) -> Result<(), AllocError>
+where
+    K::Row: AddRow + Drop,
+{
+    let mut again = String::new(alloc);
+    add_next(alloc, &mut again, rows)?;
+    if again.as_str() == last {
+        return Ok(());
+    }
+    add_word(text, "and then")?;
+    add_word(text, again.as_str())
+}
+
+/// The rows of a section with the place after each, up to the end or the first refusal. It says also how many the body counts, if
+/// these are not as many before the end.
 fn rows<'a, K: ReadRow<'a>>(alloc: Global, bytes: &'a [u8]) -> Result<Option<String>, Stop>
 where
     K::Row: AddRow + Drop,
 {
     let mut rows: SectionReader<'a, K> = SectionReader::new(bytes)?;
     let mut text = String::new(alloc);
+    let mut given = 0u32;
     'rows: for _ in 0..u64::MAX {
-        match rows.next_row(alloc) {
-            Ok(Some(row)) => row.add_row(alloc, &mut text)?,
-            Ok(None) => {
-                add_word(&mut text, "end")?;
-                break 'rows;
-            }
-            Err(fault) => {
-                add_refusal(alloc, &mut text, fault)?;
-                break 'rows;
-            }
+        let mut next = String::new(alloc);
+        let is_row = add_next(alloc, &mut next, &mut rows)?;
+        text.push_str(next.as_str())?;
+        if !is_row {
+            add_again(alloc, &mut text, &mut rows, next.as_str())?;
+            break 'rows;
         }
-        add_place(&mut text, rows.place())?;
-        add_word(&mut text, "|")?;
+        given = given.saturating_add(1);
+    }
+    if text.as_str().ends_with("end ") && rows.count() != given {
+        add_word(&mut text, "of")?;
+        add(&mut text, &rows.count())?;
     }
     Ok(Some(text))
 }
