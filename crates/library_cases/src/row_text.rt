@@ -1,6 +1,6 @@
 //! Rows that a reader gives, one behind another, as text.
 use crate::stop::Stop;
-use crate::text::{add_place, add_refusal, add_word};
+use crate::text::{add_as, add_place, add_refusal, add_word};
 use std::alloc::{AllocError, Global};
 use wasm_leb::Fault;
 use wasm_read::{ReadRow, SectionReader, Subsection, SubsectionReader};
@@ -22,6 +22,9 @@ pub trait NextRow {
 
     /// The place where it stands.
     fn at(&self) -> usize;
+
+    /// How many rows there are, where the bytes say that.
+    fn counted(&self) -> Option<u32>;
 }
 
 impl<'a, K: ReadRow<'a>> NextRow for SectionReader<'a, K> {
@@ -33,6 +36,10 @@ impl<'a, K: ReadRow<'a>> NextRow for SectionReader<'a, K> {
 
     fn at(&self) -> usize {
         self.place()
+    }
+
+    fn counted(&self) -> Option<u32> {
+        Some(self.count())
     }
 }
 
@@ -46,6 +53,10 @@ impl<'a, K: ReadRowAt<'a>> NextRow for ScopedReader<'a, K> {
     fn at(&self) -> usize {
         self.place()
     }
+
+    fn counted(&self) -> Option<u32> {
+        Some(self.count())
+    }
 }
 
 impl<'a, N: Subsection<'a>> NextRow for SubsectionReader<'a, N> {
@@ -57,6 +68,10 @@ impl<'a, N: Subsection<'a>> NextRow for SubsectionReader<'a, N> {
 
     fn at(&self) -> usize {
         self.place()
+    }
+
+    fn counted(&self) -> Option<u32> {
+        None
     }
 }
 
@@ -70,9 +85,54 @@ impl<'a> NextRow for ComponentPayloads<'a> {
     fn at(&self) -> usize {
         self.place()
     }
+
+    fn counted(&self) -> Option<u32> {
+        None
+    }
 }
 
-/// Adds the rows that are left with the place behind each, up to the end or the first refusal.
+/// Adds the next row with the place behind it, or `end`, or the refusal. It answers whether there is a row.
+fn add_next<R: NextRow>(alloc: Global, text: &mut String, rows: &mut R) -> Result<bool, AllocError>
+where
+    R::Row: AddRow + Drop,
+{
+    match rows.next(alloc) {
+        Ok(Some(row)) => row.add_row(alloc, text)?,
+        Ok(None) => {
+            add_word(text, "end")?;
+            return Ok(false);
+        }
+        Err(fault) => {
+            add_refusal(alloc, text, fault)?;
+            return Ok(false);
+        }
+    }
+    add_place(text, rows.at())?;
+    add_word(text, "|")?;
+    Ok(true)
+}
+
+/// Adds what comes behind the last, where it is asked again, if that is not the same.
+fn add_again<R: NextRow>(
+    alloc: Global,
+    text: &mut String,
+    rows: &mut R,
+    last: &str,
+) -> Result<(), AllocError>
+where
+    R::Row: AddRow + Drop,
+{
+    let mut again = String::new(alloc);
+    add_next(alloc, &mut again, rows)?;
+    if again.as_str() == last {
+        return Ok(());
+    }
+    add_word(text, "and then")?;
+    add_word(text, again.as_str())
+}
+
+/// Adds the rows that are left with the place behind each, up to the end or the first refusal. It says also how many the bytes
+/// count, if these are not as many before the end.
 pub fn add_rows<R: NextRow + Drop>(
     alloc: Global,
     text: &mut String,
@@ -82,22 +142,23 @@ where
     R::Row: AddRow + Drop,
 {
     let mut rows = rows;
+    let mut given = 0u32;
     'rows: for _ in 0..u64::MAX {
-        match rows.next(alloc) {
-            Ok(Some(row)) => row.add_row(alloc, text)?,
-            Ok(None) => {
-                add_word(text, "end")?;
-                break 'rows;
-            }
-            Err(fault) => {
-                add_refusal(alloc, text, fault)?;
-                break 'rows;
-            }
+        let mut next = String::new(alloc);
+        let is_row = add_next(alloc, &mut next, &mut rows)?;
+        text.push_str(next.as_str())?;
+        if !is_row {
+            add_again(alloc, text, &mut rows, next.as_str())?;
+            break 'rows;
         }
-        add_place(text, rows.at())?;
-        add_word(text, "|")?;
+        given = given.saturating_add(1);
     }
-    Ok(())
+    match rows.counted() {
+        Some(count) if count != given && text.as_str().ends_with("end ") => {
+            add_as(text, "of", &count)
+        }
+        _ => Ok(()),
+    }
 }
 
 /// The same as a text of their own.

@@ -78,6 +78,10 @@ fn add_items<'a, T: SmallEntry<'a> + Debug + Drop>(
             None => break 'items,
         }
     }
+    if let Some(item) = items.next() {
+        add_word(text, "and then")?;
+        add(text, &item)?;
+    }
     Ok(())
 }
 
@@ -228,7 +232,7 @@ impl<'a> AddRow for Data<'a> {
     }
 }
 
-/// The rows of a section with the place after each, up to the end or the first refusal.
+/// The rows of a section.
 fn rows<'a, K: ReadRow<'a>>(alloc: Global, bytes: &'a [u8]) -> Result<Option<String>, Stop>
 where
     K::Row: AddRow + Drop,
