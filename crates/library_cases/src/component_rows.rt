@@ -3,14 +3,14 @@ ghost use Rattle.std.specs.Prelude.{◌≤◌};
 
 use crate::case::Case;
 use crate::groups::add_group;
-use crate::row_text::{AddRow, add_rows, rows_of};
+use crate::row_text::{AddRow, add_rows, rows, rows_of, scoped_rows};
 use crate::stop::Stop;
 use crate::text::{add, add_as, add_bytes, add_refusal, add_word};
 use std::alloc::{AllocError, Global};
 use wasm_leb::Fault;
 use wasm_read::NameMap;
 use wasm_read_component as r;
-use wasm_shapes::Space;
+use wasm_shapes::{Space, component_kinds};
 
 impl<'a> AddRow for r::ComponentPayload<'a> {
     fn add_row(self, _alloc: Global, text: &mut String) -> Result<(), AllocError> {
@@ -256,43 +256,49 @@ fn start(alloc: Global, bytes: &[u8]) -> Result<Option<String>, Stop> {
     Ok(Some(text))
 }
 
-/// What the reader of a section whose rows may open scopes gives, where so many are open round them.
-fn of_types(alloc: Global, call: &str, bytes: &[u8], depth: u32) -> Result<Option<String>, Stop>
-    requires { depth ≤ 200 }
-{
-    match call {
-        "core_types" => rows_of(alloc, r::CoreTypeSectionReader::new(bytes, depth)?),
-        "component_types" => rows_of(alloc, r::ComponentTypeSectionReader::new(bytes, depth)?),
-        _ => Ok(None),
-    }
+/// The names of a component.
+fn names(alloc: Global, bytes: &[u8]) -> Result<Option<String>, Stop> {
+    rows_of(alloc, r::ComponentNameSectionReader::new(bytes)?)
+}
+
+/// The frames of a component.
+fn payloads(alloc: Global, bytes: &[u8]) -> Result<Option<String>, Stop> {
+    rows_of(alloc, r::ComponentPayloads::new(bytes)?)
 }
 
 /// What the reader of a section whose rows open no scope gives.
 fn of_rows(alloc: Global, call: &str, bytes: &[u8]) -> Result<Option<String>, Stop> {
     match call {
-        "component_payloads" => rows_of(alloc, r::ComponentPayloads::new(bytes)?),
-        "component_imports" => rows_of(alloc, r::ComponentImportSectionReader::new(bytes)?),
-        "component_exports" => rows_of(alloc, r::ComponentExportSectionReader::new(bytes)?),
-        "aliases" => rows_of(alloc, r::ComponentAliasSectionReader::new(bytes)?),
-        "instances" => rows_of(alloc, r::InstanceSectionReader::new(bytes)?),
-        "component_instances" => rows_of(alloc, r::ComponentInstanceSectionReader::new(bytes)?),
-        "canonical_functions" => rows_of(alloc, r::ComponentCanonicalSectionReader::new(bytes)?),
-        "component_start" => start(alloc, bytes),
-        "component_names" => rows_of(alloc, r::ComponentNameSectionReader::new(bytes)?),
+        "component_imports" => rows::<r::Of<component_kinds::ComponentImports>>(alloc, bytes),
+        "component_exports" => rows::<r::Of<component_kinds::ComponentExports>>(alloc, bytes),
+        "aliases" => rows::<r::Of<component_kinds::Aliases>>(alloc, bytes),
+        "instances" => rows::<r::Of<component_kinds::Instances>>(alloc, bytes),
+        "component_instances" => rows::<r::Of<component_kinds::ComponentInstances>>(alloc, bytes),
+        "canonical_functions" => rows::<r::Of<component_kinds::CanonicalFunctions>>(alloc, bytes),
         _ => Ok(None),
+    }
+}
+
+/// What the reader of a section whose rows may open scopes gives, where so many are open round them.
+fn of_types(alloc: Global, call: &str, bytes: &[u8], depth: u32) -> Result<Option<String>, Stop>
+    requires { depth ≤ 200 }
+{
+    match call {
+        "core_types" => scoped_rows::<r::Of<component_kinds::CoreTypes>>(alloc, bytes, depth),
+        _ => scoped_rows::<r::Of<component_kinds::ComponentTypes>>(alloc, bytes, depth),
     }
 }
 
 /// What a reader of a component, or of a section of one, gives.
 pub fn answer(alloc: Global, case: &Case<'_>, bytes: &[u8]) -> Result<Option<String>, Stop> {
-    if let Some(given) = of_rows(alloc, case.call, bytes)? {
-        return Ok(Some(given));
-    }
     match case.call {
+        "component_payloads" => payloads(alloc, bytes),
+        "component_names" => names(alloc, bytes),
+        "component_start" => start(alloc, bytes),
         "core_types" | "component_types" => {
             let depth = case.depth()?.min(200);
             of_types(alloc, case.call, bytes, depth)
         }
-        _ => Ok(None),
+        _ => of_rows(alloc, case.call, bytes),
     }
 }

@@ -1,4 +1,6 @@
 //! Rows that a reader gives, one behind another, as text.
+ghost use Rattle.std.specs.Prelude.{◌≤◌};
+
 use crate::stop::Stop;
 use crate::text::{add_as, add_place, add_refusal, add_word};
 use std::alloc::{AllocError, Global};
@@ -169,4 +171,27 @@ where
     let mut text = String::new(alloc);
     add_rows(alloc, &mut text, rows)?;
     Ok(Some(text))
+}
+
+/// The rows of a section.
+pub fn rows<'a, K: ReadRow<'a>>(alloc: Global, bytes: &'a [u8]) -> Result<Option<String>, Stop>
+where
+    K::Row: AddRow + Drop,
+{
+    let rows: SectionReader<'a, K> = SectionReader::new(bytes)?;
+    rows_of(alloc, rows)
+}
+
+/// The rows of a section that may open scopes, where so many are open round them.
+pub fn scoped_rows<'a, K: ReadRowAt<'a>>(
+    alloc: Global,
+    bytes: &'a [u8],
+    depth: u32,
+) -> Result<Option<String>, Stop>
+where
+    K::Row: AddRow + Drop,
+    requires { depth ≤ 200 }
+{
+    let rows: ScopedReader<'a, K> = ScopedReader::new(bytes, depth)?;
+    rows_of(alloc, rows)
 }

@@ -1,15 +1,15 @@
 //! The frames of a module, and the rows of sections.
 use crate::bodies::add_operators;
 use crate::groups::add_group;
-use crate::row_text::{AddRow, rows_of};
+use crate::row_text::{AddRow, rows};
 use crate::stop::Stop;
 use crate::text::{add, add_bytes, add_refusal, add_word};
 use std::alloc::{AllocError, Global};
 use std::fmt::{Debug, Write};
 use wasm_read::{
     BodyFrames, CompactItems, CompactNames, Data, DataKind, Element, ElementItems, ElementKind,
-    Export, FunctionBody, Import, Imports, MemoryType, Payload, Payloads, ReadRow, RecGroup,
-    SectionReader, SmallEntry, Table, TableInit, TagType, VecItems,
+    Export, FunctionBody, Import, Imports, MemoryType, Payload, Payloads, RecGroup, SmallEntry,
+    Table, TableInit, TagType, VecItems,
 };
 use wasm_shapes::kinds;
 
@@ -230,15 +230,6 @@ impl<'a> AddRow for Data<'a> {
         }
         add_bytes(alloc, text, self.contents)
     }
-}
-
-/// The rows of a section.
-fn rows<'a, K: ReadRow<'a>>(alloc: Global, bytes: &'a [u8]) -> Result<Option<String>, Stop>
-where
-    K::Row: AddRow + Drop,
-{
-    let rows: SectionReader<'a, K> = SectionReader::new(bytes)?;
-    rows_of(alloc, rows)
 }
 
 /// What the reader of a section whose rows hold expressions gives.
