@@ -1,18 +1,14 @@
-//! Calls that no other crate makes and no line of text shows, at a chain: of a renamer, around which a rule adds a section, and of
-//! a reencoder that refuses a section hook. Which others each method and its function ask is told by `part_methods`.
-ghost use Rattle.examples.specs.Marks.{custom_row};
-ghost use Rattle.library_tests.specs.Hooks.{put_at, refuses_code, refuses_code-given};
-
+//! Calls that no other crate makes and no line of text shows, at a chain of a renamer and of a reencoder whose section hook adds a
+//! section and refuses. Which others each method and its function ask is told by `part_methods`.
+use crate::adding::Refusing;
 use crate::examples_tests::ADDS;
-use reencode_core::{
-    Adding, DefaultReencode, Reencode, SectionRule, fault_tells, utils as sections,
-};
+use reencode_core::{Reencode, fault_tells, utils as sections};
 use reencode_hooks::{
-    AnswerVisits, Chain, ChainError, Error, ReencodeIndices, Renamer, RoundtripReencoder,
-    frames_are_in_order, moments_are, utils as hooks, walk_is_passed, walk_is_run, walk_refuses,
-    walk_stops, walk_visits,
+    Chain, ChainError, Error, ReencodeIndices, Renamer, RoundtripReencoder, frames_are_in_order,
+    moments_are, utils as hooks, walk_is_passed, walk_is_run, walk_refuses, walk_stops,
+    walk_visits,
 };
-use reencode_items::{DefaultItems, ReencodeItems, utils};
+use reencode_items::{ReencodeItems, utils};
 use reencode_laws::{
     chain_is_both, chain_refuses, chained_walks, filled_keeps_leaves, filled_keeps_parts,
     filled_twice, own_answers, own_is_normal, own_is_not_longer, scopes_are_bracketed,
@@ -21,77 +17,8 @@ use reencode_laws::{
 use std::alloc::Global;
 use wasm_leb::NoMemory;
 use wasm_read as r;
-use wasm_shapes::{SectionId, Space, Visit};
+use wasm_shapes::{SectionId, Space};
 use wasm_write as w;
-
-/// Adds the empty custom section `x` before each section of a kind.
-#[derive(Clone, Copy)]
-struct Put {
-    before: Option<SectionId>,
-}
-
-impl SectionRule for Put {
-    ghost use Rattle.std.specs.Prelude.{codes, []};
-
-    ghost sections = { λ s _ before. put_at s.before (custom_row (codes "x") []) before };
-
-    ghost behind = { λ _ _. [] };
-
-    fn add_sections(
-        &self,
-        module: &mut w::Module,
-        _after: Option<SectionId>,
-        before: Option<SectionId>,
-    ) -> Result<(), w::WriteFault> {
-        if before == self.before {
-            module.section(&w::CustomSection {
-                name: "x",
-                contents: &[],
-            })?;
-        }
-        Ok(())
-    }
-
-    fn add_behind(
-        &self,
-        _module: &mut w::Module,
-        _section: SectionId,
-    ) -> Result<(), w::WriteFault> {
-        Ok(())
-    }
-}
-
-/// Answers each index as it is, and refuses the section hook before a section of code.
-#[derive(Clone, Copy)]
-struct Refusing;
-
-impl AnswerVisits for Refusing {
-    ghost use Rattle.std.specs.Prelude.{true};
-
-    type Error = SectionId;
-
-    ghost reply = { λ _ visit. refuses_code visit };
-
-    ghost next = { λ s _. s };
-
-    ghost keeps_defaults = { true };
-
-    ghost answers_ok = { λ _ visit h. refuses_code-given visit h };
-
-    fn answer(&mut self, visit: Visit) -> Result<u32, SectionId> {
-        match visit {
-            Visit::Section(_, before) => match before {
-                Some(SectionId::Code) => Err(SectionId::Code),
-                _ => Ok(hooks::index_of(visit)),
-            },
-            _ => Ok(hooks::index_of(visit)),
-        }
-    }
-}
-
-impl DefaultItems for Refusing {}
-
-impl DefaultReencode for Refusing {}
 
 const MEMORY: r::MemoryType = r::MemoryType {
     memory64: false,
@@ -355,13 +282,7 @@ const HELD: &[u8] =
 /// A refused section hook leaves what was added in it.
 #[test]
 fn calls_answer(rt: HostRuntime) -> Result<(), NoMemory> {
-    let first = Adding {
-        reencoder: renamer(rt.alloc())?,
-        sections: Put {
-            before: Some(SectionId::Code),
-        },
-    };
-    let mut chain = Chain::new(first, Refusing);
+    let mut chain = Chain::new(renamer(rt.alloc())?, Refusing);
     let mut module = w::Module::new(rt.alloc(), 9)?;
     let (answered, mapped) = answers_and_module(&mut chain, rt.alloc(), &mut module);
     assert_eq!(rt; answered.ok(), Some(RIGHT));
