@@ -1,15 +1,9 @@
 //! Bodies of functions, as text.
 use crate::stop::Stop;
-use crate::text::{add, add_refusal, add_word};
+use crate::text::{add, add_as, add_refusal, add_word};
 use std::alloc::{AllocError, Global};
-use std::fmt::{Debug, Write};
+use std::fmt::Write;
 use wasm_read::{FunctionBody, Imm, Operator, OperatorsReader};
-
-/// Adds a value behind a word for what it is.
-fn add_as<T: Debug>(text: &mut String, what: &str, value: &T) -> Result<(), AllocError> {
-    add_word(text, what)?;
-    add(text, value)
-}
 
 /// Adds an immediate.
 fn add_imm(text: &mut String, imm: &Imm<'_>) -> Result<(), AllocError> {

@@ -15,7 +15,7 @@ pub struct Case<'a> {
 impl<'a> Case<'a> {
     /// The case of a line `CALL WORDS : INPUT -> WANTED`.
     pub fn of_line(line: &'a str) -> Option<Case<'a>> {
-        let (call, rest) = line.split_once(':')?;
+        let (call, rest) = line.split_once(" :")?;
         let (input, wanted) = rest.split_once("->")?;
         let call = call.trim();
         let (call, words) = call.split_once(' ').unwrap_or((call, ""));
@@ -33,22 +33,40 @@ impl<'a> Case<'a> {
         for part in self.input.split_whitespace() {
             digits.push_str(part)?;
         }
-        match hex::decode(alloc, digits.as_str()) {
-            Ok(bytes) => Ok(bytes),
-            Err(hex::FromHexError::OutOfMemory) => Err(Stop::NoMemory),
-            Err(_) => Err(Stop::Unread),
+        bytes_of(alloc, digits.as_str())
+    }
+
+    /// The number of the one word `KEY=NUMBER`, and 0 where there is no word.
+    fn number_of<T: FromStr>(&self, key: &str) -> Result<T, Stop>
+    where
+        T::Err: Drop,
+    {
+        if self.words.is_empty() {
+            return number("0");
+        }
+        match self.words.split_once('=') {
+            Some((word, value)) if word == key => number(value),
+            _ => Err(Stop::Unread),
         }
     }
 
     /// The place of the word `at=PLACE`, and 0 where there is no word.
     pub fn place(&self) -> Result<usize, Stop> {
-        if self.words.is_empty() {
-            return Ok(0);
-        }
-        match self.words.split_once("at=") {
-            Some(("", place)) => number(place),
-            _ => Err(Stop::Unread),
-        }
+        self.number_of("at")
+    }
+
+    /// The number of the word `depth=SCOPES`, and 0 where there is no word.
+    pub fn depth(&self) -> Result<u32, Stop> {
+        self.number_of("depth")
+    }
+}
+
+/// The bytes of hexadecimal digits.
+pub fn bytes_of(alloc: Global, digits: &str) -> Result<Vec<u8>, Stop> {
+    match hex::decode(alloc, digits) {
+        Ok(bytes) => Ok(bytes),
+        Err(hex::FromHexError::OutOfMemory) => Err(Stop::NoMemory),
+        Err(_) => Err(Stop::Unread),
     }
 }
 

@@ -1,36 +1,56 @@
-//! Whole components.
-use crate::modules::{Way, add_counts, way_of};
-use crate::stop::{Stop, refusal};
-use crate::text::{add_bytes, add_word};
+//! Whole components, and binaries by their header.
+use crate::modules::{Bounds, add_made};
 use reencode_component::component_utils::parse_component;
-use std::alloc::Global;
+use reencode_component::{ReencodeComponent, reencode, reencode_within};
+use reencode_hooks::Error;
+use std::alloc::{AllocError, Global};
+use std::fmt::Display;
 use wasm_write_component::Component;
 
-/// What comes of a component: its bytes, or the refusal.
-fn made(alloc: Global, way: &mut Way, bytes: &[u8]) -> Result<String, Stop> {
-    let mut component = Component::new(alloc, way.ceiling)?;
+/// A component re-encoded.
+fn component<R: ReencodeComponent>(
+    alloc: Global,
+    reencoder: &mut R,
+    bytes: &[u8],
+    bounds: Bounds,
+) -> Result<Vec<u8>, Error<R::Error>> {
+    let mut component = Component::new(alloc, bounds.ceiling)?;
+    let depth = bounds.depth.min(200);
+    parse_component(reencoder, alloc, &mut component, bytes, depth)?;
+    Ok(component.finish())
+}
+
+/// What comes of a component, or the refusal.
+pub fn made<R: ReencodeComponent>(
+    alloc: Global,
+    reencoder: &mut R,
+    bytes: &[u8],
+    bounds: Bounds,
+) -> Result<String, AllocError>
+where
+    R::Error: Display + Drop,
+{
     let mut text = String::new(alloc);
-    match parse_component(&mut way.renamer, alloc, &mut component, bytes, 0) {
-        Ok(()) => add_bytes(alloc, &mut text, component.finish().as_slice())?,
-        Err(e) => add_word(&mut text, refusal(alloc, &e)?.as_str())?,
-    }
+    let made = component(alloc, reencoder, bytes, bounds);
+    add_made(alloc, &mut text, made)?;
     Ok(text)
 }
 
-/// What comes of a component where it is renamed.
-pub fn answer(
+/// What comes of a binary by its header, or the refusal.
+pub fn made_by_header<R: ReencodeComponent>(
     alloc: Global,
-    call: &str,
-    words: &str,
+    reencoder: &mut R,
     bytes: &[u8],
-) -> Result<Option<String>, Stop> {
-    if call != "component" {
-        return Ok(None);
-    }
-    let mut way = way_of(alloc, words)?;
-    let mut text = made(alloc, &mut way, bytes)?;
-    if way.is_counted {
-        add_counts(&mut text, &way.renamer)?;
-    }
-    Ok(Some(text))
+    ceiling: u32,
+) -> Result<String, AllocError>
+where
+    R::Error: Display + Drop,
+{
+    let mut text = String::new(alloc);
+    let made = match ceiling {
+        u32::MAX => reencode(alloc, reencoder, bytes),
+        _ => reencode_within(alloc, reencoder, bytes, ceiling),
+    };
+    add_made(alloc, &mut text, made)?;
+    Ok(text)
 }

@@ -1,15 +1,20 @@
 //! Tries cases: each line of the input is a call of the libraries and what is to come of it.
 #![tactic(auto)]
 
+mod additions;
 mod bodies;
 mod calls;
 mod case;
+mod component_rows;
 mod components;
 mod groups;
 mod modules;
 mod numbers;
 mod pieces;
 mod readers;
+mod refusing;
+mod renamed;
+mod row_text;
 mod sections;
 mod stop;
 mod text;

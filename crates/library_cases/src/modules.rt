@@ -1,16 +1,17 @@
-//! Whole modules, and operators.
+//! Core modules, and operators.
+use crate::additions::{Addition, Additions};
 use crate::case::number;
+use crate::pieces::add_pieces;
 use crate::stop::{Stop, refusal};
 use crate::text::{add, add_bytes, add_word};
-use default_renamer::DefaultRenamer;
 use reencode_core::{Reencode, reencode_core};
-use reencode_hooks::{Asked, Error, Renamer, RoundtripReencoder};
+use reencode_hooks::{Asked, Error, Renamer};
 use std::alloc::{AllocError, Global};
 use std::fmt::Display;
 use wasm_leb::NoMemory;
 use wasm_read::{CodeSectionReader, FunctionBody};
 use wasm_shapes::Space;
-use wasm_write::{CodeSection, Section};
+use wasm_write::{CodeSection, Module, Section, StartSection};
 
 /// The spaces, in the order in which their counts are told.
 const SPACES: [Space; 16] = [
@@ -52,27 +53,60 @@ fn space(word: &str) -> Result<Space, Stop> {
     Err(Stop::Unread)
 }
 
-/// What is re-encoded: a whole module, or the operators of a body without locals.
+/// What is re-encoded of a core module: the whole, at once or in pieces; the whole into a module that holds a section before;
+/// or the operators of a body without locals.
 #[derive(Clone, Copy)]
-enum What {
+pub enum What {
     Module,
+    Pieces,
+    Held,
     Operators,
+}
+
+impl What {
+    /// Whether what comes of it is compared with what comes by the default methods.
+    pub fn is_compared(self) -> bool {
+        matches!(self, What::Module | What::Operators)
+    }
+}
+
+/// The greatest length that a body may have, and how many scopes are open round a component: at most 200.
+#[derive(Clone, Copy)]
+pub struct Bounds {
+    pub ceiling: u32,
+    pub depth: u32,
 }
 
 /// How it is re-encoded.
 #[derive(Drop)]
 pub struct Way {
     pub renamer: Renamer,
-    pub ceiling: u32,
+    pub bounds: Bounds,
     pub is_counted: bool,
+    pub additions: Additions,
+    /// The number of the call of a hook that is refused.
+    pub refused: Option<u32>,
 }
 
 impl Way {
-    /// Follows a word: `strict`, `counted`, `under=CEILING`, or `SPACE.FROM=TO`.
-    fn follow(&mut self, word: &str) -> Result<(), Stop> {
+    /// Follows a word of a key that is no index: `under=CEILING`, `depth=SCOPES`, `refuse=CALL`, `before=ID:HEX`, or
+    /// `behind=ID:HEX`.
+    fn follow_key(&mut self, alloc: Global, key: &str, to: &str) -> Result<(), Stop> {
+        match key {
+            "under" => self.bounds.ceiling = number(to)?,
+            "depth" => self.bounds.depth = number(to)?,
+            "refuse" => self.refused = Some(number(to)?),
+            _ => self.additions.push(Addition::of_word(alloc, key, to)?)?,
+        }
+        Ok(())
+    }
+
+    /// Follows a word: `strict`, `counted`, `alone`, `SPACE.FROM=TO`, or one of another key.
+    fn follow(&mut self, alloc: Global, word: &str) -> Result<(), Stop> {
         match word {
             "strict" => self.renamer.set_strict(true),
             "counted" => self.is_counted = true,
+            "alone" => self.additions.push(Addition::alone(alloc)?)?,
             _ => {
                 let Some((key, to)) = word.split_once('=') else {
                     return Err(Stop::Unread);
@@ -81,7 +115,7 @@ impl Way {
                     Some((name, from)) => {
                         self.renamer.set(space(name)?, number(from)?, number(to)?)?;
                     }
-                    None => self.ceiling = number(to)?,
+                    None => self.follow_key(alloc, key, to)?,
                 }
             }
         }
@@ -93,11 +127,16 @@ impl Way {
 pub fn way_of(alloc: Global, words: &str) -> Result<Way, Stop> {
     let mut way = Way {
         renamer: Renamer::new(alloc),
-        ceiling: u32::MAX,
+        bounds: Bounds {
+            ceiling: u32::MAX,
+            depth: 0,
+        },
         is_counted: false,
+        additions: Additions::new(),
+        refused: None,
     };
     for word in words.split_whitespace() {
-        way.follow(word)?;
+        way.follow(alloc, word)?;
     }
     Ok(way)
 }
@@ -157,8 +196,54 @@ fn reencode_operators<R: Reencode>(
     }
 }
 
-/// What comes of it: its bytes, or the refusal.
-fn made<R: Reencode>(
+/// Adds what a refusal says.
+pub fn add_refused<E: Display>(
+    alloc: Global,
+    text: &mut String,
+    e: &Error<E>,
+) -> Result<(), AllocError> {
+    add_word(text, refusal(alloc, e)?.as_str())
+}
+
+/// Adds what was made: its bytes, or what the refusal says.
+pub fn add_made<E: Display + Drop>(
+    alloc: Global,
+    text: &mut String,
+    made: Result<Vec<u8>, Error<E>>,
+) -> Result<(), AllocError> {
+    match made {
+        Ok(bytes) => add_bytes(alloc, text, bytes.as_slice()),
+        Err(e) => add_refused(alloc, text, &e),
+    }
+}
+
+/// A module with a start section.
+fn started<E>(alloc: Global, ceiling: u32) -> Result<Module, Error<E>> {
+    let mut module = Module::new(alloc, ceiling)?;
+    module.section(&StartSection { function_index: 0 })?;
+    Ok(module)
+}
+
+/// Adds what a module holds that held a start section before, behind the refusal where there is one.
+fn add_held<R: Reencode>(
+    alloc: Global,
+    text: &mut String,
+    reencoder: &mut R,
+    bytes: &[u8],
+    module: Module,
+) -> Result<(), AllocError>
+where
+    R::Error: Display + Drop,
+{
+    let mut module = module;
+    if let Err(e) = reencoder.parse_core_module(alloc, &mut module, bytes) {
+        add_refused(alloc, text, &e)?;
+    }
+    add_bytes(alloc, text, module.as_slice())
+}
+
+/// What comes of it, or the refusal.
+pub fn made<R: Reencode>(
     alloc: Global,
     reencoder: &mut R,
     what: What,
@@ -169,85 +254,20 @@ where
     R::Error: Display + Drop,
 {
     let mut text = String::new(alloc);
-    let made = match what {
-        What::Module => reencode_core(alloc, reencoder, bytes, ceiling),
-        What::Operators => reencode_operators(alloc, reencoder, bytes, ceiling),
-    };
-    match made {
-        Ok(bytes) => add_bytes(alloc, &mut text, bytes.as_slice())?,
-        Err(e) => add_word(&mut text, refusal(alloc, &e)?.as_str())?,
+    match what {
+        What::Module => {
+            let made = reencode_core(alloc, reencoder, bytes, ceiling);
+            add_made(alloc, &mut text, made)?;
+        }
+        What::Operators => {
+            let made = reencode_operators(alloc, reencoder, bytes, ceiling);
+            add_made(alloc, &mut text, made)?;
+        }
+        What::Pieces => add_pieces(alloc, &mut text, reencoder, bytes, ceiling)?,
+        What::Held => match started(alloc, ceiling) {
+            Ok(module) => add_held(alloc, &mut text, reencoder, bytes, module)?,
+            Err(e) => add_refused::<R::Error>(alloc, &mut text, &e)?,
+        },
     }
     Ok(text)
-}
-
-/// Says also what came another way, where it differs.
-fn compare(text: &mut String, other: &str) -> Result<(), AllocError> {
-    if text.as_str() == other {
-        return Ok(());
-    }
-    add_word(text, "but by the default methods")?;
-    add_word(text, other)
-}
-
-/// What comes of it by a renamer of these words, where it overrides nothing.
-fn renamed_by_default(
-    alloc: Global,
-    what: What,
-    words: &str,
-    bytes: &[u8],
-) -> Result<String, Stop> {
-    let way = way_of(alloc, words)?;
-    let mut renamer = DefaultRenamer {
-        renamer: way.renamer,
-    };
-    let mut text = made(alloc, &mut renamer, what, bytes, way.ceiling)?;
-    if way.is_counted {
-        add_counts(&mut text, &renamer.renamer)?;
-    }
-    Ok(text)
-}
-
-/// What comes of it where it is renamed.
-fn renamed(alloc: Global, what: What, words: &str, bytes: &[u8]) -> Result<String, Stop> {
-    let mut way = way_of(alloc, words)?;
-    let mut text = made(alloc, &mut way.renamer, what, bytes, way.ceiling)?;
-    if way.is_counted {
-        add_counts(&mut text, &way.renamer)?;
-    }
-    compare(
-        &mut text,
-        renamed_by_default(alloc, what, words, bytes)?.as_str(),
-    )?;
-    Ok(text)
-}
-
-/// What comes of a module that is re-encoded as it is.
-fn roundtripped(alloc: Global, bytes: &[u8]) -> Result<String, Stop> {
-    let mut text = made(
-        alloc,
-        &mut RoundtripReencoder,
-        What::Module,
-        bytes,
-        u32::MAX,
-    )?;
-    compare(
-        &mut text,
-        renamed_by_default(alloc, What::Module, "", bytes)?.as_str(),
-    )?;
-    Ok(text)
-}
-
-/// What comes of a module, or of operators, re-encoded.
-pub fn answer(
-    alloc: Global,
-    call: &str,
-    words: &str,
-    bytes: &[u8],
-) -> Result<Option<String>, Stop> {
-    match call {
-        "rename" => Ok(Some(renamed(alloc, What::Module, words, bytes)?)),
-        "operators" => Ok(Some(renamed(alloc, What::Operators, words, bytes)?)),
-        "roundtrip" => Ok(Some(roundtripped(alloc, bytes)?)),
-        _ => Ok(None),
-    }
 }

@@ -24,7 +24,7 @@ pub fn read<T: Debug + Drop>(
 }
 
 /// What stands at the front, and how many bytes are left behind it.
-fn front<T: Debug + Drop>(
+pub fn front<T: Debug + Drop>(
     alloc: Global,
     found: Option<(T, &[u8])>,
 ) -> Result<Option<String>, Stop> {

@@ -1,9 +1,9 @@
 //! Whole modules in pieces.
-use crate::modules::{Way, add_counts, way_of};
-use crate::stop::Stop;
+use crate::modules::add_refused;
 use crate::text::{add, add_bytes, add_word};
-use reencode_core::{Piece, Pieces, reencode_pieces};
+use reencode_core::{Piece, Pieces, Reencode, reencode_pieces};
 use std::alloc::{AllocError, Global};
+use std::fmt::Display;
 
 /// Adds a piece: the places of a kept one, the length of a made one.
 fn add_piece(text: &mut String, piece: &Piece) -> Result<(), AllocError> {
@@ -21,7 +21,7 @@ fn add_piece(text: &mut String, piece: &Piece) -> Result<(), AllocError> {
 }
 
 /// Adds each piece, and how many bytes they have.
-fn add_pieces(text: &mut String, pieces: &Pieces) -> Result<(), AllocError> {
+fn add_each(text: &mut String, pieces: &Pieces) -> Result<(), AllocError> {
     for i in 0..pieces.len() {
         if let Some(piece) = pieces.piece(i) {
             add_piece(text, piece)?;
@@ -31,30 +31,25 @@ fn add_pieces(text: &mut String, pieces: &Pieces) -> Result<(), AllocError> {
     add(text, &pieces.size())
 }
 
-/// What comes of a module in pieces: the bytes that they are joined, and each piece.
-fn in_pieces(alloc: Global, way: &mut Way, bytes: &[u8]) -> Result<String, Stop> {
-    let pieces = reencode_pieces(alloc, &mut way.renamer, bytes, way.ceiling)?;
-    let joined = pieces.join(alloc, bytes)?;
-    let mut text = String::new(alloc);
-    add_bytes(alloc, &mut text, joined.as_slice())?;
-    add_pieces(&mut text, &pieces)?;
-    Ok(text)
-}
-
-/// What comes of a module in pieces where it is renamed.
-pub fn answer(
+/// Adds what comes of a module in pieces: the bytes that they are joined, and each piece; or the refusal.
+pub fn add_pieces<R: Reencode>(
     alloc: Global,
-    call: &str,
-    words: &str,
+    text: &mut String,
+    reencoder: &mut R,
     bytes: &[u8],
-) -> Result<Option<String>, Stop> {
-    if call != "pieces" {
-        return Ok(None);
+    ceiling: u32,
+) -> Result<(), AllocError>
+where
+    R::Error: Display + Drop,
+{
+    match reencode_pieces(alloc, reencoder, bytes, ceiling) {
+        Ok(pieces) => {
+            let Ok(joined) = pieces.join(alloc, bytes) else {
+                return Err(AllocError);
+            };
+            add_bytes(alloc, text, joined.as_slice())?;
+            add_each(text, &pieces)
+        }
+        Err(e) => add_refused(alloc, text, &e),
     }
-    let mut way = way_of(alloc, words)?;
-    let mut text = in_pieces(alloc, &mut way, bytes)?;
-    if way.is_counted {
-        add_counts(&mut text, &way.renamer)?;
-    }
-    Ok(Some(text))
 }

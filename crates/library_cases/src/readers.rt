@@ -1,7 +1,7 @@
 //! The parts of a module.
 use crate::bodies::{add_operators, body};
 use crate::groups::group;
-use crate::numbers::{found, read};
+use crate::numbers::{found, front, read};
 use crate::stop::Stop;
 use std::alloc::Global;
 use wasm_read::{ConstExpr, front_name, read_item, read_name, read_type_ref, read_val_type};
@@ -10,6 +10,7 @@ use wasm_read::{ConstExpr, front_name, read_item, read_name, read_type_ref, read
 pub fn answer(alloc: Global, call: &str, bytes: &[u8], at: usize) -> Result<Option<String>, Stop> {
     match call {
         "read_name" => read(alloc, read_name(bytes, at)),
+        "front_name" => front(alloc, front_name(bytes)),
         "read_val_type" => read(alloc, read_val_type(bytes, at)),
         "read_type_ref" => read(alloc, read_type_ref(bytes, at)),
         "read_item" => {

@@ -1,14 +1,15 @@
 //! The frames of a module, and the rows of sections.
 use crate::bodies::add_operators;
 use crate::groups::add_group;
+use crate::row_text::{AddRow, rows};
 use crate::stop::Stop;
-use crate::text::{add, add_bytes, add_place, add_refusal, add_word};
+use crate::text::{add, add_bytes, add_refusal, add_word};
 use std::alloc::{AllocError, Global};
 use std::fmt::{Debug, Write};
 use wasm_read::{
     BodyFrames, CompactItems, CompactNames, Data, DataKind, Element, ElementItems, ElementKind,
-    Export, FunctionBody, Import, Imports, MemoryType, Payload, Payloads, ReadRow, RecGroup,
-    SectionReader, SmallEntry, Table, TableInit, TagType, VecItems,
+    Export, FunctionBody, Import, Imports, MemoryType, Payload, Payloads, RecGroup, SmallEntry,
+    Table, TableInit, TagType, VecItems,
 };
 use wasm_shapes::kinds;
 
@@ -77,6 +78,10 @@ fn add_items<'a, T: SmallEntry<'a> + Debug + Drop>(
             None => break 'items,
         }
     }
+    if let Some(item) = items.next() {
+        add_word(text, "and then")?;
+        add(text, &item)?;
+    }
     Ok(())
 }
 
@@ -88,12 +93,6 @@ fn items<'a, T: SmallEntry<'a> + Debug + Drop>(
     let mut text = String::new(alloc);
     add_items(&mut text, items)?;
     Ok(Some(text))
-}
-
-/// A row of a section, as text.
-trait AddRow {
-    /// Adds the row.
-    fn add_row(self, alloc: Global, text: &mut String) -> Result<(), AllocError>;
 }
 
 impl AddRow for RecGroup {
@@ -231,31 +230,6 @@ impl<'a> AddRow for Data<'a> {
         }
         add_bytes(alloc, text, self.contents)
     }
-}
-
-/// The rows of a section with the place after each, up to the end or the first refusal.
-fn rows<'a, K: ReadRow<'a>>(alloc: Global, bytes: &'a [u8]) -> Result<Option<String>, Stop>
-where
-    K::Row: AddRow + Drop,
-{
-    let mut rows: SectionReader<'a, K> = SectionReader::new(bytes)?;
-    let mut text = String::new(alloc);
-    'rows: for _ in 0..u64::MAX {
-        match rows.next_row(alloc) {
-            Ok(Some(row)) => row.add_row(alloc, &mut text)?,
-            Ok(None) => {
-                add_word(&mut text, "end")?;
-                break 'rows;
-            }
-            Err(fault) => {
-                add_refusal(alloc, &mut text, fault)?;
-                break 'rows;
-            }
-        }
-        add_place(&mut text, rows.place())?;
-        add_word(&mut text, "|")?;
-    }
-    Ok(Some(text))
 }
 
 /// What the reader of a section whose rows hold expressions gives.

@@ -16,6 +16,12 @@ pub fn add<T: Debug>(text: &mut String, value: &T) -> Result<(), AllocError> {
     write!(text, "{value:?} ")
 }
 
+/// Adds a value behind a word for what it is.
+pub fn add_as<T: Debug>(text: &mut String, what: &str, value: &T) -> Result<(), AllocError> {
+    add_word(text, what)?;
+    add(text, value)
+}
+
 /// Adds bytes.
 pub fn add_bytes(alloc: Global, text: &mut String, bytes: &[u8]) -> Result<(), AllocError> {
     add_word(text, hex::encode(alloc, bytes)?.as_str())

@@ -1,30 +1,30 @@
 //! The examples, run.
 use examples::{
-    NotBelow, Parts, Stripper, TooMany, Widened, check_below, link, move_behind, strip,
+    Marks, NotBelow, Parts, Stripper, TooMany, Widened, add_marks, check_below, link, move_behind,
+    strip,
 };
 use reencode_core::reencode_core;
 use reencode_hooks::{Error, IndexOverflow, Shift};
+use std::alloc::Global;
 use std::convert::Infallible;
+use wasm_shapes::SectionId;
 
 /// A module that adds two numbers: a type, a function, an export and its code.
-pub const ADDS: [u8; 39] = [
-    0x00, 0x61, 0x73, 0x6d, 0x01, 0x00, 0x00, 0x00, 0x01, 0x07, 0x01, 0x60, 0x02, 0x7f, 0x7f, 0x01,
-    0x7f, 0x03, 0x02, 0x01, 0x00, 0x07, 0x05, 0x01, 0x01, 0x66, 0x00, 0x00, 0x0a, 0x09, 0x01, 0x07,
-    0x00, 0x20, 0x00, 0x20, 0x01, 0x6a, 0x0b,
-];
+pub const ADDS: &[u8] =
+    b"\0asm\x01\0\0\0\x01\x07\x01\x60\x02\x7f\x7f\x01\x7f\x03\x02\x01\0\x07\x05\x01\x01f\0\0\x0a\x09\x01\x07\0\x20\0\x20\x01j\x0b";
 
 /// A module that exports its function 1.
-pub const EXPORTS: [u8; 15] = [
-    0x00, 0x61, 0x73, 0x6d, 0x01, 0x00, 0x00, 0x00, 0x07, 0x05, 0x01, 0x01, 0x66, 0x00, 0x01,
-];
+pub const EXPORTS: &[u8] = b"\0asm\x01\0\0\0\x07\x05\x01\x01f\0\x01";
+
+/// The module that adds, with its function 0 moved behind five.
+const MOVED: &[u8] =
+    b"\0asm\x01\0\0\0\x01\x07\x01\x60\x02\x7f\x7f\x01\x7f\x03\x02\x01\0\x07\x05\x01\x01f\0\x05\x0a\x09\x01\x07\0\x20\0\x20\x01j\x0b";
 
 #[test]
 fn functions_move(rt: HostRuntime) -> Result<(), Error<TooMany>> {
-    let mut moved = ADDS;
-    moved[27] = 0x05;
-    let bytes = move_behind(rt.alloc(), &ADDS, 5)?;
-    assert!(rt; bytes.as_slice() == moved.as_slice());
-    let refused = match move_behind(rt.alloc(), &EXPORTS, u32::MAX) {
+    let bytes = move_behind(rt.alloc(), ADDS, 5)?;
+    assert!(rt; bytes.as_slice() == MOVED);
+    let refused = match move_behind(rt.alloc(), EXPORTS, u32::MAX) {
         Err(Error::UserError(TooMany { index })) => index == 1,
         _ => false,
     };
@@ -34,9 +34,9 @@ fn functions_move(rt: HostRuntime) -> Result<(), Error<TooMany>> {
 
 #[test]
 fn functions_are_checked(rt: HostRuntime) -> Result<(), Error<NotBelow>> {
-    let bytes = check_below(rt.alloc(), &EXPORTS, 2)?;
-    assert!(rt; bytes.as_slice() == EXPORTS.as_slice());
-    let refused = match check_below(rt.alloc(), &EXPORTS, 1) {
+    let bytes = check_below(rt.alloc(), EXPORTS, 2)?;
+    assert!(rt; bytes.as_slice() == EXPORTS);
+    let refused = match check_below(rt.alloc(), EXPORTS, 1) {
         Err(Error::UserError(NotBelow { index })) => index == 1,
         _ => false,
     };
@@ -44,108 +44,110 @@ fn functions_are_checked(rt: HostRuntime) -> Result<(), Error<NotBelow>> {
     Ok(())
 }
 
+/// The module that adds, of numbers of 64 bits.
+const WIDE: &[u8] =
+    b"\0asm\x01\0\0\0\x01\x07\x01\x60\x02\x7e\x7e\x01\x7e\x03\x02\x01\0\x07\x05\x01\x01f\0\0\x0a\x09\x01\x07\0\x20\0\x20\x01j\x0b";
+
 #[test]
 fn types_are_widened(rt: HostRuntime) -> Result<(), Error<Infallible>> {
-    let mut wide = ADDS;
-    wide[13] = 0x7e;
-    wide[14] = 0x7e;
-    wide[16] = 0x7e;
-    let bytes = reencode_core(rt.alloc(), &mut Widened, &ADDS, u32::MAX)?;
-    assert!(rt; bytes.as_slice() == wide.as_slice());
+    let bytes = reencode_core(rt.alloc(), &mut Widened, ADDS, u32::MAX)?;
+    assert!(rt; bytes.as_slice() == WIDE);
     Ok(())
 }
 
 /// A module of a custom section `x`, a start section and a name section.
-const NAMED: [u8; 29] = [
-    0x00, 0x61, 0x73, 0x6d, 0x01, 0x00, 0x00, 0x00, 0x00, 0x03, 0x01, 0x78, 0xff, 0x08, 0x01, 0x00,
-    0x00, 0x0b, 0x04, 0x6e, 0x61, 0x6d, 0x65, 0x01, 0x04, 0x01, 0x00, 0x01, 0x66,
-];
+const NAMED: &[u8] = b"\0asm\x01\0\0\0\0\x03\x01x\xff\x08\x01\0\0\x0b\x04name\x01\x04\x01\0\x01f";
+
+/// The same without its name section, and without any custom section.
+const UNNAMED: &[u8] = b"\0asm\x01\0\0\0\0\x03\x01x\xff\x08\x01\0";
+
+const BARE: &[u8] = b"\0asm\x01\0\0\0\x08\x01\0";
 
 #[test]
 fn names_are_stripped(rt: HostRuntime) -> Result<(), Error<Infallible>> {
-    let bytes = strip(rt.alloc(), &NAMED, false)?;
-    assert!(rt; bytes.as_slice() == &NAMED[..16]);
-    let bytes = strip(rt.alloc(), &NAMED, true)?;
-    let bare = [
-        0x00, 0x61, 0x73, 0x6d, 0x01, 0x00, 0x00, 0x00, 0x08, 0x01, 0x00,
-    ];
-    assert!(rt; bytes.as_slice() == bare.as_slice());
-    let bytes = reencode_core(rt.alloc(), &mut Stripper { all: true }, &NAMED, u32::MAX)?;
-    assert!(rt; bytes.as_slice() == bare.as_slice());
+    let bytes = strip(rt.alloc(), NAMED, false)?;
+    assert!(rt; bytes.as_slice() == UNNAMED);
+    let bytes = strip(rt.alloc(), NAMED, true)?;
+    assert!(rt; bytes.as_slice() == BARE);
+    let bytes = reencode_core(rt.alloc(), &mut Stripper { all: true }, NAMED, u32::MAX)?;
+    assert!(rt; bytes.as_slice() == BARE);
     Ok(())
 }
 
-/// A name section without contents, a code section whose body is nothing, a section of no known kind whose size is spelled in two
-/// bytes, and one whose size passes the end.
-const FRAMES: [u8; 23] = [
-    0x00, 0x61, 0x73, 0x6d, 0x01, 0x00, 0x00, 0x00, 0x00, 0x05, 0x04, 0x6e, 0x61, 0x6d, 0x65, 0x0a,
-    0x00, 0x0e, 0x81, 0x00, 0xff, 0x01, 0x02,
-];
+/// A name section without contents, a code section whose body is nothing, and a section of no known kind whose size is spelled in
+/// two bytes.
+const FRAMES: &[u8] = b"\0asm\x01\0\0\0\0\x05\x04name\x0a\0\x0e\x81\0\xff";
+
+/// The same with a section whose size passes the end.
+const CUT: &[u8] = b"\0asm\x01\0\0\0\0\x05\x04name\x0a\0\x0e\x81\0\xff\x01\x02";
+
+/// The frames without the name section.
+const LEFT: &[u8] = b"\0asm\x01\0\0\0\x0a\0\x0e\x01\xff";
+
+/// The place of the fault where bytes have no frames.
+fn unframed_at(alloc: Global, bytes: &[u8]) -> Option<usize> {
+    match strip(alloc, bytes, true) {
+        Err(Error::ParseError(e)) => Some(e.at),
+        _ => None,
+    }
+}
 
 #[test]
 fn frames_alone_are_read(rt: HostRuntime) -> Result<(), Error<Infallible>> {
-    let bytes = strip(rt.alloc(), &FRAMES[..21], false)?;
-    let left = [
-        0x00, 0x61, 0x73, 0x6d, 0x01, 0x00, 0x00, 0x00, 0x0a, 0x00, 0x0e, 0x01, 0xff,
-    ];
-    assert!(rt; bytes.as_slice() == left.as_slice());
-    let place = match strip(rt.alloc(), &FRAMES, true) {
-        Err(Error::ParseError(e)) => e.at == 21,
-        _ => false,
+    let bytes = strip(rt.alloc(), FRAMES, false)?;
+    assert!(rt; bytes.as_slice() == LEFT);
+    assert_eq!(rt; unframed_at(rt.alloc(), CUT), Some(21));
+    assert_eq!(rt; unframed_at(rt.alloc(), b"asm\x01\0\0\0"), Some(0));
+    Ok(())
+}
+
+/// The module that adds, with the custom section `x` before its code.
+const MARKED: &[u8] =
+    b"\0asm\x01\0\0\0\x01\x07\x01\x60\x02\x7f\x7f\x01\x7f\x03\x02\x01\0\x07\x05\x01\x01f\0\0\0\x02\x01x\x0a\x09\x01\x07\0\x20\0\x20\x01j\x0b";
+
+#[test]
+fn marks_are_added(rt: HostRuntime) -> Result<(), Error<Infallible>> {
+    let marks = Marks {
+        behind: SectionId::Export,
+        name: "x",
+        contents: &[],
     };
-    assert!(rt; place);
-    let place = match strip(rt.alloc(), &FRAMES[1..], true) {
-        Err(Error::ParseError(e)) => e.at == 0,
-        _ => false,
-    };
-    assert!(rt; place);
+    let bytes = add_marks(rt.alloc(), ADDS, marks)?;
+    assert!(rt; bytes.as_slice() == MARKED);
     Ok(())
 }
 
 /// A type without parameters that gives an `i32`; a function of it, which gives 1.
 const ONE: Parts<'static> = Parts {
-    types: &[0x01, 0x60, 0x00, 0x01, 0x7f],
-    functions: &[0x01, 0x00],
-    code: &[0x01, 0x04, 0x00, 0x41, 0x01, 0x0b],
+    types: b"\x01\x60\0\x01\x7f",
+    functions: b"\x01\0",
+    code: b"\x01\x04\0\x41\x01\x0b",
 };
 
 /// The same type, and one whose parameter is a reference to a function of it. A function of each: the first calls itself, and the
 /// second has a block of the first type, which gives 7, and calls the first.
 const TWO: Parts<'static> = Parts {
-    types: &[0x02, 0x60, 0x00, 0x01, 0x7f, 0x60, 0x01, 0x63, 0x00, 0x00],
-    functions: &[0x02, 0x00, 0x01],
-    code: &[
-        0x02, 0x04, 0x00, 0x10, 0x00, 0x0b, 0x0b, 0x00, 0x02, 0x00, 0x41, 0x07, 0x0b, 0x1a, 0x10,
-        0x00, 0x1a, 0x0b,
-    ],
+    types: b"\x02\x60\0\x01\x7f\x60\x01c\0\0",
+    functions: b"\x02\0\x01",
+    code: b"\x02\x04\0\x10\0\x0b\x0b\0\x02\0\x41\x07\x0b\x1a\x10\0\x1a\x0b",
 };
 
-/// Both, by hand: the types and functions of the second are named by one more.
-const BOTH: [u8; 55] = [
-    0x00, 0x61, 0x73, 0x6d, 0x01, 0x00, 0x00, 0x00, // the header
-    0x01, 0x0e, 0x03, 0x60, 0x00, 0x01, 0x7f, // the types
-    0x60, 0x00, 0x01, 0x7f, 0x60, 0x01, 0x63, 0x01, 0x00, // those of the second
-    0x03, 0x04, 0x03, 0x00, 0x01, 0x02, // the functions, by their types
-    0x0a, 0x17, 0x03, 0x04, 0x00, 0x41, 0x01, 0x0b, // the code
-    0x04, 0x00, 0x10, 0x01, 0x0b, // that of the second
-    0x0b, 0x00, 0x02, 0x01, 0x41, 0x07, 0x0b, 0x1a, 0x10, 0x01, 0x1a, 0x0b,
-];
+/// Both, by hand: the types and functions of the second are named by one more. Types, then functions by their types, then code, of
+/// each those of the second behind those of the first.
+const BOTH: &[u8] =
+    b"\0asm\x01\0\0\0\x01\x0e\x03\x60\0\x01\x7f\x60\0\x01\x7f\x60\x01c\x01\0\x03\x04\x03\0\x01\x02\x0a\x17\x03\x04\0\x41\x01\x0b\x04\0\x10\x01\x0b\x0b\0\x02\x01\x41\x07\x0b\x1a\x10\x01\x1a\x0b";
 
 #[test]
 fn modules_are_linked(rt: HostRuntime) -> Result<(), Error<IndexOverflow>> {
-    let shift = Shift {
+    let mut shift = Shift {
         types: 1,
         functions: 1,
         ..Shift::default()
     };
     let bytes = link(rt.alloc(), ONE, TWO, shift)?;
-    assert!(rt; bytes.as_slice() == BOTH.as_slice());
-    let far = Shift {
-        types: u32::MAX,
-        functions: 1,
-        ..Shift::default()
-    };
-    let refused = match link(rt.alloc(), ONE, TWO, far) {
+    assert!(rt; bytes.as_slice() == BOTH);
+    shift.types = u32::MAX;
+    let refused = match link(rt.alloc(), ONE, TWO, shift) {
         Err(Error::UserError(IndexOverflow { index, .. })) => index == 1,
         _ => false,
     };

@@ -1,135 +1,57 @@
-//! Names: readers, and the walks over maps by closures.
-use reencode_core::{indirect_name_map, map_indirect_names, map_names, name_map};
+//! Names: a map that is asked behind its end, and the walks over maps by closures that are handed over.
+use reencode_core::{indirect_name_map, name_map};
 use reencode_hooks::Error;
 use std::alloc::Global;
-use wasm_leb::Fault;
+use wasm_leb::ReadError;
 use wasm_read as r;
-use wasm_write as w;
-use wasm_write::Section;
-
-/// The contents of a name section: a name of the module, of a function and of a local, and a subsection of the id 12.
-const CONTENTS: [u8; 21] = [
-    0x00, 0x02, 0x01, 0x6d, 0x01, 0x04, 0x01, 0x00, 0x01, 0x66, 0x02, 0x06, 0x01, 0x00, 0x01, 0x07,
-    0x01, 0x78, 0x0c, 0x01, 0xff,
-];
+use wasm_write::{NameSection, Section};
 
 /// A map with the entries 5, `a` and 0, without a name.
-const NAMES: [u8; 6] = [0x02, 0x05, 0x01, 0x61, 0x00, 0x00];
+const NAMES: &[u8] = b"\x02\x05\x01a\0\0";
 
 /// A map with the entry 3, the map of 9, `b`.
-const INDIRECT: [u8; 6] = [0x01, 0x03, 0x01, 0x09, 0x01, 0x62];
-
-/// Which of the subsections it is.
-fn kind(name: Option<r::Name<'_>>) -> u32 {
-    match name {
-        Some(r::Name::Module { name }) if name == "m" => 1,
-        Some(r::Name::Function(_)) => 2,
-        Some(r::Name::Local(_)) => 3,
-        Some(r::Name::Unknown { id: 12, contents }) if contents == [0xffu8].as_slice() => 4,
-        Some(_) => 5,
-        None => 0,
-    }
-}
+const INDIRECT: &[u8] = b"\x01\x03\x01\x09\x01b";
 
 #[test]
-fn subsections(rt: HostRuntime) -> Result<(), Fault> {
-    let alloc = rt.alloc();
-    let mut reader = r::NameSectionReader::new(&CONTENTS)?;
-    for wanted in [1, 2, 3, 4, 0] {
-        assert_eq!(rt; kind(reader.next_row(alloc)?), wanted);
+fn entries_end(rt: HostRuntime) -> Result<(), ReadError> {
+    let mut names = r::NameMap::new(NAMES);
+    let a = Some(r::Naming {
+        index: 5,
+        name: "a",
+    });
+    let unnamed = Some(r::Naming { index: 0, name: "" });
+    for entry in [a, unnamed, None, None] {
+        assert!(rt; names.next()? == entry);
     }
-    assert_eq!(rt; reader.place(), 21);
+    let mut outer = r::IndirectNameMap::new(INDIRECT);
+    for is_entry in [true, false, false] {
+        assert_eq!(rt; outer.next()?.is_some(), is_entry);
+    }
     Ok(())
 }
 
-#[test]
-fn entries(rt: HostRuntime) {
-    let mut names = r::NameMap::new(&NAMES);
-    assert!(rt;
-        names.next()
-            == Ok(Some(r::Naming {
-                index: 5,
-                name: "a"
-            }))
-    );
-    assert!(rt; names.next() == Ok(Some(r::Naming { index: 0, name: "" })));
-    assert!(rt; names.next() == Ok(None));
-    assert!(rt; names.next() == Ok(None));
-    let mut outer = r::IndirectNameMap::new(&INDIRECT);
-    let inner = match outer.next() {
-        Ok(
-            Some(
-                r::IndirectNaming {
-                    index: 3,
-                    mut names,
-                },
-            ),
-        ) => names.next(),
-        _ => Ok(None),
-    };
-    assert!(rt;
-        inner
-            == Ok(Some(r::Naming {
-                index: 9,
-                name: "b"
-            }))
-    );
-    assert!(rt; matches!(outer.next(), Ok(None)));
-}
-
-/// The walks over maps: each index one more, and two.
-fn mapped(alloc: Global, out: &mut Vec<u8>) -> Result<(), Error<u32>> {
-    let one = name_map(
+/// A map with each index one more, and behind it a name section of labels with each outer index three more.
+fn mapped(alloc: Global) -> Result<Vec<u8>, Error<u32>> {
+    let names = name_map(
         alloc,
-        r::NameMap::new(&NAMES),
+        r::NameMap::new(NAMES),
         |i: u32| Ok(i.wrapping_add(1)),
     )?;
-    one.encode(out)?;
-    let two = map_names(
-        alloc,
-        r::NameMap::new(&NAMES),
-        &mut |i: u32| Ok(i.wrapping_add(2)),
-    )?;
-    Ok(two.encode(out)?)
-}
-
-/// The walks over indirect maps: each outer index three more, and four.
-fn outer_mapped(alloc: Global, section: &mut w::NameSection) -> Result<(), Error<u32>> {
-    let three = indirect_name_map(alloc, r::IndirectNameMap::new(&INDIRECT), |i: u32| {
+    let labels = indirect_name_map(alloc, r::IndirectNameMap::new(INDIRECT), |i: u32| {
         Ok(i.wrapping_add(3))
     })?;
-    section.labels(&three)?;
-    let four = map_indirect_names(
-        alloc,
-        r::IndirectNameMap::new(&INDIRECT),
-        &mut |i: u32| { Ok(i.wrapping_add(4)) },
-    )?;
-    Ok(section.labels(&four)?)
+    let mut section = NameSection::new(alloc, u32::MAX);
+    section.labels(&labels)?;
+    let mut out = Vec::new(alloc);
+    names.encode(&mut out)?;
+    section.encode_body(&mut out)?;
+    Ok(out)
 }
 
-/// Whether a walk ends with the refusal of the first index.
-fn is_refused(alloc: Global) -> bool {
-    match name_map(alloc, r::NameMap::new(&NAMES), |i: u32| {
-        Err(Error::UserError(i))
-    }) {
-        Err(Error::UserError(5)) => true,
-        _ => false,
-    }
-}
+const MAPPED: &[u8] = b"\x02\x06\x01a\x01\0\x04name\x03\x06\x01\x06\x01\x09\x01b";
 
 #[test]
 fn maps_by_closures(rt: HostRuntime) -> Result<(), Error<u32>> {
-    let mut out = Vec::new(rt.alloc());
-    mapped(rt.alloc(), &mut out)?;
-    let mut section = w::NameSection::new(rt.alloc(), u32::MAX);
-    outer_mapped(rt.alloc(), &mut section)?;
-    section.encode_body(&mut out)?;
-    let wanted = [
-        0x02u8, 0x06, 0x01, 0x61, 0x01, 0x00, 0x02, 0x07, 0x01, 0x61, 0x02, 0x00, 0x04, 0x6e, 0x61,
-        0x6d, 0x65, 0x03, 0x06, 0x01, 0x06, 0x01, 0x09, 0x01, 0x62, 0x03, 0x06, 0x01, 0x07, 0x01,
-        0x09, 0x01, 0x62,
-    ];
-    assert!(rt; out.as_slice() == wanted.as_slice());
-    assert!(rt; is_refused(rt.alloc()));
+    assert!(rt; mapped(rt.alloc())?.as_slice() == MAPPED);
     Ok(())
 }

@@ -4,7 +4,9 @@ use crate::noter::{Notes, added, alone, mapped};
 use crate::values::rows;
 use reencode_component::{
     ReencodeComponent, ReencodeComponentItems, ReencodeComponentRows, component_utils as utils,
+    reencode,
 };
+use reencode_core::reencode_core;
 use reencode_hooks::Error;
 use std::alloc::Global;
 use wasm_read::CustomSection;
@@ -12,6 +14,12 @@ use wasm_read_component as r;
 use wasm_read_component::ComponentPayload;
 use wasm_write::RowSection;
 use wasm_write_component as w;
+
+/// A core module with a type, and a body.
+const MODULE: [u8; 20] = [
+    0x00, 0x61, 0x73, 0x6d, 0x01, 0x00, 0x00, 0x00, 0x01, 0x04, 0x01, 0x60, 0x00, 0x00, 0x0a, 0x04,
+    0x01, 0x02, 0x00, 0x0b,
+];
 
 /// A component with a section of each kind, which hold no rows, in another order than that of their ids.
 const COMPONENT: [u8; 64] = [
@@ -192,11 +200,27 @@ fn payload<N: ReencodeComponent + Notes>(
     )
 }
 
-/// Components, and what they hold.
+/// A core module, alone and by its header.
+fn binaries<N: ReencodeComponent + Notes>(
+    of: &mut N,
+    alloc: Global,
+    bytes: &[u8],
+) -> Result<(), Error<N::Error>> {
+    of.begin("reencode_core", "");
+    of.note("|");
+    reencode_core(alloc, of, bytes, u32::MAX)?;
+    of.begin("reencode", "");
+    of.note("|");
+    reencode(alloc, of, bytes)?;
+    Ok(())
+}
+
+/// Binaries, components, and what they hold.
 pub fn components<N: ReencodeComponent + Notes>(
     of: &mut N,
     alloc: Global,
 ) -> Result<(), Error<N::Error>> {
+    binaries(of, alloc, &MODULE)?;
     let mut made = w::Component::new(alloc, u32::MAX)?;
     component(of, alloc, &mut made, &COMPONENT)?;
     for (case, held) in PAYLOADS {

@@ -1,4 +1,4 @@
--- A reencoder of the tests that refuses one of its hook calls.
+-- A reencoder of the cases that refuses one of its hook calls.
 use Rattle.std.specs.Prelude.{ℕ, ◌+◌, ◌-◌, ◌^◌, ◌≡◌, Bool, true, false, not, ◌&&◌, Result, Ok, Err, nat_eq, min, if◌then◌else◌, refl}
 use Rattle.wasm_shapes.specs.declared.Visit.{Visit}
 use Rattle.wasm_shapes.specs.declared.Visit.TheVariants.{Index, Outer, Section, Closed, Push, Pop}

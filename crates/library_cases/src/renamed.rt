@@ -1,0 +1,171 @@
+//! Core modules, operators, components and binaries by their calls.
+use crate::additions::Additions;
+use crate::modules::{Bounds, Way, What, add_counts, made, way_of};
+use crate::stop::Stop;
+use crate::text::add_word;
+use crate::{components, refusing};
+use default_renamer::DefaultRenamer;
+use reencode_component::ReencodeComponent;
+use reencode_hooks::{Renamer, RoundtripReencoder};
+use std::alloc::{AllocError, Global};
+use std::fmt::Display;
+
+/// What is re-encoded: of a core module, a component, or a binary by its header.
+#[derive(Clone, Copy)]
+pub enum Of {
+    Core(What),
+    Component,
+    Binary,
+}
+
+impl Of {
+    /// What a call re-encodes.
+    fn call(call: &str) -> Option<Of> {
+        match call {
+            "rename" => Some(Of::Core(What::Module)),
+            "pieces" => Some(Of::Core(What::Pieces)),
+            "held" => Some(Of::Core(What::Held)),
+            "operators" => Some(Of::Core(What::Operators)),
+            "component" => Some(Of::Component),
+            "binary" => Some(Of::Binary),
+            _ => None,
+        }
+    }
+}
+
+/// What comes of it by any reencoder. A reencoder is handed over here alone, which is dear.
+pub fn made_of<R: ReencodeComponent>(
+    alloc: Global,
+    reencoder: &mut R,
+    of: Of,
+    bytes: &[u8],
+    bounds: Bounds,
+) -> Result<String, AllocError>
+where
+    R::Error: Display + Drop,
+{
+    match of {
+        Of::Core(what) => made(alloc, reencoder, what, bytes, bounds.ceiling),
+        Of::Component => components::made(alloc, reencoder, bytes, bounds),
+        Of::Binary => components::made_by_header(alloc, reencoder, bytes, bounds.ceiling),
+    }
+}
+
+/// What comes of it by a renamer, which is given back.
+fn by_renamer(
+    alloc: Global,
+    of: Of,
+    renamer: Renamer,
+    bytes: &[u8],
+    bounds: Bounds,
+) -> Result<(Renamer, String), Stop> {
+    let mut renamer = renamer;
+    let text = made_of(alloc, &mut renamer, of, bytes, bounds)?;
+    Ok((renamer, text))
+}
+
+/// What comes of it by a renamer, with the sections that words add.
+fn with_sections(
+    alloc: Global,
+    of: Of,
+    renamer: Renamer,
+    additions: &Additions,
+    bytes: &[u8],
+    bounds: Bounds,
+) -> Result<(Renamer, String), Stop> {
+    let mut adding = additions.around(renamer)?;
+    let text = made_of(alloc, &mut adding, of, bytes, bounds)?;
+    Ok((adding.reencoder.reencoder, text))
+}
+
+/// What comes of it by the renamer of the words, with the sections that they add; or where a call of a hook is refused.
+fn told(alloc: Global, of: Of, words: &str, bytes: &[u8]) -> Result<String, Stop> {
+    let Way {
+        renamer,
+        bounds,
+        is_counted,
+        additions,
+        refused,
+    } = way_of(alloc, words)?;
+    if let Some(at) = refused {
+        return refusing::told(alloc, of, at, bytes, bounds, is_counted);
+    }
+    let (renamer, mut text) = if additions.is_empty() {
+        by_renamer(alloc, of, renamer, bytes, bounds)?
+    } else {
+        with_sections(alloc, of, renamer, &additions, bytes, bounds)?
+    };
+    if is_counted {
+        add_counts(&mut text, &renamer)?;
+    }
+    Ok(text)
+}
+
+/// What comes of it by a renamer of these words that overrides nothing, of a whole module or of operators to which nothing is
+/// added, and none of whose calls is refused.
+fn told_by_default(
+    alloc: Global,
+    of: Of,
+    words: &str,
+    bytes: &[u8],
+) -> Result<Option<String>, Stop> {
+    let Of::Core(what) = of else {
+        return Ok(None);
+    };
+    let way = way_of(alloc, words)?;
+    if !what.is_compared() || !way.additions.is_empty() || way.refused.is_some() {
+        return Ok(None);
+    }
+    let mut renamer = DefaultRenamer {
+        renamer: way.renamer,
+    };
+    let mut text = made(alloc, &mut renamer, what, bytes, way.bounds.ceiling)?;
+    if way.is_counted {
+        add_counts(&mut text, &renamer.renamer)?;
+    }
+    Ok(Some(text))
+}
+
+/// Says also what came another way, where it differs.
+fn compare(text: &mut String, other: &str) -> Result<(), AllocError> {
+    if text.as_str() == other {
+        return Ok(());
+    }
+    add_word(text, "but by the default methods")?;
+    add_word(text, other)
+}
+
+/// What comes of it where it is renamed.
+fn renamed(alloc: Global, of: Of, words: &str, bytes: &[u8]) -> Result<String, Stop> {
+    let mut text = told(alloc, of, words, bytes)?;
+    if let Some(other) = told_by_default(alloc, of, words, bytes)? {
+        compare(&mut text, other.as_str())?;
+    }
+    Ok(text)
+}
+
+/// What comes of a module that is re-encoded as it is.
+fn roundtripped(alloc: Global, bytes: &[u8]) -> Result<String, Stop> {
+    let module = What::Module;
+    let mut text = made(alloc, &mut RoundtripReencoder, module, bytes, u32::MAX)?;
+    if let Some(other) = told_by_default(alloc, Of::Core(module), "", bytes)? {
+        compare(&mut text, other.as_str())?;
+    }
+    Ok(text)
+}
+
+/// What comes of a core module, of operators, of a component or of a binary, re-encoded.
+pub fn answer(
+    alloc: Global,
+    call: &str,
+    words: &str,
+    bytes: &[u8],
+) -> Result<Option<String>, Stop> {
+    if call == "roundtrip" {
+        return Ok(Some(roundtripped(alloc, bytes)?));
+    }
+    match Of::call(call) {
+        Some(of) => Ok(Some(renamed(alloc, of, words, bytes)?)),
+        None => Ok(None),
+    }
+}
