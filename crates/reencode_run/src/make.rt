@@ -88,8 +88,10 @@ fn task_of<F: Shelf>(alloc: Global, command: Command<'_>, shelf: &mut F) -> Resu
         }
         Command::Twice(first, second) => {
             let a = renamer_of_file(alloc, first, shelf)?;
-            let b = renamer_of_file(alloc, second, shelf)?;
-            Ok(Task::Reencode(Renamers::Both(Chain::new(a, b))))
+            match renamer_of_file(alloc, second, shelf) {
+                Ok(b) => Ok(Task::Reencode(Renamers::Both(Chain::new(a, b)))),
+                Err(fault) => Err(fault),
+            }
         }
         Command::Generate(n) => Ok(Task::Generate(n)),
         Command::KeepReport => Ok(Task::KeepReport),

@@ -1,4 +1,4 @@
-use Rattle.std.proofs.Common.{◌++◌, List, ℕ, Ok, Err, refl, subst}
+use Rattle.std.proofs.Common.{◌≡◌, ◌++◌, List, ℕ, Ok, Err, refl, subst}
 use Rattle.hex.specs.Hex.{encode_lower}
 use Rattle.reencode_run.specs.Answer.{Ends}
 use Rattle.reencode_run.specs.Tasks.{Does}

@@ -14,14 +14,14 @@ returns-in_ok-renamer-in-Rename-clause-uses g c =
     let a = c.in_ok-renamer-in-Rename in
     rw c.in-Rename.is (a.renamer ∷ [], (a.ensures.says, tt), refl)
 
-pub returns-in_err-b-in-Twice-clause-stops : goal.returns-in_err-b-in-Twice-clause-stops
-returns-in_err-b-in-Twice-clause-stops g c =
+pub returns-in-Err-clause-stops : goal.returns-in-Err-clause-stops
+returns-in-Err-clause-stops g c =
     let a = c.in_ok-a-in-Twice in
-    rw c.in-Twice.is (second_refused c.in-Twice.first.now c.in-Twice.second.now _ _ _ _ _ a.a _ a.ensures.same a.ensures.rises a.ensures.says c.in_err-b-in-Twice.ensures.stops)
+    rw c.in-Twice.is (second_refused c.in-Twice.first.now c.in-Twice.second.now _ _ _ _ _ a.a _ a.ensures.same a.ensures.rises a.ensures.says c.in-Err.ensures.stops)
 
-pub returns-in_ok-b-in-Twice-clause-uses : goal.returns-in_ok-b-in-Twice-clause-uses
-returns-in_ok-b-in-Twice-clause-uses g c =
+pub returns-in-Ok-clause-uses : goal.returns-in-Ok-clause-uses
+returns-in-Ok-clause-uses g c =
     let a = c.in_ok-a-in-Twice in
-    let b = c.in_ok-b-in-Twice in
+    let b = c.in-Ok in
     let says = subst (λ (t : Texts). FileSays of_renaming t c.in-Twice.second.now b.b) a.ensures.same b.ensures.says in
-    rw c.in-Twice.is (a.a ∷ b.b ∷ [], (a.ensures.says, (says, tt)), ap (λ both. task.Reencode (renamers.Both both)) c.new-in-Twice.ensures)
+    rw c.in-Twice.is (a.a ∷ b.b ∷ [], (a.ensures.says, (says, tt)), ap (λ both. task.Reencode (renamers.Both both)) c.new-in-Ok.ensures)
