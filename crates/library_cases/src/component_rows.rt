@@ -178,7 +178,7 @@ impl<'a> AddRow for r::CoreType<'a> {
     fn add_row(self, alloc: Global, text: &mut String) -> Result<(), AllocError> {
         add_core_type(text, &self)?;
         match self {
-            r::CoreType::Rec(_) => Ok(()),
+            r::CoreType::Rec(_group) => Ok(()),
             r::CoreType::Module(declarations) => add_rows(alloc, text, declarations),
         }
     }
@@ -191,7 +191,12 @@ impl<'a> AddRow for r::ComponentType<'a> {
         match self {
             r::ComponentType::Component(declarations) => add_rows(alloc, text, declarations),
             r::ComponentType::Instance(declarations) => add_rows(alloc, text, declarations),
-            _ => Ok(()),
+            r::ComponentType::Defined(_ty) => Ok(()),
+            r::ComponentType::Func(_ty) => Ok(()),
+            r::ComponentType::Resource {
+                rep: _rep,
+                dtor: _dtor,
+            } => Ok(()),
         }
     }
 }
