@@ -3,14 +3,12 @@
 
 mod behind;
 mod below;
-mod linker;
 mod marks;
 mod stripper;
 mod widened;
 
 pub use behind::{Behind, TooMany, move_behind};
 pub use below::{Below, NotBelow, check_below};
-pub use linker::{Parts, link};
 pub use marks::{Marks, add_marks};
 pub use stripper::{Stripper, strip};
 pub use widened::Widened;

@@ -1,10 +1,11 @@
 //! Sections that the words of a line add.
-ghost use Rattle.std.specs.Prelude.{◌≡◌};
-ghost use Rattle.library_cases.specs.Additions.{custom_row, is_before, is_behind, row_if};
+ghost use Rattle.std.specs.Prelude.{◌≡◌, string_bytes};
+ghost use Rattle.library_cases.specs.Additions.{is_before, is_behind, rows_before, rows_behind};
 
 use crate::case::{bytes_of, number};
 use crate::stop::Stop;
-use reencode_core::{Adding, SectionRule};
+use crate::surrounded::Surrounded;
+use reencode_core::SectionRule;
 use reencode_hooks::Renamer;
 use std::alloc::Global;
 use wasm_read::front_name;
@@ -38,7 +39,7 @@ fn kind(id: &str) -> Result<SectionId, Stop> {
 }
 
 /// Where a section is added.
-#[derive(Clone, Copy, Debug)]
+#[derive(Clone, Copy)]
 enum Place {
     /// Directly before each section of a kind.
     Before(SectionId),
@@ -92,19 +93,32 @@ impl Place {
 }
 
 /// Adds a custom section at a place.
-#[derive(Clone, Copy, Debug)]
-pub struct Added<'a> {
+#[derive(Drop)]
+pub struct Added {
     place: Place,
-    name: &'a str,
-    contents: &'a [u8],
+    name: String,
+    contents: Vec<u8>,
 }
 
-impl<'a> SectionRule for Added<'a> {
-    ghost sections = { λ s _ before.
-        row_if (is_before s.place before) (custom_row s.name.now s.contents.now) };
+impl Added {
+    /// The rule that adds a section of this name and these contents at a place.
+    fn at(alloc: Global, place: Place, name: &str, contents: &[u8]) -> Result<Added, Stop> {
+        let name = String::from_str(alloc, name)?;
+        match Vec::from_slice(alloc, contents) {
+            Ok(contents) => Ok(Added {
+                place,
+                name,
+                contents,
+            }),
+            Err(_) => Err(Stop::NoMemory),
+        }
+    }
+}
 
-    ghost behind = { λ s section.
-        row_if (is_behind s.place section) (custom_row s.name.now s.contents.now) };
+impl SectionRule for Added {
+    ghost sections = { λ s _ before. rows_before s.place (string_bytes s.name) s.contents.items before };
+
+    ghost behind = { λ s section. rows_behind s.place (string_bytes s.name) s.contents.items section };
 
     fn add_sections(
         &self,
@@ -117,8 +131,8 @@ impl<'a> SectionRule for Added<'a> {
         }
         if self.place.is_before(before) {
             module.section(&w::CustomSection {
-                name: self.name,
-                contents: self.contents,
+                name: self.name.as_str(),
+                contents: self.contents.as_slice(),
             })?;
         }
         Ok(())
@@ -130,8 +144,8 @@ impl<'a> SectionRule for Added<'a> {
         }
         if self.place.is_behind(section) {
             module.section(&w::CustomSection {
-                name: self.name,
-                contents: self.contents,
+                name: self.name.as_str(),
+                contents: self.contents.as_slice(),
             })?;
         }
         Ok(())
@@ -139,7 +153,7 @@ impl<'a> SectionRule for Added<'a> {
 }
 
 /// A word that adds a custom section: where, and the section's body.
-#[derive(Debug, Drop)]
+#[derive(Drop)]
 pub struct Addition {
     place: Place,
     body: Vec<u8>,
@@ -148,53 +162,42 @@ pub struct Addition {
 impl Addition {
     /// The addition of a word `before=ID:HEX`, whose ID may be `end`, or `behind=ID:HEX`.
     pub fn of_word(alloc: Global, key: &str, to: &str) -> Result<Addition, Stop> {
-        let Some((id, digits)) = to.split_once(':') else {
-            return Err(Stop::Unread);
-        };
-        Ok(Addition {
-            place: Place::of_word(key, id)?,
-            body: bytes_of(alloc, digits)?,
-        })
+        match to.split_once(':') {
+            Some((id, digits)) => Addition::at(alloc, Place::of_word(key, id)?, digits),
+            None => Err(Stop::Unread),
+        }
+    }
+
+    /// The addition at a place of the body that is spelled so.
+    fn at(alloc: Global, place: Place, digits: &str) -> Result<Addition, Stop> {
+        let body = bytes_of(alloc, digits)?;
+        Ok(Addition { place, body })
     }
 
     /// None, and memory only where a hook is handed a module without sections.
     pub fn alone(alloc: Global) -> Result<Addition, Stop> {
-        Ok(Addition {
-            place: Place::Alone,
-            body: bytes_of(alloc, "00")?,
-        })
+        Addition::at(alloc, Place::Alone, "00")
     }
 
     /// The rule that adds it.
-    fn rule(&self) -> Result<Added<'_>, Stop> {
+    fn rule(&self, alloc: Global) -> Result<Added, Stop> {
         match front_name(self.body.as_slice()) {
-            Some((name, contents)) => Ok(Added {
-                place: self.place,
-                name,
-                contents,
-            }),
+            Some((name, contents)) => Added::at(alloc, self.place, name, contents),
             None => Err(Stop::Unread),
         }
     }
 }
 
 /// The rule of an addition, where there is one, and else one that adds nothing.
-fn rule_of(addition: &Option<Addition>) -> Result<Added<'_>, Stop> {
+fn rule_of(alloc: Global, addition: &Option<Addition>) -> Result<Added, Stop> {
     match addition {
-        Some(addition) => addition.rule(),
-        None => Ok(Added {
-            place: Place::Nowhere,
-            name: "",
-            contents: &[],
-        }),
+        Some(addition) => addition.rule(alloc),
+        None => Added::at(alloc, Place::Nowhere, "", &[]),
     }
 }
 
-/// A renamer, around which two rules add sections, one within the other.
-pub type Surrounded<'a> = Adding<Adding<Renamer, Added<'a>>, Added<'a>>;
-
 /// The sections that the words of a line add: at most two, the second behind the first where both stand at one place.
-#[derive(Debug, Drop)]
+#[derive(Drop)]
 pub struct Additions {
     first: Option<Addition>,
     second: Option<Addition>,
@@ -226,16 +229,9 @@ impl Additions {
     }
 
     /// The renamer with their rules around it.
-    pub fn around(&self, renamer: Renamer) -> Result<Surrounded<'_>, Stop> {
-        let first = rule_of(&self.first)?;
-        let second = rule_of(&self.second)?;
-        let inner = Adding {
-            reencoder: renamer,
-            sections: first,
-        };
-        Ok(Adding {
-            reencoder: inner,
-            sections: second,
-        })
+    pub fn around(&self, alloc: Global, renamer: Renamer) -> Result<Surrounded, Stop> {
+        let first = rule_of(alloc, &self.first)?;
+        let second = rule_of(alloc, &self.second)?;
+        Ok(Surrounded::new(renamer, first, second))
     }
 }

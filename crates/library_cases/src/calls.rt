@@ -1,7 +1,7 @@
 //! The calls by their names.
 use crate::case::Case;
 use crate::stop::Stop;
-use crate::{component_rows, numbers, readers, renamed, sections, written};
+use crate::{component_rows, numbers, readers, renamed, sections, spaces, tools, written};
 use std::alloc::{AllocError, Global};
 
 /// What a reader at a place gives, where there is one of this name.
@@ -38,12 +38,18 @@ fn of_bytes(alloc: Global, case: &Case<'_>) -> Result<Option<String>, Stop> {
     if let Some(given) = renamed::answer(alloc, case.call, case.words, bytes)? {
         return Ok(Some(given));
     }
+    if let Some(given) = spaces::answer(alloc, case, bytes)? {
+        return Ok(Some(given));
+    }
     of_reader(alloc, case, bytes)
 }
 
 /// What comes of a call, where there is one of this name.
 fn given(alloc: Global, case: &Case<'_>) -> Result<String, Stop> {
     if let Some(given) = numbers::written(alloc, case.call, case.input)? {
+        return Ok(given);
+    }
+    if let Some(given) = tools::answer(alloc, case)? {
         return Ok(given);
     }
     match of_bytes(alloc, case)? {

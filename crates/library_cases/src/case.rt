@@ -4,7 +4,7 @@ use std::alloc::Global;
 use std::str::FromStr;
 
 /// A call of the libraries with its words, what it is given, and what is to come of it.
-#[derive(Clone, Copy, Debug)]
+#[derive(Clone, Copy)]
 pub struct Case<'a> {
     pub call: &'a str,
     pub words: &'a str,
@@ -27,13 +27,9 @@ impl<'a> Case<'a> {
         })
     }
 
-    /// The bytes of the input, as hexadecimal digits with blanks between them.
+    /// The bytes of the input.
     pub fn bytes(&self, alloc: Global) -> Result<Vec<u8>, Stop> {
-        let mut digits = String::new(alloc);
-        for part in self.input.split_whitespace() {
-            digits.push_str(part)?;
-        }
-        bytes_of(alloc, digits.as_str())
+        bytes_between(alloc, self.input)
     }
 
     /// The number of the one word `KEY=NUMBER`, and 0 where there is no word.
@@ -59,6 +55,15 @@ impl<'a> Case<'a> {
     pub fn depth(&self) -> Result<u32, Stop> {
         self.number_of("depth")
     }
+}
+
+/// The bytes of hexadecimal digits with blanks between them.
+pub fn bytes_between(alloc: Global, text: &str) -> Result<Vec<u8>, Stop> {
+    let mut digits = String::new(alloc);
+    for part in text.split_whitespace() {
+        digits.push_str(part)?;
+    }
+    bytes_of(alloc, digits.as_str())
 }
 
 /// The bytes of hexadecimal digits.

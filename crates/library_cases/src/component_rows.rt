@@ -18,9 +18,14 @@ impl<'a> AddRow for r::ComponentPayload<'a> {
     }
 }
 
+/// Adds an import.
+fn add_import(text: &mut String, import: &r::ComponentImport<'_>) -> Result<(), AllocError> {
+    add(text, import)
+}
+
 impl<'a> AddRow for r::ComponentImport<'a> {
     fn add_row(self, _alloc: Global, text: &mut String) -> Result<(), AllocError> {
-        add(text, &self)
+        add_import(text, &self)
     }
 }
 
@@ -30,9 +35,14 @@ impl<'a> AddRow for r::ComponentExport<'a> {
     }
 }
 
+/// Adds an alias.
+fn add_alias(text: &mut String, alias: &r::ComponentAlias<'_>) -> Result<(), AllocError> {
+    add(text, alias)
+}
+
 impl<'a> AddRow for r::ComponentAlias<'a> {
     fn add_row(self, _alloc: Global, text: &mut String) -> Result<(), AllocError> {
-        add(text, &self)
+        add_alias(text, &self)
     }
 }
 
@@ -67,23 +77,36 @@ impl<'a> AddRow for r::ComponentInstance<'a> {
     }
 }
 
+/// Adds of a function that is lifted the function, its options and its type.
+fn add_lift(
+    text: &mut String,
+    function: &u32,
+    options: &[r::CanonicalOption],
+    ty: &u32,
+) -> Result<(), AllocError> {
+    add_as(text, "function", function)?;
+    add(text, &options)?;
+    add_as(text, "type", ty)
+}
+
+/// Adds what is told of a canonical function beside its byte.
+fn add_lifted(text: &mut String, function: &r::CanonicalFunction) -> Result<(), AllocError> {
+    match function {
+        r::CanonicalFunction::Lift {
+            core_func_index,
+            type_index,
+            options,
+        } => add_lift(text, core_func_index, options.as_slice(), type_index),
+        _ => Ok(()),
+    }
+}
+
 // A canonical function: its byte; and of one that is lifted the function, its options and its type.
 impl AddRow for r::CanonicalFunction {
     fn add_row(self, alloc: Global, text: &mut String) -> Result<(), AllocError> {
         let (byte, _) = self.parts();
         add_bytes(alloc, text, &[byte])?;
-        match &self {
-            r::CanonicalFunction::Lift {
-                core_func_index,
-                type_index,
-                options,
-            } => {
-                add_as(text, "function", core_func_index)?;
-                add(text, &options.as_slice())?;
-                add_as(text, "type", type_index)
-            }
-            _ => Ok(()),
-        }
+        add_lifted(text, &self)
     }
 }
 
@@ -126,50 +149,74 @@ fn add_type(text: &mut String, ty: &r::ComponentType<'_>) -> Result<(), AllocErr
     }
 }
 
+/// Adds what a module type declares.
+fn add_of_module(
+    text: &mut String,
+    declaration: &r::ModuleTypeDeclaration<'_>,
+) -> Result<(), AllocError> {
+    match declaration {
+        r::ModuleTypeDeclaration::Type_(group) => add_group(text, group),
+        r::ModuleTypeDeclaration::Export { name, ty } => {
+            add_as(text, "export", name)?;
+            add(text, ty)
+        }
+        r::ModuleTypeDeclaration::OuterAlias { kind, count, index } => {
+            add_as(text, "outer", kind)?;
+            add(text, count)?;
+            add(text, index)
+        }
+        r::ModuleTypeDeclaration::Import(import) => add(text, import),
+    }
+}
+
 impl<'a> AddRow for r::ModuleTypeDeclaration<'a> {
     fn add_row(self, _alloc: Global, text: &mut String) -> Result<(), AllocError> {
-        match &self {
-            r::ModuleTypeDeclaration::Type_(group) => add_group(text, group),
-            r::ModuleTypeDeclaration::Export { name, ty } => {
-                add_as(text, "export", name)?;
-                add(text, ty)
-            }
-            r::ModuleTypeDeclaration::OuterAlias { kind, count, index } => {
-                add_as(text, "outer", kind)?;
-                add(text, count)?;
-                add(text, index)
-            }
-            r::ModuleTypeDeclaration::Import(import) => add(text, import),
-        }
+        add_of_module(text, &self)
+    }
+}
+
+/// Adds what is exported, by its name and its type.
+fn add_exported(text: &mut String, name: &str, ty: &r::ComponentTypeRef) -> Result<(), AllocError> {
+    add_as(text, "export", &name)?;
+    add(text, ty)
+}
+
+/// Adds what an instance type declares.
+fn add_of_instance(
+    text: &mut String,
+    declaration: &r::InstanceTypeDeclaration<'_>,
+) -> Result<(), AllocError> {
+    match declaration {
+        r::InstanceTypeDeclaration::CoreType(ty) => add_core_type(text, ty),
+        r::InstanceTypeDeclaration::Type_(ty) => add_type(text, ty),
+        r::InstanceTypeDeclaration::Alias(alias) => add_alias(text, alias),
+        r::InstanceTypeDeclaration::Export { name, ty } => add_exported(text, name, ty),
     }
 }
 
 impl<'a> AddRow for r::InstanceTypeDeclaration<'a> {
     fn add_row(self, _alloc: Global, text: &mut String) -> Result<(), AllocError> {
-        match &self {
-            r::InstanceTypeDeclaration::CoreType(ty) => add_core_type(text, ty),
-            r::InstanceTypeDeclaration::Type_(ty) => add_type(text, ty),
-            r::InstanceTypeDeclaration::Alias(alias) => add(text, alias),
-            r::InstanceTypeDeclaration::Export { name, ty } => {
-                add_as(text, "export", name)?;
-                add(text, ty)
-            }
-        }
+        add_of_instance(text, &self)
+    }
+}
+
+/// Adds what a component type declares.
+fn add_of_component(
+    text: &mut String,
+    declaration: &r::ComponentTypeDeclaration<'_>,
+) -> Result<(), AllocError> {
+    match declaration {
+        r::ComponentTypeDeclaration::CoreType(ty) => add_core_type(text, ty),
+        r::ComponentTypeDeclaration::Type_(ty) => add_type(text, ty),
+        r::ComponentTypeDeclaration::Alias(alias) => add_alias(text, alias),
+        r::ComponentTypeDeclaration::Export { name, ty } => add_exported(text, name, ty),
+        r::ComponentTypeDeclaration::Import(import) => add_import(text, import),
     }
 }
 
 impl<'a> AddRow for r::ComponentTypeDeclaration<'a> {
     fn add_row(self, _alloc: Global, text: &mut String) -> Result<(), AllocError> {
-        match &self {
-            r::ComponentTypeDeclaration::CoreType(ty) => add_core_type(text, ty),
-            r::ComponentTypeDeclaration::Type_(ty) => add_type(text, ty),
-            r::ComponentTypeDeclaration::Alias(alias) => add(text, alias),
-            r::ComponentTypeDeclaration::Export { name, ty } => {
-                add_as(text, "export", name)?;
-                add(text, ty)
-            }
-            r::ComponentTypeDeclaration::Import(import) => add(text, import),
-        }
+        add_of_component(text, &self)
     }
 }
 

@@ -16,8 +16,11 @@ mod refusing;
 mod renamed;
 mod row_text;
 mod sections;
+mod spaces;
 mod stop;
+mod surrounded;
 mod text;
+mod tools;
 mod written;
 
 use crate::calls::answer;

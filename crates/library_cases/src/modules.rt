@@ -8,13 +8,13 @@ use reencode_core::{Reencode, reencode_core};
 use reencode_hooks::{Asked, Error, Renamer};
 use std::alloc::{AllocError, Global};
 use std::fmt::Display;
-use wasm_leb::NoMemory;
+use wasm_leb::{Fault, NoMemory};
 use wasm_read::{CodeSectionReader, FunctionBody};
 use wasm_shapes::Space;
 use wasm_write::{CodeSection, Module, Section, StartSection};
 
 /// The spaces, in the order in which their counts are told.
-const SPACES: [Space; 16] = [
+pub const SPACES: [Space; 16] = [
     Space::Data,
     Space::Element,
     Space::Function,
@@ -101,23 +101,30 @@ impl Way {
         Ok(())
     }
 
-    /// Follows a word: `strict`, `counted`, `alone`, `SPACE.FROM=TO`, or one of another key.
+    /// Maps an index of a space, by their words.
+    fn map(&mut self, name: &str, from: &str, to: &str) -> Result<(), Stop> {
+        let space = space(name)?;
+        Ok(self.renamer.set(space, number(from)?, number(to)?)?)
+    }
+
+    /// Follows a word `SPACE.FROM=TO`, or one of another key.
+    fn follow_pair(&mut self, alloc: Global, key: &str, to: &str) -> Result<(), Stop> {
+        match key.split_once('.') {
+            Some((name, from)) => self.map(name, from, to),
+            None => self.follow_key(alloc, key, to),
+        }
+    }
+
+    /// Follows a word: `strict`, `counted`, `alone`, or one with a key.
     fn follow(&mut self, alloc: Global, word: &str) -> Result<(), Stop> {
         match word {
             "strict" => self.renamer.set_strict(true),
             "counted" => self.is_counted = true,
             "alone" => self.additions.push(Addition::alone(alloc)?)?,
-            _ => {
-                let Some((key, to)) = word.split_once('=') else {
-                    return Err(Stop::Unread);
-                };
-                match key.split_once('.') {
-                    Some((name, from)) => {
-                        self.renamer.set(space(name)?, number(from)?, number(to)?)?;
-                    }
-                    None => self.follow_key(alloc, key, to)?,
-                }
-            }
+            _ => match word.split_once('=') {
+                Some((key, to)) => self.follow_pair(alloc, key, to)?,
+                None => return Err(Stop::Unread),
+            },
         }
         Ok(())
     }
@@ -175,6 +182,28 @@ fn joined(alloc: Global, front: &[u8], back: &[u8]) -> Result<Vec<u8>, NoMemory>
     }
 }
 
+/// The operators of a body without locals.
+fn operators_of(alloc: Global, func: FunctionBody<'_>) -> Result<Vec<u8>, Fault> {
+    let operators = func.operators()?;
+    Ok(joined(alloc, &[], operators.rest())?)
+}
+
+/// The operators of the first body in a section of code.
+fn first_operators(alloc: Global, section: &[u8]) -> Result<Vec<u8>, Fault> {
+    let mut rows = CodeSectionReader::new(section)?;
+    match rows.next_row(alloc)? {
+        Some(func) => operators_of(alloc, func),
+        None => Ok(Vec::new(alloc)),
+    }
+}
+
+/// The same of a section as it is written.
+fn operators_of_code(alloc: Global, code: &CodeSection) -> Result<Vec<u8>, Fault> {
+    let mut section = Vec::new(alloc);
+    code.encode_body(&mut section)?;
+    first_operators(alloc, section.as_slice())
+}
+
 /// The operators of a body without locals, re-encoded.
 fn reencode_operators<R: Reencode>(
     alloc: Global,
@@ -183,17 +212,12 @@ fn reencode_operators<R: Reencode>(
     ceiling: u32,
 ) -> Result<Vec<u8>, Error<R::Error>> {
     let body = joined(alloc, &[0], operators)?;
-    let mut code = CodeSection::new(alloc, ceiling);
     let func = FunctionBody {
         bytes: body.as_slice(),
     };
+    let mut code = CodeSection::new(alloc, ceiling);
     reencoder.parse_function_body(alloc, &mut code, func)?;
-    let mut section = Vec::new(alloc);
-    code.encode_body(&mut section)?;
-    match CodeSectionReader::new(section.as_slice())?.next_row(alloc)? {
-        Some(func) => Ok(joined(alloc, &[], func.operators()?.rest())?),
-        None => Ok(Vec::new(alloc)),
-    }
+    Ok(operators_of_code(alloc, &code)?)
 }
 
 /// Adds what a refusal says.
@@ -242,6 +266,49 @@ where
     add_bytes(alloc, text, module.as_slice())
 }
 
+/// Adds what a module holds where it is re-encoded into one with a start section, or why there is none.
+fn add_started<R: Reencode>(
+    alloc: Global,
+    text: &mut String,
+    reencoder: &mut R,
+    bytes: &[u8],
+    ceiling: u32,
+) -> Result<(), AllocError>
+where
+    R::Error: Display + Drop,
+{
+    match started(alloc, ceiling) {
+        Ok(module) => add_held(alloc, text, reencoder, bytes, module),
+        Err(e) => add_refused::<R::Error>(alloc, text, &e),
+    }
+}
+
+/// Adds what comes of it, or the refusal.
+fn add_what<R: Reencode>(
+    alloc: Global,
+    text: &mut String,
+    reencoder: &mut R,
+    what: What,
+    bytes: &[u8],
+    ceiling: u32,
+) -> Result<(), AllocError>
+where
+    R::Error: Display + Drop,
+{
+    match what {
+        What::Module => {
+            let made = reencode_core(alloc, reencoder, bytes, ceiling);
+            add_made(alloc, text, made)
+        }
+        What::Operators => {
+            let made = reencode_operators(alloc, reencoder, bytes, ceiling);
+            add_made(alloc, text, made)
+        }
+        What::Pieces => add_pieces(alloc, text, reencoder, bytes, ceiling),
+        What::Held => add_started(alloc, text, reencoder, bytes, ceiling),
+    }
+}
+
 /// What comes of it, or the refusal.
 pub fn made<R: Reencode>(
     alloc: Global,
@@ -254,20 +321,6 @@ where
     R::Error: Display + Drop,
 {
     let mut text = String::new(alloc);
-    match what {
-        What::Module => {
-            let made = reencode_core(alloc, reencoder, bytes, ceiling);
-            add_made(alloc, &mut text, made)?;
-        }
-        What::Operators => {
-            let made = reencode_operators(alloc, reencoder, bytes, ceiling);
-            add_made(alloc, &mut text, made)?;
-        }
-        What::Pieces => add_pieces(alloc, &mut text, reencoder, bytes, ceiling)?,
-        What::Held => match started(alloc, ceiling) {
-            Ok(module) => add_held(alloc, &mut text, reencoder, bytes, module)?,
-            Err(e) => add_refused::<R::Error>(alloc, &mut text, &e)?,
-        },
-    }
+    add_what(alloc, &mut text, reencoder, what, bytes, ceiling)?;
     Ok(text)
 }

@@ -101,14 +101,17 @@ fn write_all(alloc: Global, input: &str) -> Result<String, Stop> {
     Ok(hex::encode(alloc, out.as_slice())?)
 }
 
+/// How many bytes a number takes.
+fn length(alloc: Global, input: &str) -> Result<String, Stop> {
+    let len = len_u32(number(input)?);
+    Ok(format!(in alloc; "{len}")?)
+}
+
 /// What a writer of numbers gives.
 pub fn written(alloc: Global, call: &str, input: &str) -> Result<Option<String>, Stop> {
     match call {
         "write" => Ok(Some(write_all(alloc, input)?)),
-        "len_u32" => {
-            let len = len_u32(number(input)?);
-            Ok(Some(format!(in alloc; "{len}")?))
-        }
+        "len_u32" => Ok(Some(length(alloc, input)?)),
         _ => Ok(None),
     }
 }

@@ -73,32 +73,77 @@ fn with_sections(
     bytes: &[u8],
     bounds: Bounds,
 ) -> Result<(Renamer, String), Stop> {
-    let mut adding = additions.around(renamer)?;
+    let mut adding = additions.around(alloc, renamer)?;
     let text = made_of(alloc, &mut adding, of, bytes, bounds)?;
-    Ok((adding.reencoder.reencoder, text))
+    Ok((adding.into_renamer(), text))
 }
 
-/// What comes of it by the renamer of the words, with the sections that they add; or where a call of a hook is refused.
-fn told(alloc: Global, of: Of, words: &str, bytes: &[u8]) -> Result<String, Stop> {
-    let Way {
-        renamer,
-        bounds,
-        is_counted,
-        additions,
-        refused,
-    } = way_of(alloc, words)?;
-    if let Some(at) = refused {
-        return refusing::told(alloc, of, at, bytes, bounds, is_counted);
-    }
-    let (renamer, mut text) = if additions.is_empty() {
-        by_renamer(alloc, of, renamer, bytes, bounds)?
+/// What comes of it by a renamer, with the sections that words add, if any.
+fn with_additions(
+    alloc: Global,
+    of: Of,
+    renamer: Renamer,
+    additions: &Additions,
+    bytes: &[u8],
+    bounds: Bounds,
+) -> Result<(Renamer, String), Stop> {
+    if additions.is_empty() {
+        by_renamer(alloc, of, renamer, bytes, bounds)
     } else {
-        with_sections(alloc, of, renamer, &additions, bytes, bounds)?
-    };
+        with_sections(alloc, of, renamer, additions, bytes, bounds)
+    }
+}
+
+/// What comes of it in a way by which no call of a hook is refused.
+fn unrefused(alloc: Global, of: Of, way: Way, bytes: &[u8]) -> Result<String, Stop> {
+    let is_counted = way.is_counted;
+    let (renamer, mut text) = with_additions(
+        alloc,
+        of,
+        way.renamer,
+        &way.additions,
+        bytes,
+        way.bounds,
+    )?;
     if is_counted {
         add_counts(&mut text, &renamer)?;
     }
     Ok(text)
+}
+
+/// What comes of it by the renamer of the words, with the sections that they add; or where a call of a hook is refused.
+fn told(alloc: Global, of: Of, words: &str, bytes: &[u8]) -> Result<String, Stop> {
+    let way = way_of(alloc, words)?;
+    match way.refused {
+        Some(at) => refusing::told(alloc, of, at, bytes, way.bounds, way.is_counted),
+        None => unrefused(alloc, of, way, bytes),
+    }
+}
+
+/// What comes of it by a renamer that overrides nothing, which is given back.
+fn by_default(
+    alloc: Global,
+    what: What,
+    renamer: Renamer,
+    bytes: &[u8],
+    ceiling: u32,
+) -> Result<(Renamer, String), Stop> {
+    let mut renamer = DefaultRenamer { renamer };
+    let text = made(alloc, &mut renamer, what, bytes, ceiling)?;
+    Ok((renamer.renamer, text))
+}
+
+/// The same in a way by which nothing is added and no call is refused.
+fn compared(alloc: Global, what: What, way: Way, bytes: &[u8]) -> Result<Option<String>, Stop> {
+    if !way.additions.is_empty() || way.refused.is_some() {
+        return Ok(None);
+    }
+    let is_counted = way.is_counted;
+    let (renamer, mut text) = by_default(alloc, what, way.renamer, bytes, way.bounds.ceiling)?;
+    if is_counted {
+        add_counts(&mut text, &renamer)?;
+    }
+    Ok(Some(text))
 }
 
 /// What comes of it by a renamer of these words that overrides nothing, of a whole module or of operators to which nothing is
@@ -109,21 +154,10 @@ fn told_by_default(
     words: &str,
     bytes: &[u8],
 ) -> Result<Option<String>, Stop> {
-    let Of::Core(what) = of else {
-        return Ok(None);
-    };
-    let way = way_of(alloc, words)?;
-    if !what.is_compared() || !way.additions.is_empty() || way.refused.is_some() {
-        return Ok(None);
+    match of {
+        Of::Core(what) if what.is_compared() => compared(alloc, what, way_of(alloc, words)?, bytes),
+        _ => Ok(None),
     }
-    let mut renamer = DefaultRenamer {
-        renamer: way.renamer,
-    };
-    let mut text = made(alloc, &mut renamer, what, bytes, way.bounds.ceiling)?;
-    if way.is_counted {
-        add_counts(&mut text, &renamer.renamer)?;
-    }
-    Ok(Some(text))
 }
 
 /// Says also what came another way, where it differs.

@@ -7,7 +7,7 @@ use wasm_leb::{Fault, NoMemory, ReadError};
 use wasm_write::WriteFault;
 
 /// Why a call gives no answer.
-#[derive(Debug, Drop)]
+#[derive(Drop)]
 pub enum Stop {
     /// There is no such call, or its words or its input are none of it.
     Unread,

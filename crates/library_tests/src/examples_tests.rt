@@ -1,7 +1,7 @@
 //! The examples, run.
+use crate::rules_tests::shifted;
 use examples::{
-    Marks, NotBelow, Parts, Stripper, TooMany, Widened, add_marks, check_below, link, move_behind,
-    strip,
+    Marks, NotBelow, Stripper, TooMany, Widened, add_marks, check_below, move_behind, strip,
 };
 use reencode_core::reencode_core;
 use reencode_hooks::{Error, IndexOverflow, Shift};
@@ -117,37 +117,21 @@ fn marks_are_added(rt: HostRuntime) -> Result<(), Error<Infallible>> {
     Ok(())
 }
 
-/// A type without parameters that gives an `i32`; a function of it, which gives 1.
-const ONE: Parts<'static> = Parts {
-    types: b"\x01\x60\0\x01\x7f",
-    functions: b"\x01\0",
-    code: b"\x01\x04\0\x41\x01\x0b",
-};
-
-/// The same type, and one whose parameter is a reference to a function of it. A function of each: the first calls itself, and the
-/// second has a block of the first type, which gives 7, and calls the first.
-const TWO: Parts<'static> = Parts {
-    types: b"\x02\x60\0\x01\x7f\x60\x01c\0\0",
-    functions: b"\x02\0\x01",
-    code: b"\x02\x04\0\x10\0\x0b\x0b\0\x02\0\x41\x07\x0b\x1a\x10\0\x1a\x0b",
-};
-
-/// Both, by hand: the types and functions of the second are named by one more. Types, then functions by their types, then code, of
-/// each those of the second behind those of the first.
-const BOTH: &[u8] =
-    b"\0asm\x01\0\0\0\x01\x0e\x03\x60\0\x01\x7f\x60\0\x01\x7f\x60\x01c\x01\0\x03\x04\x03\0\x01\x02\x0a\x17\x03\x04\0\x41\x01\x0b\x04\0\x10\x01\x0b\x0b\0\x02\x01\x41\x07\x0b\x1a\x10\x01\x1a\x0b";
+/// The module that adds, with its type and its function moved behind one.
+const SHIFTED: &[u8] =
+    b"\0asm\x01\0\0\0\x01\x07\x01\x60\x02\x7f\x7f\x01\x7f\x03\x02\x01\x01\x07\x05\x01\x01f\0\x01\x0a\x09\x01\x07\0\x20\0\x20\x01j\x0b";
 
 #[test]
-fn modules_are_linked(rt: HostRuntime) -> Result<(), Error<IndexOverflow>> {
+fn indices_shift(rt: HostRuntime) -> Result<(), Error<IndexOverflow>> {
     let mut shift = Shift {
         types: 1,
         functions: 1,
         ..Shift::default()
     };
-    let bytes = link(rt.alloc(), ONE, TWO, shift)?;
-    assert!(rt; bytes.as_slice() == BOTH);
-    shift.types = u32::MAX;
-    let refused = match link(rt.alloc(), ONE, TWO, shift) {
+    let bytes = shifted(rt.alloc(), shift, ADDS)?;
+    assert!(rt; bytes.as_slice() == SHIFTED);
+    shift.functions = u32::MAX;
+    let refused = match shifted(rt.alloc(), shift, EXPORTS) {
         Err(Error::UserError(IndexOverflow { index, .. })) => index == 1,
         _ => false,
     };

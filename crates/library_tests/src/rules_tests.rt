@@ -28,7 +28,7 @@ const SHIFT: Shift = Shift {
 };
 
 /// A module with its indices moved. The rule is handed over here alone, which is dear.
-fn shifted(alloc: Global, shift: Shift, bytes: &[u8]) -> Result<Vec<u8>, Error<IndexOverflow>> {
+pub fn shifted(alloc: Global, shift: Shift, bytes: &[u8]) -> Result<Vec<u8>, Error<IndexOverflow>> {
     reencode_by_rule(alloc, shift, bytes, u32::MAX)
 }
 

@@ -3,7 +3,6 @@ use crate::answers;
 use crate::noter::{Made, Noter, Notes, answered};
 use reencode_core::Reencode;
 use std::alloc::Global;
-use wasm_leb::List;
 use wasm_read as r;
 use wasm_shapes::SectionId;
 use wasm_write as w;
@@ -147,11 +146,7 @@ impl Reencode for Noter<All> {
     }
 
     fn element_items(&mut self, alloc: Global, _items: r::ElementItems<'_>) -> Made<w::Elements> {
-        answered!(
-            self,
-            element_items,
-            Ok(w::Elements::Functions(List::new(alloc)))
-        )
+        answered!(self, element_items, Ok(answers::elements(alloc)))
     }
 
     fn parse_code_section(

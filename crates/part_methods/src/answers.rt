@@ -92,6 +92,11 @@ pub fn group(alloc: Global) -> w::RecGroup {
     }
 }
 
+/// No functions.
+pub fn elements(alloc: Global) -> w::Elements {
+    w::Elements::Functions(List::new(alloc))
+}
+
 /// The operator `end`.
 pub fn end<'a>(alloc: Global) -> Made<w::Instruction<'a>> {
     w::Instruction::new(END, List::new(alloc)).ok_or(UNASKED)

@@ -157,14 +157,26 @@ pub fn aliases<N: ReencodeComponentItems + Notes>(of: &mut N) -> Result<(), Erro
     Ok(())
 }
 
+/// A primitive type.
+fn primitive<N: ReencodeComponentItems + Notes>(of: &mut N, ty: r::PrimitiveValType) {
+    sure!(of, component_primitive_val_type(ty));
+}
+
+/// The kind of an export.
+fn export_kind<N: ReencodeComponentItems + Notes>(of: &mut N, kind: r::ComponentExternalKind) {
+    sure!(of, component_export_kind(kind));
+}
+
+/// The kind of an alias of what is further out.
+fn outer_kind<N: ReencodeComponentItems + Notes>(of: &mut N, kind: r::ComponentOuterAliasKind) {
+    sure!(of, component_outer_alias_kind(kind));
+}
+
 /// Kinds.
 fn kinds<N: ReencodeComponentItems + Notes>(of: &mut N) {
-    sure!(of, component_primitive_val_type(r::PrimitiveValType::Bool));
-    sure!(of, component_export_kind(r::ComponentExternalKind::Func));
-    sure!(
-        of,
-        component_outer_alias_kind(r::ComponentOuterAliasKind::Type_)
-    );
+    primitive(of, r::PrimitiveValType::Bool);
+    export_kind(of, r::ComponentExternalKind::Func);
+    outer_kind(of, r::ComponentOuterAliasKind::Type_);
 }
 
 /// An option of a canonical function.

@@ -212,31 +212,80 @@ fn canonical_function<N: ReencodeComponentItems + Notes>(
     added!(of, case, parse_component_canonical(alloc, sink, row))
 }
 
-/// Rows of sections.
-pub fn rows<N: ReencodeComponentItems + Notes>(
+/// The instance that a section's body holds.
+fn component_instance_of<N: ReencodeComponentItems + Notes>(
+    of: &mut N,
+    case: &str,
+    alloc: Global,
+    body: &[u8],
+) -> Result<(), Error<N::Error>> {
+    let row = v::row(alloc, r::ComponentInstanceSectionReader::new(body)?)?;
+    component_instance(of, case, alloc, row, &mut RowSection::new(alloc))
+}
+
+/// The core instance that a section's body holds.
+fn instance_of<N: ReencodeComponentItems + Notes>(
+    of: &mut N,
+    case: &str,
+    alloc: Global,
+    body: &[u8],
+) -> Result<(), Error<N::Error>> {
+    let row = v::row(alloc, r::InstanceSectionReader::new(body)?)?;
+    instance(of, case, alloc, row, &mut RowSection::new(alloc))
+}
+
+/// The canonical function that a section's body holds.
+fn canonical_function_of<N: ReencodeComponentItems + Notes>(
+    of: &mut N,
+    case: &str,
+    alloc: Global,
+    body: &[u8],
+) -> Result<(), Error<N::Error>> {
+    let row = v::row(alloc, r::ComponentCanonicalSectionReader::new(body)?)?;
+    canonical_function(of, case, alloc, row, &mut RowSection::new(alloc))
+}
+
+/// Exports.
+pub fn exports<N: ReencodeComponentItems + Notes>(
     of: &mut N,
     alloc: Global,
 ) -> Result<(), Error<N::Error>> {
     for (case, row) in EXPORTS {
         export(of, case, row, &mut RowSection::new(alloc))?;
     }
+    Ok(())
+}
+
+/// Instances.
+pub fn component_instances<N: ReencodeComponentItems + Notes>(
+    of: &mut N,
+    alloc: Global,
+) -> Result<(), Error<N::Error>> {
     for (case, body) in COMPONENT_INSTANCES {
-        component_instance(
-            of,
-            case,
-            alloc,
-            v::row(alloc, r::ComponentInstanceSectionReader::new(body)?)?,
-            &mut RowSection::new(alloc),
-        )?;
+        component_instance_of(of, case, alloc, body)?;
     }
+    Ok(())
+}
+
+/// Core instances.
+pub fn instances<N: ReencodeComponentItems + Notes>(
+    of: &mut N,
+    alloc: Global,
+) -> Result<(), Error<N::Error>> {
     for (case, body) in INSTANCES {
-        instance(
-            of,
-            case,
-            alloc,
-            v::row(alloc, r::InstanceSectionReader::new(body)?)?,
-            &mut RowSection::new(alloc),
-        )?;
+        instance_of(of, case, alloc, body)?;
+    }
+    Ok(())
+}
+
+/// Canonical functions, each of its bytes. A loop over a table that stands here costs its check more by each row.
+fn canonical_functions_of<N: ReencodeComponentItems + Notes>(
+    of: &mut N,
+    alloc: Global,
+    cases: &[(&str, &[u8])],
+) -> Result<(), Error<N::Error>> {
+    for (case, body) in cases {
+        canonical_function_of(of, case, alloc, body)?;
     }
     Ok(())
 }
@@ -246,16 +295,7 @@ pub fn canonical_functions<N: ReencodeComponentItems + Notes>(
     of: &mut N,
     alloc: Global,
 ) -> Result<(), Error<N::Error>> {
-    for (case, body) in CANONICAL_FUNCTIONS {
-        canonical_function(
-            of,
-            case,
-            alloc,
-            v::row(alloc, r::ComponentCanonicalSectionReader::new(body)?)?,
-            &mut RowSection::new(alloc),
-        )?;
-    }
-    Ok(())
+    canonical_functions_of(of, alloc, &CANONICAL_FUNCTIONS)
 }
 
 /// A function type.
@@ -303,36 +343,96 @@ fn module_declaration<N: ReencodeComponentRows + Notes>(
     )
 }
 
-/// Types of functions and of values.
-pub fn types<N: ReencodeComponentItems + Notes>(
+/// The function type that a section's body holds.
+fn function_of<N: ReencodeComponentItems + Notes>(
+    of: &mut N,
+    case: &str,
+    alloc: Global,
+    body: &[u8],
+) -> Result<(), Error<N::Error>> {
+    function(of, case, alloc, v::function(alloc, body)?)
+}
+
+/// The type of values that a section's body holds.
+fn defined_of<N: ReencodeComponentItems + Notes>(
+    of: &mut N,
+    case: &str,
+    alloc: Global,
+    body: &[u8],
+) -> Result<(), Error<N::Error>> {
+    defined(of, case, alloc, v::defined(alloc, body)?)
+}
+
+/// The core type that a section's body holds.
+fn core_type_of<N: ReencodeComponentRows + Notes>(
+    of: &mut N,
+    case: &str,
+    alloc: Global,
+    body: &[u8],
+) -> Result<(), Error<N::Error>> {
+    core_type(of, case, alloc, v::core_type(alloc, body)?)
+}
+
+/// The declaration that a module type holds.
+fn module_declaration_of<N: ReencodeComponentRows + Notes>(
+    of: &mut N,
+    case: &str,
+    alloc: Global,
+    body: &[u8],
+) -> Result<(), Error<N::Error>> {
+    let row = v::row(alloc, r::ModuleDeclarations::new(body)?)?;
+    module_declaration(of, case, alloc, row, &mut RowSection::new(alloc))
+}
+
+/// Types of functions.
+pub fn functions<N: ReencodeComponentItems + Notes>(
     of: &mut N,
     alloc: Global,
 ) -> Result<(), Error<N::Error>> {
     for (case, body) in FUNCTIONS {
-        function(of, case, alloc, v::function(alloc, body)?)?;
-    }
-    for (case, body) in DEFINED {
-        defined(of, case, alloc, v::defined(alloc, body)?)?;
+        function_of(of, case, alloc, body)?;
     }
     Ok(())
 }
 
-/// Core types, and what module types declare.
+/// Types of values, each of its bytes.
+fn values_of<N: ReencodeComponentItems + Notes>(
+    of: &mut N,
+    alloc: Global,
+    cases: &[(&str, &[u8])],
+) -> Result<(), Error<N::Error>> {
+    for (case, body) in cases {
+        defined_of(of, case, alloc, body)?;
+    }
+    Ok(())
+}
+
+/// Types of values.
+pub fn values<N: ReencodeComponentItems + Notes>(
+    of: &mut N,
+    alloc: Global,
+) -> Result<(), Error<N::Error>> {
+    values_of(of, alloc, &DEFINED)
+}
+
+/// Core types.
 pub fn core_types<N: ReencodeComponentRows + Notes>(
     of: &mut N,
     alloc: Global,
 ) -> Result<(), Error<N::Error>> {
     for (case, body) in CORE_TYPES {
-        core_type(of, case, alloc, v::core_type(alloc, body)?)?;
+        core_type_of(of, case, alloc, body)?;
     }
+    Ok(())
+}
+
+/// What module types declare.
+pub fn declarations<N: ReencodeComponentRows + Notes>(
+    of: &mut N,
+    alloc: Global,
+) -> Result<(), Error<N::Error>> {
     for (case, body) in DECLARATIONS {
-        module_declaration(
-            of,
-            case,
-            alloc,
-            v::row(alloc, r::ModuleDeclarations::new(body)?)?,
-            &mut RowSection::new(alloc),
-        )?;
+        module_declaration_of(of, case, alloc, body)?;
     }
     Ok(())
 }

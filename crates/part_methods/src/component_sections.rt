@@ -215,6 +215,18 @@ fn binaries<N: ReencodeComponent + Notes>(
     Ok(())
 }
 
+/// What a component holds.
+fn payloads<N: ReencodeComponent + Notes>(
+    of: &mut N,
+    alloc: Global,
+    made: &mut w::Component,
+) -> Result<(), Error<N::Error>> {
+    for (case, held) in PAYLOADS {
+        payload(of, case, alloc, made, held)?;
+    }
+    Ok(())
+}
+
 /// Binaries, components, and what they hold.
 pub fn components<N: ReencodeComponent + Notes>(
     of: &mut N,
@@ -223,10 +235,7 @@ pub fn components<N: ReencodeComponent + Notes>(
     binaries(of, alloc, &MODULE)?;
     let mut made = w::Component::new(alloc, u32::MAX)?;
     component(of, alloc, &mut made, &COMPONENT)?;
-    for (case, held) in PAYLOADS {
-        payload(of, case, alloc, &mut made, held)?;
-    }
-    Ok(())
+    payloads(of, alloc, &mut made)
 }
 
 /// A section of imports.
@@ -309,7 +318,7 @@ pub fn sections<N: ReencodeComponentRows + Notes>(
     exports(of, alloc, rows(&EXPORTS)?, &mut RowSection::new(alloc))
 }
 
-/// Sections whose rows hold lists.
+/// Sections of canonical functions and of instances.
 pub fn more_sections<N: ReencodeComponentRows + Notes>(
     of: &mut N,
     alloc: Global,
@@ -325,7 +334,14 @@ pub fn more_sections<N: ReencodeComponentRows + Notes>(
         alloc,
         rows(&COMPONENT_INSTANCES)?,
         &mut RowSection::new(alloc),
-    )?;
+    )
+}
+
+/// Sections of core instances and of core types.
+pub fn core_sections<N: ReencodeComponentRows + Notes>(
+    of: &mut N,
+    alloc: Global,
+) -> Result<(), Error<N::Error>> {
     instances(of, alloc, rows(&INSTANCES)?, &mut RowSection::new(alloc))?;
     core_types(
         of,

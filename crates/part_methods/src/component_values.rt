@@ -4,6 +4,7 @@ use std::alloc::Global;
 use wasm_leb::Fault;
 use wasm_read::{ReadRow, SectionReader};
 use wasm_read_component as r;
+use wasm_read_component::{ReadRowAt, ScopedReader};
 
 /// Why a table has no line: its bytes hold no row.
 fn missing<E>() -> Error<E> {
@@ -32,22 +33,26 @@ pub fn row<'a, K: ReadRow<'a>, E>(
     }
 }
 
-/// The first row of a body of core types.
-pub fn core_type<'a, E>(alloc: Global, body: &'a [u8]) -> Result<r::CoreType<'a>, Error<E>> {
-    let mut rows = types(body)?;
+/// The same of a reader whose rows may open scopes.
+fn scoped_row<'a, K: ReadRowAt<'a>, E>(
+    alloc: Global,
+    rows: ScopedReader<'a, K>,
+) -> Result<K::Row, Error<E>> {
+    let mut rows = rows;
     match rows.next_row(alloc)? {
         Some(row) => Ok(row),
         None => Err(missing()),
     }
 }
 
+/// The first row of a body of core types.
+pub fn core_type<'a, E>(alloc: Global, body: &'a [u8]) -> Result<r::CoreType<'a>, Error<E>> {
+    scoped_row(alloc, types(body)?)
+}
+
 /// The first row of a body of types.
 fn component_type<'a, E>(alloc: Global, body: &'a [u8]) -> Result<r::ComponentType<'a>, Error<E>> {
-    let mut rows = component_types(body)?;
-    match rows.next_row(alloc)? {
-        Some(row) => Ok(row),
-        None => Err(missing()),
-    }
+    scoped_row(alloc, component_types(body)?)
 }
 
 /// The type of values in that row.

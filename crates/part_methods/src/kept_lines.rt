@@ -5,8 +5,11 @@ use reencode_component::ReencodeComponentItems;
 use reencode_core::{Reencode, utils};
 use reencode_hooks::Error;
 use std::alloc::Global;
+use wasm_leb::Fault;
 use wasm_read as r;
+use wasm_read::SectionReader;
 use wasm_read_component::ComponentExternalKind;
+use wasm_shapes::kinds;
 use wasm_write as w;
 use wasm_write::RowSection;
 
@@ -20,12 +23,19 @@ const SORTS: [(&str, ComponentExternalKind); 6] = [
     ("component", ComponentExternalKind::Component),
 ];
 
+/// A section's rows, which are given twice.
+type Twice<'a, K> = (SectionReader<'a, K>, SectionReader<'a, K>);
+
+/// The rows of a section's body, twice.
+fn twice<'a, K>(body: &'a [u8]) -> Result<Twice<'a, K>, Fault> {
+    Ok((v::rows(body)?, v::rows(body)?))
+}
+
 /// A section of types, which is given twice.
 fn type_section<N: Reencode + Notes>(
     of: &mut N,
     alloc: Global,
-    rows: r::TypeSectionReader<'_>,
-    again: r::TypeSectionReader<'_>,
+    (rows, again): Twice<'_, kinds::Types>,
     sink: &mut w::TypeSection,
 ) -> Result<(), Error<N::Error>> {
     both!(
@@ -39,8 +49,7 @@ fn type_section<N: Reencode + Notes>(
 fn import_section<N: Reencode + Notes>(
     of: &mut N,
     alloc: Global,
-    rows: r::ImportSectionReader<'_>,
-    again: r::ImportSectionReader<'_>,
+    (rows, again): Twice<'_, kinds::Imports>,
     sink: &mut w::ImportSection,
 ) -> Result<(), Error<N::Error>> {
     both!(
@@ -54,8 +63,7 @@ fn import_section<N: Reencode + Notes>(
 fn table_section<N: Reencode + Notes>(
     of: &mut N,
     alloc: Global,
-    rows: r::TableSectionReader<'_>,
-    again: r::TableSectionReader<'_>,
+    (rows, again): Twice<'_, kinds::Tables>,
     sink: &mut w::TableSection,
 ) -> Result<(), Error<N::Error>> {
     both!(
@@ -69,8 +77,7 @@ fn table_section<N: Reencode + Notes>(
 fn global_section<N: Reencode + Notes>(
     of: &mut N,
     alloc: Global,
-    rows: r::GlobalSectionReader<'_>,
-    again: r::GlobalSectionReader<'_>,
+    (rows, again): Twice<'_, kinds::Globals>,
     sink: &mut w::GlobalSection,
 ) -> Result<(), Error<N::Error>> {
     both!(
@@ -84,8 +91,7 @@ fn global_section<N: Reencode + Notes>(
 fn export_section<N: Reencode + Notes>(
     of: &mut N,
     alloc: Global,
-    rows: r::ExportSectionReader<'_>,
-    again: r::ExportSectionReader<'_>,
+    (rows, again): Twice<'_, kinds::Exports>,
     sink: &mut w::ExportSection,
 ) -> Result<(), Error<N::Error>> {
     both!(
@@ -99,8 +105,7 @@ fn export_section<N: Reencode + Notes>(
 fn element_section<N: Reencode + Notes>(
     of: &mut N,
     alloc: Global,
-    rows: r::ElementSectionReader<'_>,
-    again: r::ElementSectionReader<'_>,
+    (rows, again): Twice<'_, kinds::Elements>,
     sink: &mut w::ElementSection,
 ) -> Result<(), Error<N::Error>> {
     both!(
@@ -114,8 +119,7 @@ fn element_section<N: Reencode + Notes>(
 fn data_section<N: Reencode + Notes>(
     of: &mut N,
     alloc: Global,
-    rows: r::DataSectionReader<'_>,
-    again: r::DataSectionReader<'_>,
+    (rows, again): Twice<'_, kinds::Segments>,
     sink: &mut w::DataSection,
 ) -> Result<(), Error<N::Error>> {
     both!(
@@ -127,62 +131,24 @@ fn data_section<N: Reencode + Notes>(
 
 /// Sections of types, imports and tables.
 pub fn sections<N: Reencode + Notes>(of: &mut N, alloc: Global) -> Result<(), Error<N::Error>> {
-    type_section(
-        of,
-        alloc,
-        v::rows(&v::TYPES)?,
-        v::rows(&v::TYPES)?,
-        &mut RowSection::new(alloc),
-    )?;
-    import_section(
-        of,
-        alloc,
-        v::rows(&v::IMPORTS)?,
-        v::rows(&v::IMPORTS)?,
-        &mut RowSection::new(alloc),
-    )?;
-    table_section(
-        of,
-        alloc,
-        v::rows(&v::TABLES)?,
-        v::rows(&v::TABLES)?,
-        &mut RowSection::new(alloc),
-    )
+    type_section(of, alloc, twice(&v::TYPES)?, &mut RowSection::new(alloc))?;
+    import_section(of, alloc, twice(&v::IMPORTS)?, &mut RowSection::new(alloc))?;
+    table_section(of, alloc, twice(&v::TABLES)?, &mut RowSection::new(alloc))
 }
 
-/// Sections of globals, exports and segments.
+/// Sections of globals and of exports.
 pub fn more_sections<N: Reencode + Notes>(
     of: &mut N,
     alloc: Global,
 ) -> Result<(), Error<N::Error>> {
-    global_section(
-        of,
-        alloc,
-        v::rows(&v::GLOBALS)?,
-        v::rows(&v::GLOBALS)?,
-        &mut RowSection::new(alloc),
-    )?;
-    export_section(
-        of,
-        alloc,
-        v::rows(&v::EXPORTS)?,
-        v::rows(&v::EXPORTS)?,
-        &mut RowSection::new(alloc),
-    )?;
-    element_section(
-        of,
-        alloc,
-        v::rows(&v::ELEMENTS)?,
-        v::rows(&v::ELEMENTS)?,
-        &mut RowSection::new(alloc),
-    )?;
-    data_section(
-        of,
-        alloc,
-        v::rows(&v::SEGMENTS)?,
-        v::rows(&v::SEGMENTS)?,
-        &mut RowSection::new(alloc),
-    )
+    global_section(of, alloc, twice(&v::GLOBALS)?, &mut RowSection::new(alloc))?;
+    export_section(of, alloc, twice(&v::EXPORTS)?, &mut RowSection::new(alloc))
+}
+
+/// Sections of segments.
+pub fn segments<N: Reencode + Notes>(of: &mut N, alloc: Global) -> Result<(), Error<N::Error>> {
+    element_section(of, alloc, twice(&v::ELEMENTS)?, &mut RowSection::new(alloc))?;
+    data_section(of, alloc, twice(&v::SEGMENTS)?, &mut RowSection::new(alloc))
 }
 
 /// An import by itself.

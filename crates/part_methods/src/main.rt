@@ -43,14 +43,19 @@ use std::io;
 fn of_modules<N: Reencode + Notes>(of: &mut N, alloc: Global) -> Result<(), Error<N::Error>> {
     sections::modules(of, alloc)?;
     sections::sections(of, alloc)?;
+    sections::more_sections(of, alloc)?;
     names::sections(of, alloc)
 }
 
-/// What the parts of bodies, segments, types and operators ask.
+/// What the parts of bodies and segments, and types with lists ask.
 fn of_parts<N: ReencodeItems + Notes>(of: &mut N, alloc: Global) -> Result<(), Error<N::Error>> {
     rows::locals(of, alloc, values::BODY)?;
     rows::items(of, alloc)?;
-    items::lists(of, alloc)?;
+    items::lists(of, alloc)
+}
+
+/// What types without lists, immediates and operators ask.
+fn of_items<N: ReencodeItems + Notes>(of: &mut N, alloc: Global) -> Result<(), Error<N::Error>> {
     items::types(of)?;
     items::immediates(of, alloc)?;
     items::operators(of, alloc)
@@ -64,11 +69,15 @@ fn of_bodies<N: Reencode + Notes>(of: &mut N, alloc: Global) -> Result<(), Error
     sections::imports(of, alloc)
 }
 
-/// What types, operators, custom sections and names ask.
-fn of_wholes<N: Reencode + Notes>(of: &mut N, alloc: Global) -> Result<(), Error<N::Error>> {
+/// What types and operators ask.
+fn of_types<N: ReencodeItems + Notes>(of: &mut N, alloc: Global) -> Result<(), Error<N::Error>> {
     items::composites(of, alloc)?;
     items::operator_and_types(of, alloc)?;
-    items::heap_types(of)?;
+    items::heap_types(of)
+}
+
+/// What custom sections and names ask.
+fn of_names<N: Reencode + Notes>(of: &mut N, alloc: Global) -> Result<(), Error<N::Error>> {
     names::customs(of, alloc)?;
     names::maps(of, alloc)
 }
@@ -83,6 +92,28 @@ where
     items::expressions(of, alloc)
 }
 
+/// What rows of components ask.
+fn of_component_rows<N: ReencodeComponentItems + Notes>(
+    of: &mut N,
+    alloc: Global,
+) -> Result<(), Error<N::Error>> {
+    component_rows::exports(of, alloc)?;
+    component_rows::component_instances(of, alloc)?;
+    component_rows::instances(of, alloc)?;
+    component_rows::canonical_functions(of, alloc)
+}
+
+/// What types of components ask.
+fn of_component_types<N: ReencodeComponent + Notes>(
+    of: &mut N,
+    alloc: Global,
+) -> Result<(), Error<N::Error>> {
+    component_rows::functions(of, alloc)?;
+    component_rows::values(of, alloc)?;
+    component_rows::core_types(of, alloc)?;
+    component_rows::declarations(of, alloc)
+}
+
 /// What components and their rows ask.
 fn of_components<N: ReencodeComponent + Notes>(
     of: &mut N,
@@ -90,20 +121,26 @@ fn of_components<N: ReencodeComponent + Notes>(
 ) -> Result<(), Error<N::Error>> {
     component_sections::components(of, alloc)?;
     component_names::name_sections(of, alloc)?;
-    component_rows::rows(of, alloc)?;
-    component_rows::canonical_functions(of, alloc)?;
-    component_rows::types(of, alloc)?;
-    component_rows::core_types(of, alloc)?;
-    component_items::aliases(of)
+    of_component_rows(of, alloc)?;
+    of_component_types(of, alloc)
 }
 
-/// What sections of components ask.
+/// What aliases, and sections of components ask.
 fn of_component_sections<N: ReencodeComponent + Notes>(
     of: &mut N,
     alloc: Global,
 ) -> Result<(), Error<N::Error>> {
+    component_items::aliases(of)?;
     component_sections::sections(of, alloc)?;
     component_sections::more_sections(of, alloc)?;
+    component_sections::core_sections(of, alloc)
+}
+
+/// What types with scopes, and custom sections of components ask.
+fn of_scopes<N: ReencodeComponent + Notes>(
+    of: &mut N,
+    alloc: Global,
+) -> Result<(), Error<N::Error>> {
     component_sections::scopes(of, alloc)?;
     component_names::custom_sections(of, alloc)
 }
@@ -120,6 +157,36 @@ fn of_component_items<N: ReencodeComponentItems + Notes>(
     component_items::whole_sections(of, alloc)
 }
 
+/// What is asked of core modules and of their rows. Each function here makes few calls: one with eight cost the check four times
+/// as much as two with four.
+fn by_modules<N: Reencode + Notes>(of: &mut N, alloc: Global) -> Result<(), Error<N::Error>> {
+    of_modules(of, alloc)?;
+    of_parts(of, alloc)?;
+    of_items(of, alloc)?;
+    of_bodies(of, alloc)
+}
+
+/// What is asked of items of core modules and of names.
+fn by_items<N: Reencode + Notes>(of: &mut N, alloc: Global) -> Result<(), Error<N::Error>>
+where
+    N::Error: Drop,
+{
+    of_types(of, alloc)?;
+    of_names(of, alloc)?;
+    of_others(of, alloc)
+}
+
+/// What is asked of components.
+fn by_components<N: ReencodeComponent + Notes>(
+    of: &mut N,
+    alloc: Global,
+) -> Result<(), Error<N::Error>> {
+    of_components(of, alloc)?;
+    of_component_sections(of, alloc)?;
+    of_scopes(of, alloc)?;
+    of_component_items(of, alloc)
+}
+
 /// What is asked of a reencoder that overrides.
 fn by_functions<N: ReencodeComponent + Notes>(
     of: &mut N,
@@ -128,14 +195,9 @@ fn by_functions<N: ReencodeComponent + Notes>(
 where
     N::Error: Drop,
 {
-    of_modules(of, alloc)?;
-    of_parts(of, alloc)?;
-    of_bodies(of, alloc)?;
-    of_wholes(of, alloc)?;
-    of_others(of, alloc)?;
-    of_components(of, alloc)?;
-    of_component_sections(of, alloc)?;
-    of_component_items(of, alloc)
+    by_modules(of, alloc)?;
+    by_items(of, alloc)?;
+    by_components(of, alloc)
 }
 
 /// What is asked of one that keeps defaults.
@@ -145,6 +207,7 @@ fn by_methods<N: Reencode + ReencodeComponentItems + Notes>(
 ) -> Result<(), Error<N::Error>> {
     kept_lines::sections(of, alloc)?;
     kept_lines::more_sections(of, alloc)?;
+    kept_lines::segments(of, alloc)?;
     kept_lines::rows(of, alloc)?;
     kept_lines::indices(of);
     Ok(())

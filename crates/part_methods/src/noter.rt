@@ -7,11 +7,11 @@ ghost use Rattle.std.specs.Prelude.{◌≡◌};
 
 use reencode_component::AnswerComponentVisits;
 use reencode_hooks::{AnswerVisits, Error, utils};
-use std::alloc::Global;
+use std::alloc::{AllocError, Global};
 use std::convert::Infallible;
 use std::fmt::Write;
 use std::marker::{Model, PhantomData};
-use wasm_shapes::{Space, Visit};
+use wasm_shapes::{SectionId, Space, Visit};
 
 pub type Made<T> = Result<T, Error<Infallible>>;
 
@@ -102,6 +102,33 @@ impl<K> Notes for Noter<K> {
     }
 }
 
+/// Adds the section hook with the kinds that it is asked with.
+fn add_section_hook(
+    text: &mut String,
+    after: Option<SectionId>,
+    before: Option<SectionId>,
+) -> Result<(), AllocError> {
+    write!(text, " intersperse_section_hook({after:?}, {before:?})")
+}
+
+/// Adds the hook of an index.
+fn add_index_hook(text: &mut String, front: &str, space: Space) -> Result<(), AllocError> {
+    write!(text, " {front}{}_index", space.name())
+}
+
+/// Adds the hook that a visit asks.
+fn add_hook(text: &mut String, visit: Visit) -> Result<(), AllocError> {
+    match visit {
+        Visit::Index(Space::DataCount, _) => text.push_str(" data_count"),
+        Visit::Index(space, _) => add_index_hook(text, "", space),
+        Visit::Outer(space, _, _) => add_index_hook(text, "outer_", space),
+        Visit::Section(after, before) => add_section_hook(text, after, before),
+        Visit::Closed(section) => write!(text, " close_section_hook({section:?})"),
+        Visit::Push => text.push_str(" push_depth"),
+        Visit::Pop => text.push_str(" pop_depth"),
+    }
+}
+
 impl<K> AnswerVisits for Noter<K> {
     ghost use Rattle.std.specs.Prelude.{false, Ok};
     ghost use Rattle.reencode_hooks.specs.Hooks.{index_of, index_of-given};
@@ -117,20 +144,7 @@ impl<K> AnswerVisits for Noter<K> {
     ghost answers_ok = { λ _ visit h. index_of-given visit h };
 
     fn answer(&mut self, visit: Visit) -> Result<u32, Infallible> {
-        let _ = match visit {
-            Visit::Index(Space::DataCount, _) => write!(self.notes, " data_count"),
-            Visit::Index(space, _) => write!(self.notes, " {}_index", space.name()),
-            Visit::Outer(space, _, _) => write!(self.notes, " outer_{}_index", space.name()),
-            Visit::Section(after, before) => {
-                write!(
-                    self.notes,
-                    " intersperse_section_hook({after:?}, {before:?})"
-                )
-            }
-            Visit::Closed(section) => write!(self.notes, " close_section_hook({section:?})"),
-            Visit::Push => write!(self.notes, " push_depth"),
-            Visit::Pop => write!(self.notes, " pop_depth"),
-        };
+        let _ = add_hook(&mut self.notes, visit);
         Ok(utils::index_of(visit))
     }
 }

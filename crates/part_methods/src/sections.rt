@@ -100,7 +100,7 @@ fn code_section<N: Reencode + Notes>(
     added!(of, parse_code_section(alloc, sink, rows))
 }
 
-/// Sections of rows.
+/// Sections of functions and of memories.
 pub fn sections<N: Reencode + Notes>(of: &mut N, alloc: Global) -> Result<(), Error<N::Error>> {
     function_section(
         of,
@@ -113,7 +113,14 @@ pub fn sections<N: Reencode + Notes>(of: &mut N, alloc: Global) -> Result<(), Er
         alloc,
         v::rows(&v::MEMORIES)?,
         &mut RowSection::new(alloc),
-    )?;
+    )
+}
+
+/// Sections of tags and of code.
+pub fn more_sections<N: Reencode + Notes>(
+    of: &mut N,
+    alloc: Global,
+) -> Result<(), Error<N::Error>> {
     tag_section(of, alloc, v::rows(&v::TAGS)?, &mut RowSection::new(alloc))?;
     let mut sink = w::CodeSection::new(alloc, u32::MAX);
     code_section(of, alloc, v::rows(&v::CODE)?, &mut sink)

@@ -428,6 +428,22 @@ file=LONG
 status=13
 err=too long/
 
+# An input without an end is read up to one byte behind 64 MiB: by 1024 reads of 64 KiB, and one more. None is made behind that, for
+# it would fail.
+words=-x plain
+text=ENDLESS
+most=65536
+read_fails=1026
+status=13
+err=too long/
+
+words=-x plain
+text=ENDLESS
+most=65536
+read_fails=1025
+status=3
+err=read fault/
+
 # What stands first is told where a later object fails too: words, each file, input, digits, re-encoding.
 words=rename
 shelf_fails=1
@@ -885,20 +901,21 @@ fn words_of(alloc: Global, value: &str) -> Option<Vec<String>> {
     Some(words)
 }
 
-/// A text of one byte more than a renaming may have.
-fn long_text(alloc: Global) -> Result<List<u8>, NoMemory> {
+/// A byte so many times.
+fn repeated(alloc: Global, byte: u8, count: u32) -> Result<List<u8>, NoMemory> {
     let mut bytes = List::new(alloc);
-    for _ in 0..1_048_577 {
-        bytes.push(b' ')?;
+    for _ in 0..count {
+        bytes.push(byte)?;
     }
     Ok(bytes)
 }
 
+/// The bytes of a value. `LONG` has one byte more than a renaming may have, `ENDLESS` as many digits as 1025 reads of 64 KiB
+/// give.
 fn bytes_of(alloc: Global, value: &str) -> Result<List<u8>, NoMemory> {
-    if value == "LONG" {
-        return long_text(alloc);
-    }
     let text = match value {
+        "LONG" => return repeated(alloc, b' ', 1_048_577),
+        "ENDLESS" => return repeated(alloc, b'0', 67_174_400),
         "MODULE" => MODULE,
         "REPORT" => REPORT,
         "TWICE" => TWICE,
@@ -929,13 +946,23 @@ fn numbers_of(alloc: Global, value: &str, k: u64) -> Option<List<u64>> {
     Some(numbers)
 }
 
-fn shelf_of(alloc: Global, case: &str, k: u64) -> Option<MemShelf> {
-    let mut shelf = MemShelf::new(alloc, numbers_of(alloc, said(case, "shelf_fails"), k)?);
+/// Puts the text of a value on a shelf, by its name.
+fn put_text(alloc: Global, shelf: &mut MemShelf, name: &str, value: &str) -> Option<()> {
+    let text = bytes_of(alloc, value).ok()?;
+    shelf.put(name, text.as_slice()).ok()
+}
+
+/// Puts both texts of a case on a shelf, the first in place of an older one.
+fn put_texts(alloc: Global, shelf: &mut MemShelf, case: &str) -> Option<()> {
     shelf.put("r", b"older").ok()?;
-    let text = bytes_of(alloc, said(case, "file")).ok()?;
-    shelf.put("r", text.as_slice()).ok()?;
-    let second = bytes_of(alloc, said(case, "second")).ok()?;
-    shelf.put("s", second.as_slice()).ok()?;
+    put_text(alloc, shelf, "r", said(case, "file"))?;
+    put_text(alloc, shelf, "s", said(case, "second"))
+}
+
+fn shelf_of(alloc: Global, case: &str, k: u64) -> Option<MemShelf> {
+    let fails = numbers_of(alloc, said(case, "shelf_fails"), k)?;
+    let mut shelf = MemShelf::new(alloc, fails);
+    put_texts(alloc, &mut shelf, case)?;
     Some(shelf)
 }
 
@@ -945,7 +972,16 @@ fn source_of(alloc: Global, case: &str, most: usize, k: u64) -> Option<MemSource
     Some(MemSource::new(text, most.max(1), fails))
 }
 
-fn sink_of(alloc: Global, room: usize, most: usize, fails: List<u64>) -> Option<MemSink> {
+/// A sink whose failures a field says.
+fn sink_of(
+    alloc: Global,
+    case: &str,
+    name: &str,
+    room: usize,
+    most: usize,
+    k: u64,
+) -> Option<MemSink> {
+    let fails = numbers_of(alloc, said(case, name), k)?;
     MemSink::new(alloc, room, most.max(1), fails).ok()
 }
 
@@ -976,27 +1012,39 @@ fn status_of(
     Some(run(alloc, words.as_slice(), &mut shelf, &mut input, out, err))
 }
 
+/// Whether a status, and what either sink holds, are as the case says.
+fn is_said(
+    alloc: Global,
+    case: &str,
+    k: u64,
+    status: u8,
+    out: &MemSink,
+    err: &MemSink,
+) -> Option<(bool, bool, bool)> {
+    let out = holds(alloc, out, said(case, "out"), k)?;
+    let err = holds(alloc, err, said(case, "err"), k)?;
+    Some((said(case, "status").parse() == Ok(status), out, err))
+}
+
+/// Whether a case's run into these sinks ends as the case says.
+fn ends_in(
+    alloc: Global,
+    case: &str,
+    most: usize,
+    k: u64,
+    out: &mut MemSink,
+    err: &mut MemSink,
+) -> Option<(bool, bool, bool)> {
+    let status = status_of(alloc, case, most, k, out, err)?;
+    is_said(alloc, case, k, status, out, err)
+}
+
 /// Whether a case's run ends as the case says: its status, and what either sink holds.
 fn ends(alloc: Global, case: &str, k: u64) -> Option<(bool, bool, bool)> {
     let most = said(case, "most").parse().ok()?;
-    let mut out = sink_of(
-        alloc,
-        1000,
-        most,
-        numbers_of(alloc, said(case, "write_fails"), k)?,
-    )?;
-    let mut err = sink_of(
-        alloc,
-        100,
-        most,
-        numbers_of(alloc, said(case, "err_fails"), k)?,
-    )?;
-    let status = status_of(alloc, case, most, k, &mut out, &mut err)?;
-    Some((
-        said(case, "status").parse() == Ok(status),
-        holds(alloc, &out, said(case, "out"), k)?,
-        holds(alloc, &err, said(case, "err"), k)?,
-    ))
+    let mut out = sink_of(alloc, case, "write_fails", 1000, most, k)?;
+    let mut err = sink_of(alloc, case, "err_fails", 100, most, k)?;
+    ends_in(alloc, case, most, k, &mut out, &mut err)
 }
 
 /// The first and the last number for which a case is run.
@@ -1005,22 +1053,34 @@ fn calls_of(case: &str) -> Option<(u64, u64)> {
     Some((first.parse().ok()?, last.parse().ok()?))
 }
 
+/// Whether each line of a case is read.
+fn try_lines(rt: &impl Abort, case: &str) {
+    for line in case.lines() {
+        assert!(rt; is_read(line), "{line}");
+    }
+}
+
+/// Tries the runs of a case, and answers how many these were.
+fn try_runs(rt: &impl Abort, alloc: Global, case: &str) -> u32 {
+    let mut runs = 0u32;
+    let (first, last) = calls_of(case).unwrap_or((1, 0));
+    for k in first..=last {
+        assert_eq!(rt;
+            ends(alloc, case, k),
+            Some((true, true, true)),
+            "{case} at {k}"
+        );
+        runs = runs.saturating_add(1);
+    }
+    runs
+}
+
 /// Tries cases, and answers how many runs these were.
 fn try_cases(rt: &impl Abort, alloc: Global, cases: &str) -> u32 {
     let mut runs = 0u32;
     for case in cases.split("\n\n") {
-        for line in case.lines() {
-            assert!(rt; is_read(line), "{line}");
-        }
-        let (first, last) = calls_of(case).unwrap_or((1, 0));
-        for k in first..=last {
-            assert_eq!(rt;
-                ends(alloc, case, k),
-                Some((true, true, true)),
-                "{case} at {k}"
-            );
-            runs = runs.saturating_add(1);
-        }
+        try_lines(rt, case);
+        runs = runs.saturating_add(try_runs(rt, alloc, case));
     }
     runs
 }
@@ -1028,52 +1088,13 @@ fn try_cases(rt: &impl Abort, alloc: Global, cases: &str) -> u32 {
 #[test]
 fn ends_of_runs(rt: HostRuntime) {
     let runs = try_cases(&rt, rt.alloc(), CASES);
-    assert_eq!(rt; runs, 131);
+    assert_eq!(rt; runs, 133);
 }
 
 #[test]
 fn ends_of_failing_calls(rt: HostRuntime) {
     let runs = try_cases(&rt, rt.alloc(), FAILING);
     assert_eq!(rt; runs, 699);
-}
-
-/// A source that gives the digit 0 for ever.
-#[derive(Drop)]
-struct Endless;
-
-impl Source for Endless {
-    ghost use Rattle.std.specs.Prelude.{None};
-
-    ghost left = { λ _. None };
-
-    ghost faults = { λ _. 0 };
-
-    ghost can_read = { λ _. Unit {0} };
-
-    fn read(&mut self, buf: &mut [u8]) -> Result<usize, Failed> {
-        buf.fill(b'0');
-        Ok(buf.len())
-    }
-}
-
-#[test]
-fn endless_input(rt: HostRuntime) -> Result<(), Fail> {
-    let alloc = rt.alloc();
-    let words = words_of(alloc, "-x plain").ok_or("no memory")?;
-    let mut out = SureSink::new(alloc, 100)?;
-    let mut err = SureSink::new(alloc, 100)?;
-    let status = run(
-        alloc,
-        words.as_slice(),
-        &mut SureShelf::new(alloc),
-        &mut Endless,
-        &mut out,
-        &mut err,
-    );
-    assert_eq!(rt; status, 13);
-    assert_eq!(rt; out.held(), b"".as_slice());
-    assert_eq!(rt; err.held(), b"too long\n".as_slice());
-    Ok(())
 }
 
 fn try_sure_reads(rt: &impl Abort, bytes: List<u8>) {
@@ -1154,35 +1175,47 @@ fn line_of(alloc: Global, renamers: &Renamers) -> Option<Vec<u8>> {
     tail(alloc, renamers).ok()
 }
 
+/// A renamer that was asked some things.
+fn asked(alloc: Global, asked: &[Asked]) -> Renamer {
+    let mut renamer = Renamer::new(alloc);
+    for what in asked {
+        renamer.note(*what);
+    }
+    renamer
+}
+
+/// Whether the line of the counts is this.
+fn try_line(rt: &impl Abort, alloc: Global, renamers: Renamers, wanted: &[u8]) -> Result<(), Fail> {
+    let line = line_of(alloc, &renamers).ok_or("no memory")?;
+    assert_eq!(rt; line.as_slice(), wanted);
+    Ok(())
+}
+
 #[test]
 fn line_of_counts(rt: HostRuntime) -> Result<(), Fail> {
-    let mut renamer = Renamer::new(rt.alloc());
-    let none = Renamers::Alone(Renamer::new(rt.alloc()));
-    let none = line_of(rt.alloc(), &none).ok_or("no memory")?;
-    for what in [
-        Asked::Pop,
-        Asked::Of(Space::Type_),
-        Asked::Of(Space::Function),
-        Asked::Of(Space::Type_),
-        Asked::Of(Space::DataCount),
-    ] {
-        renamer.note(what);
-    }
+    let alloc = rt.alloc();
+    let none = Renamers::Alone(Renamer::new(alloc));
+    try_line(&rt, alloc, none, b"\nasked\n")?;
+    let mut renamer = asked(
+        alloc,
+        &[
+            Asked::Pop,
+            Asked::Of(Space::Type_),
+            Asked::Of(Space::Function),
+            Asked::Of(Space::Type_),
+            Asked::Of(Space::DataCount),
+        ],
+    );
     for _ in 0..10 {
         renamer.note(Asked::SectionHook);
     }
-    let both = Renamers::Both(Chain::new(renamer, Renamer::new(rt.alloc())));
-    let some = line_of(rt.alloc(), &both).ok_or("no memory")?;
-    for (line, wanted) in [
-        (&none, &b"\nasked\n"[..]),
-        (
-            &some,
-            b"\nasked function 1 type 2 data_count 1 section_hook 10 pop 1\nasked\n",
-        ),
-    ] {
-        assert_eq!(rt; line.as_slice(), wanted);
-    }
-    Ok(())
+    let both = Renamers::Both(Chain::new(renamer, Renamer::new(alloc)));
+    try_line(
+        &rt,
+        alloc,
+        both,
+        b"\nasked function 1 type 2 data_count 1 section_hook 10 pop 1\nasked\n",
+    )
 }
 
 fn try_answer(
