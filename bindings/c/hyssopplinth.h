@@ -22,8 +22,8 @@ enum {
     REENCODE_NON_CORE_MODULE = 8,   /* the header of a component stands where a core module is taken */
     REENCODE_NON_COMPONENT = 9,     /* the header of a core module stands where a component is taken */
     REENCODE_TOO_LARGE = 10,        /* [size] of the first frame above the ceiling */
-    REENCODE_BAD_RENAMING = 11,     /* [place, space, index] the first entry whose space is none of those below */
-    REENCODE_MISCOUNTED = 15,       /* [length] so many answers are wanted: one for each visit */
+    REENCODE_BAD_RENAMING = 11,     /* [place, space, index] the first entry whose space is none of those below, whatever the bytes are */
+    REENCODE_MISCOUNTED = 15,       /* [length] so many answers are wanted, one for each visit; the frames fit by those that there are */
     REENCODE_TOO_SMALL = 16         /* [length] of the room that is wanted */
 };
 
@@ -76,7 +76,8 @@ struct reencode_outcome {
 
    Each answers the status, which the outcome holds too. It reads `bytes` and what else is handed in, writes the room and the
    outcome, keeps none of them, and frees what it allocates. No pointer is null, also where its count is 0; each is aligned for
-   its type; the room and the outcome overlap nothing. With every status but 0 the room is as it was. A count is of items. */
+   its type; the room and the outcome overlap nothing. With every status but 0 the room is as it was; with 0 what stands behind
+   the first [length] items may be overwritten. A count is of items. */
 
 uint32_t reencode_raw_plain(const uint8_t *bytes, size_t length, uint32_t ceiling,
                             uint8_t *room, size_t room_length, struct reencode_outcome *outcome);

@@ -1,5 +1,5 @@
 -- How calls end, from the clauses of the re-encoding of a whole binary.
-use Rattle.std.proofs.Common.{◌≡◌, ◌≢◌, ◌⊎◌, inl, inr, ℕ, ◌+◌, ◌<◌, ◌≤◌, ◌++◌, List, [], ◌∷◌, length, take, Vec, Bool, true, false, nat_lt, ltb-true, ltb-false, Result, Ok, Err, refl, sym, ap, ap₂, ◌∙◌, subst, arith}
+use Rattle.std.proofs.Common.{◌≡◌, ◌≢◌, ◌⊎◌, inl, inr, ℕ, ◌+◌, ◌<◌, ◌≤◌, ◌++◌, List, [], ◌∷◌, All, length, take, Vec, Bool, true, false, nat_lt, ltb-true, ltb-false, Result, Ok, Err, refl, sym, ap, ap₂, ◌∙◌, subst, arith}
 use Rattle.std.proofs.Math.Nat.{min-eq_left, min-eq_right}
 use Rattle.std.specs.Global.{Global}
 use Rattle.wasm_shapes.specs.declared.Visit.{Visit}
@@ -21,9 +21,9 @@ use Rattle.reencode_c.specs.declared.outcome.Entry.{Entry}
 use Rattle.reencode_c.specs.declared.outcome.ListedVisit.{ListedVisit}
 use Rattle.reencode_c.specs.declared.outcome.Outcome.{Outcome}
 use Rattle.reencode_c.specs.Ends.{Ends, HasStatus, IsErrorOf, IsPut, IsTooSmall, Tells, bare, hooks_by}
-use Rattle.reencode_c.specs.Entries.{FirstWithoutSpace, IsBad, IsBadRenaming, Renaming, TellsFault, renaming_reply}
+use Rattle.reencode_c.specs.Entries.{FirstWithoutSpace, HasSpace, IsBad, IsBadRenaming, Renaming, TellsFault, renaming_reply}
 use Rattle.reencode_c.specs.Outputs.{AreVisits, IsAnswered, IsMiscounted, IsPlain, IsRenamed}
-use Rattle.reencode_c.specs.Visits.{Answering, Listing, all_listed, answers_next, answers_reply, lister_next, lister_reply, put_all, tally}
+use Rattle.reencode_c.specs.Visits.{Answering, Listing, all_listed, answers_next, answers_reply, dealt, lister_next, lister_reply, put_all, tally}
 use Rattle.reencode_c.proofs.Lists.{put_count, put_front, put_length}
 use Rattle.reencode_c.proofs.Runs.{Dealt, dealt_run, listed_run, renamed_run, unchanged}
 
@@ -141,6 +141,11 @@ told_fault Done Why o room entries (NoSpace place entry) h t =
     (bad_told o h place_is space_is index_is)
 told_fault Done Why o room entries NoMemory h t = wanting Done (IsBadRenaming entries o) ⊥ Why o room t
 
+-- a fault of entries is told by these two statuses alone
+pub no_other_fault : (o : Outcome) (entries : List Entry) (fault : EntryFault) → TellsFault fault o → o.status ≢ 1 → o.status ≢ 11 → All HasSpace entries
+no_other_fault o entries (NoSpace place entry) t wants other = absurd (other (ap (λ (x : Outcome). x.status) t))
+no_other_fault o entries NoMemory t wants other = absurd (wants (ap (λ (x : Outcome). x.status) t))
+
 -- ---- outputs
 
 pub is_renamed : {c : ℕ} {bytes out : List ℕ} {r m : Renaming} → IsTaken as_binary (asks (hooks_by renaming_reply (λ k _. k))) c bytes r m out → IsRenamed r c bytes out
@@ -252,30 +257,33 @@ module _ {c : ℕ} {bytes out : List ℕ} {answers : List ℕ} {m : Answering}
   zero : 0 + length (all_listed (visits h.tree)) ≡ length (all_listed (visits h.tree))
   zero = omega arith
 
+  all_fit : Fits (fill h.tree (dealt (visits h.tree) answers)) c
+  all_fit = subst (λ (a : List ℕ). Fits (fill h.tree a) c) deal.answers h.filled.fits
+
   pub is_answered : m.count ≡ length answers → IsAnswered answers c bytes out
   is_answered e = record {
     tree = h.tree;
     reading = h.reads;
     enough = ap tally (sym zero) ∙ sym deal.count ∙ e;
-    fits = subst (λ (a : List ℕ). Fits (fill h.tree a) c) deal.answers h.filled.fits;
+    fits = all_fit;
     spelled = h.spelled ∙ ap (λ (a : List ℕ). normal (fill h.tree a)) deal.answers;
   }
 
-  pub is_miscounted : m.count ≢ length answers → IsMiscounted answers bytes m.count
-  is_miscounted other = record { tree = h.tree; reading = h.reads; counted = deal.count ∙ ap tally zero; differs = other }
+  pub is_miscounted : m.count ≢ length answers → IsMiscounted answers c bytes m.count
+  is_miscounted other = record { tree = h.tree; reading = h.reads; counted = deal.count ∙ ap tally zero; differs = other; fits = all_fit }
 
   pub answered_ends : (Bad : Type 0) (Why : Error Unmapped → Type 0) (o : Outcome) (room seen : List ℕ) → seen ≡ out → m.count ≡ length answers →
       (o.status ≡ 0 → IsPut o room seen) → (o.status ≡ 16 → IsTooSmall o room (tally (length seen))) → (o.status ≡ 0) ⊎ (o.status ≡ 16) →
-      Ends (IsAnswered answers c bytes) Bad (IsMiscounted answers bytes o.length) Why o room o.status
+      Ends (IsAnswered answers c bytes) Bad (IsMiscounted answers c bytes o.length) Why o room o.status
   answered_ends Bad Why o room seen same enough done small other =
-      put_as (IsAnswered answers c bytes) Bad (IsMiscounted answers bytes o.length) Why o room out seen same (is_answered enough) done small other
+      put_as (IsAnswered answers c bytes) Bad (IsMiscounted answers c bytes o.length) Why o room out seen same (is_answered enough) done small other
 
   pub miscounted_ends : (Bad : Type 0) (Why : Error Unmapped → Type 0) (o : Outcome) (room : List ℕ) (n : ℕ) → n ≡ m.count → m.count ≢ length answers →
-      o ≡ record (bare 15) { length = n } → Ends (IsAnswered answers c bytes) Bad (IsMiscounted answers bytes o.length) Why o room o.status
+      o ≡ record (bare 15) { length = n } → Ends (IsAnswered answers c bytes) Bad (IsMiscounted answers c bytes o.length) Why o room o.status
   miscounted_ends Bad Why o room n same other tells =
       let long = ap (λ (x : Outcome). x.length) tells in
-      wrong_number (IsAnswered answers c bytes) Bad (IsMiscounted answers bytes o.length) Why o room (tells ∙ ap (λ (k : ℕ). record (bare 15) { length = k }) (sym long))
-      (subst (λ (k : ℕ). IsMiscounted answers bytes k) (sym (long ∙ same)) (is_miscounted other))
+      wrong_number (IsAnswered answers c bytes) Bad (IsMiscounted answers c bytes o.length) Why o room (tells ∙ ap (λ (k : ℕ). record (bare 15) { length = k }) (sym long))
+      (subst (λ (k : ℕ). IsMiscounted answers c bytes k) (sym (long ∙ same)) (is_miscounted other))
 
 -- ---- from the states of the calls, of which it is known that nothing was counted before
 
@@ -297,9 +305,9 @@ module _ {c : ℕ} {bytes out : List ℕ} {m : Answering} (a : Answering) (none 
 
   pub enough_ends : (Bad : Type 0) (Why : Error Unmapped → Type 0) (o : Outcome) (room seen : List ℕ) → seen ≡ out → m.count ≡ length a.left →
       (o.status ≡ 0 → IsPut o room seen) → (o.status ≡ 16 → IsTooSmall o room (tally (length seen))) → (o.status ≡ 0) ⊎ (o.status ≡ 16) →
-      Ends (IsAnswered a.left c bytes) Bad (IsMiscounted a.left bytes o.length) Why o room o.status
+      Ends (IsAnswered a.left c bytes) Bad (IsMiscounted a.left c bytes o.length) Why o room o.status
   enough_ends = answered_ends begun_none
 
   pub wrong_ends : (Bad : Type 0) (Why : Error Unmapped → Type 0) (o : Outcome) (room : List ℕ) (n : ℕ) → n ≡ m.count → m.count ≢ length a.left →
-      o ≡ record (bare 15) { length = n } → Ends (IsAnswered a.left c bytes) Bad (IsMiscounted a.left bytes o.length) Why o room o.status
+      o ≡ record (bare 15) { length = n } → Ends (IsAnswered a.left c bytes) Bad (IsMiscounted a.left c bytes o.length) Why o room o.status
   wrong_ends = miscounted_ends begun_none

@@ -39,9 +39,11 @@ pub record IsAnswered (answers : List ℕ) (ceiling : ℕ) (bytes output : List 
   pub fits : Fits (fill tree (dealt (visits tree) answers)) ceiling
   pub spelled : output ≡ normal (fill tree (dealt (visits tree) answers))
 
--- The bytes have a reading, so many of its visits are listed, and the answers are more or fewer.
-pub record IsMiscounted (answers : List ℕ) (bytes : List ℕ) (wanted : ℕ) : Type 0 where
+-- The bytes have a reading, so many of its visits are listed, and the answers are more or fewer. No frame of the reading with these
+-- answers in the places of its visits is above the ceiling, an index behind the last answer staying as it is.
+pub record IsMiscounted (answers : List ℕ) (ceiling : ℕ) (bytes : List ℕ) (wanted : ℕ) : Type 0 where
   pub tree : Tree
   pub reading : ReadsBinary bytes tree
   pub counted : wanted ≡ tally (length (all_listed (visits tree)))
   pub differs : wanted ≢ length answers
+  pub fits : Fits (fill tree (dealt (visits tree) answers)) ceiling

@@ -1,7 +1,7 @@
 //! The calls, before they cross to C.
-ghost use Rattle.std.specs.Prelude.{◌≡◌, ◌≢◌, ◌<◌, ◌≤◌, ◌⊎◌, length, replicate};
+ghost use Rattle.std.specs.Prelude.{◌≡◌, ◌≢◌, ◌<◌, ◌≤◌, ◌⊎◌, All, length, replicate};
 ghost use Rattle.reencode_c.specs.Ends.{Ends, IsErrorOf, IsPut, IsTooSmall, bare, hooks_by};
-ghost use Rattle.reencode_c.specs.Entries.{IsBadRenaming, renaming_reply};
+ghost use Rattle.reencode_c.specs.Entries.{HasSpace, IsBadRenaming, renaming_reply};
 ghost use Rattle.reencode_c.specs.Outputs.{AreVisits, IsAnswered, IsMiscounted, IsRenamed};
 ghost use Rattle.reencode_c.specs.Visits.{answers_next, answers_reply, lister_next, lister_reply, listed_scope, tally};
 
@@ -84,6 +84,7 @@ pub fn rename(
         (IsErrorOf (hooks_by renaming_reply (λ r _. r))
         (record { entries = entries.now; strict = strict }) ceiling bytes.now)
         outcome.new room.new outcome.new.status }
+    ensures known { outcome.new.status ≢ 1 → outcome.new.status ≢ 11 → All HasSpace entries.now }
     ensures kept { outcome.new.status ≢ 0 → room.new ≡ room.old }
 {
     match by_entries(alloc, entries, strict) {
@@ -139,7 +140,7 @@ fn answer_by(
 )
     requires { reencoder.count ≡ 0 }
     ensures ends { Ends (IsAnswered reencoder.entry.left ceiling bytes.now) ⊥
-        (IsMiscounted reencoder.entry.left bytes.now outcome.new.length)
+        (IsMiscounted reencoder.entry.left ceiling bytes.now outcome.new.length)
         (IsErrorOf (hooks_by answers_reply answers_next) reencoder.entry ceiling bytes.now)
         outcome.new room.new outcome.new.status }
     ensures kept { outcome.new.status ≢ 0 → room.new ≡ room.old }
@@ -168,7 +169,7 @@ pub fn answer(
     outcome: &mut Outcome,
 )
     ensures ends { Ends (IsAnswered answers.now ceiling bytes.now) ⊥
-        (IsMiscounted answers.now bytes.now outcome.new.length)
+        (IsMiscounted answers.now ceiling bytes.now outcome.new.length)
         (IsErrorOf (hooks_by answers_reply answers_next)
         (record { left = answers.now; count = 0 }) ceiling bytes.now)
         outcome.new room.new outcome.new.status }

@@ -1,12 +1,12 @@
 //! The re-encoding of a core module or a component, for programs in C.
 //!
 //! Each call puts what it makes into room of the caller's, and hands out no memory. Where the status is 0, the front of the
-//! room of `length` is the output; with every other status the room is as it was.
+//! room of `length` is the output, and what stands behind that may be overwritten; with every other status the room is as it was.
 #![tactic(auto)]
 
-ghost use Rattle.std.specs.Prelude.{◌≡◌, ◌≢◌, [], false, not, length, nat_eq, replicate};
+ghost use Rattle.std.specs.Prelude.{◌≡◌, ◌≢◌, [], All, false, not, length, nat_eq, replicate};
 ghost use Rattle.reencode_c.specs.Ends.{Ends, IsErrorOf, hooks_by};
-ghost use Rattle.reencode_c.specs.Entries.{IsBadRenaming, renaming_reply};
+ghost use Rattle.reencode_c.specs.Entries.{HasSpace, IsBadRenaming, renaming_reply};
 ghost use Rattle.reencode_c.specs.Outputs.{AreVisits, IsAnswered, IsMiscounted, IsPlain, IsRenamed};
 ghost use Rattle.reencode_c.specs.Visits.{answers_next, answers_reply, lister_next, lister_reply, listed_scope};
 
@@ -55,6 +55,7 @@ pub extern "C" fn reencode_raw_rename(
         (IsBadRenaming entries.now outcome.new) ⊥
         (IsErrorOf (hooks_by renaming_reply (λ r _. r)) (record { entries = entries.now; strict = not (nat_eq strict 0) }) ceiling bytes.now)
         outcome.new room.new result }
+    ensures known { result ≢ 1 → result ≢ 11 → All HasSpace entries.now }
     ensures kept { result ≢ 0 → room.new ≡ room.old }
 {
     calls::rename(alloc, bytes, entries, strict != 0, ceiling, room, outcome);
@@ -92,7 +93,7 @@ pub extern "C" fn reencode_raw_answer(
 ) -> u32
     ensures status { result ≡ outcome.new.status }
     ensures ends { Ends (IsAnswered answers.now ceiling bytes.now) ⊥
-        (IsMiscounted answers.now bytes.now outcome.new.length)
+        (IsMiscounted answers.now ceiling bytes.now outcome.new.length)
         (IsErrorOf (hooks_by answers_reply answers_next)
         (record { left = answers.now; count = 0 }) ceiling bytes.now)
         outcome.new room.new result }

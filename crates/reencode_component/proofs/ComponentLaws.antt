@@ -22,7 +22,7 @@ use Rattle.reencode_core.specs.Weave.{added}
 use Rattle.reencode_core.proofs.AddsNothing.{added_none, no_own}
 use Rattle.reencode_core.proofs.Refusals.{front_refused, never_refused, up_to}
 use Rattle.reencode_core.proofs.Usual.{stops_usual, usual_walk}
-use Rattle.reencode_component.specs.Causes.{BeforeFault, BehindFront, CauseBy, OwnInside, inside, own_inside, room}
+use Rattle.reencode_component.specs.Causes.{BeforeFault, BehindFront, CauseBy, OwnInside, fits_inside, inside, own_inside, room}
 use Rattle.reencode_component.specs.ComponentClauses.{ComponentClauses}
 use Rattle.reencode_component.specs.ComponentLeaves.{ComponentUpTo, component_in}
 use Rattle.reencode_component.specs.Components.{ComponentFault, FaultAt, Framed, ComponentReading}
@@ -46,7 +46,7 @@ module _ {S E : Type 0} (i : Ghosts S E) (none : (s : S) (v : Visit) → MayAdd 
   own_never c depth (suc scopes) f s m e (id, body, is, k, push, inl q) = no_own (asks i) i.adds none q.1
   own_never c depth (suc scopes) f s m e (id, body, is, k, push, inr q) = let n = q.1.1 in own_never c (depth + 1) scopes n.0 q.1.0.at m e n.3
 
-  behind_never : (c depth : ℕ) (bytes : List ℕ) (s m : S) (e : Error E) → BehindFront (asks i) (added i.adds) c depth (own_inside (asks i) i.adds c depth) bytes s m e → ⊥
+  behind_never : (c depth : ℕ) (bytes : List ℕ) (s m : S) (e : Error E) → BehindFront (asks i) i.adds c depth (own_inside (asks i) i.adds c depth) bytes s m e → ⊥
   behind_never c depth bytes s m e h = let n = h.1 in own_never c depth (room depth) n.0 h.0.at m e n.3
 
   pub filled_of : (c : ℕ) (s m : S) (t u : Tree) → walk (asks i) c s t ≡ accepted u m → (p : Filled (asks i) c s t m) × (u ≡ fill t p.given)
@@ -66,7 +66,7 @@ module _ {S E : Type 0} (i : Ghosts S E) (none : (s : S) (v : Visit) → MayAdd 
       e ≢ NoMemory → walk (asks i) old.ceiling s t ≡ refused e m
   walk_refused depth bytes s m old new e g keeps t r other = go ((g.default keeps).reading t r other)
     where
-      go : BehindFront (asks i) (added i.adds) old.ceiling depth (own_inside (asks i) i.adds old.ceiling depth) bytes s m e ⊎ (weave_in (asks i) (added i.adds) old.ceiling s t ≡ refused e m) →
+      go : BehindFront (asks i) i.adds old.ceiling depth (own_inside (asks i) i.adds old.ceiling depth) bytes s m e ⊎ (weave_in (asks i) (added i.adds) old.ceiling s t ≡ refused e m) →
           walk (asks i) old.ceiling s t ≡ refused e m
       go (inl own) = absurd (behind_never old.ceiling depth bytes s m e own)
       go (inr step) = sym (is_walk old.ceiling s t) ∙ step
@@ -123,7 +123,7 @@ unrefused : {S E : Type 0} (i : Ghosts S E) (depth : ℕ) (bytes : List ℕ) (s 
 unrefused {E = E} i depth bytes s m old new e g keeps none x is = by e g is
   where
     by : (w : Error E) → ComponentClauses i depth bytes s old m new (Err w) → w ≡ UserError x → ⊥
-    by (UserError y) g q = never_refused (asks i) none (component_in depth bytes) s m y (g.after_error keeps (λ h. absurd cc) (λ h. absurd h))
+    by (UserError y) g q = never_refused (asks i) none (component_in depth bytes) s m y (g.after_error keeps (λ h. absurd cc) (λ h. absurd h)).leaves
     by _ g q = cc
 
 module _ {S E : Type 0} (i : Ghosts S E) where
@@ -132,7 +132,7 @@ module _ {S E : Type 0} (i : Ghosts S E) where
   faulty P depth bytes s m old new (Ok u) g keeps all bare k = let t = (g.default keeps).readable in bare t.0 t.1
   faulty P depth bytes s m old new (Err e) g keeps all bare k = go e (g.default keeps).cause (unrefused i depth bytes s m old new e g keeps all)
     where
-      go : (w : Error E) → CauseBy (asks i) (added i.adds) old.ceiling depth (inside (asks i) i.adds old.ceiling depth) (own_inside (asks i) i.adds old.ceiling depth) bytes s m w →
+      go : (w : Error E) → CauseBy (asks i) i.adds old.ceiling depth (inside (asks i) i.adds old.ceiling depth) (own_inside (asks i) i.adds old.ceiling depth) bytes s m w →
           ((x : E) → w ≢ UserError x) → AnswersFault P (Err w)
       go (UserError x) h never = never x refl
       go (TooLarge size) h never = tt
@@ -155,7 +155,7 @@ module _ {S E : Type 0} (i : Ghosts S E) where
 module _ {S E : Type 0} (i : Ghosts S E) (adds : KeepsAdds i.adds i.adds_nothing) where
   pub leaves : (depth : ℕ) (bytes : List ℕ) (s m : S) (old new : Sections) (x : E) → ComponentClauses i depth bytes s old m new (Err (UserError x)) → IsTrue i.keeps_defaults →
       Leaves (asks i) (component_in depth bytes) s (UserError x) m
-  leaves depth bytes s m old new x g keeps = g.after_error keeps (λ h. absurd cc) (λ h. absurd h)
+  leaves depth bytes s m old new x g keeps = (g.after_error keeps (λ h. absurd cc) (λ h. absurd h)).leaves
 
   refused_reading : (depth : ℕ) (bytes : List ℕ) (s m : S) (old new : Sections) (e : Error E) → ComponentClauses i depth bytes s old m new (Err e) → IsTrue i.keeps_defaults → (x : E) → e ≡ UserError x →
       (t : Tree) → ComponentReading depth bytes t → run (asks i) s (visits t) ≡ refused e m
@@ -170,7 +170,7 @@ module _ {S E : Type 0} (i : Ghosts S E) (adds : KeepsAdds i.adds i.adds_nothing
   refused_fault depth bytes s m old new _ g keeps x is before rest f = absurd cc
 
   stopped : (depth : ℕ) (bytes : List ℕ) (s m : S) (old : Sections) (e : Error E) → IsTrue i.adds_nothing → (before : List Tree) (rest : List ℕ) → FaultAt depth bytes before rest →
-      BeforeFault (asks i) (added i.adds) old.ceiling depth (inside (asks i) i.adds old.ceiling depth) (own_inside (asks i) i.adds old.ceiling depth) bytes s m e → StopsBefore i old.ceiling depth s before rest e m
+      BeforeFault (asks i) i.adds old.ceiling depth (inside (asks i) i.adds old.ceiling depth) (own_inside (asks i) i.adds old.ceiling depth) bytes s m e → StopsBefore i old.ceiling depth s before rest e m
   stopped depth bytes s m old e nothing before rest f h = go (h.fault before rest f)
     where
       none : (s : S) (v : Visit) → MayAdd v → i.adds s v ≡ []
@@ -178,7 +178,7 @@ module _ {S E : Type 0} (i : Ghosts S E) (adds : KeepsAdds i.adds i.adds_nothing
 
       go : RefusesAmong (asks i) (added i.adds) old.ceiling s before e m
           ⊎ ((made : List Tree) × (n : S) × AcceptsAll (asks i) (added i.adds) old.ceiling s before made n × Framed (λ f. inside (asks i) i.adds old.ceiling depth f n m e) rest)
-          ⊎ BehindFront (asks i) (added i.adds) old.ceiling depth (own_inside (asks i) i.adds old.ceiling depth) bytes s m e → StopsBefore i old.ceiling depth s before rest e m
+          ⊎ BehindFront (asks i) i.adds old.ceiling depth (own_inside (asks i) i.adds old.ceiling depth) bytes s m e → StopsBefore i old.ceiling depth s before rest e m
       go (inl r) = inl ((walk_stops (asks i) old.ceiling s m (rows_tree before) e).0 (sym (is_walk i none old.ceiling s (rows_tree before)) ∙ r Tree.nil))
       go (inr (inl q)) = inr (q.1, (front_filled i none old.ceiling s q.1 before q.0 q.2).0, q.3)
       go (inr (inr own)) = absurd (behind_never i none old.ceiling depth bytes s m e own)
@@ -219,7 +219,7 @@ module _ {S E : Type 0} (i : Ghosts S E) (adds : KeepsAdds i.adds i.adds_nothing
       none : (s : S) (v : Visit) → MayAdd v → i.adds s v ≡ []
       none = added_none adds nothing
 
-      go : GainsBefore (asks i) i.adds depth (own_inside (asks i) i.adds old.ceiling depth) bytes (s, old) (m, new) e → statements.AddsFilled (asks i) s old (rows_tree before) new
+      go : GainsBefore (asks i) i.adds depth (own_inside (asks i) i.adds old.ceiling depth) (fits_inside (asks i) i.adds old.ceiling depth) bytes (s, old) (m, new) e → statements.AddsFilled (asks i) s old (rows_tree before) new
       go (inl h) = absurd (h.0 f.front.start f.front.stands)
       go (inr h) = by (sections_ahead h.front.first f.front f.none)
         where

@@ -13,7 +13,7 @@ use Rattle.wasm_shapes.specs.Sound.{sound}
 use Rattle.wasm_shapes.specs.Spells.{Is, Spells}
 use Rattle.wasm_shapes.specs.Tree.{Tree, count, normal}
 use Rattle.wasm_shapes.specs.Types.{rows_tree, vector_tree}
-use Rattle.wasm_shapes.proofs.Rows.{vec_counted, vec_spelled}
+use Rattle.wasm_shapes.proofs.Rows.{vec_counted, vec_spelled, vec_is}
 use Rattle.wasm_read.specs.Reading.{Standing, CountRead}
 use Rattle.wasm_write.specs.declared.fault.WriteFault.{WriteFault}
 use Rattle.wasm_write.specs.declared.fault.WriteFault.TheVariants as write
@@ -27,11 +27,12 @@ use Rattle.reencode_hooks.specs.Walk.{walk}
 use Rattle.reencode_core.specs.Errors.{placed_at}
 use Rattle.reencode_core.specs.Rows.{AcceptedHooks, Asks, RefusesFirst, RefusesInside, RefusesRow, RefusesWhole, StopsAtRow, StopsDue, StopsRows, TooMany, onto_rows}
 use Rattle.reencode_core.specs.Weave.{Puts, added}
-use Rattle.reencode_core.proofs.Known.{closed_fits, closed_large, vec_is}
+use Rattle.reencode_core.proofs.Known.{closed_fits, closed_large}
 use Rattle.reencode_component.specs.Components.{NestedFault, ReadsSection}
 use Rattle.reencode_component.specs.WeaveIn.{weave_in}
-use Rattle.reencode_component.specs.Causes.{Stops, StopsInRows, room}
+use Rattle.reencode_component.specs.Causes.{IsNestedFrame, Stops, StopsInRows, room}
 use Rattle.reencode_component.specs.Gives.{FaultIn, GivesSectionBy}
+use Rattle.reencode_component.proofs.Hookless.{not_nested, plain_fits}
 use Rattle.reencode_component.specs.ScopedRows.{AllShallow, GivesShallow, ShallowRows, StopsShallow, standing_at}
 
 -- ---- a section and its frame
@@ -199,23 +200,28 @@ module _ (depth : ℕ) {id : ℕ} {row : Shape} (kind : SectionRows id row) (bod
       }
 
   -- no nested section stands there
-  rows_not : {n : ℕ} → (component_body_of n ≡ Shape.vec row → ⊥) → id ≢ n
+  pub rows_not : {n : ℕ} → (component_body_of n ≡ Shape.vec row → ⊥) → id ≢ n
   rows_not none e = none (sym (ap component_body_of e) ∙ kind.are_rows)
+
+  -- and no section hook is asked there
+  pub rows_plain : IsNestedFrame (numbered_frame id body) → ⊥
+  rows_plain = not_nested (rows_not {n = 1} (λ e. cc)) (rows_not {n = 4} (λ e. cc))
 
   bytes_fault : {A : Type 0} (at : ℕ) → A → A × FaultIn (NestedFault depth (room depth) (numbered_frame id body)) at (fault.Read (record { at = at }))
   bytes_fault at none = (none, (refl, λ y handed q. unnested depth body (rows_not {n = 1} (λ e. cc)) (rows_not {n = 4} (λ e. cc)) (room depth) y q))
 
 module _ {S E : Type 0} (asked : Asks S E) (adds : Puts S SectionRow) (depth : ℕ) (deep : depth ≤ 200) {id : ℕ} {row : Shape} (kind : SectionRows id row) (body : List ℕ) (at : ℕ) where
-  module _ (own inner : Stops S E) (s m : S) (old : Sections) (stops_in : (e : Error E) → StopsInRows asked old.ceiling depth id body s m e → inner (numbered_frame id body) s m e) where
+  module _ (own inner fit : Stops S E) (s m : S) (old : Sections) (stops_in : (e : Error E) → StopsInRows asked old.ceiling depth id body s m e → inner (numbered_frame id body) s m e)
+      (fits_in : (n : S) (e : Error E) → fit (numbered_frame id body) s n e) where
     -- the count of the rows is missing
-    pub section_uncounted : BeginsNoNumber 128 32 32 body → GivesSectionBy asked adds depth inner own (numbered_frame id body) at (s, old) (s, old) (Err (ParseError (record { at = at })))
+    pub section_uncounted : BeginsNoNumber 128 32 32 body → GivesSectionBy asked adds depth inner own fit (numbered_frame id body) at (s, old) (s, old) (Err (ParseError (record { at = at })))
     section_uncounted none =
         let never = none_uncounted depth kind body none in
-        record { reading = λ t r. absurd (never t r); readable = tt; unreadable = bytes_fault depth kind body at never; refusal = tt; unchanged = refl }
+        record { reading = λ t r. absurd (never t r); readable = tt; fits = tt; fits_before = λ other. fits_in s _; unreadable = bytes_fault depth kind body at never; refusal = tt; unchanged = refl }
 
     -- a row is refused, or none is there where one is due
     pub section_stops : {reader : Standing} {start rows : List Tree} (e : Error E) → start ≡ [] → CountRead body reader →
-        GivesShallow asked old.ceiling row (standing_at depth reader) (s, start) (m, rows) (Err e) → GivesSectionBy asked adds depth inner own (numbered_frame id body) at (s, old) (m, old) (Err (placed_at e at))
+        GivesShallow asked old.ceiling row (standing_at depth reader) (s, start) (m, rows) (Err e) → GivesSectionBy asked adds depth inner own fit (numbered_frame id body) at (s, old) (m, old) (Err (placed_at e at))
     unfolding row_stopped
     section_stops {reader = reader} {start = start} {rows = rows} e empty there given =
         let P : List Tree → Type 0 = λ z. GivesShallow asked old.ceiling row (standing_at depth reader) (s, z) (m, rows) (Err e) in go e (subst P empty given)
@@ -231,13 +237,13 @@ module _ {S E : Type 0} (asked : Asks S E) (adds : Puts S SectionRow) (depth : �
         inside_of : (e : Error E) → StopsShallow asked old.ceiling row (standing_at depth reader) (s, []) e (m, rows) → inner (numbered_frame id body) s m e
         inside_of e f = stops_in e (record { row = row; are_rows = kind.are_rows; reader = reader; counted = there; stops = row_stopped asked e there.counted.1.fits f.stops; shallow = f.shallow; next = f.next })
 
-        go : (e : Error E) → Given e → GivesSectionBy asked adds depth inner own (numbered_frame id body) at (s, old) (m, old) (Err (placed_at e at))
+        go : (e : Error E) → Given e → GivesSectionBy asked adds depth inner own fit (numbered_frame id body) at (s, old) (m, old) (Err (placed_at e at))
         go (ParseError x) g =
             let never : (t : Tree) → ReadsSection depth (numbered_frame id body) t → ⊥ = λ t r. let v = rows_read depth kind body there t r in g.unreadable.none v.0 v.2 in
-            record { reading = λ t r. absurd (never t r); readable = tt; unreadable = bytes_fault depth kind body at never; refusal = tt; unchanged = refl }
-        go (UserError x) g = record { reading = λ t r other. inr (refuses (UserError x) g other t r); readable = tt; unreadable = tt; refusal = inr (inside_of (UserError x) g.refusal); unchanged = refl }
-        go (TooLarge x) g = record { reading = λ t r other. inr (refuses (TooLarge x) g other t r); readable = tt; unreadable = tt; refusal = inr (inside_of (TooLarge x) g.refusal); unchanged = refl }
-        go NoMemory g = record { reading = λ t r other. absurd (other refl); readable = tt; unreadable = tt; refusal = tt; unchanged = refl }
+            record { reading = λ t r. absurd (never t r); readable = tt; fits = tt; fits_before = λ other. fits_in m _; unreadable = bytes_fault depth kind body at never; refusal = tt; unchanged = refl }
+        go (UserError x) g = record { reading = λ t r other. inr (refuses (UserError x) g other t r); readable = tt; fits = tt; fits_before = λ other. fits_in m (UserError x); unreadable = tt; refusal = inr (inside_of (UserError x) g.refusal); unchanged = refl }
+        go (TooLarge x) g = record { reading = λ t r other. inr (refuses (TooLarge x) g other t r); readable = tt; fits = tt; fits_before = λ other. fits_in m (TooLarge x); unreadable = tt; refusal = inr (inside_of (TooLarge x) g.refusal); unchanged = refl }
+        go NoMemory g = record { reading = λ t r other. absurd (other refl); readable = tt; fits = tt; fits_before = λ other. absurd (other refl); unreadable = tt; refusal = tt; unchanged = refl }
         go CanonicalizedHeapTypeReference g = absurd g.unreadable
         go InvalidConstExpr g = absurd g.unreadable
         go InvalidCodeSectionSize g = absurd g.unreadable
@@ -258,7 +264,7 @@ module _ {S E : Type 0} (asked : Asks S E) (adds : Puts S SectionRow) (depth : �
 
       -- the section is added
       pub section_added : {new : Sections} → new ≡ with_section old (section_row id (normal (vector_tree made))) → length (normal (vector_tree made)) ≤ old.ceiling →
-          GivesSectionBy asked adds depth inner own (numbered_frame id body) at (s, old) (m, new) (Ok tt)
+          GivesSectionBy asked adds depth inner own fit (numbered_frame id body) at (s, old) (m, new) (Ok tt)
       section_added gains fits = record {
         reading = λ t r.
             let v = rows_read depth kind body there t r in (
@@ -269,6 +275,8 @@ module _ {S E : Type 0} (asked : Asks S E) (adds : Puts S SectionRow) (depth : �
               refl,
             );
         readable = here;
+        fits = λ t r. plain_fits asked adds old.ceiling depth (rows_plain depth kind body) s r;
+        fits_before = tt;
         unreadable = tt;
         refusal = tt;
         unchanged = tt;
@@ -276,7 +284,7 @@ module _ {S E : Type 0} (asked : Asks S E) (adds : Puts S SectionRow) (depth : �
 
       -- it is too large
       pub section_not_added : (w : WriteFault) → IfTooLarge w (λ size. (size ≡ length (normal (vector_tree made))) × (old.ceiling < size)) →
-          GivesSectionBy asked adds depth inner own (numbered_frame id body) at (s, old) (m, old) (Err (error_of_write w))
+          GivesSectionBy asked adds depth inner own fit (numbered_frame id body) at (s, old) (m, old) (Err (error_of_write w))
       section_not_added (write.TooLarge size) q = record {
         reading = λ t r other.
             let v = rows_read depth kind body there t r in
@@ -284,8 +292,10 @@ module _ {S E : Type 0} (asked : Asks S E) (adds : Puts S SectionRow) (depth : �
             let above : old.ceiling < length (normal (vector_tree made)) = let p : old.ceiling < size = q.1 in omega arith in
             inr (rw v.1 (section_large asked (added adds) id old.ceiling s m v.0 (rows_tree made) (rows_made v.0 v.2) above ∙ ap (λ (n : ℕ). refused (TooLarge n) m) (sym same)));
         readable = tt;
+        fits = tt;
+        fits_before = λ other. fits_in m (TooLarge size);
         unreadable = tt;
         refusal = inl here;
         unchanged = refl;
       }
-      section_not_added write.NoMemory q = record { reading = λ t r other. absurd (other refl); readable = tt; unreadable = tt; refusal = tt; unchanged = refl }
+      section_not_added write.NoMemory q = record { reading = λ t r other. absurd (other refl); readable = tt; fits = tt; fits_before = λ other. absurd (other refl); unreadable = tt; refusal = tt; unchanged = refl }

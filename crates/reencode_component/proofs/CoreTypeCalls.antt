@@ -1,14 +1,11 @@
 -- Core types as rows: by the tree that one stands for, and what a refusal leaves.
-use Rattle.std.proofs.Common.{◌≡◌, ◌<◌, ◌^◌, ◌++◌, ℕ, List, [], ◌∷◌, Result, Ok, Err, refl, sym, ap, ◌∙◌, append_assoc, subst, arith}
+use Rattle.std.proofs.Common.{◌≡◌, ◌++◌, ℕ, List, [], ◌∷◌, Result, Ok, Err, refl, sym, ap, ◌∙◌, append_assoc, subst}
 use Rattle.wasm_shapes.specs.declared.Visit.{Visit}
 use Rattle.wasm_shapes.specs.declared.Visit.TheVariants.{Push, Pop}
 use Rattle.wasm_shapes.specs.Depth.{Shallow}
-use Rattle.wasm_shapes.specs.Tree.{Tree, count, visits}
+use Rattle.wasm_shapes.specs.Tree.{Tree, visits}
 use Rattle.wasm_shapes.specs.Types.{led}
-use Rattle.wasm_shapes.specs.Fits.{InRange}
-use Rattle.wasm_shapes.specs.Spells.{Spelled}
 use Rattle.wasm_shapes.specs.Component.{module_declaration}
-use Rattle.wasm_shapes.proofs.ReadBack.{spelled_in_range}
 use Rattle.wasm_types.specs.ComponentTrees.{core_group_tree}
 use Rattle.wasm_read.specs.Types.{group_tree}
 use Rattle.wasm_read_component.specs.declared.declarations.CoreType as read
@@ -60,12 +57,12 @@ open_visited asked {s = s} {m = m} text e rows reads opened =
     }
 
 -- a scope that stands for a tree, where what it stands in asks nothing more
-pub scope_listed : {S E A : Type 0} (i : Ghosts S E) (within : Tree → Tree) (view : A → Tree) (inside : (t : Tree) → visits (within t) ≡ visits t) (s m : S) (left : ℕ) (text : Text)
-    (faulty : ℕ → S → List Tree → ℕ → Type 0) (stops : ℕ → S → List Tree → Error E → Type 0) (rows : Tree) → text.reads rows → left < 2 ^ 32 → (r : Result A (Error E)) →
-    ScopeBy i left text faulty stops within view s m r → ListClauses i (within (Tree.scope (Tree.vec rows))) view s m r
-scope_listed {A = A} i within view inside s m left text faulty stops rows reads few (Ok a) given = record { default = λ k. given.default k few rows reads; after_error = λ k sure. tt }
-scope_listed {A = A} i within view inside s m left text faulty stops rows reads few (Err e) given = record {
-  default = λ k. given.default k few rows reads;
+pub scope_listed : {S E A : Type 0} (i : Ghosts S E) (within : Tree → Tree) (view : A → Tree) (inside : (t : Tree) → visits (within t) ≡ visits t) (s m : S) (text : Text)
+    (faulty : ℕ → S → List Tree → ℕ → Type 0) (stops : ℕ → S → List Tree → Error E → Type 0) (rows : Tree) → text.reads rows → (r : Result A (Error E)) →
+    ScopeBy i text faulty stops within view s m r → ListClauses i (within (Tree.scope (Tree.vec rows))) view s m r
+scope_listed {A = A} i within view inside s m text faulty stops rows reads (Ok a) given = record { default = λ k. given.default k rows reads; after_error = λ k sure. tt }
+scope_listed {A = A} i within view inside s m text faulty stops rows reads (Err e) given = record {
+  default = λ k. given.default k rows reads;
   after_error = λ k sure.
       let P : List Visit → Type 0 = λ z. Visited (asks i) s z m in
       subst P (sym (inside (Tree.scope (Tree.vec rows)))) (open_visited (asks i) text e rows reads (given.after_error k (λ h. sure)));
@@ -74,25 +71,22 @@ scope_listed {A = A} i within view inside s m left text faulty stops rows reads 
 -- ---- a type that stands for a tree
 
 module _ {S E A : Type 0} (i : Ghosts S E) (within : Tree → Tree) (view : A → Tree) (inside : (t : Tree) → visits (within t) ≡ visits t) (s m : S) where
-  pub core_listed : (ty : read.CoreType) (t : Tree) → CoreTypeStands ty t → InRange t → (r : Result A (Error E)) → CoreTypeWithin i within view ty s m r → ListClauses i (within t) view s m r
-  core_listed (core.Rec group) t is range r given =
+  pub core_listed : (ty : read.CoreType) (t : Tree) → CoreTypeStands ty t → (r : Result A (Error E)) → CoreTypeWithin i within view ty s m r → ListClauses i (within t) view s m r
+  core_listed (core.Rec group) t is r given =
       let P : Tree → Type 0 = λ z. ListClauses i (within z) view s m r in
       let same : t ≡ core_group_tree (group_tree group) = is in
       subst P (sym same) given
-  core_listed (core.Module reader) t stands range r given =
+  core_listed (core.Module reader) t stands r given =
       let scope = stands.stands in
       let P : Tree → Type 0 = λ z. ListClauses i (within z) view s m r in
       let same : t ≡ Tree.row 0 (led 0x50 (Tree.scope (Tree.vec scope.rows))) = stands.is ∙ ap (λ (z : Tree). Tree.row 0 (led 0x50 z)) scope.is in
-      let Q : Tree → Type 0 = InRange in
-      let few : count scope.rows < 2 ^ 32 = (subst Q same range).1.0 in
-      let all : count scope.rows ≡ reader.left = scope.left.counted in
       subst P (sym same)
-      (scope_listed i (λ z. within (Tree.row 0 (led 0x50 z))) view (λ z. inside (Tree.row 0 (led 0x50 z))) s m reader.left (rows_in module_declaration reader)
+      (scope_listed i (λ z. within (Tree.row 0 (led 0x50 z))) view (λ z. inside (Tree.row 0 (led 0x50 z))) s m (rows_in module_declaration reader)
       (λ c n made at. RowsFault (asks i) c module_declaration reader (n, []) (m, made) at) (λ c n made e. StopsAtRow (asks i) c module_declaration reader (n, []) e (m, made))
-      scope.rows scope.left (omega arith) r given)
+      scope.rows scope.left r given)
 
 -- it is added
 pub core_row_added : {S E : Type 0} (i : Ghosts S E) (s m : S) (ty : read.CoreType) (mapped : Result made.CoreType (Error E)) → CoreTypeClauses i ty s m mapped → (old new : List Tree) (r : Result (Unit {0}) (Error E)) →
-    AddsRow core_type_tree mapped old new r → (depth : ℕ) (t : Tree) (x : List ℕ) → CoreTypeStands ty t → Spelled t x → Shallow depth t → RowClauses i t s old m new r
-core_row_added i s m ty mapped given old new r adds depth t x stands spelled low =
-    list_added i t core_type_tree s m old new mapped (core_listed i (λ z. z) core_type_tree (λ z. refl) s m ty t stands (spelled_in_range t x spelled) mapped given) r adds
+    AddsRow core_type_tree mapped old new r → (depth : ℕ) (t : Tree) → CoreTypeStands ty t → Shallow depth t → RowClauses i t s old m new r
+core_row_added i s m ty mapped given old new r adds depth t stands low =
+    list_added i t core_type_tree s m old new mapped (core_listed i (λ z. z) core_type_tree (λ z. refl) s m ty t stands mapped given) r adds

@@ -19,19 +19,20 @@ use Rattle.reencode_hooks.specs.Run.{refused}
 use Rattle.reencode_hooks.specs.Walk.{walk}
 use Rattle.reencode_core.specs.Clauses.{CustomClausesOf, asks}
 use Rattle.reencode_core.specs.Errors.{IfParse, IfRefused, placed_at}
-use Rattle.reencode_core.specs.Leaves.{Leaves, LeavesCore, LeavesMade, ManyUpTo, custom_of}
+use Rattle.reencode_core.specs.Leaves.{Leaves, LeavesMade, ManyUpTo, TellsFault, custom_of}
 use Rattle.reencode_core.specs.Names.{GivesCustomOf, ReadsContentsOf, ReadsCustomOf, StopsCustomOf, SubsectionsFaultOf, contents_standing}
 use Rattle.reencode_core.specs.Rows.{Asks}
 use Rattle.reencode_core.specs.Weave.{Puts, added}
 use Rattle.reencode_core.proofs.Made.{wants_placed}
 use Rattle.reencode_component.specs.Causes.{IfFault, inside, room}
 use Rattle.reencode_component.specs.ComponentClauses.{FrameClauses, placed_in}
-use Rattle.reencode_component.specs.ComponentLeaves.{SectionUpTo, section_in}
+use Rattle.reencode_component.specs.ComponentLeaves.{IfLeaves, LeavesSection, SectionUpTo}
+use Rattle.reencode_component.proofs.Hookless.{custom_not_nested, plain_fits, plain_inside}
 use Rattle.reencode_component.specs.ComponentNames.{component_custom}
 use Rattle.reencode_component.specs.Components.{NestedFault, ReadsSection}
 use Rattle.reencode_component.specs.Gives.{FaultIn, GivesSection}
 use Rattle.reencode_component.specs.WeaveIn.{weave_in}
-use Rattle.reencode_component.proofs.EachComponentSection.{leaves_placed}
+use Rattle.reencode_component.proofs.EachComponentSection.{no_scope, section_placed}
 use Rattle.reencode_component.proofs.WeavesIn.{both_same}
 
 -- ---- what it is read as
@@ -141,13 +142,18 @@ module _ (depth : ℕ) (name contents : List ℕ) where
   same_error P none at t r _ h = refl
 
 module _ {S E : Type 0} (i : Ghosts S E) (depth : ℕ) (deep : depth ≤ 200) (name contents : List ℕ) where
-  leaves_framed : (s m : S) (e : Error E) → Leaves (asks i) (custom_of component_custom name contents) s e m → Leaves (asks i) (section_in depth (custom_frame name contents)) s e m
+  leaves_framed : (s m : S) (e : Error E) → Leaves (asks i) (custom_of component_custom name contents) s e m → LeavesSection (asks i) depth (custom_frame name contents) s e m
   leaves_framed s m e l = record {
-    made = l.made;
-    ended = l.ended;
-    drawn = l.drawn;
-    reading = λ t r. l.reading t (custom_forth depth name contents t r);
-    fault = λ none t rest x. l.fault (λ u r. none u (custom_back depth deep name contents u r)) t rest (names_up_to depth name contents t rest x);
+    leaves = record {
+      made = l.made;
+      ended = l.ended;
+      drawn = l.drawn;
+      reading = λ t r. l.reading t (custom_forth depth name contents t r);
+      fault = λ none t rest x. l.fault (λ u r. none u (custom_back depth deep name contents u r)) t rest (names_up_to depth name contents t rest x);
+    };
+    unread = λ none.
+        no_scope (TellsFault e) depth (room depth) (custom_frame name contents) l.made
+        (λ id body is nested. let apart : custom_frame name contents ≡ numbered_frame id body = is in cc);
   }
 
   stops : (s m : S) (c : ℕ) (e : Error E) → ((t : Tree) × ReadsCustomOf component_custom name contents t) ⊎ StopsCustomOf component_custom (asks i) c name contents s e m →
@@ -169,6 +175,8 @@ module _ {S E : Type 0} (i : Ghosts S E) (depth : ℕ) (deep : depth ≤ 200) (n
         let x = g.reading t q in
         (x.0, section_row 0 x.1, custom_walked (asks i) (added i.adds) old.ceiling q s ∙ x.2, x.3, x.4);
     readable = (g.readable.0, custom_back depth deep name contents g.readable.0 g.readable.1);
+    fits = λ t r. plain_fits (asks i) i.adds old.ceiling depth custom_not_nested s r;
+    fits_before = tt;
     unreadable = tt;
     refusal = tt;
     unchanged = tt;
@@ -183,15 +191,17 @@ module _ {S E : Type 0} (i : Ghosts S E) (depth : ℕ) (deep : depth ≤ 200) (n
             let W : Error E → Type 0 = λ z. weave_in (asks i) (added i.adds) old.ceiling s t ≡ refused z m in
             inr (subst W (sym same) (custom_walked (asks i) (added i.adds) old.ceiling q s ∙ (g.reading t q).1 (λ w. other (same ∙ w))));
         readable = tt;
+        fits = tt;
+        fits_before = λ other. plain_inside (asks i) i.adds old.ceiling depth custom_not_nested s (room depth) m (placed_at e at);
         unreadable = unreadable depth name contents P (λ z h. h.0) at e g.unreadable;
         refusal = refusal s m old.ceiling at e g.refusal;
         unchanged = g.unchanged;
       }
 
   left : (at : ℕ) (s m : S) (r : Result (Unit {0}) (Error E)) → LeavesMade i.sure (asks i) (custom_of component_custom name contents) s m r →
-      LeavesCore i.sure i.adds_nothing (asks i) (section_in depth (custom_frame name contents)) s m (placed_in r at)
+      IfLeaves i.sure i.adds_nothing (λ e. LeavesSection (asks i) depth (custom_frame name contents) s e m) (placed_in r at)
   left at s m (Ok u) l = tt
-  left at s m (Err e) l = λ told size. leaves_placed (section_in depth (custom_frame name contents)) e at (leaves_framed s m e (l (λ h. told (wants_placed e at h))))
+  left at s m (Err e) l = λ told size. section_placed depth (custom_frame name contents) e at (leaves_framed s m e (l (λ h. told (wants_placed e at h))))
 
   pub custom_framed : (at : ℕ) {s m : S} {old new : Sections} (r : Result (Unit {0}) (Error E)) → CustomClausesOf component_custom i name contents s old m new r →
       FrameClauses i depth (custom_frame name contents) at s old m new (placed_in r at)

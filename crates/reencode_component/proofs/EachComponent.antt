@@ -18,16 +18,17 @@ use Rattle.reencode_hooks.specs.declared.error.Error.TheVariants.{InvalidCodeSec
 use Rattle.reencode_hooks.specs.declared.indices.ReencodeIndices.{Ghosts}
 use Rattle.reencode_hooks.specs.Errors.{error_of_fault}
 use Rattle.reencode_core.specs.Clauses.{asks}
-use Rattle.reencode_core.specs.Leaves.{IsSize, Leaves, TellsFault}
+use Rattle.reencode_core.specs.Leaves.{IsSize, TellsFault}
 use Rattle.reencode_core.specs.Sections.{KeepsModule}
 use Rattle.reencode_core.proofs.Known.{keeps_more, keeps_same}
 use Rattle.reencode_core.proofs.Made.{ended_all, fault_unasked, front_none}
 use Rattle.reencode_core.proofs.OneRow.{answers}
-use Rattle.reencode_component.specs.Causes.{IfFault, inside, own_inside}
+use Rattle.reencode_component.specs.Causes.{IfFault, fits_inside, inside, own_inside}
 use Rattle.reencode_component.specs.Gives.{GivesSectionBy}
-use Rattle.reencode_component.specs.ComponentLeaves.{ComponentUpTo, NoComponentHeading, section_in}
+use Rattle.reencode_component.specs.ComponentLeaves.{ComponentUpTo, LeavesSection, NoComponentHeading}
 use Rattle.reencode_component.specs.ComponentClauses.{ComponentClauses, FrameClauses}
 use Rattle.reencode_component.specs.NestedClauses.{PayloadClauses}
+use Rattle.reencode_component.proofs.CustomFrames.{custom_framed}
 use Rattle.reencode_component.proofs.ComponentLoop.{ComponentDone, component_begin, component_end, component_held, component_more, component_refused, component_refused_leaves, component_unframed, component_unframed_leaves, header_wrong, no_header}
 use Rattle.reencode_component.proofs.SectionsDrawn.{section_drawn}
 
@@ -40,14 +41,14 @@ pub record ComponentKept {S E : Type 0} (i : Ghosts S E) (depth : ℕ) (bytes : 
   pub done : IsTrue i.keeps_defaults → ComponentDone (asks i) i.adds depth bytes s0 old reader.rest s new
 
 -- a payload that the reader gives is a section in its frame
-given_framed : {S E : Type 0} (i : Ghosts S E) (depth : ℕ) (p : ComponentPayload) {s m : S} {old new : Sections} {r : Result (Unit {0}) (Error E)} → IsGiven p → PayloadClauses i depth p s old m new r →
+given_framed : {S E : Type 0} (i : Ghosts S E) (depth : ℕ) → depth ≤ 200 → (p : ComponentPayload) {s m : S} {old new : Sections} {r : Result (Unit {0}) (Error E)} → IsGiven p → PayloadClauses i depth p s old m new r →
     FrameClauses i depth (component_frame_tree p) (component_payload_at p) s old m new r
-given_framed i depth (payload.Section id at body) g c = c
-given_framed i depth (payload.Unknown at id contents) g c = c
-given_framed i depth (payload.Core id) g c = absurd g
-given_framed i depth (payload.Module at bytes) g c = rw c.placed (c.call.framed at)
-given_framed i depth (payload.Component at bytes) g c = rw c.placed (c.call.framed at)
-given_framed i depth (payload.Custom at section) g c = c
+given_framed i depth deep (payload.Section id at body) g c = c
+given_framed i depth deep (payload.Unknown at id contents) g c = c
+given_framed i depth deep (payload.Core id) g c = absurd g
+given_framed i depth deep (payload.Module at bytes) g c = rw c.placed (c.call.framed at)
+given_framed i depth deep (payload.Component at bytes) g c = rw c.placed (c.call.framed at)
+given_framed i depth deep (payload.Custom at section) g c = rw c.placed (custom_framed i depth deep section.name.now section.contents.now at c.mapped c.call)
 
 -- an error of the bytes leaves no reading of the section
 tells_none_read : {E : Type 0} (P : Fault → Type 0) {none : Type 0} (e : Error E) → IfFault e (λ x. none × P x) → TellsFault e → none
@@ -66,11 +67,14 @@ module _ {S E : Type 0} (i : Ghosts S E) (depth : ℕ) where
         kept = keeps_same old;
         default = λ k. header_wrong (asks i) i.adds depth s old x wrong;
         after_error = λ k told size. record {
-          made = [];
-          ended = ended_all {a = []} (error_of_fault x) (fault_unasked E x) refl;
-          drawn = drawn_none;
-          reading = λ t r. front_none (visits t);
-          fault = λ none t rest up. absurd (by t rest up);
+          leaves = record {
+            made = [];
+            ended = ended_all {a = []} (error_of_fault x) (fault_unasked E x) refl;
+            drawn = drawn_none;
+            reading = λ t r. front_none (visits t);
+            fault = λ none t rest up. absurd (by t rest up);
+          };
+          unread = λ none before left f. absurd (no_header x wrong f.front.start f.front.stands);
         };
         headless = λ k none. refl;
         wants = λ k sure h. absurd (known x wrong h);
@@ -116,11 +120,11 @@ module _ {S E : Type 0} (i : Ghosts S E) (depth : ℕ) where
         known (fault.Header k) h = absurd h
         known fault.NoMemory h = absurd h
 
-    module _ (p : ComponentPayload) (given : IsGiven p) {left : List ℕ} (there : Begins frame reader.rest (component_frame_tree p) left) {m : S} {new' : Sections} where
+    module _ (deep : depth ≤ 200) (p : ComponentPayload) (given : IsGiven p) {left : List ℕ} (there : Begins frame reader.rest (component_frame_tree p) left) {m : S} {new' : Sections} where
       -- the section was mapped
       pub kept_more : {reader' : read.Sections} → reader'.rest ≡ left → reader'.len ≡ reader.len → PayloadClauses i depth p s new m new' (Ok tt) → ComponentKept i depth bytes start s0 old reader' m new'
       kept_more behind len clauses =
-          let call = given_framed i depth p given clauses in
+          let call = given_framed i depth deep p given clauses in
           let P : List ℕ → Type 0 = λ z. ComponentDone (asks i) i.adds depth bytes s0 old z m new' in record {
             kept = keeps_more old new new' inv.kept call.kept;
             len = len ∙ inv.len;
@@ -135,19 +139,19 @@ module _ {S E : Type 0} (i : Ghosts S E) (depth : ℕ) where
             let d = inv.done k in
             let ceiling : new.ceiling ≡ old.ceiling = ap Sections.ceiling d.gains in
             let Q : ℕ → Type 0 = λ c.
-            GivesSectionBy (asks i) i.adds depth (inside (asks i) i.adds c depth) (own_inside (asks i) i.adds c depth) (component_frame_tree p) (component_payload_at p) (s, new) (m, new') (Err e) in
-            component_refused (asks i) i.adds depth d (inside (asks i) i.adds old.ceiling depth) (own_inside (asks i) i.adds old.ceiling depth) (component_frame_tree p) (component_payload_at p) left there m new' e
+            GivesSectionBy (asks i) i.adds depth (inside (asks i) i.adds c depth) (own_inside (asks i) i.adds c depth) (fits_inside (asks i) i.adds c depth) (component_frame_tree p) (component_payload_at p) (s, new) (m, new') (Err e) in
+            component_refused (asks i) i.adds depth d (inside (asks i) i.adds old.ceiling depth) (own_inside (asks i) i.adds old.ceiling depth) (fits_inside (asks i) i.adds old.ceiling depth) (component_frame_tree p) (component_payload_at p) left there m new' e
             (subst Q ceiling (call.default k)) (counted place);
         after_error = λ k told size.
             component_refused_leaves (asks i) i.adds depth (inv.done k) e there (λ t r q. tells_none_read _ e (call.default k).unreadable q t r) (call.after_error k told size);
         headless = λ k. headed;
         wants = λ k sure h.
-            let L : Error E → Type 0 = λ z. Leaves (asks i) (section_in depth (component_frame_tree p)) s z m in
+            let L : Error E → Type 0 = λ z. LeavesSection (asks i) depth (component_frame_tree p) s z m in
             component_held (asks i) i.adds depth (inv.done k) there (call.default k).unchanged (subst L h (call.after_error k (λ q. sure) (λ z. absurd (not_size h z))));
       }
         where
           call : FrameClauses i depth (component_frame_tree p) (component_payload_at p) s new m new' (Err e)
-          call = given_framed i depth p given clauses
+          call = given_framed i depth deep p given clauses
 
           not_size : e ≡ NoMemory → IsSize e → ⊥
           not_size h z = let P : Error E → Type 0 = λ w. IsSize w in subst P h z

@@ -27,7 +27,7 @@ use Rattle.reencode_hooks.specs.declared.indices.ReencodeIndices.{Ghosts}
 use Rattle.reencode_hooks.specs.Errors.{error_of_write}
 use Rattle.reencode_core.specs.Clauses.{asks}
 use Rattle.reencode_core.specs.Errors.{IfParse, placed_at}
-use Rattle.reencode_core.specs.Leaves.{Leaves, LeavesCore, MadeUpTo, Text}
+use Rattle.reencode_core.specs.Leaves.{Leaves, MadeUpTo, TellsFault}
 use Rattle.reencode_core.specs.Rows.{Asks}
 use Rattle.reencode_core.specs.Sections.{AddsMapped, GivesAdded, KeepsModule}
 use Rattle.reencode_core.specs.Weave.{Puts, added}
@@ -36,31 +36,65 @@ use Rattle.reencode_hooks.specs.Walk.{walk}
 use Rattle.reencode_core.proofs.Known.{keeps_same}
 use Rattle.reencode_core.proofs.Usual.{unless_wanting}
 use Rattle.reencode_core.proofs.Made.{drawn_made, either_made, ended_all, ended_placed, front_none, front_same, tells_placed, wants_placed, write_unasked}
-use Rattle.reencode_component.specs.Causes.{IfFault, inside, own_inside, room}
+use Rattle.reencode_component.specs.Causes.{IfFault, IsNestedFrame, fits_inside, inside, own_inside, room}
 use Rattle.reencode_component.specs.Components.{NestedFault, ReadsSection}
 use Rattle.reencode_component.specs.Gives.{GivesAddedIn, GivesSection}
 use Rattle.reencode_component.specs.WeaveIn.{weave_in}
 use Rattle.reencode_component.specs.Clauses.{AddedClauses}
 use Rattle.reencode_component.specs.ComponentClauses.{FrameClauses, placed_in}
-use Rattle.reencode_component.specs.ComponentLeaves.{SectionUpTo, bytes_in, section_in}
+use Rattle.reencode_component.specs.ComponentLeaves.{IfLeaves, LeavesSection, SectionUpTo, StaysOpen, bytes_in, section_in}
 use Rattle.reencode_component.specs.ScopedRows.{ShallowRowsClauses, standing_at}
-use Rattle.reencode_component.proofs.ComponentRowsMapped.{SectionRows, above_custom, at_row, in_numbered, section_added, section_not_added, section_stops, section_uncounted, unnested}
+use Rattle.reencode_component.proofs.ComponentRowsMapped.{SectionRows, above_custom, at_row, in_numbered, rows_not, rows_plain, section_added, section_not_added, section_stops, section_uncounted, unnested}
+use Rattle.reencode_component.proofs.Hookless.{not_nested, plain_fits, plain_inside}
 use Rattle.reencode_component.proofs.ComponentRowsLeft.{section_leaves, section_leaves_all, section_untouched}
+
+-- ---- the scopes that an error leaves open
+
+-- nothing was asked
+pub none_made : (told : Type 0) (depth scopes : ℕ) (f : Tree) → StaysOpen told depth scopes f []
+none_made told depth zero f = λ id body is nested. refl
+none_made told depth (suc scopes) f = λ id body is nested. inl refl
+
+-- what stands in the frame is not nested
+pub no_scope : (told : Type 0) (depth scopes : ℕ) (f : Tree) (made : List Visit) → ((id : ℕ) (body : List ℕ) → f ≡ numbered_frame id body → (id ≡ 1) ⊎ (id ≡ 4) → ⊥) → StaysOpen told depth scopes f made
+no_scope told depth zero f made never = λ id body is nested. absurd (never id body is nested)
+no_scope told depth (suc scopes) f made never = λ id body is nested. absurd (never id body is nested)
+
+-- a section of rows
+rows_leave : {S E : Type 0} {asked : Asks S E} (depth : ℕ) {id : ℕ} {row : Shape} → SectionRows id row → (body : List ℕ) {s m : S} {e : Error E} →
+    Leaves asked (section_in depth (numbered_frame id body)) s e m → LeavesSection asked depth (numbered_frame id body) s e m
+rows_leave depth {id = id} kind body {e = e} l = record { leaves = l; unread = λ none. no_scope (TellsFault e) depth (room depth) (numbered_frame id body) l.made never }
+  where
+    never : (id' : ℕ) (body' : List ℕ) → numbered_frame id body ≡ numbered_frame id' body' → (id' ≡ 1) ⊎ (id' ≡ 4) → ⊥
+    never id' body' is (inl one) = let same : id ≡ id' = cc in rows_not depth kind body {n = 1} (λ q. cc) (same ∙ one)
+    never id' body' is (inr four) = let same : id ≡ id' = cc in rows_not depth kind body {n = 4} (λ q. cc) (same ∙ four)
 
 -- ---- the same error at another place
 
-pub leaves_placed : {S E : Type 0} {asked : Asks S E} (text : Text) {s m : S} (e : Error E) (at : ℕ) → Leaves asked text s e m → Leaves asked text s (placed_at e at) m
-leaves_placed {E = E} text e at l = record {
-  made = l.made;
-  ended = ended_placed e at l.ended;
-  drawn = l.drawn;
-  reading = l.reading;
-  fault = λ none t rest f. go (visits t) rest (l.fault none t rest f);
+told_placed : {E : Type 0} (P : Type 0 → Type 0) (e : Error E) (at : ℕ) → P (TellsFault e) → P (TellsFault (placed_at e at))
+told_placed P (ParseError x) at h = h
+told_placed P _ at h = h
+
+pub section_placed : {S E : Type 0} {asked : Asks S E} (depth : ℕ) (f : Tree) {s m : S} (e : Error E) (at : ℕ) → LeavesSection asked depth f s e m → LeavesSection asked depth f s (placed_at e at) m
+section_placed {E = E} depth f e at l = record {
+  leaves = record {
+    made = l.leaves.made;
+    ended = ended_placed e at l.leaves.ended;
+    drawn = l.leaves.drawn;
+    reading = l.leaves.reading;
+    fault = λ none t rest x. go (visits t) rest (l.leaves.fault none t rest x);
+  };
+  unread = λ none. told_placed (λ z. StaysOpen z depth (room depth) f l.leaves.made) e at (l.unread none);
 }
   where
-    go : (all : List Visit) (rest : List ℕ) → MadeUpTo e l.made all rest → MadeUpTo (placed_at e at) l.made all rest
+    go : (all : List Visit) (rest : List ℕ) → MadeUpTo e l.leaves.made all rest → MadeUpTo (placed_at e at) l.leaves.made all rest
     go all rest (inl h) = inl ((λ q. h.0 (tells_placed e at q)), h.1)
     go all rest (inr h) = inr h
+
+-- nothing is added in a section of rows
+rows_fit : {S E : Type 0} (i : Ghosts S E) (c depth : ℕ) {id : ℕ} {row : Shape} (kind : SectionRows id row) (body : List ℕ) (s n : S) (e : Error E) →
+    fits_inside (asks i) i.adds c depth (numbered_frame id body) s n e
+rows_fit i c depth kind body s n e = plain_inside (asks i) i.adds c depth (rows_plain depth kind body) s (room depth) n e
 
 module _ {S E : Type 0} (i : Ghosts S E) (depth : ℕ) (deep : depth ≤ 200) {id : ℕ} {row : Shape} (kind : SectionRows id row) (body : List ℕ) (at : ℕ) {s : S} {old : Sections} where
   -- the count of the rows is missing
@@ -68,9 +102,9 @@ module _ {S E : Type 0} (i : Ghosts S E) (depth : ℕ) (deep : depth ≤ 200) {i
   section_unread f none = record {
     kept = keeps_same old;
     default = λ k.
-        section_uncounted (asks i) i.adds depth deep kind body at (own_inside (asks i) i.adds old.ceiling depth) (inside (asks i) i.adds old.ceiling depth) s s old
-        (λ e h. inl (id, body, refl, h)) (uncounted f none);
-    after_error = λ k told size. section_untouched (asks i) depth deep kind body s s (ParseError (record { at = at })) tt refl (uncounted f none);
+        section_uncounted (asks i) i.adds depth deep kind body at (own_inside (asks i) i.adds old.ceiling depth) (inside (asks i) i.adds old.ceiling depth) (fits_inside (asks i) i.adds old.ceiling depth) s s old
+        (λ e h. inl (id, body, refl, h)) (rows_fit i old.ceiling depth kind body s) (uncounted f none);
+    after_error = λ k told size. rows_leave depth kind body (section_untouched (asks i) depth deep kind body s s (ParseError (record { at = at })) tt refl (uncounted f none));
   }
     where
       uncounted : (f : Fault) → ReadsNone f 0 (BeginsNoNumber 128 32 32 body) → BeginsNoNumber 128 32 32 body
@@ -88,16 +122,16 @@ module _ {S E : Type 0} (i : Ghosts S E) (depth : ℕ) (deep : depth ≤ 200) {i
       subst P (sym adds.0) (subst Q (sym adds.1) (record {
         kept = keeps_same old;
         default = λ k.
-            section_stops (asks i) i.adds depth deep kind body at (own_inside (asks i) i.adds old.ceiling depth) (inside (asks i) i.adds old.ceiling depth) s m old
-            (λ x h. inl (id, body, refl, h)) e empty there (rows.default k old.ceiling);
+            section_stops (asks i) i.adds depth deep kind body at (own_inside (asks i) i.adds old.ceiling depth) (inside (asks i) i.adds old.ceiling depth) (fits_inside (asks i) i.adds old.ceiling depth) s m old
+            (λ x h. inl (id, body, refl, h)) (rows_fit i old.ceiling depth kind body s) e empty there (rows.default k old.ceiling);
         after_error = λ k told size.
-            leaves_placed (section_in depth (numbered_frame id body)) e at (section_leaves (asks i) depth deep kind body s m e there (rows.after_error k (λ h. told (wants_placed e at h))));
+            section_placed depth (numbered_frame id body) e at (rows_leave depth kind body (section_leaves (asks i) depth deep kind body s m e there (rows.after_error k (λ h. told (wants_placed e at h)))));
       }))
   section_mapped {reader = reader} {made = made} {m = m} {new = new} (Ok u) (Ok v) empty there rows adds = record {
     kept = (section_row id (normal (vector_tree made)) ∷ [], adds.0);
     default = λ k.
-        section_added (asks i) i.adds depth deep kind body at (own_inside (asks i) i.adds old.ceiling depth) (inside (asks i) i.adds old.ceiling depth) s m old
-        (λ x h. inl (id, body, refl, h)) empty there (rows.default k old.ceiling) adds.0 adds.1;
+        section_added (asks i) i.adds depth deep kind body at (own_inside (asks i) i.adds old.ceiling depth) (inside (asks i) i.adds old.ceiling depth) (fits_inside (asks i) i.adds old.ceiling depth) s m old
+        (λ x h. inl (id, body, refl, h)) (rows_fit i old.ceiling depth kind body s) empty there (rows.default k old.ceiling) adds.0 adds.1;
     after_error = λ k. tt;
   }
   section_mapped {reader = reader} {made = made} {m = m} {new = new} (Ok u) (Err e) empty there rows adds =
@@ -106,12 +140,12 @@ module _ {S E : Type 0} (i : Ghosts S E) (depth : ℕ) (deep : depth ≤ 200) {i
       subst P (sym adds.2) (subst Q (sym adds.0) (record {
         kept = keeps_same old;
         default = λ k.
-            section_not_added (asks i) i.adds depth deep kind body at (own_inside (asks i) i.adds old.ceiling depth) (inside (asks i) i.adds old.ceiling depth) s m old
-            (λ x h. inl (id, body, refl, h)) empty there (rows.default k old.ceiling) adds.1 adds.3;
+            section_not_added (asks i) i.adds depth deep kind body at (own_inside (asks i) i.adds old.ceiling depth) (inside (asks i) i.adds old.ceiling depth) (fits_inside (asks i) i.adds old.ceiling depth) s m old
+            (λ x h. inl (id, body, refl, h)) (rows_fit i old.ceiling depth kind body s) empty there (rows.default k old.ceiling) adds.1 adds.3;
         after_error = λ k told size.
             let g = rows.default k old.ceiling in
             let q = g.reading g.readable.0 g.readable.1 in
-            section_leaves_all (asks i) depth deep kind body s m old.ceiling (rows_tree q.0) (error_of_write adds.1) (write_unasked E adds.1) there g.readable.0 g.readable.1 q.1;
+            rows_leave depth kind body (section_leaves_all (asks i) depth deep kind body s m old.ceiling (rows_tree q.0) (error_of_write adds.1) (write_unasked E adds.1) there g.readable.0 g.readable.1 q.1);
       }))
 
   -- the same by a reader that knows the depth
@@ -137,7 +171,7 @@ tells_no_fault P InvalidConstExpr h = absurd h
 tells_no_fault P UnsupportedCoreTypeInComponent h = absurd h
 
 module _ {S E : Type 0} (i : Ghosts S E) (depth : ℕ) {f t : Tree} (reads : ReadsSection depth f t) (one : (u : Tree) → ReadsSection depth f u → u ≡ t)
-    (same : (put : Puts S Tree) (c : ℕ) (s : S) → weave_in (asks i) put c s t ≡ walk (asks i) c s t) (drawn : Drawn (bytes_in f) (visits t)) (at id : ℕ) {s m : S} {old new : Sections} where
+    (same : (put : Puts S Tree) (c : ℕ) (s : S) → weave_in (asks i) put c s t ≡ walk (asks i) c s t) (drawn : Drawn (bytes_in f) (visits t)) (plain : IsNestedFrame f → ⊥) (at id : ℕ) {s m : S} {old new : Sections} where
   -- it was mapped and added, or refused
   one_gives : (r : Result (Unit {0}) (Error E)) → GivesAdded (asks i) id (s, old) t (m, new) r → IfErr r (λ e. IfParse e (λ _. ⊥)) → GivesSection (asks i) i.adds depth f at (s, old) (m, new) r
   one_gives (Ok v) g usual = record {
@@ -145,6 +179,8 @@ module _ {S E : Type 0} (i : Ghosts S E) (depth : ℕ) {f t : Tree} (reads : Rea
         let P : Tree → Type 0 = λ z. GivesAddedIn (asks i) i.adds (own_inside (asks i) i.adds old.ceiling depth f s m) (s, old) z (m, new) (Ok v) in
         subst P (sym (one u q)) (g.0, section_row id g.1, same (added i.adds) old.ceiling s ∙ g.2, g.3, g.4);
     readable = (t, reads);
+    fits = λ u q. plain_fits (asks i) i.adds old.ceiling depth plain s q;
+    fits_before = tt;
     unreadable = tt;
     refusal = tt;
     unchanged = tt;
@@ -154,6 +190,8 @@ module _ {S E : Type 0} (i : Ghosts S E) (depth : ℕ) {f t : Tree} (reads : Rea
         let P : Tree → Type 0 = λ z. weave_in (asks i) (added i.adds) old.ceiling s z ≡ refused e m in
         inr (subst P (sym (one u q)) (same (added i.adds) old.ceiling s ∙ g.1 other));
     readable = tt;
+    fits = tt;
+    fits_before = λ other. plain_inside (asks i) i.adds old.ceiling depth plain s (room depth) m e;
     unreadable = tells_no_fault _ e usual;
     refusal = unless_wanting e (λ other. inl (t, reads));
     unchanged = g.0;
@@ -165,16 +203,19 @@ module _ {S E : Type 0} (i : Ghosts S E) (depth : ℕ) {f t : Tree} (reads : Rea
   one_added r kept gives leaves usual = record { kept = kept; default = λ k. one_gives r (gives k) (usual k); after_error = λ k. left r (gives k) (leaves k) }
     where
       left : (r : Result (Unit {0}) (Error E)) → GivesAdded (asks i) id (s, old) t (m, new) r → (IsTrue i.sure → LeavesVisited (asks i) s (visits t) m r) →
-          LeavesCore i.sure i.adds_nothing (asks i) (section_in depth f) s m r
+          IfLeaves i.sure i.adds_nothing (λ e. LeavesSection (asks i) depth f s e m) r
       left (Ok v) g l = tt
       left (Err e) g l = λ told size.
           let p = either_made i.reply i.next old.ceiling t e g.1 (λ h. l (told h)) in
           record {
-            made = p.part;
-            ended = p.ended;
-            drawn = drawn_made p.front drawn;
-            reading = λ u q. front_same (sym (ap visits (one u q))) p.front;
-            fault = λ none u rest x. absurd (none t reads);
+            leaves = record {
+              made = p.part;
+              ended = p.ended;
+              drawn = drawn_made p.front drawn;
+              reading = λ u q. front_same (sym (ap visits (one u q))) p.front;
+              fault = λ none u rest x. absurd (none t reads);
+            };
+            unread = λ none. absurd (none t reads);
           }
 
 -- ---- a section of an id that no table knows
@@ -184,7 +225,7 @@ module _ {S E : Type 0} (i : Ghosts S E) (depth : ℕ) (deep : depth ≤ 200) (i
       (IsTrue i.keeps_defaults → IsTrue i.sure → LeavesVisited (asks i) s [] m r) → (IsTrue i.keeps_defaults → IfErr r (λ e. IfParse e (λ _. ⊥))) →
       FrameClauses i depth (numbered_frame id contents) at s old m new r
   raw_added r kept gives leaves usual =
-      one_added i depth reads one (λ put c s. refl) drawn_none at id r kept gives leaves usual
+      one_added i depth reads one (λ put c s. refl) drawn_none (not_nested (λ e. omega (arith, e, low)) (λ e. omega (arith, e, low))) at id r kept gives leaves usual
     where
       reads : ReadsSection depth (numbered_frame id contents) (table.unknown_component_tree id contents)
       reads = record {
@@ -212,23 +253,29 @@ no_up_to depth id body none t rest x = go (numbered_frame id body) t rest x refl
     go f t rest (SectionUpTo.names name contents u rest' is r) q = cc
 
 module _ {S E : Type 0} (i : Ghosts S E) (depth : ℕ) (f : Tree) (none : (t : Tree) → ReadsSection depth f t → ⊥) (unnested : (x : Fault) → NestedFault depth (room depth) f x → ⊥)
-    (unknown : (t : Tree) (rest : List ℕ) → SectionUpTo depth f t rest → ⊥) (at : ℕ) (s : S) (old : Sections) where
+    (unknown : (t : Tree) (rest : List ℕ) → SectionUpTo depth f t rest → ⊥) (at : ℕ) (s : S) (old : Sections)
+    (fits : fits_inside (asks i) i.adds old.ceiling depth f s s (ParseError (record { at = at }))) where
   pub not_read : FrameClauses i depth f at s old s old (Err (ParseError (record { at = at })))
   not_read = record {
     kept = keeps_same old;
     default = λ k. record {
       reading = λ t r. absurd (none t r);
       readable = tt;
+      fits = tt;
+      fits_before = λ other. fits;
       unreadable = (none, (refl, λ y handed q. unnested y q));
       refusal = tt;
       unchanged = refl;
     };
     after_error = λ k told size. record {
-      made = [];
-      ended = ended_all {a = []} (ParseError (record { at = at })) tt refl;
-      drawn = drawn_none;
-      reading = λ t r. front_none (visits t);
-      fault = λ never t rest x. absurd (unknown t rest x);
+      leaves = record {
+        made = [];
+        ended = ended_all {a = []} (ParseError (record { at = at })) tt refl;
+        drawn = drawn_none;
+        reading = λ t r. front_none (visits t);
+        fault = λ never t rest x. absurd (unknown t rest x);
+      };
+      unread = λ never. none_made (Unit {0}) depth (room depth) f;
     };
   }
 
@@ -236,13 +283,16 @@ module _ {S E : Type 0} (i : Ghosts S E) (depth : ℕ) (f : Tree) (none : (t : T
 pub frame_wanted : {S E : Type 0} (i : Ghosts S E) (depth : ℕ) (f : Tree) (at : ℕ) (s : S) (old : Sections) → FrameClauses i depth f at s old s old (Err NoMemory)
 frame_wanted i depth f at s old = record {
   kept = keeps_same old;
-  default = λ k. record { reading = λ t r other. absurd (other refl); readable = tt; unreadable = tt; refusal = tt; unchanged = refl };
+  default = λ k. record { reading = λ t r other. absurd (other refl); readable = tt; fits = tt; fits_before = λ other. absurd (other refl); unreadable = tt; refusal = tt; unchanged = refl };
   after_error = λ k told size. record {
-    made = [];
-    ended = ended_all {a = []} NoMemory tt refl;
-    drawn = drawn_none;
-    reading = λ t r. front_none (visits t);
-    fault = λ never t rest x. inl ((λ h. h), front_none (visits t));
+    leaves = record {
+      made = [];
+      ended = ended_all {a = []} NoMemory tt refl;
+      drawn = drawn_none;
+      reading = λ t r. front_none (visits t);
+      fault = λ never t rest x. inl ((λ h. h), front_none (visits t));
+    };
+    unread = λ never. none_made ⊥ depth (room depth) f;
   };
 }
 
@@ -251,6 +301,7 @@ pub number_not_read : {S E : Type 0} (i : Ghosts S E) (depth at : ℕ) (s : S) (
     ((t : Tree) → ReadsSection depth (numbered_frame id body) t → ⊥) → FrameClauses i depth (numbered_frame id body) at s old s old (Err (ParseError (record { at = at })))
 number_not_read i depth at s old id body no_module no_component no_rows none =
     not_read i depth (numbered_frame id body) none (unnested depth body no_module no_component (room depth)) (no_up_to depth id body no_rows) at s old
+    (plain_inside (asks i) i.adds old.ceiling depth (not_nested no_module no_component) s (room depth) s _)
 
 -- one of the id 0 where no name stands, or of an id above 127
 pub unknown_not_read : {S E : Type 0} (i : Ghosts S E) (depth at : ℕ) (s : S) (old : Sections) (id : ℕ) (body : List ℕ) → (1 ≤ id → id ≤ 127 → ⊥) →
@@ -280,7 +331,7 @@ module _ {S E : Type 0} (i : Ghosts S E) (depth : ℕ) (deep : depth ≤ 200) (b
   -- it was mapped
   pub start_added : (f : ComponentStartFunction) → Spells table.component_start body (start_tree f) → {m : S} {new : Sections} (r : Result (Unit {0}) (Error E)) →
       AddedClauses i 9 (table.component_section_tree 9 (start_tree f)) s old m new r → FrameClauses i depth (numbered_frame 9 body) at s old m new r
-  start_added f p r c = one_added i depth reads one (λ put c s. refl) (drawn_item IsItem.component_start p) at 9 r c.kept c.default c.after_error c.usual
+  start_added f p r c = one_added i depth reads one (λ put c s. refl) (drawn_item IsItem.component_start p) (not_nested (λ e. omega (arith, e)) (λ e. omega (arith, e))) at 9 r c.kept c.default c.after_error c.usual
     where
       reads : ReadsSection depth (numbered_frame 9 body) (table.component_section_tree 9 (start_tree f))
       reads = record {

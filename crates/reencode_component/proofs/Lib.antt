@@ -8,6 +8,7 @@ pub mod SectionsAhead
 pub mod WovenIn
 pub mod WeavesIn
 pub mod ComponentLoop
+pub mod Hookless
 pub mod ComponentRowsMapped
 pub mod ComponentRowsLeft
 pub mod FlatRows
@@ -35,3 +36,4 @@ pub mod ComponentNameCalls
 pub mod CustomFrames
 pub mod ComponentFronts
 pub mod ModuleLaws
+pub mod PlainLaws

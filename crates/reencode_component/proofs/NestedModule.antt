@@ -1,5 +1,5 @@
 -- A nested core module, by what the call that maps one gives.
-use Rattle.std.proofs.Common.{◌≡◌, ◌<◌, ℕ, List, [], ◌++◌, Ok, Err, IsTrue, refl, sym, ◌∙◌, subst, ◌⊎◌, inl, inr}
+use Rattle.std.proofs.Common.{◌≡◌, ◌≢◌, ◌+◌, ◌<◌, ℕ, suc, List, [], ◌++◌, Ok, Err, IsTrue, refl, sym, ◌∙◌, subst, arith, ◌⊎◌, inl, inr}
 use Rattle.wasm_leb.specs.declared.fault.Fault.{Fault}
 use Rattle.wasm_shapes.specs.declared.Visit.TheVariants.{Push}
 use Rattle.wasm_shapes.specs.Component.{component_body_of}
@@ -22,7 +22,7 @@ use Rattle.reencode_core.specs.Woven.{GivesWovenBytes, IsOwn, IsWovenCause, OwnN
 use Rattle.reencode_core.proofs.Faults.{fault_tells}
 use Rattle.reencode_core.proofs.Left.{module_drawn}
 use Rattle.reencode_core.proofs.WholeBytes.{bytes_given, bytes_refused}
-use Rattle.reencode_component.specs.Causes.{IfFault, OwnInside, StopsNested, room}
+use Rattle.reencode_component.specs.Causes.{FitsPushed, IfFault, OwnInside, StopsNested, fits_inside, own_inside, room}
 use Rattle.reencode_component.specs.Components.{ModuleFault, NestedFault}
 use Rattle.reencode_component.specs.NestedClauses.{inner_module}
 use Rattle.reencode_component.specs.WeaveIn.{weave_in}
@@ -83,7 +83,7 @@ module _ {S E : Type 0} (asked : Asks S E) (adds : Puts S SectionRow) (c : ℕ) 
   plain_unread UnsupportedCoreTypeInComponent h = h
 
   module_unread : (e : Error E) → IsWovenCause asked adds c bytes s m e → IfFault e (λ x. ((u : Tree) → CoreReading bytes u → ⊥) × ModuleFault bytes x)
-  module_unread e (inl h) = plain_unread e h
+  module_unread e (inl h) = plain_unread e h.0
   module_unread e (inr o) = own_unread (λ x. ((u : Tree) → CoreReading bytes u → ⊥) × ModuleFault bytes x) e o
 
 -- ---- what the call gave
@@ -97,7 +97,9 @@ module _ {S E : Type 0} (i : Ghosts S E) (depth : ℕ) (body : List ℕ) (low : 
     unread = fault_map e (λ x h. (h.0, faults x h.1)) (module_unread (asks i) i.adds top body p m e b.cause);
     cause = b.cause;
     why = let P : ℕ → Type 0 = λ z. StopsNested (asks i) i.adds top depth z (numbered_frame 1 body) s m e in subst P (next_room depth low) (1, body, refl, p, pushed, inl (refl, b.cause));
-    left = g.after_error k;
+    fits = fitting b.cause;
+    left = λ told size. record { leaves = g.after_error k told size; unread = λ none. tt };
+    below = λ four made h. absurd (omega (arith, four));
     bare = g.headless k;
   }
     where
@@ -106,6 +108,11 @@ module _ {S E : Type 0} (i : Ghosts S E) (depth : ℕ) (body : List ℕ) (low : 
 
       b : GivesWovenBytes {A = Unit {0}} (asks i) i.adds top body p m (Err e) (λ _. [])
       b = bytes_refused (asks i) i.adds body top p m fresh new e (λ _. []) is_fresh (g.woven k)
+
+      fitting : IsWovenCause (asks i) i.adds top body p m e → e ≢ NoMemory → OwnInside (asks i) i.adds top depth (suc (room (depth + 1))) (numbered_frame 1 body) s m e
+          ⊎ FitsPushed (asks i) i.adds top (depth + 1) (fits_inside (asks i) i.adds top (depth + 1)) (own_inside (asks i) i.adds top (depth + 1)) (numbered_frame 1 body) s m e
+      fitting (inl h) other = inr (1, body, refl, p, pushed, inl (refl, h.1 other))
+      fitting (inr own) other = inl (1, body, refl, p, pushed, inl (refl, own))
 
       by : (u : Tree) → CoreReading body u → OwnTooLarge (asks i) i.adds top body p e ⊎ (weave (asks i) (added i.adds) top p (core_tree u) ≡ refused e m) →
           OwnInside (asks i) i.adds top depth (room depth) (numbered_frame 1 body) s m e ⊎ (weave_in (asks i) (added i.adds) top p (core_tree u) ≡ refused e m)
@@ -121,6 +128,7 @@ module _ {S E : Type 0} (i : Ghosts S E) (depth : ℕ) (body : List ℕ) (low : 
         let q = b.reading (core_tree u) (module_headed.forth body u r) in
         (q.0, core_same (asks i) (added i.adds) top p u r ∙ q.1, q.2);
     some = (g.woven k).readable;
+    fits = λ u r. b.fits (core_tree u) (module_headed.forth body u r);
   }
     where
       b : GivesWovenBytes {A = Sections} (asks i) i.adds top body p m (Ok new) (λ z. module_bytes z.sections)

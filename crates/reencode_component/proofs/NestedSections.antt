@@ -20,21 +20,24 @@ use Rattle.reencode_hooks.specs.declared.error.Error.TheVariants.{CanonicalizedH
 use Rattle.reencode_hooks.specs.declared.indices.ReencodeIndices.{Ghosts}
 use Rattle.reencode_hooks.specs.Errors.{error_of_write}
 use Rattle.reencode_hooks.specs.Run.{NeverWants, accepted, refused, run}
+use Rattle.reencode_hooks.specs.SectionVisits.{section_visits}
 use Rattle.reencode_core.specs.Clauses.{asks}
 use Rattle.reencode_core.specs.Errors.{IfRefused, placed_at}
-use Rattle.reencode_core.specs.Leaves.{IsSize, Leaves, Text}
+use Rattle.reencode_core.specs.Leaves.{IsSize, TellsFault, Text}
 use Rattle.reencode_core.specs.Weave.{added}
+use Rattle.reencode_core.specs.Woven.{AddsFit}
+use Rattle.reencode_core.proofs.Fitting.{fits_both, fits_none}
 use Rattle.reencode_core.proofs.Counts.{run_then}
 use Rattle.reencode_core.proofs.Known.{keeps_same}
 use Rattle.reencode_core.proofs.Made.{Unasked, ended_all, ended_behind, front_all, front_first, front_same, front_then, not_wanting, wants_placed}
 use Rattle.reencode_core.proofs.OneRow.{answers}
-use Rattle.reencode_component.specs.Causes.{IfFault, OwnInside, StopsNested, inside, own_inside, room}
-use Rattle.reencode_component.specs.ComponentLeaves.{SectionUpTo, section_in}
+use Rattle.reencode_component.specs.Causes.{FitsInside, FitsPushed, IfFault, OwnInside, StopsNested, fits_inside, inside, own_inside, room}
+use Rattle.reencode_component.specs.ComponentLeaves.{ComponentMade, LeavesScopes, LeavesSection, SectionUpTo, StaysOpen}
 use Rattle.reencode_component.specs.Components.{IsHandedOut, NestedFault, ReadsSection}
 use Rattle.reencode_component.specs.Gives.{FaultIn, GivesAddedIn, GivesSection, RefusedOr}
 use Rattle.reencode_component.specs.NestedClauses.{Inner, NestedClauses}
 use Rattle.reencode_component.specs.WeaveIn.{weave_in}
-use Rattle.reencode_component.proofs.EachComponentSection.{frame_wanted, leaves_placed, no_up_to, not_read}
+use Rattle.reencode_component.proofs.EachComponentSection.{frame_wanted, no_up_to, not_read, section_placed}
 use Rattle.reencode_component.proofs.FaultLaws.{nested_one}
 use Rattle.reencode_component.proofs.NestedSteps.{nested_tree, walk_fits, walk_large, walk_stopped}
 use Rattle.reencode_component.proofs.WeavesIn.{weave_in_ran}
@@ -89,7 +92,7 @@ module _ {S E : Type 0} (i : Ghosts S E) (depth id : ℕ) (inner : Inner S E) wh
   pub nested_deep : 200 ≤ depth → ((t : Tree) → ReadsSection depth frame_tree t → ⊥) → ((row : Shape) → component_body_of id ≡ Shape.vec row → ⊥) → (s : S) (old : Sections) →
       Clauses s old s old (Err (ParseError (record { at = 0 })))
   nested_deep deep none no_rows s old = record {
-    framed = λ at. not_read i depth frame_tree none unnested (no_up_to depth id body no_rows) at s old;
+    framed = λ at. not_read i depth frame_tree none unnested (no_up_to depth id body no_rows) at s old (fitting (ParseError (record { at = at })));
     unchanged = refl;
     cause = λ k low. absurd (omega (arith, deep, low));
     inside = λ k low. absurd (omega (arith, deep, low));
@@ -98,6 +101,9 @@ module _ {S E : Type 0} (i : Ghosts S E) (depth id : ℕ) (inner : Inner S E) wh
     where
       unnested : (x : Fault) → NestedFault depth (room depth) frame_tree x → ⊥
       unnested x h = let last : room depth ≡ 0 = omega (arith, deep) in let P : ℕ → Type 0 = λ z. NestedFault depth z frame_tree x in subst P last h
+
+      fitting : (e : Error E) → fits_inside (asks i) i.adds old.ceiling depth frame_tree s s e
+      fitting e = let last : 0 ≡ room depth = omega (arith, deep) in let P : ℕ → Type 0 = λ z. FitsInside (asks i) i.adds old.ceiling depth z frame_tree s s e in subst P last tt
 
   -- memory ran out before
   pub nested_unmade : depth < 200 → (s : S) (old : Sections) (r : Result (Unit {0}) (Error E)) → IsErrAnd r (λ y. y ≡ NoMemory) → Clauses s old s old r
@@ -117,7 +123,7 @@ module _ {S E : Type 0} (i : Ghosts S E) (depth id : ℕ) (inner : Inner S E) wh
       subst P (answers r q) (subst Q (sym wants) (record {
         framed = λ at. record {
           kept = keeps_same old;
-          default = λ k. record { reading = λ t r other. absurd (other refl); readable = tt; unreadable = tt; refusal = tt; unchanged = refl };
+          default = λ k. record { reading = λ t r other. absurd (other refl); readable = tt; fits = tt; fits_before = λ other. absurd (other refl); unreadable = tt; refusal = tt; unchanged = refl };
           after_error = λ k told size. absurd (not_wanting e never (λ h. told refl) wants);
         };
         unchanged = refl;
@@ -134,13 +140,17 @@ module _ {S E : Type 0} (i : Ghosts S E) (depth id : ℕ) (inner : Inner S E) wh
     pub unread : IfFault e (λ x. ((u : Tree) → reads u → ⊥) × NestedFault depth (room depth) frame_tree x)
     pub cause : inner.cause ceiling p m e
     pub why : StopsNested (asks i) i.adds ceiling depth (room depth) frame_tree s m e
-    pub left : (e ≡ NoMemory → IsTrue i.sure) → (IsSize e → IsTrue i.adds_nothing) → Leaves (asks i) inner.text p e m
+    pub fits : e ≢ NoMemory → OwnInside (asks i) i.adds ceiling depth (suc (room (depth + 1))) frame_tree s m e
+        ⊎ FitsPushed (asks i) i.adds ceiling (depth + 1) (fits_inside (asks i) i.adds ceiling (depth + 1)) (own_inside (asks i) i.adds ceiling (depth + 1)) frame_tree s m e
+    pub left : (e ≡ NoMemory → IsTrue i.sure) → (IsSize e → IsTrue i.adds_nothing) → LeavesScopes (asks i) inner.text inner.scopes p e m
+    pub below : id ≡ 4 → (made : List Visit) → inner.scopes e made → ComponentMade (depth + 1) body e made
     pub bare : inner.headless → m ≡ p
 
   -- What is known where all of it was mapped: the bytes of the new one.
   pub record Accepts (head : Tree → Tree) (ceiling : ℕ) (p m : S) (contents : List ℕ) : Type 0 where
     pub walks : (u : Tree) → reads u → (v : Tree) × (weave_in (asks i) (added i.adds) ceiling p (head u) ≡ accepted v m) × (contents ≡ normal v)
     pub some : (u : Tree) × reads u
+    pub fits : (u : Tree) → reads u → AddsFit (asks i) i.adds ceiling p (visits u)
 
   module _ {head : Tree → Tree} (low : depth < 200) (kind : IsNested depth id head inner.text) (s p : S) (old : Sections) (pushed : asks i s Push ≡ accepted 0 p) where
     push_ran : run (asks i) s (Push ∷ []) ≡ accepted (0 ∷ []) p
@@ -168,46 +178,67 @@ module _ {S E : Type 0} (i : Ghosts S E) (depth id : ℕ) (inner : Inner S E) wh
 
       given : (at : ℕ) (w : Error E) → ((t : Tree) → ReadsSection depth frame_tree t → RefusedOr (own_inside (asks i) i.adds old.ceiling depth frame_tree s m) (weave_in (asks i) (added i.adds) old.ceiling s t) w m) →
           IfFault w (λ x. ((t : Tree) → ReadsSection depth frame_tree t → ⊥) × FaultIn (NestedFault depth (room depth) frame_tree) at x) →
-          IfRefused w (((t : Tree) × ReadsSection depth frame_tree t) ⊎ inside (asks i) i.adds old.ceiling depth frame_tree s m w) → GivesSection (asks i) i.adds depth frame_tree at (s, old) (m, old) (Err w)
-      given at w reading unreadable refusal = record { reading = reading; readable = tt; unreadable = unreadable; refusal = refusal; unchanged = refl }
+          IfRefused w (((t : Tree) × ReadsSection depth frame_tree t) ⊎ inside (asks i) i.adds old.ceiling depth frame_tree s m w) → IsTrue i.keeps_defaults → w ≡ placed_at e at →
+          GivesSection (asks i) i.adds depth frame_tree at (s, old) (m, old) (Err w)
+      given at w reading unreadable refusal k placed = record { reading = reading; readable = tt; fits = tt; fits_before = fitting; unreadable = unreadable; refusal = refusal; unchanged = refl }
+        where
+          told : (v : Error E) → v ≡ NoMemory → placed_at v at ≡ NoMemory
+          told v is = ap (λ (z : Error E). placed_at z at) is
+
+          fitting : w ≢ NoMemory → fits_inside (asks i) i.adds old.ceiling depth frame_tree s m w
+          fitting other =
+              let P : ℕ → Type 0 = λ z. FitsInside (asks i) i.adds old.ceiling depth z frame_tree s m w in
+              subst P (next_room depth low) (λ n. inl (e, at, placed, (g k).fits (λ is. other (placed ∙ told e is))))
 
     -- an error of the section at its place
     gives_refused : {m : S} (e : Error E) → IsTrue i.keeps_defaults → Refuses head old.ceiling s p m e → (at : ℕ) → GivesSection (asks i) i.adds depth frame_tree at (s, old) (m, old) (Err (placed_at e at))
     gives_refused (ParseError x) k g at =
         let none = no_reading g.unread.0 in
         given (ParseError x) (λ _. g) at (ParseError (record { at = at })) (λ t r. absurd (none t r))
-        (none, (refl, λ y handed q. subst IsHandedOut (nested_one depth (room depth) frame_tree y (fault.Read x) q g.unread.1) handed)) tt
+        (none, (refl, λ y handed q. subst IsHandedOut (nested_one depth (room depth) frame_tree y (fault.Read x) q g.unread.1) handed)) tt k refl
     gives_refused InvalidCodeSectionSize k g at =
-        given InvalidCodeSectionSize (λ _. g) at InvalidCodeSectionSize (walk_refused InvalidCodeSectionSize (λ _. g) k) (no_reading g.unread.0, (tt, g.unread.1)) tt
+        given InvalidCodeSectionSize (λ _. g) at InvalidCodeSectionSize (walk_refused InvalidCodeSectionSize (λ _. g) k) (no_reading g.unread.0, (tt, g.unread.1)) tt k refl
     gives_refused UnexpectedNonCoreModuleSection k g at =
         given UnexpectedNonCoreModuleSection (λ _. g) at UnexpectedNonCoreModuleSection (walk_refused UnexpectedNonCoreModuleSection (λ _. g) k)
-        (no_reading g.unread.0, (tt, g.unread.1)) tt
+        (no_reading g.unread.0, (tt, g.unread.1)) tt k refl
     gives_refused UnexpectedNonComponentSection k g at =
         given UnexpectedNonComponentSection (λ _. g) at UnexpectedNonComponentSection (walk_refused UnexpectedNonComponentSection (λ _. g) k)
-        (no_reading g.unread.0, (tt, g.unread.1)) tt
-    gives_refused (UserError x) k g at = given (UserError x) (λ _. g) at (UserError x) (walk_refused (UserError x) (λ _. g) k) tt (inr (inr (inr g.why)))
-    gives_refused (TooLarge x) k g at = given (TooLarge x) (λ _. g) at (TooLarge x) (walk_refused (TooLarge x) (λ _. g) k) tt (inr (inr (inr g.why)))
-    gives_refused NoMemory k g at = given NoMemory (λ _. g) at NoMemory (walk_refused NoMemory (λ _. g) k) tt tt
+        (no_reading g.unread.0, (tt, g.unread.1)) tt k refl
+    gives_refused (UserError x) k g at = given (UserError x) (λ _. g) at (UserError x) (walk_refused (UserError x) (λ _. g) k) tt (inr (inr (inr g.why))) k refl
+    gives_refused (TooLarge x) k g at = given (TooLarge x) (λ _. g) at (TooLarge x) (walk_refused (TooLarge x) (λ _. g) k) tt (inr (inr (inr g.why))) k refl
+    gives_refused NoMemory k g at = given NoMemory (λ _. g) at NoMemory (walk_refused NoMemory (λ _. g) k) tt tt k refl
     gives_refused CanonicalizedHeapTypeReference k g at = absurd g.unread
     gives_refused InvalidConstExpr k g at = absurd g.unread
     gives_refused UnsupportedCoreTypeInComponent k g at = absurd g.unread
 
     -- the push, and the visits behind it
-    pushed_leaves : {m : S} (e : Error E) → Leaves (asks i) inner.text p e m → Leaves (asks i) (section_in depth frame_tree) s e m
-    pushed_leaves e l = record {
-      made = Push ∷ l.made;
-      ended = ended_behind (asks i) e (Push ∷ []) l.made push_ran l.ended;
-      drawn = drawn_joined body (Push ∷ []) l.made drawn_push l.drawn;
-      reading = λ t r. let q = kind.forth t r in front_same (visits_are t q.0 q.1) (front_then (Push ∷ []) (front_first (Pop ∷ []) (l.reading q.0 q.2)));
-      fault = λ none t rest x. absurd (no_up_to depth id body kind.no_rows t rest x);
+    pushed_leaves : {m : S} (e : Error E) → (id ≡ 4 → (made : List Visit) → inner.scopes e made → ComponentMade (depth + 1) body e made) → LeavesScopes (asks i) inner.text inner.scopes p e m →
+        LeavesSection (asks i) depth frame_tree s e m
+    pushed_leaves e below l = record {
+      leaves = record {
+        made = Push ∷ l.leaves.made;
+        ended = ended_behind (asks i) e (Push ∷ []) l.leaves.made push_ran l.leaves.ended;
+        drawn = drawn_joined body (Push ∷ []) l.leaves.made drawn_push l.leaves.drawn;
+        reading = λ t r. let q = kind.forth t r in front_same (visits_are t q.0 q.1) (front_then (Push ∷ []) (front_first (Pop ∷ []) (l.leaves.reading q.0 q.2)));
+        fault = λ none t rest x. absurd (no_up_to depth id body kind.no_rows t rest x);
+      };
+      unread = λ none. let P : ℕ → Type 0 = λ z. StaysOpen (TellsFault e) depth z frame_tree (Push ∷ l.leaves.made) in subst P (next_room depth low) (stays none);
     }
+      where
+        stays : ((t : Tree) → ReadsSection depth frame_tree t → ⊥) → StaysOpen (TellsFault e) depth (suc (room (depth + 1))) frame_tree (Push ∷ l.leaves.made)
+        stays none = λ id' body' is nested.
+            let number : id ≡ id' = cc in
+            let same : body ≡ body' = cc in
+            let D : List ℕ → Type 0 = λ z. Drawn z l.leaves.made in
+            let M : List ℕ → Type 0 = λ z. ComponentMade (depth + 1) z e l.leaves.made in
+            inr (l.leaves.made, refl, subst D same l.leaves.drawn, λ four. subst M same (below (number ∙ four) l.leaves.made (l.unread (λ u r. none _ (kind.back u r)))))
 
     pub nested_refused : {m : S} (e : Error E) → (IsTrue i.keeps_defaults → Refuses head old.ceiling s p m e) → (r : Result (Unit {0}) (Error E)) → IsErrAnd r (λ y. y ≡ e) → Clauses s old m old r
     nested_refused {m = m} e g r q = let P : Result (Unit {0}) (Error E) → Type 0 = λ z. Clauses s old m old z in subst P (answers r q) (record {
       framed = λ at. record {
         kept = keeps_same old;
         default = λ k. gives_refused e k (g k) at;
-        after_error = λ k told size. leaves_placed (section_in depth frame_tree) e at (pushed_leaves e ((g k).left (λ h. told (wants_placed e at h)) (λ h. size (size_placed e at h))));
+        after_error = λ k told size. section_placed depth frame_tree e at (pushed_leaves e (g k).below ((g k).left (λ h. told (wants_placed e at h)) (λ h. size (size_placed e at h))));
       };
       unchanged = refl;
       cause = λ k low. inr (inr (record { at = p; push = pushed; inside = (g k).cause }));
@@ -222,18 +253,41 @@ module _ {S E : Type 0} (i : Ghosts S E) (depth id : ℕ) (inner : Inner S E) wh
           let pop_ran : run (asks i) m (Pop ∷ []) ≡ accepted (0 ∷ []) n = rw popped refl in
           run_then (asks i) s p n (Push ∷ []) (visits u ++ Pop ∷ []) (0 ∷ []) (a ++ 0 ∷ []) push_ran (run_then (asks i) p m n (visits u) (Pop ∷ []) a (0 ∷ []) h pop_ran)
 
-      popped_leaves : IsTrue i.keeps_defaults → (e : Error E) → Unasked e → Leaves (asks i) (section_in depth frame_tree) s e n
+      -- all that was added in it fits
+      all_fit : IsTrue i.keeps_defaults → (t : Tree) → ReadsSection depth frame_tree t → AddsFit (asks i) i.adds old.ceiling s (visits t)
+      all_fit k t r =
+          let q = kind.forth t r in
+          let w = (g k).walks q.0 q.2 in
+          let ran = weave_in_ran (asks i) (added i.adds) old.ceiling p m (head q.0) w.0 w.1 in
+          let R : List Visit → Type 0 = λ z. run (asks i) p z ≡ accepted ran.0 m in
+          let F : List Visit → Type 0 = λ z. AddsFit (asks i) i.adds old.ceiling s z in
+          let none : (k : S) (v : Visit) → section_visits (v ∷ []) ≡ [] → AddsFit (asks i) i.adds old.ceiling k (v ∷ []) = λ k v n. fits_none (asks i) i.adds old.ceiling k (v ∷ []) n in
+          let inner : AddsFit (asks i) i.adds old.ceiling p (visits q.0 ++ Pop ∷ []) =
+          fits_both (asks i) i.adds old.ceiling p m ran.0 (visits q.0) (Pop ∷ []) (subst R (kind.headed q.0) ran.1) ((g k).fits q.0 q.2) (none m Pop refl) in
+          subst F (visits_are t q.0 q.1) (fits_both (asks i) i.adds old.ceiling s p (0 ∷ []) (Push ∷ []) (visits q.0 ++ Pop ∷ []) push_ran (none s Push refl) inner)
+
+      fitting : IsTrue i.keeps_defaults → (e : Error E) → fits_inside (asks i) i.adds old.ceiling depth frame_tree s n e
+      fitting k e =
+          let t : Tree = nested_tree id (head (g k).some.0) in
+          let there : ReadsSection depth frame_tree t = kind.back (g k).some.0 (g k).some.1 in
+          let P : ℕ → Type 0 = λ z. FitsInside (asks i) i.adds old.ceiling depth z frame_tree s n e in
+          subst P (next_room depth low) (λ h. inr (t, there, all_fit k t there))
+
+      popped_leaves : IsTrue i.keeps_defaults → (e : Error E) → Unasked e → LeavesSection (asks i) depth frame_tree s e n
       popped_leaves k e unasked =
           let t = (g k).some in
           let w = (g k).walks t.0 t.1 in
           let ran = weave_in_ran (asks i) (added i.adds) old.ceiling p m (head t.0) w.0 w.1 in
           let R : List Visit → Type 0 = λ z. run (asks i) p z ≡ accepted ran.0 m in
           record {
-            made = Push ∷ visits t.0 ++ Pop ∷ [];
-            ended = ended_all e unasked (all_ran t.0 ran.0 (subst R (kind.headed t.0) ran.1));
-            drawn = drawn_scope t.0 (kind.drawn t.0 t.1);
-            reading = λ u r. front_same (visits_are (nested_tree id (head t.0)) t.0 refl ∙ ap visits (one u r)) (front_all (Push ∷ visits t.0 ++ Pop ∷ []));
-            fault = λ none u rest x. absurd (no_up_to depth id body kind.no_rows u rest x);
+            leaves = record {
+              made = Push ∷ visits t.0 ++ Pop ∷ [];
+              ended = ended_all e unasked (all_ran t.0 ran.0 (subst R (kind.headed t.0) ran.1));
+              drawn = drawn_scope t.0 (kind.drawn t.0 t.1);
+              reading = λ u r. front_same (visits_are (nested_tree id (head t.0)) t.0 refl ∙ ap visits (one u r)) (front_all (Push ∷ visits t.0 ++ Pop ∷ []));
+              fault = λ none u rest x. absurd (no_up_to depth id body kind.no_rows u rest x);
+            };
+            unread = λ none. absurd (none _ (kind.back t.0 t.1));
           }
         where
           one : (u : Tree) → ReadsSection depth frame_tree u → nested_tree id (head (g k).some.0) ≡ u
@@ -246,6 +300,8 @@ module _ {S E : Type 0} (i : Ghosts S E) (depth id : ℕ) (inner : Inner S E) wh
           default = λ k. record {
             reading = λ t r. let q = kind.forth t r in by k t q.0 q.1 q.2;
             readable = (_, kind.back (g k).some.0 (g k).some.1);
+            fits = λ t r. all_fit k t r;
+            fits_before = tt;
             unreadable = tt;
             refusal = tt;
             unchanged = tt;
@@ -294,6 +350,8 @@ module _ {S E : Type 0} (i : Ghosts S E) (depth id : ℕ) (inner : Inner S E) wh
               default = λ k. record {
                 reading = λ t r other. let q = kind.forth t r in inr (by k size h.0 h.1 t q.0 q.1 q.2);
                 readable = tt;
+                fits = tt;
+                fits_before = λ other. fitting k (TooLarge size);
                 unreadable = tt;
                 refusal = inl (_, kind.back (g k).some.0 (g k).some.1);
                 unchanged = refl;
@@ -308,7 +366,7 @@ module _ {S E : Type 0} (i : Ghosts S E) (depth id : ℕ) (inner : Inner S E) wh
           of_fault write.NoMemory h = record {
             framed = λ at. record {
               kept = keeps_same old;
-              default = λ k. record { reading = λ t r other. absurd (other refl); readable = tt; unreadable = tt; refusal = tt; unchanged = refl };
+              default = λ k. record { reading = λ t r other. absurd (other refl); readable = tt; fits = tt; fits_before = λ other. absurd (other refl); unreadable = tt; refusal = tt; unchanged = refl };
               after_error = λ k told size. popped_leaves k NoMemory tt;
             };
             unchanged = refl;

@@ -94,14 +94,14 @@ record InScope {S E : Type 0} (i : Ghosts S E) (left : ℕ) (text : Text) (fault
   pub refusal : IsTrue i.keeps_defaults → (c : ℕ) → IfErr result (λ e. IfRefused e (stops c n new e))
   pub after_error : IsTrue i.keeps_defaults → LeavesMade i.sure (asks i) text n m result
 
-module _ {S E : Type 0} (i : Ghosts S E) (left : ℕ) (text : Text) (faulty : ℕ → S → List Tree → ℕ → Type 0) (stops : ℕ → S → List Tree → Error E → Type 0) (s m : S) where
+module _ {S E : Type 0} (i : Ghosts S E) (text : Text) (faulty : ℕ → S → List Tree → ℕ → Type 0) (stops : ℕ → S → List Tree → Error E → Type 0) (s m : S) where
   -- the scope was not opened
   unopened : {A : Type 0} (within : Tree → Tree) (view : A → Tree) (e : Error E) → RepliesPush i.reply i.next s m (Err e) → NeverWants {A = Unit {0}} i.sure (Err e) →
-      (r : Result A (Error E)) → IsErrAnd r (λ y. y ≡ e) → ScopeBy i left text faulty stops within view s m r
+      (r : Result A (Error E)) → IsErrAnd r (λ y. y ≡ e) → ScopeBy i text faulty stops within view s m r
   unopened {A = A} within view e wants never r q =
-      let P : Result A (Error E) → Type 0 = λ z. ScopeBy i left text faulty stops within view s m z in
+      let P : Result A (Error E) → Type 0 = λ z. ScopeBy i text faulty stops within view s m z in
       subst P (answers r q) (record {
-        default = λ k few rows reads c other. absurd (other wants);
+        default = λ k rows reads c other. absurd (other wants);
         readable = λ k. tt;
         unreadable = λ k c. parse_wanting _ e wants;
         refusal = λ k c. refused_wanting _ e wants;
@@ -110,12 +110,12 @@ module _ {S E : Type 0} (i : Ghosts S E) (left : ℕ) (text : Text) (faulty : �
 
   module _ {n : S} {new : List Tree} (push : Answers i.reply i.next s n Push 0) where
     -- what is in it was refused, or has no reading
-    stopped : (e : Error E) → InScope i left text faulty stops n m new (Err e) → (r : Result (List Tree) (Error E)) → IsErrAnd r (λ y. y ≡ e) →
-        ScopeBy i left text faulty stops (λ t. t) scope_tree s m r
-    stopped e given r q =
-        let P : Result (List Tree) (Error E) → Type 0 = λ z. ScopeBy i left text faulty stops (λ t. t) scope_tree s m z in
+    stopped : (left : ℕ) → left < 2 ^ 32 → (e : Error E) → InScope i left text faulty stops n m new (Err e) → (r : Result (List Tree) (Error E)) → IsErrAnd r (λ y. y ≡ e) →
+        ScopeBy i text faulty stops (λ t. t) scope_tree s m r
+    stopped left few e given r q =
+        let P : Result (List Tree) (Error E) → Type 0 = λ z. ScopeBy i text faulty stops (λ t. t) scope_tree s m z in
         subst P (answers r q) (record {
-          default = λ k few rows reads c other.
+          default = λ k rows reads c other.
               let all : count rows ≡ left = given.counted rows reads in
               refused_scope (asks i) s c rows push (refused_rows (asks i) c rows e refl (omega arith) other (given.reading k c rows reads));
           readable = λ k. tt;
@@ -126,9 +126,9 @@ module _ {S E : Type 0} (i : Ghosts S E) (left : ℕ) (text : Text) (faulty : �
 
     -- all of it was mapped, and the scope was closed
     closed : {j : S} → (IsTrue i.keeps_defaults → (c : ℕ) (rows : Tree) → text.reads rows → GivesAll (asks i) c (n, []) rows (j, new) (Ok tt)) →
-        (IsTrue i.keeps_defaults → (rows : Tree) × text.reads rows) → Answers i.reply i.next j m Pop 0 → ScopeBy i left text faulty stops (λ t. t) scope_tree s m (Ok new)
+        (IsTrue i.keeps_defaults → (rows : Tree) × text.reads rows) → Answers i.reply i.next j m Pop 0 → ScopeBy i text faulty stops (λ t. t) scope_tree s m (Ok new)
     closed {j = j} gives reads pop = record {
-      default = λ k few rows read c.
+      default = λ k rows read c.
           let all : GivesAll (asks i) c (n, []) rows (j, new) (Ok tt) = gives k c rows read in
           accepted_scope (asks i) s c rows (rows_then new Tree.nil) push (subst (λ (z : List Tree). walk (asks i) c n rows ≡ accepted (rows_then z Tree.nil) j) (sym all.2) all.1) pop;
       readable = reads;
@@ -142,15 +142,15 @@ module _ {S E : Type 0} (i : Ghosts S E) (left : ℕ) (text : Text) (faulty : �
 module _ {S E : Type 0} (i : Ghosts S E) (row : Shape) (reader : Standing) (s : S) where
   pub scope_unopened : {A : Type 0} (m : S) (within : Tree → Tree) (view : A → Tree) (e : Error E) → RepliesPush i.reply i.next s m (Err e) → NeverWants {A = Unit {0}} i.sure (Err e) →
       (r : Result A (Error E)) → IsErrAnd r (λ y. y ≡ e) → ScopeClauses i row reader within view s m r
-  scope_unopened m = unopened i reader.left (rows_in row reader) (λ c n made at. RowsFault (asks i) c row reader (n, []) (m, made) at) (λ c n made e. StopsAtRow (asks i) c row reader (n, []) e (m, made)) s m
+  scope_unopened m = unopened i (rows_in row reader) (λ c n made at. RowsFault (asks i) c row reader (n, []) (m, made) at) (λ c n made e. StopsAtRow (asks i) c row reader (n, []) e (m, made)) s m
 
   module _ {n : S} {old : List Tree} (push : Answers i.reply i.next s n Push 0) (none : old ≡ []) where
-    pub scope_stopped : {m : S} {new : List Tree} (e : Error E) → RowsClauses i row reader n old m new (Err e) → (r : Result (List Tree) (Error E)) → IsErrAnd r (λ y. y ≡ e) →
+    pub scope_stopped : {m : S} {new : List Tree} → reader.left < 2 ^ 32 → (e : Error E) → RowsClauses i row reader n old m new (Err e) → (r : Result (List Tree) (Error E)) → IsErrAnd r (λ y. y ≡ e) →
         ScopeClauses i row reader (λ t. t) scope_tree s m r
-    scope_stopped {m = m} {new = new} e given r q =
+    scope_stopped {m = m} {new = new} few e given r q =
         let Q : List Tree → Type 0 = λ z. RowsClauses i row reader n z m new (Err e) in
         let fresh : RowsClauses i row reader n [] m new (Err e) = subst Q none given in
-        stopped i reader.left (rows_in row reader) (λ c n made at. RowsFault (asks i) c row reader (n, []) (m, made) at) (λ c n made e. StopsAtRow (asks i) c row reader (n, []) e (m, made)) s m push e (record {
+        stopped i (rows_in row reader) (λ c n made at. RowsFault (asks i) c row reader (n, []) (m, made) at) (λ c n made e. StopsAtRow (asks i) c row reader (n, []) e (m, made)) s m push reader.left few e (record {
           reading = λ k c rows left. (fresh.default k c).reading rows left;
           counted = λ rows left. left.counted;
           readable = λ k. tt;
@@ -163,7 +163,7 @@ module _ {S E : Type 0} (i : Ghosts S E) (row : Shape) (reader : Standing) (s : 
     scope_closed {j = j} {m = m} {new = new} given pop =
         let Q : List Tree → Type 0 = λ z. RowsClauses i row reader n z j new (Ok tt) in
         let fresh : RowsClauses i row reader n [] j new (Ok tt) = subst Q none given in
-        closed i reader.left (rows_in row reader) (λ c n made at. RowsFault (asks i) c row reader (n, []) (m, made) at) (λ c n made e. StopsAtRow (asks i) c row reader (n, []) e (m, made)) s m push
+        closed i (rows_in row reader) (λ c n made at. RowsFault (asks i) c row reader (n, []) (m, made) at) (λ c n made e. StopsAtRow (asks i) c row reader (n, []) e (m, made)) s m push
         (λ k c rows left. (fresh.default k c).reading rows left) (λ k. (fresh.default k 0).readable) pop
 
 -- ---- of rows of which none opens a scope too many
@@ -171,15 +171,15 @@ module _ {S E : Type 0} (i : Ghosts S E) (row : Shape) (reader : Standing) (s : 
 module _ {S E : Type 0} (i : Ghosts S E) (row : Shape) (reader : ScopedStanding) (s : S) where
   pub shallow_unopened : {A : Type 0} (m : S) (within : Tree → Tree) (view : A → Tree) (e : Error E) → RepliesPush i.reply i.next s m (Err e) → NeverWants {A = Unit {0}} i.sure (Err e) →
       (r : Result A (Error E)) → IsErrAnd r (λ y. y ≡ e) → ShallowScopeClauses i row reader within view s m r
-  shallow_unopened m = unopened i reader.rows.left (shallow_rows_in row reader) (λ c n made at. ShallowFault (asks i) c row reader (n, []) (m, made) at) (λ c n made e. StopsShallow (asks i) c row reader (n, []) e (m, made)) s m
+  shallow_unopened m = unopened i (shallow_rows_in row reader) (λ c n made at. ShallowFault (asks i) c row reader (n, []) (m, made) at) (λ c n made e. StopsShallow (asks i) c row reader (n, []) e (m, made)) s m
 
   module _ {n : S} {old : List Tree} (push : Answers i.reply i.next s n Push 0) (none : old ≡ []) where
-    pub shallow_stopped : {m : S} {new : List Tree} (e : Error E) → ShallowRowsClauses i row reader n old m new (Err e) → (r : Result (List Tree) (Error E)) → IsErrAnd r (λ y. y ≡ e) →
+    pub shallow_stopped : {m : S} {new : List Tree} → reader.rows.left < 2 ^ 32 → (e : Error E) → ShallowRowsClauses i row reader n old m new (Err e) → (r : Result (List Tree) (Error E)) → IsErrAnd r (λ y. y ≡ e) →
         ShallowScopeClauses i row reader (λ t. t) scope_tree s m r
-    shallow_stopped {m = m} {new = new} e given r q =
+    shallow_stopped {m = m} {new = new} few e given r q =
         let Q : List Tree → Type 0 = λ z. ShallowRowsClauses i row reader n z m new (Err e) in
         let fresh : ShallowRowsClauses i row reader n [] m new (Err e) = subst Q none given in
-        stopped i reader.rows.left (shallow_rows_in row reader) (λ c n made at. ShallowFault (asks i) c row reader (n, []) (m, made) at) (λ c n made e. StopsShallow (asks i) c row reader (n, []) e (m, made)) s m push e (record {
+        stopped i (shallow_rows_in row reader) (λ c n made at. ShallowFault (asks i) c row reader (n, []) (m, made) at) (λ c n made e. StopsShallow (asks i) c row reader (n, []) e (m, made)) s m push reader.rows.left few e (record {
           reading = λ k c rows all. (fresh.default k c).reading rows all;
           counted = λ rows all. all.left.counted;
           readable = λ k. tt;
@@ -192,5 +192,5 @@ module _ {S E : Type 0} (i : Ghosts S E) (row : Shape) (reader : ScopedStanding)
     shallow_closed {j = j} {m = m} {new = new} given pop =
         let Q : List Tree → Type 0 = λ z. ShallowRowsClauses i row reader n z j new (Ok tt) in
         let fresh : ShallowRowsClauses i row reader n [] j new (Ok tt) = subst Q none given in
-        closed i reader.rows.left (shallow_rows_in row reader) (λ c n made at. ShallowFault (asks i) c row reader (n, []) (m, made) at) (λ c n made e. StopsShallow (asks i) c row reader (n, []) e (m, made)) s m push
+        closed i (shallow_rows_in row reader) (λ c n made at. ShallowFault (asks i) c row reader (n, []) (m, made) at) (λ c n made e. StopsShallow (asks i) c row reader (n, []) e (m, made)) s m push
         (λ k c rows all. (fresh.default k c).reading rows all) (λ k. (fresh.default k 0).readable) pop

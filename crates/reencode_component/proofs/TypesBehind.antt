@@ -34,12 +34,12 @@ module _ {S E : Type 0} (asked : Asks S E) (c : ℕ) (s m : S) (j b : ℕ) where
 
 -- a scope, or a list, behind a byte
 module _ {S E A B : Type 0} (i : Ghosts S E) (j b : ℕ) (s m : S) (view : A → Tree) (whole : B → Tree) where
-  module _ (left : ℕ) (text : Text) (faulty : ℕ → S → List Tree → ℕ → Type 0) (stops : ℕ → S → List Tree → Error E → Type 0) (within : Tree → Tree) where
+  module _ (text : Text) (faulty : ℕ → S → List Tree → ℕ → Type 0) (stops : ℕ → S → List Tree → Error E → Type 0) (within : Tree → Tree) where
     -- it was mapped
-    pub by_behind : (a : A) (made : B) → whole made ≡ Tree.row j (led b (view a)) → ScopeBy i left text faulty stops within view s m (Ok a) →
-        ScopeBy i left text faulty stops (λ t. Tree.row j (led b (within t))) whole s m (Ok made)
+    pub by_behind : (a : A) (made : B) → whole made ≡ Tree.row j (led b (view a)) → ScopeBy i text faulty stops within view s m (Ok a) →
+        ScopeBy i text faulty stops (λ t. Tree.row j (led b (within t))) whole s m (Ok made)
     by_behind a made is given = record {
-      default = λ k few rows reads c. rw is (behind_mapped (ask i.reply i.next) c s m j b (within (Tree.scope (Tree.vec rows))) (view a) (given.default k few rows reads c));
+      default = λ k rows reads c. rw is (behind_mapped (ask i.reply i.next) c s m j b (within (Tree.scope (Tree.vec rows))) (view a) (given.default k rows reads c));
       readable = given.readable;
       unreadable = λ k c. tt;
       refusal = λ k c. tt;
@@ -47,11 +47,11 @@ module _ {S E A B : Type 0} (i : Ghosts S E) (j b : ℕ) (s m : S) (view : A →
     }
 
     -- it was refused
-    pub by_behind_ended : (e : Error E) → ScopeBy i left text faulty stops within view s m (Err e) → (r : Result B (Error E)) → IsErrAnd r (λ y. y ≡ e) →
-        ScopeBy i left text faulty stops (λ t. Tree.row j (led b (within t))) whole s m r
+    pub by_behind_ended : (e : Error E) → ScopeBy i text faulty stops within view s m (Err e) → (r : Result B (Error E)) → IsErrAnd r (λ y. y ≡ e) →
+        ScopeBy i text faulty stops (λ t. Tree.row j (led b (within t))) whole s m r
     by_behind_ended e gone r q =
         rw (handed r q) (record {
-          default = λ k few rows reads c other. behind_refused (ask i.reply i.next) c s m j b (within (Tree.scope (Tree.vec rows))) (gone.default k few rows reads c other);
+          default = λ k rows reads c other. behind_refused (ask i.reply i.next) c s m j b (within (Tree.scope (Tree.vec rows))) (gone.default k rows reads c other);
           readable = λ k. tt;
           unreadable = gone.unreadable;
           refusal = gone.refusal;
@@ -67,23 +67,23 @@ module _ {S E A B : Type 0} (i : Ghosts S E) (j b : ℕ) (s m : S) (view : A →
 module _ {S E A B : Type 0} (i : Ghosts S E) (row : Shape) (reader : Standing) (j b : ℕ) (s m : S) (within : Tree → Tree) (view : A → Tree) (whole : B → Tree) where
   pub scope_behind : (a : A) (made : B) → whole made ≡ Tree.row j (led b (view a)) → ScopeClauses i row reader within view s m (Ok a) →
       ScopeClauses i row reader (λ t. Tree.row j (led b (within t))) whole s m (Ok made)
-  scope_behind = by_behind i j b s m view whole reader.left (rows_in row reader) (λ c n made at. RowsFault (asks i) c row reader (n, []) (m, made) at)
+  scope_behind = by_behind i j b s m view whole (rows_in row reader) (λ c n made at. RowsFault (asks i) c row reader (n, []) (m, made) at)
       (λ c n made e. StopsAtRow (asks i) c row reader (n, []) e (m, made)) within
 
   pub scope_behind_ended : (e : Error E) → ScopeClauses i row reader within view s m (Err e) → (r : Result B (Error E)) → IsErrAnd r (λ y. y ≡ e) →
       ScopeClauses i row reader (λ t. Tree.row j (led b (within t))) whole s m r
-  scope_behind_ended = by_behind_ended i j b s m view whole reader.left (rows_in row reader) (λ c n made at. RowsFault (asks i) c row reader (n, []) (m, made) at)
+  scope_behind_ended = by_behind_ended i j b s m view whole (rows_in row reader) (λ c n made at. RowsFault (asks i) c row reader (n, []) (m, made) at)
       (λ c n made e. StopsAtRow (asks i) c row reader (n, []) e (m, made)) within
 
 module _ {S E A B : Type 0} (i : Ghosts S E) (row : Shape) (reader : ScopedStanding) (j b : ℕ) (s m : S) (within : Tree → Tree) (view : A → Tree) (whole : B → Tree) where
   pub shallow_behind : (a : A) (made : B) → whole made ≡ Tree.row j (led b (view a)) → ShallowScopeClauses i row reader within view s m (Ok a) →
       ShallowScopeClauses i row reader (λ t. Tree.row j (led b (within t))) whole s m (Ok made)
-  shallow_behind = by_behind i j b s m view whole reader.rows.left (shallow_rows_in row reader) (λ c n made at. ShallowFault (asks i) c row reader (n, []) (m, made) at)
+  shallow_behind = by_behind i j b s m view whole (shallow_rows_in row reader) (λ c n made at. ShallowFault (asks i) c row reader (n, []) (m, made) at)
       (λ c n made e. StopsShallow (asks i) c row reader (n, []) e (m, made)) within
 
   pub shallow_behind_ended : (e : Error E) → ShallowScopeClauses i row reader within view s m (Err e) → (r : Result B (Error E)) → IsErrAnd r (λ y. y ≡ e) →
       ShallowScopeClauses i row reader (λ t. Tree.row j (led b (within t))) whole s m r
-  shallow_behind_ended = by_behind_ended i j b s m view whole reader.rows.left (shallow_rows_in row reader) (λ c n made at. ShallowFault (asks i) c row reader (n, []) (m, made) at)
+  shallow_behind_ended = by_behind_ended i j b s m view whole (shallow_rows_in row reader) (λ c n made at. ShallowFault (asks i) c row reader (n, []) (m, made) at)
       (λ c n made e. StopsShallow (asks i) c row reader (n, []) e (m, made)) within
 
 -- ---- types behind a byte

@@ -103,7 +103,7 @@ module _ {S E A : Type 0} (i : Ghosts S E) (adds : KeepsAdds i.adds i.adds_nothi
   core_caused c bytes s m _ h = absurd h
 
   pub woven_caused : (c : ℕ) (bytes : List ℕ) (s m : S) (e : Error E) → IsWovenCause (asks i) i.adds c bytes s m e → IfFault e (ModuleFault bytes)
-  woven_caused c bytes s m e (inl h) = core_caused c bytes s m e h
+  woven_caused c bytes s m e (inl h) = core_caused c bytes s m e h.0
   woven_caused c bytes s m e (inr own) = by e own.own
     where
       by : (w : Error E) → OwnNext (asks i) i.adds c own.front.last own.front.at own.front.rest w → IfFault w (ModuleFault bytes)
@@ -201,7 +201,7 @@ module _ {S E A : Type 0} (i : Ghosts S E) (adds : KeepsAdds i.adds i.adds_nothi
       (record { tree = t; reads = r; filled = f; spelled = refl })
 
   component_caused : (c : ℕ) (bytes : List ℕ) (s m : S) (e : Error E) →
-      CauseBy (asks i) (added i.adds) c 0 (inside (asks i) i.adds c 0) (own_inside (asks i) i.adds c 0) bytes s m e → IfFault e (ComponentFault 0 bytes)
+      CauseBy (asks i) i.adds c 0 (inside (asks i) i.adds c 0) (own_inside (asks i) i.adds c 0) bytes s m e → IfFault e (ComponentFault 0 bytes)
   component_caused c bytes s m (ParseError x) h = h.fault
   component_caused c bytes s m InvalidCodeSectionSize h = h.fault
   component_caused c bytes s m UnexpectedNonCoreModuleSection h = h.fault

@@ -73,7 +73,7 @@ module _ {S E : Type 0} (asked : Asks S E) (adds : Puts S SectionRow) (c : ℕ) 
   -- in a core module
   own_never : (bytes : List ℕ) (t u : Tree) (s m : S) (e : Error E) → CoreReading bytes t → AddsFit asked adds c s (visits t) → weave asked (added adds) c s (core_tree t) ≡ accepted u m → OwnTooLarge asked adds c bytes s e → ⊥
   own_never bytes t u s m e r fit walks own =
-      let given : GivesWovenBytes {A = Unit {0}} asked adds c bytes s m (Err e) (λ _. []) = record { reading = λ v p other. inl own; readable = tt; cause = inr own } in
+      let given : GivesWovenBytes {A = Unit {0}} asked adds c bytes s m (Err e) (λ _. []) = record { reading = λ v p other. inl own; readable = tt; fits = tt; cause = inr own } in
       let P : Error E → Type 0 = λ z. OwnTooLarge asked adds c bytes s z in
       wanting (subst P (accepted_is_answered asked adds (λ _. []) c bytes s m (Err e) given (core_tree t) u m (module_headed.forth bytes t r) fit walks) own)
     where
@@ -87,7 +87,7 @@ module _ {S E : Type 0} (asked : Asks S E) (adds : Puts S SectionRow) (c : ℕ) 
 
   -- behind sections that were accepted, where it holds of each that is read
   front_never : (depth : ℕ) (own : Stops S E) → ((f t : Tree) (s m : S) (e : Error E) → ReadsSection depth f t → AddsFit asked adds c s (visits t) → Goes s t → own f s m e → ⊥) →
-      (bytes : List ℕ) (t : Tree) (s m : S) (e : Error E) → ComponentReading depth bytes t → AddsFit asked adds c s (visits t) → Goes s t → BehindFront asked (added adds) c depth own bytes s m e → ⊥
+      (bytes : List ℕ) (t : Tree) (s m : S) (e : Error E) → ComponentReading depth bytes t → AddsFit asked adds c s (visits t) → Goes s t → BehindFront asked adds c depth own bytes s m e → ⊥
   front_never depth own never bytes t s m e r fit g (front, framed) = let all = sections_of r in go all.0 all.1 (sections_ahead front.first all.2 (none_at_nil depth))
     where
       go : (read : List Tree) → t ≡ rows_tree read → SectionsAhead depth front.read front.rest read [] → ⊥
@@ -127,12 +127,12 @@ woven_is_answered {S = S} {E = E} i depth bytes s m old new result g keeps out n
     walks : weave_in (asks i) (added i.adds) old.ceiling s w.tree ≡ accepted w.made n
     walks = (weave_in_is_run (asks i)).back (added i.adds) old.ceiling s n w.tree w.made w.reads.rest w.reads.spells.spelled w.accepts
 
-    stops : (e : Error E) → BehindFront (asks i) (added i.adds) old.ceiling depth (own_inside (asks i) i.adds old.ceiling depth) bytes s m e ⊎ (weave_in (asks i) (added i.adds) old.ceiling s w.tree ≡ refused e m) → ⊥
+    stops : (e : Error E) → BehindFront (asks i) i.adds old.ceiling depth (own_inside (asks i) i.adds old.ceiling depth) bytes s m e ⊎ (weave_in (asks i) (added i.adds) old.ceiling s w.tree ≡ refused e m) → ⊥
     stops e (inl own) =
         front_never (asks i) i.adds old.ceiling depth (own_inside (asks i) i.adds old.ceiling depth) (inside_never (asks i) i.adds old.ceiling (room depth) depth) bytes w.tree s m e w.reads fit (w.made, n, walks) own
     stops e (inr step) = let both : ◌≡◌ {A = Step S (Error E) Tree} (accepted w.made n) (refused e m) = sym walks ∙ step in cc
 
-    only : (e : Error E) → (e ≢ NoMemory → BehindFront (asks i) (added i.adds) old.ceiling depth (own_inside (asks i) i.adds old.ceiling depth) bytes s m e ⊎ (weave_in (asks i) (added i.adds) old.ceiling s w.tree ≡ refused e m)) →
+    only : (e : Error E) → (e ≢ NoMemory → BehindFront (asks i) i.adds old.ceiling depth (own_inside (asks i) i.adds old.ceiling depth) bytes s m e ⊎ (weave_in (asks i) (added i.adds) old.ceiling s w.tree ≡ refused e m)) →
         e ≡ NoMemory
     only NoMemory f = refl
     only e f = absurd (stops e (f (λ same. absurd cc)))

@@ -183,4 +183,5 @@ ok_is_woven i depth bytes s m old new (Ok u) g keeps =
       normal q.0,
       record { rows = q.1; gains = q.3; spelled = q.4 },
       record { tree = t; reads = d.readable.1; made = q.0; accepts = forth (asks i) (added i.adds) old.ceiling s m t q.0 q.2; spelled = refl },
+      d.fits t d.readable.1,
     )

@@ -7,10 +7,9 @@ use Rattle.reencode_hooks.specs.declared.error.Error.{Error}
 use Rattle.reencode_hooks.specs.declared.indices.ReencodeIndices.{Ghosts}
 use Rattle.reencode_core.specs.Clauses.{asks}
 use Rattle.reencode_core.specs.Errors.{placed_at}
-use Rattle.reencode_core.specs.Leaves.{LeavesCore}
 use Rattle.reencode_core.specs.Sections.{KeepsModule}
 use Rattle.reencode_component.specs.Gives.{GivesComponent, GivesSection}
-use Rattle.reencode_component.specs.ComponentLeaves.{HoldsComponent, NoComponentHeading, component_in, section_in}
+use Rattle.reencode_component.specs.ComponentLeaves.{HoldsComponent, IfLeaves, LeavesComponent, LeavesSection, NoComponentHeading}
 
 -- the answer of a call that maps a part which begins at a place: an error of the bytes is at that place
 abbrev pub placed_in : {E : Type 0} → Result (Unit {0}) (Error E) → ℕ → Result (Unit {0}) (Error E)
@@ -23,7 +22,7 @@ FrameClauses i depth f at s old m new result =
     record {
       kept : KeepsModule old new;
       default : IsTrue i.keeps_defaults → GivesSection (asks i) i.adds depth f at (s, old) (m, new) result;
-      after_error : IsTrue i.keeps_defaults → LeavesCore i.sure i.adds_nothing (asks i) (section_in depth f) s m result;
+      after_error : IsTrue i.keeps_defaults → IfLeaves i.sure i.adds_nothing (λ e. LeavesSection (asks i) depth f s e m) result;
     }
 
 -- A component is read, and what its sections become is added.
@@ -32,7 +31,7 @@ ComponentClauses i depth bytes s old m new result =
     record {
       kept : KeepsModule old new;
       default : IsTrue i.keeps_defaults → GivesComponent (asks i) i.adds depth bytes (s, old) (m, new) result;
-      after_error : IsTrue i.keeps_defaults → LeavesCore i.sure i.adds_nothing (asks i) (component_in depth bytes) s m result;
+      after_error : IsTrue i.keeps_defaults → IfLeaves i.sure i.adds_nothing (λ e. LeavesComponent (asks i) depth bytes s e m) result;
       headless : IsTrue i.keeps_defaults → NoComponentHeading bytes → m ≡ s;
       wants : IsTrue i.keeps_defaults → IsTrue i.sure → HoldsComponent (asks i) i.adds depth bytes (s, old) (m, new) result;
     }

@@ -33,7 +33,7 @@ use Rattle.reencode_component.specs.TypeClauses.{CoreTypeWithin, ScopeBy}
 -- A scope is opened, the rows that a reader still has are mapped, and it is closed.
 abbrev pub ShallowScopeClauses : {S E A : Type 0} → Ghosts S E → Shape → ScopedStanding → (Tree → Tree) → (A → Tree) → S → S → Result A (Error E) → Type 0
 ShallowScopeClauses i row reader within view s m result =
-    ScopeBy i reader.rows.left (shallow_rows_in row reader) (λ c n made at. ShallowFault (asks i) c row reader (n, []) (m, made) at)
+    ScopeBy i (shallow_rows_in row reader) (λ c n made at. ShallowFault (asks i) c row reader (n, []) (m, made) at)
     (λ c n made e. StopsShallow (asks i) c row reader (n, []) e (m, made)) within view s m result
 
 -- ---- types of components

@@ -18,3 +18,4 @@ pub mod WithinLaws
 pub mod WovenIn
 pub mod ComponentFronts
 pub mod ModuleLaws
+pub mod PlainLaws

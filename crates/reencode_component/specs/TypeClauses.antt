@@ -1,6 +1,6 @@
 -- What a call that maps what a scope declares promises, whole: one record for each kind of call. `i` are the meanings of the
 -- reencoder, `s` is its state before the call, and `m` the one after it.
-use Rattle.std.specs.Prelude.{◌≡◌, ◌<◌, ◌^◌, ℕ, Bool, List, [], Result, IfOk, IfErr, IsTrue}
+use Rattle.std.specs.Prelude.{◌≡◌, ℕ, Bool, List, [], Result, IfOk, IfErr, IsTrue}
 use Rattle.wasm_shapes.specs.declared.Visit.TheVariants.{Push}
 use Rattle.wasm_shapes.specs.Tree.{Tree}
 use Rattle.wasm_shapes.specs.Types.{led}
@@ -37,14 +37,13 @@ pub record Opened {S E : Type 0} (asked : Asks S E) (s : S) (says : S → Type 0
 abbrev pub LeavesOpen : {S E A : Type 0} → Bool → Asks S E → Text → S → S → Result A (Error E) → Type 0
 LeavesOpen sure asked text s m result = IfErr result (λ e. (e ≡ NoMemory → IsTrue sure) → Opened asked s (λ n. Leaves asked text n e m))
 
--- A scope is opened, what is to be read in it is mapped, so many rows, and it is closed; `within` says where the scope stands. Where
--- the bytes hold no such rows the scope was opened, and the error holds the place in them, of which `faulty` holds; and where a row is
--- refused, `stops`. No reader has more rows than a count can say.
-abbrev pub ScopeBy : {S E A : Type 0} → Ghosts S E → ℕ → Text → (faulty : ℕ → S → List Tree → ℕ → Type 0) → (stops : ℕ → S → List Tree → Error E → Type 0)
+-- A scope is opened, what is to be read in it is mapped, and it is closed; `within` says where the scope stands. Where the bytes hold no
+-- such rows the scope was opened, and the error holds the place in them, of which `faulty` holds; and where a row is refused, `stops`.
+abbrev pub ScopeBy : {S E A : Type 0} → Ghosts S E → Text → (faulty : ℕ → S → List Tree → ℕ → Type 0) → (stops : ℕ → S → List Tree → Error E → Type 0)
     → (Tree → Tree) → (A → Tree) → S → S → Result A (Error E) → Type 0
-ScopeBy i left text faulty stops within view s m result =
+ScopeBy i text faulty stops within view s m result =
     record {
-      default : IsTrue i.keeps_defaults → left < 2 ^ 32 → (rows : Tree) → text.reads rows → Maps i.reply i.next s (within (Tree.scope (Tree.vec rows))) view m result;
+      default : IsTrue i.keeps_defaults → (rows : Tree) → text.reads rows → Maps i.reply i.next s (within (Tree.scope (Tree.vec rows))) view m result;
       readable : IsTrue i.keeps_defaults → IfOk result (λ _. (rows : Tree) × text.reads rows);
       unreadable : IsTrue i.keeps_defaults → (c : ℕ) → IfErr result (λ e. IfParse e (λ at. Opened (asks i) s (λ n. (made : List Tree) × faulty c n made at)));
       refusal : IsTrue i.keeps_defaults → (c : ℕ) → IfErr result (λ e. IfRefused e (Opened (asks i) s (λ n. (made : List Tree) × stops c n made e)));
@@ -54,7 +53,7 @@ ScopeBy i left text faulty stops within view s m result =
 -- the same of the rows that a reader still has
 abbrev pub ScopeClauses : {S E A : Type 0} → Ghosts S E → Shape → Standing → (Tree → Tree) → (A → Tree) → S → S → Result A (Error E) → Type 0
 ScopeClauses i row reader within view s m result =
-    ScopeBy i reader.left (rows_in row reader) (λ c n made at. RowsFault (asks i) c row reader (n, []) (m, made) at)
+    ScopeBy i (rows_in row reader) (λ c n made at. RowsFault (asks i) c row reader (n, []) (m, made) at)
     (λ c n made e. StopsAtRow (asks i) c row reader (n, []) e (m, made)) within view s m result
 
 -- ---- core types

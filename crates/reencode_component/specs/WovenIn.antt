@@ -63,13 +63,15 @@ pub record IsWoven {S E : Type 0} (asked : Asks S E) (put : Puts S Tree) (ceilin
   pub accepts : AcceptsIn asked put ceiling s tree made m
   pub spelled : out ≡ normal made
 
--- with Ok, what was added is the bytes' component woven
+-- with Ok, what was added is the bytes' component woven, and what the hooks add in it fits
 abbrev pub IfWoven : {S E : Type 0} → Asks S E → Puts S SectionRow → ℕ → List ℕ → S → Sections → S → Sections → Result (Unit {0}) (Error E) → Type 0
-IfWoven asked adds depth bytes s old m new (Ok _) = (out : List ℕ) × Adds old new out × IsWoven asked (added adds) old.ceiling depth bytes s m out
+IfWoven asked adds depth bytes s old m new (Ok _) =
+    (out : List ℕ) × Adds old new out × (w : IsWoven asked (added adds) old.ceiling depth bytes s m out) × AddsFit asked adds old.ceiling s (visits w.tree)
 IfWoven asked adds depth bytes s old m new (Err e) = Unit {0}
 
 -- Whatever the section hooks add, Ok comes only where the bytes are read as a component at this depth, whose visits are accepted and whose
--- woven frames fit; what was added is the normal spelling of the woven tree, and the state is the one that the run leaves.
+-- woven frames fit, as does each section that is added at one of the visits; what was added is the normal spelling of the woven tree, and the
+-- state is the one that the run leaves.
 abbrev pub OkIsWoven : {S E : Type 0} → Ghosts S E → Type 0
 OkIsWoven i = OfCalls i (λ depth bytes s old m new result. IfWoven (asks i) i.adds depth bytes s old m new result)
 

@@ -16,7 +16,7 @@ use wasm_write_component as w;
 /// Reads a component, with so many scopes open round it, and adds what its sections become, each by `parse_component_payload`.
 ///
 /// Neither section hook is called at a section of a component. A `ParseError` holds the place of the section in fault, counted
-/// from the first byte of the header. No `pop_depth` follows a refusal: depths that were pushed stay pushed.
+/// from the first byte of the header. No `pop_depth` follows an error inside a nested section: depths that were pushed stay pushed.
 #[cycle(components)]
 pub fn parse_component<T: ReencodeComponent>(
     reencoder: &mut T,

@@ -1,6 +1,8 @@
 //! Laws of the definitions.
-ghost use Rattle.std.specs.Prelude.{List, ℕ};
+ghost use Rattle.std.specs.Prelude.{List, ℕ, IfErr, IfOk};
 ghost use Rattle.reencode_hooks.specs.Run.{ask};
+ghost use Rattle.reencode_core.specs.Clauses.{asks};
+ghost use Rattle.reencode_core.specs.Rules.{IfUser};
 ghost use Rattle.reencode_component.specs.ComponentFaults.{FaultIsOne};
 ghost use Rattle.reencode_component.specs.ComponentLaws.{
   ComponentFaultGains,
@@ -9,6 +11,7 @@ ghost use Rattle.reencode_component.specs.ComponentLaws.{
   ReencodedIsAnswered,
   UnreadIsAnswered,
 };
+ghost use Rattle.reencode_component.specs.PlainLaws.{IsAnswered, IsReencoded, IsRefused, OfPlain};
 ghost use Rattle.reencode_component.specs.WeaveIn.{WeaveInOfNothing};
 ghost use Rattle.reencode_component.specs.WithinLaws.{
   ErrorTells,
@@ -85,8 +88,8 @@ pub fn weave_in_is_run<T: ReencodeIndices>(_reencoder: &T)
 /// section hooks add to nested modules where it is.
 ///
 /// Where the reencoder keeps the defaults, Ok comes only where the bytes are read as a component whose visits the hooks accept and
-/// whose frames fit under the ceiling, the added sections counted. What was added is then the normal spelling of that, and the state is
-/// the one that the run over the visits leaves.
+/// whose frames fit under the ceiling, the added sections counted, as does each section that is added. What was added is then the normal
+/// spelling of that, and the state is the one that the run over the visits leaves.
 pub fn component_is_woven<T: ReencodeIndices>(_reencoder: &T)
     ensures { OkIsWoven T.ReencodeIndices }
 {}
@@ -98,6 +101,36 @@ pub fn component_is_woven<T: ReencodeIndices>(_reencoder: &T)
 /// has a body above the ceiling.
 pub fn woven_component_is_answered<T: ReencodeIndices>(_reencoder: &T)
     ensures { WovenIsAnswered T.ReencodeIndices }
+{}
+
+/// What `reencode_core` makes of a core module, of a call with its clauses by a plain reencoder: what `ok`, `refused` and `made` of
+/// `reencode_by_rule` say of a rule, said of answers that may go by the reencoder's state.
+///
+/// Ok comes only with the output of the bytes' reading; a refusal is of the first of its visits that is refused; and where all are
+/// accepted and the frames fit, that output comes, or memory runs out. `A` is the answer's type; the slice may be empty.
+pub fn plain_module_is_made<T: ReencodeIndices, A>(_reencoder: &T, _answers: &[A])
+    ensures ok { (view : A → List ℕ) → OfPlain T.ReencodeIndices (of_module T.ReencodeIndices view)
+        (λ ceiling bytes before after result. IfOk result (λ out.
+        IsReencoded as_module (asks T.ReencodeIndices) ceiling bytes before after (view out))) }
+    ensures refused { (view : A → List ℕ) → OfPlain T.ReencodeIndices (of_module T.ReencodeIndices view)
+        (λ ceiling bytes before after result. IfErr result (λ e. IfUser e
+        (IsRefused as_module (asks T.ReencodeIndices) ceiling bytes before after))) }
+    ensures made { (view : A → List ℕ) → OfPlain T.ReencodeIndices (of_module T.ReencodeIndices view)
+        (λ ceiling bytes before after result.
+        IsAnswered as_module (asks T.ReencodeIndices) ceiling bytes before after result view) }
+{}
+
+/// What `reencode_within` makes of a binary, a core module or a component, as `plain_module_is_made` says it of `reencode_core`.
+pub fn plain_binary_is_made<T: ReencodeIndices, A>(_reencoder: &T, _answers: &[A])
+    ensures ok { (view : A → List ℕ) → OfPlain T.ReencodeIndices (of_binary T.ReencodeIndices view)
+        (λ ceiling bytes before after result. IfOk result (λ out.
+        IsReencoded as_binary (asks T.ReencodeIndices) ceiling bytes before after (view out))) }
+    ensures refused { (view : A → List ℕ) → OfPlain T.ReencodeIndices (of_binary T.ReencodeIndices view)
+        (λ ceiling bytes before after result. IfErr result (λ e. IfUser e
+        (IsRefused as_binary (asks T.ReencodeIndices) ceiling bytes before after))) }
+    ensures made { (view : A → List ℕ) → OfPlain T.ReencodeIndices (of_binary T.ReencodeIndices view)
+        (λ ceiling bytes before after result.
+        IsAnswered as_binary (asks T.ReencodeIndices) ceiling bytes before after result view) }
 {}
 
 /// What `reencode_core` answers, in terms of the reading: of a call with its clauses, where the reencoder keeps the defaults.

@@ -43,7 +43,7 @@ pub use items::ReencodeComponentItems;
 pub use laws::{
     binary_error_tells, binary_is_reencoded, component_fault_gains, component_fault_is_answered,
     component_fault_is_one, component_is_answered, component_is_reencoded, component_is_woven,
-    component_refusal_tells, module_error_tells, module_is_reencoded, weave_in_is_run,
-    weave_in_of_nothing, woven_component_is_answered,
+    component_refusal_tells, module_error_tells, module_is_reencoded, plain_binary_is_made,
+    plain_module_is_made, weave_in_is_run, weave_in_of_nothing, woven_component_is_answered,
 };
 pub use within::{reencode, reencode_within};

@@ -1,10 +1,9 @@
 //! Sections of rows that may open scopes, one loop for all of them. `component_utils` has these functions, and the methods call
 //! them.
-ghost use Rattle.std.specs.Prelude.{ℕ, List};
+ghost use Rattle.std.specs.Prelude.{ℕ};
 ghost use Rattle.wasm_shapes.specs.Component.{core_type};
 ghost use Rattle.wasm_shapes.specs.Depth.{Shallow};
 ghost use Rattle.wasm_shapes.specs.Drawn.{IsItem};
-ghost use Rattle.wasm_shapes.specs.Spells.{Spelled};
 ghost use Rattle.wasm_shapes.specs.Tree.{Tree};
 ghost use Rattle.wasm_read_component.specs.TypeRows.{CoreTypeStands};
 ghost use Rattle.reencode_core.specs.Clauses.{RowClauses};
@@ -33,7 +32,7 @@ pub(crate) trait MapScopedRow<T: ReencodeIndices, W: RowKind, A> {
         sink: &mut RowSection<W>,
         row: A,
     ) -> Result<(), Error<T::Error>>
-        ensures { (depth : ℕ) (t : Tree) (text : List ℕ) → read depth row t → Spelled t text → Shallow depth t →
+        ensures { (depth : ℕ) (t : Tree) → read depth row t → Shallow depth t →
             RowClauses T.ReencodeIndices t reencoder.old sink.old reencoder.new sink.new result };
 }
 

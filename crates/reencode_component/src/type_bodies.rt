@@ -5,6 +5,8 @@
 macro_rules! scope {
     ($reencoder:ident, $alloc:ident, $ty:ident, $made:ident: $of:ident, $row:ident => $step:expr) => {{
         let mut rows = $ty;
+        // (fewer than 2^32, so that the rows made of them are never too many)
+        let _ = rows.left();
         let mut $made = w::$of::new($alloc);
         $reencoder.push_depth()?;
         'rows: while let Some($row) = rows.next_row($alloc)? {

@@ -43,11 +43,14 @@ fn reencode_component<R: ReencodeComponent>(
     }
 }
 
-/// The bytes of the new binary, of which no frame is above the ceiling: of a component, where the bytes begin with the header of
-/// one, by `parse_component`, and of a core module, by `reencode_joined`, where they do not.
+/// The bytes of the new binary: of a component, where the bytes begin with the header of one, by `parse_component`, and of a core
+/// module, by `reencode_joined`, where they do not.
 ///
 /// So an overridden `parse_core_module`, `parse_section` or `parse_code_section` is asked of modules nested in a component alone,
 /// and the section hooks of a core module are handed a module without sections. `reencode_core` goes by these methods.
+///
+/// Of a reencoder that keeps the defaults no frame of what the bytes become is above the ceiling, nor the body of a section that
+/// one of its hooks adds.
 ///
 /// A `ParseError` holds the place of the section in fault, counted from the first byte of the header, or 0 where neither header
 /// stands there. An error that tells the kind of a binary, or the size of a code section, may come of a binary inside.

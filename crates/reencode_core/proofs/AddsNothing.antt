@@ -84,7 +84,7 @@ module _ {S E : Type 0} (asked : Asks S E) (adds : Puts S SectionRow) (none : (s
   -- the section hook accepted
   behind_refused : (c : ℕ) (last : Option SectionId) (s n m : S) (t others : Tree) (part : List SectionRow) (e : Error E) → announced asked s last t ≡ accepted 0 n →
       StopsBehind asked adds c n t (put_before adds s last t) part e m → RefusesNext asked c last s (Tree.also t others) part e m
-  behind_refused c last s n m t others part e told (inl h) = inl (h.0 ∙ before_none s last t, λ other. rw (told, h.1 other) refl)
+  behind_refused c last s n m t others part e told (inl h) = inl (h.0 ∙ before_none s last t, λ other. rw (told, h.2 other) refl)
   behind_refused c last s n m t others part e told (inr (u, k, row, more, walked, spelled, parts, fits, hook)) =
       let h = hook_refused c (put_behind adds k t) more (followed asked k t) e m (behind_none k t) hook in
       let whole : part ≡ row ∷ [] = parts ∙ ap₂ (λ (xs ys : List SectionRow). xs ++ row ∷ ys) (before_none s last t) h.0 in
@@ -104,7 +104,7 @@ module _ {S E : Type 0} (asked : Asks S E) (adds : Puts S SectionRow) (none : (s
       nothing_large o (λ k v may size. let P : List SectionRow → Type 0 = λ rows. ¬ HasTooLarge c rows size in subst P (sym (none k v may)) (none_large c size))
 
   plain_cause : (c : ℕ) (bytes : List ℕ) (s m : S) (e : Error E) → IsWovenCause asked adds c bytes s m e → IsCause asked c bytes s m e
-  plain_cause c bytes s m e (inl h) = h
+  plain_cause c bytes s m e (inl h) = h.0
   plain_cause c bytes s m e (inr own) = absurd (no_own own)
 
   sections_stopped : (c : ℕ) (before after : S × Sections) (t : Tree) (e : Error E) → StopsWoven asked adds c before t after e → StopsSections asked c before t after e

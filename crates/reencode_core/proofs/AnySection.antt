@@ -21,7 +21,8 @@ use Rattle.reencode_core.specs.Names.{StopsCustom, GivesCustom}
 use Rattle.reencode_core.specs.Core.{StopsThere}
 use Rattle.reencode_core.specs.Weave.{Puts, put_at}
 use Rattle.reencode_core.specs.Woven.{AddedAt}
-use Rattle.reencode_core.proofs.Known.{frame_id, section_announced, section_followed}
+use Rattle.wasm_shapes.proofs.SectionLaws.{frame_id}
+use Rattle.reencode_core.proofs.Known.{section_announced, section_followed}
 use Rattle.reencode_core.proofs.Usual.{IfParse-map, IfRefused-map, unless_wanting}
 
 -- ---- its readings

@@ -11,6 +11,7 @@ use Rattle.wasm_shapes.specs.Module.{body, code_row}
 use Rattle.wasm_shapes.proofs.Unique.{unique}
 use Rattle.wasm_shapes.proofs.Rows.{no_row, no_rows_behind}
 use Rattle.wasm_read.specs.Operations.{frame_row}
+use Rattle.wasm_read.proofs.FramedBodies.{code_begins, frame_of}
 use Rattle.wasm_read.specs.Reading.{Standing, place_of, ReadsNone, ReadsNoneOrWants, RowRead, RowMissing}
 use Rattle.wasm_leb.specs.declared.fault.Fault.{Fault}
 use Rattle.wasm_leb.specs.declared.fault.Fault.TheVariants as fault
@@ -30,43 +31,20 @@ use Rattle.reencode_core.specs.Bodies.{KeepsCode, GivesBody}
 
 -- ---- frames and bodies
 
--- a body in its frame
-pub code_begins : {bytes body' left : List ℕ} {t : Tree} → Begins frame_row bytes (Tree.sized (Tree.raw body')) left → Spells body body' t → Begins code_row bytes (Tree.sized t) left
-code_begins {body' = body'} {t = t} there p =
-    let s = there.spells.spelled in
-    let P : List ℕ → Type 0 = λ z. Spelled t z in record {
-      text = there.text;
-      spells = record { shaped = Is.sized p.shaped; spelled = (s.0, s.1, s.2, s.3, subst P (sym s.4) p.spelled) };
-      reads = there.reads;
-    }
-
--- a frame holds what stands in it
-frame_of : {bytes left : List ℕ} {t : Tree} → Begins code_row bytes t left → (body' : List ℕ) × (u : Tree) × Begins frame_row bytes (Tree.sized (Tree.raw body')) left × Spells body body' u
-frame_of {bytes = bytes} {left = left} {t = t} there = go t there.text there.spells.shaped there.spells.spelled there.reads
-  where
-    go : (t : Tree) (x : List ℕ) → Is code_row t → Spelled t x → bytes ≡ x ++ left →
-        (body' : List ℕ) × (u : Tree) × Begins frame_row bytes (Tree.sized (Tree.raw body')) left × Spells body body' u
-    go t x (Is.sized {t = u} d) s e = (
-      s.1,
-      u,
-      record { text = x; spells = record { shaped = Is.sized Is.rest; spelled = (s.0, s.1, s.2, s.3, refl) }; reads = e },
-      record { shaped = d; spelled = s.4 },
-    )
-
 pub code_none : {bytes body' left : List ℕ} → Begins frame_row bytes (Tree.sized (Tree.raw body')) left → ((t : Tree) → Spells body body' t → ⊥) → BeginsNone code_row bytes
 code_none {bytes = bytes} {body' = body'} {left = left} there none = record {
   none = λ text left' t p e.
       let f = frame_of (record { text = text; spells = p; reads = e }) in
-      let same = unique there.spells.shaped f.2.spells.shaped there.text f.2.text left left' refl (inl refl) there.spells.spelled f.2.spells.spelled (sym there.reads ∙ f.2.reads) in
+      let same = unique there.spells.shaped f.3.spells.shaped there.text f.3.text left left' refl (inl refl) there.spells.spelled f.3.spells.spelled (sym there.reads ∙ f.3.reads) in
       let trees : Tree.sized (Tree.raw body') ≡ Tree.sized (Tree.raw f.0) = same.1 in
       let bodies : body' ≡ f.0 = cc in
       let P : List ℕ → Type 0 = λ z. Spells body z f.1 in
-      none f.1 (subst P (sym bodies) f.3);
+      none f.1 (subst P (sym bodies) f.4);
 }
 
 no_frame_no_code : {bytes : List ℕ} → BeginsNone frame_row bytes → BeginsNone code_row bytes
 no_frame_no_code none = record {
-  none = λ text left t p e. let f = frame_of (record { text = text; spells = p; reads = e }) in none.none f.2.text left (Tree.sized (Tree.raw f.0)) f.2.spells f.2.reads;
+  none = λ text left t p e. let f = frame_of (record { text = text; spells = p; reads = e }) in none.none f.3.text left (Tree.sized (Tree.raw f.0)) f.3.spells f.3.reads;
 }
 
 -- no rows where none begins
@@ -175,17 +153,13 @@ module _ {S E : Type 0} (asked : Asks S E) (c : ℕ) where
 -- what stands in the frame
 pub in_frame : {reader reader' : Standing} {bytes : List ℕ} → RowRead frame_row reader (Tree.sized (Tree.raw bytes)) reader' → (t : Tree) (left : List ℕ) → Begins code_row reader.rest t left →
     (u : Tree) × (t ≡ Tree.sized u) × Spells body bytes u
-in_frame {reader = reader} {reader' = reader'} {bytes = bytes} r t left there = go t there.spells.shaped there.spells.spelled
-  where
-    go : (t : Tree) → Is code_row t → Spelled t there.text → (u : Tree) × (t ≡ Tree.sized u) × Spells body bytes u
-    go t (Is.sized {t = u} e) p =
-        let frame : Begins frame_row reader.rest (Tree.sized (Tree.raw p.1)) left =
-        record { text = there.text; spells = record { shaped = Is.sized Is.rest; spelled = (p.0, p.1, p.2, p.3, refl) }; reads = there.reads } in
-        let one = unique r.begins.spells.shaped frame.spells.shaped r.begins.text there.text reader'.rest left refl (inl refl) r.begins.spells.spelled frame.spells.spelled (sym r.begins.reads ∙ there.reads) in
-        let trees : Tree.sized (Tree.raw bytes) ≡ Tree.sized (Tree.raw p.1) = one.1 in
-        let bodies : bytes ≡ p.1 = cc in
-        let P : List ℕ → Type 0 = λ z. Spelled u z in
-        (u, refl, record { shaped = e; spelled = subst P (sym bodies) p.4 })
+in_frame {reader = reader} {reader' = reader'} {bytes = bytes} r t left there =
+    let f = frame_of there in
+    let one = unique r.begins.spells.shaped f.3.spells.shaped r.begins.text f.3.text reader'.rest left refl (inl refl) r.begins.spells.spelled f.3.spells.spelled (sym r.begins.reads ∙ f.3.reads) in
+    let trees : Tree.sized (Tree.raw bytes) ≡ Tree.sized (Tree.raw f.0) = one.1 in
+    let bodies : bytes ≡ f.0 = cc in
+    let P : List ℕ → Type 0 = λ z. Spells body z f.1 in
+    (f.1, f.2, subst P (sym bodies) f.4)
 
 module _ {S E : Type 0} (reply : S → Visit → Result ℕ E) (next : S → Visit → S) {c : ℕ} {start reader reader' : Standing} {s0 s s' : S} {old : List Tree} {mid new : CodeRows} {bytes : List ℕ}
     (same : mid.ceiling ≡ c) (d : RowsDone (ask reply next) c code_row start s0 old reader s mid.rows) (r : RowRead frame_row reader (Tree.sized (Tree.raw bytes)) reader') where

@@ -1,5 +1,6 @@
 -- The rows of a code section that are held, and others behind them.
-use Rattle.std.proofs.Common.{◌≡◌, ℕ, ◌+◌, ◌<◌, ◌^◌, List, [], ◌∷◌, ◌++◌, length, true, ◌-◌, take, refl, sym, ap, ap₂, ◌∙◌, append_assoc, append-nil, length-append, arith}
+use Rattle.std.proofs.Common.{◌≡◌, ℕ, ◌+◌, ◌<◌, ◌^◌, List, [], ◌∷◌, ◌++◌, length, true, ◌-◌, take, refl, sym, ap, ap₂, ◌∙◌, subst, append_assoc, append-nil, length-append, arith}
+use mathlib.Core.Bool.{false≢true}
 use mathlib.Core.Logic.{∥∥₁_elim, ∥∥₁_map, ∥∥₁_prop}
 use Rattle.wasm_leb.specs.Leb.{leb}
 use Rattle.wasm_leb.specs.Place.{BeginsNumber, BeginsNoNumber}
@@ -10,9 +11,12 @@ use Rattle.std.proofs.lemmas.List.{append_cancel_left}
 use Rattle.std.proofs.Math.Seq.{take-append_seam}
 use Rattle.wasm_shapes.specs.Tree.{Tree, normal}
 use Rattle.wasm_shapes.specs.Shape.{Shape}
-use Rattle.wasm_shapes.specs.Sound.{sound}
-use Rattle.wasm_shapes.specs.Spells.{Spells}
+use Rattle.wasm_shapes.specs.Sound.{nullable, sound}
+use Rattle.wasm_shapes.specs.Module.{body, code_row}
+use Rattle.wasm_shapes.specs.Spells.{Is, Spelled, Spells}
 use Rattle.wasm_shapes.specs.Types.{rows_tree}
+use Rattle.wasm_shapes.proofs.Fronts.{nullable_sound}
+use Rattle.wasm_shapes.proofs.Lists.{no_bytes}
 use Rattle.wasm_write.specs.Held.{AreHeld, Held, Held-one, held_rows}
 use Rattle.wasm_write.proofs.HoldingBodies.{many_is, many_spelled}
 
@@ -66,3 +70,24 @@ left_behind rows left body head b e same =
     let counted : length rows - length left ≡ length b.0 = omega (arith, len) in
     let is : head ≡ b.0 = e ∙ ap (λ (k : ℕ). take k rows) counted ∙ ap (take (length b.0)) b.2 ∙ take-append_seam b.0 left in
     (b.2 ∙ ap₂ (λ (x y : List ℕ). x ++ y) (sym is) same, rw is (some_number b.1))
+
+-- behind its number a row has a body, so that it is more than a number
+pub more_than_number : (rows : List Tree) → ∥ Spells (Shape.many code_row) (normal (rows_tree rows)) (rows_tree rows) ∥₁ → length rows ≡ 1 → (n : ℕ) → IsUnsigned 32 (normal (rows_tree rows)) n → ⊥
+more_than_number rows p one n q = ∥∥₁_elim p (λ x y. absurd x) (λ s. go rows one s.shaped s.spelled q)
+  where
+    row : (t : Tree) (x y : List ℕ) → Is code_row t → Spelled t x → IsUnsigned 32 (x ++ y) n → ⊥
+    row t x y (Is.sized d) (number, text, parts, sized, spelled) q =
+        let whole : number ++ (text ++ y) ≡ (x ++ y) ++ [] = sym (append_assoc number text y) ∙ ap (λ (z : List ℕ). z ++ y) (sym parts) ∙ sym (append-nil (x ++ y)) in
+        let same = unsigned_unique (text ++ y) [] sized q whole in
+        let none : text ++ y ≡ [] = append_cancel_left number (text ++ y) [] (whole ∙ ap (λ (z : List ℕ). z ++ []) (sym same.0)) in
+        let never : nullable body ≡ true = nullable_sound d text spelled (no_bytes text y none).0 in
+        false≢true never
+
+    go : (rows : List Tree) → length rows ≡ 1 → Is (Shape.many code_row) (rows_tree rows) → Spelled (rows_tree rows) (normal (rows_tree rows)) → IsUnsigned 32 (normal (rows_tree rows)) n → ⊥
+    go [] one d s q = absurd cc
+    go (t ∷ rows) one (Is.cons d e) (x, y, parts, spelled, others) q = let P : List ℕ → Type 0 = λ z. IsUnsigned 32 z n in row t x y d spelled (subst P parts q)
+
+-- what is left behind the number of rows that are more than one is not empty
+pub some_left : {n : ℕ} {rows left : List ℕ} → ((n : ℕ) → IsUnsigned 32 rows n → ⊥) → BeginsNumber 128 32 32 rows n left → 0 < length left
+some_left {n = n} {rows = rows} {left = []} more b = let P : List ℕ → Type 0 = λ z. IsUnsigned 32 z n in absurd (more n (subst P (sym (b.2 ∙ append-nil b.0)) b.1))
+some_left {left = x ∷ left} more b = omega arith

@@ -1,5 +1,5 @@
 -- The loop over the sections of a module.
-use Rattle.std.proofs.Common.{◌≡◌, ◌≢◌, ◌-◌, ℕ, List, [], ◌∷◌, ◌++◌, length, map, Option, Some, None, Result, Ok, Err, refl, sym, ap, ◌∙◌, subst, append_assoc, append-nil, ◌⊎◌, inl, inr, Bool}
+use Rattle.std.proofs.Common.{◌≡◌, ◌≢◌, ◌-◌, ℕ, List, [], ◌∷◌, ◌++◌, length, map, Option, Some, None, Result, Ok, Err, OnOk, refl, sym, ap, ◌∙◌, subst, append_assoc, append-nil, ◌⊎◌, inl, inr, Bool}
 use Rattle.std.proofs.lemmas.List.{append_cancel_left}
 use Rattle.wasm_leb.specs.declared.fault.Fault.{Fault}
 use Rattle.wasm_leb.specs.declared.fault.Fault.TheVariants as fault
@@ -36,9 +36,9 @@ use Rattle.reencode_core.specs.Holds.{FrameLeaves, HoldsSections}
 use Rattle.reencode_core.specs.Rows.{Asks}
 use Rattle.reencode_core.specs.Core.{hooked, closed_off, onto, AcceptsSections, RefusedIn, StopsThere, BeforeFault, IsCause}
 use Rattle.reencode_core.specs.Weave.{Puts, added, kind_after, put_at, put_before, put_behind, woven_one, weave, weave_from}
-use Rattle.reencode_core.specs.Woven.{AddsFit, IsOwn, IsPart, StopsHook, StopsHooked, StopsNext, WeavesSections, StopsWoven, GivesWovenModule, OwnNext, WovenFront, OwnTooLarge, IsWovenCause, AddedAt, AddedThere, GainsBefore, GivesWoven}
+use Rattle.reencode_core.specs.Woven.{AddsFit, IsOwn, IsPart, StopsHook, StopsHooked, StopsNext, WeavesSections, StopsWoven, GivesWovenModule, OwnNext, WovenFront, OwnTooLarge, IsWovenCause, AddedAt, AddedThere, FitsUpTo, GainsBefore, GivesWoven}
 use Rattle.reencode_core.proofs.AddsNothing.{none_own}
-use Rattle.reencode_core.proofs.Fitting.{fits_begin, fits_more, none_too_large, rows_none}
+use Rattle.reencode_core.proofs.Fitting.{fits_begin, fits_end, fits_more, none_too_large, rows_none}
 use Rattle.reencode_core.proofs.Weaves.{alsos-append}
 use Rattle.reencode_core.proofs.AnySection.{GivesFramed, Reached, added_followed, added_put, kind_announced, kind_followed, kind_put, told_before, told_behind}
 use Rattle.reencode_core.proofs.Made.{ended_all, ended_behind, ended_placed, fault_unasked, front_all, front_first, front_none, front_same, front_then, not_wanting, one_ended, tells_placed}
@@ -519,6 +519,10 @@ module _ {S E : Type 0} (asked : Asks S E) (adds : Puts S SectionRow) where
       there = there;
     })
 
+    -- and all that was added there fits
+    fits_up_to : {e : Error E} {s' : S} {part : List SectionRow} → AddedThere asked adds old.ceiling last s rest e s' part → e ≢ NoMemory → FitsUpTo asked adds old.ceiling bytes s0 s' e
+    fits_up_to {part = part} there other = inr (front, part, there)
+
     -- the section hook was to add one that is too large
     own_large : {e : Error E} → OwnNext asked adds old.ceiling last s rest e → OwnTooLarge asked adds old.ceiling bytes s0 e
     own_large h = record { front = front; own = h }
@@ -542,14 +546,16 @@ module _ {S E : Type 0} (asked : Asks S E) (adds : Puts S SectionRow) where
         × IfRefused e (((t : Tree) × InFrame t f) ⊎ StopsThere asked old.ceiling rest last s e m)
 
     -- a section, or a hook at it, is refused
-    section_refused : {f : Tree} {left : List ℕ} {s' : S} {new' : Sections} (e : Error E) → Begins frame rest f left →
+    section_refused : {f : Tree} {left : List ℕ} {s' : S} {new' : Sections} {part : List SectionRow} (e : Error E) → Begins frame rest f left →
         ((t : Tree) → InFrame t f → (part : List SectionRow) × Gains new new' part × StopsHooked asked adds old.ceiling last s t part e s') →
-        OwnTooLarge asked adds old.ceiling bytes s0 e ⊎ Refuses f e s' → GainsBefore asked adds bytes (s0, old) (s', new') e → GivesWoven asked adds bytes (s0, old) (s', new') (Err e)
-    section_refused {f = f} {left = left_behind} {s' = s'} {new' = new'} e there stops by gains = record {
+        OwnTooLarge asked adds old.ceiling bytes s0 e ⊎ Refuses f e s' → Gains new new' part → AddedThere asked adds old.ceiling last s rest e s' part →
+        GivesWoven asked adds bytes (s0, old) (s', new') (Err e)
+    section_refused {f = f} {left = left_behind} {s' = s'} {new' = new'} e there stops by gains stood = record {
       reading = λ t r. go t (read_ahead t r);
       readable = tt;
+      fits = tt;
       cause = why by;
-      gained = gains;
+      gained = gained gains stood;
     }
       where
         go : (t : Tree) → Ahead d.read rest t [] → StopsWoven asked adds old.ceiling (s0, old) t (s', new') e
@@ -582,7 +588,7 @@ module _ {S E : Type 0} (asked : Asks S E) (adds : Puts S SectionRow) where
 
         why : OwnTooLarge asked adds old.ceiling bytes s0 e ⊎ Refuses f e s' → IsWovenCause asked adds old.ceiling bytes s0 s' e
         why (inl own) = inr own
-        why (inr q) = inl (cause e q.0 q.1 q.2)
+        why (inr q) = inl (cause e q.0 q.1 q.2, fits_up_to stood)
 
     -- no section begins, though bytes are left: there is no reading
     no_reading : BeginsNone section rest → rest ≢ [] → (t : Tree) → CoreReading bytes t → ⊥
@@ -599,28 +605,32 @@ module _ {S E : Type 0} (asked : Asks S E) (adds : Puts S SectionRow) where
     }
 
     -- and so an error at the place
-    fault_behind : {s' : S} {new' : Sections} (at : ℕ) → BeginsNone section rest → rest ≢ [] → (InvalidCodeSize rest → ⊥) → at ≡ length bytes - length rest →
-        GainsBefore asked adds bytes (s0, old) (s', new') (ParseError (record { at = at })) → GivesWoven asked adds bytes (s0, old) (s', new') (Err (ParseError (record { at = at })))
-    fault_behind {s' = s'} {new' = new'} at none some other place gains = record {
+    fault_behind : {s' : S} {new' : Sections} {part : List SectionRow} (at : ℕ) → BeginsNone section rest → rest ≢ [] → (InvalidCodeSize rest → ⊥) → at ≡ length bytes - length rest →
+        Gains new new' part → AddedThere asked adds old.ceiling last s rest (ParseError (record { at = at })) s' part →
+        GivesWoven asked adds bytes (s0, old) (s', new') (Err (ParseError (record { at = at })))
+    fault_behind {s' = s'} {new' = new'} at none some other place gains stood = record {
       reading = λ t r. absurd (no_reading none some t r);
       readable = tt;
-      cause = inl (inr (d.read, rest, fault_here none some, other, place, d.made, last, s, d.accepts));
-      gained = gains;
+      fits = tt;
+      cause = inl (inr (d.read, rest, fault_here none some, other, place, d.made, last, s, d.accepts), fits_up_to stood);
+      gained = gained gains stood;
     }
 
     -- no frame begins
     pub no_frame : (f : Fault) (at : ℕ) → NoFrame f rest at → at ≡ length bytes - length rest →
         GivesWoven asked adds bytes (s0, old) (s, new) (Err (error_of_fault f))
     no_frame (fault.Read x) at h place =
-        fault_behind x.at (none_section h.1) h.2 h.3 (h.0 ∙ place) (gained (gains_none new) (AddedThere.unframed h.1 h.2 refl))
+        fault_behind x.at (none_section h.1) h.2 h.3 (h.0 ∙ place) (gains_none new) (AddedThere.unframed h.1 h.2 refl)
     no_frame fault.CodeSize at h place =
         let none = none_section h.0 in
         let some = code_size_some h.1 in
+        let stood : AddedThere asked adds old.ceiling last s rest InvalidCodeSectionSize s [] = AddedThere.unframed h.0 some refl in
         record {
           reading = λ t r. absurd (no_reading none some t r);
           readable = tt;
-          cause = inl (d.read, rest, fault_here none some, h.1, d.made, last, d.accepts);
-          gained = gained (gains_none new) (AddedThere.unframed h.0 some refl);
+          fits = tt;
+          cause = inl ((d.read, rest, fault_here none some, h.1, d.made, last, d.accepts), fits_up_to stood);
+          gained = gained (gains_none new) stood;
         }
     no_frame (fault.Header k) at h place = absurd h
     no_frame fault.NoMemory at h place = absurd h
@@ -629,7 +639,7 @@ module _ {S E : Type 0} (asked : Asks S E) (adds : Puts S SectionRow) where
     pub hook_refused : (k : SectionId) {left body : List ℕ} {s' : S} {new' : Sections} (e : Error E) → Begins frame rest (numbered_frame (number k) body) left →
         HookStops (asked s (Section last (Some k))) (adds s (Section last (Some k))) s' new new' e → GivesWoven asked adds bytes (s0, old) (s', new') (Err e)
     hook_refused k {left = left} {body = body} {s' = s'} {new' = new'} e there h =
-        section_refused e there stops (why h.3) (gained h.1 (AddedThere.hook k body left there (h.2, own_or_refused own (asked s (Section last (Some k))) e h.3)))
+        section_refused e there stops (why h.3) h.1 (AddedThere.hook k body left there (h.2, own_or_refused own (asked s (Section last (Some k))) e h.3))
       where
         own : List SectionRow
         own = adds s (Section last (Some k))
@@ -667,15 +677,19 @@ module _ {S E : Type 0} (asked : Asks S E) (adds : Puts S SectionRow) where
         own_gains : (w : Error E) → GivesFramed asked id f Stops (n, mid) (s', new') (Err w) → Gains new new' put.own
         own_gains w g = let P : Sections → Type 0 = λ z. Gains new z put.own in subst P (sym g.unchanged) put.gains
 
+        fitting : (size : ℕ) → ¬ HasTooLarge old.ceiling put.own size
+        fitting = let A : ℕ → Type 0 = λ z. AllFit z put.own in none_too_large (subst A (ap Sections.ceiling d.gains) put.fits)
+
         stops : (w : Error E) → GivesFramed asked id f Stops (n, mid) (s', new') (Err w) → (t : Tree) → InFrame t f →
             (part : List SectionRow) × Gains new new' part × StopsHooked asked adds old.ceiling last s t part w s'
         stops w g t i =
-            (put.own, own_gains w g, inr (n, reached.told t i, inl (sym (added_put put.there t i), walked w g t i)))
+            let own = added_put put.there t i in
+            let F : List SectionRow → Type 0 = λ z. (size : ℕ) → ¬ HasTooLarge old.ceiling z size in
+            (put.own, own_gains w g, inr (n, reached.told t i, inl (sym own, subst F (sym own) fitting, walked w g t i)))
 
         -- all that the hook added stands
-        gains : (w v : Error E) → GivesFramed asked id f Stops (n, mid) (s', new') (Err w) → ((t : Tree) → InFrame t f → v ≢ NoMemory → walk asked old.ceiling n t ≡ refused v s') →
-            GainsBefore asked adds bytes (s0, old) (s', new') v
-        gains w v g refuses = gained (own_gains w g) (AddedThere.section f left n reached.framed put.there refuses)
+        added_there : (v : Error E) → ((t : Tree) → InFrame t f → v ≢ NoMemory → walk asked old.ceiling n t ≡ refused v s') → AddedThere asked adds old.ceiling last s rest v s' put.own
+        added_there v refuses = AddedThere.section f left n reached.framed put.there fitting refuses
 
         -- what was refused inside it
         inside : (w : Error E) → GivesFramed asked id f Stops (n, mid) (s', new') (Err w) → IfRefused w (((t : Tree) × InFrame t f) ⊎ StopsThere asked old.ceiling rest last s w s')
@@ -688,12 +702,12 @@ module _ {S E : Type 0} (asked : Asks S E) (adds : Puts S SectionRow) where
         refuses : (w : Error E) → IfParse w (λ at. ⊥) → GivesFramed asked id f Stops (n, mid) (s', new') (Err w) → GivesWoven asked adds bytes (s0, old) (s', new') (Err w)
         refuses w usual g =
             section_refused w reached.framed (stops w g) (inr ((λ t i other. walk_refused asked old.ceiling last s n s' t w (reached.told t i) (walked w g t i other)), usual, inside w g))
-            (gains w w g (walked w g))
+            (own_gains w g) (added_there w (walked w g))
 
         go : (w : Error E) → GivesFramed asked id f Stops (n, mid) (s', new') (Err w) → GivesWoven asked adds bytes (s0, old) (s', new') (Err (placed_at w at))
         go (ParseError x) g =
             fault_behind at (none_in_frame reached.framed g.unreadable) (some_begun reached.framed) (code_size_other reached.framed) place
-            (gains (ParseError x) (ParseError (record { at = at })) g (λ t i. absurd (g.unreadable t i)))
+            (own_gains (ParseError x) g) (added_there (ParseError (record { at = at })) (λ t i. absurd (g.unreadable t i)))
         go (UserError x) g = refuses (UserError x) tt g
         go (TooLarge x) g = refuses (TooLarge x) tt g
         go NoMemory g = refuses NoMemory tt g
@@ -706,7 +720,7 @@ module _ {S E : Type 0} (asked : Asks S E) (adds : Puts S SectionRow) where
         GivesWoven asked adds bytes (s0, old) (s', new') (Err e)
     closing_refused k {left = left} {body = body} {n = n} {l = l} {s' = s'} {mid = mid} {held = held} {new' = new'} e there told fit g h =
         section_refused e there stops (why h.3)
-        (gained (part_gains t in_it) (AddedThere.closing k body left n t (g.reading t in_it).0 l (row t in_it) h.0 there told.0 in_it (walked t in_it) (g.reading t in_it).4 (h.2, by) refl))
+        (part_gains t in_it) (AddedThere.closing k body left n t (g.reading t in_it).0 l (row t in_it) h.0 there told.0 fitting in_it (walked t in_it) (g.reading t in_it).4 (h.2, by) refl)
       where
         t : Tree
         t = g.readable.0
@@ -824,12 +838,20 @@ module _ {S E : Type 0} (asked : Asks S E) (adds : Puts S SectionRow) where
         go t (same e empty) = (Tree.finish, e)
         go t (more u v left e b) = (Tree.also u v, e)
 
+    abbrev read_visits : List Visit
+    read_visits = visits (alsos d.read Tree.empty)
+
+    -- the visits of the sections so far, and of those behind them
+    visits_are : (others : Tree) → visits (alsos d.read others) ≡ read_visits ++ visits_from last others
+    visits_are others = visits_alsos None d.read others ∙ ap (λ (z : Option SectionId). read_visits ++ visits_from z others) (sym d.ends)
+
     -- the end
     pub sections_end : {s' : S} {new' : Sections} → rest ≡ [] → (asked s (Section last None) ≡ accepted 0 s') × Gains new new' (adds s (Section last None)) →
-        GivesWoven asked adds bytes (s0, old) (s', new') (Ok tt)
-    sections_end {s' = s'} {new' = new'} empty h = record {
+        AllFit new.ceiling (adds s (Section last None)) → GivesWoven asked adds bytes (s0, old) (s', new') (Ok tt)
+    sections_end {s' = s'} {new' = new'} empty h fit = record {
       reading = λ t r. go t (read_ahead t r);
       readable = (alsos d.read Tree.finish, record { rest = start; stands = reads; spells = all });
+      fits = λ t r. all_fit t (read_ahead t r);
       cause = tt;
       gained = tt;
     }
@@ -842,6 +864,15 @@ module _ {S E : Type 0} (asked : Asks S E) (adds : Puts S SectionRow) where
 
         own : List Tree
         own = added adds s (Section last None)
+
+        all_fit : (t : Tree) → Ahead d.read rest t [] → AddsFit asked adds old.ceiling s0 (visits t)
+        all_fit t (same f _) =
+            let P : List Visit → Type 0 = λ z. AddsFit asked adds old.ceiling s0 z in
+            let A : ℕ → Type 0 = λ z. AllFit z (adds s (Section last None)) in
+            let ran = (walk_is_run asked).forth old.ceiling s0 s (alsos d.read Tree.empty) (alsos d.made Tree.empty) (d.accepts Tree.empty) in
+            subst P (sym (ap visits f ∙ visits_are Tree.finish))
+            (fits_end asked adds old.ceiling ran.given read_visits (Section last None) ran.ran d.fits (subst A (ap Sections.ceiling d.gains) fit))
+        all_fit t (more u v left f b) = absurd (none_behind.none b.text left u b.spells (sym empty ∙ b.reads))
 
         go : (t : Tree) → Ahead d.read rest t [] → GivesWovenModule asked adds (s0, old) t (s', new') (Ok tt)
         go t (same f _) =
@@ -862,8 +893,9 @@ module _ {S E : Type 0} (asked : Asks S E) (adds : Puts S SectionRow) where
     end_refused {s' = s'} {new' = new'} e empty h = record {
       reading = λ t r. go t (read_ahead t r);
       readable = tt;
+      fits = tt;
       cause = why h.3;
-      gained = gained h.1 (AddedThere.at_end empty (h.2, by));
+      gained = gained h.1 there;
     }
       where
         own : List SectionRow
@@ -871,6 +903,9 @@ module _ {S E : Type 0} (asked : Asks S E) (adds : Puts S SectionRow) where
 
         by : e ≢ NoMemory → IsOwn old.ceiling own e ⊎ (asked s (Section last None) ≡ refused e s')
         by = own_or_refused own (asked s (Section last None)) e h.3
+
+        there : AddedThere asked adds old.ceiling last s rest e s' h.0
+        there = AddedThere.at_end empty (h.2, by)
 
         go : (t : Tree) → Ahead d.read rest t [] → StopsWoven asked adds old.ceiling (s0, old) t (s', new') e
         go t (same f _) = stopped e s' new' t Tree.finish h.0 f h.1 (h.2, by)
@@ -891,16 +926,9 @@ module _ {S E : Type 0} (asked : Asks S E) (adds : Puts S SectionRow) where
 
         why : IsOwn new.ceiling own e ⊎ ((e ≢ NoMemory → asked s (Section last None) ≡ refused e s') × IfParse e (λ at. ⊥)) → IsWovenCause asked adds old.ceiling bytes s0 s' e
         why (inl x) = inr (own_large {e = e} (inl (empty, own_under own e x)))
-        why (inr q) = inl (cause e q.1)
+        why (inr q) = inl (cause e q.1, fits_up_to there)
 
     -- ---- the visits that were made
-
-    abbrev read_visits : List Visit
-    read_visits = visits (alsos d.read Tree.empty)
-
-    -- the visits of the sections so far, and of those behind them
-    visits_are : (others : Tree) → visits (alsos d.read others) ≡ read_visits ++ visits_from last others
-    visits_are others = visits_alsos None d.read others ∙ ap (λ (z : Option SectionId). read_visits ++ visits_from z others) (sym d.ends)
 
     -- these visits were made behind them
     pub core_leaves : {m : S} (e : Error E) (mid : List Visit) → EndsBy asked s mid e m → Drawn rest mid → (rest ≡ [] → IsFront mid (Section last None ∷ [])) →
@@ -1011,13 +1039,18 @@ module _ {S E : Type 0} (asked : Asks S E) (adds : Puts S SectionRow) where
   header_wrong {bytes = bytes} s old (fault.Header kinds.Component) there = record {
     reading = λ t r. absurd (let e : core_header ++ r.rest ≡ component_header ++ there.0 = sym r.stands ∙ there.1 in cc);
     readable = tt;
-    cause = inl (there.0, there.1, refl);
-    gained = inl ((λ rest stands. let e : core_header ++ rest ≡ component_header ++ there.0 = sym stands ∙ there.1 in cc), refl);
+    fits = tt;
+    cause = inl ((there.0, there.1, refl), λ other. inl never);
+    gained = inl (never, refl);
   }
+    where
+      never : (rest : List ℕ) → bytes ≡ core_header ++ rest → ⊥
+      never rest stands = let e : core_header ++ rest ≡ component_header ++ there.0 = sym stands ∙ there.1 in cc
   header_wrong s old (fault.Read x) none = record {
     reading = λ t r. absurd ((none.1 r.rest).0 r.stands);
     readable = tt;
-    cause = inl (inl (none.1, none.0, refl));
+    fits = tt;
+    cause = inl (inl (none.1, none.0, refl), λ other. inl (λ rest. (none.1 rest).0));
     gained = inl ((λ rest. (none.1 rest).0), refl);
   }
   header_wrong s old (fault.Header kinds.Module) none = absurd none
@@ -1035,9 +1068,9 @@ no_header fault.NoMemory none rest stands = none
 -- the section hook at the end
 pub end_given : {S E : Type 0} (reply : S → Visit → Result ℕ E) (next : S → Visit → S) (adds : Puts S SectionRow) {start bytes rest : List ℕ} {s0 s : S} {old new : Sections} {last : Option SectionId} →
     bytes ≡ core_header ++ start → SectionsDone (ask reply next) adds start s0 old rest last s new → rest ≡ [] → (s' : S) (new' : Sections) (r : Result (Unit {0}) (Error E)) →
-    RepliesSection reply next adds s s' new new' (Section last None) r → GivesWoven (ask reply next) adds bytes (s0, old) (s', new') r
-end_given reply next adds {s = s} {new = new} {last = last} reads d empty s' new' (Ok u) h = sections_end (ask reply next) adds reads d empty h
-end_given reply next adds {s = s} {new = new} {last = last} reads d empty s' new' (Err e) h =
+    RepliesSection reply next adds s s' new new' (Section last None) r → OnOk r (AllFit new.ceiling (adds s (Section last None))) → GivesWoven (ask reply next) adds bytes (s0, old) (s', new') r
+end_given reply next adds {s = s} {new = new} {last = last} reads d empty s' new' (Ok u) h fit = sections_end (ask reply next) adds reads d empty h fit
+end_given reply next adds {s = s} {new = new} {last = last} reads d empty s' new' (Err e) h fit =
     end_refused (ask reply next) adds reads d e empty (hook_stops reply next adds s s' new new' (Section last None) e h)
 
 pub end_left : {S E : Type 0} (reply : S → Visit → Result ℕ E) (next : S → Visit → S) (adds : Puts S SectionRow) {sure nothing : Bool} → KeepsAdds adds nothing →

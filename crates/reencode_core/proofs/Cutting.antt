@@ -109,7 +109,7 @@ kept_bytes {input} {made} {front} {last} {size} {cs} head c p e =
     ∙ append_assoc (cut_bytes input (drop front made) cs) head (slice_range input c.start c.end)
 
 pub kept_is : {input made : List ℕ} {front last size : ℕ} {cs : List Cut} (head : List ℕ) (c : Cut) (last' size' : ℕ) → AreCut input made front last size cs →
-    last + c.made ≡ length (made ++ head) → 0 < length head → c.start ≤ c.end → c.end ≤ length input → last' ≡ last + c.made → size' ≡ (size + length head) + (c.end - c.start) →
+    last + c.made ≡ length (made ++ head) → 0 < length head → c.start < c.end → c.end ≤ length input → last' ≡ last + c.made → size' ≡ (size + length head) + (c.end - c.start) →
     AreCut input (made ++ head) front last' size' (cs ++ c ∷ [])
 kept_is {input} {made} {front} {last} {size} {cs} head c last' size' p e some ordered within f g =
     let a = p.placed in
@@ -117,7 +117,7 @@ kept_is {input} {made} {front} {last} {size} {cs} head c last' size' p e some or
     let s = p.sized in
     let h = length-append made head in
     let m = made_both cs (c ∷ []) in
-    let r = range_len input c.start c.end ordered within in
+    let r = range_len input c.start c.end (omega (arith, ordered)) within in
     let whole = ap length (kept_bytes head c p e) ∙ length-append (cut_bytes input (drop front made) cs) (head ++ slice_range input c.start c.end) in
     let more = length-append head (slice_range input c.start c.end) in
     record {
@@ -194,7 +194,7 @@ within_last n (b ∷ made) = (tt, tt)
 
 pub within_pieces : (n : ℕ) (made : List ℕ) (cs : List Cut) → AreCuts n cs → AreWithin n (cut_pieces made cs)
 within_pieces n made [] p = within_last n made
-within_pieces n made (c ∷ cs) p = (tt, (p.0.1, within_pieces n (drop c.made made) cs p.1))
+within_pieces n made (c ∷ cs) p = let some = p.0.1.0 in (tt, ((omega (arith, some), p.0.1.1), within_pieces n (drop c.made made) cs p.1))
 
 alternate_last : (made : List ℕ) → Alternate (last_made made)
 alternate_last [] = tt
@@ -210,7 +210,7 @@ pub alternate_pieces : (n : ℕ) (made : List ℕ) (cs : List Cut) → AreCuts n
 alternate_pieces n made [] p short = alternate_last made
 alternate_pieces n made (c ∷ cs) p short =
     let l = length-drop c.made made in
-    (some_taken made c.made p.0.0 (omega (arith, short)), alternate_pieces n (drop c.made made) cs p.1 (omega (arith, short, l)))
+    (some_taken made c.made p.0.0 (omega (arith, short)), p.0.1.0, alternate_pieces n (drop c.made made) cs p.1 (omega (arith, short, l)))
 
 -- how many bytes pieces within an input have
 pub total_joined : (input : List ℕ) (ps : List Piece) → AreWithin (length input) ps → total ps ≡ length (joined input ps)
@@ -227,7 +227,7 @@ total_joined input (Made bytes ∷ ps) p =
 
 -- ---- the ranges cut in from the last on
 
-cuts_split : (n : ℕ) (cs : List Cut) (c : Cut) → AreCuts n (cs ++ c ∷ []) → AreCuts n cs × ((0 < c.made) × ((c.start ≤ c.end) × (c.end ≤ n)))
+cuts_split : (n : ℕ) (cs : List Cut) (c : Cut) → AreCuts n (cs ++ c ∷ []) → AreCuts n cs × ((0 < c.made) × ((c.start < c.end) × (c.end ≤ n)))
 cuts_split n [] c p = (tt, p.0)
 cuts_split n (d ∷ cs) c p = let r = cuts_split n cs c p.1 in ((p.0, r.0), r.1)
 
@@ -336,7 +336,8 @@ pub last_fits : {input out whole : List ℕ} {from to : ℕ} (cs : List Cut) (c 
 last_fits {input} {out} {whole} {from} {to} cs c p =
     let q = cuts_split (length input) cs c p.cuts_are in
     let s = last_len cs c p in
-    record { made = s.0; ordered = q.1.1.0; within = q.1.1.1; apart = omega (arith, s.0, s.1, s.2) }
+    let some = q.1.1.0 in
+    record { made = s.0; ordered = omega (arith, some); within = q.1.1.1; apart = omega (arith, s.0, s.1, s.2) }
 
 -- the last range is in its place, and the made bytes in front of it
 pub left_more : {input out whole : List ℕ} {from to : ℕ} (cs : List Cut) (c : Cut) → AreLeft input out whole from to (cs ++ c ∷ []) →

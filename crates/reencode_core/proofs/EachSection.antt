@@ -282,7 +282,7 @@ module _ {S E : Type 0} (i : Ghosts S E) where
     pub core_ended : {n : S} {mid : Sections} → reader.rest ≡ [] → (r : Result (Unit {0}) (Error E)) → HookClauses i s n new mid (Section last None) r → CoreClauses i bytes s0 old n mid r
     core_ended {n = n} {mid = mid} empty r hook =
         core_clauses keeps r (keeps_more old new mid inv.kept (hook_keeps i.reply i.next i.adds s n new mid (Section last None) r hook.answer))
-        (λ d. end_given i.reply i.next i.adds header.stands (inv.done d) empty n mid r hook.answer)
+        (λ d. end_given i.reply i.next i.adds header.stands (inv.done d) empty n mid r hook.answer hook.fits)
         (λ d. end_left i.reply i.next i.adds keeps header.stands (inv.done d) empty n mid r hook.answer hook.sure) headed
 
 -- ---- the same with what the module holds

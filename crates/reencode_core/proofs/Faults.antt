@@ -112,9 +112,9 @@ module _ {S E : Type 0} (reply : S → Visit → Result ℕ E) (next : S → Vis
       go : AddedThere (ask reply next) adds c g.front.last g.front.at g.front.rest e after.0 g.part → ⊥
       go (AddedThere.at_end empty h) = none_behind.none b.text left t b.spells (sym empty ∙ b.reads)
       go (AddedThere.hook k body others framed h) = hook_never g.front.at (adds g.front.at (Section g.front.last (Some k))) (Section g.front.last (Some k)) h.1
-      go (AddedThere.section f others n framed told refuses) =
+      go (AddedThere.section f others n framed told fits refuses) =
           never (usual_walk reply next c None n t b.text b.spells.spelled) (refuses t (frame_there framed b) (not_wanting e tells))
-      go (AddedThere.closing k body others n u made l row added framed told there walked spelled h parts) = hook_never l (adds l (Closed k)) (Closed k) h.1
+      go (AddedThere.closing k body others n u made l row added framed told fits there walked spelled h parts) = hook_never l (adds l (Closed k)) (Closed k) h.1
       go (AddedThere.unframed none some empty) = (none_section none).none b.text left t b.spells b.reads
 
   pub fault_gains : (read : List Tree) (rest : List ℕ) → FaultAt bytes read rest → (g.front.read ≡ read) × (g.front.rest ≡ rest)

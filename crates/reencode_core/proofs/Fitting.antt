@@ -90,8 +90,14 @@ module _ {S E : Type 0} (asked : Asks S E) (adds : Puts S SectionRow) (c : ℕ) 
   abbrev Fits : S → Visit → Type 0
   Fits m v = (size : ℕ) → ¬ HasTooLarge c (adds m v) size
 
+  pub fits_none : (s : S) (xs : List Visit) → section_visits xs ≡ [] → AddsFit asked adds c s xs
+  fits_none s xs none = at_none asked Fits s xs none
+
+  pub fits_both : (s n : S) (told : List ℕ) (xs ys : List Visit) → run asked s xs ≡ accepted told n → AddsFit asked adds c s xs → AddsFit asked adds c n ys → AddsFit asked adds c s (xs ++ ys)
+  fits_both s n told xs ys ran first behind = at_both asked Fits s n told xs ys ran first behind
+
   pub fits_begin : (s : S) → AddsFit asked adds c s []
-  fits_begin s = at_none asked Fits s [] refl
+  fits_begin s = fits_none s [] refl
 
   hook_fits : {visit : SectionId → Visit} {told : Tree → List Visit} {s n : S} {f : Tree} {own : List SectionRow} → AreTold visit told → AddedAt asked adds visit s f n own → AllFit c own → (t : Tree) → InFrame t f →
       AddsFit asked adds c s (told t)
@@ -110,3 +116,7 @@ module _ {S E : Type 0} (asked : Asks S E) (adds : Puts S SectionRow) (c : ℕ) 
       at_both asked Fits n l inside (visits t) (behind t ++ []) walked (at_none asked Fits n (visits t) (within x t p)) (subst Q (sym (append-nil (behind t))) (hook_fits told_behind closed fits t i)) in
       at_both asked Fits s0 s given vs (before last t ++ (visits t ++ (behind t ++ []))) ran so_far
       (at_both asked Fits s n b.0 (before last t) (visits t ++ (behind t ++ [])) b.1 (hook_fits (told_before last) hooked fit t i) own)
+
+  -- and the visit of the hook at the end
+  pub fits_end : {s0 s : S} (given : List ℕ) (vs : List Visit) (v : Visit) → run asked s0 vs ≡ accepted given s → AddsFit asked adds c s0 vs → AllFit c (adds s v) → AddsFit asked adds c s0 (vs ++ v ∷ [])
+  fits_end {s0 = s0} {s = s} given vs v ran so_far fit = at_both asked Fits s0 s given vs (v ∷ []) ran so_far (at_one asked Fits s v (none_too_large fit))

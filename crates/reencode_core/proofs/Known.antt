@@ -1,21 +1,14 @@
 -- Sections by their kind.
-use Rattle.std.proofs.Common.{◌≡◌, ◌≢◌, ℕ, ◌≤◌, ◌<◌, List, [], ◌++◌, length, Bool, true, false, nat_le, if◌then◌else◌, Option, Some, Result, Ok, Err, refl, sym, ap, ◌∙◌, append-nil, arith, subst}
+use Rattle.std.proofs.Common.{◌≡◌, ◌≢◌, ℕ, ◌≤◌, ◌<◌, List, [], ◌++◌, length, Bool, true, false, nat_le, if◌then◌else◌, Option, Some, Result, Ok, Err, refl, sym, ap, ◌∙◌, append-nil, arith}
 use Rattle.std.proofs.lemmas.Bool.{le-leb, leb-true}
-use Rattle.std.proofs.lemmas.List.{append_cancel_left}
-use Rattle.wasm_leb.specs.Place.{BeginsNumber}
-use Rattle.wasm_leb.proofs.Unique.{unsigned_unique}
 use Rattle.wasm_shapes.specs.declared.SectionId.{SectionId}
 use Rattle.wasm_shapes.specs.declared.Visit.{Visit}
 use Rattle.wasm_shapes.specs.declared.Visit.TheVariants.{Section, Closed}
-use Rattle.wasm_shapes.specs.Tree.{Tree, normal, count, kind, visits}
-use Rattle.wasm_shapes.specs.Shape.{Shape}
-use Rattle.wasm_shapes.specs.Spells.{Is, Spelled, Spells}
+use Rattle.wasm_shapes.specs.Tree.{Tree, normal, kind, visits}
 use Rattle.wasm_shapes.specs.Place.{Begins, BeginsNone}
-use Rattle.wasm_shapes.specs.Rows.{RowsLeft}
 use Rattle.wasm_shapes.specs.Module.{frame, tree_of}
 use Rattle.wasm_shapes.specs.SectionTable.{number}
 use Rattle.wasm_shapes.proofs.Begins.{none_at_end}
-use Rattle.wasm_read.specs.Frames.{numbered_frame}
 use Rattle.wasm_write.specs.Sections.{Sections, SectionRow, section_row, section_bytes}
 use Rattle.reencode_hooks.specs.Hooks.{Gains, RepliesSection}
 use Rattle.reencode_hooks.specs.declared.error.Error.{Error}
@@ -70,33 +63,9 @@ module _ (k : SectionId) where
 
 -- ---- frames
 
--- the id of a frame with a number
-pub frame_id : {id : ℕ} {bytes body left : List ℕ} → Begins frame bytes (numbered_frame id body) left → (1 ≤ id) × (id ≤ 127)
-frame_id {id = id} {body = body} there = go _ there.spells.shaped refl
-  where
-    go : (f : Tree) → Is frame f → f ≡ numbered_frame id body → (1 ≤ id) × (id ≤ 127)
-    go f (Is.first (Is.seq {t = t} {u = u} d d')) e = absurd (let apart : Tree.row 0 (Tree.pair t u) ≡ numbered_frame id body = e in cc)
-    go f (Is.later (Is.first (Is.seq (Is.within {b = b} low high) (Is.sized Is.rest)))) e = let same : b ≡ id = cc in (omega (arith, same, low), omega (arith, same, high))
-    go f (Is.later (Is.later d)) e = elim d [ ]
-
 pub some_begun : {t : Tree} {bytes left : List ℕ} → Begins frame bytes t left → bytes ≢ []
 some_begun {t = t} {left = left} there empty =
     let none : BeginsNone frame [] = none_at_end refl in none.none there.text left t there.spells (sym empty ∙ there.reads)
-
--- ---- a vector's rows are what stands behind its count
-
-pub vec_is : {s : Shape} {n : ℕ} {body start : List ℕ} → BeginsNumber 128 32 32 body n start → (tree : Tree) → Spells (Shape.vec s) body tree →
-    (rows : Tree) × (tree ≡ Tree.vec rows) × RowsLeft s n start rows
-vec_is {s = s} {n = n} {body = body} {start = start} there tree p = go tree p.shaped p.spelled
-  where
-    go : (tree : Tree) → Is (Shape.vec s) tree → Spelled tree body → (rows : Tree) × (tree ≡ Tree.vec rows) × RowsLeft s n start rows
-    go tree (Is.vec {t = t} d) q =
-        let both_ways : there.0 ++ start ≡ q.0 ++ q.1 = sym there.2 ∙ q.2 in
-        let same : (there.0 ≡ q.0) × (n ≡ count t) = unsigned_unique start q.1 there.1 q.3 both_ways in
-        let shifted : q.0 ++ start ≡ q.0 ++ q.1 = ap (λ (z : List ℕ). z ++ start) (sym same.0) ∙ both_ways in
-        let behind : start ≡ q.1 = append_cancel_left q.0 start q.1 shifted in
-        let P : List ℕ → Type 0 = λ z. Spelled t z in
-        (t, refl, record { shaped = d; counted = sym same.1; spelled = subst P (sym behind) q.4 })
 
 -- ---- modules
 

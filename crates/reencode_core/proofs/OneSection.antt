@@ -13,7 +13,7 @@ use Rattle.wasm_shapes.specs.Tree.{Tree, count, normal}
 use Rattle.wasm_shapes.specs.Shape.{Shape}
 use Rattle.wasm_shapes.specs.Spells.{Is, Spelled, Spells}
 use Rattle.wasm_shapes.specs.Rows.{RowsLeft, rows_then}
-use Rattle.wasm_shapes.proofs.Rows.{vec_spelled, vec_counted}
+use Rattle.wasm_shapes.proofs.Rows.{vec_spelled, vec_counted, vec_is}
 use Rattle.wasm_read.specs.Reading.{Standing, CountRead, ReadsNone}
 use Rattle.wasm_shapes.specs.Module.{body_of, row_of, tree_of}
 use Rattle.wasm_shapes.specs.SectionTable.{number}
@@ -31,7 +31,7 @@ use Rattle.reencode_core.specs.Errors.{IfParse}
 use Rattle.reencode_core.specs.Rows.{Asks, onto_rows, AcceptedHooks, TooMany, RefusesFirst, RefusesInside, RefusesRow, RefusesWhole, StopsAtRow, StopsDue, StopsRows, GivesRows}
 use Rattle.reencode_core.specs.Sections.{HasItem, HasRows, LeftBehind, NoItem, ReadsAs, RowsFaultIn, BodyFault, GivesSection}
 use Rattle.reencode_core.proofs.Usual.{IfParse-map, IfRefused-map, unless_wanting, fault_unrefused, write_usual}
-use Rattle.reencode_core.proofs.Known.{vec_is, section_spelled, section_refuses, section_fits, section_large}
+use Rattle.reencode_core.proofs.Known.{section_spelled, section_refuses, section_fits, section_large}
 
 -- ---- a body that is accepted
 

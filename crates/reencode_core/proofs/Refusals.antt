@@ -125,19 +125,19 @@ module _ {S E : Type 0} (asked : Asks S E) (adds : Puts S SectionRow) (c : ℕ) 
   told A (UserError x) unasked h = absurd (unasked x refl)
   told A (TooLarge x) unasked h = tt
   told A NoMemory unasked h = tt
-  told A (ParseError x) unasked (inl h) = caused (ParseError x) h
+  told A (ParseError x) unasked (inl h) = caused (ParseError x) h.0
   told A (ParseError x) unasked (inr o) = absurd (own (ParseError x) (λ own h. h) o)
-  told A InvalidCodeSectionSize unasked (inl h) = caused InvalidCodeSectionSize h
+  told A InvalidCodeSectionSize unasked (inl h) = caused InvalidCodeSectionSize h.0
   told A InvalidCodeSectionSize unasked (inr o) = absurd (own InvalidCodeSectionSize (λ own h. h) o)
-  told A UnexpectedNonCoreModuleSection unasked (inl h) = caused UnexpectedNonCoreModuleSection h
+  told A UnexpectedNonCoreModuleSection unasked (inl h) = caused UnexpectedNonCoreModuleSection h.0
   told A UnexpectedNonCoreModuleSection unasked (inr o) = own UnexpectedNonCoreModuleSection (λ own h. h) o
-  told A CanonicalizedHeapTypeReference unasked (inl h) = h
+  told A CanonicalizedHeapTypeReference unasked (inl h) = h.0
   told A CanonicalizedHeapTypeReference unasked (inr o) = own CanonicalizedHeapTypeReference (λ own h. h) o
-  told A InvalidConstExpr unasked (inl h) = h
+  told A InvalidConstExpr unasked (inl h) = h.0
   told A InvalidConstExpr unasked (inr o) = own InvalidConstExpr (λ own h. h) o
-  told A UnexpectedNonComponentSection unasked (inl h) = h
+  told A UnexpectedNonComponentSection unasked (inl h) = h.0
   told A UnexpectedNonComponentSection unasked (inr o) = own UnexpectedNonComponentSection (λ own h. h) o
-  told A UnsupportedCoreTypeInComponent unasked (inl h) = h
+  told A UnsupportedCoreTypeInComponent unasked (inl h) = h.0
   told A UnsupportedCoreTypeInComponent unasked (inr o) = own UnsupportedCoreTypeInComponent (λ own h. h) o
 
   -- the same of what a call answers, where bytes with a fault have no reading and no refusal comes

@@ -1,5 +1,5 @@
 -- The loop over the sections of a module in pieces, where the section hooks are called with a module of their own.
-use Rattle.std.proofs.Common.{◌≡◌, inl, inr, ℕ, List, [], ◌∷◌, ◌++◌, Option, Some, None, Result, Ok, Err, IsErrAnd, IsTrue, refl, sym, subst}
+use Rattle.std.proofs.Common.{◌≡◌, inl, inr, ℕ, List, [], ◌∷◌, ◌++◌, Option, Some, None, Result, Ok, Err, IsErrAnd, OnOk, IsTrue, refl, sym, subst}
 use Rattle.wasm_shapes.specs.declared.SectionId.{SectionId}
 use Rattle.wasm_shapes.specs.declared.Visit.{Visit}
 use Rattle.wasm_shapes.specs.declared.Visit.TheVariants.{Section, Closed}
@@ -96,9 +96,9 @@ module _ {S E : Type 0} (i : Ghosts S E) where
 
     -- the hook at the end
     pub between_ended : {n : S} {mid : Sections} → reader.rest ≡ [] → (r : Result (Unit {0}) (Error E)) → RepliesSection i.reply i.next i.adds s n new mid (Section last None) r →
-        LeavesHook i.sure i.adds_nothing (asks i) s n (Section last None) r → CoreClauses i bytes s0 old n mid r
-    between_ended {n = n} {mid = mid} empty r answer leaves =
-        let woven = λ (d : IsTrue i.keeps_defaults). end_given i.reply i.next i.adds header.stands (inv.done d) empty n mid r answer in record {
+        LeavesHook i.sure i.adds_nothing (asks i) s n (Section last None) r → OnOk r (AllFit new.ceiling (i.adds s (Section last None))) → CoreClauses i bytes s0 old n mid r
+    between_ended {n = n} {mid = mid} empty r answer leaves fits =
+        let woven = λ (d : IsTrue i.keeps_defaults). end_given i.reply i.next i.adds header.stands (inv.done d) empty n mid r answer fits in record {
           kept = keeps_more old new mid inv.kept (hook_keeps i.reply i.next i.adds s n new mid (Section last None) r answer);
           default = λ d none. core_given (asks i) i.adds (added_none keeps none) bytes (s0, old) (n, mid) r (woven d);
           woven = woven;

@@ -2,7 +2,7 @@
 use Rattle.std.proofs.Common.{◌≡◌, ◌≢◌, ℕ, List, [], ◌∷◌, ◌++◌, Option, None, Ok, Err, refl, sym, ap, ◌∙◌, subst, append_assoc, ◌⊎◌, inl, inr}
 use Rattle.wasm_shapes.specs.declared.SectionId.{SectionId}
 use Rattle.wasm_shapes.specs.declared.Visit.TheVariants.{Section}
-use Rattle.wasm_shapes.specs.Tree.{Tree}
+use Rattle.wasm_shapes.specs.Tree.{Tree, visits}
 use Rattle.wasm_shapes.specs.Spells.{Is, Spelled, Spells}
 use Rattle.wasm_shapes.specs.Place.{Begins}
 use Rattle.wasm_shapes.specs.Module.{core_header, core_tree, sections, section, alsos, frame, tree_of, InFrame, CoreReading}
@@ -17,7 +17,7 @@ use Rattle.reencode_hooks.specs.Walk.{announced, followed, walk}
 use Rattle.reencode_core.specs.Rows.{Asks}
 use Rattle.reencode_core.specs.Core.{onto}
 use Rattle.reencode_core.specs.Weave.{Puts, added, put_before, put_behind, weave, weave_from}
-use Rattle.reencode_core.specs.Woven.{IsOwn, OwnNext, OwnTooLarge, IsWovenCause, StopsNext, StopsWoven, GivesWoven, GivesWovenBytes}
+use Rattle.reencode_core.specs.Woven.{AddsFit, IsOwn, OwnNext, OwnTooLarge, IsWovenCause, StopsNext, StopsWoven, GivesWoven, GivesWovenBytes}
 use Rattle.reencode_core.proofs.AddsNothing.{none_own}
 
 -- ---- sections in two parts
@@ -140,7 +140,7 @@ module _ {S E : Type 0} (asked : Asks S E) (adds : Puts S SectionRow) where
       go : (u : Tree) → t ≡ alsos g.read u → StopsNext asked adds c g.last g.at u g.part e m → OwnTooLarge asked adds c bytes s e ⊎ (weave asked (added adds) c s t ≡ refused e m)
       go (Tree.also v others) is (inl h) =
           hook (Tree.also v others) (put_before adds g.at g.last v) (announced asked g.at g.last v) is (λ x z p. own_next c g.last g.at v others z e p x) (λ step. rw step refl) (h.1 other)
-      go (Tree.also v others) is (inr (n, told, inl h)) = inr (refuses (Tree.also v others) is (rw (told, h.1 other) refl))
+      go (Tree.also v others) is (inr (n, told, inl h)) = inr (refuses (Tree.also v others) is (rw (told, h.2 other) refl))
       go (Tree.also v others) is (inr (n, told, inr h)) =
           hook (Tree.also v others) (put_behind adds h.1 v) (followed asked h.1 v) is (λ x z p. behind_next c g.last g.at n h.1 v others h.0 z e p told h.7 h.4 x) (λ step. rw (told, h.4, step) refl) (h.8.1 other)
       go Tree.finish is h =
@@ -168,6 +168,11 @@ module _ {S E : Type 0} (asked : Asks S E) (adds : Puts S SectionRow) where
           spelled ∙ ap (λ (z : List SectionRow). core_header ++ sections_bytes z) rows ∙ ap (λ (z : List ℕ). core_header ++ z) q.4,
         );
     readable = (core_tree g.readable.0, module_headed.forth bytes g.readable.0 g.readable.1);
+    fits = λ t p.
+        let r = module_headed.back bytes t p in
+        let P : Tree → Type 0 = λ z. AddsFit asked adds c s (visits z) in
+        let Q : ℕ → Type 0 = λ n. AddsFit asked adds n s (visits r.0) in
+        subst P (sym r.1) (subst Q (ap Sections.ceiling fresh) (g.fits r.0 r.2));
     cause = tt;
   }
 
@@ -181,6 +186,7 @@ module _ {S E : Type 0} (asked : Asks S E) (adds : Puts S SectionRow) where
             let Q : ℕ → Type 0 = λ n. OwnTooLarge asked adds n bytes s e ⊎ (weave asked (added adds) n s r.0 ≡ refused e s') in
             at_bytes t r.0 r.1 (subst Q ceiling (sections_stopped old.ceiling s s' bytes r.0 old new e r.2 (g.reading r.0 r.2) other));
         readable = tt;
+        fits = tt;
         cause = subst P ceiling g.cause;
       }
     where
@@ -191,4 +197,4 @@ module _ {S E : Type 0} (asked : Asks S E) (adds : Puts S SectionRow) where
 
   -- memory runs out, and of that nothing is said
   pub bytes_wanting : {A : Type 0} (bytes : List ℕ) (c : ℕ) (s s' : S) (view : A → List ℕ) → GivesWovenBytes asked adds c bytes s s' (Err NoMemory) view
-  bytes_wanting bytes c s s' view = record { reading = λ t p other. absurd (other refl); readable = tt; cause = inl tt }
+  bytes_wanting bytes c s s' view = record { reading = λ t p other. absurd (other refl); readable = tt; fits = tt; cause = inl (tt, λ other. absurd (other refl)) }

@@ -99,8 +99,8 @@ CodeSizeThere asked c bytes s m =
     (before : List Tree) × (rest : List ℕ) × FaultAt bytes before rest × InvalidCodeSize rest
     × (made : List Tree) × (last : Option SectionId) × AcceptsSections asked c s before made last m
 
--- A section that has no reading stands there in its frame. The section hook before it is refused; or that is accepted, and a
--- row of the section is refused.
+-- A section that has no reading stands there in its frame. The section hook before it is refused; or that is accepted, and a row of
+-- the section is refused, or a part of a function body that stands in its frame.
 pub record StopsInside {S E : Type 0} (asked : Asks S E) (c : ℕ) (bytes : List ℕ) (last : Option SectionId) (s : S) (e : Error E) (m : S) : Type 0 where
   pub id : SectionId
   pub body : List ℕ
@@ -109,7 +109,8 @@ pub record StopsInside {S E : Type 0} (asked : Asks S E) (c : ℕ) (bytes : List
   pub stops : (asked s (Section last (Some id)) ≡ refused e m)
       ⊎ ((n : S) × (asked s (Section last (Some id)) ≡ accepted 0 n) × StopsSection asked c id body n e m)
 
--- A section that has no reading stands there in its frame, and what stands whole in it is refused, or the section hook before it.
+-- A section that has no reading stands there in its frame, and the section hook before it is refused, or what stands whole in it is: a
+-- row, a part of a function body, or of a name section a subsection or an entry of one.
 abbrev pub StopsThere : {S E : Type 0} → Asks S E → ℕ → List ℕ → Option SectionId → S → Error E → S → Type 0
 StopsThere asked c bytes last s e m = StopsInside asked c bytes last s e m ⊎ StopsInNames asked c bytes s e m
 

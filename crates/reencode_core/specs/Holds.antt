@@ -62,9 +62,9 @@ pub record FrameLeaves {S E : Type 0} (asked : Asks S E) (bytes : List ℕ) (f :
   pub drawn : Drawn bytes made
   pub reading : (t : Tree) → InFrame t f → IsFront made (visits t)
 
--- Sections stand behind the header and were accepted, and what they became was added, with what the section hook adds before each; the
--- next one stands in its frame, all that the hook adds before it was added, and no more, and the section was asked in part. Of a reading
--- they are the first sections.
+-- Sections stand behind the header and were accepted, and what they became was added, with what the section hook adds before each and
+-- the closing hook behind it; the next one stands in its frame, all that the section hook adds before it was added, and no more, and
+-- that section was asked in part. Of a reading they are the first sections.
 pub record HoldsSections {S E : Type 0} (asked : Asks S E) (adds : Puts S SectionRow) (c : ℕ) (bytes : List ℕ) (before after : S × Sections) : Type 0 where
   pub front : WovenFront asked adds c bytes before.0
   pub parts : (t : Tree) → CoreReading bytes t → (others : Tree) × (t ≡ alsos front.read others)

@@ -77,8 +77,8 @@ abbrev pub IsSize : {E : Type 0} → Error E → Type 0
 IsSize (TooLarge _) = Unit {0}
 IsSize _ = ⊥
 
--- The same of a module. Where its section hook adds, nothing is said of a size that is too large, which may be that of a section of the
--- hook's own.
+-- The same of a module. Where the section hook or the closing hook adds, nothing is said of a size that is too large, which may be that
+-- of a section of a hook's own.
 abbrev pub LeavesCore : {S E A : Type 0} → Bool → Bool → Asks S E → Text → S → S → Result A (Error E) → Type 0
 LeavesCore sure nothing asked text s m result = IfErr result (λ e. (e ≡ NoMemory → IsTrue sure) → (IsSize e → IsTrue nothing) → Leaves asked text s e m)
 

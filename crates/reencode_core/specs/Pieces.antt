@@ -54,7 +54,7 @@ Alternate [] = Unit {0}
 Alternate (Kept start end ∷ ps) = ⊥
 Alternate (Made bytes ∷ []) = bytes ≢ []
 Alternate (Made bytes ∷ Made more ∷ ps) = ⊥
-Alternate (Made bytes ∷ Kept start end ∷ ps) = (bytes ≢ []) × Alternate ps
+Alternate (Made bytes ∷ Kept start end ∷ ps) = (bytes ≢ []) × (start < end) × Alternate ps
 
 -- ---- pieces under construction
 
@@ -96,10 +96,10 @@ abbrev pub cut_made : List Cut → ℕ
 cut_made [] = 0
 cut_made (c ∷ cs) = c.made + cut_made cs
 
--- Each range lies within an input of so many bytes, and has made bytes in front of it.
+-- Each range lies within an input of so many bytes, is not empty, and has made bytes in front of it.
 abbrev pub AreCuts : ℕ → List Cut → Type 0
 AreCuts len [] = Unit {0}
-AreCuts len (c ∷ cs) = ((0 < c.made) × ((c.start ≤ c.end) × (c.end ≤ len))) × AreCuts len cs
+AreCuts len (c ∷ cs) = ((0 < c.made) × ((c.start < c.end) × (c.end ≤ len))) × AreCuts len cs
 
 -- with so many made bytes more in front of the first range
 abbrev pub raised : ℕ → List Cut → List Cut

@@ -1,5 +1,5 @@
 -- What the calls that map a whole core module give, where the section hook and the closing hook may add sections.
-use Rattle.std.specs.Prelude.{◌≡◌, ◌≢◌, ◌⊎◌, ◌≤◌, ℕ, List, [], ◌∷◌, ◌++◌, Option, Some, None, Result, Ok, Err, IfOk, IfErr}
+use Rattle.std.specs.Prelude.{◌≡◌, ◌≢◌, ◌⊎◌, ◌≤◌, ℕ, List, [], ◌∷◌, ◌++◌, Option, Some, None, Result, Ok, Err, IfOk, IfErr, OnOk}
 use Rattle.wasm_shapes.specs.declared.SectionId.{SectionId}
 use Rattle.wasm_shapes.specs.declared.Visit.{Visit}
 use Rattle.wasm_shapes.specs.declared.Visit.TheVariants.{Section, Closed}
@@ -35,11 +35,11 @@ pub record IsPart (part own : List SectionRow) : Type 0 where
 abbrev pub StopsHook : {S E A : Type 0} → ℕ → List SectionRow → List SectionRow → Step S (Error E) A → Error E → S → Type 0
 StopsHook c own part step e m = IsPart part own × (e ≢ NoMemory → IsOwn c own e ⊎ (step ≡ refused e m))
 
--- A section was refused behind what the section hook added before it; or that fits, it was accepted and stands there too, and the
+-- What the section hook added before a section fits. The section was refused behind it; or it was accepted and stands there too, and the
 -- closing hook refused, with a front part of what it adds behind it.
 abbrev pub StopsBehind : {S E : Type 0} → Asks S E → Puts S SectionRow → ℕ → S → Tree → List SectionRow → List SectionRow → Error E → S → Type 0
 StopsBehind {S} asked adds c s t own part e m =
-    ((part ≡ own) × (e ≢ NoMemory → walk asked c s t ≡ refused e m))
+    ((part ≡ own) × ((size : ℕ) → ¬ HasTooLarge c own size) × (e ≢ NoMemory → walk asked c s t ≡ refused e m))
     ⊎ ((u : Tree) × (n : S) × (row : SectionRow) × (more : List SectionRow) × (walk asked c s t ≡ accepted u n) × (section_bytes row ≡ normal u)
     × (part ≡ own ++ row ∷ more) × ((size : ℕ) → ¬ HasTooLarge c own size) × StopsHook c (put_behind adds n t) more (followed asked n t) e m)
 
@@ -136,10 +136,6 @@ pub record OwnTooLarge {S E : Type 0} (asked : Asks S E) (adds : Puts S SectionR
   pub front : WovenFront asked adds c bytes s
   pub own : OwnNext asked adds c front.last front.at front.rest e
 
--- why an error comes: as where nothing is added, or a section that a hook was to add is too large
-abbrev pub IsWovenCause : {S E : Type 0} → Asks S E → Puts S SectionRow → ℕ → List ℕ → S → S → Error E → Type 0
-IsWovenCause asked adds c bytes s m e = IsCause asked c bytes s m e ⊎ OwnTooLarge asked adds c bytes s e
-
 -- ---- what stands in the module after an error, whether the bytes have a reading or not
 
 -- What was asked at the visit of the section in a frame, and accepted, and what of its own sections the hook added there: of a section
@@ -154,16 +150,17 @@ abbrev pub AddedBefore : {S E : Type 0} → Asks S E → Puts S SectionRow → O
 AddedBefore asked adds last s f n own = AddedAt asked adds (λ k. Section last (Some k)) s f n own
 
 -- What stands behind the sections that were accepted, where it stopped: of the own sections of the hook at the end, or of that before a
--- section, a front part, where it refused; all of them, where the section is refused or has no reading; these, the section, and a front
--- part of those of the closing hook behind it, where this refused; and nothing where no frame begins.
+-- section, a front part, where it refused; all of them, which fit, where the section is refused or has no reading; these, the section, and a
+-- front part of those of the closing hook behind it, where this refused; and nothing where no frame begins.
 pub data AddedThere {S E : Type 0} (asked : Asks S E) (adds : Puts S SectionRow) (c : ℕ) (last : Option SectionId) (s : S) (rest : List ℕ) (e : Error E) (m : S) (part : List SectionRow) : Type 0 where
   at_end : rest ≡ [] → StopsHook c (adds s (Section last None)) part (asked s (Section last None)) e m → AddedThere asked adds c last s rest e m part
   hook : (k : SectionId) (body left : List ℕ) → Begins frame rest (numbered_frame (number k) body) left →
       StopsHook c (adds s (Section last (Some k))) part (asked s (Section last (Some k))) e m → AddedThere asked adds c last s rest e m part
-  section : (f : Tree) (left : List ℕ) (n : S) → Begins frame rest f left → AddedBefore asked adds last s f n part →
+  section : (f : Tree) (left : List ℕ) (n : S) → Begins frame rest f left → AddedBefore asked adds last s f n part → ((size : ℕ) → ¬ HasTooLarge c part size) →
       ((t : Tree) → InFrame t f → e ≢ NoMemory → walk asked c n t ≡ refused e m) → AddedThere asked adds c last s rest e m part
   closing : (k : SectionId) (body left : List ℕ) (n : S) (t u : Tree) (l : S) (row : SectionRow) (more : List SectionRow) → Begins frame rest (numbered_frame (number k) body) left →
-      asked s (Section last (Some k)) ≡ accepted 0 n → InFrame t (numbered_frame (number k) body) → walk asked c n t ≡ accepted u l → section_bytes row ≡ normal u →
+      asked s (Section last (Some k)) ≡ accepted 0 n → ((size : ℕ) → ¬ HasTooLarge c (adds s (Section last (Some k))) size) → InFrame t (numbered_frame (number k) body) →
+      walk asked c n t ≡ accepted u l → section_bytes row ≡ normal u →
       StopsHook c (adds l (Closed k)) more (asked l (Closed k)) e m → part ≡ adds s (Section last (Some k)) ++ row ∷ more → AddedThere asked adds c last s rest e m part
   unframed : BeginsNone frame rest → rest ≢ [] → part ≡ [] → AddedThere asked adds c last s rest e m part
 
@@ -181,13 +178,28 @@ abbrev pub GainsBefore : {S E : Type 0} → Asks S E → Puts S SectionRow → L
 GainsBefore asked adds bytes before after e =
     (((rest : List ℕ) → bytes ≢ core_header ++ rest) × (after.1 ≡ before.1)) ⊎ GainsFront asked adds before.1.ceiling bytes before after e
 
+-- ---- why an error comes
+
+-- What the hooks added before an error fits: at the sections that were accepted, and at the one behind them up to where it stopped. Where the
+-- header of a core module is missing, nothing was added.
+abbrev pub FitsUpTo : {S E : Type 0} → Asks S E → Puts S SectionRow → ℕ → List ℕ → S → S → Error E → Type 0
+FitsUpTo asked adds c bytes s m e =
+    ((rest : List ℕ) → bytes ≢ core_header ++ rest)
+    ⊎ ((front : WovenFront asked adds c bytes s) × (part : List SectionRow) × AddedThere asked adds c front.last front.at front.rest e m part)
+
+-- why an error comes: as where nothing is added, and all that was added before it fits; or a section that a hook was to add is too large
+abbrev pub IsWovenCause : {S E : Type 0} → Asks S E → Puts S SectionRow → ℕ → List ℕ → S → S → Error E → Type 0
+IsWovenCause asked adds c bytes s m e =
+    (IsCause asked c bytes s m e × (e ≢ NoMemory → FitsUpTo asked adds c bytes s m e)) ⊎ OwnTooLarge asked adds c bytes s e
+
 -- ---- the module, and its bytes
 
--- What a call that maps the bytes of a module gives where sections may be added: what the weave gives, or why not, and what
--- the module gained then.
+-- What a call that maps the bytes of a module gives where sections may be added: what the weave gives, all that is added fitting; or why not,
+-- and what the module gained then.
 pub record GivesWoven {S E : Type 0} (asked : Asks S E) (adds : Puts S SectionRow) (bytes : List ℕ) (before after : S × Sections) (result : Result (Unit {0}) (Error E)) : Type 0 where
   pub reading : (t : Tree) → CoreReading bytes t → GivesWovenModule asked adds before t after result
   pub readable : IfOk result (λ _. (t : Tree) × CoreReading bytes t)
+  pub fits : OnOk result ((t : Tree) → CoreReading bytes t → AddsFit asked adds before.1.ceiling before.0 (visits t))
   pub cause : IfErr result (IsWovenCause asked adds before.1.ceiling bytes before.0 after.0)
   pub gained : IfErr result (GainsBefore asked adds bytes before after)
 
@@ -201,6 +213,7 @@ pub record GivesWovenBytes {S E A : Type 0} (asked : Asks S E) (adds : Puts S Se
   pub reading : (t : Tree) → Spells core_module bytes t →
       GivesWovenNormal (weave asked (added adds) ceiling s t) (OwnTooLarge asked adds ceiling bytes s) m result view
   pub readable : IfOk result (λ _. (t : Tree) × Spells core_module bytes t)
+  pub fits : OnOk result ((t : Tree) → Spells core_module bytes t → AddsFit asked adds ceiling s (visits t))
   pub cause : IfErr result (IsWovenCause asked adds ceiling bytes s m)
 
 -- ---- completeness

@@ -10,7 +10,8 @@ ghost use Rattle.reencode_core.specs.WovenLaws.{OutputIsRead, WeaveEnds, WeaveIs
 use reencode_hooks::ReencodeIndices;
 
 /// Bytes that begin with the header of a core module have one front: the sections that stand behind the header side by side, up to
-/// where the bytes end or none begins. Where they end there it is their reading, and else that is their fault.
+/// where the bytes end or none begins. Where they end there it is their reading, and else that is their fault. That they have a
+/// front, and without a reading a fault, is told by refuting that they have none; that they have no two fronts, outright.
 pub fn front_is_one()
     ensures some { HasFront }
     ensures either { ReadsOrFails }

@@ -336,7 +336,8 @@ pub trait Reencode: ReencodeItems {
         rows::parse_data(self, alloc, segments, datum)
     }
 
-    /// Maps the body of a section of a kind by the methods of that kind, and adds the section. It calls no section hook.
+    /// Maps the body of a section of a kind by the methods of that kind, and adds the section. It calls neither the section hook nor
+    /// the closing hook.
     fn parse_section(
         &mut self,
         alloc: Global,
@@ -362,7 +363,7 @@ pub trait Reencode: ReencodeItems {
     }
 
     /// Maps a custom section and adds it: one named `name` by `custom_name_section`, and any other by `custom_section`. It calls
-    /// no section hook. The place of a `ParseError` is in the contents behind the name.
+    /// neither the section hook nor the closing hook. The place of a `ParseError` is in the contents behind the name.
     fn parse_custom_section(
         &mut self,
         alloc: Global,
@@ -375,7 +376,7 @@ pub trait Reencode: ReencodeItems {
         default_bodies::parse_custom_section!(self, alloc, module, section)
     }
 
-    /// Adds a section of an id that no kind has, by its bytes. It calls no section hook.
+    /// Adds a section of an id that no kind has, by its bytes. It calls neither the section hook nor the closing hook.
     fn parse_unknown_section(
         &mut self,
         module: &mut w::Module,
@@ -402,7 +403,7 @@ pub trait Reencode: ReencodeItems {
         default_bodies::custom_name_section!(self, alloc, section, ceiling)
     }
 
-    /// Maps a name subsection and adds it. The indices of a map are mapped by the method of their space; of an indirect map the
+    /// Maps a name subsection and adds it. The indices of a map are mapped by the hook of their space; of an indirect map the
     /// outer indices alone are mapped. A `ParseError` holds the place in the map behind the entries that were accepted.
     fn parse_custom_name_subsection(
         &mut self,
@@ -417,7 +418,8 @@ pub trait Reencode: ReencodeItems {
         subsections::parse_custom_name_subsection(self, alloc, names, section)
     }
 
-    /// Reads a module and adds what its sections become. The section hook is called before each section and at the end.
+    /// Reads a module and adds what its sections become. The section hook is called before each section of the ids 1 to 13 and at
+    /// the end, and the closing hook behind each of these, once it was added.
     fn parse_core_module(
         &mut self,
         alloc: Global,

@@ -272,7 +272,7 @@ pub fn custom_section<'a, T: ReencodeIndices>(
     section
 }
 
-/// Adds a section of an id that no kind has, by its bytes. It calls no section hook.
+/// Adds a section of an id that no kind has, by its bytes. It calls neither the section hook nor the closing hook.
 pub fn parse_unknown_section<T: ReencodeIndices>(
     reencoder: &mut T,
     module: &mut w::Module,

@@ -140,7 +140,7 @@ fn parse_indirect_names<T: ReencodeIndices>(
     }
 }
 
-/// Maps a name subsection and adds it. The indices of a map are mapped by the method of their space; of an indirect map the
+/// Maps a name subsection and adds it. The indices of a map are mapped by the hook of their space; of an indirect map the
 /// outer indices alone are mapped. A `ParseError` holds the place in the map behind the entries that were accepted.
 pub fn parse_custom_name_subsection<T: ReencodeIndices>(
     reencoder: &mut T,

@@ -177,7 +177,8 @@ pub fn parse_data_section<T: Reencode>(
     default_bodies::each_row!(section, alloc, row => reencoder.parse_data(alloc, segments, row))
 }
 
-/// Maps the body of a section of a kind by the methods of that kind, and adds the section. It calls no section hook.
+/// Maps the body of a section of a kind by the methods of that kind, and adds the section. It calls neither the section hook nor
+/// the closing hook.
 pub fn parse_section<T: Reencode>(
     reencoder: &mut T,
     alloc: Global,
@@ -192,7 +193,7 @@ pub fn parse_section<T: Reencode>(
 }
 
 /// Maps a custom section and adds it: one named `name` by `custom_name_section`, and any other by `custom_section`. It calls
-/// no section hook. The place of a `ParseError` is in the contents behind the name.
+/// neither the section hook nor the closing hook. The place of a `ParseError` is in the contents behind the name.
 pub fn parse_custom_section<T: Reencode>(
     reencoder: &mut T,
     alloc: Global,
@@ -219,7 +220,8 @@ pub fn custom_name_section<T: Reencode>(
     default_bodies::custom_name_section!(reencoder, alloc, section, ceiling)
 }
 
-/// Reads a module and adds what its sections become. The section hook is called before each section and at the end.
+/// Reads a module and adds what its sections become. The section hook is called before each section of the ids 1 to 13 and at
+/// the end, and the closing hook behind each of these, once it was added.
 pub fn parse_core_module<T: Reencode>(
     reencoder: &mut T,
     alloc: Global,

@@ -1,12 +1,13 @@
 -- Laws of walks and runs.
-use Rattle.std.specs.Prelude.{◌≡◌, ◌<◌, ◌≤◌, ◌⊎◌, ℕ, List, All, ◌↔◌}
+use Rattle.std.specs.Prelude.{◌≡◌, ◌<◌, ◌≤◌, ◌^◌, ◌⊎◌, ℕ, List, All, Result, ◌↔◌}
 use Rattle.wasm_shapes.specs.declared.Visit.{Visit}
 use Rattle.wasm_shapes.specs.Tree.{Tree, visits, fill}
 use Rattle.wasm_shapes.specs.Spells.{Spelled}
 use Rattle.wasm_shapes.specs.Fits.{Fits}
 use Rattle.reencode_hooks.specs.declared.error.Error.{Error}
 use Rattle.reencode_hooks.specs.declared.error.Error.TheVariants.{UserError, TooLarge}
-use Rattle.reencode_hooks.specs.Run.{Step, accepted, refused, and_then, run, answers, state_after, Visited}
+use Rattle.reencode_hooks.specs.Run.{Step, accepted, refused, and_then, ask, run, answers, state_after, Visited}
+use Rattle.reencode_hooks.specs.Hooks.{IsInRange}
 use Rattle.reencode_hooks.specs.Walk.{walk}
 use Rattle.reencode_hooks.specs.Moments.{moments, asked_in, closed_in, closings, NoneLost, passed, Stops}
 
@@ -58,3 +59,8 @@ pub record MomentsAre : Type 0 where
   pub closed : (t : Tree) (given : List ℕ) → closed_in (moments t given) ≡ closings (fill t given)
   pub known : (t : Tree) (bytes given : List ℕ) → Spelled t bytes → NoneLost (moments t given)
   pub fit : (t : Tree) (c : ℕ) → All (λ n. n ≤ c) (closings t) ↔ Fits t c
+
+-- The visits of a tree that bytes spell are in range, and so is each answer of a run over them.
+pub record AreInRange {S E : Type 0} (reply : S → Visit → Result ℕ E) (next : S → Visit → S) : Type 0 where
+  pub asked : (t : Tree) (bytes : List ℕ) → Spelled t bytes → All IsInRange (visits t)
+  pub answered : (s m : S) (t : Tree) (bytes given : List ℕ) → Spelled t bytes → run (ask reply next) s (visits t) ≡ accepted given m → All (λ n. n < 2 ^ 32) given

@@ -2,7 +2,8 @@
 use std::fmt;
 use wasm_shapes::Space;
 
-/// What a renamer counts: the indices of a space, the calls of the section hook, and the begins and the ends of scopes.
+/// What a renamer counts: the indices of a space, the calls of the section hook, and the begins and the ends of scopes. Calls
+/// of the closing hook it does not count.
 #[derive(Clone, Copy, Debug, PartialEq)]
 pub enum Asked {
     /// An index of this space.

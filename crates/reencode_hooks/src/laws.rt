@@ -1,7 +1,7 @@
 //! Laws of walks and runs, each the contract of a function that does nothing.
 ghost use Rattle.reencode_hooks.specs.Run.{ask};
 ghost use Rattle.reencode_hooks.specs.Frames.{FramesAreInOrder};
-ghost use Rattle.reencode_hooks.specs.Laws.{WalkIsPassed, WalkIsRun, WalkStops, WalkRefuses, WalkVisits, MomentsAre};
+ghost use Rattle.reencode_hooks.specs.Laws.{AreInRange, WalkIsPassed, WalkIsRun, WalkStops, WalkRefuses, WalkVisits, MomentsAre};
 
 use crate::indices::ReencodeIndices;
 
@@ -36,6 +36,11 @@ pub fn walk_visits<T: ReencodeIndices>(_reencoder: &T)
 /// What happens on a walk: the visits of the tree in their order, and the frames of the filled tree.
 pub fn moments_are()
     ensures { MomentsAre }
+{}
+
+/// The visits of what was read are in range, and so are their answers.
+pub fn visits_are_in_range<T: ReencodeIndices>(_reencoder: &T)
+    ensures { AreInRange T.reply T.next }
 {}
 
 /// In a reading of a core module, filled or not, the frames close in the order of the bytes.

@@ -12,7 +12,7 @@ use wasm_leb::NoMemory;
 use wasm_shapes::{Space, Visit};
 
 /// Answers an index by its entry, and otherwise as it is; a strict one refuses an index of a core space that has no entry.
-/// It counts what it is asked.
+/// It counts what it is asked, but no call of the closing hook.
 ///
 /// Contracts see it as its entries by space, whether it is strict, and its counts. As a reencoder it keeps the default
 /// methods, adds no section, and never wants memory.

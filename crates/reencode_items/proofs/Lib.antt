@@ -3,6 +3,7 @@ pub mod Rows
 pub mod Loops
 pub mod Clauses
 pub mod Parts
+pub mod Casts
 pub mod Composites
 pub mod Immediates
 pub mod Operators

@@ -265,14 +265,8 @@ macro_rules! immediate {
                 Ok(w::Imm::Catches(mapped))
             }
             r::Imm::Cast { label, from, to } => {
-                let from = w::RefType {
-                    nullable: from.nullable,
-                    heap_type: $reencoder.heap_type(from.heap_type)?,
-                };
-                let to = w::RefType {
-                    nullable: to.nullable,
-                    heap_type: $reencoder.heap_type(to.heap_type)?,
-                };
+                let from = $reencoder.ref_type(from)?;
+                let to = $reencoder.ref_type(to)?;
                 Ok(w::Imm::Cast { label, from, to })
             }
             r::Imm::Handlers(handlers) => {

@@ -310,8 +310,9 @@ pub trait ReencodeItems: ReencodeIndices {
     }
 
     /// An immediate of an operator (section 5.4) that has a kind: its types, its memory access, what it catches or handles,
-    /// its heap types and its floating-point number by their methods, an index by its space's hook. Labels, locals, fields,
-    /// sizes, lanes and other numbers stay. The new one is of the same kind, also where the defaults are not kept.
+    /// its heap type, a cast's reference types and its floating-point number by their methods, an index by its space's hook.
+    /// Labels, locals, fields, sizes, lanes and other numbers stay. The new one is of the same kind, also where the defaults
+    /// are not kept.
     fn immediate<'a>(
         &mut self,
         alloc: Global,

@@ -221,8 +221,8 @@ pub fn block_type<T: ReencodeItems>(
 }
 
 /// An immediate of an operator (section 5.4) that has a kind: its types, its memory access, what it catches or handles, its
-/// heap types and its floating-point number by their methods, an index by its space's hook. Labels, locals, fields, sizes,
-/// lanes and other numbers stay. The new one is of the same kind, also where the defaults are not kept.
+/// heap type, a cast's reference types and its floating-point number by their methods, an index by its space's hook. Labels,
+/// locals, fields, sizes, lanes and other numbers stay. The new one is of the same kind, also where the defaults are not kept.
 pub fn immediate<'a, T: ReencodeItems>(
     reencoder: &mut T,
     alloc: Global,

@@ -48,12 +48,12 @@ module _ {S E : Type 0} (i : Ghosts S E) (none : (s : S) (v : Visit) → MayAdd 
   of_plain c _ bytes s m is h = absurd is
 
   of_module : (c : ℕ) (e : Error E) (bytes : List ℕ) (s m : S) → IsRefusal e → IsWovenCause (asks i) i.adds c bytes s m e → core.BeforeFault (asks i) c bytes s m e
-  of_module c e bytes s m is (inl h) = of_plain c e bytes s m is h
+  of_module c e bytes s m is (inl h) = of_plain c e bytes s m is h.0
   of_module c e bytes s m is (inr h) = absurd (no_own (asks i) i.adds none h)
 
   of_component : (scopes depth c : ℕ) (e : Error E) (bytes : List ℕ) (s m : S) → IsRefusal e →
-      CauseBy (asks i) (added i.adds) c depth (StopsBy (asks i) c depth (StopsNested (asks i) i.adds c depth scopes)) (OwnInside (asks i) i.adds c depth scopes) bytes s m e →
-      BeforeFault (asks i) (added i.adds) c depth (StopsBy (asks i) c depth (StopsNested (asks i) i.adds c depth scopes)) (OwnInside (asks i) i.adds c depth scopes) bytes s m e
+      CauseBy (asks i) i.adds c depth (StopsBy (asks i) c depth (StopsNested (asks i) i.adds c depth scopes)) (OwnInside (asks i) i.adds c depth scopes) bytes s m e →
+      BeforeFault (asks i) i.adds c depth (StopsBy (asks i) c depth (StopsNested (asks i) i.adds c depth scopes)) (OwnInside (asks i) i.adds c depth scopes) bytes s m e
   of_component scopes depth c (UserError x) bytes s m is h = h
   of_component scopes depth c (TooLarge size) bytes s m is h = h
   of_component scopes depth c _ bytes s m is h = absurd is
@@ -79,7 +79,7 @@ module _ {S E : Type 0} (i : Ghosts S E) (none : (s : S) (v : Visit) → MayAdd 
 
   abbrev ComponentTold : ℕ → Type 0
   ComponentTold scopes = (depth c : ℕ) (e : Error E) (bytes : List ℕ) (s m : S) → depth + scopes ≡ 200 → IsRefusal e → P s →
-      CauseBy (asks i) (added i.adds) c depth (StopsBy (asks i) c depth (StopsNested (asks i) i.adds c depth scopes)) (OwnInside (asks i) i.adds c depth scopes) bytes s m e →
+      CauseBy (asks i) i.adds c depth (StopsBy (asks i) c depth (StopsNested (asks i) i.adds c depth scopes)) (OwnInside (asks i) i.adds c depth scopes) bytes s m e →
       ((t : Tree) → ComponentReading depth bytes t → ⊥) → (Q c bytes e → ⊥) → ⊥
 
   component_by : (scopes : ℕ) → NestedTold scopes → ComponentTold scopes
@@ -98,13 +98,13 @@ module _ {S E : Type 0} (i : Ghosts S E) (none : (s : S) (v : Visit) → MayAdd 
       inside before rest left f x n p there (inr (inr h)) =
           nested_by depth c e x rest left n m whole is p there (λ t r. f.none.none left t (section_there r there)) h (λ q. never (behind c depth bytes e before rest f q))
 
-      own : BehindFront (asks i) (added i.adds) c depth (OwnInside (asks i) i.adds c depth scopes) bytes s m e → ⊥
+      own : BehindFront (asks i) i.adds c depth (OwnInside (asks i) i.adds c depth scopes) bytes s m e → ⊥
       own h = let n = h.1 in own_never i none c depth scopes n.0 h.0.at m e n.3
 
       at_fault : (before : List Tree) (rest : List ℕ) → FaultAt depth bytes before rest →
           RefusesAmong (asks i) (added i.adds) c s before e m
           ⊎ ((made : List Tree) × (n : S) × AcceptsAll (asks i) (added i.adds) c s before made n × Framed (λ x. StopsBy (asks i) c depth (StopsNested (asks i) i.adds c depth scopes) x n m e) rest)
-          ⊎ BehindFront (asks i) (added i.adds) c depth (OwnInside (asks i) i.adds c depth scopes) bytes s m e → ⊥
+          ⊎ BehindFront (asks i) i.adds c depth (OwnInside (asks i) i.adds c depth scopes) bytes s m e → ⊥
       at_fault before rest f (inl r) = never (front_told c depth bytes s m e before rest b f r)
       at_fault before rest f (inr (inl q)) = let x = q.3 in inside before rest x.1 f x.0 q.1 (front_keeps c s q.1 before q.0 b q.2) x.2 x.3
       at_fault before rest f (inr (inr h)) = own h

@@ -26,7 +26,6 @@ use Rattle.reencode_core.specs.Refusals.{RefusedUpTo}
 use Rattle.reencode_hooks.specs.Walk.{walk}
 use Rattle.reencode_hooks.proofs.Walks.{walk_stops}
 use Rattle.reencode_core.specs.Core.{GivesBytes, BeforeFault, IsCause}
-use Rattle.reencode_core.specs.Weave.{added}
 use Rattle.reencode_component.specs.Causes.{CauseBy, IfFault, inside, own_inside}
 use Rattle.reencode_component.specs.ComponentLaws.{IsOfBytes}
 use Rattle.reencode_component.specs.ComponentLeaves.{NoComponentHeading}
@@ -314,7 +313,7 @@ module _ {A : Type 0} (c : ℕ) (rs : Renamers) (bytes : List ℕ) (m : State rs
 -- why an error of a component comes
 abbrev Caused : ℕ → (rs : Renamers) → List ℕ → State rs → Error (Lack rs) → Type 0
 Caused c rs bytes m e =
-    CauseBy (asks (hooks_of rs)) (added (λ s v. [])) c 0 (inside (asks (hooks_of rs)) (λ s v. []) c 0) (own_inside (asks (hooks_of rs)) (λ s v. []) c 0) bytes (begun rs) m e
+    CauseBy (asks (hooks_of rs)) (λ s v. []) c 0 (inside (asks (hooks_of rs)) (λ s v. []) c 0) (own_inside (asks (hooks_of rs)) (λ s v. []) c 0) bytes (begun rs) m e
 
 -- where nothing is renamed, a component's bytes are longer than the ceiling
 abbrev IsLong : ℕ → List ℕ → Renamers → Type 0

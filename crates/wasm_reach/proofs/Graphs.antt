@@ -2,14 +2,25 @@
 use Rattle.std.proofs.Common.{◌≡◌, ◌<◌, ◌+◌, ℕ, List, length, ap, arith}
 use Rattle.std.proofs.lemmas.List.{length-map}
 use Rattle.wasm_shapes.specs.declared.SectionId.TheVariants as id
+use Rattle.wasm_shapes.specs.declared.Space.TheVariants as space
 use Rattle.wasm_shapes.specs.Tree.{Tree}
 use Rattle.wasm_shapes.specs.Module.{CoreReading}
+use Rattle.module_spaces.specs.Functions.{IsEven}
 use Rattle.module_spaces.specs.Sections.{rows_of}
+use Rattle.module_spaces.specs.Spaces.{imported}
 use Rattle.filled_modules.specs.Readings.{Reads}
 use Rattle.wasm_reach.specs.declared.checks.Numbers.{Numbers}
-use Rattle.wasm_reach.specs.Checks.{IsReady}
+use Rattle.wasm_reach.specs.Checks.{AllKnown}
 use Rattle.wasm_reach.specs.Graph.{AreCalls}
 use Rattle.wasm_reach.specs.Notes as asks
+
+-- nothing is refused of a module, and these are its numbers
+pub record IsReady (numbers : Numbers) (t : Tree) : Type 0 where
+  pub even : IsEven t
+  pub known : AllKnown t
+  pub imports : numbers.imports ≡ imported space.Function t
+  pub defined : numbers.defined ≡ length (rows_of id.Function t)
+  pub few : numbers.imports + numbers.defined < 4294967295
 
 module _ {bytes : List ℕ} {numbers : Numbers} {lists : List (List ℕ)} (ready : Reads bytes (IsReady numbers)) where
   pub are_calls : {noted : List ℕ} → ((t : Tree) → CoreReading bytes t → noted ≡ asks.roots t) → ((t : Tree) → CoreReading bytes t → lists ≡ asks.calls t) →

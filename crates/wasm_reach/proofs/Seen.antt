@@ -1,5 +1,5 @@
 -- The loop over the sections of a module that notes what each asks for, and finds that it has a reading.
-use Rattle.std.proofs.Common.{◌≡◌, ◌<◌, ◌≤◌, ◌+◌, ℕ, List, [], ◌∷◌, ◌++◌, length, map, min, get_or, Option, None, Some, refl, sym, ap, ◌∙◌, subst, arith, append_assoc, append-nil, lit≤}
+use Rattle.std.proofs.Common.{◌≡◌, ◌<◌, ◌≤◌, ◌+◌, ℕ, List, [], ◌∷◌, ◌++◌, length, map, min, get_or, Option, None, Some, Result, OnOk, refl, sym, ap, ◌∙◌, subst, arith, append_assoc, append-nil, lit≤}
 use Rattle.std.specs.List.{All, AllByRecursion, filter_map}
 use Rattle.std.proofs.lemmas.List.{get_or_default, map-append}
 use Rattle.std.proofs.lemmas.List.Elements.{All-head, All-tail}
@@ -13,8 +13,8 @@ use Rattle.wasm_shapes.specs.Tree.{Tree, kind, visits, visits_from}
 use Rattle.wasm_shapes.specs.Spells.{Is, Spells}
 use Rattle.wasm_shapes.specs.Place.{Begins}
 use Rattle.wasm_shapes.specs.SectionTable.{number}
-use Rattle.wasm_shapes.specs.Module.{core_header, sections, frame, numbered_frame, custom_frame, custom_tree_of, body_of, tree_of, CoreReading, InFrame, ReadsCustom}
-use Rattle.wasm_shapes.proofs.SectionLaws.{in_frames}
+use Rattle.wasm_shapes.specs.Module.{core_header, sections, frame, numbered_frame, custom_frame, custom_tree_of, unknown_tree_of, body_of, tree_of, CoreReading, InFrame, ReadsCustom}
+use Rattle.wasm_shapes.proofs.SectionLaws.{frame_id, in_frames}
 use Rattle.reencode_core.specs.Sections.{ReadsAs}
 use Rattle.module_spaces.specs.Sections.{rows_in, rows_of}
 use Rattle.module_spaces.specs.Spaces.{number_of}
@@ -22,10 +22,11 @@ use Rattle.module_spaces.proofs.Ahead.{behind_header, none_left}
 use Rattle.filled_modules.specs.Limits.{IsBelow, so_many_functions}
 use Rattle.filled_modules.specs.Readings.{Reads}
 use Rattle.wasm_reach.specs.declared.checks.Numbers.{Numbers}
-use Rattle.wasm_reach.specs.Checks.{AreNumbers, IsReady}
+use Rattle.wasm_reach.specs.Checks.{AreNumbers}
 use Rattle.wasm_reach.specs.Notes.{calls, function_asked, functions_of, roots, section_roots}
 use Rattle.wasm_reach.proofs.Asked.{asked, asked_also}
-use Rattle.wasm_reach.proofs.NotedSections.{in_kind}
+use Rattle.wasm_reach.proofs.Graphs.{IsReady}
+use Rattle.wasm_reach.proofs.NotedSections.{in_kind, on_ok}
 
 -- ---- one section
 
@@ -60,6 +61,19 @@ custom_in_its_frame name contents r = let u = r.1.0 in (custom_tree_of (Tree.pai
 -- what is noted of its body, is of it
 pub seen_all : (k : SectionId) (text old new : List ℕ) → ((u : Tree) → Spells (body_of k) text u → new ≡ old ++ functions_of u) → (t : Tree) → InFrame t (numbered_frame (number k) text) → new ≡ old ++ functions_of t
 seen_all k text old new each = in_kind k text functions_of (λ functions. new ≡ old ++ functions) each
+
+-- the same of code, whose bodies are noted one by one
+module _ {E : Type 0} (text : List ℕ) (k : SectionId) (is : k ≡ id.Code) (r : Result (Unit {0}) E) where
+  pub code_read : OnOk r ((u : Tree) × Spells (body_of id.Code) text u) → OnOk r ((t : Tree) × InFrame t (numbered_frame (number k) text))
+  code_read given =
+      let P : SectionId → Type 0 = λ z. OnOk r ((t : Tree) × InFrame t (numbered_frame (number z) text)) in
+      subst P (sym is) (on_ok (λ (p : (u : Tree) × Spells (body_of id.Code) text u). in_its_frame id.Code (tree_of id.Code p.0, (p.0, refl, p.1))) r given)
+
+  pub code_all : (old new : List ℕ) → OnOk r ((u : Tree) → Spells (body_of id.Code) text u → new ≡ old ++ functions_of u) →
+      OnOk r ((t : Tree) → InFrame t (numbered_frame (number k) text) → new ≡ old ++ functions_of t)
+  code_all old new given =
+      let P : SectionId → Type 0 = λ z. OnOk r ((t : Tree) → InFrame t (numbered_frame (number z) text) → new ≡ old ++ functions_of t) in
+      subst P (sym is) (on_ok (seen_all id.Code text old new) r given)
 
 -- ---- the loop
 
@@ -129,6 +143,15 @@ seen_custom {name = name} {contents = contents} {found = found} {lists = lists} 
     seen_more (custom_frame name contents) so_far there one more_all
     (λ u i. sym (append-nil found) ∙ ap (λ (z : Tree). found ++ section_roots z) (sym (in_frames.of_custom name contents u i).1))
     (λ u i. sym (append-nil lists) ∙ ap (λ (z : Tree). lists ++ map functions_of (rows_in id.Code z)) (sym (in_frames.of_custom name contents u i).1))
+
+-- nor has one of no known kind, which asks for nothing
+pub seen_unknown : {bytes rest left contents all found : List ℕ} {lists : List (List ℕ)} {n : ℕ} → 14 ≤ n → SeenSoFar bytes rest all found lists → Begins frame rest (numbered_frame n contents) left →
+    SeenSoFar bytes left all found lists
+seen_unknown {contents = contents} {all = all} {found = found} {lists = lists} {n = n} high so_far there =
+    seen_more (numbered_frame n contents) so_far there (unknown_tree_of n contents, InFrame.of_unknown n contents high (frame_id there).1)
+    (λ u i. sym (append-nil all) ∙ ap (λ (z : Tree). all ++ functions_of z) (sym (in_frames.of_unknown n contents u high i)))
+    (λ u i. sym (append-nil found) ∙ ap (λ (z : Tree). found ++ section_roots z) (sym (in_frames.of_unknown n contents u high i)))
+    (λ u i. sym (append-nil lists) ∙ ap (λ (z : Tree). lists ++ map functions_of (rows_in id.Code z)) (sym (in_frames.of_unknown n contents u high i)))
 
 module _ {bytes rest all found : List ℕ} {lists : List (List ℕ)} (so_far : SeenSoFar bytes rest all found lists) (empty : rest ≡ []) where
   pub seen_reading : (t : Tree) × CoreReading bytes t

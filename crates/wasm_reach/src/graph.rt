@@ -3,13 +3,12 @@ ghost use Rattle.std.specs.Prelude.{◌+◌, ◌<◌, length, IfErr, IfOk};
 ghost use Rattle.wasm_reach.specs.Checks.{IsWhy};
 ghost use Rattle.wasm_reach.specs.Graph.{AreCalls, AreTold};
 
-use crate::checks::check;
+use crate::checks::refusal;
 use crate::fault::ReachFault;
-use crate::notes::{Notes, take_notes};
 use crate::once::at_once;
 use call_graph::CallGraph;
 use std::alloc::Global;
-use wasm_leb::{List, NoMemory};
+use wasm_leb::List;
 
 /// What a module's functions are asked for by. All are told by their indices, as often as they are asked for, in that order.
 #[derive(Drop)]
@@ -35,27 +34,6 @@ pub fn call_graph(alloc: Global, bytes: &[u8]) -> Result<ModuleCalls, ReachFault
 {
     match at_once(alloc, bytes) {
         Some(calls) => Ok(calls),
-        None => checked(alloc, bytes),
-    }
-}
-
-/// The same with what is refused looked for first.
-fn checked(alloc: Global, bytes: &[u8]) -> Result<ModuleCalls, ReachFault>
-    ensures ok { IfOk result (λ c. AreCalls bytes.now c.imports c.roots c.calls) }
-    ensures few { IfOk result (λ c. c.imports + length c.calls < 4294967295) }
-    ensures err { IfErr result (IsWhy bytes.now) }
-    ensures made { IfErr result (AreTold bytes.now) }
-{
-    let numbers = match check(alloc, bytes) {
-        Ok(numbers) => numbers,
-        Err(e) => return Err(e),
-    };
-    match take_notes(alloc, bytes) {
-        Ok(Notes { roots, calls }) => Ok(ModuleCalls {
-            imports: numbers.imports,
-            roots: roots.functions,
-            calls,
-        }),
-        Err(NoMemory) => Err(ReachFault::NoMemory),
+        None => Err(refusal(alloc, bytes)),
     }
 }

@@ -1,4 +1,4 @@
-//! The calls of a module of which nothing is refused, in one pass over its sections and one over its bodies.
+//! The calls of a module of which nothing is refused, in one pass over its sections.
 ghost use Rattle.std.specs.Prelude.{◌≡◌, ◌<◌, ◌≤◌, ◌+◌, ◌++◌, ℕ, List, true, length, map, IfOk, IfSome, OnOk};
 ghost use Rattle.std.specs.List.{All};
 ghost use Rattle.wasm_shapes.specs.declared.SectionId.TheVariants as kinds;
@@ -11,7 +11,7 @@ ghost use Rattle.wasm_reach.specs.Notes.{calls, functions_of, roots, section_roo
 
 use crate::checks::decide;
 use crate::graph::ModuleCalls;
-use crate::notes::{note_bodies, note_rows};
+use crate::notes::{behind, note_bodies, note_rows};
 use crate::noting::Noting;
 use call_graph::CallGraph;
 use module_spaces::measure;
@@ -33,7 +33,7 @@ struct Seen {
     calls: CallGraph,
 }
 
-/// The calls of a module of which nothing is refused. Of None nothing is said; a module with a section of no known id is left so.
+/// The calls of a module of which nothing is refused. Of None nothing is said.
 pub(crate) fn at_once(alloc: Global, bytes: &[u8]) -> Option<ModuleCalls>
     ensures ok { IfSome result (λ c. AreCalls bytes.now c.imports c.roots c.calls) }
     ensures few { IfSome result (λ c. c.imports + length c.calls < 4294967295) }
@@ -102,7 +102,7 @@ fn note_all(alloc: Global, bytes: &[u8]) -> Result<Seen, NoMemory>
                     Err(NoMemory) => return Err(NoMemory),
                 }
             }
-            Ok(Some(Payload::Unknown { .. })) => return Err(NoMemory),
+            Ok(Some(Payload::Unknown { .. })) => {}
             Ok(None) => return Ok(seen),
             Err(_) => return Err(NoMemory),
         }
@@ -119,14 +119,15 @@ fn note_kind(alloc: Global, seen: &mut Seen, id: SectionId, body: &[u8]) -> Resu
     ensures calls { OnOk result ((t : Tree) → InFrame t (numbered_frame (number id) body.now)
         → seen.new.calls ≡ seen.old.calls ++ map functions_of (rows_in kinds.Code t)) }
 {
-    let before = seen.all.functions.len();
-    match note_rows(alloc, &mut seen.all, id, body) {
-        Ok(()) => {}
-        Err(NoMemory) => return Err(NoMemory),
-    }
     match id {
-        SectionId::Code => note_bodies(alloc, &mut seen.calls, body),
-        _ => add_from(&mut seen.roots, seen.all.functions.as_slice(), before),
+        SectionId::Code => note_bodies(alloc, &mut seen.all, &mut seen.calls, body),
+        _ => {
+            let before = seen.all.functions.len();
+            match note_rows(alloc, &mut seen.all, id, body) {
+                Ok(()) => add_from(&mut seen.roots, seen.all.functions.as_slice(), before),
+                Err(NoMemory) => Err(NoMemory),
+            }
+        }
     }
 }
 
@@ -135,11 +136,7 @@ fn add_from(roots: &mut Vec<u32>, all: &[u32], from: usize) -> Result<(), NoMemo
     ensures { OnOk result ((a b : List ℕ) → all.now ≡ a ++ b → from ≡ length a
         → roots.new.items ≡ roots.old.items ++ b) }
 {
-    if from > all.len() {
-        return Err(NoMemory);
-    }
-    let (_, fresh) = all.split_at(from);
-    match roots.extend_from_slice(fresh) {
+    match roots.extend_from_slice(behind(all, from)) {
         Ok(()) => Ok(()),
         Err(_) => Err(NoMemory),
     }

@@ -15,6 +15,7 @@ pub mod HeapTypes
 pub mod Limits
 pub mod TypeRows
 pub mod BehindTypes
+pub mod FramedBodies
 pub mod DataSegments
 pub mod NameMaps
 pub mod Subsections

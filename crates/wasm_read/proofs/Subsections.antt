@@ -18,7 +18,8 @@ use Rattle.wasm_read.proofs.NameMaps.{plain_row, asked_row, asked_spelled, spell
 use Rattle.wasm_read.specs.declared.types.Name.{Name}
 use Rattle.wasm_read.specs.declared.types.Name.TheVariants as name
 use Rattle.wasm_read.specs.Names.{MapStanding, whole_map, EntriesLeft, NamesStanding}
-use Rattle.wasm_read.specs.Subsections.{Content, content_of, subsection_frame, subsection_frame_tree, ReadsContent, ReadsName, Holds, NoSubsection, NameRead, SubsectionMissing}
+use Rattle.wasm_read.specs.Subsections.{Content, content_of, subsection_frame, subsection_frame_tree, body_in, body_of_id, KnownSubsection, OtherSubsection, ReadsContent, ReadsName, Holds, NoSubsection, NameRead, SubsectionMissing}
+use Rattle.wasm_read.specs.Laws as statements
 
 -- ---- what bytes begin with is one
 
@@ -65,14 +66,6 @@ name_none {bytes = bytes} none t q = none.none bytes [] t q (sym (append-nil byt
 
 -- ---- rows and frames
 
--- what the body of an id below 12 is
-abbrev body_in : Shape → Shape
-body_in (Shape.seq a (Shape.sized b)) = b
-body_in _ = Shape.none
-
-abbrev pub body_of_id : ℕ → Shape
-body_of_id id = body_in (row_at name_subsection id)
-
 -- so many rows lead with their numbers, from one on
 abbrev Numbered : ℕ → ℕ → List Shape → Type 0
 Numbered from (suc n) (r ∷ rows) = (r ≡ subsection from (body_in r)) × Numbered (suc from) n rows
@@ -101,25 +94,7 @@ chosen (s ∷ rows) (Is.later {k = k} {t = t} d) =
     let tree : t ≡ r.1 = cc in
     (suc r.0, r.1, ap₂ (λ (n : ℕ) (u : Tree). Tree.row (suc n) u) number tree, omega arith, r.4)
 
--- a subsection of an id below 12, and its frame
-pub record Known (bytes : List ℕ) (t : Tree) (left : List ℕ) : Type 0 where
-  pub id : ℕ
-  pub body : List ℕ
-  pub tree : Tree
-  pub below : id < 12
-  pub frame : Begins subsection_frame bytes (subsection_frame_tree id body) left
-  pub spells : Spells (body_of_id id) body tree
-  pub is : t ≡ subsection_tree id tree
-
--- one of an id from 12 on
-pub record Other (bytes : List ℕ) (t : Tree) (left : List ℕ) : Type 0 where
-  pub id : ℕ
-  pub body : List ℕ
-  pub from : 12 ≤ id
-  pub frame : Begins subsection_frame bytes (subsection_frame_tree id body) left
-  pub is : t ≡ raw_names_tree id body
-
-known : (id : ℕ) {u t : Tree} {bytes left : List ℕ} (text : List ℕ) → id < 12 → t ≡ Tree.row id u → Is (subsection id (body_of_id id)) u → Spelled u text → bytes ≡ text ++ left → Known bytes t left
+known : (id : ℕ) {u t : Tree} {bytes left : List ℕ} (text : List ℕ) → id < 12 → t ≡ Tree.row id u → Is (subsection id (body_of_id id)) u → Spelled u text → bytes ≡ text ++ left → KnownSubsection bytes t left
 known id text below is (Is.seq Is.fixed (Is.sized {t = u} d)) p e =
     let s = p.4 in record {
       id = id;
@@ -138,7 +113,7 @@ known id text below is (Is.seq Is.fixed (Is.sized {t = u} d)) p e =
       is = is;
     }
 
-other : {u t : Tree} {bytes left : List ℕ} (text : List ℕ) → t ≡ Tree.row 12 u → Is (Shape.seq (Shape.within 12 255) (Shape.sized Shape.rest)) u → Spelled u text → bytes ≡ text ++ left → Other bytes t left
+other : {u t : Tree} {bytes left : List ℕ} (text : List ℕ) → t ≡ Tree.row 12 u → Is (Shape.seq (Shape.within 12 255) (Shape.sized Shape.rest)) u → Spelled u text → bytes ≡ text ++ left → OtherSubsection bytes t left
 other text is (Is.seq (Is.within {b = id} low high) (Is.sized (Is.rest {bs = body}))) p e = record {
   id = id;
   body = body;
@@ -152,10 +127,10 @@ other text is (Is.seq (Is.within {b = id} low high) (Is.sized (Is.rest {bs = bod
 }
 
 -- a subsection stands in its frame
-pub row_of : {bytes left : List ℕ} {t : Tree} → Begins name_subsection bytes t left → Known bytes t left ⊎ Other bytes t left
+pub row_of : {bytes left : List ℕ} {t : Tree} → Begins name_subsection bytes t left → KnownSubsection bytes t left ⊎ OtherSubsection bytes t left
 row_of {bytes = bytes} {left = left} {t = t} p = let r = chosen name_rows p.spells.shaped in go r.0 r.1 r.2 r.3 r.4 (nat_lt r.0 12) refl
   where
-    go : (k : ℕ) (u : Tree) → t ≡ Tree.row k u → k < 13 → Is (row_at name_subsection k) u → (b : Bool) → nat_lt k 12 ≡ b → Known bytes t left ⊎ Other bytes t left
+    go : (k : ℕ) (u : Tree) → t ≡ Tree.row k u → k < 13 → Is (row_at name_subsection k) u → (b : Bool) → nat_lt k 12 ≡ b → KnownSubsection bytes t left ⊎ OtherSubsection bytes t left
     go k u e h d true l =
         let below = ltb-true k 12 l in
         let I : Shape → Type 0 = λ z. Is z u in
@@ -254,7 +229,7 @@ map_read j s c {tree = tree} {body = body} row p is =
     (r.0, r.2, is ∙ ap (subsection_tree j) r.1)
 
 -- at the frame that was read
-known_here : {id : ℕ} {t : Tree} {bytes body left behind : List ℕ} → Begins subsection_frame bytes (subsection_frame_tree id body) left → (k : Known bytes t behind) →
+known_here : {id : ℕ} {t : Tree} {bytes body left behind : List ℕ} → Begins subsection_frame bytes (subsection_frame_tree id body) left → (k : KnownSubsection bytes t behind) →
     (id < 12) × Spells (body_of_id id) body k.tree × (t ≡ subsection_tree id k.tree)
 known_here {t = t} {body = body} p k =
     let same = frame_one k.frame p in
@@ -264,7 +239,7 @@ known_here {t = t} {body = body} p k =
     (omega arith, subst (λ (y : ℕ). S y body) i (subst (S k.id) same.1 k.spells), k.is ∙ ap (λ (y : ℕ). subsection_tree y k.tree) i)
 
 content_read : (c : Content) (id : ℕ) (bytes body left behind : List ℕ) (t : Tree) → InTable c → Begins subsection_frame bytes (subsection_frame_tree id body) left → Holds id body c →
-    Known bytes t behind ⊎ Other bytes t behind → ReadsContent c t
+    KnownSubsection bytes t behind ⊎ OtherSubsection bytes t behind → ReadsContent c t
 content_read (Content.text n) id bytes body left behind t k p h (inl q) =
     let here = known_here p q in
     let S : ℕ → Type 0 = λ y. Spells (body_of_id y) body q.tree in
@@ -294,7 +269,7 @@ content_read (Content.raw j c) id bytes body left behind t k p h (inr q) =
     q.is ∙ ap₂ raw_names_tree (same.0 ∙ h.0) (same.1 ∙ sym h.2)
 
 behind_row : {id : ℕ} {t : Tree} {bytes body left behind : List ℕ} → Begins subsection_frame bytes (subsection_frame_tree id body) left →
-    Known bytes t behind ⊎ Other bytes t behind → behind ≡ left
+    KnownSubsection bytes t behind ⊎ OtherSubsection bytes t behind → behind ≡ left
 behind_row p (inl q) = (frame_one q.frame p).2
 behind_row p (inr q) = (frame_one q.frame p).2
 
@@ -308,21 +283,30 @@ none_subsection r none = record { none = λ text left t p e. none t (reads_subse
 
 -- ---- where none begins
 
-no_frame : {bytes left : List ℕ} {t : Tree} → BeginsNone subsection_frame bytes → Known bytes t left ⊎ Other bytes t left → ⊥
+no_frame : {bytes left : List ℕ} {t : Tree} → BeginsNone subsection_frame bytes → KnownSubsection bytes t left ⊎ OtherSubsection bytes t left → ⊥
 no_frame {left = left} none (inl q) = none.none q.frame.text left (subsection_frame_tree q.id q.body) q.frame.spells q.frame.reads
 no_frame {left = left} none (inr q) = none.none q.frame.text left (subsection_frame_tree q.id q.body) q.frame.spells q.frame.reads
 
 no_name : {bytes body left behind : List ℕ} {t : Tree} → Begins subsection_frame bytes (subsection_frame_tree 0 body) left → ((u : Tree) → Spells Shape.name body u → ⊥) →
-    Known bytes t behind ⊎ Other bytes t behind → ⊥
+    KnownSubsection bytes t behind ⊎ OtherSubsection bytes t behind → ⊥
 no_name p none (inl q) = none q.tree (known_here p q).1
 no_name p none (inr q) = let i = (frame_one q.frame p).0 in let from = q.from in omega arith
 
 pub none_begins : {bytes : List ℕ} → NoSubsection bytes → BeginsNone name_subsection bytes
 none_begins {bytes = bytes} none = record { none = λ text left t p e. go none left t (row_of (record { text = text; spells = p; reads = e })) }
   where
-    go : NoSubsection bytes → (left : List ℕ) (t : Tree) → Known bytes t left ⊎ Other bytes t left → ⊥
+    go : NoSubsection bytes → (left : List ℕ) (t : Tree) → KnownSubsection bytes t left ⊎ OtherSubsection bytes t left → ⊥
     go (inl n) left t q = no_frame n q
     go (inr n) left t q = no_name n.2 n.3 q
 
 pub missing : {row : Shape} {old : NamesStanding} → BeginsNone row old.rest → old.rest ≢ [] → NoSubsection old.rest → SubsectionMissing row old
 missing none some here = record { some = some; here = here; none = none }
+
+-- ---- the law
+
+pub subsections_framed : statements.AreSubsectionsFramed
+subsections_framed = record {
+  forth = λ bytes left t p. row_of p;
+  back = λ id bytes body left u below p q. known_there below p q;
+  others = λ id bytes body left from p. other_there from p;
+}

@@ -1,5 +1,5 @@
 -- What the reader of name sections promises (WebAssembly Core Specification 3.0, section 7.4.1).
-use Rattle.std.specs.Prelude.{◌≡◌, ◌≢◌, ◌⊎◌, ℕ, ◌≤◌, List, []}
+use Rattle.std.specs.Prelude.{◌≡◌, ◌≢◌, ◌⊎◌, ℕ, ◌<◌, ◌≤◌, List, []}
 use Rattle.wasm_shapes.specs.declared.Space.{Space}
 use Rattle.wasm_shapes.specs.declared.Space.TheVariants as space
 use Rattle.wasm_shapes.specs.Tree.{Tree}
@@ -7,7 +7,8 @@ use Rattle.wasm_shapes.specs.Shape.{Shape}
 use Rattle.wasm_shapes.specs.Spells.{Spells}
 use Rattle.wasm_shapes.specs.Place.{Begins, BeginsNone}
 use Rattle.wasm_shapes.specs.Module.{name_subsection}
-use Rattle.wasm_shapes.specs.Namings.{Entry, Outer, entries_trees, outers_trees, module_name_tree, names_tree, raw_names_tree}
+use Rattle.wasm_shapes.specs.Namings.{Entry, Outer, entries_trees, outers_trees, module_name_tree, names_tree, raw_names_tree, subsection_tree}
+use Rattle.wasm_shapes.proofs.Begins.{row_at}
 use Rattle.wasm_read.specs.declared.types.Name.{Name}
 use Rattle.wasm_read.specs.declared.types.Name.TheVariants as name
 use Rattle.wasm_read.specs.Names.{MapStanding, whole_map, NamesLeft, IndirectLeft, NamesStanding}
@@ -18,6 +19,32 @@ subsection_frame = Shape.seq Shape.byte (Shape.sized Shape.rest)
 
 abbrev pub subsection_frame_tree : ℕ → List ℕ → Tree
 subsection_frame_tree id body = Tree.pair (Tree.byte id) (Tree.sized (Tree.raw body))
+
+-- what the body of an id below 12 is
+abbrev pub body_in : Shape → Shape
+body_in (Shape.seq a (Shape.sized b)) = b
+body_in _ = Shape.none
+
+abbrev pub body_of_id : ℕ → Shape
+body_of_id id = body_in (row_at name_subsection id)
+
+-- a subsection of an id below 12, and its frame
+pub record KnownSubsection (bytes : List ℕ) (t : Tree) (left : List ℕ) : Type 0 where
+  pub id : ℕ
+  pub body : List ℕ
+  pub tree : Tree
+  pub below : id < 12
+  pub frame : Begins subsection_frame bytes (subsection_frame_tree id body) left
+  pub spells : Spells (body_of_id id) body tree
+  pub is : t ≡ subsection_tree id tree
+
+-- one of an id from 12 on
+pub record OtherSubsection (bytes : List ℕ) (t : Tree) (left : List ℕ) : Type 0 where
+  pub id : ℕ
+  pub body : List ℕ
+  pub from : 12 ≤ id
+  pub frame : Begins subsection_frame bytes (subsection_frame_tree id body) left
+  pub is : t ≡ raw_names_tree id body
 
 -- What a subsection holds: a name; a map of names of an id, by indices of a space; a map of such maps; or bytes of which nothing
 -- is said.

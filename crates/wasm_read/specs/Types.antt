@@ -1,7 +1,8 @@
 -- The trees that the types and rows of a core module stand for, as they are read (WebAssembly Core Specification 3.0,
 -- section 5.3). An index inside a recursion group stands for a leaf that no shape has.
-use Rattle.std.specs.Prelude.{◌≡◌, ℕ, Bool, List, [], ◌∷◌, map, Option, Some, None}
+use Rattle.std.specs.Prelude.{◌≡◌, ◌⊎◌, ℕ, Bool, List, [], ◌∷◌, map, Option, Some, None}
 use Rattle.std.specs.Option.{option_map}
+use Rattle.wasm_leb.specs.Place.{BeginsNumber}
 use Rattle.wasm_shapes.specs.declared.Space.TheVariants as space
 use Rattle.wasm_shapes.specs.Tree.{Tree}
 use Rattle.wasm_shapes.specs.Shape.{Shape}
@@ -284,6 +285,20 @@ element_parts element.Declared row = declared_of row
 
 abbrev pub element_tree : Element → Tree
 element_tree row = element_parts row.kind (listed_items row.items)
+
+-- An active segment leaves its table out with the flags 0 and 4, and names it with 2 and 6.
+abbrev pub FlagSays : ElementKind → ℕ → Type 0
+FlagSays (element.Active None offset) flag = (flag ≡ 0) ⊎ (flag ≡ 4)
+FlagSays (element.Active (Some table) offset) flag = (flag ≡ 2) ⊎ (flag ≡ 6)
+FlagSays element.Passive flag = Unit {0}
+FlagSays element.Declared flag = Unit {0}
+
+-- the flag in front of a segment says whether the segment has a table of its own
+pub record ElementFlag (bytes : List ℕ) (row : Element) : Type 0 where
+  pub flag : ℕ
+  pub rest : List ℕ
+  pub flagged : BeginsNumber 128 32 32 bytes flag rest
+  pub says : FlagSays row.kind flag
 
 -- a data segment: placed in a memory, or passive
 abbrev pub data_parts : DataKind → List ℕ → Tree

@@ -7,7 +7,7 @@ ghost use Rattle.wasm_shapes.specs.Shape.{Shape, Named, lead, reference};
 ghost use Rattle.wasm_shapes.specs.Tree.{Tree};
 ghost use Rattle.wasm_shapes.specs.Types.{led, vector_tree, function_index_tree, typed_expressions};
 ghost use Rattle.wasm_read.specs.Expressions.{expr_tree};
-ghost use Rattle.wasm_read.specs.Types.{ref_type_tree, element_tree};
+ghost use Rattle.wasm_read.specs.Types.{ElementFlag, ref_type_tree, element_tree};
 
 use crate::expressions::{ConstExpr, front_expr};
 use crate::types::{AbstractHeapType, Element, ElementItems, ElementKind, HeapType, RefType};
@@ -90,6 +90,7 @@ pub fn front_element<'a>(
 ) -> Result<Option<(Element<'a>, &'a [u8])>, NoMemory>
     ensures some { IfOk result (λ o. IfSome o (λ r.
         Begins element_row bytes.now (element_tree r.0) r.1.now)) }
+    ensures beside { IfOk result (λ o. IfSome o (λ r. ElementFlag bytes.now r.0)) }
     ensures none { IfOk result (λ o. IfNone o (BeginsNone element_row bytes.now)) }
 {
     let Some((flag, rest)) = front_u32(bytes) else {

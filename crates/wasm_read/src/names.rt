@@ -163,8 +163,8 @@ impl<'a> NameMap<'a> {
         }
     }
 
-    /// The next entry, or none where all counted entries were given and the bytes are filled. The first call reads the count
-    /// too. No memory is taken.
+    /// The next entry, or none where all counted entries were given and the bytes are filled, and then none again. The first
+    /// call reads the count too. No memory is taken.
     ///
     /// The error comes exactly where no count or no entry begins, or where bytes are left behind the last one. It holds that
     /// place in the map, and leaves the reader where it stood.
@@ -175,6 +175,7 @@ impl<'a> NameMap<'a> {
         ensures err { IfErr result (λ _. EntryMissing plain_naming self.old) }
         ensures at { IfErr result (λ e. e.at ≡ map_place self.old) }
         ensures stays { IfErr result (λ _. self.new ≡ self.old) }
+        ensures over { IfOk result (λ o. IfNone o (self.new ≡ self.old)) }
     {
         match self.entries.due() {
             Ok(Some((left, bytes))) => match front_naming(bytes) {
@@ -216,8 +217,8 @@ impl<'a> IndirectNameMap<'a> {
         }
     }
 
-    /// The next entry, or none where all counted entries were given and the bytes are filled. The first call reads the count
-    /// too. The names of an entry were read to their end, and are a map of which nothing is read. No memory is taken.
+    /// The next entry, or none where all counted entries were given and the bytes are filled, and then none again. The first
+    /// call reads the count too. The names of an entry were read to their end, and are a map of which nothing is read. No memory is taken.
     ///
     /// The error comes exactly where no count or no entry begins, or where bytes are left behind the last one. It holds that
     /// place in the map, and leaves the reader where it stood.
@@ -228,6 +229,7 @@ impl<'a> IndirectNameMap<'a> {
         ensures err { IfErr result (λ _. EntryMissing plain_indirect self.old) }
         ensures at { IfErr result (λ e. e.at ≡ map_place self.old) }
         ensures stays { IfErr result (λ _. self.new ≡ self.old) }
+        ensures over { IfOk result (λ o. IfNone o (self.new ≡ self.old)) }
     {
         match self.entries.due() {
             Ok(Some((left, bytes))) => match front_indirect(bytes) {

@@ -48,6 +48,13 @@ impl<'a> Rows<'a> {
         self.count
     }
 
+    /// How many rows are left.
+    pub fn left(&self) -> u32
+        ensures { result ≡ self.now.left }
+    {
+        self.left
+    }
+
     /// The place in the body where the next row is due.
     pub fn place(&self) -> usize
         ensures { result ≡ place_of self.now }

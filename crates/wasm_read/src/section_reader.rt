@@ -76,6 +76,14 @@ impl<'a, K> SectionReader<'a, K> {
         self.rows.count()
     }
 
+    /// How many rows are still to be read.
+    #[inline]
+    pub fn left(&self) -> u32
+        ensures { result ≡ self.now.left }
+    {
+        self.rows.left()
+    }
+
     /// The place in the body where it stands.
     #[inline]
     pub fn place(&self) -> usize

@@ -1,7 +1,7 @@
 //! The readers of the sections of rows (WebAssembly Core Specification 3.0, section 5.5).
 ghost use Rattle.std.specs.Prelude.{true};
 ghost use Rattle.wasm_read.specs.Operations.{body_tree};
-ghost use Rattle.wasm_read.specs.Types.{group_tree, import_tree, function_tree, table_tree, memory_type_tree, global_tree, tag_type_tree, export_tree, element_tree, ExportKind, data_tree};
+ghost use Rattle.wasm_read.specs.Types.{group_tree, import_tree, function_tree, table_tree, memory_type_tree, global_tree, tag_type_tree, export_tree, element_tree, ElementFlag, ExportKind, data_tree};
 
 use crate::code::front_body;
 use crate::data_segments::front_data;
@@ -140,13 +140,16 @@ impl<'a> ReadRow<'a> for kinds::Exports {
     }
 }
 
-/// A reader of the rows of an element section (section 5.5.12). A row takes memory, for what it lists.
+/// A reader of the rows of an element section (section 5.5.12). A row takes memory, for what it lists. An active segment has
+/// a table of its own where its flag says so, as 6 does with the table 0 for a type that 4 can't say.
 pub type ElementSectionReader<'a> = SectionReader<'a, kinds::Elements>;
 
 impl<'a> ReadRow<'a> for kinds::Elements {
     type Row = Element<'a>;
 
     ghost tree = { element_tree };
+
+    ghost beside = { ElementFlag };
 
     ghost takes_memory = { true };
 

@@ -84,6 +84,13 @@ impl<'a, K> ScopedReader<'a, K> {
         self.rows.count()
     }
 
+    /// How many rows are still to be read.
+    pub fn left(&self) -> u32
+        ensures { result ≡ self.now.rows.left }
+    {
+        self.rows.left()
+    }
+
     /// The place in the body where it stands.
     pub fn place(&self) -> usize
         ensures { result ≡ place_of self.now.rows }

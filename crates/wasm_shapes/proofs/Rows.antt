@@ -8,6 +8,7 @@ use Rattle.wasm_leb.specs.Place.{BeginsNumber, BeginsNoNumber}
 use Rattle.wasm_shapes.specs.Place.{Begins, BeginsNone}
 use Rattle.wasm_shapes.specs.Sound.{sound}
 use Rattle.wasm_shapes.specs.Rows.{RowsLeft, NoRows, rows_then}
+use Rattle.wasm_shapes.specs.RowLaws as statements
 use Rattle.wasm_leb.proofs.Unique.{unsigned_unique}
 use Rattle.wasm_shapes.proofs.Unique.{unique}
 
@@ -103,18 +104,19 @@ vec_spelled {start = start} p r = record {
   spelled = (p.0, start, p.2, rw r.counted p.1, r.spelled);
 }
 
-pub vec_rows : {s : Shape} {n : ℕ} {body start : List ℕ} → BeginsNumber 128 32 32 body n start → (tree : Tree) → Spells (Shape.vec s) body tree →
-    (rows : Tree) × RowsLeft s n start rows
-vec_rows {s = s} {n = n} {body = body} {start = start} there tree p = go tree p.shaped p.spelled
+-- a vector's rows are what stands behind its number
+pub vec_is : {s : Shape} {n : ℕ} {body start : List ℕ} → BeginsNumber 128 32 32 body n start → (tree : Tree) → Spells (Shape.vec s) body tree →
+    (rows : Tree) × (tree ≡ Tree.vec rows) × RowsLeft s n start rows
+vec_is {s = s} {n = n} {body = body} {start = start} there tree p = go tree p.shaped p.spelled
   where
-    go : (tree : Tree) → Is (Shape.vec s) tree → Spelled tree body → (rows : Tree) × RowsLeft s n start rows
+    go : (tree : Tree) → Is (Shape.vec s) tree → Spelled tree body → (rows : Tree) × (tree ≡ Tree.vec rows) × RowsLeft s n start rows
     go tree (Is.vec {t = t} d) q =
         let both_ways : there.0 ++ start ≡ q.0 ++ q.1 = sym there.2 ∙ q.2 in
         let same : (there.0 ≡ q.0) × (n ≡ count t) = unsigned_unique start q.1 there.1 q.3 both_ways in
         let shifted : q.0 ++ start ≡ q.0 ++ q.1 = ap (λ (z : List ℕ). z ++ start) (sym same.0) ∙ both_ways in
         let behind : start ≡ q.1 = append_cancel_left q.0 start q.1 shifted in
         let P : List ℕ → Type 0 = λ z. Spelled t z in
-        (t, record { shaped = d; counted = sym same.1; spelled = subst P (sym behind) q.4 })
+        (t, refl, record { shaped = d; counted = sym same.1; spelled = subst P (sym behind) q.4 })
 
 -- nothing is a vector where no count begins
 pub vec_counted : {s : Shape} {body : List ℕ} → BeginsNoNumber 128 32 32 body → (tree : Tree) → Spells (Shape.vec s) body tree → ⊥
@@ -148,3 +150,17 @@ so_far_more {s = s} {total = total} {n = n} {m = m} {start = start} {bytes = byt
 
 pub so_far_stuck : {s : Shape} {total left : ℕ} {start rest : List ℕ} {rows : List Tree} → RowsSoFar s total start rows left rest → NoRows s left rest → NoRows s total start
 so_far_stuck so_far none = record { none = λ all r. none.none (so_far.back all r).0 (so_far.back all r).2 }
+
+-- ---- the laws
+
+pub are_rows : statements.AreRows
+are_rows = record {
+  rows = λ s n body start t there p. vec_is there t p;
+  vector = λ s n body start rows there r. vec_spelled there r;
+  uncounted = λ s body t none p. vec_counted none t p;
+  first = λ s k h n bytes left t rows there r. rows_first k h refl there rows r;
+  more = λ s n bytes left t rows there r. rows_cons refl there r;
+  stuck = λ s n bytes none. no_row refl none;
+  ended = λ s bytes more. no_rows_behind refl more;
+  whole = λ s. rows_end refl refl;
+}

@@ -1,17 +1,17 @@
 -- The laws of `specs/SectionLaws.antt`.
-use Rattle.std.proofs.Common.{◌≡◌, ℕ, List, [], ◌∷◌, ◌++◌, refl, sym, ap, ◌∙◌, subst, inl}
+use Rattle.std.proofs.Common.{◌≡◌, ℕ, ◌≤◌, List, [], ◌∷◌, ◌++◌, refl, sym, ap, ◌∙◌, subst, inl, arith}
 use Rattle.std.proofs.lemmas.List.{append_cancel_left}
 use Rattle.wasm_shapes.specs.declared.SectionId.{SectionId}
 use Rattle.wasm_shapes.specs.Tree.{Tree}
 use Rattle.wasm_shapes.specs.Shape.{Shape}
 use Rattle.wasm_shapes.specs.Spells.{Is, Spelled, Spells}
 use Rattle.wasm_shapes.specs.Place.{Begins, BeginsNone}
-use Rattle.wasm_shapes.specs.Module.{in_force, section, sections, custom, body_of, tree_of, custom_tree_of, unknown_tree_of, frame, InFrame}
+use Rattle.wasm_shapes.specs.Module.{in_force, section, sections, custom, body_of, tree_of, custom_tree_of, unknown_tree_of, frame, numbered_frame, InFrame}
 use Rattle.wasm_shapes.specs.SectionLaws as statements
 use Rattle.wasm_shapes.specs.SectionLaws.{SpellsSized}
 use Rattle.wasm_shapes.proofs.Unique.{unique}
 use Rattle.wasm_shapes.proofs.Begins.{none_at_end}
-use Rattle.wasm_shapes.proofs.SectionTable.{in_frame, of_frame, kind_in_frame, custom_in_frame, unknown_in_frame, row_shaped, custom_is, custom_row}
+use Rattle.wasm_shapes.proofs.SectionTable.{in_frame, of_frame, kind_in_frame, custom_in_frame, unknown_in_frame, none_section, same_kind, row_shaped, custom_is, custom_row}
 
 -- ---- sections and their frames
 
@@ -39,8 +39,28 @@ framed_back bytes left f u v there i others =
       spelled = (there.text, left, there.reads, p.spelled, others.spelled);
     }
 
+-- the id of a frame with a number
+pub frame_id : {id : ℕ} {bytes body left : List ℕ} → Begins frame bytes (numbered_frame id body) left → (1 ≤ id) × (id ≤ 127)
+frame_id {id = id} {body = body} there = go _ there.spells.shaped refl
+  where
+    go : (f : Tree) → Is frame f → f ≡ numbered_frame id body → (1 ≤ id) × (id ≤ 127)
+    go f (Is.first (Is.seq {t = t} {u = u} d d')) e = absurd (let apart : Tree.row 0 (Tree.pair t u) ≡ numbered_frame id body = e in cc)
+    go f (Is.later (Is.first (Is.seq (Is.within {b = b} low high) (Is.sized Is.rest)))) e = let same : b ≡ id = cc in (omega (arith, same, low), omega (arith, same, high))
+    go f (Is.later (Is.later d)) e = elim d [ ]
+
 pub in_frames : statements.AreInFrames
-in_frames = record { forth = framed_forth; back = framed_back; of_kind = kind_in_frame; of_custom = custom_in_frame; of_unknown = unknown_in_frame }
+in_frames = record {
+  forth = framed_forth;
+  back = framed_back;
+  of_kind = kind_in_frame;
+  of_custom = custom_in_frame;
+  of_unknown = unknown_in_frame;
+  framed = λ bytes t p. in_frame t bytes p.shaped p.spelled;
+  whole = λ bytes t f i p. of_frame i p;
+  none = λ bytes n. none_section n;
+  ids = λ id bytes body left there. frame_id there;
+  own_ids = same_kind;
+}
 
 -- ---- sizes and bodies
 

@@ -6,7 +6,7 @@ use Rattle.wasm_shapes.specs.declared.Space.{Space}
 use Rattle.wasm_shapes.specs.declared.Space.TheVariants as space
 use Rattle.wasm_shapes.specs.Tree.{Tree}
 use Rattle.wasm_shapes.specs.Shape.{Shape, Named, one_of, choice, lead, final_sub, open_sub, explicit_group, entity}
-use Rattle.wasm_shapes.specs.Sections.{component_header, single_import, export_row, naming_row, subsection, headed, headed_tree, core_module}
+use Rattle.wasm_shapes.specs.Sections.{component_header, single_import, export_row, naming_row, subsection, headed, headed_tree, core_module, single_module}
 
 -- ---- names and sorts
 
@@ -356,6 +356,25 @@ abbrev pub row_at : List Shape → ℕ → Shape
 row_at [] k = Shape.none
 row_at (s ∷ ss) zero = s
 row_at (s ∷ ss) (suc k) = row_at ss k
+
+-- the rows with another one in place of that of a number
+abbrev pub with_row : ℕ → Shape → List Shape → List Shape
+with_row k row [] = []
+with_row zero row (s ∷ ss) = row ∷ ss
+with_row (suc k) row (s ∷ ss) = s ∷ with_row k row ss
+
+-- The sections of a component where every import of a core module in it is a single one, and a component in it, with its frame,
+-- is of this shape.
+abbrev pub single_rows : Shape → List Shape
+single_rows components = with_row 1 (subsection 1 (Shape.scope single_module)) (with_row 4 (lead 4 components) component_section_rows)
+
+abbrev pub single_with : Shape → Shape
+single_with components = headed component_header (Shape.many (choice (single_rows components)))
+
+-- a component where every import of each core module in it is a single one, with so many components at most within each other
+abbrev pub single_component : ℕ → Shape
+single_component zero = single_with Shape.none
+single_component (suc n) = single_with (Shape.sized (Shape.scope (single_component n)))
 
 -- the bodies of the sections of an id below 12
 abbrev pub component_bodies : List Shape

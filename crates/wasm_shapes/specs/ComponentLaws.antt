@@ -7,7 +7,7 @@ use Rattle.wasm_shapes.specs.Spells.{Spells}
 use Rattle.wasm_shapes.specs.Fits.{Fits}
 use Rattle.wasm_shapes.specs.Sections.{component_header, core_tree}
 use Rattle.wasm_shapes.specs.Module.{CoreReading}
-use Rattle.wasm_shapes.specs.Component.{component_section, component, component_tree, component_body_of}
+use Rattle.wasm_shapes.specs.Component.{component_section, component, single_component, component_tree, component_body_of}
 use Rattle.wasm_shapes.specs.Depth.{opens, Shallow}
 use Rattle.wasm_shapes.specs.ComponentReadings.{ComponentReading}
 
@@ -32,6 +32,13 @@ pub record AreOneReading : Type 0 where
 abbrev pub IsReadBackAt : Type 0
 IsReadBackAt = (depth : ℕ) (bytes : List ℕ) (t : Tree) (answers : List ℕ) → ((k : ℕ) → get_or answers k 0 < 2 ^ 32) → ComponentReading depth bytes t →
     Fits (fill t answers) (2 ^ 32 - 1) → ComponentReading depth (component_header ++ normal (fill t answers)) (fill t answers)
+
+-- Bytes that read as a component by the table in which every import of each core module in it is a single one have the same tree
+-- by the table in force, and no other there. So they are a component at the same depths, and their normal spelling and their visits
+-- are the same.
+abbrev pub KeepsNestedImports : Type 0
+KeepsNestedImports = (n : ℕ) (bytes : List ℕ) (t : Tree) → Spells (single_component n) bytes t →
+    Spells component bytes t × ((u : Tree) → Spells component bytes u → u ≡ t)
 
 -- answers open no scope, and close none
 abbrev pub IsAsDeep : Type 0

@@ -18,6 +18,7 @@ pub mod OperatorRows
 pub mod Operators
 pub mod Own
 pub mod Place
+pub mod RowLaws
 pub mod Rows
 pub mod Scopes
 pub mod SectionLaws

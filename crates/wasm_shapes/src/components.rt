@@ -1,5 +1,5 @@
 //! The laws of components, as functions that do nothing: each one's contract is the law.
-ghost use Rattle.wasm_shapes.specs.ComponentLaws.{AreComponentsSound, AreNested, AreOneReading, IsAsDeep, IsComponentHeaded, IsReadBackAt};
+ghost use Rattle.wasm_shapes.specs.ComponentLaws.{AreComponentsSound, AreNested, AreOneReading, IsAsDeep, IsComponentHeaded, IsReadBackAt, KeepsNestedImports};
 ghost use Rattle.wasm_shapes.specs.Scopes.{AreDeepest};
 
 /// The tables of components pass the test.
@@ -30,6 +30,11 @@ pub fn nested_readings()
 #[tactic(auto, using(crate::proofs::ComponentLaws::read_back_at))]
 pub fn component_reads_back()
     ensures { IsReadBackAt }
+{}
+
+/// Components in whose core modules all imports are single ones read as they do by the table without compact rows.
+pub fn nested_imports_stay()
+    ensures { KeepsNestedImports }
 {}
 
 /// A tree filled with answers opens as many scopes within each other as before.

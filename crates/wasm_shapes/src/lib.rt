@@ -12,7 +12,7 @@ mod spelling;
 pub use canonical::{CanonicalForm, canonical_form};
 pub use components::{
     answers_open_no_scope, bytes_have_one_reading, component_header_spells, component_reads_back,
-    components_are_sound, nested_readings, opens_is_deepest,
+    components_are_sound, nested_imports_stay, nested_readings, opens_is_deepest,
 };
 pub use operators::{
     BLOCK, BR, CALL, CALL_INDIRECT, DROP, END, GLOBAL_GET, I32_ADD, I32_CONST, I32_LOAD, LOCAL_GET,
@@ -21,7 +21,7 @@ pub use operators::{
 pub use spelling::{
     drawn_from_a_stretch, drawn_lists_join, header_spells, normal_reads_back,
     own_answers_change_nothing, section_is_sized, sections_stand_in_frames, single_imports_stay,
-    spelling_is_unique, tables_are_sound, text_has_one_tree,
+    spelling_is_unique, tables_are_sound, text_has_one_tree, vectors_are_rows,
 };
 
 /// An index space. The first eight are those of core modules (WebAssembly Core Specification 3.0, section 5.5.1);

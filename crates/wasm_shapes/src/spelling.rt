@@ -1,6 +1,7 @@
 //! The laws of spelling, as functions that do nothing: each one's contract is the law.
 ghost use Rattle.wasm_shapes.specs.Drawn.{IsDrawnFromWhole, IsDrawnJoined};
 ghost use Rattle.wasm_shapes.specs.Own.{IsOwn};
+ghost use Rattle.wasm_shapes.specs.RowLaws.{AreRows};
 ghost use Rattle.wasm_shapes.specs.SectionLaws.{AreInFrames, AreSized};
 ghost use Rattle.wasm_shapes.specs.Laws.{IsUnique, HasOneTree, IsReadBack, IsReadBackAsIs, AreSound, IsHeaded, KeepsSingleImports};
 
@@ -17,7 +18,6 @@ pub fn text_has_one_tree()
 {}
 
 /// The normal spelling of a reading, filled or as it stands, reads as it.
-
 pub fn normal_reads_back()
     ensures filled { IsReadBack }
     ensures as_is { IsReadBackAsIs }
@@ -35,7 +35,14 @@ pub fn header_spells()
     ensures { IsHeaded }
 {}
 
+/// A vector is a number and so many rows; rows are the first and those behind it.
+#[tactic(auto, using(crate::proofs::Rows::are_rows))]
+pub fn vectors_are_rows()
+    ensures { AreRows }
+{}
+
 /// Behind a frame, sections are the one in that frame and a reading of what is left; what stands in a frame is told by its id.
+/// Each section stands in a frame, by an id of its own.
 #[tactic(auto, using(crate::proofs::SectionLaws::in_frames))]
 pub fn sections_stand_in_frames()
     ensures { AreInFrames }

@@ -4,6 +4,7 @@ use Rattle.std.proofs.lemmas.List.Elements.{All-append, All-cons}
 use Rattle.wasm_shapes.specs.Tree.{Tree, normal, frames, kind_bytes}
 use Rattle.wasm_shapes.specs.Spells.{Spelled}
 use Rattle.wasm_shapes.specs.Fits.{Fits}
+use Rattle.wasm_write.specs.Laws.{IsShortest}
 use Rattle.wasm_write.proofs.Shorter.{shorter}
 
 -- what is no longer than a text, and is a number of 32 bits, is not above the ceiling
@@ -71,3 +72,6 @@ frames_in_text c t x p h = frames_fit c t x p (λ n l s. omega arith)
 -- and its size is a number of 32 bits
 pub read_frames_fit : (t : Tree) (x : List ℕ) → Spelled t x → Fits t 4294967295
 read_frames_fit t x p = frames_fit 4294967295 t x p (λ n l s. omega arith)
+
+pub is_shortest : IsShortest
+is_shortest = record { shortest = shorter; within = frames_in_text; sized = read_frames_fit }

@@ -4,6 +4,7 @@ pub mod Faults
 pub mod Frames
 pub mod Held
 pub mod Instructions
+pub mod Laws
 pub mod Names
 pub mod Rows
 pub mod Sections

@@ -44,8 +44,8 @@ pub type ImportSection = RowSection<kinds::Imports>;
 impl RowSection<kinds::Imports> {
     /// Adds what is imported. A refusal changes nothing.
     ///
-    /// `TooLarge` comes exactly where one of the names has more than 2^32 - 1 bytes or the number of rows would pass
-    /// 2^32 - 1, with that number.
+    /// `TooLarge` comes exactly where one of the names has more than 2^32 - 1 bytes, a compact import has more items than
+    /// that, or the number of rows would pass it, with that number.
     #[inline]
     pub fn imports(&mut self, imports: &Imports<'_>) -> Result<(), WriteFault>
         ensures ok { OnOk result (self.new ≡ self.old ++ import_tree imports.now ∷ []) }

@@ -13,6 +13,9 @@ use wasm_shapes::component_kinds::ComponentSectionKind;
 use wasm_write::{CustomSection, Module, RawSection, RowSection, Section, WriteFault};
 
 /// A section that can be added to a component. It has the calls and the meanings of `Section`.
+///
+/// It is a `Section` itself, so `Module::section` takes one too: the module then has a section of this id with a component's body,
+/// and may have no reading. Add the sections of this crate to a `Component` alone, which takes none of a core module's kinds.
 pub trait ComponentSection: Section {}
 
 impl<K: ComponentSectionKind> ComponentSection for RowSection<Of<K>> {}

@@ -1,7 +1,7 @@
 //! A code section in pieces.
-ghost use Rattle.std.specs.Prelude.{◌≡◌, ◌≢◌, ◌+◌, ◌++◌, ◌∷◌, ◌-◌, ◌<◌, ◌≤◌, ◌^◌, [], length, slice_range, true, false, OnOk, OnErr, IfOk, IfErr, IfSome, IfNone};
+ghost use Rattle.std.specs.Prelude.{ℕ, ◌≡◌, ◌≢◌, ◌+◌, ◌++◌, ◌∷◌, ◌-◌, ◌<◌, ◌≤◌, ◌^◌, [], length, slice_range, true, false, OnOk, OnErr, IfOk, IfErr, IfSome, IfNone};
 ghost use Rattle.wasm_shapes.specs.Tree.{Tree, normal};
-ghost use Rattle.wasm_leb.specs.Leb.{leb};
+ghost use Rattle.wasm_leb.specs.Leb.{IsUnsigned, leb};
 ghost use Rattle.wasm_shapes.specs.Types.{rows_tree, vector_tree};
 ghost use Rattle.wasm_shapes.specs.Module.{code_row};
 ghost use Rattle.wasm_write.specs.Faults.{IfTooLarge};
@@ -54,7 +54,9 @@ fn are_same(bytes: &[u8], others: &[u8]) -> bool
 
 /// The bytes in front of a body, where the rows of a section are one, of this body.
 fn kept_head<'a>(count: u32, rows: &'a [u8], body: &[u8]) -> Option<&'a [u8]>
+    requires { count ≡ 1 → (n : ℕ) → IsUnsigned 32 rows.now n → ⊥ }
     ensures some { IfSome result (λ head. (rows.now ≡ head.now ++ body.now) × (0 < length head.now)) }
+    ensures body { IfSome result (λ _. 0 < length body.now) }
     ensures kept { IfSome result (λ _. (u : Tree) → rows.now ≡ normal (rows_tree (Tree.sized u ∷ []))
         → length (normal u) < 2 ^ 32 → normal u ≡ body.now) }
     ensures other { IfNone result ((u : Tree) → rows.now ≡ normal (rows_tree (Tree.sized u ∷ []))
@@ -81,7 +83,8 @@ fn add_rows(
     body: &[u8],
     end: usize,
 ) -> Result<(), NoMemory>
-    requires { StandsAt pieces.old.input body.now end }
+    requires stands { StandsAt pieces.old.input body.now end }
+    requires bodied { count ≡ 1 → (n : ℕ) → IsUnsigned 32 rows.now n → ⊥ }
     ensures bytes { OnOk result (pieces.new.bytes ≡ pieces.old.bytes ++ rows.now) }
     ensures kept { OnOk result ((u : Tree) → rows.now ≡ normal (rows_tree (Tree.sized u ∷ []))
         → length (normal u) < 2 ^ 32 → count ≡ 1 → KeepsBody (normal u) body.now

@@ -109,9 +109,9 @@ impl<'a> Growing<'a> {
         }
     }
 
-    /// Keeps a range of the input, behind some bytes.
+    /// Keeps a range of the input that is not empty, behind some bytes.
     pub fn keep(&mut self, head: &[u8], start: usize, end: usize) -> Result<(), NoMemory>
-        requires ordered { start ≤ end }
+        requires ordered { start < end }
         requires within { end ≤ length self.old.input }
         requires some { 0 < length head.now }
         ensures ok { OnOk result (self.new ≡ with_kept self.old head.now start end) }

@@ -311,8 +311,8 @@ fn add_kind<R: Reencode>(
     }
 }
 
-/// Reads a module and adds what its sections become. The section hook is called before each section and at the end, and the closing
-/// hook behind each section.
+/// Reads a module and adds what its sections become. The section hook is called before each section of the ids 1 to 13 and at the
+/// end, and the closing hook behind each of these, once it was added.
 fn walk<R: Reencode>(
     reencoder: &mut R,
     alloc: Global,

@@ -1,6 +1,6 @@
 use Rattle.wasm_read.specs.declared.types.Payload.TheVariants as payload
 use Rattle.examples.proofs.Stripping.{payload_short, wants_memory}
-use Rattle.reencode_core.proofs.Known.{frame_id}
+use Rattle.wasm_shapes.proofs.SectionLaws.{frame_id}
 use Rattle.examples.proofs.stripper.add_kept.Goals as goal
 
 pub invariant_of-section-in-Unknown : goal.invariant_of-section-in-Unknown

@@ -10,7 +10,7 @@ fail-requires c = has_status (stopped answers_reply answers_next c.args.ceiling 
 
 pub returns-clause-ends : goal.returns-clause-ends
 returns-clause-ends c =
-    told (IsAnswered c.args.reencoder.left c.args.ceiling c.args.bytes.now) ⊥ (IsMiscounted c.args.reencoder.left c.args.bytes.now c.fail.new.self.length)
+    told (IsAnswered c.args.reencoder.left c.args.ceiling c.args.bytes.now) ⊥ (IsMiscounted c.args.reencoder.left c.args.ceiling c.args.bytes.now c.fail.new.self.length)
     (IsErrorOf (hooks_by answers_reply answers_next) c.args.reencoder c.args.ceiling c.args.bytes.now) c.fail.new.self c.args.room.now c.in-Err.e
     (stopped answers_reply answers_next c.args.ceiling c.args.bytes.now c.args.reencoder c.reencode_within.new.r c.in-Err.e c.in-Err.ensures) c.fail.ensures
 

@@ -1,4 +1,4 @@
-use Rattle.std.proofs.Common.{◌<◌, ◌+◌, Ok, Err, refl, rules}
+use Rattle.std.proofs.Common.{◌<◌, ◌+◌, Ok, Err, refl, rules, arith}
 use Rattle.wasm_shapes.specs.Component as shapes
 use Rattle.wasm_shapes.specs.Drawn.{IsItem}
 use Rattle.wasm_shapes.specs.Tree.{Tree}
@@ -67,13 +67,13 @@ component_type-rows-preserved g t c =
 pub component_type-returns-in_err-row : goal.component_type-returns-in_err-row
 component_type-returns-in_err-row g t c =
     let i = g.T.ReencodeIndices in
-    shallow_stopped i shapes.component_declaration c.args.ty _ c.in_ok-push_depth.ensures.answer c.new-made.ensures _ (shallow_stuck i c.rows.invariant _ c.in_err-row.ensures.err (Err _) refl) _ c.from_residual-in_err-row.ensures.1
+    shallow_stopped i shapes.component_declaration c.args.ty _ c.in_ok-push_depth.ensures.answer c.new-made.ensures (omega arith) _ (shallow_stuck i c.rows.invariant _ c.in_err-row.ensures.err (Err _) refl) _ c.from_residual-in_err-row.ensures.1
 
 pub component_type-returns-in_err-parse_component_type_declaration : goal.component_type-returns-in_err-parse_component_type_declaration
 component_type-returns-in_err-parse_component_type_declaration g t c =
     let i = g.T.ReencodeIndices in
     let row = rw c.in-Some.is at c.in_ok-row.ensures.row in
-    shallow_stopped i shapes.component_declaration c.args.ty _ c.in_ok-push_depth.ensures.answer c.new-made.ensures _ (shallow_refused i c.rows.invariant row _ (component_row i c.rows.reencoder c.parse_component_type_declaration.new.reencoder c.rows.rows c.in-Some.row row (Err _) c.in_err-parse_component_type_declaration.ensures) (Err _) refl) _ c.from_residual-in_err-parse_component_type_declaration.ensures.1
+    shallow_stopped i shapes.component_declaration c.args.ty _ c.in_ok-push_depth.ensures.answer c.new-made.ensures (omega arith) _ (shallow_refused i c.rows.invariant row _ (component_row i c.rows.reencoder c.parse_component_type_declaration.new.reencoder c.rows.rows c.in-Some.row row (Err _) c.in_err-parse_component_type_declaration.ensures) (Err _) refl) _ c.from_residual-in_err-parse_component_type_declaration.ensures.1
 
 pub component_type-returns : goal.component_type-returns
 component_type-returns g t c =
@@ -94,13 +94,13 @@ component_instance_type-rows-preserved g t c =
 pub component_instance_type-returns-in_err-row : goal.component_instance_type-returns-in_err-row
 component_instance_type-returns-in_err-row g t c =
     let i = g.T.ReencodeIndices in
-    shallow_stopped i shapes.instance_declaration c.args.ty _ c.in_ok-push_depth.ensures.answer c.new-made.ensures _ (shallow_stuck i c.rows.invariant _ c.in_err-row.ensures.err (Err _) refl) _ c.from_residual-in_err-row.ensures.1
+    shallow_stopped i shapes.instance_declaration c.args.ty _ c.in_ok-push_depth.ensures.answer c.new-made.ensures (omega arith) _ (shallow_stuck i c.rows.invariant _ c.in_err-row.ensures.err (Err _) refl) _ c.from_residual-in_err-row.ensures.1
 
 pub component_instance_type-returns-in_err-parse_component_instance_type_declaration : goal.component_instance_type-returns-in_err-parse_component_instance_type_declaration
 component_instance_type-returns-in_err-parse_component_instance_type_declaration g t c =
     let i = g.T.ReencodeIndices in
     let row = rw c.in-Some.is at c.in_ok-row.ensures.row in
-    shallow_stopped i shapes.instance_declaration c.args.ty _ c.in_ok-push_depth.ensures.answer c.new-made.ensures _ (shallow_refused i c.rows.invariant row _ (instance_row i c.rows.reencoder c.parse_component_instance_type_declaration.new.reencoder c.rows.rows c.in-Some.row row (Err _) c.in_err-parse_component_instance_type_declaration.ensures) (Err _) refl) _ c.from_residual-in_err-parse_component_instance_type_declaration.ensures.1
+    shallow_stopped i shapes.instance_declaration c.args.ty _ c.in_ok-push_depth.ensures.answer c.new-made.ensures (omega arith) _ (shallow_refused i c.rows.invariant row _ (instance_row i c.rows.reencoder c.parse_component_instance_type_declaration.new.reencoder c.rows.rows c.in-Some.row row (Err _) c.in_err-parse_component_instance_type_declaration.ensures) (Err _) refl) _ c.from_residual-in_err-parse_component_instance_type_declaration.ensures.1
 
 pub component_instance_type-returns : goal.component_instance_type-returns
 component_instance_type-returns g t c =

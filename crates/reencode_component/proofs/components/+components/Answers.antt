@@ -1,6 +1,5 @@
 use Rattle.std.proofs.Common.{◌+◌, refl}
 use Rattle.reencode_component.specs.NestedClauses.{inner_component}
-use Rattle.reencode_component.proofs.CustomFrames.{custom_framed}
 use Rattle.reencode_component.proofs.EachComponent.{component_begun, component_headless, kept_ended, kept_more, kept_refused, kept_unframed}
 use Rattle.reencode_component.proofs.NestedComponent.{component_accepted, component_nested, component_no_rows, component_refused}
 use Rattle.reencode_component.proofs.NestedReadings.{component_too_deep}
@@ -21,24 +20,28 @@ pub parse_component-sections-preserved : goal.parse_component-sections-preserved
 parse_component-sections-preserved g t c =
     let there = rw c.in-Some.is at c.in_ok-payload.ensures.some in
     let given = rw c.in-Some.is at c.in_ok-payload.ensures.given in
-    kept_more g.T.ReencodeIndices c.args.depth c.in_ok-payloads.ensures.ok c.sections.invariant c.in-Some.payload given there refl c.in_ok-payload.ensures.len c.in-Ok.ensures
+    kept_more g.T.ReencodeIndices c.args.depth c.in_ok-payloads.ensures.ok c.sections.invariant c.requires c.in-Some.payload given there refl c.in_ok-payload.ensures.len c.in-Ok.ensures
 
 pub parse_component-returns-in-Err : goal.parse_component-returns-in-Err
 parse_component-returns-in-Err g t c =
     let there = rw c.in-Some.is at c.in_ok-payload.ensures.some in
     let given = rw c.in-Some.is at c.in_ok-payload.ensures.given in
     let at = rw c.in-Some.is at c.in_ok-payload.ensures.at in
-    kept_refused g.T.ReencodeIndices c.args.depth c.in_ok-payloads.ensures.ok c.sections.invariant c.in-Some.payload given there c.in-Err.e at c.in-Err.ensures
+    kept_refused g.T.ReencodeIndices c.args.depth c.in_ok-payloads.ensures.ok c.sections.invariant c.requires c.in-Some.payload given there c.in-Err.e at c.in-Err.ensures
 
 pub parse_component-returns-in-None : goal.parse_component-returns-in-None
 parse_component-returns-in-None g t c =
     let ended = rw c.in-None.is at c.in_ok-payload.ensures.ended in
     kept_ended g.T.ReencodeIndices c.args.depth c.in_ok-payloads.ensures.ok c.sections.invariant ended.0
 
+pub parse_component_payload-returns-in-Section : goal.parse_component_payload-returns-in-Section
+parse_component_payload-returns-in-Section g t c = rw c.in-Section.is c.section.ensures
+
+pub parse_component_payload-returns-in-Unknown : goal.parse_component_payload-returns-in-Unknown
+parse_component_payload-returns-in-Unknown g t c = rw c.in-Unknown.is c.section-in-Unknown.ensures
+
 pub parse_component_payload-returns-in-Custom : goal.parse_component_payload-returns-in-Custom
-parse_component_payload-returns-in-Custom g t c =
-    let section = c.in-Custom.section in
-    rw (c.in-Custom.is, c.placed-in-Custom.ensures) (custom_framed g.T.ReencodeIndices c.args.depth c.requires section.name.now section.contents.now c.in-Custom.at _ c.parse_component_custom_section-mapped.ensures)
+parse_component_payload-returns-in-Custom g t c = rw c.in-Custom.is (record { mapped = _; call = c.parse_component_custom_section-mapped.ensures; placed = c.placed-in-Custom.ensures })
 
 pub parse_component_payload-returns-in-Module : goal.parse_component_payload-returns-in-Module
 parse_component_payload-returns-in-Module g t c = rw c.in-Module.is (record { mapped = _; call = c.parse_component_submodule-mapped.ensures; placed = c.placed.ensures })

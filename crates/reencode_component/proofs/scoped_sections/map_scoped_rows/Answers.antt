@@ -9,7 +9,7 @@ pub rows-preserved : goal.rows-preserved
 rows-preserved g c =
     let row = rw c.in-Some.is at c.in_ok-row.ensures.row in
     let reads = row.reads in
-    shallow_added g.T.ReencodeIndices c.rows.invariant row (c.in_ok-map_row.ensures _ reads.tree _ (c.requires.same _ _ _ reads.is) reads.begins.begins.spells.spelled reads.begins.shallow)
+    shallow_added g.T.ReencodeIndices c.rows.invariant row (c.in_ok-map_row.ensures _ reads.tree (c.requires.same _ _ _ reads.is) reads.begins.shallow)
 
 pub returns-in_err-row : goal.returns-in_err-row
 returns-in_err-row g c = shallow_stuck g.T.ReencodeIndices c.rows.invariant _ (none_if g.K.ReadRowAt.takes_memory _ _ _ c.in_err-row.ensures.err) _ c.from_residual.ensures.1
@@ -18,7 +18,7 @@ pub returns-in_err-map_row : goal.returns-in_err-map_row
 returns-in_err-map_row g c =
     let row = rw c.in-Some.is at c.in_ok-row.ensures.row in
     let reads = row.reads in
-    shallow_refused g.T.ReencodeIndices c.rows.invariant row _ (c.in_err-map_row.ensures _ reads.tree _ (c.requires.same _ _ _ reads.is) reads.begins.begins.spells.spelled reads.begins.shallow) _ c.from_residual-in_err-map_row.ensures.1
+    shallow_refused g.T.ReencodeIndices c.rows.invariant row _ (c.in_err-map_row.ensures _ reads.tree (c.requires.same _ _ _ reads.is) reads.begins.shallow) _ c.from_residual-in_err-map_row.ensures.1
 
 pub returns : goal.returns
 returns g c =

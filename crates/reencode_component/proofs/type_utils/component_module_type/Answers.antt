@@ -1,4 +1,4 @@
-use Rattle.std.proofs.Common.{Err, refl}
+use Rattle.std.proofs.Common.{Err, refl, arith}
 use Rattle.wasm_shapes.specs.Component.{module_declaration}
 use Rattle.wasm_shapes.specs.Drawn.{IsItem}
 use Rattle.reencode_core.proofs.EachRow.{rows_begun, rows_ended, rows_stuck, rows_added, rows_refused_at}
@@ -16,13 +16,13 @@ rows-preserved g c =
 pub returns-in_err-row : goal.returns-in_err-row
 returns-in_err-row g c =
     let i = g.T.ReencodeIndices in
-    scope_stopped i module_declaration c.args.ty _ c.in_ok-push_depth.ensures.answer c.new-module.ensures _ (rows_stuck i c.rows.invariant _ c.in_err-row.ensures.err (Err _) refl) _ c.from_residual-in_err-row.ensures.1
+    scope_stopped i module_declaration c.args.ty _ c.in_ok-push_depth.ensures.answer c.new-module.ensures (omega arith) _ (rows_stuck i c.rows.invariant _ c.in_err-row.ensures.err (Err _) refl) _ c.from_residual-in_err-row.ensures.1
 
 pub returns-in_err-parse_component_module_type_declaration : goal.returns-in_err-parse_component_module_type_declaration
 returns-in_err-parse_component_module_type_declaration g c =
     let i = g.T.ReencodeIndices in
     let row = rw c.in-Some.is at c.in_ok-row.ensures.row in
-    scope_stopped i module_declaration c.args.ty _ c.in_ok-push_depth.ensures.answer c.new-module.ensures _ (rows_refused_at i c.rows.invariant row _ c.in_err-parse_component_module_type_declaration.ensures (Err _) refl) _ c.from_residual-in_err-parse_component_module_type_declaration.ensures.1
+    scope_stopped i module_declaration c.args.ty _ c.in_ok-push_depth.ensures.answer c.new-module.ensures (omega arith) _ (rows_refused_at i c.rows.invariant row _ c.in_err-parse_component_module_type_declaration.ensures (Err _) refl) _ c.from_residual-in_err-parse_component_module_type_declaration.ensures.1
 
 pub returns : goal.returns
 returns g c =

@@ -1,6 +1,6 @@
 use Rattle.wasm_shapes.specs.SectionTable.{number}
 use Rattle.wasm_shapes.specs.Module.{numbered_frame}
-use Rattle.wasm_reach.proofs.Seen.{seen_calls, seen_custom, seen_functions, seen_more, seen_reading, seen_roots}
+use Rattle.wasm_reach.proofs.Seen.{seen_calls, seen_custom, seen_functions, seen_more, seen_reading, seen_roots, seen_unknown}
 use Rattle.wasm_reach.proofs.once.note_all.Goals as goal
 
 pub sections-preserved-in-Ok-note_kind : goal.sections-preserved-in-Ok-note_kind
@@ -9,10 +9,15 @@ sections-preserved-in-Ok-note_kind c =
     let noted = c.in-Ok-note_kind.ensures in
     seen_more (numbered_frame (number section.id) section.body.now) c.sections.invariant (rw (section.field-0-is, section.field-0-0-is) at section.ensures.some) noted.read noted.all noted.roots noted.calls
 
-pub sections-preserved : goal.sections-preserved
-sections-preserved c =
+pub sections-preserved-in-Ok-note_custom : goal.sections-preserved-in-Ok-note_custom
+sections-preserved-in-Ok-note_custom c =
     seen_custom c.sections.invariant (rw (c.in-Ok-Some-Custom.field-0-is, c.in-Ok-Some-Custom.field-0-0-is) at c.in-Ok-Some-Custom.ensures.some) c.in-Ok-note_custom.ensures.read
     c.in-Ok-note_custom.ensures.all
+
+pub sections-preserved : goal.sections-preserved
+sections-preserved c =
+    let section = c.in-Ok-Some-Unknown in
+    seen_unknown (rw (section.field-0-is, section.field-0-0-is) at section.ensures.unknown) c.sections.invariant (rw (section.field-0-is, section.field-0-0-is) at section.ensures.some)
 
 pub returns-in-Ok-None-clause-read : goal.returns-in-Ok-None-clause-read
 returns-in-Ok-None-clause-read c = seen_reading c.sections.invariant (rw c.in-Ok-None.field-0-is at c.in-Ok-None.ensures.ended).0

@@ -1,4 +1,4 @@
-use Rattle.std.proofs.Common.{refl, arith}
+use Rattle.std.proofs.Common.{inl, inr, refl, arith}
 use Rattle.wasm_shapes.proofs.Begins.{none_seq_first, none_seq_second}
 use Rattle.wasm_read.proofs.ElementFlags.{functions_begin, no_functions, left_functions, left_expressions, aimed_functions, aimed_expressions, passive_functions, declared_functions, passive_expressions, declared_expressions, no_flag, none_behind, unknown_flag}
 use Rattle.wasm_read.proofs.elements.front_element.Goals as goal
@@ -106,3 +106,27 @@ returns-in-Ok-None-front_typed-3-clause-none c =
 pub returns-in_default-flag-clause-none : goal.returns-in_default-flag-clause-none
 returns-in_default-flag-clause-none c =
     unknown_flag c.in-Some.ensures.some (omega arith)
+
+pub returns-in-Ok-Some-clause-beside : goal.returns-in-Ok-Some-clause-beside
+returns-in-Ok-Some-clause-beside c = record { flag = c.in-Some.flag; rest = c.in-Some.rest.now; flagged = c.in-Some.ensures.some; says = inl c.in-0.is }
+
+pub returns-in-Ok-Some-front_kinded-clause-beside : goal.returns-in-Ok-Some-front_kinded-clause-beside
+returns-in-Ok-Some-front_kinded-clause-beside c = record { flag = c.in-Some.flag; rest = c.in-Some.rest.now; flagged = c.in-Some.ensures.some; says = tt }
+
+pub returns-in-Ok-Some-front_kinded-2-clause-beside : goal.returns-in-Ok-Some-front_kinded-2-clause-beside
+returns-in-Ok-Some-front_kinded-2-clause-beside c = record { flag = c.in-Some.flag; rest = c.in-Some.rest.now; flagged = c.in-Some.ensures.some; says = inl c.in-2.is }
+
+pub returns-in-Ok-Some-front_kinded-3-clause-beside : goal.returns-in-Ok-Some-front_kinded-3-clause-beside
+returns-in-Ok-Some-front_kinded-3-clause-beside c = record { flag = c.in-Some.flag; rest = c.in-Some.rest.now; flagged = c.in-Some.ensures.some; says = tt }
+
+pub returns-in-Ok-Some-front_vec-clause-beside : goal.returns-in-Ok-Some-front_vec-clause-beside
+returns-in-Ok-Some-front_vec-clause-beside c = record { flag = c.in-Some.flag; rest = c.in-Some.rest.now; flagged = c.in-Some.ensures.some; says = inr c.in-4.is }
+
+pub returns-in-Ok-Some-front_typed-clause-beside : goal.returns-in-Ok-Some-front_typed-clause-beside
+returns-in-Ok-Some-front_typed-clause-beside c = record { flag = c.in-Some.flag; rest = c.in-Some.rest.now; flagged = c.in-Some.ensures.some; says = tt }
+
+pub returns-in-Ok-Some-front_typed-2-clause-beside : goal.returns-in-Ok-Some-front_typed-2-clause-beside
+returns-in-Ok-Some-front_typed-2-clause-beside c = record { flag = c.in-Some.flag; rest = c.in-Some.rest.now; flagged = c.in-Some.ensures.some; says = inr c.in-6.is }
+
+pub returns-in-Ok-Some-front_typed-3-clause-beside : goal.returns-in-Ok-Some-front_typed-3-clause-beside
+returns-in-Ok-Some-front_typed-3-clause-beside c = record { flag = c.in-Some.flag; rest = c.in-Some.rest.now; flagged = c.in-Some.ensures.some; says = tt }

@@ -1,5 +1,5 @@
 use Rattle.std.proofs.Common.{sym, ◌∙◌}
-use Rattle.reencode_core.proofs.CodeHeld.{body_begins, body_behind, left_behind}
+use Rattle.reencode_core.proofs.CodeHeld.{body_begins, body_behind, left_behind, some_left}
 use Rattle.reencode_core.proofs.pieces.code.kept_head.Goals as goal
 
 pub returns-in_default-clause-other : goal.returns-in_default-clause-other
@@ -15,3 +15,7 @@ returns-clause-some c =
 
 pub returns-clause-kept : goal.returns-clause-kept
 returns-clause-kept c = λ u is short. sym (body_behind u c.args.rows.now c.in-Some.rest.now _ short is c.in-Some.ensures.some) ∙ c.are_same.ensures.same c.if-not-are_same.false
+
+pub returns-clause-body : goal.returns-clause-body
+returns-clause-body c =
+    rw (← c.are_same.ensures.same c.if-not-are_same.false) (some_left (c.requires c.if-count-ne1.false) c.in-Some.ensures.some)

@@ -4,7 +4,7 @@ use Rattle.wasm_shapes.specs.Module.{core_header}
 use Rattle.reencode_core.proofs.EachSection.{core_closed, core_headless, core_more, core_section_refused, core_unframed, custom_called, kind_called, sections_begun, unknown_called}
 use Rattle.reencode_core.specs.Woven.{AddedAt}
 use Rattle.reencode_core.proofs.CoreLoop.{nothing_put}
-use Rattle.reencode_core.proofs.Known.{frame_id}
+use Rattle.wasm_shapes.proofs.SectionLaws.{frame_id}
 use Rattle.reencode_core.specs.Pieces.{Range}
 use Rattle.reencode_core.specs.Sinks.{KeepsKind, StandsAt}
 use Rattle.reencode_core.specs.Clauses.{asks}
@@ -353,7 +353,7 @@ returns-in-None-clause-kept g c =
     let header = c.in_ok-payloads.ensures.ok in
     let inv = c.sections.invariant in
     let ended = rw c.in-None.is at c.in_ok-id.ensures.ended in
-    (between_ended g.R.ReencodeIndices keeps header inv.done ended.0 _ c.add_between-in-None.ensures.answer c.add_between-in-None.ensures.leaves).kept
+    (between_ended g.R.ReencodeIndices keeps header inv.done ended.0 _ c.add_between-in-None.ensures.answer c.add_between-in-None.ensures.leaves c.add_between-in-None.ensures.fits).kept
 
 pub returns-in-None-clause-default : goal.returns-in-None-clause-default
 returns-in-None-clause-default g c =
@@ -361,7 +361,7 @@ returns-in-None-clause-default g c =
     let header = c.in_ok-payloads.ensures.ok in
     let inv = c.sections.invariant in
     let ended = rw c.in-None.is at c.in_ok-id.ensures.ended in
-    (between_ended g.R.ReencodeIndices keeps header inv.done ended.0 _ c.add_between-in-None.ensures.answer c.add_between-in-None.ensures.leaves).default
+    (between_ended g.R.ReencodeIndices keeps header inv.done ended.0 _ c.add_between-in-None.ensures.answer c.add_between-in-None.ensures.leaves c.add_between-in-None.ensures.fits).default
 
 pub returns-in-None-clause-woven : goal.returns-in-None-clause-woven
 returns-in-None-clause-woven g c =
@@ -369,7 +369,7 @@ returns-in-None-clause-woven g c =
     let header = c.in_ok-payloads.ensures.ok in
     let inv = c.sections.invariant in
     let ended = rw c.in-None.is at c.in_ok-id.ensures.ended in
-    (between_ended g.R.ReencodeIndices keeps header inv.done ended.0 _ c.add_between-in-None.ensures.answer c.add_between-in-None.ensures.leaves).woven
+    (between_ended g.R.ReencodeIndices keeps header inv.done ended.0 _ c.add_between-in-None.ensures.answer c.add_between-in-None.ensures.leaves c.add_between-in-None.ensures.fits).woven
 
 pub returns-in-None-clause-after_error : goal.returns-in-None-clause-after_error
 returns-in-None-clause-after_error g c =
@@ -377,7 +377,7 @@ returns-in-None-clause-after_error g c =
     let header = c.in_ok-payloads.ensures.ok in
     let inv = c.sections.invariant in
     let ended = rw c.in-None.is at c.in_ok-id.ensures.ended in
-    (between_ended g.R.ReencodeIndices keeps header inv.done ended.0 _ c.add_between-in-None.ensures.answer c.add_between-in-None.ensures.leaves).after_error
+    (between_ended g.R.ReencodeIndices keeps header inv.done ended.0 _ c.add_between-in-None.ensures.answer c.add_between-in-None.ensures.leaves c.add_between-in-None.ensures.fits).after_error
 
 pub returns-in-None-clause-headless : goal.returns-in-None-clause-headless
 returns-in-None-clause-headless g c =
@@ -385,7 +385,7 @@ returns-in-None-clause-headless g c =
     let header = c.in_ok-payloads.ensures.ok in
     let inv = c.sections.invariant in
     let ended = rw c.in-None.is at c.in_ok-id.ensures.ended in
-    (between_ended g.R.ReencodeIndices keeps header inv.done ended.0 _ c.add_between-in-None.ensures.answer c.add_between-in-None.ensures.leaves).headless
+    (between_ended g.R.ReencodeIndices keeps header inv.done ended.0 _ c.add_between-in-None.ensures.answer c.add_between-in-None.ensures.leaves c.add_between-in-None.ensures.fits).headless
 
 pub returns-in-None-clause-ranges : goal.returns-in-None-clause-ranges
 returns-in-None-clause-ranges g c =

@@ -1,10 +1,8 @@
 use Rattle.std.proofs.Common.{ap, refl, rules}
-use Rattle.wasm_shapes.specs.Tree.{visits}
 use Rattle.wasm_read.specs.Immediates as read
-use Rattle.wasm_read.specs.Types as read_types
 use Rattle.reencode_hooks.specs.Run.{ask}
-use Rattle.reencode_hooks.proofs.Leaving.{first_visited, second_visited}
-use Rattle.reencode_items.proofs.Clauses.{immediate_stopped, item_left, item_stops}
+use Rattle.reencode_items.proofs.Casts.{cast_accepted, from_stops, to_stops}
+use Rattle.reencode_items.proofs.Clauses.{immediate_stopped, item_stops}
 use Rattle.reencode_items.proofs.Immediates.{catches_tree, handlers_tree, index_tree, labels_accept, labels_tree, of_core, part_accepted, part_visited, same_count}
 use Rattle.reencode_items.proofs.Loops.{items_accept, items_accepted, items_begin, items_counted, items_more}
 use Rattle.reencode_items.proofs.items.ReencodeItems.immediate.Goals as goal
@@ -21,19 +19,24 @@ returns-in_err-heap_type-in-Heap g c = immediate_stopped g.Self.ReencodeIndices 
 
 -- ---- casts
 
-pub returns-in_err-heap_type-in-Cast : goal.returns-in_err-heap_type-in-Cast
-returns-in_err-heap_type-in-Cast g c =
-    let i = g.Self.ReencodeIndices in
-    let from = read_types.heap_type_tree c.in-Cast.from.heap_type in
-    let to = read_types.heap_type_tree c.in-Cast.to.heap_type in
-    record { kind = search rules; default = search rules; after_error = λ k sure. part_visited (ask i.reply i.next) _ c.args.imm (ap read.imm_tree c.in-Cast.is) _ (first_visited (visits to) (item_left i from _ c.in_err-heap_type-in-Cast.ensures k sure)) }
+pub returns-in_err-from-in-Cast : goal.returns-in_err-from-in-Cast
+returns-in_err-from-in-Cast g c =
+    let stops = from_stops g.Self.ReencodeIndices c.in-Cast.label c.in-Cast.from c.in-Cast.to _ c.in_err-from-in-Cast.ensures in
+    immediate_stopped g.Self.ReencodeIndices _ _ stops c.args.imm (ap read.imm_tree c.in-Cast.is) _ c.from_residual-in_err-from-in-Cast.ensures.1
 
-pub returns-in_err-heap_type-in-Cast-2 : goal.returns-in_err-heap_type-in-Cast-2
-returns-in_err-heap_type-in-Cast-2 g c =
-    let i = g.Self.ReencodeIndices in
-    let from = read_types.heap_type_tree c.in-Cast.from.heap_type in
-    let to = read_types.heap_type_tree c.in-Cast.to.heap_type in
-    record { kind = search rules; default = search rules; after_error = λ k sure. part_visited (ask i.reply i.next) _ c.args.imm (ap read.imm_tree c.in-Cast.is) _ (second_visited 0 from (c.in_ok-heap_type-in-Cast.ensures.default k 0) (item_left i to _ c.in_err-heap_type-in-Cast-2.ensures k sure)) }
+pub returns-in_err-to-in-Cast : goal.returns-in_err-to-in-Cast
+returns-in_err-to-in-Cast g c =
+    let stops = to_stops g.Self.ReencodeIndices c.in-Cast.label c.in-Cast.from c.in-Cast.to _ _ _ c.in_ok-from-in-Cast.ensures.default c.in_err-to-in-Cast.ensures in
+    immediate_stopped g.Self.ReencodeIndices _ _ stops c.args.imm (ap read.imm_tree c.in-Cast.is) _ c.from_residual-in_err-to-in-Cast.ensures.1
+
+pub returns-in_ok-to-in-Cast : goal.returns-in_ok-to-in-Cast
+returns-in_ok-to-in-Cast g c = let i = g.Self.ReencodeIndices in
+    record {
+      kind = search rules;
+      default = λ k. part_accepted (ask i.reply i.next) _ c.args.imm (ap read.imm_tree c.in-Cast.is)
+          (cast_accepted (ask i.reply i.next) _ c.in-Cast.label _ _ _ _ (c.in_ok-from-in-Cast.ensures.default k) (c.in_ok-to-in-Cast.ensures.default k));
+      after_error = search rules;
+    }
 
 -- ---- labels
 

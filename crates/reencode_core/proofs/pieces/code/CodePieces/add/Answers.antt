@@ -1,9 +1,10 @@
-use Rattle.std.proofs.Common.{◌≡◌, ◌+◌, ℕ, List, ◌++◌, length, ap, ap₂, ◌∙◌, arith}
+use Rattle.std.proofs.Common.{◌≡◌, ◌+◌, ℕ, List, ◌++◌, length, ap, ap₂, subst, ◌∙◌, arith}
+use Rattle.wasm_leb.specs.Leb.{IsUnsigned}
 use Rattle.wasm_shapes.specs.Tree.{Tree}
 use Rattle.wasm_write.proofs.Holding.{held_length, held_same_is}
 use Rattle.reencode_core.specs.Pieces.{Grown}
 use Rattle.reencode_core.specs.Sinks.{CodeGrown, code_sound, with_rows}
-use Rattle.reencode_core.proofs.CodeHeld.{held_both, held_both_is}
+use Rattle.reencode_core.proofs.CodeHeld.{held_both, held_both_is, more_than_number}
 use Rattle.reencode_core.proofs.pieces.code.CodePieces.add.Goals as goal
 
 pub returns-in_default-clause-large : goal.returns-in_default-clause-large
@@ -29,3 +30,9 @@ pub returns-in-Err-clause-err : goal.returns-in-Err-clause-err
 returns-in-Err-clause-err c =
     let made : Grown → List Tree → CodeGrown = λ g z. record { input = g.input; code = record { ceiling = c.self.inside.ceiling; rows = z }; kept = g.kept } in
     ap₂ made c.in-Err.ensures.err (held_same_is c.self.inside.held code_sound _ (ap Grown.bytes c.in-Err.ensures.err)) ∙ c.self.view_is
+
+pub add_rows-added-requires-clause-bodied : goal.add_rows-added-requires-clause-bodied
+add_rows-added-requires-clause-bodied c = λ one n q.
+    let P : List ℕ → Type 0 = λ z. IsUnsigned 32 z n in
+    let rows : length c.args.code.now.rows ≡ 1 = omega (arith, one, c.len-2.ensures) in
+    more_than_number c.args.code.now.rows c.as_slice-rows.ensures.spells rows n (subst P c.as_slice-rows.ensures.value q)
