@@ -1,5 +1,5 @@
 -- How each stage ends the program, and what a status says of how it ended.
-use Rattle.std.proofs.Common.{◌≡◌, ◌≢◌, ℕ, ◌≤◌, inl, inr, true, Bool, Option, Some, None, Result, Err, List, [], ◌∷◌, ◌++◌, codes, decimal, refl, sym, ap, ◌∙◌, subst, arith, lit<}
+use Rattle.std.proofs.Common.{◌≡◌, ◌≢◌, ℕ, ◌≤◌, ◌⊎◌, inl, inr, true, Bool, Option, Some, None, Result, Err, List, [], ◌∷◌, ◌++◌, codes, decimal, refl, sym, ap, ◌∙◌, subst, arith, lit<}
 use Rattle.std.specs.Prelude.{Contains, MatchOption}
 use Rattle.reencode_hooks.specs.Renamings.{Renaming}
 use Rattle.reencode_run.specs.declared.answer.Answer.{Answer}
@@ -10,15 +10,19 @@ use Rattle.reencode_run.specs.declared.input.InputFault.{InputFault}
 use Rattle.reencode_run.specs.declared.input.InputFault.TheVariants as input_fault
 use Rattle.reencode_run.specs.declared.hexadecimal.TextFault.{TextFault}
 use Rattle.reencode_run.specs.declared.hexadecimal.TextFault.TheVariants as digits_fault
+use Rattle.wasm_shapes.specs.declared.Space.{Space}
+use Rattle.wasm_shapes.specs.Names.{space_name}
 use Rattle.reencode_run.specs.declared.answer.ReencodingFault.{ReencodingFault}
 use Rattle.reencode_run.specs.declared.answer.ReencodingFault.TheVariants as reencoding_fault
 use Rattle.reencode_run.specs.declared.renamers.Refusal.{Refusal}
 use Rattle.reencode_run.specs.declared.task.Task.{Task}
-use Rattle.reencode_run.specs.Answer.{AtFile, Ends, EndsFor, ForJob, FileSays, HasNoDigits, IsBadFile, IsTooLong, IsUnfetched, IsUnread, MadeFor, Outside, RefusesDigits, RefusesFile, RefusesFrom, RefusesInput, RefusesTask, Says, StopsFor, StopsWith, Texts, Uses, message, most_bytes, report_of, status_of, text_of}
+use Rattle.reencode_run.specs.Answer.{AtFile, Ends, EndsFor, ForJob, FileSays, HasBytes, HasNoDigits, IsBadFile, IsTooLong, IsUnfetched, IsUnread, MadeFor, Outside, RefusesDigits, RefusesFile, RefusesFrom, RefusesInput, RefusesTask, Says, StopsFor, StopsWith, Takes, TakesFrom, Texts, Uses, by_text, message, most_bytes, report_of, status_of, text_of}
 use Rattle.reencode_run.specs.Outside.{Rose, GaveAll, TookFront, TookMore, WhereTold, followed}
 use Rattle.reencode_run.specs.Hexadecimal.{binary}
 use Rattle.reencode_run.specs.Renamers.{refusal_text}
-use Rattle.reencode_run.specs.Words.{Job, Kind, of_renaming, files, functions, says, twice}
+use Rattle.reencode_run.specs.Tasks.{formed}
+use Rattle.reencode_run.specs.Tools.{stop}
+use Rattle.reencode_run.specs.Words.{Command, Job, Kind, of_renaming, files, functions, says, plain, rename, twice, generate, keep_report, renumber, prune, merge}
 
 -- ---- the stages
 
@@ -89,7 +93,15 @@ module _ (job : Job) (o : Outside) (U : Type 0) where
 
   by_digits : (t : Task) → Uses job.command o.texts t → functions job.command ≡ None → (fault : TextFault)
       → RefusesDigits job.is_text o.left_old o.left_new fault → Stopped (Digits fault)
-  by_digits t uses e digits_fault.NotHexadecimal h = Ends.no_digits (record { reads = reads (functions job.command) e; files = (t, uses); digits = h })
+  by_digits t uses e digits_fault.NotHexadecimal h = Ends.no_digits (record {
+    reads = reads (functions job.command) e;
+    asked = h.0;
+    said = t;
+    uses = uses;
+    text = h.1.0;
+    gave = h.1.1;
+    none = inl h.1.2;
+  })
   by_digits t uses e digits_fault.NoMemory h = Ends.no_memory
 
   pub by_source : (t : Task) → Uses job.command o.texts t → (source : Option ℕ) → functions job.command ≡ source → (answer : Answer)
@@ -99,14 +111,54 @@ module _ (job : Job) (o : Outside) (U : Type 0) where
   by_source t uses None e _ h = absurd h
   by_source t uses (Some n) e answer h = subst Stopped (sym h) Ends.no_memory
 
-  pub by_reencoding : (fault : ReencodingFault) → StopsFor job o fault → Stopped (Reencoding fault)
-  by_reencoding (reencoding_fault.ParseError at) h = Ends.parse_error at h
-  by_reencoding (reencoding_fault.Refused u) h = Ends.refused u h
-  by_reencoding reencoding_fault.CodeSectionSize h = Ends.code_size h
-  by_reencoding reencoding_fault.NonCoreModule h = Ends.component h
-  by_reencoding reencoding_fault.NonComponent h = Ends.core_module h
-  by_reencoding (reencoding_fault.TooLarge size ceiling) h = Ends.too_large size ceiling h
-  by_reencoding reencoding_fault.NoMemory h = Ends.no_memory
+  -- a command whose file has a module makes none of its own
+  reads_form : (command : Command) (t : Task) → command ≡ job.command → Uses command o.texts t → formed true t ≡ None → functions command ≡ None
+  reads_form plain t same uses none = refl
+  reads_form (rename name) t same uses none = refl
+  reads_form (twice first second) t same uses none = refl
+  reads_form (generate n) t same uses none =
+      let is = subst (λ (z : Task). formed true z ≡ None) uses.2 none in absurd cc
+  reads_form keep_report t same uses none = refl
+  reads_form (renumber name) t same uses none = refl
+  reads_form prune t same uses none = refl
+  reads_form (merge name) t same uses none = refl
+
+  given : (source : Option ℕ) (is_text : Bool) (old new : Option (List ℕ)) (bytes : List ℕ) → source ≡ None → TakesFrom source is_text old new bytes → HasBytes is_text old new bytes
+  given None is_text old new bytes e h = h
+  given (Some n) is_text old new bytes e h = absurd cc
+
+  -- the module that a file has is not in the form that is asked for
+  pub by_form : (t : Task) → Uses job.command o.texts t → (bytes : List ℕ) → Takes job.command job.is_text o.left_old o.left_new bytes → (fault : TextFault)
+      → (fault ≡ digits_fault.NotHexadecimal → (job.is_text ≡ true) × (formed true t ≡ None)) → Stopped (Digits fault)
+  by_form t uses bytes takes digits_fault.NotHexadecimal h =
+      let p = h refl in
+      let none = reads_form job.command t refl uses p.1 in
+      let has = given (functions job.command) job.is_text o.left_old o.left_new bytes none takes in
+      Ends.no_digits (record {
+        reads = reads (functions job.command) none;
+        asked = p.0;
+        said = t;
+        uses = uses;
+        text = has.text;
+        gave = has.gave;
+        none = inr p.1;
+      })
+  by_form t uses bytes takes digits_fault.NoMemory h = Ends.no_memory
+
+  pub by_reencoding : (fault : ReencodingFault) (by : Option ℕ) → StopsFor job o (stop fault by) → Stopped (Reencoding (stop fault by))
+  by_reencoding (reencoding_fault.ParseError at) by h = Ends.parse_error at by h
+  by_reencoding (reencoding_fault.Refused u) by h = Ends.refused u by h
+  by_reencoding reencoding_fault.CodeSectionSize by h = Ends.code_size by h
+  by_reencoding reencoding_fault.NonCoreModule by h = Ends.component by h
+  by_reencoding reencoding_fault.NonComponent by h = Ends.core_module by h
+  by_reencoding (reencoding_fault.TooLarge size ceiling) by h = Ends.too_large size ceiling by h
+  by_reencoding (reencoding_fault.Uneven stated rows) by h = Ends.uneven stated rows by h
+  by_reencoding (reencoding_fault.Repeated id) by h = Ends.repeated id by h
+  by_reencoding (reencoding_fault.NotAnOrder place) by h = Ends.not_an_order place by h
+  by_reencoding (reencoding_fault.Dangling space index) by h = Ends.dangling space index by h
+  by_reencoding (reencoding_fault.Clash name) by h = Ends.clash name by h
+  by_reencoding reencoding_fault.TwoStarts by h = Ends.two_starts by h
+  by_reencoding reencoding_fault.NoMemory by h = Ends.no_memory
 
 -- ---- what each status says
 
@@ -154,15 +206,6 @@ of_write_fault (Ends.write_fault made took rose) = (made, took)
 pub unwritten : {job : Job} {o : Outside} {U : Type 0} {t : List ℕ} → Ends job o U 4 t → Rose o.write_faults_old o.write_faults_new
 unwritten (Ends.write_fault made took rose) = rose
 
-pub of_code_size : {job : Job} {o : Outside} {U : Type 0} {t : List ℕ} → Ends job o U 7 t → StopsFor job o reencoding_fault.CodeSectionSize
-of_code_size (Ends.code_size h) = h
-
-pub of_component : {job : Job} {o : Outside} {U : Type 0} {t : List ℕ} → Ends job o U 8 t → StopsFor job o reencoding_fault.NonCoreModule
-of_component (Ends.component h) = h
-
-pub of_core_module : {job : Job} {o : Outside} {U : Type 0} {t : List ℕ} → Ends job o U 9 t → StopsFor job o reencoding_fault.NonComponent
-of_core_module (Ends.core_module h) = h
-
 pub of_bad_file : {job : Job} {o : Outside} {U : Type 0} {t : List ℕ} → Ends job o U 11 t → IsBadFile job.command o.texts × U
 of_bad_file (Ends.bad_file h u) = (h, u)
 
@@ -175,22 +218,66 @@ of_too_long (Ends.too_long h) = h
 pub of_no_digits : {job : Job} {o : Outside} {U : Type 0} {t : List ℕ} → Ends job o U 14 t → HasNoDigits job o.texts o.left_old o.left_new
 of_no_digits (Ends.no_digits h) = h
 
--- of a place, a refusal and a size also the text
+-- of what a command makes nothing of also the text
 pub of_parse_error : (t : List ℕ) (j : Option Job) (o : Outside) (U F : Type 0) → EndsFor j o U F 5 t
-    → (at : ℕ) × StopsWith j o.texts o.left_old o.left_new (reencoding_fault.ParseError at) × (t ≡ codes "parse error at " ++ decimal at)
+    → (at : ℕ) × (by : Option ℕ) × StopsWith j o.texts o.left_old o.left_new (stop (reencoding_fault.ParseError at) by) × (t ≡ codes "parse error at " ++ decimal at ++ by_text by)
 of_parse_error t None o U F h = absurd (omega (arith, h.0))
-of_parse_error t (Some job) o U F (Ends.parse_error at h) = (at, h, refl)
+of_parse_error t (Some job) o U F (Ends.parse_error at by h) = (at, by, h, refl)
 
 pub of_refused : (t : List ℕ) (j : Option Job) (o : Outside) (U F : Type 0) → EndsFor j o U F 6 t
-    → (u : Refusal) × StopsWith j o.texts o.left_old o.left_new (reencoding_fault.Refused u) × (t ≡ refusal_text u)
+    → (u : Refusal) × (by : Option ℕ) × StopsWith j o.texts o.left_old o.left_new (stop (reencoding_fault.Refused u) by) × (t ≡ refusal_text u ++ by_text by)
 of_refused t None o U F h = absurd (omega (arith, h.0))
-of_refused t (Some job) o U F (Ends.refused u h) = (u, h, refl)
+of_refused t (Some job) o U F (Ends.refused u by h) = (u, by, h, refl)
+
+pub of_code_size : (t : List ℕ) (j : Option Job) (o : Outside) (U F : Type 0) → EndsFor j o U F 7 t
+    → (by : Option ℕ) × StopsWith j o.texts o.left_old o.left_new (stop reencoding_fault.CodeSectionSize by) × (t ≡ message 7 ++ by_text by)
+of_code_size t None o U F h = absurd (omega (arith, h.0))
+of_code_size t (Some job) o U F (Ends.code_size by h) = (by, h, refl)
+
+pub of_component : (t : List ℕ) (j : Option Job) (o : Outside) (U F : Type 0) → EndsFor j o U F 8 t
+    → (by : Option ℕ) × StopsWith j o.texts o.left_old o.left_new (stop reencoding_fault.NonCoreModule by) × (t ≡ message 8 ++ by_text by)
+of_component t None o U F h = absurd (omega (arith, h.0))
+of_component t (Some job) o U F (Ends.component by h) = (by, h, refl)
+
+pub of_core_module : (t : List ℕ) (j : Option Job) (o : Outside) (U F : Type 0) → EndsFor j o U F 9 t
+    → (by : Option ℕ) × StopsWith j o.texts o.left_old o.left_new (stop reencoding_fault.NonComponent by) × (t ≡ message 9 ++ by_text by)
+of_core_module t None o U F h = absurd (omega (arith, h.0))
+of_core_module t (Some job) o U F (Ends.core_module by h) = (by, h, refl)
 
 pub of_too_large : (t : List ℕ) (j : Option Job) (o : Outside) (U F : Type 0) → EndsFor j o U F 10 t
-    → (size : ℕ) × (ceiling : ℕ) × StopsWith j o.texts o.left_old o.left_new (reencoding_fault.TooLarge size ceiling)
-    × (t ≡ codes "too large: " ++ decimal size ++ codes " over " ++ decimal ceiling)
+    → (size : ℕ) × (ceiling : ℕ) × (by : Option ℕ) × StopsWith j o.texts o.left_old o.left_new (stop (reencoding_fault.TooLarge size ceiling) by) × (t ≡ codes "too large: " ++ decimal size ++ codes " over " ++ decimal ceiling ++ by_text by)
 of_too_large t None o U F h = absurd (omega (arith, h.0))
-of_too_large t (Some job) o U F (Ends.too_large size ceiling h) = (size, ceiling, h, refl)
+of_too_large t (Some job) o U F (Ends.too_large size ceiling by h) = (size, ceiling, by, h, refl)
+
+pub of_uneven : (t : List ℕ) (j : Option Job) (o : Outside) (U F : Type 0) → EndsFor j o U F 15 t
+    → (stated : ℕ) × (rows : ℕ) × (by : Option ℕ) × StopsWith j o.texts o.left_old o.left_new (stop (reencoding_fault.Uneven stated rows) by) × (t ≡ codes "uneven: " ++ decimal stated ++ codes " and " ++ decimal rows ++ by_text by)
+of_uneven t None o U F h = absurd (omega (arith, h.0))
+of_uneven t (Some job) o U F (Ends.uneven stated rows by h) = (stated, rows, by, h, refl)
+
+pub of_repeated : (t : List ℕ) (j : Option Job) (o : Outside) (U F : Type 0) → EndsFor j o U F 16 t
+    → (id : ℕ) × (by : Option ℕ) × StopsWith j o.texts o.left_old o.left_new (stop (reencoding_fault.Repeated id) by) × (t ≡ codes "repeated section " ++ decimal id ++ by_text by)
+of_repeated t None o U F h = absurd (omega (arith, h.0))
+of_repeated t (Some job) o U F (Ends.repeated id by h) = (id, by, h, refl)
+
+pub of_not_an_order : (t : List ℕ) (j : Option Job) (o : Outside) (U F : Type 0) → EndsFor j o U F 17 t
+    → (place : ℕ) × (by : Option ℕ) × StopsWith j o.texts o.left_old o.left_new (stop (reencoding_fault.NotAnOrder place) by) × (t ≡ codes "not an order at " ++ decimal place ++ by_text by)
+of_not_an_order t None o U F h = absurd (omega (arith, h.0))
+of_not_an_order t (Some job) o U F (Ends.not_an_order place by h) = (place, by, h, refl)
+
+pub of_dangling : (t : List ℕ) (j : Option Job) (o : Outside) (U F : Type 0) → EndsFor j o U F 18 t
+    → (space : Space) × (index : ℕ) × (by : Option ℕ) × StopsWith j o.texts o.left_old o.left_new (stop (reencoding_fault.Dangling space index) by) × (t ≡ codes "dangling " ++ space_name space ++ codes " " ++ decimal index ++ by_text by)
+of_dangling t None o U F h = absurd (omega (arith, h.0))
+of_dangling t (Some job) o U F (Ends.dangling space index by h) = (space, index, by, h, refl)
+
+pub of_clash : (t : List ℕ) (j : Option Job) (o : Outside) (U F : Type 0) → EndsFor j o U F 19 t
+    → (name : List ℕ) × (by : Option ℕ) × StopsWith j o.texts o.left_old o.left_new (stop (reencoding_fault.Clash name) by) × (t ≡ codes "export clash " ++ name ++ by_text by)
+of_clash t None o U F h = absurd (omega (arith, h.0))
+of_clash t (Some job) o U F (Ends.clash name by h) = (name, by, h, refl)
+
+pub of_two_starts : (t : List ℕ) (j : Option Job) (o : Outside) (U F : Type 0) → EndsFor j o U F 20 t
+    → (by : Option ℕ) × StopsWith j o.texts o.left_old o.left_new (stop reencoding_fault.TwoStarts by) × (t ≡ message 20 ++ by_text by)
+of_two_starts t None o U F h = absurd (omega (arith, h.0))
+of_two_starts t (Some job) o U F (Ends.two_starts by h) = (by, h, refl)
 
 -- what is said of a file without its name holds where it holds of one
 at_some : (k : Kind) (texts : Texts) (names : List (List ℕ)) {P : Type 0} → AtFile k texts names (λ name. P) → P
@@ -203,40 +290,62 @@ unfetched_rose {job} {o} (Ends.unfetched h u) = at_some (says job.command) o.tex
 
 -- ---- the statuses and their texts
 
-job_message : {job : Job} {o : Outside} {U : Type 0} {n : ℕ} {t : List ℕ} → Ends job o U n t → n ≢ 0 → n ≢ 5 → n ≢ 6 → n ≢ 10 → t ≡ message n
-job_message (Ends.printed made told) z p r l = absurd (z refl)
-job_message Ends.no_memory z p r l = refl
-job_message (Ends.read_fault h) z p r l = refl
-job_message (Ends.write_fault made took rose) z p r l = refl
-job_message (Ends.parse_error at h) z p r l = absurd (p refl)
-job_message (Ends.refused u h) z p r l = absurd (r refl)
-job_message (Ends.code_size h) z p r l = refl
-job_message (Ends.component h) z p r l = refl
-job_message (Ends.core_module h) z p r l = refl
-job_message (Ends.too_large size ceiling h) z p r l = absurd (l refl)
-job_message (Ends.bad_file h u) z p r l = refl
-job_message (Ends.unfetched h u) z p r l = refl
-job_message (Ends.too_long h) z p r l = refl
-job_message (Ends.no_digits h) z p r l = refl
+-- the statuses that have one message each
+abbrev HasOne : ℕ → Type 0
+HasOne n = (n ≤ 4) ⊎ ((11 ≤ n) × (n ≤ 14))
 
-pub message_of : (n : ℕ) (t : List ℕ) (j : Option Job) (o : Outside) (U F : Type 0) → EndsFor j o U F n t → n ≢ 0 → n ≢ 5 → n ≢ 6 → n ≢ 10 → t ≡ message n
-message_of n t None o U F h z p r l = h.1 ∙ ap message (sym h.0)
-message_of n t (Some job) o U F h z p r l = job_message h z p r l
+has_none : (n : ℕ) → ((5 ≤ n) × (n ≤ 10)) ⊎ (15 ≤ n) → HasOne n → ⊥
+has_none n (inl h) (inl k) = omega (arith, h.0, k)
+has_none n (inl h) (inr k) = omega (arith, h.1, k.0)
+has_none n (inr h) (inl k) = omega (arith, h, k)
+has_none n (inr h) (inr k) = omega (arith, h, k.1)
+
+job_message : {job : Job} {o : Outside} {U : Type 0} {n : ℕ} {t : List ℕ} → Ends job o U n t → n ≢ 0 → HasOne n → t ≡ message n
+job_message (Ends.printed made told) z one = absurd (z refl)
+job_message Ends.no_memory z one = refl
+job_message (Ends.read_fault h) z one = refl
+job_message (Ends.write_fault made took rose) z one = refl
+job_message (Ends.parse_error at by h) z one = absurd (has_none 5 (inl (omega arith, omega arith)) one)
+job_message (Ends.refused u by h) z one = absurd (has_none 6 (inl (omega arith, omega arith)) one)
+job_message (Ends.code_size by h) z one = absurd (has_none 7 (inl (omega arith, omega arith)) one)
+job_message (Ends.component by h) z one = absurd (has_none 8 (inl (omega arith, omega arith)) one)
+job_message (Ends.core_module by h) z one = absurd (has_none 9 (inl (omega arith, omega arith)) one)
+job_message (Ends.too_large size ceiling by h) z one = absurd (has_none 10 (inl (omega arith, omega arith)) one)
+job_message (Ends.uneven stated rows by h) z one = absurd (has_none 15 (inr (omega arith)) one)
+job_message (Ends.repeated id by h) z one = absurd (has_none 16 (inr (omega arith)) one)
+job_message (Ends.not_an_order place by h) z one = absurd (has_none 17 (inr (omega arith)) one)
+job_message (Ends.dangling space index by h) z one = absurd (has_none 18 (inr (omega arith)) one)
+job_message (Ends.clash name by h) z one = absurd (has_none 19 (inr (omega arith)) one)
+job_message (Ends.two_starts by h) z one = absurd (has_none 20 (inr (omega arith)) one)
+job_message (Ends.bad_file h u) z one = refl
+job_message (Ends.unfetched h u) z one = refl
+job_message (Ends.too_long h) z one = refl
+job_message (Ends.no_digits h) z one = refl
+
+pub message_of : (n : ℕ) (t : List ℕ) (j : Option Job) (o : Outside) (U F : Type 0) → EndsFor j o U F n t → n ≢ 0 → (n ≤ 4) ⊎ ((11 ≤ n) × (n ≤ 14)) → t ≡ message n
+message_of n t None o U F h z one = h.1 ∙ ap message (sym h.0)
+message_of n t (Some job) o U F h z one = job_message h z one
 
 abbrev pub IsStatus : ℕ → Type 0
-IsStatus n = Contains (0 ∷ 1 ∷ 2 ∷ 3 ∷ 4 ∷ 5 ∷ 6 ∷ 7 ∷ 8 ∷ 9 ∷ 10 ∷ 11 ∷ 12 ∷ 13 ∷ 14 ∷ []) n
+IsStatus n = Contains (0 ∷ 1 ∷ 2 ∷ 3 ∷ 4 ∷ 5 ∷ 6 ∷ 7 ∷ 8 ∷ 9 ∷ 10 ∷ 11 ∷ 12 ∷ 13 ∷ 14 ∷ 15 ∷ 16 ∷ 17 ∷ 18 ∷ 19 ∷ 20 ∷ []) n
 
 job_status : {job : Job} {o : Outside} {U : Type 0} {n : ℕ} {t : List ℕ} → Ends job o U n t → IsStatus n
 job_status (Ends.printed made told) = (0, lit< tt, refl)
 job_status Ends.no_memory = (1, lit< tt, refl)
 job_status (Ends.read_fault h) = (3, lit< tt, refl)
 job_status (Ends.write_fault made took rose) = (4, lit< tt, refl)
-job_status (Ends.parse_error at h) = (5, lit< tt, refl)
-job_status (Ends.refused u h) = (6, lit< tt, refl)
-job_status (Ends.code_size h) = (7, lit< tt, refl)
-job_status (Ends.component h) = (8, lit< tt, refl)
-job_status (Ends.core_module h) = (9, lit< tt, refl)
-job_status (Ends.too_large size ceiling h) = (10, lit< tt, refl)
+job_status (Ends.parse_error at by h) = (5, lit< tt, refl)
+job_status (Ends.refused u by h) = (6, lit< tt, refl)
+job_status (Ends.code_size by h) = (7, lit< tt, refl)
+job_status (Ends.component by h) = (8, lit< tt, refl)
+job_status (Ends.core_module by h) = (9, lit< tt, refl)
+job_status (Ends.too_large size ceiling by h) = (10, lit< tt, refl)
+job_status (Ends.uneven stated rows by h) = (15, lit< tt, refl)
+job_status (Ends.repeated id by h) = (16, lit< tt, refl)
+job_status (Ends.not_an_order place by h) = (17, lit< tt, refl)
+job_status (Ends.dangling space index by h) = (18, lit< tt, refl)
+job_status (Ends.clash name by h) = (19, lit< tt, refl)
+job_status (Ends.two_starts by h) = (20, lit< tt, refl)
 job_status (Ends.bad_file h u) = (11, lit< tt, refl)
 job_status (Ends.unfetched h u) = (12, lit< tt, refl)
 job_status (Ends.too_long h) = (13, lit< tt, refl)

@@ -1,17 +1,17 @@
 -- Which status comes: what stands first decides.
-use Rattle.std.proofs.Common.{◌≡◌, ℕ, ◌<◌, ◌≤◌, ◌⊎◌, inl, inr, true, Bool, Option, Some, None, List, [], ◌∷◌, ◌++◌, length, length-append, refl, sym, ap, ◌∙◌, subst, arith}
+use Rattle.std.proofs.Common.{◌≡◌, ℕ, ◌<◌, ◌≤◌, ◌⊎◌, inl, inr, true, false, Bool, Option, Some, None, List, [], ◌∷◌, ◌++◌, length, length-append, refl, sym, ap, ◌∙◌, subst, arith}
 use Rattle.std.proofs.lemmas.List.{append-nil}
 use Rattle.std.specs.Prelude.{MatchOption}
 use Rattle.reencode_run.specs.declared.answer.ReencodingFault.{ReencodingFault}
 use Rattle.reencode_run.specs.declared.answer.ReencodingFault.TheVariants as reencoding_fault
 use Rattle.reencode_run.specs.declared.task.Task.{Task}
-use Rattle.reencode_run.specs.declared.answer.Answer.TheVariants.{Reencoding}
-use Rattle.reencode_run.specs.Answer.{AtFile, Ends, EndsFor, FileSays, FilesSay, HasBytes, IsDecided, IsDecidedByBytes, IsDecidedByFile, IsDecidedByFiles, IsDecidedByForm, IsDecidedByInput, IsDecidedByJob, IsDecidedByLeft, IsMaking, IsTooLong, MadeFor, Outside, SaysNone, StopsFor, TakesFrom, Texts, Uses, Work, most_bytes, status_of, told_text}
+use Rattle.reencode_run.specs.Answer.{AtFile, Ends, EndsFor, FileSays, FilesSay, HasBytes, IsDecided, IsDecidedByBytes, IsDecidedByFile, IsDecidedByFiles, IsDecidedByForm, IsDecidedByInput, IsDecidedByJob, IsDecidedByLeft, IsDecidedByTask, IsMaking, IsTooLong, MadeFor, Outside, SaysNone, StopsFor, TakesFrom, Texts, Uses, Work, fault_status, most_bytes, told_text}
 use Rattle.reencode_run.specs.Generated.{generated}
 use Rattle.reencode_run.specs.Hexadecimal.{binary, bytes_of}
 use Rattle.reencode_run.specs.Outside.{GaveAll, HasText, IsLonger, Rose, TookMore, WhereTold}
-use Rattle.reencode_run.specs.Tasks.{Saying, IsSaying, most_of, task_of}
-use Rattle.reencode_run.specs.Words.{Job, Kind, of_renaming, files, functions, says}
+use Rattle.reencode_run.specs.Tasks.{Saying, IsSaying, formed, most_of, task_of}
+use Rattle.reencode_run.specs.Tools.{stop}
+use Rattle.reencode_run.specs.Words.{Job, Kind, of_renaming, of_order, of_module, files, functions, says}
 use Rattle.reencode_run.proofs.Reports.{wants_memory}
 
 -- ---- texts that are told
@@ -46,6 +46,8 @@ has (Some texts) name text h t e = go (texts name) refl h
         let same : Some text ≡ Some u = subst P is h in cc
 
 same_saying : (k : Kind) (text t : List ℕ) (c d : Saying k) → t ≡ text → IsSaying k text c → IsSaying k t d → c ≡ d
+same_saying of_order text t c d e h j = let j' = subst (λ (z : List ℕ). IsSaying of_order z d) e j in let both : Some c ≡ Some d = sym h.is ∙ j'.is in cc
+same_saying of_module text t c d e h j = h ∙ sym (j ∙ e)
 same_saying of_renaming text t c d e h j = let j' = subst (λ (z : List ℕ). IsSaying of_renaming z d) e j in let both : Some c ≡ Some d = sym h.is ∙ j'.is in cc
 
 module _ (H R W : Type 0) where
@@ -54,19 +56,24 @@ module _ (H R W : Type 0) where
   -- ---- out of memory
 
   memory_bytes : (t : Task) (c : ℕ) (bytes : List ℕ) → IsDecidedByBytes W t c bytes 1
-  memory_bytes t c bytes = inr (reencoding_fault.NoMemory, refl, wants_memory t c bytes)
+  memory_bytes t c bytes = inr (stop reencoding_fault.NoMemory None, refl, wants_memory t c bytes)
 
-  memory_form : (t : Task) (c : ℕ) (form : Option (List ℕ)) → IsDecidedByForm W t c form 1
+  memory_task : (t : Option Task) (c : ℕ) (bytes : List ℕ) → IsDecidedByTask W t c bytes 1
+  memory_task None c bytes = inr refl
+  memory_task (Some t) c bytes = memory_bytes t c bytes
+
+  memory_form : (t : Option Task) (c : ℕ) (form : Option (List ℕ)) → IsDecidedByForm W t c form 1
   memory_form t c None = inr refl
-  memory_form t c (Some bytes) = memory_bytes t c bytes
+  memory_form t c (Some bytes) = memory_task t c bytes
 
   memory_left : (job : Job) (t : Task) (left : Option (List ℕ)) → IsDecidedByLeft R W job t left 1
   memory_left job t None = tt
-  memory_left job t (Some text) = inr (record { long = λ more. inr refl; short = λ less. memory_form t job.ceiling (bytes_of job.is_text text) })
+  memory_left job t (Some text) =
+      inr (record { long = λ more. inr refl; short = λ less. memory_form (formed job.is_text t) job.ceiling (bytes_of job.is_text text) })
 
   memory_input : (source : Option ℕ) (job : Job) (t : Task) (left : Option (List ℕ)) → IsDecidedByInput R W source job t left 1
   memory_input None job t left = memory_left job t left
-  memory_input (Some n) job t left = memory_bytes t job.ceiling (generated n)
+  memory_input (Some n) job t left = memory_task (formed job.is_text t) job.ceiling (generated n)
 
   memory_file : (k : Kind) (file : Option (List ℕ)) (by : Saying k → Type 0) → ((c : Saying k) → by c) → IsDecidedByFile H k file 1 by
   memory_file k None by all = tt
@@ -83,21 +90,26 @@ module _ (H R W : Type 0) where
 
   -- ---- the input
 
-  by_bytes : (job : Job) (t : Task) (old new : Option (List ℕ)) (bytes : List ℕ) (n : ℕ) → HasBytes job.is_text old new bytes → IsDecidedByBytes W t job.ceiling bytes n
-      → IsDecidedByLeft R W job t old n
-  by_bytes job t None new bytes n h d = tt
-  by_bytes job t (Some told) new bytes n h d =
+  -- the task in the form that is asked for decides
+  by_formed : (said : Option Task) (t : Task) (c : ℕ) (bytes : List ℕ) (n : ℕ) → said ≡ Some t → IsDecidedByBytes W t c bytes n → IsDecidedByTask W said c bytes n
+  by_formed said t c bytes n e d = subst (λ (z : Option Task). IsDecidedByTask W z c bytes n) (sym e) d
+
+  by_bytes : (job : Job) (said t : Task) (old new : Option (List ℕ)) (bytes : List ℕ) (n : ℕ) → HasBytes job.is_text old new bytes → formed job.is_text said ≡ Some t
+      → IsDecidedByBytes W t job.ceiling bytes n → IsDecidedByLeft R W job said old n
+  by_bytes job said t None new bytes n h f d = tt
+  by_bytes job said t (Some told) new bytes n h f d =
       let e = gave_told most_bytes new h.text told h.gave in
       let form : bytes_of job.is_text told ≡ Some bytes = ap (bytes_of job.is_text) e ∙ h.are in
       inr (record {
         long = λ more. absurd (not_long most_bytes told h.text e h.gave.within more);
-        short = λ less. subst (λ (f : Option (List ℕ)). IsDecidedByForm W t job.ceiling f n) (sym form) d;
+        short = λ less. subst (λ (z : Option (List ℕ)). IsDecidedByForm W (formed job.is_text said) job.ceiling z n) (sym form) (by_formed (formed job.is_text said) t job.ceiling bytes n f d);
       })
 
-  by_takes : (source : Option ℕ) (job : Job) (t : Task) (old new : Option (List ℕ)) (bytes : List ℕ) (n : ℕ) → TakesFrom source job.is_text old new bytes
-      → IsDecidedByBytes W t job.ceiling bytes n → IsDecidedByInput R W source job t old n
-  by_takes None job t old new bytes n h d = by_bytes job t old new bytes n h d
-  by_takes (Some k) job t old new bytes n h d = subst (λ (b : List ℕ). IsDecidedByBytes W t job.ceiling b n) h d
+  by_takes : (source : Option ℕ) (job : Job) (said t : Task) (old new : Option (List ℕ)) (bytes : List ℕ) (n : ℕ) → TakesFrom source job.is_text old new bytes
+      → formed job.is_text said ≡ Some t → IsDecidedByBytes W t job.ceiling bytes n → IsDecidedByInput R W source job said old n
+  by_takes None job said t old new bytes n h f d = by_bytes job said t old new bytes n h f d
+  by_takes (Some k) job said t old new bytes n h f d =
+      subst (λ (b : List ℕ). IsDecidedByTask W (formed job.is_text said) job.ceiling b n) h (by_formed (formed job.is_text said) t job.ceiling bytes n f d)
 
   long_left : (job : Job) (t : Task) (old new : Option (List ℕ)) → TookMore most_bytes old new → IsDecidedByLeft R W job t old 13
   long_left job t None new h = tt
@@ -105,15 +117,27 @@ module _ (H R W : Type 0) where
       let more = took_longer most_bytes new told h in
       inr (record { long = λ m. inl refl; short = λ less. absurd (omega (arith, more, less)) })
 
-  no_digits : (job : Job) (t : Task) (old new : Option (List ℕ)) (text : List ℕ) → job.is_text ≡ true → GaveAll most_bytes old new text → binary text ≡ None
-      → IsDecidedByLeft R W job t old 14
+  -- a text is no hexadecimal text, or what the files say is none
+  no_form : (t : Option Task) (c : ℕ) (form : Option (List ℕ)) → (form ≡ None) ⊎ (t ≡ None) → IsDecidedByForm W t c form 14
+  no_form t c None h = inl refl
+  no_form t c (Some bytes) (inl h) = absurd cc
+  no_form t c (Some bytes) (inr h) = subst (λ (z : Option Task). IsDecidedByTask W z c bytes 14) (sym h) (inl refl)
+
+  -- with `-x`
+  formless : (is_text : Bool) (told : List ℕ) (t : Task) → is_text ≡ true → (binary told ≡ None) ⊎ (formed true t ≡ None)
+      → (bytes_of is_text told ≡ None) ⊎ (formed is_text t ≡ None)
+  formless true told t is h = h
+  formless false told t is h = absurd cc
+
+  no_digits : (job : Job) (t : Task) (old new : Option (List ℕ)) (text : List ℕ) → job.is_text ≡ true → GaveAll most_bytes old new text
+      → (binary text ≡ None) ⊎ (formed true t ≡ None) → IsDecidedByLeft R W job t old 14
   no_digits job t None new text is gave none = tt
   no_digits job t (Some told) new text is gave none =
       let e = gave_told most_bytes new text told gave in
-      let form : bytes_of job.is_text told ≡ None = ap (λ (b : Bool). bytes_of b told) is ∙ ap binary e ∙ none in
+      let none' = subst (λ (z : List ℕ). (binary z ≡ None) ⊎ (formed true t ≡ None)) (sym e) none in
       inr (record {
         long = λ more. absurd (not_long most_bytes told text e gave.within more);
-        short = λ less. subst (λ (f : Option (List ℕ)). IsDecidedByForm W t job.ceiling f 14) (sym form) (inl refl);
+        short = λ less. no_form (formed job.is_text t) job.ceiling (bytes_of job.is_text told) (formless job.is_text told t is none');
       })
 
   unread : (job : Job) (t : Task) (old : Option (List ℕ)) → R → IsDecidedByLeft R W job t old 3
@@ -205,10 +229,10 @@ module _ (H R W : Type 0) where
   by_work : (job : Job) (texts : Texts) (old new : Option (List ℕ)) (n : ℕ) (w : Work job texts old new) → IsDecidedByBytes W w.task job.ceiling w.bytes n
       → IsDecidedByJob H R W job texts old n
   by_work job texts old new n w d =
-      by_task job texts w.task old n w.uses (by_takes (functions job.command) job w.task old new w.bytes n w.takes d)
+      by_task job texts w.said old n w.uses (by_takes (functions job.command) job w.said w.task old new w.bytes n w.takes w.is_formed d)
 
-  by_refused : (job : Job) (o : Outside) (fault : ReencodingFault) → StopsFor job o fault → IsDecidedByJob H R W job o.texts o.left_old (status_of (Reencoding fault))
-  by_refused job o fault h = by_work job o.texts o.left_old o.left_new (status_of (Reencoding fault)) h.work (inr (fault, refl, h.stops))
+  by_refused : (job : Job) (o : Outside) (fault : ReencodingFault) (by : Option ℕ) → StopsFor job o (stop fault by) → IsDecidedByJob H R W job o.texts o.left_old (fault_status fault)
+  by_refused job o fault by h = by_work job o.texts o.left_old o.left_new (fault_status fault) h.work (inr (stop fault by, refl, h.stops))
 
   by_made : (job : Job) (o : Outside) (n : ℕ) → (n ≡ 0) ⊎ ((n ≡ 4) × W) → MadeFor job o → IsDecidedByJob H R W job o.texts o.left_old n
   by_made job o n s made = by_work job o.texts o.left_old o.left_new n made.work (inl (s, (made.text, made.does)))
@@ -232,19 +256,24 @@ module _ (H R W : Type 0) where
   decided_job job o f r w (Ends.read_fault h) =
       by_task job o.texts h.1.0 o.left_old 3 h.1.1 (by_left job h.1.0 o.left_old 3 h.0 (unread job h.1.0 o.left_old (r h.2)))
   decided_job job o f r w (Ends.write_fault made took rose) = by_made job o 4 (inr (refl, w rose)) made
-  decided_job job o f r w (Ends.parse_error at h) = by_refused job o (reencoding_fault.ParseError at) h
-  decided_job job o f r w (Ends.refused u h) = by_refused job o (reencoding_fault.Refused u) h
-  decided_job job o f r w (Ends.code_size h) = by_refused job o reencoding_fault.CodeSectionSize h
-  decided_job job o f r w (Ends.component h) = by_refused job o reencoding_fault.NonCoreModule h
-  decided_job job o f r w (Ends.core_module h) = by_refused job o reencoding_fault.NonComponent h
-  decided_job job o f r w (Ends.too_large size ceiling h) = by_refused job o (reencoding_fault.TooLarge size ceiling) h
+  decided_job job o f r w (Ends.parse_error at by h) = by_refused job o (reencoding_fault.ParseError at) by h
+  decided_job job o f r w (Ends.refused u by h) = by_refused job o (reencoding_fault.Refused u) by h
+  decided_job job o f r w (Ends.code_size by h) = by_refused job o reencoding_fault.CodeSectionSize by h
+  decided_job job o f r w (Ends.component by h) = by_refused job o reencoding_fault.NonCoreModule by h
+  decided_job job o f r w (Ends.core_module by h) = by_refused job o reencoding_fault.NonComponent by h
+  decided_job job o f r w (Ends.too_large size ceiling by h) = by_refused job o (reencoding_fault.TooLarge size ceiling) by h
+  decided_job job o f r w (Ends.uneven stated rows by h) = by_refused job o (reencoding_fault.Uneven stated rows) by h
+  decided_job job o f r w (Ends.repeated id by h) = by_refused job o (reencoding_fault.Repeated id) by h
+  decided_job job o f r w (Ends.not_an_order place by h) = by_refused job o (reencoding_fault.NotAnOrder place) by h
+  decided_job job o f r w (Ends.dangling space index by h) = by_refused job o (reencoding_fault.Dangling space index) by h
+  decided_job job o f r w (Ends.clash name by h) = by_refused job o (reencoding_fault.Clash name) by h
+  decided_job job o f r w (Ends.two_starts by h) = by_refused job o reencoding_fault.TwoStarts by h
   decided_job job o f r w (Ends.bad_file h u) = at_file_of job o 11 (λ name by none. bad_file (says job.command) name o.texts by none (told_text o.texts name) refl) h
   decided_job job o f r w (Ends.unfetched h u) = at_file_of job o 12 (λ name by rose. unfetched_file (says job.command) (told_text o.texts name) by (f rose)) h
   decided_job job o {U} f r w (Ends.too_long h) = by_too_long job o U h
   decided_job job o f r w (Ends.no_digits h) =
-      let t = h.files.0 in
-      by_task job o.texts t o.left_old 14 h.files.1
-      (by_left job t o.left_old 14 h.reads (no_digits job t o.left_old o.left_new h.digits.1.0 h.digits.0 h.digits.1.1 h.digits.1.2))
+      by_task job o.texts h.said o.left_old 14 h.uses
+      (by_left job h.said o.left_old 14 h.reads (no_digits job h.said o.left_old o.left_new h.text h.asked h.gave h.none))
 
 pub decided_of : (n : ℕ) (t : List ℕ) (j : Option Job) (o : Outside) (U F : Type 0) → EndsFor j o U F n t
     → IsDecided (Rose o.shelf_faults_old o.shelf_faults_new) (Rose o.read_faults_old o.read_faults_new) (Rose o.write_faults_old o.write_faults_new) j o.texts o.left_old n

@@ -9,6 +9,7 @@ mod Numerals
 mod Outcomes
 mod OutsideLemmas
 mod Refusals
+mod Refusing
 mod Reports
 mod Shelves
 mod WithoutBlanks

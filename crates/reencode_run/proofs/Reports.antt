@@ -1,5 +1,5 @@
 -- What a task prints, and that want of memory is always a reason for nothing.
-use Rattle.std.proofs.Common.{◌≡◌, ℕ, List, refl, subst, Result, Ok, Err}
+use Rattle.std.proofs.Common.{◌≡◌, ℕ, List, Option, None, refl, subst, Result, Ok, Err}
 use Rattle.reencode_hooks.specs.Renamings.{no_renaming}
 use Rattle.reencode_run.specs.declared.answer.ReencodingFault.TheVariants.{NoMemory}
 use Rattle.reencode_run.specs.declared.renamers.Renamers.{Renamers}
@@ -9,7 +9,9 @@ use Rattle.reencode_run.specs.declared.task.Task.{Task}
 use Rattle.reencode_run.specs.declared.task.Task.TheVariants as task
 use Rattle.reencode_run.specs.Reencoded.{IsReencoded}
 use Rattle.reencode_run.specs.Tasks.{Does, Reports}
+use Rattle.reencode_run.specs.Tools.{stop}
 use Rattle.reencode_run.proofs.Outcomes.{plain_of}
+use Rattle.reencode_run.proofs.Refusing.{no_memory_merging, no_memory_pruning, no_memory_renumbering}
 
 -- the text of an output that was made
 pub reports : (k : Taken) (c : ℕ) (rs : Renamers) (bytes : List ℕ) (shown : List ℕ → List (List ℕ) → List ℕ) (output : List ℕ) (counts : List (List ℕ)) (text : List ℕ)
@@ -22,7 +24,10 @@ reports k c rs bytes shown output counts text h told = record {
   told = told;
 }
 
-pub wants_memory : (t : Task) (c : ℕ) (bytes : List ℕ) → Does t c bytes (Err NoMemory)
-wants_memory (task.Reencode rs) c bytes = (tt, λ t given reading all fits. refl)
-wants_memory (task.Generate n) c bytes = (tt, λ t given reading all fits. refl)
-wants_memory task.KeepReport c bytes = (tt, λ t given reading all fits. refl)
+pub wants_memory : (t : Task) (c : ℕ) (bytes : List ℕ) → Does t c bytes (Err (stop NoMemory None))
+wants_memory (task.Reencode rs) c bytes = (refl, (tt, λ t given reading all fits. refl))
+wants_memory (task.Generate n) c bytes = (refl, (tt, λ t given reading all fits. refl))
+wants_memory task.KeepReport c bytes = (refl, (tt, λ t given reading all fits. refl))
+wants_memory (task.Renumber order) c bytes = no_memory_renumbering order c bytes
+wants_memory task.Prune c bytes = no_memory_pruning c bytes
+wants_memory (task.Merge second) c bytes = no_memory_merging second c bytes

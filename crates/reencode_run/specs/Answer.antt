@@ -10,17 +10,19 @@ use Rattle.reencode_run.specs.declared.input.InputFault.TheVariants as input_fau
 use Rattle.reencode_run.specs.declared.hexadecimal.TextFault.{TextFault}
 use Rattle.reencode_run.specs.declared.hexadecimal.TextFault.TheVariants as digits_fault
 use Rattle.reencode_run.specs.declared.answer.ReencodingFault.{ReencodingFault}
+use Rattle.reencode_run.specs.declared.answer.TaskFault.{TaskFault}
 use Rattle.reencode_run.specs.declared.answer.ReencodingFault.TheVariants as reencoding_fault
 use Rattle.reencode_run.specs.declared.answer.WritingFault.TheVariants as writing_fault
 use Rattle.reencode_run.specs.declared.renamers.Refusal.{Refusal}
 use Rattle.reencode_run.specs.declared.task.Task.{Task}
-use Rattle.reencode_hooks.specs.declared.error.Error.{Error}
-use Rattle.reencode_hooks.specs.declared.error.Error.TheVariants as error
 use Rattle.reencode_run.specs.Outside.{Rose, WhereTold, followed, HasText, IsLonger, GaveAll, TookMore, TookFront}
 use Rattle.reencode_run.specs.Hexadecimal.{binary, bytes_of}
 use Rattle.reencode_run.specs.Renamers.{refusal_text}
 use Rattle.reencode_run.specs.Generated.{generated}
-use Rattle.reencode_run.specs.Tasks.{Saying, Does, IsSaying, NoSaying, most_of, task_of}
+use Rattle.wasm_shapes.specs.declared.Space.{Space}
+use Rattle.wasm_shapes.specs.Names.{space_name}
+use Rattle.reencode_run.specs.Tasks.{Saying, Does, IsSaying, NoSaying, formed, most_of, task_of}
+use Rattle.reencode_run.specs.Tools.{stop}
 use Rattle.reencode_run.specs.Words.{Command, Job, Kind, files, functions, says}
 
 -- what shelves tell
@@ -89,11 +91,13 @@ TakesFrom (Some n) is_text left_old left_new bytes = bytes ≡ generated n
 abbrev pub Takes : Command → Bool → (left_old left_new : Option (List ℕ)) → List ℕ → Type 0
 Takes command is_text left_old left_new bytes = TakesFrom (functions command) is_text left_old left_new bytes
 
--- the task of a job and its bytes
+-- the task of a job, in the form that it asks for, and its bytes
 pub record Work (job : Job) (texts : Texts) (left_old left_new : Option (List ℕ)) : Type 0 where
+  pub said : Task
   pub task : Task
   pub bytes : List ℕ
-  pub uses : Uses job.command texts task
+  pub uses : Uses job.command texts said
+  pub is_formed : formed job.is_text said ≡ Some task
   pub takes : Takes job.command job.is_text left_old left_new bytes
 
 -- This text is printed for a job.
@@ -164,11 +168,11 @@ RefusesBytes command is_text faults_old faults_new left_old left_new answer =
     RefusesFrom (functions command) is_text faults_old faults_new left_old left_new answer
 
 -- The files and the bytes were accepted, and the task makes nothing of these.
-pub record StopsAtReencoding (job : Job) (texts : Texts) (left_old left_new : Option (List ℕ)) (fault : ReencodingFault) : Type 0 where
+pub record StopsAtReencoding (job : Job) (texts : Texts) (left_old left_new : Option (List ℕ)) (fault : TaskFault) : Type 0 where
   pub work : Work job texts left_old left_new
   pub stops : Does work.task job.ceiling work.bytes (Err fault)
 
-abbrev pub StopsFor : Job → Outside → ReencodingFault → Type 0
+abbrev pub StopsFor : Job → Outside → TaskFault → Type 0
 StopsFor job o fault = StopsAtReencoding job o.texts o.left_old o.left_new fault
 
 -- ---- what is said where the words are accepted
@@ -179,7 +183,7 @@ ForJob None P = ⊥
 ForJob (Some job) P = P job
 
 -- the files and the bytes were accepted, and the re-encoding ends so
-abbrev pub StopsWith : Option Job → Texts → (left_old left_new : Option (List ℕ)) → ReencodingFault → Type 0
+abbrev pub StopsWith : Option Job → Texts → (left_old left_new : Option (List ℕ)) → TaskFault → Type 0
 StopsWith j texts left_old left_new fault = ForJob j (λ job. StopsAtReencoding job texts left_old left_new fault)
 
 -- the words ask for a made module
@@ -213,13 +217,34 @@ IsTooLong command texts left_old left_new Unread =
     (AtFileOf command texts (λ name. IsLonger texts name (most_of (says command))) × Unread)
     ⊎ (¬ IsMaking command × HasTask command texts × TookMore most_bytes left_old left_new)
 
--- The files were accepted, the source was read to its end, and its text is no hexadecimal text, as `-x` asks.
+-- The files were accepted, the source was read to its end, and its text, or that of a module which a file has, is no hexadecimal
+-- text, as `-x` asks.
 pub record HasNoDigits (job : Job) (texts : Texts) (left_old left_new : Option (List ℕ)) : Type 0 where
   pub reads : ¬ IsMaking job.command
-  pub files : HasTask job.command texts
-  pub digits : NoDigits job.is_text left_old left_new
+  pub asked : job.is_text ≡ true
+  pub said : Task
+  pub uses : Uses job.command texts said
+  pub text : List ℕ
+  pub gave : GaveAll most_bytes left_old left_new text
+  pub none : (binary text ≡ None) ⊎ (formed true said ≡ None)
 
 -- ---- statuses and what is said with them
+
+-- the status of what is wrong
+abbrev pub fault_status : ReencodingFault → ℕ
+fault_status reencoding_fault.NoMemory = 1
+fault_status (reencoding_fault.ParseError at) = 5
+fault_status (reencoding_fault.Refused u) = 6
+fault_status reencoding_fault.CodeSectionSize = 7
+fault_status reencoding_fault.NonCoreModule = 8
+fault_status reencoding_fault.NonComponent = 9
+fault_status (reencoding_fault.TooLarge size ceiling) = 10
+fault_status (reencoding_fault.Uneven stated rows) = 15
+fault_status (reencoding_fault.Repeated id) = 16
+fault_status (reencoding_fault.NotAnOrder place) = 17
+fault_status (reencoding_fault.Dangling space index) = 18
+fault_status (reencoding_fault.Clash name) = 19
+fault_status reencoding_fault.TwoStarts = 20
 
 -- the status of an end
 abbrev pub status_of : Answer → ℕ
@@ -228,28 +253,22 @@ status_of (Words words_fault.NoMemory) = 1
 status_of (File file_fault.NoMemory) = 1
 status_of (Input input_fault.NoMemory) = 1
 status_of (Digits digits_fault.NoMemory) = 1
-status_of (Reencoding reencoding_fault.NoMemory) = 1
 status_of (Writing writing_fault.NoMemory) = 1
 status_of (Words words_fault.NotAccepted) = 2
 status_of (Input input_fault.Failed) = 3
 status_of (Writing writing_fault.Failed) = 4
-status_of (Reencoding (reencoding_fault.ParseError at)) = 5
-status_of (Reencoding (reencoding_fault.Refused u)) = 6
-status_of (Reencoding reencoding_fault.CodeSectionSize) = 7
-status_of (Reencoding reencoding_fault.NonCoreModule) = 8
-status_of (Reencoding reencoding_fault.NonComponent) = 9
-status_of (Reencoding (reencoding_fault.TooLarge size ceiling)) = 10
+status_of (Reencoding e) = fault_status e.fault
 status_of (File file_fault.Bad) = 11
 status_of (File file_fault.Failed) = 12
 status_of (File file_fault.TooLong) = 13
 status_of (Input input_fault.TooLong) = 13
 status_of (Digits digits_fault.NotHexadecimal) = 14
 
--- what is said with a status, but for 0, 5, 6 and 10, without the line end
+-- what is said with a status, where that holds neither a number nor a name, without the line end
 abbrev pub message : ℕ → List ℕ
 message status =
     if status == 1 then codes "no memory"
-    else if status == 2 then codes "usage: [-x] [-m CEILING] plain | rename FILE | twice FILE FILE | generate N | keep-report"
+    else if status == 2 then codes "usage: [-x] [-m CEILING] plain | rename FILE | twice FILE FILE | generate N | keep-report | renumber FILE | prune | merge FILE"
     else if status == 3 then codes "read fault"
     else if status == 4 then codes "write fault"
     else if status == 7 then codes "invalid code section size"
@@ -258,23 +277,53 @@ message status =
     else if status == 11 then codes "bad renaming"
     else if status == 12 then codes "shelf fault"
     else if status == 13 then codes "too long"
+    else if status == 20 then codes "two starts"
     else codes "not hex"
+
+-- what is wrong, in words
+abbrev pub fault_text : ReencodingFault → List ℕ
+fault_text (reencoding_fault.ParseError at) = codes "parse error at " ++ decimal at
+fault_text (reencoding_fault.Refused u) = refusal_text u
+fault_text (reencoding_fault.TooLarge size ceiling) = codes "too large: " ++ decimal size ++ codes " over " ++ decimal ceiling
+fault_text (reencoding_fault.Uneven stated rows) = codes "uneven: " ++ decimal stated ++ codes " and " ++ decimal rows
+fault_text (reencoding_fault.Repeated id) = codes "repeated section " ++ decimal id
+fault_text (reencoding_fault.NotAnOrder place) = codes "not an order at " ++ decimal place
+fault_text (reencoding_fault.Dangling space index) = codes "dangling " ++ space_name space ++ codes " " ++ decimal index
+fault_text (reencoding_fault.Clash name) = codes "export clash " ++ name
+fault_text fault = message (fault_status fault)
+
+-- they are the status's message alone
+abbrev pub HasFaultMessage : ReencodingFault → Type 0
+HasFaultMessage (reencoding_fault.ParseError at) = ⊥
+HasFaultMessage (reencoding_fault.Refused u) = ⊥
+HasFaultMessage (reencoding_fault.TooLarge size ceiling) = ⊥
+HasFaultMessage (reencoding_fault.Uneven stated rows) = ⊥
+HasFaultMessage (reencoding_fault.Repeated id) = ⊥
+HasFaultMessage (reencoding_fault.NotAnOrder place) = ⊥
+HasFaultMessage (reencoding_fault.Dangling space index) = ⊥
+HasFaultMessage (reencoding_fault.Clash name) = ⊥
+HasFaultMessage _ = Unit {0}
+
+-- of which input it is said: want of memory of none
+abbrev pub said_by : ReencodingFault → Option ℕ → Option ℕ
+said_by reencoding_fault.NoMemory by = None
+said_by _ by = by
+
+-- the same in words
+abbrev pub by_text : Option ℕ → List ℕ
+by_text None = []
+by_text (Some n) = codes " by " ++ decimal n
 
 -- what is said of an end, without the line end
 abbrev pub text_of : Answer → List ℕ
 text_of Printed = []
-text_of (Reencoding (reencoding_fault.ParseError at)) = codes "parse error at " ++ decimal at
-text_of (Reencoding (reencoding_fault.Refused u)) = refusal_text u
-text_of (Reencoding (reencoding_fault.TooLarge size ceiling)) = codes "too large: " ++ decimal size ++ codes " over " ++ decimal ceiling
+text_of (Reencoding e) = fault_text e.fault ++ by_text (said_by e.fault e.by)
 text_of answer = message (status_of answer)
 
 -- it is the status's message alone
 abbrev pub HasMessage : Answer → Type 0
-HasMessage Printed = Unit {0}
-HasMessage (Reencoding (reencoding_fault.ParseError at)) = ⊥
-HasMessage (Reencoding (reencoding_fault.Refused u)) = ⊥
-HasMessage (Reencoding (reencoding_fault.TooLarge size ceiling)) = ⊥
-HasMessage answer = Unit {0}
+HasMessage (Reencoding e) = ⊥
+HasMessage _ = Unit {0}
 
 -- a sink took this text, or a front of it where it failed
 abbrev pub Says : (faults_old faults_new : ℕ) (held_old held_new : Option (List ℕ)) → List ℕ → Type 0
@@ -288,13 +337,25 @@ pub data Ends (job : Job) (o : Outside) (Unread : Type 0) : ℕ → List ℕ →
   read_fault : IsUnread job.command o.texts o.read_faults_old o.read_faults_new → Ends job o Unread 3 (message 3)
   write_fault : (made : MadeFor job o) → TookFront o.held_old o.held_new (report_of made) → Rose o.write_faults_old o.write_faults_new
       → Ends job o Unread 4 (message 4)
-  parse_error : (at : ℕ) → StopsFor job o (reencoding_fault.ParseError at) → Ends job o Unread 5 (codes "parse error at " ++ decimal at)
-  refused : (u : Refusal) → StopsFor job o (reencoding_fault.Refused u) → Ends job o Unread 6 (refusal_text u)
-  code_size : StopsFor job o reencoding_fault.CodeSectionSize → Ends job o Unread 7 (message 7)
-  component : StopsFor job o reencoding_fault.NonCoreModule → Ends job o Unread 8 (message 8)
-  core_module : StopsFor job o reencoding_fault.NonComponent → Ends job o Unread 9 (message 9)
-  too_large : (size ceiling : ℕ) → StopsFor job o (reencoding_fault.TooLarge size ceiling)
-      → Ends job o Unread 10 (codes "too large: " ++ decimal size ++ codes " over " ++ decimal ceiling)
+  parse_error : (at : ℕ) (by : Option ℕ) → StopsFor job o (stop (reencoding_fault.ParseError at) by)
+      → Ends job o Unread 5 (codes "parse error at " ++ decimal at ++ by_text by)
+  refused : (u : Refusal) (by : Option ℕ) → StopsFor job o (stop (reencoding_fault.Refused u) by) → Ends job o Unread 6 (refusal_text u ++ by_text by)
+  code_size : (by : Option ℕ) → StopsFor job o (stop reencoding_fault.CodeSectionSize by) → Ends job o Unread 7 (message 7 ++ by_text by)
+  component : (by : Option ℕ) → StopsFor job o (stop reencoding_fault.NonCoreModule by) → Ends job o Unread 8 (message 8 ++ by_text by)
+  core_module : (by : Option ℕ) → StopsFor job o (stop reencoding_fault.NonComponent by) → Ends job o Unread 9 (message 9 ++ by_text by)
+  too_large : (size ceiling : ℕ) (by : Option ℕ) → StopsFor job o (stop (reencoding_fault.TooLarge size ceiling) by)
+      → Ends job o Unread 10 (codes "too large: " ++ decimal size ++ codes " over " ++ decimal ceiling ++ by_text by)
+  uneven : (stated rows : ℕ) (by : Option ℕ) → StopsFor job o (stop (reencoding_fault.Uneven stated rows) by)
+      → Ends job o Unread 15 (codes "uneven: " ++ decimal stated ++ codes " and " ++ decimal rows ++ by_text by)
+  repeated : (id : ℕ) (by : Option ℕ) → StopsFor job o (stop (reencoding_fault.Repeated id) by)
+      → Ends job o Unread 16 (codes "repeated section " ++ decimal id ++ by_text by)
+  not_an_order : (place : ℕ) (by : Option ℕ) → StopsFor job o (stop (reencoding_fault.NotAnOrder place) by)
+      → Ends job o Unread 17 (codes "not an order at " ++ decimal place ++ by_text by)
+  dangling : (space : Space) (index : ℕ) (by : Option ℕ) → StopsFor job o (stop (reencoding_fault.Dangling space index) by)
+      → Ends job o Unread 18 (codes "dangling " ++ space_name space ++ codes " " ++ decimal index ++ by_text by)
+  clash : (name : List ℕ) (by : Option ℕ) → StopsFor job o (stop (reencoding_fault.Clash name) by)
+      → Ends job o Unread 19 (codes "export clash " ++ name ++ by_text by)
+  two_starts : (by : Option ℕ) → StopsFor job o (stop reencoding_fault.TwoStarts by) → Ends job o Unread 20 (message 20 ++ by_text by)
   bad_file : IsBadFile job.command o.texts → Unread → Ends job o Unread 11 (message 11)
   unfetched : IsUnfetched job.command o.texts o.shelf_faults_old o.shelf_faults_new → Unread → Ends job o Unread 12 (message 12)
   too_long : IsTooLong job.command o.texts o.left_old o.left_new Unread → Ends job o Unread 13 (message 13)
@@ -305,41 +366,28 @@ abbrev pub EndsFor : Option Job → Outside → (Unread Unfetched : Type 0) → 
 EndsFor None o Unread Unfetched status text = (status ≡ 2) × (text ≡ message 2) × Unread × Unfetched
 EndsFor (Some job) o Unread Unfetched status text = Ends job o Unread status text
 
--- the errors that an input of a command may give: the others come to no end
-abbrev pub HasStatus : {E : Type 0} → Error E → Type 0
-HasStatus error.CanonicalizedHeapTypeReference = ⊥
-HasStatus error.InvalidConstExpr = ⊥
-HasStatus error.UnsupportedCoreTypeInComponent = ⊥
-HasStatus _ = Unit {0}
-
--- the fault that an error under a ceiling is, where a refusal is told so
-abbrev pub EndsAs : {E : Type 0} → (E → Refusal) → ℕ → Error E → ReencodingFault → Type 0
-EndsAs told ceiling error.InvalidCodeSectionSize fault = fault ≡ reencoding_fault.CodeSectionSize
-EndsAs told ceiling error.UnexpectedNonCoreModuleSection fault = fault ≡ reencoding_fault.NonCoreModule
-EndsAs told ceiling error.UnexpectedNonComponentSection fault = fault ≡ reencoding_fault.NonComponent
-EndsAs told ceiling (error.ParseError e) fault = fault ≡ reencoding_fault.ParseError e.at
-EndsAs told ceiling (error.UserError u) fault = fault ≡ reencoding_fault.Refused (told u)
-EndsAs told ceiling (error.TooLarge size) fault = fault ≡ reencoding_fault.TooLarge size ceiling
-EndsAs told ceiling error.NoMemory fault = fault ≡ reencoding_fault.NoMemory
-EndsAs told ceiling _ fault = ⊥
-
 -- ---- what decides: the words, each file, the input, its digits, the re-encoding and the output, in this order
 
 -- Which status comes by the task and the bytes: 0, or 4 where the sink failed, where the task makes a text of them, and else by why it makes none.
 abbrev pub IsDecidedByBytes : (Unwritten : Type 0) → Task → ℕ → List ℕ → ℕ → Type 0
 IsDecidedByBytes Unwritten task ceiling bytes status =
     (((status ≡ 0) ⊎ ((status ≡ 4) × Unwritten)) × ((text : List ℕ) × Does task ceiling bytes (Ok text)))
-    ⊎ ((fault : ReencodingFault) × (status ≡ status_of (Reencoding fault)) × Does task ceiling bytes (Err fault))
+    ⊎ ((fault : TaskFault) × (status ≡ fault_status fault.fault) × Does task ceiling bytes (Err fault))
+
+-- which status comes by the form of what the files say
+abbrev pub IsDecidedByTask : (Unwritten : Type 0) → Option Task → ℕ → List ℕ → ℕ → Type 0
+IsDecidedByTask Unwritten None ceiling bytes status = (status ≡ 14) ⊎ (status ≡ 1)
+IsDecidedByTask Unwritten (Some task) ceiling bytes status = IsDecidedByBytes Unwritten task ceiling bytes status
 
 -- which status comes by the form of the text and the bytes that it is
-abbrev pub IsDecidedByForm : (Unwritten : Type 0) → Task → ℕ → Option (List ℕ) → ℕ → Type 0
+abbrev pub IsDecidedByForm : (Unwritten : Type 0) → Option Task → ℕ → Option (List ℕ) → ℕ → Type 0
 IsDecidedByForm Unwritten task ceiling None status = (status ≡ 14) ⊎ (status ≡ 1)
-IsDecidedByForm Unwritten task ceiling (Some bytes) status = IsDecidedByBytes Unwritten task ceiling bytes status
+IsDecidedByForm Unwritten task ceiling (Some bytes) status = IsDecidedByTask Unwritten task ceiling bytes status
 
 -- which status comes for an input that was read
 pub record IsDecidedFor (Unwritten : Type 0) (job : Job) (task : Task) (text : List ℕ) (status : ℕ) : Type 0 where
   pub long : most_bytes < length text → (status ≡ 13) ⊎ (status ≡ 1)
-  pub short : length text ≤ most_bytes → IsDecidedByForm Unwritten task job.ceiling (bytes_of job.is_text text) status
+  pub short : length text ≤ most_bytes → IsDecidedByForm Unwritten (formed job.is_text task) job.ceiling (bytes_of job.is_text text) status
 
 -- which status comes for the input, where it is told: 3 where the source failed, and else by what was read
 abbrev pub IsDecidedByLeft : (Unread Unwritten : Type 0) → Job → Task → Option (List ℕ) → ℕ → Type 0
@@ -349,7 +397,7 @@ IsDecidedByLeft Unread Unwritten job task (Some text) status = ((status ≡ 3) �
 -- which status comes of a task, for a made module of so many functions or the input
 abbrev pub IsDecidedByInput : (Unread Unwritten : Type 0) → Option ℕ → Job → Task → Option (List ℕ) → ℕ → Type 0
 IsDecidedByInput Unread Unwritten None job task left status = IsDecidedByLeft Unread Unwritten job task left status
-IsDecidedByInput Unread Unwritten (Some n) job task left status = IsDecidedByBytes Unwritten task job.ceiling (generated n) status
+IsDecidedByInput Unread Unwritten (Some n) job task left status = IsDecidedByTask Unwritten (formed job.is_text task) job.ceiling (generated n) status
 
 -- which status comes for the text of a file of this kind that was fetched, where that of what it says is told
 pub record IsDecidedForFile (k : Kind) (text : List ℕ) (status : ℕ) (by : Saying k → Type 0) : Type 0 where
@@ -374,7 +422,8 @@ IsDecidedByFiles Unfetched k texts (name ∷ names) status by =
     IsDecidedByFile Unfetched k (told_text texts name) status (λ c. IsDecidedByFiles Unfetched k texts names status (λ cs. by (c ∷ cs)))
 
 -- Which status comes for a job. What stands first decides, whatever failed behind it: where a file, its shelf not having failed, says nothing of
--- its kind, it is 11, and where the input, its source not having failed either, is no hexadecimal text, it is 14; or memory runs out.
+-- its kind, it is 11, and where the input, its source not having failed either, or a module that a file has, is no hexadecimal text, it is 14;
+-- or memory runs out.
 abbrev pub IsDecidedByJob : (Unfetched Unread Unwritten : Type 0) → Job → Texts → Option (List ℕ) → ℕ → Type 0
 IsDecidedByJob Unfetched Unread Unwritten job texts left status =
     IsDecidedByFiles Unfetched (says job.command) texts (files job.command) status

@@ -11,6 +11,9 @@ pub mod Plain
 pub mod Renamers
 pub mod Reencoded
 pub mod Kept
+pub mod Orders
+pub mod Errors
+pub mod Tools
 pub mod Tasks
 pub mod Answer
 pub mod Memory

@@ -120,3 +120,4 @@ IsRefused k ceiling rs bytes NonComponent = IsFault k ceiling rs bytes (fault.He
 IsRefused k ceiling rs bytes (Refused u) = IsUserRefusal k ceiling rs bytes u
 IsRefused k ceiling rs bytes (TooLarge size above) = (above ≡ ceiling) × IsOutputTooLarge k ceiling rs bytes size
 IsRefused k ceiling rs bytes NoMemory = Unit {0}
+IsRefused k ceiling rs bytes _ = ⊥

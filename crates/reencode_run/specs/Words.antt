@@ -13,6 +13,9 @@ pub data Command : Type 0 where
   twice : List ℕ → List ℕ → Command
   generate : ℕ → Command
   keep_report : Command
+  renumber : List ℕ → Command
+  prune : Command
+  merge : List ℕ → Command
 
 -- whether the input is hexadecimal text, the most bytes that a frame of the output may have, and what is to be done
 pub record Job : Type 0 where
@@ -23,6 +26,8 @@ pub record Job : Type 0 where
 -- what a file of a command is to say
 pub data Kind : Type 0 where
   of_renaming : Kind
+  of_order : Kind
+  of_module : Kind
 
 -- What a command is: what its files are to say, these files in order, and how many functions it makes a module of, where it reads no source.
 pub record Form : Type 0 where
@@ -36,6 +41,9 @@ form (rename name) = record { says = of_renaming; files = name ∷ []; functions
 form (twice first second) = record { says = of_renaming; files = first ∷ second ∷ []; functions = None }
 form (generate n) = record { says = of_renaming; files = []; functions = Some n }
 form keep_report = record { says = of_renaming; files = []; functions = None }
+form (renumber name) = record { says = of_order; files = name ∷ []; functions = None }
+form prune = record { says = of_renaming; files = []; functions = None }
+form (merge name) = record { says = of_module; files = name ∷ []; functions = None }
 
 -- what its files are to say
 abbrev pub says : Command → Kind
@@ -69,6 +77,7 @@ abbrev pub short_command : List ℕ → Option Command
 short_command w =
     if is_word w (codes "plain") then Some plain
     else if is_word w (codes "keep-report") then Some keep_report
+    else if is_word w (codes "prune") then Some prune
     else None
 
 -- a number of functions, from 1 to 1,000,000
@@ -79,6 +88,8 @@ abbrev pub long_command : List ℕ → List ℕ → Option Command
 long_command w a =
     if is_word w (codes "rename") then Some (rename a)
     else if is_word w (codes "generate") then option_and_then some_functions (index_of a)
+    else if is_word w (codes "renumber") then Some (renumber a)
+    else if is_word w (codes "merge") then Some (merge a)
     else None
 
 abbrev pub longer_command : List ℕ → List ℕ → List ℕ → Option Command
@@ -103,6 +114,9 @@ command_seen (said.Rename name) = rename name.now
 command_seen (said.Twice first second) = twice first.now second.now
 command_seen (said.Generate n) = generate n
 command_seen said.KeepReport = keep_report
+command_seen (said.Renumber name) = renumber name.now
+command_seen said.Prune = prune
+command_seen (said.Merge name) = merge name.now
 
 abbrev pub job_seen : of_job.Job → Job
 job_seen j = record { is_text = j.is_text; ceiling = j.ceiling; command = command_seen j.command }

@@ -1,20 +1,22 @@
 //! From a job to what is printed.
-ghost use Rattle.std.specs.Prelude.{◌≡◌, ◌≤◌, ◌++◌, ℕ, List, Option, [], length, replicate, Ok, Err, IfOk, IfErr, vec_len};
+ghost use Rattle.std.specs.Prelude.{◌≡◌, ◌≤◌, ◌++◌, ℕ, List, Option, Some, None, true, [], length, replicate, Ok, Err, IfOk, IfErr, IsErrOf, vec_len};
 ghost use Rattle.hex.specs.Hex.{encode_lower};
 ghost use Rattle.reencode_hooks.specs.Renamings.{no_renaming};
 ghost use Rattle.reencode_run.specs.Answer.{Ends, FileSays, HasBytes, IsMaking, Made, RefusesBytes, RefusesFile, RefusesSource, RefusesTask, Takes, Uses, report_of, status_of, text_of};
 ghost use Rattle.reencode_run.specs.Generated.{generated};
 ghost use Rattle.reencode_run.specs.Renamers.{AreCounts};
 ghost use Rattle.reencode_run.specs.Report.{lengths_report, report};
-ghost use Rattle.reencode_run.specs.Tasks.{Does, HasCounts, IsStopped, Reports};
-ghost use Rattle.reencode_run.specs.Words.{command_seen, files, functions, job_seen, of_renaming};
+ghost use Rattle.reencode_run.specs.Outside.{HasText};
+ghost use Rattle.reencode_run.specs.Tasks.{Does, HasCounts, IsStopped, Reports, formed, most_of};
+ghost use Rattle.reencode_run.specs.Words.{Kind, command_seen, files, functions, job_seen, of_module, of_order, of_renaming};
 
-use crate::answer::{Answer, FileFault, ReencodingFault, WritingFault};
+use crate::answer::{Answer, FileFault, ReencodingFault, TaskFault, WritingFault};
 use crate::buffer::zeros;
 use crate::generate::generated;
-use crate::hexadecimal::binary;
+use crate::hexadecimal::{TextFault, binary};
 use crate::input::{InputFault, read_all};
 use crate::kept::kept_report;
+use crate::order::order_of;
 use crate::outside::{Shelf, ShelfFault, Source};
 use crate::reencoded::reencoded;
 use crate::renamers::Renamers;
@@ -22,14 +24,16 @@ use crate::renaming::{RenamingFault, renaming_of};
 use crate::report::{made_lines, tail};
 use crate::taken::Taken;
 use crate::task::Task;
+use crate::tools::{alone, merged, pruned, renumbered};
 use crate::words::{Command, Job, functions};
 use reencode_hooks::{Chain, Renamer};
 use std::alloc::Global;
+use wasm_leb::List;
 
-/// The most bytes that an input may have: 64 MiB.
+/// The most bytes that an input, or the file of a module, may have: 64 MiB.
 const MOST_INPUT: u32 = 67_108_864;
 
-/// The most bytes that the file of a renaming may have: 1 MiB.
+/// The most bytes that the file of a renaming or of an order may have: 1 MiB.
 const MOST_RENAMING: u32 = 1_048_576;
 
 /// The size of the buffer through which digits are written: 64 KiB.
@@ -46,6 +50,30 @@ pub struct Ready {
     pub buffer: Vec<u8>,
 }
 
+/// The text of a file, of at most so many bytes.
+fn fetched<F: Shelf>(
+    alloc: Global,
+    file: &str,
+    most: u32,
+    shelf: &mut F,
+) -> Result<Vec<u8>, FileFault>
+    ensures rises { F.faults shelf.old ≤ F.faults shelf.new }
+    ensures same { F.texts shelf.new ≡ F.texts shelf.old }
+    ensures within { IfOk result (λ text. vec_len text ≤ most) }
+    ensures text { IfOk result (λ text. HasText (F.texts shelf.old) file.now text.items) }
+    ensures stops { IfErr result
+        (λ fault. (k : Kind) → most ≡ most_of k
+        → RefusesFile k file.now (F.texts shelf.old) (F.faults shelf.old)
+        (F.faults shelf.new) fault) }
+{
+    match shelf.fetch(alloc, file, most) {
+        Ok(text) => Ok(text),
+        Err(ShelfFault::Failed) => Err(FileFault::Failed),
+        Err(ShelfFault::TooLong) => Err(FileFault::TooLong),
+        Err(ShelfFault::NoMemory) => Err(FileFault::NoMemory),
+    }
+}
+
 /// The renamer that a file says.
 fn renamer_of_file<F: Shelf>(alloc: Global, file: &str, shelf: &mut F) -> Result<Renamer, FileFault>
     ensures rises { F.faults shelf.old ≤ F.faults shelf.new }
@@ -56,17 +84,49 @@ fn renamer_of_file<F: Shelf>(alloc: Global, file: &str, shelf: &mut F) -> Result
         (λ fault. RefusesFile of_renaming file.now (F.texts shelf.old) (F.faults shelf.old)
         (F.faults shelf.new) fault) }
 {
-    let text = match shelf.fetch(alloc, file, MOST_RENAMING) {
+    let text = match fetched(alloc, file, MOST_RENAMING, shelf) {
         Ok(text) => text,
-        Err(ShelfFault::Failed) => return Err(FileFault::Failed),
-        Err(ShelfFault::TooLong) => return Err(FileFault::TooLong),
-        Err(ShelfFault::NoMemory) => return Err(FileFault::NoMemory),
+        Err(fault) => return Err(fault),
     };
     match renaming_of(alloc, text.as_slice()) {
         Ok(renamer) => Ok(renamer),
         Err(RenamingFault::Bad) => Err(FileFault::Bad),
         Err(RenamingFault::NoMemory) => Err(FileFault::NoMemory),
     }
+}
+
+/// The order that a file says.
+fn order_of_file<F: Shelf>(alloc: Global, file: &str, shelf: &mut F) -> Result<List<u32>, FileFault>
+    ensures rises { F.faults shelf.old ≤ F.faults shelf.new }
+    ensures says { IfOk result (λ order. FileSays of_order (F.texts shelf.old) file.now order) }
+    ensures stops { IfErr result
+        (λ fault. RefusesFile of_order file.now (F.texts shelf.old) (F.faults shelf.old)
+        (F.faults shelf.new) fault) }
+{
+    let text = match fetched(alloc, file, MOST_RENAMING, shelf) {
+        Ok(text) => text,
+        Err(fault) => return Err(fault),
+    };
+    match order_of(alloc, text.as_slice()) {
+        Ok(order) => Ok(order),
+        Err(RenamingFault::Bad) => Err(FileFault::Bad),
+        Err(RenamingFault::NoMemory) => Err(FileFault::NoMemory),
+    }
+}
+
+/// The text of a file that has a module.
+fn module_of_file<F: Shelf>(alloc: Global, file: &str, shelf: &mut F) -> Result<List<u8>, FileFault>
+    ensures rises { F.faults shelf.old ≤ F.faults shelf.new }
+    ensures says { IfOk result (λ text. FileSays of_module (F.texts shelf.old) file.now text) }
+    ensures stops { IfErr result
+        (λ fault. RefusesFile of_module file.now (F.texts shelf.old) (F.faults shelf.old)
+        (F.faults shelf.new) fault) }
+{
+    let text = match fetched(alloc, file, MOST_INPUT, shelf) {
+        Ok(text) => text,
+        Err(fault) => return Err(fault),
+    };
+    Ok(List::from_vec(text))
 }
 
 /// What a command does, by what its files say.
@@ -95,6 +155,31 @@ fn task_of<F: Shelf>(alloc: Global, command: Command<'_>, shelf: &mut F) -> Resu
         }
         Command::Generate(n) => Ok(Task::Generate(n)),
         Command::KeepReport => Ok(Task::KeepReport),
+        Command::Renumber(file) => match order_of_file(alloc, file, shelf) {
+            Ok(order) => Ok(Task::Renumber(order)),
+            Err(fault) => Err(fault),
+        },
+        Command::Prune => Ok(Task::Prune),
+        Command::Merge(file) => match module_of_file(alloc, file, shelf) {
+            Ok(text) => Ok(Task::Merge(text)),
+            Err(fault) => Err(fault),
+        },
+    }
+}
+
+/// A task in the form that is asked for: with `-x` the module of a file is what its text is the hexadecimal text of.
+fn formed(alloc: Global, is_text: bool, task: Task) -> Result<Task, TextFault>
+    ensures ok { IfOk result (λ t. formed is_text task ≡ Some t) }
+    ensures counts { HasCounts task → IfOk result HasCounts }
+    ensures none { IsErrOf result TextFault.NotHexadecimal
+        → (is_text ≡ true) × (formed true task ≡ None) }
+{
+    match task {
+        Task::Merge(text) if is_text => match binary(alloc, text.into_vec()) {
+            Ok(bytes) => Ok(Task::Merge(List::from_vec(bytes))),
+            Err(fault) => Err(fault),
+        },
+        task => Ok(task),
     }
 }
 
@@ -210,22 +295,28 @@ fn shown(
     task: Task,
     bytes: &[u8],
     ceiling: u32,
-) -> Result<(Vec<u8>, Vec<u8>), ReencodingFault>
+) -> Result<(Vec<u8>, Vec<u8>), TaskFault>
     requires { HasCounts task }
     ensures ok { IfOk result
         (λ p. Does task ceiling bytes.now (Ok (encode_lower p.0.items ++ p.1.items))) }
     ensures stops { IfErr result (λ fault. Does task ceiling bytes.now (Err fault)) }
 {
     match task {
-        Task::Reencode(renamers) => digits(alloc, renamers, bytes, ceiling),
+        Task::Reencode(renamers) => match digits(alloc, renamers, bytes, ceiling) {
+            Ok(made) => Ok(made),
+            Err(fault) => Err(alone(fault)),
+        },
         Task::Generate(n) => match lengths(alloc, n, bytes, ceiling) {
             Ok(lines) => Ok(undigited(alloc, lines)),
-            Err(fault) => Err(fault),
+            Err(fault) => Err(alone(fault)),
         },
         Task::KeepReport => match kept_report(alloc, bytes, ceiling) {
             Ok(lines) => Ok(undigited(alloc, lines)),
-            Err(fault) => Err(fault),
+            Err(fault) => Err(alone(fault)),
         },
+        Task::Renumber(order) => renumbered(alloc, bytes, order.as_slice(), ceiling),
+        Task::Prune => pruned(alloc, bytes, ceiling),
+        Task::Merge(second) => merged(alloc, bytes, second.as_slice(), ceiling),
     }
 }
 
@@ -269,6 +360,10 @@ pub fn make<F: Shelf, S: Source>(
     let bytes = match bytes_of(alloc, job.command, job.is_text, input) {
         Ok(bytes) => bytes,
         Err(answer) => return Err(answer),
+    };
+    let task = match formed(alloc, job.is_text, task) {
+        Ok(task) => task,
+        Err(fault) => return Err(Answer::Digits(fault)),
     };
     match shown(alloc, task, bytes.as_slice(), job.ceiling) {
         Ok(made) => match zeros(alloc, PIECE) {

@@ -2,16 +2,16 @@
 ghost use Rattle.std.specs.Prelude.{◌≡◌, replicate, IfOk, OnOk, IsErrOf, [], Some, None};
 ghost use Rattle.reencode_hooks.specs.Renamings.{no_renaming};
 ghost use Rattle.serde_json.specs.View.{view, members_view};
-ghost use Rattle.reencode_run.specs.Renamings.{IsRenaming, NoRenaming, entries_from, set_all, set_member, set_members, set_space, space_of, whole_of};
+ghost use Rattle.reencode_run.specs.Renamings.{IsRenaming, NoRenaming, entries_from, set_all, set_member, set_members, set_space, space_of};
 
-use crate::index::index_of;
+use crate::index::{index_of, whole_of};
 use reencode_hooks::Renamer;
 use serde_json::{Map, Value};
 use std::alloc::Global;
 use std::collections::BTreeMap;
 use wasm_shapes::Space;
 
-/// Why a text gives no renaming.
+/// Why a text gives no renaming, or no order.
 #[derive(Clone, Copy, Debug, PartialEq, Eq)]
 pub enum RenamingFault {
     /// It says none.
@@ -50,19 +50,6 @@ fn space_of(name: &str) -> Option<Space>
         }
     }
     None
-}
-
-/// The number of a value, where it is a whole one below 2^32 that is held without a sign.
-fn whole_of(value: &Value) -> Option<u32>
-    ensures { result ≡ whole_of (view value.now) }
-{
-    match value.as_u64() {
-        Some(n) => match u32::try_from(n) {
-            Ok(n) => Some(n),
-            Err(_) => None,
-        },
-        None => None,
-    }
 }
 
 /// The entries of a space, in the order of their keys.

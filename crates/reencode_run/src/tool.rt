@@ -1,8 +1,11 @@
 //! The top call.
-ghost use Rattle.std.specs.Prelude.{None, Some, ℕ, [], ◌∷◌, ◌<◌, Contains, decimal, ◌≡◌, ◌≢◌, ◌≤◌, ◌++◌, ◌↔◌, ◌⊎◌, codes, map, length, string_bytes, vec_len, OnOk, OnErr};
+ghost use Rattle.std.specs.Prelude.{None, Some, Option, List, ℕ, [], ◌∷◌, ◌<◌, Contains, decimal, ◌≡◌, ◌≢◌, ◌≤◌, ◌++◌, ◌↔◌, ◌⊎◌, codes, map, length, string_bytes, vec_len, OnOk, OnErr};
 ghost use Rattle.hex.specs.Hex.{encode_lower};
-ghost use Rattle.reencode_run.specs.Answer.{Ends, EndsFor, ForJob, HasNoDigits, IsBadFile, IsDecided, IsMaking, IsTooLong, IsUnfetched, IsUnread, Made, MakesModule, NamesNone, ReadsSource, Says, StopsWith, message, report_of, status_of, text_of};
+ghost use Rattle.reencode_run.specs.Answer.{Ends, EndsFor, ForJob, HasNoDigits, IsBadFile, IsDecided, IsMaking, IsTooLong, IsUnfetched, IsUnread, Made, MakesModule, NamesNone, ReadsSource, Says, StopsWith, by_text, message, report_of, status_of, text_of};
 ghost use Rattle.reencode_run.specs.Words.{files, functions, job, job_seen};
+ghost use Rattle.wasm_shapes.specs.declared.Space.{Space};
+ghost use Rattle.wasm_shapes.specs.Names.{space_name};
+ghost use Rattle.reencode_run.specs.Tools.{stop};
 ghost use Rattle.reencode_run.specs.declared.renamers.Refusal.{Refusal};
 ghost use Rattle.reencode_run.specs.Renamers.{refusal_text};
 ghost use Rattle.reencode_run.specs.Outside.{Rose, TookFront, WhereTold, followed};
@@ -131,12 +134,12 @@ fn perform_words<F: Shelf, S: Source, K: Sink>(
 }
 
 /// Says how the program ends, unless all was printed.
-fn tell<D: Sink>(answer: Answer, err: &mut D)
+fn tell<D: Sink>(answer: &Answer, err: &mut D)
     ensures rises { D.faults err.old ≤ D.faults err.new }
-    ensures quiet { status_of answer ≡ 0 → err.new ≡ err.old }
-    ensures says { status_of answer ≢ 0
+    ensures quiet { status_of answer.now ≡ 0 → err.new ≡ err.old }
+    ensures says { status_of answer.now ≢ 0
         → Says (D.faults err.old) (D.faults err.new) (D.held err.old) (D.held err.new)
-        (text_of answer ++ codes "\n") }
+        (text_of answer.now ++ codes "\n") }
 {
     if answer.status() != 0 {
         let _ = answer.say(err);
@@ -144,8 +147,8 @@ fn tell<D: Sink>(answer: Answer, err: &mut D)
 }
 
 /// Runs the program: `words` are the words behind its name. They are, in this order, `-x` or nothing,
-/// `-m CEILING` or nothing, and one of `plain`, `rename FILE`, `twice FILE FILE`, `generate N` and
-/// `keep-report`.
+/// `-m CEILING` or nothing, and one of `plain`, `rename FILE`, `twice FILE FILE`, `generate N`, `keep-report`,
+/// `renumber FILE`, `prune` and `merge FILE`.
 ///
 /// `plain` re-encodes the input's bytes with no index renamed, and `rename` with the indices renamed as the
 /// text says that the shelf has under FILE. `twice` renames each index as the first text says, and what
@@ -155,11 +158,16 @@ fn tell<D: Sink>(answer: Answer, err: &mut D)
 /// `keep-report` re-encodes the input's bytes as `plain` does, and prints where the function bodies stand
 /// in the input that stay as they are, how many bytes they have and how many the output, and the counts.
 ///
+/// `renumber` moves the functions that a core module defines to where the JSON array in FILE says, the j-th to the place in its
+/// j-th number, and renames all uses. `prune` removes those that nothing reaches, and prints which are kept, by their old
+/// indices. `merge` makes one core module of the input and the one in FILE, which `-x` asks to be hexadecimal text too. Of these three
+/// the output's digits are printed, and no counts.
+///
 /// It answers the status that the program ends with, as `Answer::status` tells them, and says on `err` what
 /// went wrong. A failure of `err` ends that text and changes no status.
 ///
-/// The words are tried first, then each FILE, which is fetched and then read, the input, its digits, the
-/// re-encoding and the output. All memory is taken before the first write to `out`.
+/// The words are tried first, then each FILE, which is fetched and then read, the input, its digits, those of the FILE of `merge`,
+/// the re-encoding and the output. All memory is taken before the first write to `out`.
 pub fn run<F: Shelf, S: Source, K: Sink, D: Sink>(
     alloc: Global,
     words: &[String],
@@ -202,28 +210,68 @@ pub fn run<F: Shelf, S: Source, K: Sink, D: Sink>(
         (λ j. (made : Made j (F.texts shelf.old) (S.left input.old) (S.left input.new))
         × TookFront (K.held out.old) (K.held out.new) (report_of made)) }
 
-    // Status 5 to 10 come only by the renamings and the bytes.
+    // Status 5 to 10 and 15 to 20 come only by the files and the bytes. Of two modules the text ends with the number of that of which it
+    // is said alone.
     ensures parse_error { result ≡ 5
-        → (at : ℕ) × StopsWith (job (map string_bytes words.now)) (F.texts shelf.old)
-        (S.left input.old) (S.left input.new) (ReencodingFault.ParseError at)
+        → (at : ℕ) × (by : Option ℕ) × StopsWith (job (map string_bytes words.now)) (F.texts shelf.old)
+        (S.left input.old) (S.left input.new) (stop (ReencodingFault.ParseError at) by)
         × Says (D.faults err.old) (D.faults err.new) (D.held err.old) (D.held err.new)
-        (codes "parse error at " ++ decimal at ++ codes "\n") }
+        (codes "parse error at " ++ decimal at ++ by_text by ++ codes "\n") }
     ensures refused { result ≡ 6
-        → (u : Refusal) × StopsWith (job (map string_bytes words.now)) (F.texts shelf.old)
-        (S.left input.old) (S.left input.new) (ReencodingFault.Refused u)
+        → (u : Refusal) × (by : Option ℕ) × StopsWith (job (map string_bytes words.now)) (F.texts shelf.old)
+        (S.left input.old) (S.left input.new) (stop (ReencodingFault.Refused u) by)
         × Says (D.faults err.old) (D.faults err.new) (D.held err.old) (D.held err.new)
-        (refusal_text u ++ codes "\n") }
-    ensures code_size { result ≡ 7 → StopsWith (job (map string_bytes words.now))
-        (F.texts shelf.old) (S.left input.old) (S.left input.new) ReencodingFault.CodeSectionSize }
-    ensures component { result ≡ 8 → StopsWith (job (map string_bytes words.now))
-        (F.texts shelf.old) (S.left input.old) (S.left input.new) ReencodingFault.NonCoreModule }
-    ensures core_module { result ≡ 9 → StopsWith (job (map string_bytes words.now))
-        (F.texts shelf.old) (S.left input.old) (S.left input.new) ReencodingFault.NonComponent }
+        (refusal_text u ++ by_text by ++ codes "\n") }
+    ensures code_size { result ≡ 7
+        → (by : Option ℕ) × StopsWith (job (map string_bytes words.now)) (F.texts shelf.old)
+        (S.left input.old) (S.left input.new) (stop ReencodingFault.CodeSectionSize by)
+        × Says (D.faults err.old) (D.faults err.new) (D.held err.old) (D.held err.new)
+        (message 7 ++ by_text by ++ codes "\n") }
+    ensures component { result ≡ 8
+        → (by : Option ℕ) × StopsWith (job (map string_bytes words.now)) (F.texts shelf.old)
+        (S.left input.old) (S.left input.new) (stop ReencodingFault.NonCoreModule by)
+        × Says (D.faults err.old) (D.faults err.new) (D.held err.old) (D.held err.new)
+        (message 8 ++ by_text by ++ codes "\n") }
+    ensures core_module { result ≡ 9
+        → (by : Option ℕ) × StopsWith (job (map string_bytes words.now)) (F.texts shelf.old)
+        (S.left input.old) (S.left input.new) (stop ReencodingFault.NonComponent by)
+        × Says (D.faults err.old) (D.faults err.new) (D.held err.old) (D.held err.new)
+        (message 9 ++ by_text by ++ codes "\n") }
     ensures too_large { result ≡ 10
-        → (size : ℕ) × (ceiling : ℕ) × StopsWith (job (map string_bytes words.now))
-        (F.texts shelf.old) (S.left input.old) (S.left input.new) (ReencodingFault.TooLarge size ceiling)
+        → (size ceiling : ℕ) × (by : Option ℕ) × StopsWith (job (map string_bytes words.now)) (F.texts shelf.old)
+        (S.left input.old) (S.left input.new) (stop (ReencodingFault.TooLarge size ceiling) by)
         × Says (D.faults err.old) (D.faults err.new) (D.held err.old) (D.held err.new)
-        (codes "too large: " ++ decimal size ++ codes " over " ++ decimal ceiling ++ codes "\n") }
+        (codes "too large: " ++ decimal size ++ codes " over " ++ decimal ceiling ++ by_text by ++ codes "\n") }
+    ensures uneven { result ≡ 15
+        → (stated rows : ℕ) × (by : Option ℕ) × StopsWith (job (map string_bytes words.now)) (F.texts shelf.old)
+        (S.left input.old) (S.left input.new) (stop (ReencodingFault.Uneven stated rows) by)
+        × Says (D.faults err.old) (D.faults err.new) (D.held err.old) (D.held err.new)
+        (codes "uneven: " ++ decimal stated ++ codes " and " ++ decimal rows ++ by_text by ++ codes "\n") }
+    ensures repeated { result ≡ 16
+        → (id : ℕ) × (by : Option ℕ) × StopsWith (job (map string_bytes words.now)) (F.texts shelf.old)
+        (S.left input.old) (S.left input.new) (stop (ReencodingFault.Repeated id) by)
+        × Says (D.faults err.old) (D.faults err.new) (D.held err.old) (D.held err.new)
+        (codes "repeated section " ++ decimal id ++ by_text by ++ codes "\n") }
+    ensures not_an_order { result ≡ 17
+        → (place : ℕ) × (by : Option ℕ) × StopsWith (job (map string_bytes words.now)) (F.texts shelf.old)
+        (S.left input.old) (S.left input.new) (stop (ReencodingFault.NotAnOrder place) by)
+        × Says (D.faults err.old) (D.faults err.new) (D.held err.old) (D.held err.new)
+        (codes "not an order at " ++ decimal place ++ by_text by ++ codes "\n") }
+    ensures dangling { result ≡ 18
+        → (space : Space) × (index : ℕ) × (by : Option ℕ) × StopsWith (job (map string_bytes words.now)) (F.texts shelf.old)
+        (S.left input.old) (S.left input.new) (stop (ReencodingFault.Dangling space index) by)
+        × Says (D.faults err.old) (D.faults err.new) (D.held err.old) (D.held err.new)
+        (codes "dangling " ++ space_name space ++ codes " " ++ decimal index ++ by_text by ++ codes "\n") }
+    ensures clash { result ≡ 19
+        → (name : List ℕ) × (by : Option ℕ) × StopsWith (job (map string_bytes words.now)) (F.texts shelf.old)
+        (S.left input.old) (S.left input.new) (stop (ReencodingFault.Clash name) by)
+        × Says (D.faults err.old) (D.faults err.new) (D.held err.old) (D.held err.new)
+        (codes "export clash " ++ name ++ by_text by ++ codes "\n") }
+    ensures two_starts { result ≡ 20
+        → (by : Option ℕ) × StopsWith (job (map string_bytes words.now)) (F.texts shelf.old)
+        (S.left input.old) (S.left input.new) (stop ReencodingFault.TwoStarts by)
+        × Says (D.faults err.old) (D.faults err.new) (D.held err.old) (D.held err.new)
+        (message 20 ++ by_text by ++ codes "\n") }
 
     // Status 11, 13 and 14 come only by what the shelf and the source gave.
     ensures bad_renaming { result ≡ 11 → ForJob (job (map string_bytes words.now))
@@ -243,12 +291,12 @@ pub fn run<F: Shelf, S: Source, K: Sink, D: Sink>(
 
     // No other status comes, and with each but 0 and 4 the sink is as it was.
     ensures statuses { Contains
-        (0 ∷ 1 ∷ 2 ∷ 3 ∷ 4 ∷ 5 ∷ 6 ∷ 7 ∷ 8 ∷ 9 ∷ 10 ∷ 11 ∷ 12 ∷ 13 ∷ 14 ∷ []) result }
+        (0 ∷ 1 ∷ 2 ∷ 3 ∷ 4 ∷ 5 ∷ 6 ∷ 7 ∷ 8 ∷ 9 ∷ 10 ∷ 11 ∷ 12 ∷ 13 ∷ 14 ∷ 15 ∷ 16 ∷ 17 ∷ 18 ∷ 19 ∷ 20 ∷ []) result }
     ensures untouched { result ≢ 0 → result ≢ 4 → out.new ≡ out.old }
 
-    // Each status but 0 has its message.
+    // Each status but 0 has its message, those above with their clauses.
     ensures quiet { result ≡ 0 → err.new ≡ err.old }
-    ensures says { result ≢ 0 → result ≢ 5 → result ≢ 6 → result ≢ 10
+    ensures says { result ≢ 0 → (result ≤ 4) ⊎ ((11 ≤ result) × (result ≤ 14))
         → Says (D.faults err.old) (D.faults err.new) (D.held err.old) (D.held err.new)
         (message result ++ codes "\n") }
 
@@ -259,6 +307,6 @@ pub fn run<F: Shelf, S: Source, K: Sink, D: Sink>(
     ensures err_rises { D.faults err.old ≤ D.faults err.new }
 {
     let answer = perform_words(alloc, words, shelf, input, out);
-    tell(answer, err);
+    tell(&answer, err);
     answer.status()
 }

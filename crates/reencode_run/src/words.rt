@@ -20,6 +20,12 @@ pub enum Command<'a> {
     Generate(u32),
     /// The input is re-encoded, no index is renamed, and what of it is kept is told.
     KeepReport,
+    /// The functions that the input defines are moved to where the file of this name says.
+    Renumber(&'a str),
+    /// The functions of the input that nothing reaches are removed.
+    Prune,
+    /// The input and the module in the file of this name become one.
+    Merge(&'a str),
 }
 
 /// How many functions a command makes a module of, where it makes one.
@@ -32,6 +38,9 @@ pub fn functions(command: Command<'_>) -> Option<u32>
         Command::Rename(_) => None,
         Command::Twice(_, _) => None,
         Command::KeepReport => None,
+        Command::Renumber(_) => None,
+        Command::Prune => None,
+        Command::Merge(_) => None,
     }
 }
 
@@ -81,6 +90,9 @@ fn short_command(word: &str) -> Option<Command<'static>>
     if word == "keep-report" {
         return Some(Command::KeepReport);
     }
+    if word == "prune" {
+        return Some(Command::Prune);
+    }
     None
 }
 
@@ -96,6 +108,12 @@ fn long_command<'a>(word: &str, argument: &'a str) -> Option<Command<'a>>
             Some(n) if n >= 1 && n <= MOST_FUNCTIONS => Some(Command::Generate(n)),
             _ => None,
         };
+    }
+    if word == "renumber" {
+        return Some(Command::Renumber(argument));
+    }
+    if word == "merge" {
+        return Some(Command::Merge(argument));
     }
     None
 }
@@ -124,7 +142,7 @@ fn command_of(words: &[String]) -> Option<Command<'_>>
 }
 
 /// What the words ask for: `-x` or nothing, `-m CEILING` or nothing, and then `plain`, `rename FILE`,
-/// `twice FILE FILE`, `generate N` or `keep-report`. CEILING and N are decimal digits that do not begin with `0`, or `0`; CEILING is below
+/// `twice FILE FILE`, `generate N`, `keep-report`, `renumber FILE`, `prune` or `merge FILE`. CEILING and N are decimal digits that do not begin with `0`, or `0`; CEILING is below
 /// 2^32 and is 2^32 - 1 where it is left out, and N is from 1 to 1,000,000.
 pub fn job_of(words: &[String]) -> Option<Job<'_>>
     ensures { option_map job_seen result ≡ job (map string_bytes words.now) }

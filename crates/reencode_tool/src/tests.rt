@@ -1,7 +1,7 @@
 //! What no clause says: that the calls succeed over memory, what is printed and said, and how the
 //! program ends where the outside is slow or fails.
 use reencode_hooks::{Asked, Chain, ChainError, Error, Renamer, Unmapped};
-use reencode_run::answer::{Answer, ReencodingFault, reencoding_fault};
+use reencode_run::answer::{Answer, ReencodingFault, TaskFault, reencoding_fault};
 use reencode_run::memory::{MemShelf, MemSink, MemSource};
 use reencode_run::outside::{Failed, Shelf, ShelfFault, Sink, Source};
 use reencode_run::renamers::{Refusal, Renamers};
@@ -11,6 +11,7 @@ use reencode_run::standard::FileShelf;
 use reencode_run::sure::{SureShelf, SureSink, SureSource};
 use reencode_run::tool::run;
 use std::alloc::Global;
+use std::convert::Infallible;
 use std::process::Abort;
 use std::test::Fail;
 use wasm_leb::{List, NoMemory};
@@ -37,7 +38,7 @@ const KEPT: &[u8] = b"kept 32 39\nbytes 7 of 39\nasked function 1 type 1 section
 const MADE: &[u8] = b"functions 3 input 59 output 47\nasked function 3 type 3 section_hook 4\n";
 
 const USAGE: &[u8] =
-    b"usage: [-x] [-m CEILING] plain | rename FILE | twice FILE FILE | generate N | keep-report\n";
+    b"usage: [-x] [-m CEILING] plain | rename FILE | twice FILE FILE | generate N | keep-report | renumber FILE | prune | merge FILE\n";
 
 /// The header of a module, in binary.
 const BINARY: &[u8] = b"\0asm\x01\0\0\0";
@@ -730,7 +731,357 @@ err=invalid code section size/
 
 text=0061736d01000000 0a09
 status=5
-err=parse error at 8/"#;
+err=parse error at 8/
+
+# The tools over modules: their words.
+words=renumber
+status=2
+err=USAGE
+
+words=prune r
+status=2
+err=USAGE
+
+words=merge
+status=2
+err=USAGE
+
+words=merge r s
+status=2
+err=USAGE
+
+# Functions in another order, and back.
+words=-x renumber r
+file=[1,0]
+text=0061736d01000000 0108026000006000017f 0303020001 07050101660000 0a0c02050010011a0b040041070b
+out=0061736d010000000108026000006000017f0303020100070501016600010a0c02040041070b050010001a0b/
+
+words=-x renumber r
+file= [ 1, 0 ] 
+text=0061736d01000000 0108026000006000017f 0303020100 07050101660001 0a0c02040041070b050010001a0b
+out=0061736d010000000108026000006000017f0303020001070501016600000a0c02050010011a0b040041070b/
+
+words=renumber r
+file=[]
+text=BINARY
+out=0061736d01000000/
+
+# No order of these functions.
+words=-x renumber r
+file=[0,0]
+text=0061736d01000000 0108026000006000017f 0303020001 07050101660000 0a0c02050010011a0b040041070b
+status=17
+err=not an order at 1/
+
+words=-x renumber r
+file=[0]
+text=0061736d01000000 0108026000006000017f 0303020001 07050101660000 0a0c02050010011a0b040041070b
+status=17
+err=not an order at 1/
+
+words=-x renumber r
+file=[]
+text=0061736d01000000 0108026000006000017f 0303020001 07050101660000 0a0c02050010011a0b040041070b
+status=17
+err=not an order at 0/
+
+words=-x renumber r
+file=[0,1,2]
+text=0061736d01000000 0108026000006000017f 0303020001 07050101660000 0a0c02050010011a0b040041070b
+status=17
+err=not an order at 2/
+
+# What is no array of whole numbers.
+words=-x renumber r
+file={}
+text=0061736d01000000 0108026000006000017f 0303020001 07050101660000 0a0c02050010011a0b040041070b
+status=11
+err=bad renaming/
+
+words=-x renumber r
+file=[1.0,0]
+text=0061736d01000000 0108026000006000017f 0303020001 07050101660000 0a0c02050010011a0b040041070b
+status=11
+err=bad renaming/
+
+words=-x renumber r
+file=[1e0,0]
+text=0061736d01000000 0108026000006000017f 0303020001 07050101660000 0a0c02050010011a0b040041070b
+status=11
+err=bad renaming/
+
+words=-x renumber r
+file=[-0,1]
+text=0061736d01000000 0108026000006000017f 0303020001 07050101660000 0a0c02050010011a0b040041070b
+status=11
+err=bad renaming/
+
+words=-x renumber r
+file=[4294967296]
+text=0061736d01000000 0108026000006000017f 0303020001 07050101660000 0a0c02050010011a0b040041070b
+status=11
+err=bad renaming/
+
+words=-x renumber r
+file=["0"]
+text=0061736d01000000 0108026000006000017f 0303020001 07050101660000 0a0c02050010011a0b040041070b
+status=11
+err=bad renaming/
+
+words=-x renumber r
+file=[[0]]
+text=0061736d01000000 0108026000006000017f 0303020001 07050101660000 0a0c02050010011a0b040041070b
+status=11
+err=bad renaming/
+
+words=-x renumber r
+file=[0,1
+text=0061736d01000000 0108026000006000017f 0303020001 07050101660000 0a0c02050010011a0b040041070b
+status=11
+err=bad renaming/
+
+words=-x renumber r
+file=0
+text=0061736d01000000 0108026000006000017f 0303020001 07050101660000 0a0c02050010011a0b040041070b
+status=11
+err=bad renaming/
+
+# No file has this name; and what comes first is told.
+words=-x renumber s
+file=[1,0]
+text=0061736d01000000 0108026000006000017f 0303020001 07050101660000 0a0c02050010011a0b040041070b
+status=12
+err=shelf fault/
+
+words=-x renumber r
+file=[1,0]
+text=00617
+status=14
+err=not hex/
+
+words=-x renumber r
+file={}
+text=00617
+status=11
+err=bad renaming/
+
+# No core modules, and faults in their order.
+words=-x renumber r
+file=[]
+text=0061736d0d000100
+status=8
+err=There was a section that does not belong in a core wasm module/
+
+words=-x renumber r
+file=[]
+text=0061736d01000000 0a0901
+status=7
+err=invalid code section size/
+
+words=-x renumber r
+file=[]
+text=0061736d01000000 0305ffffffff0f
+status=5
+err=parse error at 8/
+
+words=-x renumber r
+file=[3]
+text=0061736d01000000 030100 030100 0a0100 0a0100
+status=16
+err=repeated section 3/
+
+words=-x renumber r
+file=[3]
+text=0061736d01000000 030100 0a0100 0a0100
+status=16
+err=repeated section 10/
+
+words=-x renumber r
+file=[3]
+text=0061736d01000000 010401600000 03020100
+status=15
+err=uneven: 1 and 0/
+
+words=-x -m 11 renumber r
+file=[1,0]
+text=0061736d01000000 0108026000006000017f 0303020001 07050101660000 0a0c02050010011a0b040041070b
+status=10
+err=too large: 12 over 11/
+
+words=-x -m 11 renumber r
+file=[0,0]
+text=0061736d01000000 0108026000006000017f 0303020001 07050101660000 0a0c02050010011a0b040041070b
+status=17
+err=not an order at 1/
+
+# Functions that nothing reaches.
+words=-x prune
+text=0061736d01000000 010401600000 030403000000 07050101660000 0a0e03040010020b040010000b02000b
+out=0061736d010000000104016000000303020000070501016600000a0902040010010b02000b/kept 0 2/
+
+words=-x prune
+text=0061736d01000000 010401600000 030403000000 0a0e03040010020b040010000b02000b
+out=0061736d010000000104016000000301000a0100/kept/
+
+words=prune
+text=BINARY
+out=0061736d01000000/kept/
+
+words=-x prune
+text=0061736d01000000 03020100 0a06010400 10090b
+status=18
+err=dangling function 9/
+
+words=-x prune
+text=0061736d0d000100
+status=8
+err=There was a section that does not belong in a core wasm module/
+
+words=-x prune
+text=0061736d01000000 0a0901
+status=7
+err=invalid code section size/
+
+words=-x prune
+text=0061736d01000000 0305ffffffff0f
+status=5
+err=parse error at 8/
+
+words=-x prune
+text=0061736d01000000 030100 0a0100 0a0100
+status=16
+err=repeated section 10/
+
+words=-x prune
+text=0061736d01000000 010401600000 03020100
+status=15
+err=uneven: 1 and 0/
+
+words=-x -m 8 prune
+text=0061736d01000000 010401600000 030403000000 07050101660000 0a0e03040010020b040010000b02000b
+status=10
+err=too large: 9 over 8/
+
+# One module of two.
+words=-x merge r
+file=0061736d01000000 01050160 00017f 03020100 07050101670000 0a0601040041070b
+text=0061736d01000000 010401600000 020701016101620000 03020100 07050101660001 0a06010400 10000b
+out=0061736d010000000108026000006000017f020701016101620000030302000107090201660001016700020a0b02040010000b040041070b/
+
+words=merge r
+file=BINARY
+text=BINARY
+out=0061736d01000000/
+
+words=-x merge r
+file=0061736d01000000 0503010001 07050101660200
+text=0061736d01000000 0503010001 07050101660200
+status=19
+err=export clash f/
+
+words=-x merge r
+file=0061736d01000000 03020100 0a040102000b
+text=0061736d01000000
+status=18
+err=dangling type 0 by 2/
+
+words=-x merge r
+file=0061736d01000000
+text=0061736d01000000 03020100 0a040102000b
+status=18
+err=dangling type 0 by 1/
+
+words=-x merge r
+file=0061736d01000000 010401600000 03020100 080100 0a040102000b
+text=0061736d01000000 010401600000 03020100 080100 0a040102000b
+status=20
+err=two starts/
+
+# Faults of either, those of the first in front.
+words=-x merge r
+file=0061736d01000000
+text=0061736d01000000 050100 050100
+status=16
+err=repeated section 5 by 1/
+
+words=-x merge r
+file=0061736d01000000 0305ffffffff0f
+text=0061736d01000000 050100 050100
+status=16
+err=repeated section 5 by 1/
+
+words=-x merge r
+file=0061736d01000000 0305ffffffff0f
+text=0061736d01000000
+status=5
+err=parse error at 8 by 2/
+
+words=-x merge r
+file=0061736d0d000100
+text=0061736d01000000 0305ffffffff0f
+status=5
+err=parse error at 8 by 1/
+
+words=-x merge r
+file=0061736d01000000
+text=0061736d0d000100
+status=8
+err=There was a section that does not belong in a core wasm module by 1/
+
+words=-x merge r
+file=0061736d0d000100
+text=0061736d01000000
+status=8
+err=There was a section that does not belong in a core wasm module by 2/
+
+words=-x merge r
+file=0061736d01000000 0a0901
+text=0061736d01000000
+status=7
+err=invalid code section size by 2/
+
+words=-x merge r
+file=0061736d01000000 010401600000 03020100
+text=0061736d01000000
+status=15
+err=uneven: 1 and 0 by 2/
+
+words=-x merge r
+file=0061736d01000000
+text=0061736d01000000 0c0101
+status=15
+err=uneven: 1 and 0 by 1/
+
+words=-x -m 11 merge r
+file=0061736d01000000 01050160 00017f 03020100 07050101670000 0a0601040041070b
+text=0061736d01000000 010401600000 020701016101620000 03020100 07050101660001 0a06010400 10000b
+status=10
+err=too large: 12 over 11/
+
+# With `-x` both are hexadecimal text; without it neither is.
+words=-x merge r
+file=00617
+text=0061736d01000000
+status=14
+err=not hex/
+
+words=-x merge r
+file=0061736d01000000
+text=00617
+status=14
+err=not hex/
+
+words=merge r
+file=0061736d01000000
+text=BINARY
+status=5
+err=parse error at 0 by 2/
+
+words=merge s
+file=BINARY
+text=BINARY
+status=12
+err=shelf fault/"#;
 
 /// Runs in which the calls of the outside fail one after the other, as those above.
 const FAILING: &str = r#"# Each write of a byte fails in turn, and none.
@@ -1043,7 +1394,7 @@ fn ends_in(
 fn ends(alloc: Global, case: &str, k: u64) -> Option<(bool, bool, bool)> {
     let most = said(case, "most").parse().ok()?;
     let mut out = sink_of(alloc, case, "write_fails", 1000, most, k)?;
-    let mut err = sink_of(alloc, case, "err_fails", 100, most, k)?;
+    let mut err = sink_of(alloc, case, "err_fails", 200, most, k)?;
     ends_in(alloc, case, most, k, &mut out, &mut err)
 }
 
@@ -1232,6 +1583,23 @@ fn try_answer(
     Ok(())
 }
 
+fn try_fault(
+    rt: &impl Abort,
+    alloc: Global,
+    fault: ReencodingFault,
+    by: Option<u8>,
+    status: u8,
+    text: &[u8],
+) -> Result<(), NoMemory> {
+    try_answer(
+        rt,
+        alloc,
+        Answer::Reencoding(TaskFault { fault, by }),
+        status,
+        text,
+    )
+}
+
 #[test]
 fn place_of_a_fault(rt: HostRuntime) -> Result<(), Fail> {
     for (at, text) in [
@@ -1239,13 +1607,8 @@ fn place_of_a_fault(rt: HostRuntime) -> Result<(), Fail> {
         (8, b"parse error at 8\n"),
         (u64::MAX as usize, b"parse error at 18446744073709551615\n"),
     ] {
-        try_answer(
-            &rt,
-            rt.alloc(),
-            Answer::Reencoding(ReencodingFault::ParseError { at }),
-            5,
-            text,
-        )?;
+        let fault = ReencodingFault::ParseError { at };
+        try_fault(&rt, rt.alloc(), fault, None, 5, text)?;
     }
     Ok(())
 }
@@ -1256,89 +1619,87 @@ fn ends_of_errors(rt: HostRuntime) -> Result<(), Fail> {
         space: Space::ComponentFunc,
         index: 7,
     };
-    for (fault, status, text) in [
+    let name = List::from_vec(Vec::from_array(rt.alloc(), *b"f")?);
+    for (fault, by, status, text) in [
         (
             ReencodingFault::Refused(Refusal::Alone(unmapped)),
+            None,
             6,
             &b"refused component_func 7\n"[..],
         ),
         (
             ReencodingFault::Refused(Refusal::Both(ChainError::First(unmapped))),
+            None,
             6,
             b"refused component_func 7 by 1\n",
         ),
         (
             ReencodingFault::Refused(Refusal::Both(ChainError::Second(unmapped))),
+            None,
             6,
             b"refused component_func 7 by 2\n",
-        ),
-        (
-            ReencodingFault::CodeSectionSize,
-            7,
-            b"invalid code section size\n",
-        ),
-        (
-            ReencodingFault::NonCoreModule,
-            8,
-            b"There was a section that does not belong in a core wasm module\n",
-        ),
-        (
-            ReencodingFault::NonComponent,
-            9,
-            b"There was a section that does not belong in a component\n",
         ),
         (
             ReencodingFault::TooLarge {
                 size: 41,
                 ceiling: 40,
             },
+            None,
             10,
             b"too large: 41 over 40\n",
         ),
+        (ReencodingFault::Repeated { id: 255 }, Some(1), 16, b"repeated section 255 by 1\n"),
+        (ReencodingFault::Clash { name }, None, 19, b"export clash f\n"),
     ] {
-        try_answer(&rt, rt.alloc(), Answer::Reencoding(fault), status, text)?;
+        try_fault(&rt, rt.alloc(), fault, by, status, text)?;
     }
     Ok(())
 }
 
 #[test]
-fn faults_of_errors(rt: HostRuntime) {
+fn faults_of_errors(rt: HostRuntime) -> Result<(), Fail> {
     let unmapped = Unmapped {
         space: Space::Type_,
         index: 0,
     };
-    assert_eq!(rt;
-        reencoding_fault(Error::UserError(unmapped), 9),
-        ReencodingFault::Refused(Refusal::Alone(unmapped))
-    );
     let second: ChainError<Unmapped, Unmapped> = ChainError::Second(unmapped);
-    assert_eq!(rt;
-        reencoding_fault(Error::UserError(second), 9),
-        ReencodingFault::Refused(Refusal::Both(second))
-    );
-    assert_eq!(rt;
-        reencoding_fault(Error::<Unmapped>::InvalidCodeSectionSize, 9),
-        ReencodingFault::CodeSectionSize
-    );
-    assert_eq!(rt;
-        reencoding_fault(Error::<Unmapped>::UnexpectedNonCoreModuleSection, 9),
-        ReencodingFault::NonCoreModule
-    );
-    assert_eq!(rt;
-        reencoding_fault(Error::<Unmapped>::UnexpectedNonComponentSection, 9),
-        ReencodingFault::NonComponent
-    );
-    assert_eq!(rt;
-        reencoding_fault(Error::<Unmapped>::TooLarge { size: 10 }, 9),
-        ReencodingFault::TooLarge {
-            size: 10,
-            ceiling: 9
-        }
-    );
-    assert_eq!(rt;
-        reencoding_fault(Error::<Unmapped>::NoMemory, 9),
-        ReencodingFault::NoMemory
-    );
+    let none: Error<Infallible> = Error::TooLarge { size: 10 };
+    for (fault, status, text) in [
+        (
+            reencoding_fault(Error::UserError(unmapped), 9),
+            6,
+            &b"refused type 0\n"[..],
+        ),
+        (
+            reencoding_fault(Error::UserError(second), 9),
+            6,
+            b"refused type 0 by 2\n",
+        ),
+        (reencoding_fault(none, 9), 10, b"too large: 10 over 9\n"),
+        (
+            reencoding_fault(Error::<Unmapped>::InvalidCodeSectionSize, 9),
+            7,
+            b"invalid code section size\n",
+        ),
+        (
+            reencoding_fault(Error::<Unmapped>::UnexpectedNonCoreModuleSection, 9),
+            8,
+            b"There was a section that does not belong in a core wasm module\n",
+        ),
+        (
+            reencoding_fault(Error::<Unmapped>::UnexpectedNonComponentSection, 9),
+            9,
+            b"There was a section that does not belong in a component\n",
+        ),
+        (
+            reencoding_fault(Error::<Unmapped>::NoMemory, 9),
+            1,
+            b"no memory\n",
+        ),
+    ] {
+        try_fault(&rt, rt.alloc(), fault, None, status, text)?;
+    }
+    Ok(())
 }
 
 #[test]

@@ -25,3 +25,13 @@ returns-in-Ok-clause-uses g c =
     let b = c.in-Ok in
     let says = subst (λ (t : Texts). FileSays of_renaming t c.in-Twice.second.now b.b) a.ensures.same b.ensures.says in
     rw c.in-Twice.is (a.a ∷ b.b ∷ [], (a.ensures.says, (says, tt)), ap (λ both. task.Reencode (renamers.Both both)) c.new-in-Ok.ensures)
+
+pub returns-in-Ok-order_of_file-clause-uses : goal.returns-in-Ok-order_of_file-clause-uses
+returns-in-Ok-order_of_file-clause-uses g c =
+    let o = c.in-Ok-order_of_file in
+    rw c.in-Renumber.is (o.order ∷ [], (o.ensures.says, tt), refl)
+
+pub returns-in-Ok-module_of_file-clause-uses : goal.returns-in-Ok-module_of_file-clause-uses
+returns-in-Ok-module_of_file-clause-uses g c =
+    let m = c.in-Ok-module_of_file in
+    rw c.in-Merge.is (m.text ∷ [], (m.ensures.says, tt), refl)

@@ -52,29 +52,62 @@ returns-clause-file_fault g c e =
 pub returns-clause-parse_error : goal.returns-clause-parse_error
 returns-clause-parse_error g c e =
     let p = answers.of_parse_error _ _ _ _ _ (answers.at_status _ _ _ _ _ _ 5 c.status.ensures e c.perform_words-answer.ensures.ends) in
-    (p.0, p.1, answers.said _ _ _ _ _ _ p.2 (c.tell.ensures.says (answers.not_zero _ _ 5 c.status.ensures e (λ z. omega arith))))
+    (p.0, p.1, p.2, answers.said _ _ _ _ _ _ p.3 (c.tell.ensures.says (answers.not_zero _ _ 5 c.status.ensures e (λ z. omega arith))))
 
 pub returns-clause-refused : goal.returns-clause-refused
 returns-clause-refused g c e =
     let p = answers.of_refused _ _ _ _ _ (answers.at_status _ _ _ _ _ _ 6 c.status.ensures e c.perform_words-answer.ensures.ends) in
-    (p.0, p.1, answers.said _ _ _ _ _ _ p.2 (c.tell.ensures.says (answers.not_zero _ _ 6 c.status.ensures e (λ z. omega arith))))
+    (p.0, p.1, p.2, answers.said _ _ _ _ _ _ p.3 (c.tell.ensures.says (answers.not_zero _ _ 6 c.status.ensures e (λ z. omega arith))))
+
+pub returns-clause-code_size : goal.returns-clause-code_size
+returns-clause-code_size g c e =
+    let p = answers.of_code_size _ _ _ _ _ (answers.at_status _ _ _ _ _ _ 7 c.status.ensures e c.perform_words-answer.ensures.ends) in
+    (p.0, p.1, answers.said _ _ _ _ _ _ p.2 (c.tell.ensures.says (answers.not_zero _ _ 7 c.status.ensures e (λ z. omega arith))))
+
+pub returns-clause-component : goal.returns-clause-component
+returns-clause-component g c e =
+    let p = answers.of_component _ _ _ _ _ (answers.at_status _ _ _ _ _ _ 8 c.status.ensures e c.perform_words-answer.ensures.ends) in
+    (p.0, p.1, answers.said _ _ _ _ _ _ p.2 (c.tell.ensures.says (answers.not_zero _ _ 8 c.status.ensures e (λ z. omega arith))))
+
+pub returns-clause-core_module : goal.returns-clause-core_module
+returns-clause-core_module g c e =
+    let p = answers.of_core_module _ _ _ _ _ (answers.at_status _ _ _ _ _ _ 9 c.status.ensures e c.perform_words-answer.ensures.ends) in
+    (p.0, p.1, answers.said _ _ _ _ _ _ p.2 (c.tell.ensures.says (answers.not_zero _ _ 9 c.status.ensures e (λ z. omega arith))))
 
 pub returns-clause-too_large : goal.returns-clause-too_large
 returns-clause-too_large g c e =
     let p = answers.of_too_large _ _ _ _ _ (answers.at_status _ _ _ _ _ _ 10 c.status.ensures e c.perform_words-answer.ensures.ends) in
-    (p.0, p.1, p.2, answers.said _ _ _ _ _ _ p.3 (c.tell.ensures.says (answers.not_zero _ _ 10 c.status.ensures e (λ z. omega arith))))
+    (p.0, p.1, p.2, p.3, answers.said _ _ _ _ _ _ p.4 (c.tell.ensures.says (answers.not_zero _ _ 10 c.status.ensures e (λ z. omega arith))))
 
-pub returns-clause-code_size : goal.returns-clause-code_size
-returns-clause-code_size g c e =
-    answers.for_job 7 _ _ _ _ _ _ (λ z. omega arith) (answers.at_status _ _ _ _ _ _ 7 c.status.ensures e c.perform_words-answer.ensures.ends) (λ job h. answers.of_code_size h)
+pub returns-clause-uneven : goal.returns-clause-uneven
+returns-clause-uneven g c e =
+    let p = answers.of_uneven _ _ _ _ _ (answers.at_status _ _ _ _ _ _ 15 c.status.ensures e c.perform_words-answer.ensures.ends) in
+    (p.0, p.1, p.2, p.3, answers.said _ _ _ _ _ _ p.4 (c.tell.ensures.says (answers.not_zero _ _ 15 c.status.ensures e (λ z. omega arith))))
 
-pub returns-clause-component : goal.returns-clause-component
-returns-clause-component g c e =
-    answers.for_job 8 _ _ _ _ _ _ (λ z. omega arith) (answers.at_status _ _ _ _ _ _ 8 c.status.ensures e c.perform_words-answer.ensures.ends) (λ job h. answers.of_component h)
+pub returns-clause-repeated : goal.returns-clause-repeated
+returns-clause-repeated g c e =
+    let p = answers.of_repeated _ _ _ _ _ (answers.at_status _ _ _ _ _ _ 16 c.status.ensures e c.perform_words-answer.ensures.ends) in
+    (p.0, p.1, p.2, answers.said _ _ _ _ _ _ p.3 (c.tell.ensures.says (answers.not_zero _ _ 16 c.status.ensures e (λ z. omega arith))))
 
-pub returns-clause-core_module : goal.returns-clause-core_module
-returns-clause-core_module g c e =
-    answers.for_job 9 _ _ _ _ _ _ (λ z. omega arith) (answers.at_status _ _ _ _ _ _ 9 c.status.ensures e c.perform_words-answer.ensures.ends) (λ job h. answers.of_core_module h)
+pub returns-clause-not_an_order : goal.returns-clause-not_an_order
+returns-clause-not_an_order g c e =
+    let p = answers.of_not_an_order _ _ _ _ _ (answers.at_status _ _ _ _ _ _ 17 c.status.ensures e c.perform_words-answer.ensures.ends) in
+    (p.0, p.1, p.2, answers.said _ _ _ _ _ _ p.3 (c.tell.ensures.says (answers.not_zero _ _ 17 c.status.ensures e (λ z. omega arith))))
+
+pub returns-clause-dangling : goal.returns-clause-dangling
+returns-clause-dangling g c e =
+    let p = answers.of_dangling _ _ _ _ _ (answers.at_status _ _ _ _ _ _ 18 c.status.ensures e c.perform_words-answer.ensures.ends) in
+    (p.0, p.1, p.2, p.3, answers.said _ _ _ _ _ _ p.4 (c.tell.ensures.says (answers.not_zero _ _ 18 c.status.ensures e (λ z. omega arith))))
+
+pub returns-clause-clash : goal.returns-clause-clash
+returns-clause-clash g c e =
+    let p = answers.of_clash _ _ _ _ _ (answers.at_status _ _ _ _ _ _ 19 c.status.ensures e c.perform_words-answer.ensures.ends) in
+    (p.0, p.1, p.2, answers.said _ _ _ _ _ _ p.3 (c.tell.ensures.says (answers.not_zero _ _ 19 c.status.ensures e (λ z. omega arith))))
+
+pub returns-clause-two_starts : goal.returns-clause-two_starts
+returns-clause-two_starts g c e =
+    let p = answers.of_two_starts _ _ _ _ _ (answers.at_status _ _ _ _ _ _ 20 c.status.ensures e c.perform_words-answer.ensures.ends) in
+    (p.0, p.1, answers.said _ _ _ _ _ _ p.2 (c.tell.ensures.says (answers.not_zero _ _ 20 c.status.ensures e (λ z. omega arith))))
 
 pub returns-clause-bad_renaming : goal.returns-clause-bad_renaming
 returns-clause-bad_renaming g c e =
@@ -101,6 +134,6 @@ pub returns-clause-quiet : goal.returns-clause-quiet
 returns-clause-quiet g c e = c.tell.ensures.quiet (sym c.status.ensures ∙ e)
 
 pub returns-clause-says : goal.returns-clause-says
-returns-clause-says g c n m k l =
-    answers.said _ _ _ _ _ _ (answers.message_of _ _ _ _ _ _ (answers.at_status _ _ _ _ _ _ _ c.status.ensures refl c.perform_words-answer.ensures.ends) n m k l)
+returns-clause-says g c n one =
+    answers.said _ _ _ _ _ _ (answers.message_of _ _ _ _ _ _ (answers.at_status _ _ _ _ _ _ _ c.status.ensures refl c.perform_words-answer.ensures.ends) n one)
     (c.tell.ensures.says (λ s. n (c.status.ensures ∙ s)))

@@ -1,6 +1,6 @@
 use Rattle.reencode_hooks.specs.Renamings.{unmapped_text}
 use Rattle.reencode_run.proofs.OutsideLemmas.{TookFront-behind_err, TookFront-longer}
-use Rattle.reencode_run.proofs.answer.say_unmapped_line.Goals as goal
+use Rattle.reencode_run.proofs.answer.write_refused.Goals as goal
 
 pub returns-in-Ok-clause-front : goal.returns-in-Ok-clause-front
 returns-in-Ok-clause-front g c =
