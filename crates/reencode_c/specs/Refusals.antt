@@ -15,21 +15,21 @@ use Rattle.wasm_merge.specs.declared.fault.MergeFault.TheVariants as merge
 use Rattle.reencode_c.specs.declared.outcome.Outcome.{Outcome}
 use Rattle.reencode_c.specs.Ends.{bare}
 
--- ---- outcomes, of the first of two modules by 1, of the second by 2, and of one alone by 0
+-- ---- outcomes that tell, of the first of two modules by 1, of the second by 2, and of one alone by 0
 
--- two sections have this id
+-- that two sections have this id
 abbrev pub repeated : ℕ → ℕ → Outcome
 repeated by id = record (bare 116) { by = by; id = id }
 
--- so many functions or segments are stated, and there are so many others
+-- that so many functions or segments are stated, and there are so many others
 abbrev pub uneven : ℕ → ℕ → ℕ → Outcome
 uneven by stated rows = record (bare 115) { by = by; stated = stated; rows = rows }
 
--- this index is not there
+-- that this index is not there
 abbrev pub dangling : ℕ → Space → ℕ → Outcome
 dangling by space index = record (bare 18) { by = by; space = space_number space; index = index }
 
--- why the bytes are no core module, or the frame that is above the ceiling; or memory is wanting
+-- the outcome tells why the bytes are no core module, or the frame that is above the ceiling, or that memory is wanting
 abbrev pub TellsCore : ℕ → Error Infallible → Outcome → Type 0
 TellsCore by (error.ParseError e) o = o ≡ record (bare 5) { place = e.at; by = by }
 TellsCore by error.InvalidCodeSectionSize o = o ≡ record (bare 7) { by = by }
@@ -39,6 +39,7 @@ TellsCore by _ o = o ≡ bare 1
 
 -- ---- the outcome tells a refusal
 
+-- the outcome tells a refusal, with its numbers
 abbrev pub TellsRenumber : RenumberFault → Outcome → Type 0
 TellsRenumber (renumber.Core e) o = TellsCore 0 e o
 TellsRenumber (renumber.Repeated id) o = o ≡ repeated 0 id
@@ -46,6 +47,7 @@ TellsRenumber (renumber.Uneven functions bodies) o = o ≡ uneven 0 functions bo
 TellsRenumber (renumber.NotAnOrder place) o = o ≡ record (bare 17) { place = place }
 TellsRenumber renumber.NoMemory o = o ≡ bare 1
 
+-- the outcome tells a refusal, with its numbers
 abbrev pub TellsReach : ReachFault → Outcome → Type 0
 TellsReach (reach.Core e) o = TellsCore 0 e o
 TellsReach (reach.Repeated id) o = o ≡ repeated 0 id
@@ -58,6 +60,7 @@ pub record IsNamed (name before room : List ℕ) : Type 0 where
   pub whole : length name ≤ length before → take (length name) room ≡ name
   pub without : length before < length name → room ≡ before
 
+-- the outcome tells a refusal, with its numbers; of a name that both export, the room tells which it is
 abbrev pub TellsMerge : MergeFault → Outcome → List ℕ → List ℕ → Type 0
 TellsMerge (merge.Core by e) o before room = TellsCore by e o
 TellsMerge (merge.Repeated by id) o before room = o ≡ repeated by id

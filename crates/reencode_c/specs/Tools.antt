@@ -15,7 +15,7 @@ use Rattle.reencode_c.specs.Ends.{IsPut, IsTooSmall, bare}
 use Rattle.reencode_c.specs.Refusals.{TellsMerge, TellsReach, TellsRenumber}
 use Rattle.reencode_c.specs.Visits.{tally}
 
--- With an output that was put, or for which the room is too small, or with a refusal of which all is said.
+-- A call finishes with an output that was put, or for which room is wanted, or with a refusal of which all is said.
 pub data Finishes {F : Type 0} (Put Small : Type 0) (Refused : F → Type 0) : Type 0 where
   put : Put → Finishes Put Small Refused
   too_small : Small → Finishes Put Small Refused
@@ -38,13 +38,13 @@ pub record WantsRoom {X : Type 0} (Done : List X → Type 0) (o : Outcome) (room
 abbrev pub FinishesIn : {X F : Type 0} → (List X → Type 0) → (F → Type 0) → Outcome → List X → Type 0
 FinishesIn Done Refused o room = Finishes (PutsAny Done o room) (WantsRoom Done o room) Refused
 
--- The bytes with their functions in this order; or the refusal with its cause, which the outcome tells.
+-- The module with its functions in this order was put, or room for it is wanted; or the refusal has its cause, and the outcome tells it.
 abbrev pub Renumbers : List ℕ → List ℕ → ℕ → Outcome → List ℕ → Type 0
 Renumbers bytes order ceiling o room =
     FinishesIn (renumber.IsRenumbered bytes order ceiling)
     (λ (e : RenumberFault). renumber.IsWhy bytes order ceiling e × renumber.IsMade bytes order ceiling e × TellsRenumber e o) o room
 
--- The one module of two. The refusal of a name that both export may leave that in the room, which before was another.
+-- The same of the one module of two. The refusal of a name that both export leaves it in the room, or that as it was before.
 abbrev pub Merges : List ℕ → List ℕ → ℕ → Outcome → List ℕ → List ℕ → Type 0
 Merges first second ceiling o before room =
     FinishesIn (merge.IsMerged first second ceiling)
@@ -67,7 +67,7 @@ pub record WantsBoth (bytes : List ℕ) (ceiling : ℕ) (o : Outcome) (room kept
   pub is_small : (length room < length out) ⊎ (length kept_room < length kept)
   pub pruned : prune.IsPruned bytes ceiling out kept
 
--- The bytes without the functions that nothing reaches.
+-- The same of the module without the functions that nothing reaches, and of those that are kept.
 abbrev pub Prunes : List ℕ → ℕ → Outcome → List ℕ → List ℕ → Type 0
 Prunes bytes ceiling o room kept_room =
     Finishes (PutsBoth bytes ceiling o room kept_room) (WantsBoth bytes ceiling o room kept_room)
@@ -92,5 +92,6 @@ pub record ArePackedCalls (bytes list : List ℕ) : Type 0 where
   pub are_calls : AreCalls bytes imports roots calls
   pub is_packed : list ≡ packed imports (roots ∷ calls)
 
+-- The list of what the functions of a module are asked for by was put, or room for it is wanted, or nothing comes, for a cause.
 abbrev pub GivesCalls : List ℕ → Outcome → List ℕ → Type 0
 GivesCalls bytes o room = FinishesIn (ArePackedCalls bytes) (λ (e : ReachFault). reach.IsWhy bytes e × AreTold bytes e × TellsReach e o) o room
