@@ -30,6 +30,6 @@ module _ {F : Type 0} (Refused : F → Type 0) (o : Outcome) (bytes : List ℕ) 
         length_is = subst (λ (n : ℕ). n ≤ length room) (sym long) h.1;
         count_is = subst (λ (n : ℕ). n ≤ length kept_room) (sym many) h.3;
         pruned = subst (λ (xs : List ℕ). IsPruned bytes ceiling xs (take o.count kept_room)) (sym (ap (λ (n : ℕ). take n room) long ∙ h.2))
-        (subst (λ (ks : List ℕ). IsPruned bytes ceiling out ks) (sym (ap (λ (n : ℕ). take n kept_room) many ∙ h.4)) d);
+            (subst (λ (ks : List ℕ). IsPruned bytes ceiling out ks) (sym (ap (λ (n : ℕ). take n kept_room) many ∙ h.4)) d);
       })
   put_both_in out kept d done small (inr e) = let h = small e in Finishes.too_small (record { out = out; kept = kept; tells = h.0; is_small = h.1; pruned = d })

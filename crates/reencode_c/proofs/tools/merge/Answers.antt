@@ -13,5 +13,5 @@ returns-in-Ok-clause-ends c =
     IsWhy c.args.first.now c.args.second.now c.args.ceiling e × IsMade c.args.first.now c.args.second.now c.args.ceiling e × TellsMerge e c.put.new.outcome c.args.room.now c.put.new.room)
     c.put.new.outcome c.put.new.room c.in-Ok.output.items c.as_slice.result.now c.as_slice.ensures.value c.in-Ok.ensures.ok c.put.ensures.done c.put.ensures.small c.put.ensures.other
 
-pub returns-clause-ends : goal.returns-clause-ends
-returns-clause-ends c = Finishes.refused c.in-Err.fault (c.in-Err.ensures.err, c.in-Err.ensures.made, c.tell_merge.ensures.told)
+pub returns-in-Err-clause-ends : goal.returns-in-Err-clause-ends
+returns-in-Err-clause-ends c = Finishes.refused c.in-Err.fault (c.in-Err.ensures.err, c.in-Err.ensures.made, c.tell_merge.ensures.told)

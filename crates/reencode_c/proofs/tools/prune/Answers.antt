@@ -10,10 +10,10 @@ pub returns-in-Ok-clause-ends : goal.returns-in-Ok-clause-ends
 returns-in-Ok-clause-ends c =
     put_both_in
     (λ (e : ReachFault). IsWhyNot c.args.bytes.now c.args.ceiling e × IsMade c.args.bytes.now c.args.ceiling e × TellsReach e c.put_both.new.outcome)
-    c.put_both.new.outcome c.args.bytes.now c.args.ceiling c.put_both.new.room c.put_both.new.kept_room c.as_slice.result.now c.as_slice-2.result.now
-    (subst (λ (xs : List ℕ). IsPruned c.args.bytes.now c.args.ceiling xs c.as_slice-2.result.now) (sym c.as_slice.ensures)
-    (subst (λ (ks : List ℕ). IsPruned c.args.bytes.now c.args.ceiling c.in-Ok.made.bytes ks) (sym c.as_slice-2.ensures) c.in-Ok.ensures.ok))
+    c.put_both.new.outcome c.args.bytes.now c.args.ceiling c.put_both.new.room c.put_both.new.kept_room c.as_slice.result.now c.as_slice-in-Ok.result.now
+    (subst (λ (xs : List ℕ). IsPruned c.args.bytes.now c.args.ceiling xs c.as_slice-in-Ok.result.now) (sym c.as_slice.ensures)
+    (subst (λ (ks : List ℕ). IsPruned c.args.bytes.now c.args.ceiling c.in-Ok.made.bytes ks) (sym c.as_slice-in-Ok.ensures) c.in-Ok.ensures.ok))
     c.put_both.ensures.done c.put_both.ensures.small c.put_both.ensures.other
 
-pub returns-clause-ends : goal.returns-clause-ends
-returns-clause-ends c = Finishes.refused c.in-Err.fault (c.in-Err.ensures.err, c.in-Err.ensures.made, c.tell_reach.ensures)
+pub returns-in-Err-clause-ends : goal.returns-in-Err-clause-ends
+returns-in-Err-clause-ends c = Finishes.refused c.in-Err.fault (c.in-Err.ensures.err, c.in-Err.ensures.made, c.tell_reach.ensures)

@@ -12,5 +12,5 @@ returns-in-Ok-clause-ends c =
     IsWhy c.args.bytes.now c.args.order.now c.args.ceiling e × IsMade c.args.bytes.now c.args.order.now c.args.ceiling e × TellsRenumber e c.put.new.outcome)
     c.put.new.outcome c.put.new.room c.in-Ok.output.items c.as_slice.result.now c.as_slice.ensures.value c.in-Ok.ensures.ok c.put.ensures.done c.put.ensures.small c.put.ensures.other
 
-pub returns-clause-ends : goal.returns-clause-ends
-returns-clause-ends c = Finishes.refused c.in-Err.fault (c.in-Err.ensures.err, c.in-Err.ensures.made, c.tell_renumber.ensures)
+pub returns-in-Err-clause-ends : goal.returns-in-Err-clause-ends
+returns-in-Err-clause-ends c = Finishes.refused c.in-Err.fault (c.in-Err.ensures.err, c.in-Err.ensures.made, c.tell_renumber.ensures)
