@@ -556,6 +556,12 @@ class Reader:
         name = self.name()
         return name + (self.names() if name == b"\x04name" else self.raw(self.end - self.at))
 
+    def row(self, kind):
+        """What reads a row of a section of this kind."""
+        return {1: self.group, 2: self.imports, 3: lambda: self.index(B), 4: self.table_row, 5: self.memory,
+                6: lambda: self.global_() + self.expr(), 7: self.export, 9: self.element, 10: self.body, 11: self.segment,
+                13: self.tag}[kind]
+
     def content(self, kind):
         if kind == 0:
             return self.custom()
@@ -565,9 +571,7 @@ class Reader:
             return self.index(F)
         if kind == 12:
             return self.index("data_count")
-        rows = {1: self.group, 2: self.imports, 3: lambda: self.index(B), 4: self.table_row, 5: self.memory,
-                6: lambda: self.global_() + self.expr(), 7: self.export, 9: self.element, 10: self.body, 11: self.segment, 13: self.tag}
-        return self.vec(rows[kind])
+        return self.vec(self.row(kind))
 
     def module(self):
         if self.raw(8) != b"\0asm\1\0\0\0":

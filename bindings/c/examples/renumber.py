@@ -23,8 +23,9 @@ class Visit(ctypes.Structure):
 
 class Outcome(ctypes.Structure):
     _fields_ = [("length", ctypes.c_size_t), ("place", ctypes.c_uint64), ("size", ctypes.c_uint64),
-                ("status", ctypes.c_uint32), ("space", ctypes.c_uint32), ("index", ctypes.c_uint32), ("spare", ctypes.c_uint32),
-                ("spares", ctypes.c_uint64 * 3)]
+                ("status", ctypes.c_uint32), ("space", ctypes.c_uint32), ("index", ctypes.c_uint32), ("by", ctypes.c_uint32),
+                ("count", ctypes.c_size_t), ("stated", ctypes.c_uint32), ("rows", ctypes.c_uint32), ("id", ctypes.c_uint32),
+                ("spare", ctypes.c_uint32)]
 
 
 class Refused(Exception):

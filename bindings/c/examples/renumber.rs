@@ -30,8 +30,12 @@ struct Outcome {
     status: u32,
     space: u32,
     index: u32,
+    by: u32,
+    count: usize,
+    stated: u32,
+    rows: u32,
+    id: u32,
     spare: u32,
-    spares: [u64; 3],
 }
 
 const TOO_SMALL: u32 = 16;

@@ -1,3 +1,5 @@
 mod Endings
+mod Finishings
 mod Lists
+mod Packing
 mod Runs

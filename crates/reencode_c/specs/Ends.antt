@@ -59,10 +59,12 @@ bare status = record {
   status = status;
   space = 0;
   index = 0;
+  by = 0;
+  count = 0;
+  stated = 0;
+  rows = 0;
+  id = 0;
   spare = 0;
-  spare_1 = 0;
-  spare_2 = 0;
-  spare_3 = 0;
 }
 
 -- the outcome tells the error

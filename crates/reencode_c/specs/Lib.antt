@@ -1,4 +1,6 @@
 pub mod Ends
 pub mod Entries
 pub mod Outputs
+pub mod Refusals
+pub mod Tools
 pub mod Visits

@@ -13,7 +13,7 @@ use reencode_component::reencode_within;
 use std::alloc::Global;
 
 /// Puts an output into room for it, or says how much room it takes.
-fn put(output: &[u8], room: &mut [u8], outcome: &mut Outcome)
+pub fn put<T: Copy>(output: &[T], room: &mut [T], outcome: &mut Outcome)
     ensures done { outcome.new.status ≡ 0 → IsPut outcome.new room.new output.now }
     ensures small { outcome.new.status ≡ 16
         → IsTooSmall outcome.new room.new (tally (length output.now)) }
