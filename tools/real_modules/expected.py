@@ -166,6 +166,27 @@ def vector(rows):
     return leb(len(rows)) + b"".join(rows)
 
 
+def spelled(sections):
+    """A module of these sections: each its id, with its rows or its contents."""
+    return MODULE + b"".join(section(kind, vector(rows) if isinstance(rows, list) else rows) for kind, rows in sections)
+
+
+def loosened(one, two):
+    """The second of two modules without what the first forbids: a front before the names of its exports where one clashes, and no start
+    where both have one. None where there is nothing to do."""
+    clashes, starts = set(one.exports) & set(two.exports), one.rows.get(8) and two.rows.get(8)
+    if not clashes and not starts:
+        return None
+    front = b"second."
+    while any(front + name in one.exports for name in two.exports):
+        front = b"-" + front
+
+    def renamed(row):
+        name = Reader(row, None).text()
+        return leb(len(front + name)) + front + name + row[len(leb(len(name))) + len(name):]
+    return spelled((kind, [renamed(row) for row in rows] if kind == 7 and clashes else rows) for kind, rows in two.sections if kind != 8 or not starts)
+
+
 def no_reading(data):
     """The outcome of bytes that have no reading as a core module, or none."""
     if data[:8] == COMPONENT:
@@ -232,14 +253,7 @@ def order_fault(order, count):
 
 def arranged(parts, functions):
     """The module with these of its functions, in this order."""
-    out = bytearray(MODULE)
-    for kind, rows in parts.sections:
-        if kind in (3, 10):
-            rows = vector([rows[one] for one in functions])
-        elif isinstance(rows, list):
-            rows = vector(rows)
-        out += section(kind, rows)
-    return bytes(out)
+    return spelled((kind, [rows[one] for one in functions] if kind in (3, 10) else rows) for kind, rows in parts.sections)
 
 
 def renumber(data, order, ceiling=MOST, parts=None):
@@ -337,16 +351,13 @@ def merge(first, second, ceiling=MOST, parts=(None, None)):
         return Outcome(19, "export clash " + clash.decode())
     ways = answers(one, two)
     both = [Parts(data, way) for data, way in zip((first, second), ways)]
-    out = bytearray(MODULE)
+    sections = []
     for kind in STANDARD:
         if any(each.sections_of(kind) for each in both):
             rows = [row for each in both for row in each.rows.get(kind, [])]
-            out += section(kind, rows[0] if kind == 8 else leb(sum(len(each.rows.get(11, [])) for each in both)) if kind == 12 else vector(rows))
-    for each in both:
-        for kind, contents in each.sections:
-            if kind == 0 or kind > 13:
-                out += section(kind, contents)
-    made = bytes(out)
+            segments = leb(sum(len(each.rows.get(11, [])) for each in both))
+            sections.append((kind, rows[0] if kind == 8 else segments if kind == 12 else rows))
+    made = spelled(sections + [(kind, contents) for each in both for kind, contents in each.sections if kind == 0 or kind > 13])
     return too_large(made, ceiling) or Outcome(0, made=made)
 
 
