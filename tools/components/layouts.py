@@ -40,18 +40,23 @@ def scoped(groups):
     return row
 
 
-def body(k):
+def body(k, times=10):
     operators = b"\x20" + number(k % 7) + b"\x41" + leb(k % 5000, True, 0) + b"\x6a\x10" + number(k % 90) + b"\x1a\x28\2" + number(k % 400) + b"\x1a"
-    return framed(b"", b"\1\7\x7f" + operators * 10 + b"\x0b")
+    return framed(b"", b"\1\7\x7f" + operators * times + b"\x0b")
+
+
+def of_bodies(bodies, front=b"", behind=b""):
+    """A core module of these bodies, with sections before and behind that of the functions."""
+    return MODULE + framed(b"\1", b"\1\x60\0\0") + front + section_of(3, [b"\0"] * len(bodies)) + behind + section_of(10, bodies)
 
 
 def module(length):
-    """A core module whose bodies are of so many bytes."""
+    """A core module with a memory whose bodies are of so many bytes."""
     bodies, size = [], 0
     while size < length:
         bodies.append(body(len(bodies)))
         size += len(bodies[-1])
-    return MODULE + framed(b"\1", b"\1\x60\0\0") + section_of(3, [b"\0"] * len(bodies)) + section_of(10, bodies)
+    return of_bodies(bodies, behind=framed(b"\5", b"\1\0\1"))
 
 
 def in_components(depth, section):

@@ -57,14 +57,14 @@ def own(program):
     return high
 
 
-def verdict(run_, statuses):
-    """What is wrong with a run that must end with one of these statuses, write to standard output with 0 alone, and say one line with
-    another."""
+def verdict(run_, statuses, lines=2):
+    """What is wrong with a run that must end with one of these statuses, write to standard output with 0 alone, and then so many lines,
+    and say one line with another."""
     said = run_.err.decode("utf-8", "replace")
     if run_.status not in statuses:
         return f"status {run_.status}: {said.strip()[:200]}"
     if run_.status and (run_.out or len(said.split("\n")) != 2 or not said.endswith("\n")):
         return f"status {run_.status} with {len(run_.out)} bytes of output, and '{said.strip()[:200]}'"
-    if not run_.status and (said or run_.out.count(b"\n") != 2):
+    if not run_.status and (said or run_.out.count(b"\n") != lines):
         return f"status 0 with {run_.out.count(10)} lines of output, and '{said.strip()[:200]}'"
     return None

@@ -191,14 +191,18 @@ class Reader:
     def index(self, space):
         return leb(self.ask(space, self.number(what=space + " index")))
 
-    def name(self):
-        length = self.number(what="length of a name")
-        text = self.raw(length)
+    def text(self):
+        """The bytes of a name."""
+        text = self.raw(self.number(what="length of a name"))
         try:
             text.decode("utf-8")
         except UnicodeDecodeError:
             raise Fault("a name that is no UTF-8") from None
-        return leb(length) + text
+        return text
+
+    def name(self):
+        text = self.text()
+        return leb(len(text)) + text
 
     def vec(self, read):
         count = self.number(what="count")
@@ -536,20 +540,21 @@ class Reader:
     def one_name(self, space):
         return (self.index(space) if space else self.u()) + self.name()
 
+    def subsection(self, kind):
+        """The contents of a name subsection."""
+        if kind == 0:
+            return self.name()
+        if kind in SPACE_OF_NAMES:
+            return self.vec(lambda: self.one_name(SPACE_OF_NAMES[kind]))
+        if kind in (2, 3, 10):
+            return self.vec(lambda: self.index(B if kind == 10 else F) + self.vec(lambda: self.one_name(None)))
+        return self.raw(self.end - self.at)
+
     def names(self):
         out = bytearray()
         while self.at < self.end:
             kind = self.byte()
-
-            def content():
-                if kind == 0:
-                    return self.name()
-                if kind in SPACE_OF_NAMES:
-                    return self.vec(lambda: self.one_name(SPACE_OF_NAMES[kind]))
-                if kind in (2, 3, 10):
-                    return self.vec(lambda: self.index(B if kind == 10 else F) + self.vec(lambda: self.one_name(None)))
-                return self.raw(self.end - self.at)
-            out += bytes([kind]) + self.frame(content, f"names of subsection {kind}")
+            out += bytes([kind]) + self.frame(lambda: self.subsection(kind), f"names of subsection {kind}")
         return bytes(out)
 
     def custom(self):
