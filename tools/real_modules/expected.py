@@ -56,8 +56,8 @@ class Parts(Reader):
         # Each section with its rows; one of no rows, or of no known form, with its contents.
         self.sections, self.rows = [], {}
         self.imports_of, self.imports_listed, self.types, self.exports = dict.fromkeys(CORE, 0), [], [], []
-        # The functions that are asked for: outside code and names, by each body, and by names.
-        self.roots, self.calls, self.names_ask = set(), [], set()
+        # The functions that are asked for, as often as they are: outside code and names, by each body, and by names.
+        self.roots, self.calls, self.names_ask = [], [], []
         self.uses, self.greatest = self.roots, {}
         self.normal = self.module()
 
@@ -65,7 +65,7 @@ class Parts(Reader):
         if index > self.greatest.get(space, -1):
             self.greatest[space] = index
         if space == F:
-            self.uses.add(index)
+            self.uses.append(index)
         answer = self.answers.get(space)
         return answer(index) if answer else index
 
@@ -82,7 +82,7 @@ class Parts(Reader):
         return leb(count) + b"".join(rows)
 
     def body(self):
-        self.uses = set()
+        self.uses = []
         self.calls.append(self.uses)
         out = super().body()
         self.uses = self.roots
