@@ -328,7 +328,13 @@ fn write_line<D: Sink>(err: &mut D, text: &[u8], n: u64) -> Result<(), Failed>
 }
 
 /// Writes a text and then a number in decimal, twice. After a failure a front of it was taken.
-fn write_pair<D: Sink>(err: &mut D, text: &[u8], n: u64, between: &[u8], m: u64) -> Result<(), Failed>
+fn write_pair<D: Sink>(
+    err: &mut D,
+    text: &[u8],
+    n: u64,
+    between: &[u8],
+    m: u64,
+) -> Result<(), Failed>
     ensures rises { D.faults err.old ≤ D.faults err.new }
     ensures ok { OnOk result
         (WhereTold (D.held err.new)

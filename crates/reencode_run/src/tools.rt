@@ -144,10 +144,12 @@ pub fn pruned(alloc: Global, bytes: &[u8], ceiling: u32) -> Result<(Vec<u8>, Vec
     ensures stops { IfErr result (StopsPruning ceiling bytes.now) }
 {
     match prune(alloc, bytes, ceiling) {
-        Ok(Pruned {
-            bytes: output,
-            kept,
-        }) => match kept_line(alloc, kept.as_slice()) {
+        Ok(
+            Pruned {
+                bytes: output,
+                kept,
+            },
+        ) => match kept_line(alloc, kept.as_slice()) {
             Ok(line) => Ok((output.into_vec(), line)),
             Err(_) => Err(alone(ReencodingFault::NoMemory)),
         },

@@ -1648,8 +1648,18 @@ fn ends_of_errors(rt: HostRuntime) -> Result<(), Fail> {
             10,
             b"too large: 41 over 40\n",
         ),
-        (ReencodingFault::Repeated { id: 255 }, Some(1), 16, b"repeated section 255 by 1\n"),
-        (ReencodingFault::Clash { name }, None, 19, b"export clash f\n"),
+        (
+            ReencodingFault::Repeated { id: 255 },
+            Some(1),
+            16,
+            b"repeated section 255 by 1\n",
+        ),
+        (
+            ReencodingFault::Clash { name },
+            None,
+            19,
+            b"export clash f\n",
+        ),
     ] {
         try_fault(&rt, rt.alloc(), fault, by, status, text)?;
     }
