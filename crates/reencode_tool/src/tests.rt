@@ -11,7 +11,6 @@ use reencode_run::standard::FileShelf;
 use reencode_run::sure::{SureShelf, SureSink, SureSource};
 use reencode_run::tool::run;
 use std::alloc::Global;
-use std::convert::Infallible;
 use std::process::Abort;
 use std::test::Fail;
 use wasm_leb::{List, NoMemory};
@@ -1673,7 +1672,6 @@ fn faults_of_errors(rt: HostRuntime) -> Result<(), Fail> {
         index: 0,
     };
     let second: ChainError<Unmapped, Unmapped> = ChainError::Second(unmapped);
-    let none: Error<Infallible> = Error::TooLarge { size: 10 };
     for (fault, status, text) in [
         (
             reencoding_fault(Error::UserError(unmapped), 9),
@@ -1685,7 +1683,11 @@ fn faults_of_errors(rt: HostRuntime) -> Result<(), Fail> {
             6,
             b"refused type 0 by 2\n",
         ),
-        (reencoding_fault(none, 9), 10, b"too large: 10 over 9\n"),
+        (
+            reencoding_fault(Error::<Unmapped>::TooLarge { size: 10 }, 9),
+            10,
+            b"too large: 10 over 9\n",
+        ),
         (
             reencoding_fault(Error::<Unmapped>::InvalidCodeSectionSize, 9),
             7,
