@@ -846,7 +846,7 @@ status=11
 err=bad renaming/
 
 # No file has this name; and what comes first is told.
-words=-x renumber s
+words=-x renumber t
 file=[1,0]
 text=0061736d01000000 0108026000006000017f 0303020001 07050101660000 0a0c02050010011a0b040041070b
 status=12
@@ -1051,11 +1051,11 @@ text=0061736d01000000 0c0101
 status=15
 err=uneven: 1 and 0 by 1/
 
-words=-x -m 11 merge r
+words=-x -m 10 merge r
 file=0061736d01000000 01050160 00017f 03020100 07050101670000 0a0601040041070b
 text=0061736d01000000 010401600000 020701016101620000 03020100 07050101660001 0a06010400 10000b
 status=10
-err=too large: 12 over 11/
+err=too large: 11 over 10/
 
 # With `-x` both are hexadecimal text; without it neither is.
 words=-x merge r
@@ -1076,7 +1076,7 @@ text=BINARY
 status=5
 err=parse error at 0 by 2/
 
-words=merge s
+words=merge t
 file=BINARY
 text=BINARY
 status=12
