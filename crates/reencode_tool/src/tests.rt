@@ -1076,6 +1076,19 @@ text=BINARY
 status=5
 err=parse error at 0 by 2/
 
+# How long a FILE may be hangs on what it has to say.
+words=-x renumber r
+file=LONG
+text=0061736d01000000
+status=13
+err=too long/
+
+words=-x merge r
+file=LONG
+text=0061736d01000000
+status=5
+err=parse error at 0 by 2/
+
 words=merge t
 file=BINARY
 text=BINARY
@@ -1438,7 +1451,7 @@ fn try_cases(rt: &impl Abort, alloc: Global, cases: &str) -> u32 {
 #[test]
 fn ends_of_runs(rt: HostRuntime) {
     let runs = try_cases(&rt, rt.alloc(), CASES);
-    assert_eq!(rt; runs, 133);
+    assert_eq!(rt; runs, 196);
 }
 
 #[test]
