@@ -1,5 +1,5 @@
 -- What a refusal of a reencoder of a component comes of, where its bytes have no reading.
-use Rattle.std.proofs.Common.{◌≡◌, ℕ, zero, suc, ◌+◌, ◌≤◌, ◌⊎◌, inl, inr, List, [], sym, ◌∙◌, subst, arith}
+use Rattle.std.proofs.Common.{◌≡◌, ℕ, zero, suc, ◌+◌, ◌⊎◌, inl, inr, List, [], sym, ◌∙◌, subst, arith}
 use Rattle.wasm_shapes.specs.declared.Visit.{Visit}
 use Rattle.wasm_shapes.specs.Component.{component_tree}
 use Rattle.wasm_shapes.specs.ComponentNames.{sort_bytes}

@@ -1,5 +1,5 @@
 -- Why the tools over modules make nothing: want of memory is always a reason, and a fault has a status.
-use Rattle.std.proofs.Common.{◌≡◌, ℕ, List, Option, None, inl, inr, refl}
+use Rattle.std.proofs.Common.{ℕ, List, None, inl, inr, refl}
 use Rattle.std.specs.declared.convert.Infallible.{Infallible}
 use Rattle.reencode_hooks.specs.declared.error.Error.{Error}
 use Rattle.reencode_hooks.specs.declared.error.Error.TheVariants as error

@@ -1,9 +1,7 @@
 -- What a task prints, and that want of memory is always a reason for nothing.
-use Rattle.std.proofs.Common.{◌≡◌, ℕ, List, Option, None, refl, subst, Result, Ok, Err}
-use Rattle.reencode_hooks.specs.Renamings.{no_renaming}
+use Rattle.std.proofs.Common.{◌≡◌, ℕ, List, None, refl, subst, Err}
 use Rattle.reencode_run.specs.declared.answer.ReencodingFault.TheVariants.{NoMemory}
 use Rattle.reencode_run.specs.declared.renamers.Renamers.{Renamers}
-use Rattle.reencode_run.specs.declared.renamers.Renamers.TheVariants.{Alone}
 use Rattle.reencode_run.specs.declared.taken.Taken.{Taken}
 use Rattle.reencode_run.specs.declared.task.Task.{Task}
 use Rattle.reencode_run.specs.declared.task.Task.TheVariants as task

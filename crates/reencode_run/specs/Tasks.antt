@@ -1,5 +1,5 @@
 -- What the files of a command say, and what the command then does: its task.
-use Rattle.std.specs.Prelude.{◌≡◌, ℕ, ◌≤◌, List, [], ◌∷◌, ◌++◌, length, Bool, Option, Some, None, option_map, Result, Ok, Err}
+use Rattle.std.specs.Prelude.{◌≡◌, ℕ, List, [], ◌∷◌, length, Bool, Option, Some, None, option_map, Result, Ok, Err}
 use Rattle.reencode_hooks.specs.Renamings.{Renaming, no_renaming}
 use Rattle.reencode_run.specs.declared.answer.ReencodingFault.{ReencodingFault}
 use Rattle.reencode_run.specs.declared.answer.TaskFault.{TaskFault}
@@ -17,7 +17,7 @@ use Rattle.reencode_run.specs.Reencoded.{IsMakingFault, IsReencoded, IsRefused}
 use Rattle.reencode_run.specs.Renamers.{AreCounts, renamers_of}
 use Rattle.reencode_run.specs.Renamings.{IsRenaming}
 use Rattle.reencode_run.specs.Report.{lengths_report, report}
-use Rattle.reencode_run.specs.Tools.{Merges, Prunes, Renumbers, stop}
+use Rattle.reencode_run.specs.Tools.{Merges, Prunes, Renumbers}
 use Rattle.reencode_run.specs.Words.{Command, plain, rename, twice, generate, keep_report, renumber, prune, merge, Kind, of_renaming, of_order, of_module, says}
 
 -- ---- what a file says, by its kind

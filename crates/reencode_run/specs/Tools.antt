@@ -1,5 +1,5 @@
 -- What the tools over modules print, and why they make nothing.
-use Rattle.std.specs.Prelude.{◌≡◌, ℕ, nat_eq, List, [], ◌∷◌, ◌++◌, codes, decimal, Option, Some, None, Result, Ok, Err}
+use Rattle.std.specs.Prelude.{◌≡◌, ℕ, List, [], ◌∷◌, ◌++◌, codes, decimal, Option, Some, None, Result, Ok, Err}
 use Rattle.std.specs.declared.convert.Infallible.{Infallible}
 use Rattle.hex.specs.Hex.{encode_lower}
 use Rattle.wasm_shapes.specs.declared.Space.TheVariants as space

@@ -1,7 +1,9 @@
 //! How the program ends: by a fault of one of its stages, or with all output written.
-ghost use Rattle.std.specs.Prelude.{◌≡◌, ◌≤◌, ◌++◌, codes, decimal, OnOk, OnErr};
+ghost use Rattle.std.specs.Prelude.{◌≡◌, ◌≤◌, ◌++◌, codes, decimal, IfOk, IfErr, OnOk, OnErr};
 ghost use Rattle.reencode_run.specs.Answer.{HasFaultMessage, HasMessage, by_text, fault_status, fault_text, said_by, status_of, text_of};
 ghost use Rattle.reencode_run.specs.Errors.{EndsAs, HasStatus};
+ghost use Rattle.reencode_hooks.specs.declared.error.Error.TheVariants as error;
+ghost use Rattle.reencode_run.specs.declared.renamers.Refusal.{Refusal};
 ghost use Rattle.reencode_run.specs.Renamers.{refusal_text};
 ghost use Rattle.reencode_hooks.specs.Renamings.{unmapped_text};
 ghost use Rattle.wasm_shapes.specs.Names.{space_name};
@@ -328,7 +330,13 @@ fn write_line<D: Sink>(err: &mut D, text: &[u8], n: u64) -> Result<(), Failed>
 }
 
 /// Writes a text and then a number in decimal, twice. After a failure a front of it was taken.
-fn write_pair<D: Sink>(err: &mut D, text: &[u8], n: u64, between: &[u8], m: u64) -> Result<(), Failed>
+fn write_pair<D: Sink>(
+    err: &mut D,
+    text: &[u8],
+    n: u64,
+    between: &[u8],
+    m: u64,
+) -> Result<(), Failed>
     ensures rises { D.faults err.old ≤ D.faults err.new }
     ensures ok { OnOk result
         (WhereTold (D.held err.new)
@@ -411,21 +419,34 @@ fn end_line<D: Sink>(err: &mut D, by: Option<u8>) -> Result<(), Failed>
     }
 }
 
-/// The fault that an error under a ceiling is. Three errors are none: no input of a command gives them.
+/// The fault that an error under a ceiling is, or what it is refused with. Three errors are neither: no input of a command gives
+/// them.
+pub fn fault_or_refusal<E>(e: Error<E>, ceiling: u32) -> Result<ReencodingFault, E>
+    requires { HasStatus e }
+    ensures ok { IfOk result (λ fault. (told : E → Refusal) → EndsAs told ceiling e fault) }
+    ensures err { IfErr result (λ u. e ≡ error.UserError u) }
+{
+    match e {
+        Error::InvalidCodeSectionSize => Ok(ReencodingFault::CodeSectionSize),
+        Error::UnexpectedNonCoreModuleSection => Ok(ReencodingFault::NonCoreModule),
+        Error::UnexpectedNonComponentSection => Ok(ReencodingFault::NonComponent),
+        Error::ParseError(ReadError { at }) => Ok(ReencodingFault::ParseError { at }),
+        Error::UserError(refused) => Err(refused),
+        Error::TooLarge { size } => Ok(ReencodingFault::TooLarge { size, ceiling }),
+        Error::NoMemory => Ok(ReencodingFault::NoMemory),
+        Error::CanonicalizedHeapTypeReference
+        | Error::InvalidConstExpr
+        | Error::UnsupportedCoreTypeInComponent => unreachable!(),
+    }
+}
+
+/// The fault that an error of renamers under a ceiling is.
 pub fn reencoding_fault<X: Refuses>(e: Error<X>, ceiling: u32) -> ReencodingFault
     requires { HasStatus e }
     ensures { EndsAs X.refusal ceiling e result }
 {
-    match e {
-        Error::InvalidCodeSectionSize => ReencodingFault::CodeSectionSize,
-        Error::UnexpectedNonCoreModuleSection => ReencodingFault::NonCoreModule,
-        Error::UnexpectedNonComponentSection => ReencodingFault::NonComponent,
-        Error::ParseError(ReadError { at }) => ReencodingFault::ParseError { at },
-        Error::UserError(refused) => ReencodingFault::Refused(refused.refusal()),
-        Error::TooLarge { size } => ReencodingFault::TooLarge { size, ceiling },
-        Error::NoMemory => ReencodingFault::NoMemory,
-        Error::CanonicalizedHeapTypeReference
-        | Error::InvalidConstExpr
-        | Error::UnsupportedCoreTypeInComponent => unreachable!(),
+    match fault_or_refusal(e, ceiling) {
+        Ok(fault) => fault,
+        Err(refused) => ReencodingFault::Refused(refused.refusal()),
     }
 }

@@ -2,7 +2,6 @@
 ghost use Rattle.std.specs.Prelude.{◌≡◌};
 
 use reencode_hooks::{Chain, ChainError, Renamer, Unmapped};
-use std::convert::Infallible;
 
 /// The renamers of a command.
 #[derive(Drop)]
@@ -50,16 +49,5 @@ impl Refuses for ChainError<Unmapped, Unmapped> {
 
     fn refusal(self) -> Refusal {
         Refusal::Both(self)
-    }
-}
-
-impl Refuses for Infallible {
-    ghost use Rattle.reencode_run.specs.declared.renamers.Refusal.{Refusal};
-    ghost use Rattle.reencode_run.specs.Tools.{no_refusal};
-
-    ghost refusal = { no_refusal };
-
-    fn refusal(self) -> Refusal {
-        match self {}
     }
 }

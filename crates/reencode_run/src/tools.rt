@@ -1,11 +1,14 @@
 //! What the tools over modules make of their bytes, and why they make nothing.
 ghost use Rattle.std.specs.Prelude.{◌≡◌, ◌++◌, codes, IfOk, IfErr, None, Some, OnOk};
 ghost use Rattle.hex.specs.Hex.{encode_lower};
-ghost use Rattle.reencode_run.specs.Tools.{EndsMerging, EndsPruning, EndsRenumbering, PrintsMerged, PrintsPruned, PrintsRenumbered, StopsMerging, StopsPruning, StopsRenumbering, TellsMerging, TellsPruning, TellsRenumbering, spaced, stop};
+ghost use Rattle.reencode_run.specs.Errors.{EndsAs, HasStatus};
+ghost use Rattle.reencode_run.specs.Tools.{EndsMerging, EndsPruning, EndsRenumbering, PrintsMerged, PrintsPruned, PrintsRenumbered, StopsMerging, StopsPruning, StopsRenumbering, TellsMerging, TellsPruning, TellsRenumbering, no_refusal, spaced, stop};
 
-use crate::answer::{ReencodingFault, TaskFault, reencoding_fault};
+use crate::answer::{ReencodingFault, TaskFault, fault_or_refusal};
 use crate::report::add_number;
+use reencode_hooks::Error;
 use std::alloc::{AllocError, Global};
+use std::convert::Infallible;
 use wasm_merge::{MergeFault, merge};
 use wasm_reach::{Pruned, ReachFault, prune};
 use wasm_renumber::{RenumberFault, renumber};
@@ -59,13 +62,24 @@ fn kept_line(alloc: Global, kept: &[u32]) -> Result<Vec<u8>, AllocError>
     Ok(text)
 }
 
+/// The fault that an error of a tool under a ceiling is.
+fn core_fault(e: Error<Infallible>, ceiling: u32) -> ReencodingFault
+    requires { HasStatus e }
+    ensures { EndsAs no_refusal ceiling e result }
+{
+    match fault_or_refusal(e, ceiling) {
+        Ok(fault) => fault,
+        Err(never) => match never {},
+    }
+}
+
 /// How a fault of the renumbering is told.
 fn renumbering_fault(fault: RenumberFault, ceiling: u32) -> TaskFault
     requires { EndsRenumbering fault }
     ensures { TellsRenumbering ceiling fault result }
 {
     match fault {
-        RenumberFault::Core(e) => alone(reencoding_fault(e, ceiling)),
+        RenumberFault::Core(e) => alone(core_fault(e, ceiling)),
         RenumberFault::Repeated { id } => alone(ReencodingFault::Repeated { id }),
         RenumberFault::Uneven { functions, bodies } => alone(ReencodingFault::Uneven {
             stated: functions,
@@ -82,7 +96,7 @@ fn pruning_fault(fault: ReachFault, ceiling: u32) -> TaskFault
     ensures { TellsPruning ceiling fault result }
 {
     match fault {
-        ReachFault::Core(e) => alone(reencoding_fault(e, ceiling)),
+        ReachFault::Core(e) => alone(core_fault(e, ceiling)),
         ReachFault::Repeated { id } => alone(ReencodingFault::Repeated { id }),
         ReachFault::Uneven { functions, bodies } => alone(ReencodingFault::Uneven {
             stated: functions,
@@ -102,7 +116,7 @@ fn merging_fault(fault: MergeFault, ceiling: u32) -> TaskFault
     ensures { TellsMerging ceiling fault result }
 {
     match fault {
-        MergeFault::Core { by, error } => of(by, reencoding_fault(error, ceiling)),
+        MergeFault::Core { by, error } => of(by, core_fault(error, ceiling)),
         MergeFault::Repeated { by, id } => of(by, ReencodingFault::Repeated { id }),
         MergeFault::Uneven { by, stated, rows } => {
             of(by, ReencodingFault::Uneven { stated, rows })
@@ -144,10 +158,12 @@ pub fn pruned(alloc: Global, bytes: &[u8], ceiling: u32) -> Result<(Vec<u8>, Vec
     ensures stops { IfErr result (StopsPruning ceiling bytes.now) }
 {
     match prune(alloc, bytes, ceiling) {
-        Ok(Pruned {
-            bytes: output,
-            kept,
-        }) => match kept_line(alloc, kept.as_slice()) {
+        Ok(
+            Pruned {
+                bytes: output,
+                kept,
+            },
+        ) => match kept_line(alloc, kept.as_slice()) {
             Ok(line) => Ok((output.into_vec(), line)),
             Err(_) => Err(alone(ReencodingFault::NoMemory)),
         },

@@ -11,7 +11,6 @@ use reencode_run::standard::FileShelf;
 use reencode_run::sure::{SureShelf, SureSink, SureSource};
 use reencode_run::tool::run;
 use std::alloc::Global;
-use std::convert::Infallible;
 use std::process::Abort;
 use std::test::Fail;
 use wasm_leb::{List, NoMemory};
@@ -847,7 +846,7 @@ status=11
 err=bad renaming/
 
 # No file has this name; and what comes first is told.
-words=-x renumber s
+words=-x renumber t
 file=[1,0]
 text=0061736d01000000 0108026000006000017f 0303020001 07050101660000 0a0c02050010011a0b040041070b
 status=12
@@ -1052,11 +1051,11 @@ text=0061736d01000000 0c0101
 status=15
 err=uneven: 1 and 0 by 1/
 
-words=-x -m 11 merge r
+words=-x -m 10 merge r
 file=0061736d01000000 01050160 00017f 03020100 07050101670000 0a0601040041070b
 text=0061736d01000000 010401600000 020701016101620000 03020100 07050101660001 0a06010400 10000b
 status=10
-err=too large: 12 over 11/
+err=too large: 11 over 10/
 
 # With `-x` both are hexadecimal text; without it neither is.
 words=-x merge r
@@ -1077,7 +1076,20 @@ text=BINARY
 status=5
 err=parse error at 0 by 2/
 
-words=merge s
+# How long a FILE may be hangs on what it has to say.
+words=-x renumber r
+file=LONG
+text=0061736d01000000
+status=13
+err=too long/
+
+words=-x merge r
+file=LONG
+text=0061736d01000000
+status=5
+err=parse error at 0 by 2/
+
+words=merge t
 file=BINARY
 text=BINARY
 status=12
@@ -1439,7 +1451,7 @@ fn try_cases(rt: &impl Abort, alloc: Global, cases: &str) -> u32 {
 #[test]
 fn ends_of_runs(rt: HostRuntime) {
     let runs = try_cases(&rt, rt.alloc(), CASES);
-    assert_eq!(rt; runs, 133);
+    assert_eq!(rt; runs, 196);
 }
 
 #[test]
@@ -1648,8 +1660,18 @@ fn ends_of_errors(rt: HostRuntime) -> Result<(), Fail> {
             10,
             b"too large: 41 over 40\n",
         ),
-        (ReencodingFault::Repeated { id: 255 }, Some(1), 16, b"repeated section 255 by 1\n"),
-        (ReencodingFault::Clash { name }, None, 19, b"export clash f\n"),
+        (
+            ReencodingFault::Repeated { id: 255 },
+            Some(1),
+            16,
+            b"repeated section 255 by 1\n",
+        ),
+        (
+            ReencodingFault::Clash { name },
+            None,
+            19,
+            b"export clash f\n",
+        ),
     ] {
         try_fault(&rt, rt.alloc(), fault, by, status, text)?;
     }
@@ -1663,7 +1685,6 @@ fn faults_of_errors(rt: HostRuntime) -> Result<(), Fail> {
         index: 0,
     };
     let second: ChainError<Unmapped, Unmapped> = ChainError::Second(unmapped);
-    let none: Error<Infallible> = Error::TooLarge { size: 10 };
     for (fault, status, text) in [
         (
             reencoding_fault(Error::UserError(unmapped), 9),
@@ -1675,7 +1696,11 @@ fn faults_of_errors(rt: HostRuntime) -> Result<(), Fail> {
             6,
             b"refused type 0 by 2\n",
         ),
-        (reencoding_fault(none, 9), 10, b"too large: 10 over 9\n"),
+        (
+            reencoding_fault(Error::<Unmapped>::TooLarge { size: 10 }, 9),
+            10,
+            b"too large: 10 over 9\n",
+        ),
         (
             reencoding_fault(Error::<Unmapped>::InvalidCodeSectionSize, 9),
             7,

@@ -1,4 +1,4 @@
-use Rattle.std.proofs.Common.{inl, inr, refl, ap, subst, [], ◌∷◌}
+use Rattle.std.proofs.Common.{refl, ap, subst, [], ◌∷◌}
 use Rattle.reencode_run.specs.declared.renamers.Renamers.TheVariants as renamers
 use Rattle.reencode_run.specs.declared.task.Task.TheVariants as task
 use Rattle.reencode_run.specs.Answer.{FileSays, Texts}
