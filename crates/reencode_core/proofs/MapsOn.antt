@@ -224,7 +224,7 @@ rest_given i inv kept given = record {
 
 -- ---- the next operator
 
-pub made_within : {S E : Type 0} {asked : Asks S E} {s m : S} {bytes : List ℕ} {n : ℕ} {op : Opcode} {i : Imm} → MakesOperator asked s bytes n op i m → (n ≤ length bytes) × (0 < n)
+pub made_within : {S E : Type 0} {asked : Asks S E} {s m : S} {bytes : List ℕ} {n : ℕ} {op : Opcode} {i : List Imm} → MakesOperator asked s bytes n op i m → (n ≤ length bytes) × (0 < n)
 made_within {bytes = bytes} {n = n} q =
     let b = q.there.begins in
     let long : length bytes ≡ length b.text + length q.there.left = ap length b.reads ∙ length-append b.text q.there.left in

@@ -344,7 +344,7 @@ module _ {S E : Type 0} (asked : Asks S E) (s : S) {bytes rest middle behind : L
   pub keeps_two : {m n : S} → rest ≡ normal u ++ (normal w ++ behind) → ((c : ℕ) → walk asked c s u ≡ accepted u m) → ((c : ℕ) → walk asked c m w ≡ accepted w n) → KeepsOperator asked s bytes behind n
   keeps_two e first second =
       let whole : rest ≡ (normal u ++ (normal w ++ [])) ++ behind =
-          e ∙ ap (λ (z : List ℕ). normal u ++ (z ++ behind)) (sym (append-nil (normal w))) ∙ sym (append_assoc (normal u) (normal w ++ []) behind) in
+      e ∙ ap (λ (z : List ℕ). normal u ++ (z ++ behind)) (sym (append-nil (normal w))) ∙ sym (append_assoc (normal u) (normal w ++ []) behind) in
       record {
         operator = Tree.op (code_of op) (Tree.pair u (Tree.pair w Tree.empty));
         begins = whole_begins h row (begins_normally (normally (two_begins k l p q) whole));

@@ -41,6 +41,8 @@ fn add(mapped: &mut w::ConstExpr, opcode: Opcode, fresh: Fresh) -> Result<(), No
 pub trait DefaultItems: ReencodeIndices {}
 
 impl<T: DefaultItems> ReencodeItems for T {
+    const DEFAULT_ITEMS: bool = true;
+
     fn const_expr(
         &mut self,
         alloc: Global,

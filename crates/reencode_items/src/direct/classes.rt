@@ -88,10 +88,11 @@ const NO: Class = Class::Other;
 /// The classes of the operators of one byte, which are looked up once for every operator.
 static ONE_BYTE: [Class; 256] = [
     // 0x00
-    BARE, BARE, BLOCK, BLOCK, BLOCK, BARE, BLOCK, TAG, TAG, NUMBER, BARE, BARE, NUMBER, NUMBER, LABELS,
-    BARE,
+    BARE, BARE, BLOCK, BLOCK, BLOCK, BARE, BLOCK, TAG, TAG, NUMBER, BARE, BARE, NUMBER, NUMBER,
+    LABELS, BARE,
     // 0x10
-    FUNCTION, TYPE_TABLE, FUNCTION, TYPE_TABLE, TYPE, TYPE, NO, NO, NUMBER, BARE, BARE, BARE, NO, NO, NO, NO,
+    FUNCTION, TYPE_TABLE, FUNCTION, TYPE_TABLE, TYPE, TYPE, NO, NO, NUMBER, BARE, BARE, BARE, NO,
+    NO, NO, NO,
     // 0x20
     NUMBER, NUMBER, NUMBER, GLOBAL, GLOBAL, TABLE, TABLE, NO, MEM, MEM, MEM, MEM, MEM, MEM, MEM,
     MEM,
