@@ -5,7 +5,7 @@ use std::io::{Read, Write};
 use std::process::exit;
 
 const SPACES: [&str; 9] = ["function", "table", "type", "memory", "global", "tag", "data", "element", "data_count"];
-const FUNCTION: usize = 0;
+pub const FUNCTION: usize = 0;
 const TABLE: usize = 1;
 const TYPE: usize = 2;
 const MEMORY: usize = 3;
@@ -15,18 +15,18 @@ const DATA: usize = 6;
 const ELEMENT: usize = 7;
 const DATA_COUNT: usize = 8;
 
-trait Hooks {
+pub trait Hooks {
     fn index(&mut self, space: usize, index: u32) -> u32;
     fn section(&mut self);
 }
 
 #[derive(Default)]
-struct Counts {
+pub struct Counts {
     indices: [u64; 9],
     sections: u64,
 }
 
-struct Same(Counts);
+pub struct Same(pub Counts);
 
 impl Hooks for Same {
     #[inline]
@@ -41,7 +41,7 @@ impl Hooks for Same {
 }
 
 /// A table of answers for each space; past its end an index is its own answer.
-struct Renamed(Counts, [Vec<u32>; 9]);
+pub struct Renamed(pub Counts, pub [Vec<u32>; 9]);
 
 impl Hooks for Renamed {
     #[inline]
@@ -180,8 +180,8 @@ fn is_abstract(byte: u8) -> bool {
     (0x68..=0x75).contains(&byte)
 }
 
-struct Mapper<'h, H: Hooks> {
-    hooks: &'h mut H,
+pub struct Mapper<'h, H: Hooks> {
+    pub hooks: &'h mut H,
 }
 
 impl<H: Hooks> Mapper<'_, H> {
@@ -698,7 +698,7 @@ impl<H: Hooks> Mapper<'_, H> {
         }
     }
 
-    fn module(&mut self, bytes: &[u8]) -> Result<Vec<u8>, usize> {
+    pub fn module(&mut self, bytes: &[u8]) -> Result<Vec<u8>, usize> {
         let mut r = Reader { bytes };
         let mut out = Vec::with_capacity(bytes.len());
         let header = r.take(8).ok_or(0usize)?;

@@ -60,9 +60,9 @@ macro_rules! parse_code_section {
 
 pub(crate) use parse_code_section;
 
-// The operators are mapped without lists where no method of an item is overridden.
+// The operators are mapped without lists, or each by `parse_instruction`.
 macro_rules! parse_function_body {
-    ($reencoder:ident, $kind:ident, $alloc:ident, $code:ident, $func:ident, $function:expr) => {{
+    ($reencoder:ident, $by_bytes:expr, $alloc:ident, $code:ident, $func:ident, $function:expr) => {{
         let function = $function?;
         let reader = $func.operators()?;
         direct::map_rest(
@@ -72,7 +72,7 @@ macro_rules! parse_function_body {
             function,
             reader,
             Next::Other,
-            $kind::DEFAULT_ITEMS,
+            $by_bytes,
         )
     }};
 }

@@ -292,7 +292,7 @@ pub trait Reencode: ReencodeItems {
     {
         default_bodies::parse_function_body!(
             self,
-            Self,
+            Self::DEFAULT_ITEMS,
             alloc,
             code,
             func,

@@ -254,7 +254,7 @@ pub(crate) fn parse_function_body<T: ReencodeItems>(
 {
     default_bodies::parse_function_body!(
         reencoder,
-        T,
+        false,
         alloc,
         code,
         func,

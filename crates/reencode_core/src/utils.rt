@@ -158,7 +158,7 @@ pub fn parse_function_body<T: Reencode>(
 {
     default_bodies::parse_function_body!(
         reencoder,
-        T,
+        T::DEFAULT_ITEMS,
         alloc,
         code,
         func,
