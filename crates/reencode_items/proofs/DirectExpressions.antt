@@ -18,7 +18,7 @@ use Rattle.wasm_read.specs.Operations.{Reading, rest_of}
 use Rattle.wasm_read.specs.Reading.{ReadsNoneOrWants}
 use Rattle.wasm_read.proofs.Codes.{fewer_left}
 use Rattle.wasm_write.specs.Bodies.{AreOperators, HeldOperators}
-use Rattle.wasm_write.specs.Instructions.{Imm, operator_tree}
+use Rattle.wasm_write.specs.Instructions.{operator_tree}
 use Rattle.reencode_hooks.specs.declared.error.Error.{Error}
 use Rattle.reencode_hooks.specs.Errors.{error_of_fault}
 use Rattle.reencode_hooks.specs.Run.{NeverWants, Step, Visited, accepted, ask}
