@@ -1,5 +1,5 @@
 -- A body that is mapped from a place on.
-use Rattle.std.proofs.Common.{◌≡◌, ◌≤◌, ◌<◌, ◌+◌, ℕ, List, [], ◌∷◌, ◌++◌, length, length-append, Result, Ok, IsErrAnd, IsTrue, refl, sym, ap, ◌∙◌, drop, take, append_assoc, subst, arith}
+use Rattle.std.proofs.Common.{◌≡◌, ◌≤◌, ◌<◌, ◌+◌, ℕ, List, [], ◌++◌, length, length-append, Result, Ok, IsErrAnd, IsTrue, refl, sym, ap, ◌∙◌, drop, take, append_assoc, subst, arith}
 use Rattle.std.proofs.Math.Seq.{drop-append_seam, take-append_seam}
 use Rattle.wasm_shapes.specs.declared.Opcode.{Opcode}
 use Rattle.wasm_shapes.specs.Place.{Begins}
