@@ -3,3 +3,4 @@ mod Finishings
 mod Lists
 mod Packing
 mod Runs
+mod Tables

@@ -8,9 +8,14 @@ use Rattle.wasm_shapes.specs.declared.Visit.{Visit}
 use Rattle.wasm_shapes.specs.declared.Visit.TheVariants.{Index}
 use Rattle.wasm_shapes.specs.Types.{is_core}
 use Rattle.reencode_hooks.specs.declared.asked.Unmapped.{Unmapped}
-use Rattle.reencode_hooks.specs.Renamings.{if_index, or_itself, space_number}
+use Rattle.std.specs.BTreeMap.{get}
+use Rattle.std.specs.FinMap as map
+use Rattle.std.specs.Ordering.{nat_cmp}
+use Rattle.reencode_hooks.specs.Renamings.{entries_in, if_index, or_itself, space_number}
 use Rattle.reencode_hooks.specs.Hooks.{IsAnswer, IsInRange, is_of_components}
 use Rattle.reencode_hooks.specs.Rules.{by_rule, rule_answers}
+use Rattle.reencode_c.specs.declared.entries.Held.{Held}
+use Rattle.reencode_c.specs.declared.entries.Held.TheVariants as held
 use Rattle.reencode_c.specs.declared.entries.EntryFault.{EntryFault}
 use Rattle.reencode_c.specs.declared.entries.EntryFault.TheVariants.{NoSpace, NoMemory}
 use Rattle.reencode_c.specs.declared.outcome.Entry.{Entry}
@@ -53,6 +58,12 @@ renamed_by r p i = or_itself (entry_for r.entries p i) (r.strict && is_core p) p
 -- the answer to a visit
 abbrev pub renaming_reply : Renaming → Visit → Result ℕ Unmapped
 renaming_reply r v = by_rule (renamed_by r) v
+
+-- What entries are looked up in says of each index of a space what the last entry for it says: the tables of a renamer that is as
+-- strict, or a map.
+abbrev pub Holds : List Entry → Bool → Held → Type 0
+Holds es strict (held.Rising r) = (r.strict ≡ strict) × ((p : Space) (i : ℕ) → i < 2 ^ 32 → map.get (entries_in r p) i ≡ entry_from None es (key (space_number p) i))
+Holds es strict (held.Any m) = (k : ℕ) → get nat_cmp m k ≡ entry_from None es k
 
 -- some space has the number that the entry says
 abbrev pub HasSpace : Entry → Type 0
