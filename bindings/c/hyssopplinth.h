@@ -8,9 +8,18 @@
 #include <stdio.h>
 #include <stdlib.h>
 
+/* The version of the library whose calls stand here: 0.2 brought the tools over core modules. */
+#define REENCODE_VERSION_MAJOR 0
+#define REENCODE_VERSION_MINOR 2
+#define REENCODE_VERSION_PATCH 0
+#define REENCODE_VERSION "0.2.0"
+
 #ifdef __cplusplus
 extern "C" {
 #endif
+
+/* The version of this header, as text. */
+static inline const char *reencode_version(void) { return REENCODE_VERSION; }
 
 /* What a call answers. The numbers from 0 to 14 and from 17 to 20 are the program's exit statuses, 115 and 116 are its 15 and 16, and
    no number is ever given another meaning. In brackets what the outcome holds beside it; where two modules are merged, [by] tells in
