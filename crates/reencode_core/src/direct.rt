@@ -1,6 +1,6 @@
 //! The body of a function, mapped as `Reencode::parse_function_body` does by default, and without lists: operators that do
 //! not change are passed by (`reencode_items::direct`) and added as they stand, run by run, or the whole body at once.
-ghost use Rattle.std.specs.Prelude.{◌≡◌, IfErr, IsTrue, List, OnOk, map, ℕ};
+ghost use Rattle.std.specs.Prelude.{◌≡◌, ◌∷◌, [], IfErr, IsTrue, List, OnOk, ℕ};
 ghost use Rattle.wasm_write.specs.Bodies.{with_operator};
 ghost use Rattle.wasm_read.specs.Operations.{rest_of};
 ghost use Rattle.wasm_shapes.specs.Immediates.{HasKinds};
@@ -14,7 +14,7 @@ ghost use Rattle.wasm_shapes.specs.Module.{row_of};
 ghost use Rattle.wasm_shapes.specs.Place.{Begins};
 ghost use Rattle.wasm_shapes.specs.Shape.{Shape, Named};
 ghost use Rattle.wasm_shapes.specs.Tree.{Tree};
-ghost use Rattle.reencode_items.specs.Direct.{imms_of};
+ghost use Rattle.reencode_items.specs.Direct.{imm_of};
 ghost use Rattle.reencode_core.specs.Direct.{DealsWith, GroupMapped, GroupRefused, MapsFront};
 ghost use Rattle.reencode_core.specs.Leaves.{LeavesMade, body_in};
 
@@ -29,35 +29,29 @@ use wasm_shapes::{Opcode, kinds};
 use wasm_write as w;
 use wasm_write::AppendRow;
 
-/// Adds the operator of an opcode and immediates.
+/// Adds the operator of an opcode and an immediate.
 #[inline(always)]
 fn add(function: &mut w::Function, opcode: Opcode, fresh: Fresh) -> Result<(), w::WriteFault>
-    requires { HasKinds opcode (map imm_kind (imms_of fresh)) }
+    requires { HasKinds opcode (imm_kind (imm_of fresh) ∷ []) }
     ensures ok { OnOk result (function.new
-        ≡ with_operator function.old (operator_tree opcode (imms_of fresh))) }
+        ≡ with_operator function.old (operator_tree opcode (imm_of fresh ∷ []))) }
     ensures wants { IfErr result (λ e. e ≡ write.NoMemory) }
 {
     match fresh {
         Fresh::Index(space, index) => function.index_operator(opcode, space, index),
-        Fresh::Two(space, index, other, second) => function.operator(
-            opcode,
-            &[w::Imm::Index(space, index), w::Imm::Index(other, second)],
-        ),
         Fresh::S32(number) => function.operator(opcode, &[w::Imm::S32(number)]),
         Fresh::Mem(arg) => function.operator(opcode, &[w::Imm::Mem(arg)]),
     }
 }
 
-/// Maps the operators of a body that are left, of which the first is dealt with as `next` says, and adds the function. Where it is not
-/// to go by the bytes, each operator is mapped by `parse_instruction`.
-pub(crate) fn map_rest<R: ReencodeItems>(
+/// Maps the operators of a body that are left, of which the first is dealt with as `next` says, and adds the function.
+fn map_rest<R: ReencodeItems>(
     reencoder: &mut R,
     alloc: Global,
     code: &mut w::CodeSection,
     mut function: w::Function,
     mut reader: r::OperatorsReader<'_>,
     mut next: Next,
-    by_bytes: bool,
 ) -> Result<(), Error<R::Error>>
     requires { DealsWith (ask R.reply R.next) (rest_of reader) reencoder.old next }
     ensures kept { KeepsCode code.old code.new }
@@ -82,10 +76,6 @@ pub(crate) fn map_rest<R: ReencodeItems>(
                 let instruction = reencoder.parse_instruction(alloc, &mut reader)?;
                 function.instruction(&instruction)?;
             }
-        }
-        if !by_bytes {
-            next = Next::Other;
-            continue 'operators;
         }
         let bytes = reader.rest();
         let kept = pass_run(reencoder, bytes, &mut next)?;
@@ -113,7 +103,7 @@ pub fn parse_function_body<R: ReencodeItems>(
     let Some(operators) = skip_locals(bytes) else {
         let function = new_function_with_parsed_locals(reencoder, alloc, &func)?;
         let reader = func.operators()?;
-        return map_rest(reencoder, alloc, code, function, reader, Next::Other, true);
+        return map_rest(reencoder, alloc, code, function, reader, Next::Other);
     };
     let mut next = Next::Other;
     let kept = pass_run(reencoder, operators, &mut next)?;
@@ -125,7 +115,7 @@ pub fn parse_function_body<R: ReencodeItems>(
     let function = w::Function::of_spelled(alloc, &bytes[..passed], bytes.len())?;
     let mut reader = func.operators()?;
     reader.pass(kept);
-    map_rest(reencoder, alloc, code, function, reader, next, true)
+    map_rest(reencoder, alloc, code, function, reader, next)
 }
 
 /// The bytes from a group of types on.

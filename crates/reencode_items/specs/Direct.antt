@@ -1,10 +1,8 @@
 -- Operators that are passed by, and those that change.
-use Rattle.std.specs.Prelude.{◌≡◌, ◌≢◌, ◌<◌, ◌≤◌, ◌+◌, ◌-◌, ℕ, zero, suc, ℤ, List, [], ◌∷◌, ◌++◌, length, map, true, ◌&&◌, if◌then◌else◌, Option, Some, None}
-use Rattle.wasm_leb.specs.Place.{BeginsNumber}
+use Rattle.std.specs.Prelude.{◌≡◌, ◌≢◌, ◌<◌, ◌≤◌, ◌+◌, ◌-◌, ℕ, zero, suc, ℤ, List, [], ◌∷◌, ◌++◌, length, true, if◌then◌else◌, Option, Some, None}
 use Rattle.wasm_shapes.specs.declared.ImmKind.{ImmKind}
 use Rattle.wasm_shapes.specs.declared.ImmKind.TheVariants as kind
 use Rattle.wasm_shapes.specs.declared.Opcode.{Opcode}
-use Rattle.wasm_shapes.specs.declared.Space.{Space}
 use Rattle.wasm_shapes.specs.Operators.{code_of, is_code, kinds_of, look_up, one_byte_operators}
 use Rattle.wasm_shapes.specs.Shape.{Shape, block_type, shape_of_kind}
 use Rattle.wasm_shapes.specs.Tree.{Tree, code_bytes, normal}
@@ -12,7 +10,7 @@ use Rattle.wasm_shapes.specs.Spells.{Is, Spelled, SpelledCode}
 use Rattle.wasm_shapes.specs.Place.{Begins}
 use Rattle.wasm_shapes.specs.Module.{local_row}
 use Rattle.wasm_shapes.specs.Types.{is_core, vector_tree}
-use Rattle.wasm_write.specs.Instructions.{Imm, imm_kind, imms_tree, operator_tree}
+use Rattle.wasm_write.specs.Instructions.{Imm, imm_kind, imm_tree, operator_tree}
 use Rattle.wasm_types.specs.declared.types.Imm.TheVariants as imm
 use Rattle.wasm_write.specs.Bodies.{AreOperators}
 use Rattle.wasm_shapes.specs.Immediates.{HasKinds}
@@ -34,7 +32,6 @@ use Rattle.reencode_items.specs.declared.direct.passing.Next.TheVariants as next
 abbrev pub class_of_kind : ImmKind → Class
 class_of_kind kind.Block = class.Block
 class_of_kind kind.Label = class.Number
-class_of_kind kind.Labels = class.Labels
 class_of_kind kind.Local = class.Number
 class_of_kind kind.Field = class.Number
 class_of_kind kind.Size = class.Number
@@ -48,18 +45,12 @@ class_of_kind kind.Mem = class.Mem
 class_of_kind (kind.Index s) = if is_core s then class.Index s else class.Other
 class_of_kind _ = class.Other
 
--- the class of two immediates
-abbrev pub class_of_two : ImmKind → ImmKind → Class
-class_of_two (kind.Index s) (kind.Index p) = if is_core s && is_core p then class.Two s p else class.Other
-class_of_two _ _ = class.Other
-
 -- the class of a row of immediates
 abbrev pub class_of_row : Option (List ImmKind) → Class
 class_of_row None = class.Other
 class_of_row (Some []) = class.Bare
 class_of_row (Some (k ∷ [])) = class_of_kind k
-class_of_row (Some (k ∷ l ∷ [])) = class_of_two k l
-class_of_row (Some (k ∷ l ∷ m ∷ ks)) = class.Other
+class_of_row (Some (k ∷ l ∷ ks)) = class.Other
 
 -- the class of an operator
 abbrev pub class_of : Opcode → Class
@@ -70,10 +61,6 @@ unfoldable pub classes_from : ℕ → ℕ → List Class
 classes_from from zero = []
 classes_from from (suc n) = class_of_row (look_up (one_byte_operators true) from) ∷ classes_from (suc from) n
 
--- the labels of a table of branches, and the one for all other numbers
-abbrev pub labels : Shape
-labels = Shape.seq (Shape.vec Shape.u32) Shape.u32
-
 -- an immediate of the kind, which stands alone, is of the class
 abbrev pub IsOfKind : ImmKind → Class → Type 0
 IsOfKind k class.Bare = ⊥
@@ -81,10 +68,8 @@ IsOfKind k class.Number = shape_of_kind k ≡ Shape.u32
 IsOfKind k class.Long = shape_of_kind k ≡ Shape.s64
 IsOfKind k (class.Raw n) = shape_of_kind k ≡ Shape.bytes n
 IsOfKind k class.Block = shape_of_kind k ≡ block_type
-IsOfKind k class.Labels = shape_of_kind k ≡ labels
 IsOfKind k class.S32 = k ≡ kind.S32
 IsOfKind k (class.Index s) = (k ≡ kind.Index s) × (is_core s ≡ true)
-IsOfKind k (class.Two s p) = ⊥
 IsOfKind k class.Mem = k ≡ kind.Mem
 IsOfKind k class.Other = Unit {0}
 
@@ -94,16 +79,9 @@ pub record HasOne (op : Opcode) (c : Class) : Type 0 where
   pub row : kinds_of op ≡ Some (kind ∷ [])
   pub is : IsOfKind kind c
 
--- the operator has two, which are indices of these spaces of core modules
-pub record HasTwo (op : Opcode) (s p : Space) : Type 0 where
-  pub row : kinds_of op ≡ Some (kind.Index s ∷ kind.Index p ∷ [])
-  pub first : is_core s ≡ true
-  pub second : is_core p ≡ true
-
--- the operator has no immediate, or those of a class
+-- the operator has no immediate, or one of a class
 abbrev pub HasClass : Opcode → Class → Type 0
 HasClass op class.Bare = kinds_of op ≡ Some []
-HasClass op (class.Two s p) = HasTwo op s p
 HasClass op class.Other = Unit {0}
 HasClass op c = HasOne op c
 
@@ -121,12 +99,6 @@ pub record BeginsNormal (shape : Shape) (bytes : List ℕ) (tree : Tree) (left :
   pub spelled : Spelled tree (normal tree)
   pub reads : bytes ≡ normal tree ++ left
 
--- two numbers without sign of 32 bits one behind another, and these bytes behind them
-pub record BeginsTwo (bytes : List ℕ) (n k : ℕ) (left : List ℕ) : Type 0 where
-  pub middle : List ℕ
-  pub first : BeginsNumber 128 32 32 bytes n middle
-  pub second : BeginsNumber 128 32 32 middle k left
-
 -- an operator, spelled by so many bytes
 pub record OperatorThere (bytes : List ℕ) (n : ℕ) : Type 0 where
   pub operator : Tree
@@ -136,12 +108,11 @@ pub record OperatorThere (bytes : List ℕ) (n : ℕ) : Type 0 where
 
 -- ---- what is done with it
 
--- the immediates that are written
-abbrev pub imms_of : Fresh → List Imm
-imms_of (fresh.Index s i) = imm.Index s i ∷ []
-imms_of (fresh.Two s i p j) = imm.Index s i ∷ imm.Index p j ∷ []
-imms_of (fresh.S32 z) = imm.S32 z ∷ []
-imms_of (fresh.Mem m) = imm.Mem m ∷ []
+-- the immediate that is written
+abbrev pub imm_of : Fresh → Imm
+imm_of (fresh.Index s i) = imm.Index s i
+imm_of (fresh.S32 z) = imm.S32 z
+imm_of (fresh.Mem m) = imm.Mem m
 
 -- It stands in its normal spelling with these bytes behind it, and is mapped to itself.
 pub record KeepsOperator {S E : Type 0} (asked : Asks S E) (s : S) (bytes left : List ℕ) (m : S) : Type 0 where
@@ -150,11 +121,11 @@ pub record KeepsOperator {S E : Type 0} (asked : Asks S E) (s : S) (bytes left :
   pub normally : begins.text ≡ normal operator
   pub walks : (c : ℕ) → walk asked c s operator ≡ accepted operator m
 
--- It is mapped to the operator of an opcode and these immediates.
-pub record MakesOperator {S E : Type 0} (asked : Asks S E) (s : S) (bytes : List ℕ) (n : ℕ) (op : Opcode) (imms : List Imm) (m : S) : Type 0 where
+-- It is mapped to the operator of an opcode and an immediate.
+pub record MakesOperator {S E : Type 0} (asked : Asks S E) (s : S) (bytes : List ℕ) (n : ℕ) (op : Opcode) (imm : Imm) (m : S) : Type 0 where
   pub there : OperatorThere bytes n
-  pub kinds : HasKinds op (map imm_kind imms)
-  pub walks : (c : ℕ) → walk asked c s there.operator ≡ accepted (operator_tree op imms) m
+  pub kinds : HasKinds op (imm_kind imm ∷ [])
+  pub walks : (c : ℕ) → walk asked c s there.operator ≡ accepted (operator_tree op (imm ∷ [])) m
 
 -- It is refused.
 pub record RefusesOperator {S E : Type 0} (asked : Asks S E) (s : S) (bytes : List ℕ) (e : Error E) (m : S) : Type 0 where
@@ -165,7 +136,7 @@ pub record RefusesOperator {S E : Type 0} (asked : Asks S E) (s : S) (bytes : Li
 
 -- It is made anew, or nothing was asked of it.
 abbrev pub PassesNext : {S E : Type 0} → Asks S E → S → List ℕ → S → Next → Type 0
-PassesNext asked s bytes m (next.Made op f n) = MakesOperator asked s bytes n op (imms_of f) m
+PassesNext asked s bytes m (next.Made op f n) = MakesOperator asked s bytes n op (imm_of f) m
 PassesNext asked s bytes m next.Other = m ≡ s
 
 -- ---- immediates that ask nothing
@@ -199,7 +170,6 @@ SkipsClass class.Number bytes left = SkipsLeaf Shape.u32 bytes left
 SkipsClass class.Long bytes left = SkipsLeaf Shape.s64 bytes left
 SkipsClass (class.Raw n) bytes left = SkipsLeaf (Shape.bytes n) bytes left
 SkipsClass class.Block bytes left = SkipsLeaf block_type bytes left
-SkipsClass class.Labels bytes left = SkipsLeaf labels bytes left
 SkipsClass class.S32 bytes left = SkipsLeaf Shape.s32 bytes left
 SkipsClass _ bytes left = ⊥
 
@@ -216,8 +186,8 @@ pub record MakesS32 (bytes rest : List ℕ) (made : Fresh) (n : ℕ) : Type 0 wh
   pub left : List ℕ
   pub begins : Begins Shape.s32 rest (Tree.s32 number) left
   pub counted : n ≡ length bytes - length left
-  pub tree : imms_tree (imms_of made) ≡ Tree.pair (Tree.s32 number) Tree.empty
-  pub kind : map imm_kind (imms_of made) ≡ Some kind.S32 ∷ []
+  pub tree : imm_tree (imm_of made) ≡ Tree.s32 number
+  pub kind : imm_kind (imm_of made) ≡ Some kind.S32
 
 -- the number is written anew, or nothing was done
 abbrev pub PassesS32 : Opcode → List ℕ → List ℕ → Next → Type 0

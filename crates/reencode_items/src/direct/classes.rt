@@ -1,11 +1,11 @@
 //! The classes of operators that are passed without lists.
 ghost use Rattle.std.specs.Prelude.{◌≡◌};
 ghost use Rattle.wasm_shapes.specs.Operators.{is_prefix};
-ghost use Rattle.reencode_items.specs.Direct.{class_of, class_of_kind, class_of_two};
+ghost use Rattle.reencode_items.specs.Direct.{class_of, class_of_kind};
 
 use wasm_shapes::{ImmKind, Opcode, Space, row_of};
 
-/// The immediates of an operator.
+/// The immediates of an operator that has none or one.
 #[derive(Clone, Copy, Debug)]
 pub enum Class {
     /// None.
@@ -18,14 +18,10 @@ pub enum Class {
     Raw(u8),
     /// The type of a block.
     Block,
-    /// The labels of a table of branches.
-    Labels,
     /// A number of 32 bits with sign.
     S32,
     /// An index of a space of core modules.
     Index(Space),
-    /// Two indices, each of a space of core modules.
-    Two(Space, Space),
     /// Where a memory access goes.
     Mem,
     /// It has others, or is none.
@@ -53,8 +49,6 @@ const BARE: Class = Class::Bare;
 
 const BLOCK: Class = Class::Block;
 
-const LABELS: Class = Class::Labels;
-
 const NUMBER: Class = Class::Number;
 
 const LONG: Class = Class::Long;
@@ -77,10 +71,6 @@ const TAG: Class = Class::Index(Space::Tag);
 
 const TYPE: Class = Class::Index(Space::Type_);
 
-const TYPE_TABLE: Class = Class::Two(Space::Type_, Space::Table);
-
-const TYPES: Class = Class::Two(Space::Type_, Space::Type_);
-
 const MEM: Class = Class::Mem;
 
 const NO: Class = Class::Other;
@@ -88,11 +78,10 @@ const NO: Class = Class::Other;
 /// The classes of the operators of one byte, which are looked up once for every operator.
 static ONE_BYTE: [Class; 256] = [
     // 0x00
-    BARE, BARE, BLOCK, BLOCK, BLOCK, BARE, BLOCK, TAG, TAG, NUMBER, BARE, BARE, NUMBER, NUMBER,
-    LABELS, BARE,
+    BARE, BARE, BLOCK, BLOCK, BLOCK, BARE, BLOCK, TAG, TAG, NUMBER, BARE, BARE, NUMBER, NUMBER, NO,
+    BARE,
     // 0x10
-    FUNCTION, TYPE_TABLE, FUNCTION, TYPE_TABLE, TYPE, TYPE, NO, NO, NUMBER, BARE, BARE, BARE, NO,
-    NO, NO, NO,
+    FUNCTION, NO, FUNCTION, NO, TYPE, TYPE, NO, NO, NUMBER, BARE, BARE, BARE, NO, NO, NO, NO,
     // 0x20
     NUMBER, NUMBER, NUMBER, GLOBAL, GLOBAL, TABLE, TABLE, NO, MEM, MEM, MEM, MEM, MEM, MEM, MEM,
     MEM,
@@ -120,7 +109,7 @@ static ONE_BYTE: [Class; 256] = [
     // 0xd0
     NO, BARE, FUNCTION, BARE, BARE, NUMBER, NUMBER, NO, NO, NO, NO, NO, NO, NO, NO, NO,
     // 0xe0
-    TYPE, TYPES, TAG, NO, NO, NO, NO, NO, NO, NO, NO, NO, NO, NO, NO, NO,
+    TYPE, NO, TAG, NO, NO, NO, NO, NO, NO, NO, NO, NO, NO, NO, NO, NO,
     // 0xf0
     NO, NO, NO, NO, NO, NO, NO, NO, NO, NO, NO, NO, NO, NO, NO, NO,
 ];
@@ -139,7 +128,6 @@ fn class_of_kind(kind: ImmKind) -> Class
 {
     match kind {
         ImmKind::Block => Class::Block,
-        ImmKind::Labels => Class::Labels,
         ImmKind::Label | ImmKind::Local | ImmKind::Field | ImmKind::Size => Class::Number,
         ImmKind::S32 => Class::S32,
         ImmKind::S64 => Class::Long,
@@ -163,27 +151,6 @@ fn class_of_space(space: Space) -> Class
     }
 }
 
-/// The class of two immediates.
-fn class_of_two(first: ImmKind, second: ImmKind) -> Class
-    ensures { result ≡ class_of_two first second }
-{
-    match (first, second) {
-        (ImmKind::Index(space), ImmKind::Index(other)) => class_of_spaces(space, other),
-        _ => Class::Other,
-    }
-}
-
-/// The class of two indices, where core modules have their spaces.
-fn class_of_spaces(space: Space, other: Space) -> Class
-    ensures { result ≡ class_of_two (ImmKind.Index space) (ImmKind.Index other) }
-{
-    if space.is_core() && other.is_core() {
-        Class::Two(space, other)
-    } else {
-        Class::Other
-    }
-}
-
 /// The class of an operator, by its row.
 pub fn class_by_row(opcode: Opcode) -> Class
     ensures { result ≡ class_of opcode }
@@ -191,7 +158,6 @@ pub fn class_by_row(opcode: Opcode) -> Class
     match row_of(opcode) {
         Some([]) => Class::Bare,
         Some([kind]) => class_of_kind(*kind),
-        Some([first, second]) => class_of_two(*first, *second),
         _ => Class::Other,
     }
 }

@@ -2,7 +2,7 @@
 ghost use Rattle.std.specs.Prelude.{IfSome};
 ghost use Rattle.wasm_shapes.specs.Module.{local_row};
 ghost use Rattle.wasm_shapes.specs.Shape.{Shape, block_type};
-ghost use Rattle.reencode_items.specs.Direct.{SkipsClass, SkipsLeaf, SkipsLocals, SkipsOperator, labels};
+ghost use Rattle.reencode_items.specs.Direct.{SkipsClass, SkipsLeaf, SkipsLocals, SkipsOperator};
 
 use crate::direct::classes::{Class, class_of_byte};
 use crate::direct::fronts::{front_long, front_number, front_signed};
@@ -89,36 +89,6 @@ fn skip_block(bytes: &[u8]) -> Option<&[u8]>
     if first < 0x80 { Some(rest) } else { None }
 }
 
-/// The bytes behind so many numbers of 32 bits without sign, as the number in front of them says, that stand in their normal spelling.
-fn skip_numbers(bytes: &[u8]) -> Option<&[u8]>
-    ensures { IfSome result (λ rest. SkipsLeaf (Shape.vec Shape.u32) bytes.now rest.now) }
-{
-    let Some((count, true, behind)) = front_number(bytes) else {
-        return None;
-    };
-    let mut rest = behind;
-    let mut left = count;
-    'numbers: while left > 0 {
-        let Some(behind) = skip_number(rest) else {
-            return None;
-        };
-        rest = behind;
-        left -= 1;
-    }
-    Some(rest)
-}
-
-/// The bytes behind the labels of a table of branches, and the one for all other numbers, that stand in their normal spelling.
-#[inline(never)]
-fn skip_labels(bytes: &[u8]) -> Option<&[u8]>
-    ensures { IfSome result (λ rest. SkipsLeaf labels bytes.now rest.now) }
-{
-    match skip_numbers(bytes) {
-        Some(behind) => skip_number(behind),
-        None => None,
-    }
-}
-
 /// The bytes behind an immediate of a class that asks nothing and stands in its normal spelling. None says nothing.
 #[inline(always)]
 pub fn skip_class(class: Class, bytes: &[u8]) -> Option<&[u8]>
@@ -130,9 +100,8 @@ pub fn skip_class(class: Class, bytes: &[u8]) -> Option<&[u8]>
         Class::Long => skip_long(bytes),
         Class::Raw(count) => skip_raw(bytes, count),
         Class::Block => skip_block(bytes),
-        Class::Labels => skip_labels(bytes),
         Class::S32 => skip_s32(bytes),
-        Class::Index(_) | Class::Two(..) | Class::Mem | Class::Other => None,
+        Class::Index(_) | Class::Mem | Class::Other => None,
     }
 }
 
