@@ -60,7 +60,8 @@ def _open() -> Tuple[str, Any]:
             return place, library
         except (OSError, AttributeError) as why:
             wrong.append(f"{place}: {why}")
-    raise LibraryNotFound(f"{NAME} was not found. `make` in bindings/c makes it; HYSSOPPLINTH_LIBRARY says where it is. " + "; ".join(wrong))
+    raise LibraryNotFound(f"{NAME} was not found. `make` in bindings/c makes it; HYSSOPPLINTH_LIBRARY says where it is. "
+                          + "; ".join(wrong))
 
 
 def library() -> Tuple[str, Any]:

@@ -34,13 +34,14 @@ class Calls(unittest.TestCase):
         self.assertEqual(h.plain(HEAD + bytes.fromhex("01840001600000")), HEAD + bytes.fromhex("010401600000"))
 
     def test_any_buffer_of_bytes(self):
-        for data in (bytearray(TWO), memoryview(TWO), array.array("B", TWO), memoryview(b"." + TWO)[1:], memoryview(TWO * 2)[::1][:len(TWO)]):
+        for data in (bytearray(TWO), memoryview(TWO), array.array("B", TWO), memoryview(b"." + TWO)[1:], memoryview(TWO[::-1])[::-1]):
             self.assertEqual(h.plain(data), TWO)
         for data in (5, "text", None, [0]):
             self.assertRaises(TypeError, h.plain, data)
 
     def test_a_renaming_goes_by_its_last_entries(self):
-        for renaming in ({"function": {0: 1, 1: 0}}, {Space.FUNCTION: {0: 1, 1: 0}}, {2: {0: 1, 1: 0}}, [("function", 0, 9), (2, 1, 0), (Space.FUNCTION, 0, 1)]):
+        for renaming in ({"function": {0: 1, 1: 0}}, {Space.FUNCTION: {0: 1, 1: 0}}, {2: {0: 1, 1: 0}},
+                         [("function", 0, 9), (2, 1, 0), (Space.FUNCTION, 0, 1)]):
             self.assertEqual(h.rename(TWO, renaming)[22:37], SWAPPED)
         with self.assertRaises(h.RefusedError) as said:
             h.rename(TWO, {"function": {0: 1, 1: 0}}, strict=True)
@@ -148,8 +149,9 @@ class Calls(unittest.TestCase):
         self.assertTrue(issubclass(h.OutOfMemory, MemoryError))
 
     def test_each_call_that_makes_has_a_ceiling(self):
-        for call in (h.plain, h.prune, lambda data, **more: h.rename(data, {}, **more), lambda data, **more: h.renumber(data, [0, 1], **more),
-                     lambda data, **more: h.merge(data, HEAD, **more), lambda data, **more: h.answer(data, lambda _, index: index, **more)):
+        for call in (h.plain, h.prune, lambda data, **more: h.rename(data, {}, **more),
+                     lambda data, **more: h.renumber(data, [0, 1], **more), lambda data, **more: h.merge(data, HEAD, **more),
+                     lambda data, **more: h.answer(data, lambda _, index: index, **more)):
             with self.assertRaises(h.TooLargeError) as said:
                 call(TWO, ceiling=6)
             self.assertEqual((said.exception.size, said.exception.ceiling), (7, 6))
@@ -181,9 +183,13 @@ class Calls(unittest.TestCase):
         self.assertEqual(wrong, [])
 
     def test_a_library_that_is_not_there(self):
-        said = subprocess.run([sys.executable, "-c", "import hyssopplinth as h\ntry: h.plain(b'')\nexcept h.LibraryNotFound as e: print(e)"],
-                              stdout=subprocess.PIPE, env={**os.environ, "HYSSOPPLINTH_LIBRARY": "/nowhere", "LD_LIBRARY_PATH": ""}).stdout.decode()
-        # with a wheel's own shared object, or an installed one, it is found all the same
+        code = "import hyssopplinth as h\ntry: h.library_path()\nexcept h.LibraryNotFound as e: print(e)"
+        there = {**os.environ, "HYSSOPPLINTH_LIBRARY": "/nowhere", "LD_LIBRARY_PATH": "",
+                 "PYTHONPATH": os.pathsep.join(filter(None, sys.path))}
+        ran = subprocess.run([sys.executable, "-c", code], stdout=subprocess.PIPE, env=there)
+        said = ran.stdout.decode()
+        self.assertEqual(ran.returncode, 0)
+        # a wheel's own shared object, or one that the system's loader knows, is found all the same
         if said:
             self.assertIn("/nowhere", said)
             self.assertIn("HYSSOPPLINTH_LIBRARY", said)
@@ -193,10 +199,12 @@ class Calls(unittest.TestCase):
                          ({Space.FUNCTION: {0: 1, 4294967295: 0}, Space.DATA_COUNT: {}}, True))
         self.assertEqual(h.read_renaming(b'{"function":{"0":1},"function":{"1":2,"1":3}}'), ({Space.FUNCTION: {1: 3}}, False))
         self.assertEqual(h.read_renaming('{"function": 5, "function": {}}'), ({Space.FUNCTION: {}}, False))
-        for text in ('{"function":{"0":1,}}', "{} {}", "", "\ufeff{}", b"\xef\xbb\xbf{}", b"\xff", b"\x7b\x00\x7d\x00", '{"functions":{}}',
-                     '{"Function":{}}', '{"function":[1,0]}', '{"function":null}', '{"strict":1}', "[]", "null", "NaN", '{"function":{"0":NaN}}',
+        for text in ('{"function":{"0":1,}}', "{} {}", "", "\ufeff{}", b"\xef\xbb\xbf{}", b"\xff", b"\x7b\x00\x7d\x00",
+                     '{"functions":{}}', '{"Function":{}}', '{"function":[1,0]}', '{"function":null}', '{"strict":1}', "[]", "null", "NaN",
+                     '{"function":{"0":NaN}}',
                      *(f'{{"function":{{"{old}":1}}}}' for old in ("00", "+0", " 0", "0x0", "-0", "4294967296", "", "1\\n", "\u0661")),
-                     *(f'{{"function":{{"0":{new}}}}}' for new in ("1.0", "1e0", "-1", "-0", '"1"', "4294967296", "true", "9" * 5000, "1e999")),
+                     *(f'{{"function":{{"0":{new}}}}}'
+                       for new in ("1.0", "1e0", "-1", "-0", '"1"', "4294967296", "true", "9" * 5000, "1e999")),
                      "[" * 100000, '{"function": 1e999, "function": {}}'):
             with self.subTest(text[:40]):
                 self.assertRaises(h.RenamingError, h.read_renaming, text)

@@ -102,8 +102,9 @@ class Command(unittest.TestCase):
         self.assertEqual([name for name in os.listdir(self.room.name) if name.startswith(".")], [])
 
     def test_other_words(self):
-        for words in ([], ["in"], ["-o", "out"], ["in", "-o"], ["in", "in", "-o", "out"], ["rename", "in", "-o", "out"], ["renumber", "in", "-o", "out"],
-                      ["merge", "in", "-o", "out"], ["in", "--strict", "-o", "out"], ["plain", "in", "--map", "map", "-o", "out"],
+        for words in ([], ["in"], ["-o", "out"], ["in", "-o"], ["in", "in", "-o", "out"], ["rename", "in", "-o", "out"],
+                      ["renumber", "in", "-o", "out"], ["merge", "in", "-o", "out"], ["in", "--strict", "-o", "out"],
+                      ["plain", "in", "--map", "map", "-o", "out"],
                       ["-m", "4294967296", "in", "-o", "out"], ["-m", "01", "in", "-o", "out"], ["-m", "-1", "in", "-o", "out"],
                       ["-", "--map", "-", "-o", "out"], ["in", "-o", "out", "--ma", "map"]):
             with self.subTest(words):
@@ -114,8 +115,8 @@ class Command(unittest.TestCase):
 
     def test_streams_that_fail(self):
         with open("/dev/full", "wb") as full:
-            ran = subprocess.run([sys.executable, "-m", "hyssopplinth", "in", "-o", "-"], stdout=full, stderr=subprocess.PIPE, cwd=self.room.name,
-                                 env=dict(os.environ, PYTHONPATH=os.pathsep.join(filter(None, sys.path))))
+            ran = subprocess.run([sys.executable, "-m", "hyssopplinth", "in", "-o", "-"], stdout=full, stderr=subprocess.PIPE,
+                                 cwd=self.room.name, env=dict(os.environ, PYTHONPATH=os.pathsep.join(filter(None, sys.path))))
         self.assertEqual((ran.returncode, ran.stderr), (4, b"write fault\n"))
         if os.geteuid():
             os.chmod(self.path("in"), 0)

@@ -4,14 +4,14 @@
 //!
 //! The program makes each call of the first function one of the second. What stood there for a step is a comment above it.
 //!
-//! With both crates a reencoder is a type with the trait `Reencode`, whose methods for indices have the same names, take the same numbers, and
-//! answer a `Result` with the trait's `Error` in it. What differs:
+//! With both crates a reencoder is a type with the trait `Reencode`, whose methods for indices have the same names, take the same numbers,
+//! and answer a `Result` with the trait's `Error` in it. What differs:
 //!
-//! - There a method of the trait reads with a parser, and fills a module that the caller made. Here one call takes bytes and gives bytes, of
-//!   a core module or a component, by its header.
-//! - There methods that map types, items, rows or whole sections can be overridden. Here the indices and the scopes alone can.
-//! - The hooks of a component stand in the same trait, not in one of their own, and answer a `Result` too.
-//! - There the hooks are asked while the bytes are read. Here all of the bytes are read before the first is asked.
+//! - There a method of the trait reads with a parser, and fills a module that the caller made. Here one call takes bytes and gives
+//!   bytes, of a core module or a component, by its header.
+//! - There methods that map types, items, rows or whole sections can be overridden too. Here those of indices and scopes alone.
+//! - There those of a component stand in a trait of their own, and answer a number. Here they stand in the same, and answer a `Result`.
+//! - There an index is asked while the bytes are read. Here all of the bytes are read before the first is asked.
 use std::{env, fs, process};
 
 // There: `use wasm_encoder::reencode::{Error, Reencode};`
@@ -40,8 +40,8 @@ impl Reencode for Instead {
 }
 
 fn run(bytes: &[u8], old: u32, new: u32) -> Result<Vec<u8>, Error<InUse>> {
-    // There, in four steps: an empty `Module` of the encoder; a parser that begins at 0; `parse_core_module` of the reencoder, which takes both and
-    // the bytes, its refusals handed on by `?`; and `finish` of the module, which gives the bytes. For a component there are
+    // There, in four steps: an empty `Module` of the encoder; a parser that begins at 0; `parse_core_module` of the reencoder, which takes
+    // both and the bytes, its refusals handed on by `?`; and `finish` of the module, which gives the bytes. For a component there are
     // `Component`, `parse_component`, and the trait `ReencodeComponent`.
     reencode(bytes, &mut Instead { old, new })
 }

@@ -14,8 +14,8 @@ pub enum By {
 
 /// Why a call gave no output. The text of each is what the program says.
 ///
-/// `E` is what a reencoder refuses with, its [`Reencode::Error`](crate::Reencode::Error). The calls that ask no reencoder have no such error: they answer an
-/// `Error`, which is an `Error<Infallible>`.
+/// `E` is what a reencoder refuses with, its [`Reencode::Error`](crate::Reencode::Error). The calls that ask no reencoder have no such
+/// error: they answer an `Error`, which is an `Error<Infallible>`.
 ///
 /// A field `by` says which of two modules is refused, with [`merge`](crate::merge) alone.
 #[derive(Clone, Debug, PartialEq, Eq)]

@@ -1,8 +1,8 @@
 //! The library's calls, each in room that is made for it. All of the crate's unsafe code stands here.
 //!
-//! What the library promises of each call (docs/C.md, and bindings/c/hyssopplinth.h above `reencode_raw_plain`): it reads what is handed
-//! in, writes the rooms and the outcome alone, inside the counts that it is told, and keeps no pointer. It owes nothing to the thread that calls. With
-//! status 0 the first `length` items of the room are written, which are no more than it has.
+//! What the library promises of each call (docs/C.md, and bindings/c/hyssopplinth.h above `reencode_raw_plain`): it reads what is
+//! handed in, writes the rooms and the outcome alone, inside the counts that it is told, keeps no pointer, and may be called by any
+//! thread. With status 0 the first `length` items of the room are written, which are no more than it has.
 
 /// The statuses of the library for C.
 pub(crate) mod status {
@@ -139,13 +139,7 @@ mod raw {
             room_length: usize,
             outcome: *mut Outcome,
         ) -> u32;
-        pub fn reencode_raw_calls(
-            bytes: *const u8,
-            length: usize,
-            room: *mut u32,
-            room_count: usize,
-            outcome: *mut Outcome,
-        ) -> u32;
+        pub fn reencode_raw_calls(bytes: *const u8, length: usize, room: *mut u32, room_count: usize, outcome: *mut Outcome) -> u32;
     }
 }
 
@@ -218,9 +212,7 @@ fn some_more(length: usize) -> usize {
 pub(crate) fn plain(bytes: &[u8], ceiling: u32) -> Result<Vec<u8>, Refusal> {
     // SAFETY: the pointer and the count are those of a slice that lives on.
     output(unsafe {
-        in_room(bytes.len(), |room, count, outcome| {
-            raw::reencode_raw_plain(bytes.as_ptr(), bytes.len(), ceiling, room, count, outcome)
-        })
+        in_room(bytes.len(), |room, count, outcome| raw::reencode_raw_plain(bytes.as_ptr(), bytes.len(), ceiling, room, count, outcome))
     })
 }
 
@@ -246,9 +238,7 @@ pub(crate) fn rename(bytes: &[u8], entries: &[Entry], strict: bool, ceiling: u32
 pub(crate) fn visits(bytes: &[u8]) -> Result<Vec<ListedVisit>, Refusal> {
     // SAFETY: the pointer and the count are those of a slice that lives on.
     output(unsafe {
-        in_room(bytes.len() / 8 + 64, |room, count, outcome| {
-            raw::reencode_raw_visits(bytes.as_ptr(), bytes.len(), room, count, outcome)
-        })
+        in_room(bytes.len() / 8 + 64, |room, count, outcome| raw::reencode_raw_visits(bytes.as_ptr(), bytes.len(), room, count, outcome))
     })
 }
 
@@ -256,16 +246,7 @@ pub(crate) fn answer(bytes: &[u8], answers: &[u32], ceiling: u32) -> Result<Vec<
     // SAFETY: the pointers and the counts are those of slices that live on.
     output(unsafe {
         in_room(some_more(bytes.len()), |room, count, outcome| {
-            raw::reencode_raw_answer(
-                bytes.as_ptr(),
-                bytes.len(),
-                answers.as_ptr(),
-                answers.len(),
-                ceiling,
-                room,
-                count,
-                outcome,
-            )
+            raw::reencode_raw_answer(bytes.as_ptr(), bytes.len(), answers.as_ptr(), answers.len(), ceiling, room, count, outcome)
         })
     })
 }
@@ -305,16 +286,7 @@ pub(crate) fn merge(first: &[u8], second: &[u8], ceiling: u32) -> Result<Vec<u8>
     // SAFETY: the pointers and the counts are those of slices that live on.
     let (made, outcome) = unsafe {
         in_room(both, |room, count, outcome| {
-            raw::reencode_raw_merge(
-                first.as_ptr(),
-                first.len(),
-                second.as_ptr(),
-                second.len(),
-                ceiling,
-                room,
-                count,
-                outcome,
-            )
+            raw::reencode_raw_merge(first.as_ptr(), first.len(), second.as_ptr(), second.len(), ceiling, room, count, outcome)
         })
     }?;
     match outcome.status {
@@ -326,8 +298,6 @@ pub(crate) fn merge(first: &[u8], second: &[u8], ceiling: u32) -> Result<Vec<u8>
 pub(crate) fn calls(bytes: &[u8]) -> Result<Vec<u32>, Refusal> {
     // SAFETY: the pointer and the count are those of a slice that lives on.
     output(unsafe {
-        in_room(bytes.len() / 4 + 64, |room, count, outcome| {
-            raw::reencode_raw_calls(bytes.as_ptr(), bytes.len(), room, count, outcome)
-        })
+        in_room(bytes.len() / 4 + 64, |room, count, outcome| raw::reencode_raw_calls(bytes.as_ptr(), bytes.len(), room, count, outcome))
     })
 }

@@ -3,12 +3,13 @@
 //! This crate is safe Rust over the library for C of Hyssopplinth, whose archive it links; docs/BINDINGS.md tells how it is found,
 //! docs/C.md what is proved of the library's calls. The crate itself is tested, and not proved.
 //!
-//! - [`reencode`] asks a reencoder of yours, a [`Reencode`], for each index. Who used `wasm_encoder::reencode` finds the names of its hooks.
-//! - [`plain`] gives the normal spelling, [`rename`] goes by a [`Renaming`], [`visits`] and [`answer`] are the two halves of [`reencode`].
+//! - [`reencode`] asks a reencoder of yours, a [`Reencode`], for each index. Its methods have the names of `wasm_encoder::reencode`.
+//! - [`plain`] gives the normal spelling, [`rename`] goes by a [`Renaming`], [`visits`] and [`answer`] are the halves of [`reencode`].
 //! - [`renumber`], [`prune`], [`merge`] and [`calls`] are tools over core modules.
 //!
 //! Each call that makes a binary has a second, with `_within` behind its name, that takes a ceiling: the most bytes that a frame of the
-//! output may have (a section's body, a function's, a subsection's of names). Nothing is validated, and an index that changes moves nothing.
+//! output may have (a section's body, a function's, a subsection's of names). Nothing is validated, and an index that changes moves
+//! nothing.
 //!
 //! ```
 //! use hyssopplinth::{plain, rename, Renaming, Space};
@@ -167,7 +168,8 @@ pub fn prune_within(bytes: &[u8], ceiling: u32) -> Result<Pruned, Error> {
 /// # Errors
 ///
 /// [`ExportClash`](Error::ExportClash) where both export a name, [`TwoStarts`](Error::TwoStarts), and, with `by`,
-/// [`Dangling`](Error::Dangling) of any space, [`Uneven`](Error::Uneven), [`RepeatedSection`](Error::RepeatedSection) and those of [`plain`].
+/// [`Dangling`](Error::Dangling) of any space, [`Uneven`](Error::Uneven), [`RepeatedSection`](Error::RepeatedSection) and those of
+/// [`plain`].
 pub fn merge(first: &[u8], second: &[u8]) -> Result<Vec<u8>, Error> {
     merge_within(first, second, NO_CEILING)
 }

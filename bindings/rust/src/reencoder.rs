@@ -175,7 +175,8 @@ impl Reencode for RoundtripReencoder {
 ///
 /// # Errors
 ///
-/// [`ParseError`](Error::ParseError), [`InvalidCodeSectionSize`](Error::InvalidCodeSectionSize), [`UnexpectedNonCoreModuleSection`](Error::UnexpectedNonCoreModuleSection) and
+/// [`ParseError`](Error::ParseError), [`InvalidCodeSectionSize`](Error::InvalidCodeSectionSize),
+/// [`UnexpectedNonCoreModuleSection`](Error::UnexpectedNonCoreModuleSection) and
 /// [`UnexpectedNonComponentSection`](Error::UnexpectedNonComponentSection) of the bytes; then the first refusal of the reencoder;
 /// [`TooLarge`](Error::TooLarge) where a frame would have 2^32 bytes or more; [`NoMemory`](Error::NoMemory) at any time.
 pub fn reencode<R: Reencode + ?Sized>(bytes: &[u8], reencoder: &mut R) -> Result<Vec<u8>, Error<R::Error>> {
@@ -210,7 +211,7 @@ fn ask<R: Reencode + ?Sized>(reencoder: &mut R, visit: &ListedVisit) -> Result<u
                 Space::Module => reencoder.outer_module_index(count, index),
                 // the format has aliases of these four alone
                 _ => reencoder.any_index(space, index),
-            }
+            };
         }
         Visit::Push => {
             reencoder.push_depth();

@@ -118,7 +118,9 @@ fn run(call: &str, ceiling: u32, strict: bool, entries: &str, data: &str) -> Cam
         "answer" => by_table(&bytes, &table(), ceiling),
         "visits" => visits(&bytes).map(|rows| (rows.len(), 0, rows.iter().map(shown).collect::<Vec<_>>().join(","))),
         "renumber" => renumber_within(&bytes, &numbers(entries, ','), ceiling).map(made),
-        "prune" => prune_within(&bytes, ceiling).map(|it| (it.bytes.len(), it.kept.len(), format!("{}:{}", hex(&it.bytes), listed(&it.kept)))),
+        "prune" => {
+            prune_within(&bytes, ceiling).map(|it| (it.bytes.len(), it.kept.len(), format!("{}:{}", hex(&it.bytes), listed(&it.kept))))
+        }
         "merge" => merge_within(&bytes, &bytes_of(second), ceiling).map(made),
         "calls" => calls(&bytes).map(|it| {
             // the parts are those that the offsets in front of the list say
