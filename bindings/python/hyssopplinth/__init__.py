@@ -47,8 +47,9 @@ NO_CEILING = 0xFFFFFFFF
 
 Data = Union[bytes, bytearray, memoryview]
 SpaceLike = Union[Space, str, int]
-#: entries by their space, or one behind another: of several for an index the last counts
-Renaming = Union[Mapping[SpaceLike, Mapping[int, int]], Iterable[Tuple[SpaceLike, int, int]]]
+#: entries by their space, or one behind another, of which for one index the last counts; or what `read_renaming` gives
+Renaming = Union[Mapping[Space, Mapping[int, int]], Mapping[str, Mapping[int, int]], Mapping[int, Mapping[int, int]], ReadRenaming,
+                 Iterable[Tuple[SpaceLike, int, int]]]
 
 
 def library_path() -> str:
@@ -94,6 +95,8 @@ def rename(data: Data, renaming: Renaming, *, strict: bool = False, ceiling: int
     An index without an entry stays as it is. Where it is `strict`, one of a core module's eight spaces raises a RefusedError.
     """
     data, ceiling = _bytes(data), _ceiling(ceiling)
+    if isinstance(renaming, ReadRenaming):
+        renaming, strict = renaming.entries, strict or renaming.strict
     table: List[int] = []
     if isinstance(renaming, Mapping):
         for space, olds in renaming.items():

@@ -121,8 +121,8 @@ def _run(command: str, words: argparse.Namespace) -> Tuple[bytes, str]:
     if command == "plain":
         return plain(_read(words.input, READ_FAULT), ceiling=ceiling), ""
     if command == "rename":
-        entries, strict = read_renaming(_read(words.map, SHELF_FAULT))
-        return rename(_read(words.input, READ_FAULT), entries, strict=strict or words.strict, ceiling=ceiling), ""
+        renaming = read_renaming(_read(words.map, SHELF_FAULT))
+        return rename(_read(words.input, READ_FAULT), renaming, strict=words.strict, ceiling=ceiling), ""
     if command == "renumber":
         order = read_order(_read(words.order, SHELF_FAULT))
         return renumber(_read(words.input, READ_FAULT), order, ceiling=ceiling), ""

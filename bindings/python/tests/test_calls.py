@@ -21,7 +21,9 @@ NESTING = b"\0asm\x0d\0\1\0" + bytes.fromhex("010e") + HEAD + bytes.fromhex("010
 # a component whose component type has an alias of a core type, one scope further out
 ALIASING = b"\0asm\x0d\0\1\0" + bytes.fromhex("030401600000 07090141010200100201 00")
 COMPONENT = b"\0asm\x0d\0\1\0"
+# the exports of TWO, each with the other's function; and TWO with its functions in the other order
 SWAPPED = bytes.fromhex("070d020361646400010373756200 00")
+MOVED = TWO[:22] + SWAPPED + TWO[37:40] + TWO[48:] + TWO[40:48]
 
 
 class Calls(unittest.TestCase):
@@ -48,6 +50,8 @@ class Calls(unittest.TestCase):
         self.assertEqual((said.exception.space, said.exception.index, str(said.exception)), (Space.TYPE, 0, "refused type 0"))
         self.assertEqual(h.rename(TWO, {"function": {0: 1, 1: 0}, "type": {0: 0}}, strict=True)[22:37], SWAPPED)
         self.assertEqual(h.rename(TWO, {}), TWO)
+        self.assertEqual(h.rename(TWO, h.read_renaming('{"function": {"0": 1, "1": 0}}'))[22:37], SWAPPED)
+        self.assertRaises(h.RefusedError, h.rename, TWO, h.read_renaming('{"strict": true}'))
 
     def test_what_is_no_renaming(self):
         self.assertRaises(ValueError, h.rename, TWO, {"functions": {0: 1}})
@@ -93,9 +97,8 @@ class Calls(unittest.TestCase):
         self.assertEqual(h.answer_all(HEAD, []), HEAD)
 
     def test_functions_move_and_go(self):
-        moved = h.renumber(TWO, [1, 0])
-        self.assertEqual(moved[22:37], SWAPPED)
-        self.assertEqual(h.renumber(moved, iter((1, 0))), TWO)
+        self.assertEqual(h.renumber(TWO, [1, 0]), MOVED)
+        self.assertEqual(h.renumber(MOVED, iter((1, 0))), TWO)
         self.assertEqual(h.renumber(HEAD, []), HEAD)
         made, kept = h.prune(CALLING)
         self.assertEqual(kept, [1, 3])

@@ -1,5 +1,4 @@
 """The command, from file to file: what is written, what is said, and each status."""
-import json
 import os
 import stat
 import subprocess
@@ -7,7 +6,7 @@ import sys
 import tempfile
 import unittest
 
-from .test_calls import CALLING, COMPONENT, HEAD, SWAPPED, TWO
+from .test_calls import CALLING, COMPONENT, HEAD, MOVED, SWAPPED, TWO
 
 
 class Command(unittest.TestCase):
@@ -42,7 +41,8 @@ class Command(unittest.TestCase):
         self.assertEqual(self.run_it("rename", "in", "--map", "-", "--out", "out", given=b"{}"), (0, b"", ""))
         self.assertEqual(self.get("out"), TWO)
         self.put("order", b"[1, 0]")
-        self.assertEqual(self.run_it("renumber", "-", "--order", "order", "-o", "-", given=swapped), (0, TWO, ""))
+        self.assertEqual(self.run_it("renumber", "-", "--order", "order", "-o", "-", given=MOVED), (0, TWO, ""))
+        self.assertEqual(self.run_it("renumber", "in", "--order", "-", "-o", "-", given=b"[1, 0]"), (0, MOVED, ""))
         self.put("calling", CALLING)
         self.assertEqual(self.run_it("prune", "calling", "-o", "out"), (0, b"kept 1 3\n", ""))
         status, made, said = self.run_it("prune", "-", "-o", "-", given=CALLING)
@@ -121,10 +121,6 @@ class Command(unittest.TestCase):
         if os.geteuid():
             os.chmod(self.path("in"), 0)
             self.assertEqual(self.run_it("in", "-o", "out")[0], 3)
-
-    def test_an_order_of_a_list(self):
-        self.put("order", json.dumps([1, 0]).encode())
-        self.assertEqual(self.run_it("renumber", "in", "-o", "-", "--order", "order")[1], TWO[:22] + SWAPPED + TWO[37:])
 
 
 if __name__ == "__main__":
