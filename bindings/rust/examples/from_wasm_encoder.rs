@@ -53,7 +53,7 @@ fn main() {
         process::exit(2)
     };
     let bytes = fs::read(input).expect("IN");
-    // There: a match over the same names, `Error::UserError` and `Error::ParseError`.
+    // There: a match over the same names, where `ParseError` holds the parser's own error.
     match run(&bytes, 0, 1) {
         Ok(made) => fs::write(output, made).expect("OUT"),
         Err(Error::UserError(InUse(func))) => {

@@ -174,7 +174,8 @@ fn room_for<T>(count: usize) -> Result<Vec<T>, Outcome> {
 ///
 /// # Safety
 ///
-/// `call` is one of the library's calls, with this room, the count of its items and this outcome.
+/// `call` is one of the library's calls, with this room, the count of its items and this outcome. Nothing is written in the room yet, as in
+/// that of the header's own calls; the library reads nothing of a room.
 unsafe fn in_room<T: Plain>(first: usize, call: impl Fn(*mut T, usize, *mut Outcome) -> u32) -> Result<(Vec<T>, Outcome), Outcome> {
     let mut outcome = Outcome::default();
     let mut room = room_for(first)?;

@@ -80,7 +80,7 @@ pub fn rename_within(bytes: &[u8], renaming: &Renaming, ceiling: u32) -> Result<
     ffi::rename(bytes, &renaming.entries, renaming.strict, ceiling).map_err(|it| it.error(ceiling))
 }
 
-/// The visits of the binary, in order. They depend on the bytes alone, and each is what [`reencode`] asks a hook for.
+/// The visits of the binary, in order. They depend on the bytes alone, and each is what [`reencode`] asks a method for.
 ///
 /// # Errors
 ///

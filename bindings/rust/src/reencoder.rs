@@ -4,9 +4,10 @@ use std::convert::Infallible;
 
 /// What a reencoder does with each index.
 ///
-/// The methods have the names and the types of `wasm-encoder`'s, so an impl that overrides hooks of indices can be carried over. Each
-/// is asked once for each occurrence of an index, in the order of the binary. Each has a default: a hook of an index answers it
-/// by [`any_index`](Reencode::any_index), which leaves it as it is, an outer one by the hook of its space, and at scopes nothing is done.
+/// The methods have the names of `wasm-encoder`'s, and those of core modules also their types, so an impl that overrides these can be
+/// taken over. Each is asked once for each occurrence of an index, in the order of the binary. Each has a default: that of an index
+/// asks [`any_index`](Reencode::any_index), which leaves it as it is, that of an outer one the method of its space, and at scopes
+/// nothing is done.
 ///
 /// An answer of `Err` ends the re-encoding, with that error: a refusal of one's own is an [`Error::UserError`], and a
 /// reencoder that refuses nothing has [`Infallible`] for its `Error`.
@@ -43,7 +44,7 @@ pub trait Reencode {
     /// Why an index is refused.
     type Error;
 
-    /// The new index of any space, where the hook of that space is not overridden.
+    /// The new index of any space, where the method of that space is not overridden.
     fn any_index(&mut self, space: Space, index: u32) -> Result<u32, Error<Self::Error>> {
         let _ = space;
         Ok(index)
@@ -199,7 +200,7 @@ pub fn reencode_within<R: Reencode + ?Sized>(bytes: &[u8], reencoder: &mut R, ce
     ffi::answer(bytes, &answers, ceiling).map_err(|it| it.error(ceiling))
 }
 
-/// The hook of a visit. The answer at a scope is not looked at.
+/// The answer of a visit's method. That at a scope is not looked at.
 fn ask<R: Reencode + ?Sized>(reencoder: &mut R, visit: &ListedVisit) -> Result<u32, Error<R::Error>> {
     let (space, index) = match Visit::of(visit) {
         Visit::Index { space, index } => (space, index),
