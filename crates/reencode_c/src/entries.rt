@@ -168,13 +168,14 @@ fn rises(entries: &[Entry]) -> bool {
     true
 }
 
-/// Entries as an index is looked up in them. Those that rise cost no sorting, and one step where they name each index from 0 on.
+/// Entries as an index is looked up in them. Those that rise cost no sorting, and one step where they name each index from 0 on; none
+/// cost no step.
 fn held_of(alloc: Global, entries: &[Entry], strict: bool) -> Result<Held, EntryFault>
     ensures ok { IfOk result (Holds entries.now strict) }
     ensures known { IfOk result (λ held. All HasSpace entries.now) }
     ensures bad { IfErr result (λ fault. IsBad entries.now fault) }
 {
-    if rises(entries) {
+    if !entries.is_empty() && rises(entries) {
         match renamer_of(alloc, entries, strict) {
             Ok(renamer) => Ok(Held::Rising(renamer)),
             Err(fault) => Err(fault),
