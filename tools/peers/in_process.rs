@@ -5,48 +5,19 @@
 // Of each module a line of numbers: its bytes; of the straight re-encoder, the library's plain, the straight renaming of every
 // function and the library's: the least nanoseconds of a call, the pages that were touched first in it, and how many KiB the process
 // held more at its peak than before; then the same of `renumber`, `prune` and `merge`, or 0 where these refuse the module.
+// The calls are declared in bindings/rust/src/ffi.rs.
+#[allow(dead_code)]
+mod ffi;
 #[allow(dead_code)]
 mod straight;
 
+use ffi::raw::{reencode_raw_merge, reencode_raw_plain, reencode_raw_prune, reencode_raw_rename, reencode_raw_renumber};
+use ffi::{Entry, Outcome};
 use std::time::Instant;
 use std::{env, fs, process};
 use straight::{Counts, Hooks, Mapper, Renamed, Same, FUNCTION};
 
-#[repr(C)]
-#[derive(Clone, Copy)]
-struct Entry {
-    space: u32,
-    from: u32,
-    to: u32,
-}
-
-#[repr(C)]
-#[derive(Clone, Copy, Default)]
-struct Outcome {
-    length: usize,
-    place: u64,
-    size: u64,
-    status: u32,
-    space: u32,
-    index: u32,
-    by: u32,
-    count: usize,
-    stated: u32,
-    rows: u32,
-    id: u32,
-    spare: u32,
-}
-
 extern "C" {
-    fn reencode_raw_plain(bytes: *const u8, length: usize, ceiling: u32, room: *mut u8, count: usize, outcome: *mut Outcome) -> u32;
-    fn reencode_raw_rename(bytes: *const u8, length: usize, entries: *const Entry, entry_count: usize, strict: u32, ceiling: u32,
-        room: *mut u8, count: usize, outcome: *mut Outcome) -> u32;
-    fn reencode_raw_renumber(bytes: *const u8, length: usize, order: *const u32, order_count: usize, ceiling: u32,
-        room: *mut u8, count: usize, outcome: *mut Outcome) -> u32;
-    fn reencode_raw_prune(bytes: *const u8, length: usize, ceiling: u32, room: *mut u8, count: usize, kept: *mut u32, kept_count: usize,
-        outcome: *mut Outcome) -> u32;
-    fn reencode_raw_merge(first: *const u8, first_length: usize, second: *const u8, second_length: usize, ceiling: u32,
-        room: *mut u8, count: usize, outcome: *mut Outcome) -> u32;
     fn getrusage(who: i32, usage: *mut [i64; 18]) -> i32;
 }
 

@@ -69,7 +69,7 @@ impl Outcome {
 }
 
 /// The calls as the linker knows them. No pointer of theirs is null: none of a slice of Rust is, nor of a `Vec`, also where it is empty.
-mod raw {
+pub(crate) mod raw {
     use super::{Entry, ListedVisit, Outcome};
 
     extern "C" {
