@@ -1,12 +1,14 @@
--- Lists that are filled from the front, counts that stay at their end, and keys of maps.
-use Rattle.std.proofs.Common.{◌≡◌, ℕ, suc, ◌+◌, ◌≤◌, ◌<◌, List, [], ◌∷◌, ◌++◌, length, take, Bool, true, false, nat_lt, cond, ltb-true, ltb-false, Less, Equal, Greater, refl, sym, ap, ◌∙◌, arith, subst}
+-- Lists that are filled from the front, counts that stay at their end, keys of maps, and the first entry without a space.
+use Rattle.std.proofs.Common.{◌≡◌, ℕ, suc, ◌+◌, ◌≤◌, ◌<◌, List, [], ◌∷◌, ◌++◌, All, length, take, drop, slice_index_or, Bool, true, false, nat_lt, cond, ltb-true, ltb-false, Less, Equal, Greater, refl, sym, ap, ◌∙◌, arith, subst}
 use Rattle.std.specs.Prelude.{◌==◌, slice_set}
 use Rattle.std.specs.BTreeMap.{is_at}
 use Rattle.std.specs.Ordering.{is_eq, nat_cmp}
 use Rattle.std.proofs.Math.Nat.{min-eq_left, min-eq_right, min-le_right}
 use Rattle.std.proofs.lemmas.Bool.{eqb-true}
-use Rattle.std.proofs.lemmas.List.{append-nil, append_assoc, length-set, take_more_set}
+use Rattle.std.proofs.lemmas.List.{append-nil, append_assoc, drop_more, length-set, length-take-le, take-append-drop, take_more_set}
+use Rattle.reencode_c.specs.declared.outcome.Entry.{Entry}
 use Rattle.reencode_c.specs.declared.outcome.ListedVisit.{ListedVisit}
+use Rattle.reencode_c.specs.Entries.{FirstWithoutSpace, HasSpace}
 use Rattle.reencode_c.specs.Visits.{Listing, put, put_all, tally}
 
 -- the keys of a map of numbers are told apart as the numbers are
@@ -20,6 +22,21 @@ at_key a k = go (nat_lt a k) refl (a == k) refl
     go true e false f = refl
     go false e true f = refl
     go false e false f = refl
+
+-- an entry without a space is the first where all before it have one
+pub first_without : (es : List Entry) (n : ℕ) (d : Entry) → n < length es → All HasSpace (take n es) → 16 ≤ (slice_index_or es n d).space →
+    FirstWithoutSpace es n (slice_index_or es n d).space (slice_index_or es n d).from
+first_without es n d h known unknown = record {
+  front = take n es;
+  entry = slice_index_or es n d;
+  rest = drop (n + 1) es;
+  parts = sym (take-append-drop n es) ∙ ap (λ (z : List Entry). take n es ++ z) (drop_more es n d h);
+  place_is = length-take-le n es (omega (arith, h));
+  known = known;
+  unknown = unknown;
+  space_is = refl;
+  index_is = refl;
+}
 
 -- ---- counts
 

@@ -13,6 +13,7 @@ use Rattle.reencode_c.specs.declared.outcome.Entry.{Entry}
 use Rattle.reencode_c.specs.Entries.{entry_from, key}
 use Rattle.reencode_c.proofs.Lists.{at_key}
 
+-- each space has one of sixteen tables
 pub number_small : (p : Space) → space_number p < 16
 number_small space.Data = omega arith
 number_small space.Element = omega arith
@@ -59,7 +60,7 @@ same_keys a b f i few little = go (key a f == key b i) refl (a == b) refl (i == 
     go false e false u z v = refl
 
 -- what an index has behind an entry that was set
-pub set_entry : (r : Renaming) (s p : Space) (from to i : ℕ) → space_number s < length r.entries →
+set_entry : (r : Renaming) (s p : Space) (from to i : ℕ) → space_number s < length r.entries →
     map.get (entries_in (with_entry r s from to) p) i ≡ cond ((space_number s == space_number p) && (i == from)) (Some to) (map.get (entries_in r p) i)
 set_entry r s p from to i there = go (a == b) refl
   where
@@ -74,9 +75,6 @@ set_entry r s p from to i there = go (a == b) refl
 
     more : Entries
     more = map.insert (entries_in r s) from to
-
-    G : Entries → Type 0
-    G m = map.get m i ≡ cond ((a == b) && (i == from)) (Some to) (map.get (entries_in r p) i)
 
     go : (x : Bool) → (a == b) ≡ x → map.get (entries_in (with_entry r s from to) p) i ≡ cond (x && (i == from)) (Some to) (map.get (entries_in r p) i)
     go true e =

@@ -6,7 +6,7 @@ ghost use Rattle.reencode_component.specs.Within.{ComponentBytesClauses, WithinC
 
 use crate::component::ReencodeComponent;
 use crate::components::parse_component;
-use reencode_core::reencode_joined;
+use reencode_core::reencode_core;
 use reencode_hooks::Error;
 use std::alloc::Global;
 use wasm_leb::NoMemory;
@@ -44,10 +44,7 @@ fn reencode_component<R: ReencodeComponent>(
 }
 
 /// The bytes of the new binary: of a component, where the bytes begin with the header of one, by `parse_component`, and of a core
-/// module, by `reencode_joined`, where they do not.
-///
-/// So an overridden `parse_core_module`, `parse_section` or `parse_code_section` is asked of modules nested in a component alone,
-/// and the section hooks of a core module are handed a module without sections. `reencode_core` goes by these methods.
+/// module, by `reencode_core`, where they do not.
 ///
 /// Of a reencoder that keeps the defaults no frame of what the bytes become is above the ceiling, nor the body of a section that
 /// one of its hooks adds.
@@ -64,7 +61,7 @@ pub fn reencode_within<R: ReencodeComponent>(
 {
     match behind_header(bytes) {
         Some(_) => reencode_component(alloc, r, bytes, ceiling),
-        None => reencode_joined(alloc, r, bytes, ceiling),
+        None => reencode_core(alloc, r, bytes, ceiling),
     }
 }
 

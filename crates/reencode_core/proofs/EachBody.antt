@@ -11,7 +11,7 @@ use Rattle.wasm_read.specs.Operations.{Reading, rest_of, frame_row}
 use Rattle.wasm_read.specs.Reading.{Standing, place_of, ReadsNone, RowRead, RowMissing, RowsEnded}
 use Rattle.wasm_write.specs.declared.fault.WriteFault.{WriteFault}
 use Rattle.wasm_write.specs.declared.fault.WriteFault.TheVariants as faults
-use Rattle.wasm_write.specs.Bodies.{Body, CodeRows, code_tree, function_body, with_operator, with_row}
+use Rattle.wasm_write.specs.Bodies.{Body, CodeRows, code_tree, function_body, with_row}
 use Rattle.wasm_write.specs.Faults.{IfTooLarge}
 use Rattle.wasm_shapes.specs.Types.{vector_tree}
 use Rattle.reencode_hooks.specs.declared.error.Error.{Error}
@@ -20,7 +20,7 @@ use Rattle.reencode_hooks.specs.declared.indices.ReencodeIndices.{Ghosts}
 use Rattle.reencode_hooks.specs.Errors.{error_of_fault, error_of_write}
 use Rattle.reencode_hooks.specs.Run.{accepted}
 use Rattle.reencode_hooks.specs.Walk.{walk}
-use Rattle.reencode_items.specs.Maps.{LeavesOperator, MovesOn, ParsesOperator}
+use Rattle.reencode_items.specs.Maps.{LeavesOperator, ParsesOperator}
 use Rattle.reencode_core.specs.Errors.{placed_at}
 use Rattle.reencode_core.specs.Rows.{GivesRows, locals}
 use Rattle.reencode_core.specs.Bodies.{KeepsCode}
@@ -34,7 +34,7 @@ use Rattle.reencode_core.proofs.Made.{ended_all, fault_known, placed_wants, tell
 use Rattle.reencode_core.proofs.RowsMade.{rows_held, rows_leave_none}
 use Rattle.reencode_core.proofs.OneRow.{answers}
 use Rattle.reencode_core.proofs.RowLoop.{RowsDone, kept_on, rows_all, rows_begin}
-use Rattle.reencode_core.proofs.WholeBody.{body_given, body_locals_refused, body_not_added, body_wants, operator_err, operators_never, operators_none, operators_on}
+use Rattle.reencode_core.proofs.WholeBody.{body_given, body_locals_refused, body_not_added, body_wants, operator_err, operators_never}
 
 -- ---- a code section
 
@@ -148,9 +148,6 @@ module _ {S E : Type 0} (i : Ghosts S E) {bytes : List ℕ} {s0 : S} (old : Code
       after_error = λ k. absurd (operators_never (asks i) bytes s0 m f0 f (made.default k) none);
     }
 
-    pub operators_begun : (start : Reading) → OperatorsKept i start m f0 start m f0
-    operators_begun start = record { bytes = refl; same_locals = refl; default = λ k c. operators_none (asks i) c (rest_of start) m f0.operators (made.default k).bare }
-
     module _ {start : Reading} {l : Tree} (begins : Begins locals bytes l (rest_of start)) (is_bytes : start.bytes ≡ bytes) {reader : Reading} {s : S} {f : Body}
         (inv : OperatorsKept i start m f0 reader s f) where
       -- the walk of the locals
@@ -171,14 +168,6 @@ module _ {S E : Type 0} (i : Ghosts S E) {bytes : List ℕ} {s0 : S} (old : Code
           })
 
       module _ {B : Type 0} (view : B → Tree) (b : B) {behind : Reading} {n : S} (parses : IsTrue i.keeps_defaults → ParsesOperator i.reply i.next s reader view n behind (Ok b)) where
-        -- an operator was mapped, and added
-        pub operators_more : {f' : Body} → MovesOn reader behind → f' ≡ with_operator f (view b) → OperatorsKept i start m f0 behind n f'
-        operators_more {f' = f'} taken added = record {
-          bytes = taken.bytes ∙ inv.bytes;
-          same_locals = ap Body.locals added ∙ inv.same_locals;
-          default = λ k c. let p = parses k in operators_on (asks i) c f f' (inv.default k c) p.begins p.behind_it (p.maps c) added;
-        }
-
         -- there is no memory for it
         pub operator_not_added : (w : WriteFault) → w ≡ faults.NoMemory → (r : Result (Unit {0}) (Error E)) → IsErrAnd r (λ y. y ≡ error_of_write w) → BodyClauses i bytes s0 old n old r
         operator_not_added w wants r q =

@@ -60,16 +60,20 @@ macro_rules! parse_code_section {
 
 pub(crate) use parse_code_section;
 
+// The operators are mapped without lists, or each by `parse_instruction`.
 macro_rules! parse_function_body {
-    ($reencoder:ident, $alloc:ident, $code:ident, $func:ident, $function:expr) => {{
-        let mut function = $function?;
-        let mut reader = $func.operators()?;
-        'operators: while !reader.eof() {
-            let instruction = $reencoder.parse_instruction($alloc, &mut reader)?;
-            function.instruction(&instruction)?;
-        }
-        $code.function(&function)?;
-        Ok(())
+    ($reencoder:ident, $by_bytes:expr, $alloc:ident, $code:ident, $func:ident, $function:expr) => {{
+        let function = $function?;
+        let reader = $func.operators()?;
+        direct::map_rest(
+            $reencoder,
+            $alloc,
+            $code,
+            function,
+            reader,
+            Next::Other,
+            $by_bytes,
+        )
     }};
 }
 

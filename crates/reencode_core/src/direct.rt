@@ -44,14 +44,16 @@ fn add(function: &mut w::Function, opcode: Opcode, fresh: Fresh) -> Result<(), w
     }
 }
 
-/// Maps the operators of a body that are left, of which the first is dealt with as `next` says, and adds the function.
-fn map_rest<R: ReencodeItems>(
+/// Maps the operators of a body that are left, of which the first is dealt with as `next` says, and adds the function. Where it is not
+/// to go by the bytes, each operator is mapped by `parse_instruction`.
+pub(crate) fn map_rest<R: ReencodeItems>(
     reencoder: &mut R,
     alloc: Global,
     code: &mut w::CodeSection,
     mut function: w::Function,
     mut reader: r::OperatorsReader<'_>,
     mut next: Next,
+    by_bytes: bool,
 ) -> Result<(), Error<R::Error>>
     requires { DealsWith (ask R.reply R.next) (rest_of reader) reencoder.old next }
     ensures kept { KeepsCode code.old code.new }
@@ -76,6 +78,10 @@ fn map_rest<R: ReencodeItems>(
                 let instruction = reencoder.parse_instruction(alloc, &mut reader)?;
                 function.instruction(&instruction)?;
             }
+        }
+        if !by_bytes {
+            next = Next::Other;
+            continue 'operators;
         }
         let bytes = reader.rest();
         let kept = pass_run(reencoder, bytes, &mut next)?;
@@ -103,7 +109,7 @@ pub fn parse_function_body<R: ReencodeItems>(
     let Some(operators) = skip_locals(bytes) else {
         let function = new_function_with_parsed_locals(reencoder, alloc, &func)?;
         let reader = func.operators()?;
-        return map_rest(reencoder, alloc, code, function, reader, Next::Other);
+        return map_rest(reencoder, alloc, code, function, reader, Next::Other, true);
     };
     let mut next = Next::Other;
     let kept = pass_run(reencoder, operators, &mut next)?;
@@ -115,7 +121,7 @@ pub fn parse_function_body<R: ReencodeItems>(
     let function = w::Function::of_spelled(alloc, &bytes[..passed], bytes.len())?;
     let mut reader = func.operators()?;
     reader.pass(kept);
-    map_rest(reencoder, alloc, code, function, reader, next)
+    map_rest(reencoder, alloc, code, function, reader, next, true)
 }
 
 /// The bytes from a group of types on.

@@ -12,9 +12,10 @@ ghost use Rattle.reencode_core.specs.Clauses.{BodyClauses, BytesClauses, CodeSec
 
 use crate::errors::placed;
 use crate::sections::{Body, add_rows, add_section, read_body, take_section};
-use crate::{default_bodies, row_sections, rows, subsections};
+use crate::{default_bodies, direct, row_sections, rows, subsections};
 use reencode_hooks::Error;
 use reencode_items::ReencodeItems;
+use reencode_items::direct::Next;
 use std::alloc::Global;
 use wasm_read as r;
 use wasm_shapes::{SectionId, Visit};
@@ -278,8 +279,8 @@ pub trait Reencode: ReencodeItems {
         default_bodies::parse_code_section!(self, alloc, code, section)
     }
 
-    /// Maps the locals of a body by `new_function_with_parsed_locals` and its operators by `parse_instruction`, and adds the
-    /// function.
+    /// Maps the locals of a body by `new_function_with_parsed_locals` and its operators by `parse_instruction`, or without lists
+    /// where no method of an item is overridden (`DEFAULT_ITEMS`), and adds the function.
     fn parse_function_body(
         &mut self,
         alloc: Global,
@@ -291,6 +292,7 @@ pub trait Reencode: ReencodeItems {
     {
         default_bodies::parse_function_body!(
             self,
+            Self::DEFAULT_ITEMS,
             alloc,
             code,
             func,

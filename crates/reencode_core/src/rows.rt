@@ -9,12 +9,13 @@ ghost use Rattle.reencode_items.specs.Clauses.{ListClauses};
 ghost use Rattle.reencode_core.specs.Elements.{answered_table, asked_table};
 ghost use Rattle.reencode_core.specs.Clauses.{BodyClauses, LocalsClauses, RowClauses, RowsClauses, UnknownClauses};
 
-use crate::default_bodies;
 use crate::imports::{compact_items, compact_names};
 use crate::item_lists::{ExpressionItems, FunctionItems, map_items};
 use crate::sections::add_section;
+use crate::{default_bodies, direct};
 use reencode_hooks::{Error, ReencodeIndices};
 use reencode_items::ReencodeItems;
+use reencode_items::direct::Next;
 use std::alloc::Global;
 use wasm_leb::List;
 use wasm_read as r;
@@ -253,6 +254,7 @@ pub(crate) fn parse_function_body<T: ReencodeItems>(
 {
     default_bodies::parse_function_body!(
         reencoder,
+        false,
         alloc,
         code,
         func,

@@ -17,8 +17,9 @@ pub use crate::rows::{
 };
 use crate::sections::{Body, add_rows, add_section, read_body, take_section};
 pub use crate::subsections::parse_custom_name_subsection;
-use crate::{default_bodies, rows};
+use crate::{default_bodies, direct, rows};
 use reencode_hooks::Error;
+use reencode_items::direct::Next;
 use std::alloc::Global;
 use wasm_read as r;
 use wasm_shapes::{SectionId, Visit};
@@ -144,8 +145,8 @@ pub fn parse_code_section<T: Reencode>(
     default_bodies::parse_code_section!(reencoder, alloc, code, section)
 }
 
-/// Maps the locals of a body by `new_function_with_parsed_locals` and its operators by `parse_instruction`, and adds the
-/// function.
+/// Maps the locals of a body by `new_function_with_parsed_locals` and its operators by `parse_instruction`, or without lists where
+/// no method of an item is overridden (`DEFAULT_ITEMS`), and adds the function.
 pub fn parse_function_body<T: Reencode>(
     reencoder: &mut T,
     alloc: Global,
@@ -157,6 +158,7 @@ pub fn parse_function_body<T: Reencode>(
 {
     default_bodies::parse_function_body!(
         reencoder,
+        T::DEFAULT_ITEMS,
         alloc,
         code,
         func,

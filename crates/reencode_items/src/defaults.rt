@@ -16,6 +16,8 @@ use wasm_write as w;
 pub trait DefaultItems: ReencodeIndices {}
 
 impl<T: DefaultItems> ReencodeItems for T {
+    const DEFAULT_ITEMS: bool = true;
+
     fn const_expr(
         &mut self,
         alloc: Global,

@@ -29,6 +29,10 @@ use wasm_write as w;
 /// says that memory never runs out where no hook wants any, and `after_error` that every error then leaves the state
 /// after a front part of the item's visits, out of memory too.
 pub trait ReencodeItems: ReencodeIndices {
+    /// Whether each item becomes what the defaults make of it, so that operators may be mapped without lists and their parts'
+    /// methods asked by none. A type that has the marker `DefaultItems` says so; it is not for others to say.
+    const DEFAULT_ITEMS: bool = false;
+
     /// The index of a type. `CanonicalizedHeapTypeReference` comes for one inside a recursion group.
     fn type_index_unpacked(&mut self, ty: r::UnpackedIndex) -> Result<u32, Error<Self::Error>>
         ensures { ItemClauses Self.ReencodeIndices (read.type_index ty) write.type_index

@@ -6,7 +6,7 @@ use Rattle.std.specs.BTreeMap.{get, is_at}
 use Rattle.std.specs.Ordering.{nat_cmp}
 use Rattle.reencode_c.specs.declared.outcome.Entry.{Entry}
 use Rattle.reencode_c.specs.Entries.{HasSpace, entry_from, key}
-use Rattle.reencode_c.proofs.Lists.{at_key}
+use Rattle.reencode_c.proofs.Lists.{at_key, first_without}
 use Rattle.reencode_c.proofs.entries.map_of.Goals as goal
 
 abbrev no_entry : Entry
@@ -22,19 +22,7 @@ one_more es i k n found now d h is e =
     ∙ ap (λ (z : List Entry). entry_from found z k) (sym (drop_more es i d h))
 
 pub returns-then-entry-ge16-clause-bad : goal.returns-then-entry-ge16-clause-bad
-returns-then-entry-ge16-clause-bad c =
-    let es = c.args.entries.now in
-    record {
-      front = take c.entries.place es;
-      entry = slice_index_or es c.entries.place no_entry;
-      rest = drop (c.entries.place + 1) es;
-      parts = sym (take-append-drop c.entries.place es) ∙ ap (λ (z : List Entry). take c.entries.place es ++ z) (drop_more es c.entries.place no_entry c.entries-test.true);
-      place_is = length-take-le c.entries.place es (search rules);
-      known = c.entries.invariant.1;
-      unknown = c.if-entry-ge16.true;
-      space_is = refl;
-      index_is = refl;
-    }
+returns-then-entry-ge16-clause-bad c = first_without c.args.entries.now c.entries.place no_entry c.entries-test.true c.entries.invariant.1 c.if-entry-ge16.true
 
 pub entries-preserved : goal.entries-preserved
 entries-preserved c = (

@@ -6,6 +6,7 @@ use Rattle.wasm_shapes.specs.declared.Space.{Space}
 use Rattle.reencode_hooks.specs.Renamings.{Renaming, entries_in, space_number}
 use Rattle.reencode_c.specs.declared.outcome.Entry.{Entry}
 use Rattle.reencode_c.specs.Entries.{HasSpace, entry_from, key}
+use Rattle.reencode_c.proofs.Lists.{first_without}
 use Rattle.reencode_c.proofs.Tables.{bare_table, number_small, table_more}
 use Rattle.reencode_c.proofs.entries.renamer_of.Goals as goal
 
@@ -25,19 +26,7 @@ entries-init c =
     }
 
 pub returns-in_default-clause-bad : goal.returns-in_default-clause-bad
-returns-in_default-clause-bad c =
-    let es = c.args.entries.now in
-    record {
-      front = take c.entries.place es;
-      entry = slice_index_or es c.entries.place no_entry;
-      rest = drop (c.entries.place + 1) es;
-      parts = sym (take-append-drop c.entries.place es) ∙ ap (λ (z : List Entry). take c.entries.place es ++ z) (drop_more es c.entries.place no_entry c.entries-test.true);
-      place_is = length-take-le c.entries.place es (search rules);
-      known = c.entries.invariant.known;
-      unknown = rw c.in_default.is at c.space_of.ensures.none;
-      space_is = refl;
-      index_is = refl;
-    }
+returns-in_default-clause-bad c = first_without c.args.entries.now c.entries.place no_entry c.entries-test.true c.entries.invariant.known (rw c.in_default.is at c.space_of.ensures.none)
 
 pub entries-preserved : goal.entries-preserved
 entries-preserved c =

@@ -8,4 +8,4 @@ returns-in-Some g c =
 pub returns-in-None : goal.returns-in-None
 returns-in-None g c =
     let none = rw c.in-None.is at c.behind_header.ensures.none in
-    record { core = λ n. c.reencode_joined.ensures; component = λ h. absurd (none h.0 h.1) }
+    record { core = λ n. c.reencode_core.ensures; component = λ h. absurd (none h.0 h.1) }

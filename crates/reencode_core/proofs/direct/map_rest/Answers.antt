@@ -46,6 +46,40 @@ returns-in_err-instruction-in-Other-2 g c =
     rest_code i c.operators.invariant.same (rest_not_added i c.operators.code inv instruction_tree c.in_ok-instruction-in-Other.instruction c.in_ok-instruction-in-Other.ensures.default _
     c.in_err-instruction-in-Other-2.ensures.wants _ c.from_residual-in_err-instruction-in-Other-2.ensures.1)
 
+pub operators-smaller-then-not-by_bytes : goal.operators-smaller-then-not-by_bytes
+operators-smaller-then-not-by_bytes g c =
+    let i = g.R.ReencodeIndices in
+    let reader = c.operators.reader in
+    let left = length-drop reader.at reader.bytes in
+    let on : (reader.at < length reader.bytes) × (reader.at < c.match-next.reader.at) × (c.match-next.reader.bytes ≡ reader.bytes) =
+    elim c.match-next.branch [
+      | in-Made+in_ok-add-in-Made w ↦
+          let m = w.in-Made in
+          let within = made_within (deals_made (asks i) _ _ _ m.opcode m.fresh m.count m.is c.operators.invariant.deals).1 in
+          rw w.reader-is (omega (arith, within.0, within.1, left), omega (arith, within.1, w.pass.ensures.at), w.pass.ensures.bytes)
+      | in-Other+else-eof+in_ok-instruction-in-Other+in_ok-instruction-in-Other-2 w ↦
+          let some = some_left w.eof.result (rest_of reader) w.eof.ensures w.if-eof.false in
+          let taken = w.in_ok-instruction-in-Other.ensures.taken in
+          rw w.reader-is (some_behind reader some, taken.forward, taken.bytes)
+    ] in
+    omega (arith, on.0, on.1, ap length on.2)
+
+pub operators-preserved-then-not-by_bytes : goal.operators-preserved-then-not-by_bytes
+operators-preserved-then-not-by_bytes g c =
+    let i = g.R.ReencodeIndices in
+    let inv = c.operators.invariant.mapped in
+    let here : RestKept i c.args.reader c.args.function c.args.reencoder.now c.args.next c.match-next.reader c.match-next.function c.match-next.reencoder next.Other =
+    elim c.match-next.branch [
+      | in-Made+in_ok-add-in-Made w ↦
+          rest_is i (rest_made i w.in-Made.opcode w.in-Made.fresh w.in-Made.count (rest_at i _ _ w.in-Made.is inv) w.in_ok-add-in-Made.ensures.ok w.pass.ensures.bytes w.pass.ensures.rest)
+          w.reader-is w.function-is w.reencoder-is
+      | in-Other+else-eof+in_ok-instruction-in-Other+in_ok-instruction-in-Other-2 w ↦
+          let given = w.in_ok-instruction-in-Other.ensures in
+          rest_is i (rest_other i instruction_tree w.in_ok-instruction-in-Other.instruction (rest_at i _ _ w.in-Other.is inv) given.default given.taken w.in_ok-instruction-in-Other-2.ensures.ok)
+          w.reader-is w.function-is w.reencoder-is
+    ] in
+    record { deals = (c.match-next.reencoder, refl); same = c.operators.invariant.same; mapped = here }
+
 pub returns-in_err-kept : goal.returns-in_err-kept
 returns-in_err-kept g c =
     let i = g.R.ReencodeIndices in
