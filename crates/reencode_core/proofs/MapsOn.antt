@@ -1,5 +1,5 @@
 -- A body that is mapped from a place on.
-use Rattle.std.proofs.Common.{◌≡◌, ◌≤◌, ◌<◌, ◌+◌, ℕ, List, [], ◌∷◌, ◌++◌, length, length-append, Result, Ok, IsErrAnd, IsTrue, refl, sym, ap, ◌∙◌, drop, take, append_assoc, subst, arith}
+use Rattle.std.proofs.Common.{◌≡◌, ◌≤◌, ◌<◌, ◌+◌, ℕ, List, [], ◌++◌, length, length-append, Result, Ok, IsErrAnd, IsTrue, refl, sym, ap, ◌∙◌, drop, take, append_assoc, subst, arith}
 use Rattle.std.proofs.Math.Seq.{drop-append_seam, take-append_seam}
 use Rattle.wasm_shapes.specs.declared.Opcode.{Opcode}
 use Rattle.wasm_shapes.specs.Place.{Begins}
@@ -23,7 +23,7 @@ use Rattle.reencode_core.specs.Rows.{Asks, locals}
 use Rattle.reencode_items.specs.declared.direct.passing.Fresh.{Fresh}
 use Rattle.reencode_items.specs.declared.direct.passing.Next.{Next}
 use Rattle.reencode_items.specs.declared.direct.passing.Next.TheVariants as next
-use Rattle.reencode_items.specs.Direct.{MakesOperator, PassesNext, PassesRun, SkipsLocals, imm_of}
+use Rattle.reencode_items.specs.Direct.{MakesOperator, PassesNext, PassesRun, SkipsLocals, imms_of}
 use Rattle.reencode_core.specs.Direct.{AcceptsFront, DealsWith, MapsFront}
 use Rattle.reencode_core.proofs.BodyLoop.{OperatorsDone, operators_begin, operators_more, same_locals}
 use Rattle.reencode_core.proofs.EachBody.{BodyClauses, LocalsClauses, OperatorsKept}
@@ -115,7 +115,7 @@ module _ {S E : Type 0} {asked : Asks S E} {bytes : List ℕ} {s0 s : S} {reader
       }
 
   -- an operator was made
-  pub front_made : {op : Opcode} {i : Fresh} {k : ℕ} → MapsFront asked bytes s0 reader f s (next.Made op i k) → f' ≡ with_operator f (operator_tree op (imm_of i ∷ [])) →
+  pub front_made : {op : Opcode} {i : Fresh} {k : ℕ} → MapsFront asked bytes s0 reader f s (next.Made op i k) → f' ≡ with_operator f (operator_tree op (imms_of i)) →
       behind.bytes ≡ reader.bytes → rest_of behind ≡ drop k (rest_of reader) → MapsFront asked bytes s0 behind f' s next.Other
   front_made {k = k} a adds same e =
       let q = a.onward in
@@ -224,7 +224,7 @@ rest_given i inv kept given = record {
 
 -- ---- the next operator
 
-pub made_within : {S E : Type 0} {asked : Asks S E} {s m : S} {bytes : List ℕ} {n : ℕ} {op : Opcode} {i : Imm} → MakesOperator asked s bytes n op i m → (n ≤ length bytes) × (0 < n)
+pub made_within : {S E : Type 0} {asked : Asks S E} {s m : S} {bytes : List ℕ} {n : ℕ} {op : Opcode} {i : List Imm} → MakesOperator asked s bytes n op i m → (n ≤ length bytes) × (0 < n)
 made_within {bytes = bytes} {n = n} q =
     let b = q.there.begins in
     let long : length bytes ≡ length b.text + length q.there.left = ap length b.reads ∙ length-append b.text q.there.left in
@@ -240,7 +240,7 @@ run_deals {asked = asked} {m = m} {count = count} {y = y} p e =
     (p.mid, subst P (sym (e ∙ run_left count p.kept p.counted)) p.onward)
 
 -- by what is next
-pub deals_made : {S E : Type 0} (asked : Asks S E) (m : S) (bytes : List ℕ) (y : Next) (op : Opcode) (i : Fresh) (n : ℕ) → y ≡ next.Made op i n → DealsWith asked bytes m y → (s : S) × MakesOperator asked s bytes n op (imm_of i) m
+pub deals_made : {S E : Type 0} (asked : Asks S E) (m : S) (bytes : List ℕ) (y : Next) (op : Opcode) (i : Fresh) (n : ℕ) → y ≡ next.Made op i n → DealsWith asked bytes m y → (s : S) × MakesOperator asked s bytes n op (imms_of i) m
 deals_made asked m bytes y op i n e d = let P : Next → Type 0 = λ x. DealsWith asked bytes m x in subst P e d
 
 pub front_at : {S E : Type 0} {asked : Asks S E} {bytes : List ℕ} {s0 s : S} {reader : Reading} {f : Body} (y z : Next) → y ≡ z → MapsFront asked bytes s0 reader f s y → MapsFront asked bytes s0 reader f s z

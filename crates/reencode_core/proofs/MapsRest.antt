@@ -19,7 +19,7 @@ use Rattle.reencode_core.specs.Bodies.{KeepsCode}
 use Rattle.reencode_items.specs.declared.direct.passing.Fresh.{Fresh}
 use Rattle.reencode_items.specs.declared.direct.passing.Next.{Next}
 use Rattle.reencode_items.specs.declared.direct.passing.Next.TheVariants as next
-use Rattle.reencode_items.specs.Direct.{PassesRun, Run, StopsRun, imm_of}
+use Rattle.reencode_items.specs.Direct.{PassesRun, Run, StopsRun, imms_of}
 use Rattle.reencode_items.proofs.Runs.{run_added}
 use Rattle.reencode_core.proofs.BodyLoop.{keeps_code}
 use Rattle.reencode_core.proofs.EachBody.{body_added, body_refused, operator_not_added, operator_refused}
@@ -40,7 +40,7 @@ rest_is {S = S} i {reader0 = reader0} {reader = reader} {f0 = f0} {f = f} {f' = 
     subst P (sym e) (subst Q (sym d) (subst R (sym h) inv))
 
 pub rest_made : {S E : Type 0} (i : Ghosts S E) {reader0 reader behind : Reading} {f0 f f' : Body} {s0 s : S} {y0 : Next} (op : Opcode) (fresh : Fresh) (count : ℕ) →
-    RestKept i reader0 f0 s0 y0 reader f s (next.Made op fresh count) → f' ≡ with_operator f (operator_tree op (imm_of fresh ∷ [])) → behind.bytes ≡ reader.bytes →
+    RestKept i reader0 f0 s0 y0 reader f s (next.Made op fresh count) → f' ≡ with_operator f (operator_tree op (imms_of fresh)) → behind.bytes ≡ reader.bytes →
     rest_of behind ≡ drop count (rest_of reader) → RestKept i reader0 f0 s0 y0 behind f' s next.Other
 rest_made i op fresh count inv adds same e = λ k bytes first a. front_made (inv k bytes first a) adds same e
 

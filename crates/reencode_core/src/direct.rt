@@ -1,6 +1,6 @@
 //! The body of a function, mapped as `Reencode::parse_function_body` does by default, and without lists: operators that do
 //! not change are passed by (`reencode_items::direct`) and added as they stand, run by run, or the whole body at once.
-ghost use Rattle.std.specs.Prelude.{◌≡◌, ◌∷◌, [], IfErr, IsTrue, List, OnOk, ℕ};
+ghost use Rattle.std.specs.Prelude.{◌≡◌, IfErr, IsTrue, List, OnOk, map, ℕ};
 ghost use Rattle.wasm_write.specs.Bodies.{with_operator};
 ghost use Rattle.wasm_read.specs.Operations.{rest_of};
 ghost use Rattle.wasm_shapes.specs.Immediates.{HasKinds};
@@ -14,7 +14,7 @@ ghost use Rattle.wasm_shapes.specs.Module.{row_of};
 ghost use Rattle.wasm_shapes.specs.Place.{Begins};
 ghost use Rattle.wasm_shapes.specs.Shape.{Shape, Named};
 ghost use Rattle.wasm_shapes.specs.Tree.{Tree};
-ghost use Rattle.reencode_items.specs.Direct.{imm_of};
+ghost use Rattle.reencode_items.specs.Direct.{imms_of};
 ghost use Rattle.reencode_core.specs.Direct.{DealsWith, GroupMapped, GroupRefused, MapsFront};
 ghost use Rattle.reencode_core.specs.Leaves.{LeavesMade, body_in};
 
@@ -29,16 +29,20 @@ use wasm_shapes::{Opcode, kinds};
 use wasm_write as w;
 use wasm_write::AppendRow;
 
-/// Adds the operator of an opcode and an immediate.
+/// Adds the operator of an opcode and immediates.
 #[inline(always)]
 fn add(function: &mut w::Function, opcode: Opcode, fresh: Fresh) -> Result<(), w::WriteFault>
-    requires { HasKinds opcode (imm_kind (imm_of fresh) ∷ []) }
+    requires { HasKinds opcode (map imm_kind (imms_of fresh)) }
     ensures ok { OnOk result (function.new
-        ≡ with_operator function.old (operator_tree opcode (imm_of fresh ∷ []))) }
+        ≡ with_operator function.old (operator_tree opcode (imms_of fresh))) }
     ensures wants { IfErr result (λ e. e ≡ write.NoMemory) }
 {
     match fresh {
         Fresh::Index(space, index) => function.index_operator(opcode, space, index),
+        Fresh::Two(space, index, other, second) => function.operator(
+            opcode,
+            &[w::Imm::Index(space, index), w::Imm::Index(other, second)],
+        ),
         Fresh::S32(number) => function.operator(opcode, &[w::Imm::S32(number)]),
         Fresh::Mem(arg) => function.operator(opcode, &[w::Imm::Mem(arg)]),
     }

@@ -18,7 +18,7 @@ use Rattle.wasm_read.specs.Operations.{Reading, rest_of}
 use Rattle.wasm_read.specs.Reading.{ReadsNoneOrWants}
 use Rattle.wasm_read.proofs.Codes.{fewer_left}
 use Rattle.wasm_write.specs.Bodies.{AreOperators, HeldOperators}
-use Rattle.wasm_write.specs.Instructions.{Imm, operator_tree}
+use Rattle.wasm_write.specs.Instructions.{operator_tree}
 use Rattle.reencode_hooks.specs.declared.error.Error.{Error}
 use Rattle.reencode_hooks.specs.Errors.{error_of_fault}
 use Rattle.reencode_hooks.specs.Run.{NeverWants, Step, Visited, accepted, ask}
@@ -29,7 +29,7 @@ use Rattle.reencode_items.specs.Rows.{Asks, onto_rows}
 use Rattle.reencode_items.specs.declared.direct.passing.Fresh.{Fresh}
 use Rattle.reencode_items.specs.declared.direct.passing.Next.{Next}
 use Rattle.reencode_items.specs.declared.direct.passing.Next.TheVariants as next
-use Rattle.reencode_items.specs.Direct.{KeepsOperators, MakesOperator, PassesNext, PassesRun, StopsRun, imm_of}
+use Rattle.reencode_items.specs.Direct.{KeepsOperators, MakesOperator, PassesNext, PassesRun, StopsRun, imms_of}
 use Rattle.reencode_items.proofs.Rows.{onto_onto, rows_then-both}
 use Rattle.reencode_items.proofs.Runs.{run_added, run_counted}
 use Rattle.reencode_items.proofs.Expressions.{Ahead, ExpressionDone, begins_there, expression_mapped, expression_step, left_there, one_ahead, refused_here}
@@ -232,18 +232,18 @@ module _ {S E : Type 0} (reply : S → Visit → Result ℕ E) (next_state : S �
           some (omega (arith, p.counted))
 
       -- the operator was made
-      pub run_made : {made' made2 : List Tree} {behind : Reading} (op : Opcode) (f : Fresh) (n : ℕ) (i : Imm) → y ≡ next.Made op f n → made' ≡ made ++ p.kept.operators → i ≡ imm_of f →
-          made2 ≡ made' ++ operator_tree op (i ∷ []) ∷ [] → rest_of behind ≡ drop n (rest_of middle) → ExpressionDone (ask reply next_state) keeps s0 operators behind m made2
-      run_made {behind = behind} op f n i is pushed same more on =
+      pub run_made : {made' made2 : List Tree} {behind : Reading} (op : Opcode) (f : Fresh) (n : ℕ) → y ≡ next.Made op f n → made' ≡ made ++ p.kept.operators →
+          made2 ≡ made' ++ operator_tree op (imms_of f) ∷ [] → rest_of behind ≡ drop n (rest_of middle) → ExpressionDone (ask reply next_state) keeps s0 operators behind m made2
+      run_made {behind = behind} op f n is pushed more on =
           let P : Next → Type 0 = λ z. PassesNext (ask reply next_state) p.mid p.left m z in
-          let o : MakesOperator (ask reply next_state) p.mid p.left n op (imm_of f) m = subst P is p.onward in
+          let o : MakesOperator (ask reply next_state) p.mid p.left n op (imms_of f) m = subst P is p.onward in
           let b = o.there.begins in
           let R : List ℕ → Type 0 = λ z. Begins (Shape.op true) z o.there.operator (o.there.left ++ 0x0b ∷ []) in
           let whole : rest_of middle ≡ b.text ++ (o.there.left ++ 0x0b ∷ []) = behind_run ∙ ap (λ (z : List ℕ). z ++ 0x0b ∷ []) b.reads ∙ append_assoc b.text o.there.left (0x0b ∷ []) in
           let left_behind : rest_of behind ≡ o.there.left ++ 0x0b ∷ [] =
           on ∙ ap (λ (k : ℕ). drop k (rest_of middle)) (sym o.there.counted) ∙ ap (drop (length b.text)) whole ∙ drop-append_seam b.text (o.there.left ++ 0x0b ∷ []) in
-          expression_step (run_done d cut p.kept middle behind_run) (more_than_end b behind_run) (subst R (sym behind_run) (with_end b)) left_behind (operator_tree op (imm_of f ∷ [])) (λ _ c. o.walks c)
-          (more ∙ ap (λ (z : List Tree). z ++ operator_tree op (i ∷ []) ∷ []) pushed ∙ ap (λ (j : Imm). (made ++ p.kept.operators) ++ operator_tree op (j ∷ []) ∷ []) same)
+          expression_step (run_done d cut p.kept middle behind_run) (more_than_end b behind_run) (subst R (sym behind_run) (with_end b)) left_behind (operator_tree op (imms_of f)) (λ _ c. o.walks c)
+          (more ∙ ap (λ (z : List Tree). z ++ operator_tree op (imms_of f) ∷ []) pushed)
 
 -- ---- an operator that is read and mapped
 

@@ -1,5 +1,5 @@
 -- One operator that is passed by, made anew or refused.
-use Rattle.std.proofs.Common.{◌≡◌, ◌≢◌, ◌≤◌, ◌+◌, ◌-◌, zero, suc, ℕ, ℤ, List, [], ◌∷◌, ◌++◌, length, length-append, get_or, Bool, true, false, if◌then◌else◌, Bor, IfNone, IfSome, Option, Some, None, Result, Ok, Err, refl, sym, ap, ◌∙◌, ◌<◌, drop, take, append-nil, append_assoc, subst, arith, inl}
+use Rattle.std.proofs.Common.{◌≡◌, ◌≢◌, ◌≤◌, ◌+◌, ◌-◌, zero, suc, ℕ, ℤ, List, [], ◌∷◌, ◌++◌, length, length-append, get_or, Bool, true, false, ◌&&◌, map, if◌then◌else◌, Bor, IfNone, IfSome, Option, Some, None, Result, Ok, Err, refl, sym, ap, ◌∙◌, ◌<◌, drop, take, append-nil, append_assoc, subst, arith, inl}
 use Rattle.std.proofs.lemmas.Bool.{lt-ltb}
 use Rattle.std.proofs.Math.Seq.{take-length}
 use Rattle.std.proofs.lemmas.List.{append_cancel_right, length-drop, length-take-le, take-append-drop}
@@ -24,7 +24,7 @@ use Rattle.wasm_shapes.specs.Spells.{Is, Spelled}
 use Rattle.wasm_shapes.specs.Place.{Begins}
 use Rattle.wasm_shapes.proofs.Begins.{begins_empty, begins_s32, begins_s64, begins_seq, begins_u32}
 use Rattle.wasm_shapes.specs.Types.{is_core}
-use Rattle.wasm_write.specs.Instructions.{Imm, imm_kind, imm_tree}
+use Rattle.wasm_write.specs.Instructions.{Imm, imm_kind, imms_tree}
 use Rattle.wasm_shapes.specs.Immediates.{AreOfRow}
 use Rattle.wasm_types.specs.declared.types.Imm.TheVariants as imms
 use Rattle.reencode_hooks.specs.declared.error.Error.{Error}
@@ -35,9 +35,11 @@ use Rattle.reencode_hooks.specs.Walk.{walk}
 use Rattle.reencode_items.specs.Rows.{Asks}
 use Rattle.reencode_items.specs.declared.direct.classes.Class.{Class}
 use Rattle.reencode_items.specs.declared.direct.classes.Class.TheVariants as class
+use Rattle.reencode_items.specs.declared.direct.classes.Rare.{Rare}
+use Rattle.reencode_items.specs.declared.direct.classes.Rare.TheVariants as rare
 use Rattle.reencode_items.specs.declared.direct.passing.Next.{Next}
 use Rattle.reencode_items.specs.declared.direct.passing.Next.TheVariants as next
-use Rattle.reencode_items.specs.Direct.{BeginsNormal, HasClass, HasOne, IsHead, IsOfKind, IsUnasked, KeepsOperator, MakesOperator, OperatorThere, PassesNext, PassesS32, RefusesOperator, SkipsClass, SkipsLeaf, SkipsOperator, class_of, class_of_kind, class_of_row, classes_from, imm_of}
+use Rattle.reencode_items.specs.Direct.{BeginsNormal, HasClass, HasOne, HasRare, HasTwo, IsHead, IsOfKind, IsUnasked, KeepsOperator, MakesOperator, OperatorThere, PassesNext, PassesS32, RefusesOperator, SkipsClass, SkipsLeaf, SkipsOperator, class_of, class_of_kind, class_of_row, classes_from, imms_of, labels, rare_of, rare_of_kind, rare_of_row, rare_of_two}
 
 pub class_at : {c d : Class} (op : Opcode) → c ≡ d → HasClass op c → HasClass op d
 class_at op same h = let P : Class → Type 0 = λ z. HasClass op z in subst P same h
@@ -99,6 +101,44 @@ class_from from (c ∷ cs) d e (suc n) h =
 -- what a list of the classes has at a number
 pub class_here : {cs : List Class} (d : Class) (n : ℕ) → cs ≡ classes_from 0 (length cs) → n < length cs → get_or cs n d ≡ class_of (record { prefix = 0; sub = n })
 class_here {cs = cs} d n e h = let same : 0 + n ≡ n = omega arith in class_from 0 cs d e n h ∙ ap (λ (n : ℕ). class_of_row (look_up (one_byte_operators true) n)) same
+
+-- ---- operators of no class
+
+two_indices : (op : Opcode) (s p : Space) (b d : Bool) → is_core s ≡ b → is_core p ≡ d → kinds_of op ≡ Some (kind.Index s ∷ kind.Index p ∷ []) →
+    HasRare op (if b && d then rare.Two s p else rare.Other)
+two_indices op s p true true e f row = record { row = row; first = e; second = f }
+two_indices op s p true false e f row = tt
+two_indices op s p false d e f row = tt
+
+two_of_row : (op : Opcode) (k l : ImmKind) → kinds_of op ≡ Some (k ∷ l ∷ []) → HasRare op (rare_of_two k l)
+two_of_row op (kind.Index s) (kind.Index p) row = two_indices op s p (is_core s) (is_core p) refl refl row
+two_of_row op _ _ row = tt
+
+one_of_row : (op : Opcode) (k : ImmKind) → kinds_of op ≡ Some (k ∷ []) → HasRare op (rare_of_kind k)
+one_of_row op kind.Labels row = row
+one_of_row op _ row = tt
+
+pub has_rare : (op : Opcode) (c : Rare) → c ≡ rare_of op → HasRare op c
+has_rare op c e = let P : Rare → Type 0 = λ z. HasRare op z in subst P (sym e) (go (kinds_of op) refl)
+  where
+    go : (o : Option (List ImmKind)) → kinds_of op ≡ o → HasRare op (rare_of_row o)
+    go None row = tt
+    go (Some []) row = tt
+    go (Some (k ∷ [])) row = one_of_row op k row
+    go (Some (k ∷ l ∷ [])) row = two_of_row op k l row
+    go (Some (k ∷ l ∷ m ∷ ks)) row = tt
+
+-- what has a row has the number of an operator
+pub is_operator : (op : Opcode) {ks : List ImmKind} → kinds_of op ≡ Some ks → is_code (code_of op) ≡ true
+is_operator op {ks = ks} row = code_is (code_of op) ks row
+
+-- it is an operator with labels
+pub labels_row : (op : Opcode) (c : Rare) → c ≡ rare_of op → c ≡ rare.Labels → kinds_of op ≡ Some (kind.Labels ∷ [])
+labels_row op c e is = let P : Rare → Type 0 = λ z. HasRare op z in subst P is (has_rare op c e)
+
+-- it is an operator with two indices
+pub two_row : (op : Opcode) (c : Rare) (s p : Space) → c ≡ rare_of op → c ≡ rare.Two s p → HasTwo op s p
+two_row op c s p e is = let P : Rare → Type 0 = λ z. HasRare op z in subst P is (has_rare op c e)
 
 -- ---- the number of an operator
 
@@ -174,6 +214,21 @@ signed_short bits {b = b} {left = left} wide few e small =
     let one : p.0 ≡ b ∷ [] = append_cancel_right p.0 (b ∷ []) left (sym p.2) in
     let short : length p.0 < 2 = rw one (omega arith) in
     e ∙ p.2 ∙ ap (λ (z : List ℕ). z ++ left) (one_byte_shortest_signed (one_byte_signed b) few p.1 short)
+
+-- one behind another
+pub skips_seq : {a b : Shape} {bytes middle rest : List ℕ} → SkipsLeaf a bytes middle → SkipsLeaf b middle rest → SkipsLeaf (Shape.seq a b) bytes rest
+skips_seq {rest = rest} p q =
+    let first : List ℕ = normal p.tree in
+    let second : List ℕ = normal q.tree in
+    record {
+      tree = Tree.pair p.tree q.tree;
+      begins = record {
+        shaped = Is.seq p.begins.shaped q.begins.shaped;
+        spelled = (first, second, refl, p.begins.spelled, q.begins.spelled);
+        reads = p.begins.reads ∙ ap (λ (z : List ℕ). first ++ z) q.begins.reads ∙ sym (append_assoc first second rest);
+      };
+      unasked = (p.unasked, q.unasked);
+    }
 
 pub skips_short_s32 : {b : ℕ} {bytes left : List ℕ} → bytes ≡ b ∷ left → b < 128 → SkipsLeaf Shape.s32 bytes left
 skips_short_s32 {b = b} e small = record {
@@ -288,12 +343,12 @@ module _ {S E : Type 0} (asked : Asks S E) (s m : S) {bytes rest behind : List �
     walks = λ c. rw (walks c) refl;
   }
 
-  pub makes_one : Begins (shape_of_kind k) rest u behind → (imm : Imm) → imm_kind imm ≡ Some k → ((c : ℕ) → walk asked c s u ≡ accepted (imm_tree imm) m) →
-      MakesOperator asked s bytes (length bytes - length behind) op imm m
-  makes_one p imm same walks = record {
+  pub makes_one : Begins (shape_of_kind k) rest u behind → (imms : List Imm) → map imm_kind imms ≡ Some k ∷ [] → {v : Tree} → imms_tree imms ≡ Tree.pair v Tree.empty →
+      ((c : ℕ) → walk asked c s u ≡ accepted v m) → MakesOperator asked s bytes (length bytes - length behind) op imms m
+  makes_one p imms same treed walks = record {
     there = whole_there h row (one_begins k p);
-    kinds = let R : Option (List ImmKind) → Type 0 = λ o. AreOfRow o (imm_kind imm ∷ []) in subst R (sym row) (ap (λ (z : Option ImmKind). z ∷ []) same);
-    walks = λ c. rw (walks c) refl;
+    kinds = let R : Option (List ImmKind) → Type 0 = λ o. AreOfRow o (map imm_kind imms) in subst R (sym row) same;
+    walks = λ c. rw (walks c) (ap (λ (t : Tree). accepted (Tree.op (code_of op) t) m) (sym treed));
   }
 
   pub refuses_one : Begins (shape_of_kind k) rest u behind → (err : Error E) → ((c : ℕ) → err ≢ NoMemory → walk asked c s u ≡ refused err m) → RefusesOperator asked s bytes err m
@@ -302,6 +357,50 @@ module _ {S E : Type 0} (asked : Asks S E) (s m : S) {bytes rest behind : List �
     left = behind;
     begins = whole_begins h row (one_begins k p);
     refuses = λ c other. rw (walks c other) refl;
+  }
+
+-- two immediates
+abbrev two_begins : (k l : ImmKind) {u w : Tree} {rest middle behind : List ℕ} → Begins (shape_of_kind k) rest u middle → Begins (shape_of_kind l) middle w behind →
+    Begins (shape_of_kinds (k ∷ l ∷ [])) rest (Tree.pair u (Tree.pair w Tree.empty)) behind
+two_begins k l p q = begins_seq p (begins_seq q begins_empty)
+
+-- it has two immediates
+module _ {S E : Type 0} (asked : Asks S E) (s : S) {bytes rest middle behind : List ℕ} {op : Opcode} {k l : ImmKind} {u w : Tree} (h : IsHead bytes op rest) (row : kinds_of op ≡ Some (k ∷ l ∷ []))
+    (p : Begins (shape_of_kind k) rest u middle) (q : Begins (shape_of_kind l) middle w behind) where
+  pub keeps_two : {m n : S} → rest ≡ normal u ++ (normal w ++ behind) → ((c : ℕ) → walk asked c s u ≡ accepted u m) → ((c : ℕ) → walk asked c m w ≡ accepted w n) → KeepsOperator asked s bytes behind n
+  keeps_two e first second =
+      let whole : rest ≡ (normal u ++ (normal w ++ [])) ++ behind =
+      e ∙ ap (λ (z : List ℕ). normal u ++ (z ++ behind)) (sym (append-nil (normal w))) ∙ sym (append_assoc (normal u) (normal w ++ []) behind) in
+      record {
+        operator = Tree.op (code_of op) (Tree.pair u (Tree.pair w Tree.empty));
+        begins = whole_begins h row (begins_normally (normally (two_begins k l p q) whole));
+        normally = refl;
+        walks = λ c. rw (first c, second c) refl;
+      }
+
+  pub makes_two : {m n : S} → (imms : List Imm) → map imm_kind imms ≡ Some k ∷ Some l ∷ [] → {v x : Tree} → imms_tree imms ≡ Tree.pair v (Tree.pair x Tree.empty) →
+      ((c : ℕ) → walk asked c s u ≡ accepted v m) → ((c : ℕ) → walk asked c m w ≡ accepted x n) → MakesOperator asked s bytes (length bytes - length behind) op imms n
+  makes_two {n = n} imms same treed first second = record {
+    there = whole_there h row (two_begins k l p q);
+    kinds = let R : Option (List ImmKind) → Type 0 = λ o. AreOfRow o (map imm_kind imms) in subst R (sym row) same;
+    walks = λ c. rw (first c, second c) (ap (λ (t : Tree). accepted (Tree.op (code_of op) t) n) (sym treed));
+  }
+
+  pub refuses_first : {m : S} → (err : Error E) → ((c : ℕ) → err ≢ NoMemory → walk asked c s u ≡ refused err m) → RefusesOperator asked s bytes err m
+  refuses_first err walks = record {
+    operator = Tree.op (code_of op) (Tree.pair u (Tree.pair w Tree.empty));
+    left = behind;
+    begins = whole_begins h row (two_begins k l p q);
+    refuses = λ c other. rw (walks c other) refl;
+  }
+
+  pub refuses_second : {m n : S} → (err : Error E) → {v : Tree} → ((c : ℕ) → walk asked c s u ≡ accepted v m) → ((c : ℕ) → err ≢ NoMemory → walk asked c m w ≡ refused err n) →
+      RefusesOperator asked s bytes err n
+  refuses_second err first second = record {
+    operator = Tree.op (code_of op) (Tree.pair u (Tree.pair w Tree.empty));
+    left = behind;
+    begins = whole_begins h row (two_begins k l p q);
+    refuses = λ c other. rw (first c, second c other) refl;
   }
 
 -- ---- operators that ask nothing
@@ -356,6 +455,10 @@ skips_class (class.Index s) h one q = absurd q
 skips_class class.Mem h one q = absurd q
 skips_class class.Other h one q = absurd q
 
+-- a table of branches
+pub skips_table : {bytes rest left : List ℕ} {op : Opcode} → IsHead bytes op rest → kinds_of op ≡ Some (kind.Labels ∷ []) → SkipsLeaf labels rest left → SkipsOperator bytes left
+skips_table h row q = skips_leaf h row refl q
+
 -- an operator of one byte of a class
 pub skips_plain : (b : ℕ) (c : Class) {bytes rest left : List ℕ} → bytes ≡ b ∷ rest → c ≡ class_of (record { prefix = 0; sub = b }) → SkipsClass c rest left → SkipsOperator bytes left
 skips_plain b c {rest = rest} {left = left} e same q =
@@ -381,22 +484,28 @@ s32_next asked s h one (Some left) next q = tt
 s32_next asked s h one None next.Other q = refl
 s32_next asked s {bytes = bytes} h one None (next.Made o f n) p =
     let q = p.1 in
-    let M : ℕ → Type 0 = λ z. MakesOperator asked s bytes z o (imm_of f) s in
-    let O : Opcode → Type 0 = λ z. MakesOperator asked s bytes (length bytes - length q.left) z (imm_of f) s in
-    subst M (sym q.counted) (subst O (sym p.0) (makes_one asked s s h (s32_row one) q.begins (imm_of f) q.kind (λ c. ap (λ (t : Tree). accepted t s) (sym q.tree))))
+    let M : ℕ → Type 0 = λ z. MakesOperator asked s bytes z o (imms_of f) s in
+    let O : Opcode → Type 0 = λ z. MakesOperator asked s bytes (length bytes - length q.left) z (imms_of f) s in
+    subst M (sym q.counted) (subst O (sym p.0) (makes_one asked s s h (s32_row one) q.begins (imms_of f) q.kind q.tree (λ c. refl)))
 
 -- ---- an index
 
 abbrev pub index_row : {op : Opcode} {p : Space} → HasOne op (class.Index p) → kinds_of op ≡ Some (kind.Index p ∷ [])
 index_row one = one.row ∙ ap (λ (z : ImmKind). Some (z ∷ [])) one.is.0
 
-pub index_kind_core : (p : Space) (i : ℕ) → is_core p ≡ true → imm_kind (imms.Index p i) ≡ Some (kind.Index p)
+pub index_kind_core : (p : Space) (i : ℕ) → is_core p ≡ true → map imm_kind (imms.Index p i ∷ []) ≡ Some (kind.Index p) ∷ []
 index_kind_core p i h = rw h refl
 
 -- the answer is the index itself
 pub index_kept : {S E : Type 0} (asked : Asks S E) (s : S) {m : S} (p : Space) {i n : ℕ} → ((c : ℕ) → walk asked c s (Tree.ix p i) ≡ accepted (Tree.ix p n) m) → n ≡ i → (c : ℕ) →
     walk asked c s (Tree.ix p i) ≡ accepted (Tree.ix p i) m
 index_kept asked s {m = m} p h same c = h c ∙ ap (λ (z : ℕ). accepted (Tree.ix p z) m) same
+
+-- ---- two indices
+
+-- their kinds, where core modules have their spaces
+pub two_kinds : (p o : Space) (i j : ℕ) → is_core p ≡ true → is_core o ≡ true → map imm_kind (imms.Index p i ∷ imms.Index o j ∷ []) ≡ Some (kind.Index p) ∷ Some (kind.Index o) ∷ []
+two_kinds p o i j h k = rw (h, k) refl
 
 -- ---- a memory access
 

@@ -1,4 +1,4 @@
--- Locals that ask nothing and stand in their normal spelling.
+-- Locals, and other rows, that ask nothing and stand in their normal spelling.
 use Rattle.std.proofs.Common.{◌≡◌, ◌<◌, ◌≤◌, ◌+◌, ◌-◌, ◌^◌, ℕ, List, [], ◌∷◌, ◌++◌, length, refl, sym, ap, ◌∙◌, append_assoc, subst, arith}
 use Rattle.wasm_leb.specs.Leb.{leb}
 use Rattle.wasm_leb.specs.Place.{BeginsNumber}
@@ -7,43 +7,38 @@ use Rattle.wasm_shapes.specs.Module.{local_row}
 use Rattle.wasm_shapes.specs.Shape.{Shape}
 use Rattle.wasm_shapes.specs.Spells.{Is, Spelled}
 use Rattle.wasm_shapes.specs.Tree.{Tree, count, normal}
-use Rattle.wasm_shapes.specs.Types.{rows_tree}
+use Rattle.wasm_shapes.specs.Types.{rows_tree, vector_tree}
 use Rattle.wasm_shapes.proofs.Rows.{snoc_is, snoc_spelled}
 use Rattle.wasm_write.proofs.Holding.{count_rows, snoc_length, snoc_normal}
-use Rattle.reencode_items.specs.Direct.{IsUnasked, SkipsLeaf, SkipsLocals}
-use Rattle.reencode_items.proofs.Passing.{number_is}
+use Rattle.reencode_items.specs.Direct.{BeginsNormal, IsUnasked, SkipsLeaf}
+use Rattle.reencode_items.proofs.Passing.{number_is, skips_seq}
 
 -- a type of numbers behind a number
 pub skips_local : (b : ℕ) {bytes types rest : List ℕ} → SkipsLeaf Shape.u32 bytes types → types ≡ b ∷ rest → 0x7b ≤ b → b < 0x80 → SkipsLeaf local_row bytes rest
-skips_local b {types = types} {rest = rest} p e least most =
-    let number : List ℕ = normal p.tree in
-    record {
-      tree = Tree.pair p.tree (Tree.row (0x7f - b) (Tree.fixed b));
-      begins = record {
-        shaped = Is.seq p.begins.shaped (Is.ref (number_is (0x7f - b) b (omega arith) (omega arith)));
-        spelled = (number, b ∷ [], refl, p.begins.spelled, refl);
-        reads = p.begins.reads ∙ ap (λ (z : List ℕ). number ++ z) e ∙ sym (append_assoc number (b ∷ []) rest);
-      };
-      unasked = (p.unasked, tt);
-    }
+skips_local b p e least most =
+    skips_seq p (record {
+      tree = Tree.row (0x7f - b) (Tree.fixed b);
+      begins = record { shaped = Is.ref (number_is (0x7f - b) b (omega arith) (omega arith)); spelled = refl; reads = e };
+      unasked = tt;
+    })
 
--- so many locals are passed by
-pub record LocalsPassed (start rest : List ℕ) (n : ℕ) : Type 0 where
+-- so many rows are passed by
+pub record RowsPassed (a : Shape) (start rest : List ℕ) (n : ℕ) : Type 0 where
   pub rows : List Tree
   pub counted : length rows ≡ n
-  pub shaped : Is (Shape.many local_row) (rows_tree rows)
+  pub shaped : Is (Shape.many a) (rows_tree rows)
   pub spelled : Spelled (rows_tree rows) (normal (rows_tree rows))
   pub stands : start ≡ normal (rows_tree rows) ++ rest
   pub unasked : IsUnasked (rows_tree rows)
 
-pub none_passed : (start : List ℕ) → LocalsPassed start start 0
-none_passed start = record { rows = []; counted = refl; shaped = Is.nil; spelled = refl; stands = refl; unasked = tt }
+pub none_passed : (a : Shape) (start : List ℕ) → RowsPassed a start start 0
+none_passed a start = record { rows = []; counted = refl; shaped = Is.nil; spelled = refl; stands = refl; unasked = tt }
 
 snoc_unasked : (rows : List Tree) (t : Tree) → IsUnasked (rows_tree rows) → IsUnasked t → IsUnasked (rows_tree (rows ++ t ∷ []))
 snoc_unasked [] t h k = (k, tt)
 snoc_unasked (u ∷ rows) t h k = (h.0, snoc_unasked rows t h.1 k)
 
-pub one_passed : {start rest left : List ℕ} {n : ℕ} → LocalsPassed start rest n → SkipsLeaf local_row rest left → LocalsPassed start left (n + 1)
+pub one_passed : {a : Shape} {start rest left : List ℕ} {n : ℕ} → RowsPassed a start rest n → SkipsLeaf a rest left → RowsPassed a start left (n + 1)
 one_passed {left = left} d q =
     let t : Tree = q.tree in
     let text : List ℕ = normal (rows_tree d.rows) in
@@ -58,18 +53,15 @@ one_passed {left = left} d q =
     }
 
 -- all of them are
-pub all_passed : (n k : ℕ) {bytes start rest : List ℕ} → BeginsNumber 128 32 32 bytes n start → bytes ≡ leb n ++ start → LocalsPassed start rest k → k ≡ n → SkipsLocals bytes rest
-all_passed n k {bytes = bytes} {start = start} {rest = rest} b e d same =
+pub all_passed : {a : Shape} (n k : ℕ) {bytes start rest : List ℕ} → BeginsNumber 128 32 32 bytes n start → bytes ≡ leb n ++ start → (d : RowsPassed a start rest k) → k ≡ n →
+    BeginsNormal (Shape.vec a) bytes (vector_tree d.rows) rest
+all_passed n k {rest = rest} b e d same =
     let few : n < 2 ^ 32 = b.1.fits in
     let are : count (rows_tree d.rows) ≡ n = count_rows d.rows ∙ d.counted ∙ same in
     let text : List ℕ = normal (rows_tree d.rows) in
     let small : count (rows_tree d.rows) < 2 ^ 32 = rw are few in
     record {
-      rows = d.rows;
-      begins = record {
-        shaped = Is.vec d.shaped;
-        spelled = (leb (count (rows_tree d.rows)), text, refl, leb_spells (count (rows_tree d.rows)) small, d.spelled);
-        reads = e ∙ ap (λ (z : List ℕ). leb n ++ z) d.stands ∙ sym (append_assoc (leb n) text rest) ∙ ap (λ (j : ℕ). (leb j ++ text) ++ rest) (sym are);
-      };
-      unasked = d.unasked;
+      shaped = Is.vec d.shaped;
+      spelled = (leb (count (rows_tree d.rows)), text, refl, leb_spells (count (rows_tree d.rows)) small, d.spelled);
+      reads = e ∙ ap (λ (z : List ℕ). leb n ++ z) d.stands ∙ sym (append_assoc (leb n) text rest) ∙ ap (λ (j : ℕ). (leb j ++ text) ++ rest) (sym are);
     }

@@ -1,5 +1,5 @@
 -- What is mapped from bytes to bytes: the whole, by calls that map its parts.
-use Rattle.std.proofs.Common.{◌≡◌, ◌≢◌, ◌≤◌, ℕ, suc, ◌+◌, ◌-◌, ◌<◌, ◌^◌, Bool, List, [], ◌∷◌, ◌++◌, length, length-append, length-take, take-take, take, drop, Bor, Option, Some, None, Result, Ok, Err, IsTrue, zero, true, ap₂, inl, inr, refl, sym, ap, ◌∙◌, append_assoc, append-nil, subst, arith}
+use Rattle.std.proofs.Common.{◌≡◌, ◌≢◌, ◌≤◌, ℕ, suc, ◌+◌, ◌<◌, ◌^◌, List, [], ◌∷◌, ◌++◌, length, length-append, length-take, take-take, take, Bor, Option, Some, None, Result, Ok, Err, IsTrue, zero, true, ap₂, inl, refl, sym, ap, ◌∙◌, append_assoc, append-nil, subst, arith}
 use Rattle.std.proofs.Math.Seq.{drop-append_seam, take-append_seam, take-length}
 use Rattle.wasm_leb.specs.Leb.{leb}
 use Rattle.wasm_leb.specs.Place.{BeginsNumber}
@@ -24,7 +24,7 @@ use Rattle.wasm_write.proofs.Holding.{count_rows, snoc_length, snoc_normal}
 use Rattle.reencode_hooks.specs.declared.error.Error.{Error}
 use Rattle.reencode_hooks.specs.declared.error.Error.TheVariants.{NoMemory}
 use Rattle.reencode_hooks.specs.declared.indices.ReencodeIndices.{Ghosts}
-use Rattle.reencode_hooks.specs.Run.{Step, Visited, LeavesVisited, NeverWants, accepted, refused, and_then, ask}
+use Rattle.reencode_hooks.specs.Run.{Step, Visited, NeverWants, accepted, refused, and_then, ask}
 use Rattle.reencode_hooks.specs.Walk.{walk}
 use Rattle.reencode_items.specs.Maps.{Maps}
 use Rattle.reencode_items.specs.Rows.{Asks, onto_rows}

@@ -5,7 +5,7 @@ use Rattle.wasm_leb.specs.Place.{BeginsNumber}
 use Rattle.wasm_leb.proofs.Unique.{unsigned_unique}
 use Rattle.wasm_shapes.specs.declared.Space.TheVariants as space
 use Rattle.wasm_shapes.specs.Tree.{Tree, count}
-use Rattle.wasm_shapes.specs.Shape.{Shape, Named, choice, lead, rows_and, inner_rows, described_rows, describing_rows, composite_rows, sub_rows, group_rows, final_sub, open_sub}
+use Rattle.wasm_shapes.specs.Shape.{Shape, Named, choice, lead, rows_and, inner_rows, described_rows, describing_rows, sub_rows, final_sub}
 use Rattle.wasm_shapes.specs.NamedShapes.{shape_of}
 use Rattle.wasm_shapes.specs.Spells.{Is, Spelled}
 use Rattle.wasm_shapes.specs.Place.{Begins, BeginsNone}

@@ -1,8 +1,10 @@
 -- Operators that are passed by, and those that change.
-use Rattle.std.specs.Prelude.{◌≡◌, ◌≢◌, ◌<◌, ◌≤◌, ◌+◌, ◌-◌, ℕ, zero, suc, ℤ, List, [], ◌∷◌, ◌++◌, length, true, if◌then◌else◌, Option, Some, None}
+use Rattle.std.specs.Prelude.{◌≡◌, ◌≢◌, ◌<◌, ◌≤◌, ◌+◌, ◌-◌, ℕ, zero, suc, ℤ, List, [], ◌∷◌, ◌++◌, length, map, true, ◌&&◌, if◌then◌else◌, Option, Some, None}
+use Rattle.wasm_leb.specs.Place.{BeginsNumber}
 use Rattle.wasm_shapes.specs.declared.ImmKind.{ImmKind}
 use Rattle.wasm_shapes.specs.declared.ImmKind.TheVariants as kind
 use Rattle.wasm_shapes.specs.declared.Opcode.{Opcode}
+use Rattle.wasm_shapes.specs.declared.Space.{Space}
 use Rattle.wasm_shapes.specs.Operators.{code_of, is_code, kinds_of, look_up, one_byte_operators}
 use Rattle.wasm_shapes.specs.Shape.{Shape, block_type, shape_of_kind}
 use Rattle.wasm_shapes.specs.Tree.{Tree, code_bytes, normal}
@@ -10,7 +12,7 @@ use Rattle.wasm_shapes.specs.Spells.{Is, Spelled, SpelledCode}
 use Rattle.wasm_shapes.specs.Place.{Begins}
 use Rattle.wasm_shapes.specs.Module.{local_row}
 use Rattle.wasm_shapes.specs.Types.{is_core, vector_tree}
-use Rattle.wasm_write.specs.Instructions.{Imm, imm_kind, imm_tree, operator_tree}
+use Rattle.wasm_write.specs.Instructions.{Imm, imm_kind, imms_tree, operator_tree}
 use Rattle.wasm_types.specs.declared.types.Imm.TheVariants as imm
 use Rattle.wasm_write.specs.Bodies.{AreOperators}
 use Rattle.wasm_shapes.specs.Immediates.{HasKinds}
@@ -21,6 +23,8 @@ use Rattle.reencode_hooks.specs.Walk.{walk}
 use Rattle.reencode_items.specs.Rows.{Asks, AcceptsRows}
 use Rattle.reencode_items.specs.declared.direct.classes.Class.{Class}
 use Rattle.reencode_items.specs.declared.direct.classes.Class.TheVariants as class
+use Rattle.reencode_items.specs.declared.direct.classes.Rare.{Rare}
+use Rattle.reencode_items.specs.declared.direct.classes.Rare.TheVariants as rare
 use Rattle.reencode_items.specs.declared.direct.passing.Fresh.{Fresh}
 use Rattle.reencode_items.specs.declared.direct.passing.Fresh.TheVariants as fresh
 use Rattle.reencode_items.specs.declared.direct.passing.Next.{Next}
@@ -85,6 +89,46 @@ HasClass op class.Bare = kinds_of op ≡ Some []
 HasClass op class.Other = Unit {0}
 HasClass op c = HasOne op c
 
+-- ---- operators of no class
+
+-- what one immediate alone is
+abbrev pub rare_of_kind : ImmKind → Rare
+rare_of_kind kind.Labels = rare.Labels
+rare_of_kind _ = rare.Other
+
+-- what two immediates are
+abbrev pub rare_of_two : ImmKind → ImmKind → Rare
+rare_of_two (kind.Index s) (kind.Index p) = if is_core s && is_core p then rare.Two s p else rare.Other
+rare_of_two _ _ = rare.Other
+
+-- what a row of immediates is
+abbrev pub rare_of_row : Option (List ImmKind) → Rare
+rare_of_row None = rare.Other
+rare_of_row (Some []) = rare.Other
+rare_of_row (Some (k ∷ [])) = rare_of_kind k
+rare_of_row (Some (k ∷ l ∷ [])) = rare_of_two k l
+rare_of_row (Some (k ∷ l ∷ m ∷ ks)) = rare.Other
+
+-- what the immediates of an operator are
+abbrev pub rare_of : Opcode → Rare
+rare_of op = rare_of_row (kinds_of op)
+
+-- the labels of a table of branches, and the one for all other numbers
+abbrev pub labels : Shape
+labels = Shape.seq (Shape.vec Shape.u32) Shape.u32
+
+-- the operator has two immediates, which are indices of these spaces of core modules
+pub record HasTwo (op : Opcode) (s p : Space) : Type 0 where
+  pub row : kinds_of op ≡ Some (kind.Index s ∷ kind.Index p ∷ [])
+  pub first : is_core s ≡ true
+  pub second : is_core p ≡ true
+
+-- the operator has such immediates
+abbrev pub HasRare : Opcode → Rare → Type 0
+HasRare op rare.Labels = kinds_of op ≡ Some (kind.Labels ∷ [])
+HasRare op (rare.Two s p) = HasTwo op s p
+HasRare op rare.Other = Unit {0}
+
 -- ---- what stands at the front of some bytes
 
 -- the number of an operator, in its normal spelling, and these bytes behind it
@@ -99,6 +143,12 @@ pub record BeginsNormal (shape : Shape) (bytes : List ℕ) (tree : Tree) (left :
   pub spelled : Spelled tree (normal tree)
   pub reads : bytes ≡ normal tree ++ left
 
+-- two numbers without sign of 32 bits one behind another, and these bytes behind them
+pub record BeginsTwo (bytes : List ℕ) (n k : ℕ) (left : List ℕ) : Type 0 where
+  pub middle : List ℕ
+  pub first : BeginsNumber 128 32 32 bytes n middle
+  pub second : BeginsNumber 128 32 32 middle k left
+
 -- an operator, spelled by so many bytes
 pub record OperatorThere (bytes : List ℕ) (n : ℕ) : Type 0 where
   pub operator : Tree
@@ -108,11 +158,12 @@ pub record OperatorThere (bytes : List ℕ) (n : ℕ) : Type 0 where
 
 -- ---- what is done with it
 
--- the immediate that is written
-abbrev pub imm_of : Fresh → Imm
-imm_of (fresh.Index s i) = imm.Index s i
-imm_of (fresh.S32 z) = imm.S32 z
-imm_of (fresh.Mem m) = imm.Mem m
+-- the immediates that are written
+abbrev pub imms_of : Fresh → List Imm
+imms_of (fresh.Index s i) = imm.Index s i ∷ []
+imms_of (fresh.Two s i p j) = imm.Index s i ∷ imm.Index p j ∷ []
+imms_of (fresh.S32 z) = imm.S32 z ∷ []
+imms_of (fresh.Mem m) = imm.Mem m ∷ []
 
 -- It stands in its normal spelling with these bytes behind it, and is mapped to itself.
 pub record KeepsOperator {S E : Type 0} (asked : Asks S E) (s : S) (bytes left : List ℕ) (m : S) : Type 0 where
@@ -121,11 +172,11 @@ pub record KeepsOperator {S E : Type 0} (asked : Asks S E) (s : S) (bytes left :
   pub normally : begins.text ≡ normal operator
   pub walks : (c : ℕ) → walk asked c s operator ≡ accepted operator m
 
--- It is mapped to the operator of an opcode and an immediate.
-pub record MakesOperator {S E : Type 0} (asked : Asks S E) (s : S) (bytes : List ℕ) (n : ℕ) (op : Opcode) (imm : Imm) (m : S) : Type 0 where
+-- It is mapped to the operator of an opcode and these immediates.
+pub record MakesOperator {S E : Type 0} (asked : Asks S E) (s : S) (bytes : List ℕ) (n : ℕ) (op : Opcode) (imms : List Imm) (m : S) : Type 0 where
   pub there : OperatorThere bytes n
-  pub kinds : HasKinds op (imm_kind imm ∷ [])
-  pub walks : (c : ℕ) → walk asked c s there.operator ≡ accepted (operator_tree op (imm ∷ [])) m
+  pub kinds : HasKinds op (map imm_kind imms)
+  pub walks : (c : ℕ) → walk asked c s there.operator ≡ accepted (operator_tree op imms) m
 
 -- It is refused.
 pub record RefusesOperator {S E : Type 0} (asked : Asks S E) (s : S) (bytes : List ℕ) (e : Error E) (m : S) : Type 0 where
@@ -136,7 +187,7 @@ pub record RefusesOperator {S E : Type 0} (asked : Asks S E) (s : S) (bytes : Li
 
 -- It is made anew, or nothing was asked of it.
 abbrev pub PassesNext : {S E : Type 0} → Asks S E → S → List ℕ → S → Next → Type 0
-PassesNext asked s bytes m (next.Made op f n) = MakesOperator asked s bytes n op (imm_of f) m
+PassesNext asked s bytes m (next.Made op f n) = MakesOperator asked s bytes n op (imms_of f) m
 PassesNext asked s bytes m next.Other = m ≡ s
 
 -- ---- immediates that ask nothing
@@ -186,8 +237,8 @@ pub record MakesS32 (bytes rest : List ℕ) (made : Fresh) (n : ℕ) : Type 0 wh
   pub left : List ℕ
   pub begins : Begins Shape.s32 rest (Tree.s32 number) left
   pub counted : n ≡ length bytes - length left
-  pub tree : imm_tree (imm_of made) ≡ Tree.s32 number
-  pub kind : imm_kind (imm_of made) ≡ Some kind.S32
+  pub tree : imms_tree (imms_of made) ≡ Tree.pair (Tree.s32 number) Tree.empty
+  pub kind : map imm_kind (imms_of made) ≡ Some kind.S32 ∷ []
 
 -- the number is written anew, or nothing was done
 abbrev pub PassesS32 : Opcode → List ℕ → List ℕ → Next → Type 0

@@ -1,7 +1,7 @@
 -- What is mapped from bytes to bytes: whatever stands at the front of some bytes is walked, and what it becomes is appended to others
 -- in its normal spelling. `i` are the meanings of the reencoder, `s` is its state before and `m` the one after; `old` are the bytes
 -- that are appended to, `new` the same after it.
-use Rattle.std.specs.Prelude.{◌≡◌, ◌≢◌, ◌+◌, ◌<◌, ◌^◌, ◌⊎◌, ℕ, List, [], ◌∷◌, ◌++◌, length, take, drop, Option, Some, None, Result, Ok, Err, IsTrue}
+use Rattle.std.specs.Prelude.{◌≡◌, ◌≢◌, ◌<◌, ◌^◌, ℕ, List, ◌∷◌, ◌++◌, length, take, drop, Option, Some, None, Result, Ok, Err, IsTrue}
 use Rattle.std.specs.Borrow.{Bor}
 use Rattle.wasm_leb.specs.Leb.{leb}
 use Rattle.wasm_leb.specs.Place.{BeginsNumber}

@@ -1,7 +1,7 @@
 //! The classes of operators that are passed without lists.
 ghost use Rattle.std.specs.Prelude.{◌≡◌};
 ghost use Rattle.wasm_shapes.specs.Operators.{is_prefix};
-ghost use Rattle.reencode_items.specs.Direct.{class_of, class_of_kind};
+ghost use Rattle.reencode_items.specs.Direct.{class_of, class_of_kind, rare_of, rare_of_kind, rare_of_two};
 
 use wasm_shapes::{ImmKind, Opcode, Space, row_of};
 
@@ -159,5 +159,58 @@ pub fn class_by_row(opcode: Opcode) -> Class
         Some([]) => Class::Bare,
         Some([kind]) => class_of_kind(*kind),
         _ => Class::Other,
+    }
+}
+
+/// The immediates of an operator of no class.
+#[derive(Clone, Copy, Debug)]
+pub enum Rare {
+    /// The labels of a table of branches.
+    Labels,
+    /// Two indices, each of a space of core modules.
+    Two(Space, Space),
+    /// It has others.
+    Other,
+}
+
+/// What one immediate alone is.
+fn rare_of_kind(kind: ImmKind) -> Rare
+    ensures { result ≡ rare_of_kind kind }
+{
+    match kind {
+        ImmKind::Labels => Rare::Labels,
+        _ => Rare::Other,
+    }
+}
+
+/// What two immediates are.
+fn rare_of_two(first: ImmKind, second: ImmKind) -> Rare
+    ensures { result ≡ rare_of_two first second }
+{
+    match (first, second) {
+        (ImmKind::Index(space), ImmKind::Index(other)) => rare_of_spaces(space, other),
+        _ => Rare::Other,
+    }
+}
+
+/// Two indices, where core modules have their spaces.
+fn rare_of_spaces(space: Space, other: Space) -> Rare
+    ensures { result ≡ rare_of_two (ImmKind.Index space) (ImmKind.Index other) }
+{
+    if space.is_core() && other.is_core() {
+        Rare::Two(space, other)
+    } else {
+        Rare::Other
+    }
+}
+
+/// What the immediates of an operator are, by its row.
+pub fn rare_by_row(opcode: Opcode) -> Rare
+    ensures { result ≡ rare_of opcode }
+{
+    match row_of(opcode) {
+        Some([kind]) => rare_of_kind(*kind),
+        Some([first, second]) => rare_of_two(*first, *second),
+        _ => Rare::Other,
     }
 }

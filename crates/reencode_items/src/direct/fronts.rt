@@ -5,6 +5,7 @@ ghost use Rattle.wasm_leb.specs.Place.{BeginsNumber, BeginsSigned};
 ghost use Rattle.wasm_shapes.specs.Place.{Begins};
 ghost use Rattle.wasm_shapes.specs.Shape.{Shape};
 ghost use Rattle.wasm_shapes.specs.Tree.{Tree, normal};
+ghost use Rattle.reencode_items.specs.Direct.{BeginsTwo};
 
 use wasm_leb::{
     front_byte, front_s32, front_s64, front_u32, front_u64, is_shortest, is_shortest_signed,
@@ -109,5 +110,21 @@ pub fn front_access(bytes: &[u8]) -> Option<(u8, u64, bool, &[u8])>
             None => None,
         },
         _ => None,
+    }
+}
+
+/// Two numbers of 32 bits without sign, whether both stand in their shortest spelling, and the bytes behind them.
+#[inline(always)]
+pub fn front_two(bytes: &[u8]) -> Option<(u32, u32, bool, &[u8])>
+    ensures begins { IfSome result (λ r. BeginsTwo bytes.now r.0 r.1 r.3.now) }
+    ensures short { IfSome result
+        (λ r. IsTrue r.2 → bytes.now ≡ leb r.0 ++ (leb r.1 ++ r.3.now)) }
+{
+    match front_number(bytes) {
+        Some((first, whole, middle)) => match front_number(middle) {
+            Some((second, short, rest)) => Some((first, second, whole && short, rest)),
+            None => None,
+        },
+        None => None,
     }
 }

@@ -2,7 +2,7 @@
 ghost use Rattle.std.specs.Prelude.{IfSome};
 ghost use Rattle.wasm_shapes.specs.Module.{local_row};
 ghost use Rattle.wasm_shapes.specs.Shape.{Shape, block_type};
-ghost use Rattle.reencode_items.specs.Direct.{SkipsClass, SkipsLeaf, SkipsLocals, SkipsOperator};
+ghost use Rattle.reencode_items.specs.Direct.{SkipsClass, SkipsLeaf, SkipsLocals, SkipsOperator, labels};
 
 use crate::direct::classes::{Class, class_of_byte};
 use crate::direct::fronts::{front_long, front_number, front_signed};
@@ -87,6 +87,35 @@ fn skip_block(bytes: &[u8]) -> Option<&[u8]>
         return None;
     }
     if first < 0x80 { Some(rest) } else { None }
+}
+
+/// The bytes behind so many numbers of 32 bits without sign, as the number in front of them says, that stand in their normal spelling.
+fn skip_numbers(bytes: &[u8]) -> Option<&[u8]>
+    ensures { IfSome result (λ rest. SkipsLeaf (Shape.vec Shape.u32) bytes.now rest.now) }
+{
+    let Some((count, true, behind)) = front_number(bytes) else {
+        return None;
+    };
+    let mut rest = behind;
+    let mut left = count;
+    'numbers: while left > 0 {
+        let Some(behind) = skip_number(rest) else {
+            return None;
+        };
+        rest = behind;
+        left -= 1;
+    }
+    Some(rest)
+}
+
+/// The bytes behind the labels of a table of branches, and the one for all other numbers, that stand in their normal spelling.
+pub fn skip_labels(bytes: &[u8]) -> Option<&[u8]>
+    ensures { IfSome result (λ rest. SkipsLeaf labels bytes.now rest.now) }
+{
+    match skip_numbers(bytes) {
+        Some(behind) => skip_number(behind),
+        None => None,
+    }
 }
 
 /// The bytes behind an immediate of a class that asks nothing and stands in its normal spelling. None says nothing.

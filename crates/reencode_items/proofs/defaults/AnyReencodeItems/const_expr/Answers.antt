@@ -32,8 +32,8 @@ returns-then-kept-bytes g c =
     let added = run_gains i.reply i.next c.operators.invariant c.rest-left.ensures run c.in_ok-spelled.ensures.ok in
     record { default = λ k. run_finished i.reply i.next c.operators.invariant c.rest-left.ensures run k c.if-kept-bytes.true added; after_error = search rules }
 
-pub returns-in_err-operator-in-Made : goal.returns-in_err-operator-in-Made
-returns-in_err-operator-in-Made g c =
+pub returns-in_err-add-in-Made : goal.returns-in_err-add-in-Made
+returns-in_err-add-in-Made g c =
     let i = g.T.ReencodeIndices in
     record { default = search rules; after_error = λ k sure. visited_left _ (run_left_there i.reply i.next c.operators.invariant c.rest-left.ensures c.in_ok-kept.ensures.ok k) }
 
@@ -42,7 +42,7 @@ operators-preserved-in-Made g c = let i = g.T.ReencodeIndices in
     let run = c.in_ok-kept.ensures.ok in
     let added = run_gains i.reply i.next c.operators.invariant c.rest-left.ensures run c.in_ok-spelled.ensures.ok in
     let m = c.in-Made in
-    run_made i.reply i.next c.operators.invariant c.rest-left.ensures run c.pass.new.self c.pass.ensures.rest m.opcode m.fresh m.count c.imm.result m.is added c.imm.ensures c.in_ok-operator-in-Made.ensures.ok c.pass-in-Made.ensures.rest
+    run_made i.reply i.next c.operators.invariant c.rest-left.ensures run c.pass.new.self c.pass.ensures.rest m.opcode m.fresh m.count m.is added c.in_ok-add-in-Made.ensures.ok c.pass-in-Made.ensures.rest
 
 pub returns-in_err-operator-in-Other : goal.returns-in_err-operator-in-Other
 returns-in_err-operator-in-Other g c =

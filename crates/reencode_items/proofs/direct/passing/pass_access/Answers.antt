@@ -1,6 +1,3 @@
-use Rattle.std.proofs.Common.{◌∙◌, ap, sym}
-use Rattle.wasm_shapes.specs.Tree.{Tree}
-use Rattle.reencode_hooks.specs.Run.{accepted}
 use Rattle.reencode_items.proofs.Passing.{keeps_one, makes_one, mem_kept, mem_made, mem_refused, mem_row, normally, refuses_one}
 use Rattle.reencode_items.proofs.direct.passing.pass_access.Goals as goal
 
@@ -13,8 +10,8 @@ returns-then-short-clause-kept g c =
 pub returns-else-memory-eq0-clause-next : goal.returns-else-memory-eq0-clause-next
 returns-else-memory-eq0-clause-next g c =
     let i = g.R.ReencodeIndices in
-    makes_one _ _ _ c.requires.head (mem_row c.requires.one) c.in-Some.ensures.begins _ c.fresh_access.ensures.kind
-    (λ n. mem_made i.reply i.next _ _ _ _ _ c.in-Ok.ensures.answer n ∙ ap (λ (t : Tree). accepted t c.memory_index.new.self) (sym c.fresh_access.ensures.tree))
+    makes_one _ _ _ c.requires.head (mem_row c.requires.one) c.in-Some.ensures.begins _ c.fresh_access.ensures.kind c.fresh_access.ensures.tree
+    (mem_made i.reply i.next _ _ _ _ _ c.in-Ok.ensures.answer)
 
 pub returns-in-Err-clause-err : goal.returns-in-Err-clause-err
 returns-in-Err-clause-err g c =

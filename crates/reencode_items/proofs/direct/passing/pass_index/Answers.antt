@@ -1,3 +1,4 @@
+use Rattle.std.proofs.Common.{refl}
 use Rattle.wasm_shapes.proofs.Begins.{begins_ix}
 use Rattle.reencode_hooks.specs.Run.{ask}
 use Rattle.reencode_items.proofs.Passing.{index_kept, index_kind_core, index_row, keeps_one, makes_one, normally, refuses_one}
@@ -11,7 +12,7 @@ returns-then-short-clause-kept g c =
 
 pub returns-else-answer-index-clause-next : goal.returns-else-answer-index-clause-next
 returns-else-answer-index-clause-next g c =
-    makes_one _ _ _ c.requires.head (index_row c.requires.one) (begins_ix c.in-Some.ensures.begins) _ (index_kind_core c.args.space c.in-Ok.answer c.requires.one.is.1)
+    makes_one _ _ _ c.requires.head (index_row c.requires.one) (begins_ix c.in-Some.ensures.begins) _ (index_kind_core c.args.space c.in-Ok.answer c.requires.one.is.1) refl
     (c.in-Ok.ensures.default c.requires.one.is.1)
 
 pub returns-in-Err-clause-err : goal.returns-in-Err-clause-err

@@ -18,7 +18,7 @@ returns-clause-next c =
         left = c.in-Some.behind.now;
         begins = begins_s32 c.in-Some.number c.in-Some.ensures.begins;
         counted = refl;
-        tree = ap (λ (z : ℤ). Tree.s32 z) (to_z-of_z w32 c.in-Some.number fits);
+        tree = ap (λ (z : ℤ). Tree.pair (Tree.s32 z) Tree.empty) (to_z-of_z w32 c.in-Some.number fits);
         kind = refl;
       },
     )

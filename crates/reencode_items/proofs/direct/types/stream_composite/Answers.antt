@@ -1,6 +1,6 @@
 use Rattle.std.proofs.Common.{◌∷◌, [], refl}
 use Rattle.std.proofs.Math.Seq.{take-length}
-use Rattle.wasm_shapes.specs.Shape.{Named, Shape, choice, composite_rows, describing_rows, lead}
+use Rattle.wasm_shapes.specs.Shape.{Named, choice, composite_rows, describing_rows, lead}
 use Rattle.wasm_shapes.specs.Spells.{Is}
 use Rattle.wasm_shapes.proofs.Begins.{at_byte, none_at_end, none_here}
 use Rattle.wasm_shapes.proofs.Parts.{among}

@@ -1,15 +1,10 @@
-use Rattle.std.proofs.Common.{◌<◌, ◌^◌, arith, refl}
-use Rattle.std.proofs.Math.Seq.{take-length}
-use Rattle.wasm_shapes.specs.declared.Space.TheVariants as space
-use Rattle.wasm_shapes.specs.Shape.{Named, Shape, field}
-use Rattle.wasm_shapes.specs.Spells.{Is}
-use Rattle.wasm_shapes.specs.Tree.{Tree}
-use Rattle.wasm_shapes.proofs.Begins.{begins_ix, begins_sx, none_ix, none_sx}
+use Rattle.std.proofs.Common.{refl}
+use Rattle.wasm_shapes.specs.Shape.{field}
 use Rattle.wasm_shapes.proofs.Frameless.{frameless_spells}
 use Rattle.wasm_read.specs.Types as read
 use Rattle.wasm_write.specs.Types as write
 use Rattle.wasm_write.proofs.TypeShapes.{field_is}
-use Rattle.reencode_items.proofs.Streaming.{item_stops, item_streams, item_unwritten, kept_len, none_streams}
+use Rattle.reencode_items.proofs.Streaming.{item_stops, item_streams, item_unwritten, kept_len}
 use Rattle.reencode_items.proofs.direct.types.stream_field.Goals as goal
 
 pub returns-in-Ok-write_field_type : goal.returns-in-Ok-write_field_type

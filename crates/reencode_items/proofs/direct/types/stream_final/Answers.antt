@@ -1,7 +1,6 @@
-use Rattle.std.proofs.Common.{◌≡◌, ◌≢◌, ◌∷◌, List, ℕ, arith, refl, subst}
+use Rattle.std.proofs.Common.{ℕ, refl, subst}
 use Rattle.std.proofs.Math.Seq.{take-length}
 use Rattle.wasm_leb.specs.Place.{BeginsNumber}
-use Rattle.wasm_shapes.specs.Shape.{Named, Shape}
 use Rattle.wasm_shapes.proofs.Begins.{none_seq_first}
 use Rattle.wasm_read.proofs.TypeRows.{final_none}
 use Rattle.wasm_read.proofs.Vectors.{none_vec_count}

@@ -1,8 +1,7 @@
-use Rattle.std.proofs.Common.{◌≡◌, ◌≢◌, ◌∷◌, List, ℕ, arith, refl, subst, sym}
+use Rattle.std.proofs.Common.{◌≢◌, arith, refl}
 use Rattle.std.proofs.Math.Seq.{take-length}
-use Rattle.wasm_shapes.specs.Shape.{Named, Shape, sub_rows}
+use Rattle.wasm_shapes.specs.Shape.{Named, sub_rows}
 use Rattle.wasm_shapes.proofs.Begins.{at_byte, none_at_end, none_here}
-use Rattle.reencode_items.specs.Streams.{Streams}
 use Rattle.reencode_items.proofs.Streaming.{alone_streams, kept_same, led_streams, named_streams, none_streams, unasked_stops, uncounted}
 use Rattle.reencode_items.proofs.TypeParts.{parts}
 use Rattle.reencode_items.proofs.direct.types.stream_sub_type.Goals as goal

@@ -1,4 +1,4 @@
-use Rattle.std.proofs.Common.{◌<◌, ◌^◌, arith, refl}
+use Rattle.std.proofs.Common.{refl}
 use Rattle.std.proofs.Math.Seq.{take-length}
 use Rattle.wasm_read.proofs.Vectors.{none_vec_count}
 use Rattle.reencode_items.proofs.Streaming.{kept_same, none_streams, unasked_stops, vec_streams}
