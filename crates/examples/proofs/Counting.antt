@@ -21,7 +21,7 @@ use Rattle.reencode_hooks.specs.declared.rule.ByRule.{ByRule}
 use Rattle.reencode_hooks.specs.declared.shift.IndexOverflow.{IndexOverflow}
 use Rattle.reencode_hooks.specs.declared.shift.Shift.{Shift}
 use Rattle.reencode_hooks.specs.Errors.{error_of_write}
-use Rattle.reencode_hooks.specs.Hooks.{HasTooLarge, RefusesSection, RepliesSection, at_section}
+use Rattle.reencode_hooks.specs.Hooks.{RefusesSection, RepliesSection, at_section}
 use Rattle.reencode_hooks.specs.Rules.{by_rule}
 use Rattle.reencode_hooks.specs.Shifts.{shifted}
 use Rattle.reencode_hooks.proofs.Walks.{walk_is_run}
@@ -33,7 +33,7 @@ use Rattle.reencode_core.specs.Rows.{GivesRows, KeepsFront, locals}
 use Rattle.reencode_core.proofs.EachBody.{body_added}
 use Rattle.reencode_core.proofs.RowLoop.{kept_on}
 use Rattle.reencode_core.proofs.MapsOn.{begins_of, front_begun, front_other, here_of, made_of}
-use Rattle.examples.specs.Counter.{AddsBehind, AddsEntered, asks_mover, entered, entry_call, entry_due, entry_import, entry_section, moved, mover}
+use Rattle.examples.specs.Counter.{AddsBehind, AddsEntered, asks_mover, entered, entry_call, entry_due, entry_section, moved, mover}
 
 module _ {S : Type 0} (imports : S → List Tree) (s : S) (old : Sections) (after before : Option SectionId) (due : entry_due after before ≡ true) where
   refuses : (w : WriteFault) → IfTooLarge w (λ size. (size ≡ length (normal (vector_tree (imports s)))) × (old.ceiling < size)) →
