@@ -31,15 +31,14 @@ rows_begin k begun {reader = reader} read = record {
   ahead = λ others r. (Tree.vec others, vec_spelled read.counted r, refl);
 }
 
--- what is listed of a row, by the lister that moved to it
-pub row_listed : (k : SectionId) (t : Tree) (now there after : Placing) {p : Place} {n m : ℕ} → there ≡ record now { place = p } → p ≡ in_row k n → n ≡ m → Lists t there after →
-    after.listing ≡ put_all now.listing (placed (in_row k m) (visits t))
-row_listed k t now there after moves is number lists =
-    lists ∙ ap (λ (z : Placing). put_all z.listing (placed z.place (visits t))) (moves ∙ ap (λ (q : Place). record now { place = q }) (is ∙ ap (in_row k) number))
+-- what is listed of a tree by a lister that moved there
+pub listed_at : (t : Tree) (now there after : Placing) {p q : Place} → there ≡ record now { place = p } → p ≡ q → Lists t there after → Gains now after (placed q (visits t))
+listed_at t now there after moves is lists =
+    lists ∙ ap (λ (z : Placing). put_all z.listing (placed z.place (visits t))) (moves ∙ ap (λ (x : Place). record now { place = x }) is)
 
 -- one row more
 pub rows_more : {shape : Shape} (k : SectionId) {text : List ℕ} {begun now after : Placing} {reader reader' : Standing} {t : Tree} → RowsSoFar shape k text begun now reader →
-    RowRead shape reader t reader' → after.listing ≡ put_all now.listing (placed (in_row k (reader.count - reader.left)) (visits t)) → RowsSoFar shape k text begun after reader'
+    RowRead shape reader t reader' → Gains now after (placed (in_row k (reader.count - reader.left)) (visits t)) → RowsSoFar shape k text begun after reader'
 rows_more {shape} k {begun = begun} {reader = reader} {reader' = reader'} {t = t} so_far read lists =
     let more : reader.left ≡ suc reader'.left = omega (arith, read.counted) in
     let number : reader.count - reader.left ≡ so_far.passed = omega (arith, so_far.counted) in
