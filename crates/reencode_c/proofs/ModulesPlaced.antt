@@ -8,11 +8,11 @@ use Rattle.wasm_shapes.specs.Shape.{Shape}
 use Rattle.wasm_shapes.specs.Spells.{Is, Spells}
 use Rattle.wasm_shapes.specs.Place.{Begins}
 use Rattle.wasm_shapes.specs.SectionTable.{number}
-use Rattle.wasm_shapes.specs.Module.{CoreReading, InFrame, ReadsCustom, body_of, core_header, custom_frame, custom_tree_of, frame, numbered_frame, sections, tree_of, unknown_tree_of}
+use Rattle.wasm_shapes.specs.Module.{CoreReading, InFrame, ReadsContents, body_of, core_header, custom_frame, custom_tree_of, frame, numbered_frame, sections, tree_of, unknown_tree_of}
 use Rattle.wasm_shapes.proofs.SectionLaws.{frame_id, in_frames}
 use Rattle.reencode_c.specs.declared.outcome.ListedVisit.{ListedVisit}
 use Rattle.reencode_c.specs.Places.{Gains, body_placed, module_placed, section_placed}
-use Rattle.reencode_c.specs.Visits.{Listing, Placing, in_section, placed, put_all}
+use Rattle.reencode_c.specs.Visits.{Listing, Placing, in_section, nowhere, placed, put_all}
 use Rattle.reencode_c.proofs.Lists.{put_all-append}
 
 -- ---- one section
@@ -61,8 +61,10 @@ module _ {E : Type 0} (text : List ℕ) (begun now : Placing) (r : Result (Unit 
       go (Ok x) p = let P : Shape → Type 0 = λ z. Is z p.0 in (p.0, p.1, p.2 ∙ ap (put_all begun.listing) (sym (one p.0 (subst P shape p.1.shaped))))
       go (Err e) p = tt
 
-pub custom_in_its_frame : (name contents : List ℕ) → (t : Tree) × ReadsCustom name contents t → (t : Tree) × InFrame t (custom_frame name contents)
-custom_in_its_frame name contents r = let u = r.1.0 in (custom_tree_of (Tree.pair (Tree.name name) u), InFrame.of_custom name contents u r.1.2)
+-- nor is what stands in a custom section
+pub of_custom : (name contents : List ℕ) (begun now : Placing) (u : Tree) → ReadsContents name contents u → Gains begun now (placed nowhere (visits (custom_tree_of (Tree.pair (Tree.name name) u)))) →
+    (t : Tree) × InFrame t (custom_frame name contents) × Gains begun now (section_placed t)
+of_custom name contents begun now u reads listed = (custom_tree_of (Tree.pair (Tree.name name) u), InFrame.of_custom name contents u reads, listed)
 
 -- ---- the loop
 
