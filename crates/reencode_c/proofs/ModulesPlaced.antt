@@ -1,5 +1,5 @@
 -- The loop over the sections of a module that lists what each asks, by its rows.
-use Rattle.std.proofs.Common.{◌≡◌, ℕ, ◌≤◌, List, [], ◌∷◌, ◌++◌, Result, OnOk, Ok, Err, refl, sym, ap, ◌∙◌, subst, lit≤, append_assoc, append-nil}
+use Rattle.std.proofs.Common.{◌≡◌, ℕ, ◌≤◌, List, [], ◌++◌, Result, OnOk, Ok, Err, refl, sym, ap, ◌∙◌, subst, lit≤, append_assoc, append-nil}
 use Rattle.wasm_shapes.specs.declared.SectionId.{SectionId}
 use Rattle.wasm_shapes.specs.declared.SectionId.TheVariants as id
 use Rattle.wasm_shapes.specs.declared.Space.{Space}

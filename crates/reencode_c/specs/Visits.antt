@@ -1,5 +1,5 @@
 -- The visits of a binary as they are listed, where they stand, and answers to them in the same order.
-use Rattle.std.specs.Prelude.{◌≡◌, ◌+◌, ◌-◌, ◌^◌, ◌++◌, ℕ, Bool, true, false, List, [], ◌∷◌, drop, map, min, nat_lt, replicate, slice_set, Option, Some, None, Result, Ok, if◌then◌else◌, refl}
+use Rattle.std.specs.Prelude.{◌≡◌, ◌+◌, ◌-◌, ◌^◌, ◌++◌, ℕ, Bool, true, false, List, [], ◌∷◌, drop, map, min, nat_lt, replicate, slice_set, Some, None, Result, Ok, if◌then◌else◌, refl}
 use Rattle.std.specs.Coded.{Coded, code_by, coded×, coded_list, coded_ℕ}
 use Rattle.std.proofs.lemmas.Bool.{ltb-true}
 use Rattle.wasm_shapes.specs.declared.SectionId.{SectionId}

@@ -1,6 +1,6 @@
 use Rattle.wasm_shapes.specs.SectionTable.{number}
 use Rattle.wasm_shapes.specs.Module.{custom_frame, numbered_frame}
-use Rattle.reencode_c.proofs.ModulesPlaced.{sections_begin, sections_ended, sections_more, sections_unknown}
+use Rattle.reencode_c.proofs.ModulesPlaced.{sections_ended, sections_more, sections_unknown}
 use Rattle.reencode_c.proofs.modules.list_module.Goals as goal
 
 pub sections-preserved-in-Ok-list_section : goal.sections-preserved-in-Ok-list_section
