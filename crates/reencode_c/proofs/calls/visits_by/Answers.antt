@@ -9,8 +9,8 @@ use Rattle.reencode_c.proofs.calls.visits_by.Goals as goal
 pub fail-requires : goal.fail-requires
 fail-requires c = has_status (stopped lister_reply lister_next 4294967295 c.args.bytes.now c.args.lister c.reencode_within.new.r c.in-Err.e c.in-Err.ensures)
 
-pub returns-in-Err-clause-ends : goal.returns-in-Err-clause-ends
-returns-in-Err-clause-ends c =
+pub returns-clause-ends : goal.returns-clause-ends
+returns-clause-ends c =
     told (AreVisits c.args.bytes.now) ⊥ ⊥ (IsErrorOf (hooks_by lister_reply lister_next) c.args.lister 4294967295 c.args.bytes.now) c.fail.new.self c.args.room.now c.in-Err.e
     (stopped lister_reply lister_next 4294967295 c.args.bytes.now c.args.lister c.reencode_within.new.r c.in-Err.e c.in-Err.ensures) c.fail.ensures
 
