@@ -1,4 +1,4 @@
-use Rattle.std.proofs.Common.{false, length, ap, ◌∙◌}
+use Rattle.std.proofs.Common.{length, ap, ◌∙◌}
 use Rattle.wasm_shapes.specs.Tree.{visits}
 use Rattle.reencode_c.specs.Ends.{IsErrorOf, hooks_by}
 use Rattle.reencode_c.specs.Outputs.{AreVisits}

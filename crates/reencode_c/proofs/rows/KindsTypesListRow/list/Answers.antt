@@ -10,6 +10,6 @@ pub returns : goal.returns
 returns c =
     let P : Result (Unit {0}) NoMemory → Type 0 = λ r. OnOk r (Lists (group_tree c.args.row) c.args.lister.now c.parse_recursive_type_group.new.self) in
     elim c.match-parse_recursive_type_group.branch [
-      in-Ok w ↦ subst P (sym w.result-is) (listed_walk 0 _ _ (group_tree c.args.row) _ (w.in-Ok.ensures.default refl 0))
+      | in-Ok w ↦ subst P (sym w.result-is) (listed_walk 0 _ _ (group_tree c.args.row) _ (w.in-Ok.ensures.default refl 0))
       | in-Err w ↦ subst P (sym w.result-is) tt
     ]
