@@ -128,7 +128,7 @@ def visits(data: Data) -> List[Visit]:
     """The visits of the binary, in order: each occurrence of an index, and the begin and the end of each scope; each with its place.
 
     >>> module = b"\\0asm\\1\\0\\0\\0" + bytes.fromhex("01040160000003020100070501016600000a0601040010000b")
-    >>> [(visit.section, visit.row) for visit in hyssopplinth.visits(module) if visit.space == hyssopplinth.Space.FUNCTION]
+    >>> [(visit.section, visit.row) for visit in visits(module) if visit.space == Space.FUNCTION]
     [(<Section.EXPORT: 7>, 0), (<Section.CODE: 10>, 0)]
     """
     rows = _visits(_bytes(data))
