@@ -8,11 +8,11 @@
 #include <stdio.h>
 #include <stdlib.h>
 
-/* The version of the library whose calls stand here: 0.2 brought the tools over core modules. */
+/* The version of the library whose calls stand here: 0.2 brought the tools over core modules, 0.3 the places of visits. */
 #define REENCODE_VERSION_MAJOR 0
-#define REENCODE_VERSION_MINOR 2
+#define REENCODE_VERSION_MINOR 3
 #define REENCODE_VERSION_PATCH 0
-#define REENCODE_VERSION "0.2.0"
+#define REENCODE_VERSION "0.3.0"
 
 #ifdef __cplusplus
 extern "C" {
@@ -74,9 +74,38 @@ struct reencode_entry {
     uint32_t space, from, to;
 };
 
-/* A visit: one occurrence of an index, or the begin or end of a scope, of which all but `kind` is 0. */
+/* The sections of core modules, by their ids. */
+enum {
+    REENCODE_CUSTOM_SECTION = 0,
+    REENCODE_TYPE_SECTION = 1,
+    REENCODE_IMPORT_SECTION = 2,
+    REENCODE_FUNCTION_SECTION = 3,
+    REENCODE_TABLE_SECTION = 4,
+    REENCODE_MEMORY_SECTION = 5,
+    REENCODE_GLOBAL_SECTION = 6,
+    REENCODE_EXPORT_SECTION = 7,
+    REENCODE_START_SECTION = 8,
+    REENCODE_ELEMENT_SECTION = 9,
+    REENCODE_CODE_SECTION = 10,
+    REENCODE_DATA_SECTION = 11,
+    REENCODE_DATA_COUNT_SECTION = 12,
+    REENCODE_TAG_SECTION = 13
+};
+
+/* What stands in no row that is told. No section has a row of this number. */
+#define REENCODE_NO_ROW UINT32_MAX
+
+/* A visit: one occurrence of an index, or the begin or end of a scope, of which `space`, `count` and `index` are 0; and where it stands.
+
+   In a core module `section` is the id of its section, and `row` the number of the row in that section, counted from 0: of an import,
+   a type or a group of types, a function's type, a table, a memory, a global, an export, an element segment, a function's body, a data
+   segment or a tag. So a function's own index is that of its body and the number of the imported ones. REENCODE_NO_ROW stands for what
+   is in no row: the start (section 8), the data count (12), and the names of a custom section (0).
+
+   In a component rows are not told: `row` is REENCODE_NO_ROW. In the sections from 1 to 13 of a core module inside it `section` is the
+   id. Everywhere else it is 0: in its own sections, in custom ones, and at the begin and the end of a scope. */
 struct reencode_visit {
-    uint32_t kind, space, count, index;
+    uint32_t kind, space, count, index, section, row;
 };
 
 /* What a call answers. A call writes all of it; what does not go with the status is 0. */
@@ -145,7 +174,7 @@ static inline uint32_t reencode_rename(const uint8_t *bytes, size_t length, cons
                                strict, ceiling, REENCODE_SOME(uint8_t, room), room_length, outcome);
 }
 
-/* The visits, in order. They depend on the bytes alone. It takes as much memory as the room has. */
+/* The visits, in order, with their places. They depend on the bytes alone. It takes as much memory as the room has. */
 static inline uint32_t reencode_visits(const uint8_t *bytes, size_t length,
                                        struct reencode_visit *room, size_t room_count, struct reencode_outcome *outcome) {
     return reencode_raw_visits(REENCODE_SOME(uint8_t, bytes), length,

@@ -3,7 +3,7 @@
 
 renumber.py LIBRARY plain IN OUT | rename IN OUT TABLE | answer IN OUT TABLE
 
-LIBRARY is the path of libhyssopplinth.so.0.
+LIBRARY is the path of libhyssopplinth.so.1.
 """
 import ctypes
 import sys
@@ -18,7 +18,7 @@ class Entry(ctypes.Structure):
 
 
 class Visit(ctypes.Structure):
-    _fields_ = [(name, ctypes.c_uint32) for name in ("kind", "space", "count", "index")]
+    _fields_ = [(name, ctypes.c_uint32) for name in ("kind", "space", "count", "index", "section", "row")]
 
 
 class Outcome(ctypes.Structure):

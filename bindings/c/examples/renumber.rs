@@ -19,6 +19,8 @@ struct Visit {
     space: u32,
     count: u32,
     index: u32,
+    section: u32,
+    row: u32,
 }
 
 #[repr(C)]

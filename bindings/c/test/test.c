@@ -21,9 +21,10 @@
 #if defined(__STDC_VERSION__) && __STDC_VERSION__ >= 201112L
 _Static_assert(sizeof(struct reencode_entry) == 12, "entry");
 _Static_assert(offsetof(struct reencode_entry, from) == 4 && offsetof(struct reencode_entry, to) == 8, "entry");
-_Static_assert(sizeof(struct reencode_visit) == 16, "visit");
+_Static_assert(sizeof(struct reencode_visit) == 24, "visit");
 _Static_assert(offsetof(struct reencode_visit, space) == 4 && offsetof(struct reencode_visit, count) == 8, "visit");
-_Static_assert(offsetof(struct reencode_visit, index) == 12, "visit");
+_Static_assert(offsetof(struct reencode_visit, index) == 12 && offsetof(struct reencode_visit, section) == 16, "visit");
+_Static_assert(offsetof(struct reencode_visit, row) == 20, "visit");
 _Static_assert(sizeof(struct reencode_outcome) == 64 && sizeof(size_t) == 8, "outcome");
 _Static_assert(offsetof(struct reencode_outcome, length) == 0 && offsetof(struct reencode_outcome, place) == 8, "outcome");
 _Static_assert(offsetof(struct reencode_outcome, size) == 16 && offsetof(struct reencode_outcome, status) == 24, "outcome");
@@ -307,7 +308,10 @@ static void print_result(const struct test_case *it, const struct result *result
     printf("%u %zu %u %u %u ", o->by, o->count, o->stated, o->rows, o->id);
     if (it->call == VISITS && o->status == REENCODE_DONE) {
         const struct reencode_visit *visits = (const struct reencode_visit *)(const void *)result->made;
-        for (i = 0; i < o->length; i++) printf("%s%u:%u:%u:%u", i ? "," : "", visits[i].kind, visits[i].space, visits[i].count, visits[i].index);
+        for (i = 0; i < o->length; i++) {
+            const struct reencode_visit *v = &visits[i];
+            printf("%s%u:%u:%u:%u:%u:%u", i ? "," : "", v->kind, v->space, v->count, v->index, v->section, v->row);
+        }
     } else if (it->call == CALLS && o->status == REENCODE_DONE) {
         print_numbers((const uint32_t *)(const void *)result->made, o->length);
     } else {

@@ -33,17 +33,19 @@ from ._library import LibraryNotFound
 from .errors import (ArgumentError, CodeSectionSizeError, DanglingError, Error, ExportClashError, InputError, LibraryError, MergeError,
                      MiscountedError, NonComponentError, NonCoreModuleError, OrderError, OutOfMemory, ParseError, RefusedError,
                      RenamingError, RepeatedSectionError, TooLargeError, TwoStartsError, UnevenError, error_of)
-from .spaces import Kind, Space, Visit, space_number
+from .spaces import Kind, Section, Space, Visit, space_number
 from .texts import ReadRenaming, read_order, read_renaming
 
-__version__ = "0.2.0"
+__version__ = "0.3.0"
 __all__ = ["NO_CEILING", "ArgumentError", "Calls", "CodeSectionSizeError", "DanglingError", "Error", "ExportClashError", "InputError",
            "Kind", "LibraryError", "LibraryNotFound", "MergeError", "MiscountedError", "NonComponentError", "NonCoreModuleError",
            "OrderError", "OutOfMemory", "ParseError", "Pruned", "ReadRenaming", "RefusedError", "RenamingError", "RepeatedSectionError",
-           "Space", "TooLargeError", "TwoStartsError", "UnevenError", "Visit", "answer", "answer_all", "calls", "library_path", "merge",
+           "Section", "Space", "TooLargeError", "TwoStartsError", "UnevenError", "Visit", "answer", "answer_all", "calls", "library_path", "merge",
            "plain", "prune", "read_order", "read_renaming", "rename", "renumber", "visits"]
 
 NO_CEILING = 0xFFFFFFFF
+
+_NO_ROW = 0xFFFFFFFF
 
 Data = Union[bytes, bytearray, memoryview]
 SpaceLike = Union[Space, str, int]
@@ -113,21 +115,26 @@ def rename(data: Data, renaming: Renaming, *, strict: bool = False, ceiling: int
 
 
 def _visits(data: bytes) -> array:
-    """The visits, each in four numbers."""
+    """The visits, each in six numbers."""
     raw = _library.library()[1].reencode_raw_visits
-    outcome, room = _library.in_room("I", len(data) // 8 + 64, lambda *out: raw(data, len(data), *out), words=4)
+    outcome, room = _library.in_room("I", len(data) // 8 + 64, lambda *out: raw(data, len(data), *out), words=6)
     if outcome.status:
         raise error_of(outcome, NO_CEILING)
-    del room[4 * outcome.length:]
+    del room[6 * outcome.length:]
     return room
 
 
 def visits(data: Data) -> List[Visit]:
-    """The visits of the binary, in order: each occurrence of an index, and the begin and the end of each scope."""
+    """The visits of the binary, in order: each occurrence of an index, and the begin and the end of each scope; each with its place.
+
+    >>> module = b"\\0asm\\1\\0\\0\\0" + bytes.fromhex("01040160000003020100070501016600000a0601040010000b")
+    >>> [(visit.section, visit.row) for visit in visits(module) if visit.space == Space.FUNCTION]
+    [(<Section.EXPORT: 7>, 0), (<Section.CODE: 10>, 0)]
+    """
     rows = _visits(_bytes(data))
-    kinds, spaces = list(Kind), list(Space)
-    return [Visit(kinds[kind], spaces[space] if kind <= 1 else None, count, index)
-            for kind, space, count, index in zip(rows[0::4], rows[1::4], rows[2::4], rows[3::4])]
+    kinds, spaces, sections = list(Kind), list(Space), list(Section)
+    return [Visit(kinds[kind], spaces[space] if kind <= 1 else None, count, index, sections[section], None if row == _NO_ROW else row)
+            for kind, space, count, index, section, row in zip(*(rows[place::6] for place in range(6)))]
 
 
 def answer(data: Data, ask: Callable[[Space, int], int], *, ceiling: int = NO_CEILING) -> bytes:
@@ -139,8 +146,8 @@ def answer(data: Data, ask: Callable[[Space, int], int], *, ceiling: int = NO_CE
     data = _bytes(data)
     rows = _visits(data)
     spaces = list(Space)
-    answers = array("I", [0]) * (len(rows) // 4)
-    for place, (kind, space, index) in enumerate(zip(rows[0::4], rows[1::4], rows[3::4])):
+    answers = array("I", [0]) * (len(rows) // 6)
+    for place, (kind, space, index) in enumerate(zip(rows[0::6], rows[1::6], rows[3::6])):
         if kind <= 1:
             answers[place] = ask(spaces[space], index)
     del rows

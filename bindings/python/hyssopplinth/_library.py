@@ -7,7 +7,7 @@ import threading
 from array import array
 from typing import Any, Callable, Iterable, List, Optional, Tuple
 
-NAME = "libhyssopplinth.so.0"
+NAME = "libhyssopplinth.so.1"
 
 DONE, NO_MEMORY, TOO_SMALL, EXPORT_CLASH = 0, 1, 16, 19
 

@@ -55,10 +55,35 @@ class Kind(enum.IntEnum):
     POP = 3
 
 
+class Section(enum.IntEnum):
+    """A section of a core module, by its id."""
+    CUSTOM = 0
+    TYPE = 1
+    IMPORT = 2
+    FUNCTION = 3
+    TABLE = 4
+    MEMORY = 5
+    GLOBAL = 6
+    EXPORT = 7
+    START = 8
+    ELEMENT = 9
+    CODE = 10
+    DATA = 11
+    DATA_COUNT = 12
+    TAG = 13
+
+
 class Visit(NamedTuple):
-    """One occurrence of an index, or the begin or the end of a scope, which has no space, and 0 for its numbers."""
+    """One occurrence of an index, or the begin or the end of a scope, which has no space, and 0 for its count and index; and where it
+    stands.
+
+    CUSTOM are custom sections; of a component also its own sections, and what begins and ends scopes. In a component no row is told.
+    """
     kind: Kind
     space: Optional[Space]
     #: how many scopes further out
     count: int
     index: int
+    section: Section
+    #: the number of the row in the section, of code that of the body, from 0: None where it stands in none
+    row: Optional[int]

@@ -25,6 +25,11 @@ def listed(items):
     return ",".join(map(str, items))
 
 
+def shown(visit):
+    row = 0xFFFFFFFF if visit.row is None else visit.row
+    return f"{visit.kind:d}:{visit.space or 0:d}:{visit.count}:{visit.index}:{visit.section:d}:{row}"
+
+
 def by_table(data, entries, ceiling):
     """By a table at each index: by a function, and by answers to the visits that are listed, of which one more is refused."""
     table = {entry[:2]: entry[2] for entry in entries}
@@ -63,7 +68,7 @@ def run(call, ceiling, strict, entries, word):
         return len(made), 0, listed(made)
     if call == "visits":
         rows = h.visits(data)
-        return len(rows), 0, ",".join(f"{row.kind:d}:{row.space or 0:d}:{row.count}:{row.index}" for row in rows)
+        return len(rows), 0, ",".join(shown(row) for row in rows)
     if call == "plain":
         made = h.plain(data, ceiling=ceiling)
     elif call == "rename":

@@ -87,7 +87,9 @@ class Calls(unittest.TestCase):
 
     def test_visits_are_answered_in_their_places(self):
         rows = h.visits(ALIASING)
-        self.assertEqual(rows, [(h.Kind.PUSH, None, 0, 0), (h.Kind.OUTER, Space.TYPE, 1, 0), (h.Kind.POP, None, 0, 0)])
+        custom = h.Section.CUSTOM
+        self.assertEqual(rows, [(h.Kind.PUSH, None, 0, 0, custom, None), (h.Kind.OUTER, Space.TYPE, 1, 0, custom, None),
+                                (h.Kind.POP, None, 0, 0, custom, None)])
         self.assertEqual(h.answer_all(ALIASING, [7, 6, 5])[-1], 6)
         self.assertEqual(h.answer(ALIASING, lambda space, index: 200)[-2:], b"\xc8\1")
         with self.assertRaises(h.MiscountedError) as said:
@@ -95,6 +97,23 @@ class Calls(unittest.TestCase):
         self.assertEqual((said.exception.wanted, said.exception.status), (3, 15))
         self.assertEqual(h.visits(HEAD), [])
         self.assertEqual(h.answer_all(HEAD, []), HEAD)
+
+    def test_visits_have_places(self):
+        index, section = h.Kind.INDEX, h.Section
+        self.assertEqual(h.visits(CALLING), [
+            (index, Space.TYPE, 0, 0, section.IMPORT, 0),
+            *((index, Space.TYPE, 0, 0, section.FUNCTION, row) for row in range(3)),
+            (index, Space.FUNCTION, 0, 1, section.EXPORT, 0),
+            (index, Space.FUNCTION, 0, 3, section.CODE, 0), (index, Space.FUNCTION, 0, 0, section.CODE, 0)])
+        # a start and a name stand in no row
+        more = CALLING[:-16] + bytes.fromhex("080103") + CALLING[-16:] + bytes.fromhex("000b 046e616d65 010401020166")
+        rows = [row for row in h.visits(more) if row not in h.visits(CALLING)]
+        self.assertEqual(rows, [(index, Space.FUNCTION, 0, 3, section.START, None), (index, Space.FUNCTION, 0, 2, section.CUSTOM, None)])
+        # in a module that is in a component, the section is told
+        inner = HEAD + bytes.fromhex("010401600000 03020100 0a040102000b")
+        rows = h.visits(COMPONENT + bytes((1, len(inner))) + inner)
+        self.assertEqual([(row.kind, row.section, row.row) for row in rows],
+                         [(h.Kind.PUSH, section.CUSTOM, None), (index, section.FUNCTION, None), (h.Kind.POP, section.CUSTOM, None)])
 
     def test_functions_move_and_go(self):
         self.assertEqual(h.renumber(TWO, [1, 0]), MOVED)

@@ -42,6 +42,8 @@ pub(crate) struct ListedVisit {
     pub space: u32,
     pub count: u32,
     pub index: u32,
+    pub section: u32,
+    pub row: u32,
 }
 
 /// `struct reencode_outcome`.

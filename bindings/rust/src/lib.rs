@@ -39,7 +39,7 @@ pub use error::{By, Error};
 pub use reencoder::{reencode, reencode_within, Reencode, RoundtripReencoder};
 pub use renaming::Renaming;
 pub use space::Space;
-pub use visits::{Visit, Visits};
+pub use visits::{Place, Visit, Visits};
 
 /// The ceiling where there is no wish.
 pub const NO_CEILING: u32 = u32::MAX;

@@ -6,7 +6,7 @@
 //! index, the module, the count, the stated number, the rows, the id, and the output, as the head of test.c says.
 use hyssopplinth::{
     answer_within, calls, merge_within, plain_within, prune_within, reencode_within, rename_within, renumber_within, visits, By, Error,
-    Reencode, Renaming, Space, Visit, Visits,
+    Place, Reencode, Renaming, Space, Visit, Visits,
 };
 use std::collections::HashMap;
 use std::convert::Infallible;
@@ -53,13 +53,14 @@ fn listed(numbers: &[u32]) -> String {
     numbers.iter().map(u32::to_string).collect::<Vec<_>>().join(",")
 }
 
-fn shown(visit: Visit) -> String {
-    match visit {
+fn shown((place, visit): (Place, Visit)) -> String {
+    let asked = match visit {
         Visit::Index { space, index } => format!("0:{}:0:{index}", space.number()),
         Visit::Outer { space, count, index } => format!("1:{}:{count}:{index}", space.number()),
         Visit::Push => "2:0:0:0".to_string(),
         Visit::Pop => "3:0:0:0".to_string(),
-    }
+    };
+    format!("{asked}:{}:{}", place.section, place.row.unwrap_or(u32::MAX))
 }
 
 fn made(bytes: Vec<u8>) -> (usize, usize, String) {
@@ -116,7 +117,7 @@ fn run(call: &str, ceiling: u32, strict: bool, entries: &str, data: &str) -> Cam
             rename_within(&bytes, &renaming, ceiling).map(made)
         }
         "answer" => by_table(&bytes, &table(), ceiling),
-        "visits" => visits(&bytes).map(|rows| (rows.len(), 0, rows.iter().map(shown).collect::<Vec<_>>().join(","))),
+        "visits" => visits(&bytes).map(|rows| (rows.len(), 0, rows.placed().map(shown).collect::<Vec<_>>().join(","))),
         "renumber" => renumber_within(&bytes, &numbers(entries, ','), ceiling).map(made),
         "prune" => {
             prune_within(&bytes, ceiling).map(|it| (it.bytes.len(), it.kept.len(), format!("{}:{}", hex(&it.bytes), listed(&it.kept))))

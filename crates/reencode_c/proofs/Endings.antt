@@ -1,10 +1,13 @@
 -- How calls end, from the clauses of the re-encoding of a whole binary.
 use Rattle.std.proofs.Common.{◌≡◌, ◌≢◌, ◌⊎◌, inl, inr, ℕ, ◌+◌, ◌<◌, ◌≤◌, ◌++◌, List, [], ◌∷◌, All, length, take, Vec, Bool, true, false, nat_lt, ltb-true, ltb-false, Result, Ok, Err, refl, sym, ap, ap₂, ◌∙◌, subst, arith}
 use Rattle.std.proofs.Math.Nat.{min-eq_left, min-eq_right}
+use Rattle.std.proofs.lemmas.List.{length-replicate}
 use Rattle.std.specs.Global.{Global}
 use Rattle.wasm_shapes.specs.declared.Visit.{Visit}
 use Rattle.wasm_shapes.specs.Fits.{Fits}
+use Rattle.wasm_shapes.specs.Module.{CoreReading, NoCoreReading, core_tree}
 use Rattle.wasm_shapes.specs.Tree.{Tree, fill, normal, visits}
+use Rattle.wasm_shapes.proofs.Laws.{module_headed}
 use Rattle.reencode_hooks.specs.declared.asked.Unmapped.{Unmapped}
 use Rattle.reencode_hooks.specs.declared.error.Error.{Error}
 use Rattle.reencode_hooks.specs.declared.error.Error.TheVariants as error
@@ -13,7 +16,7 @@ use Rattle.reencode_core.specs.Clauses.{asks}
 use Rattle.reencode_component.specs.Causes.{IfFault}
 use Rattle.reencode_component.specs.ComponentLaws.{IsTaken}
 use Rattle.reencode_component.specs.Within.{WithinClauses}
-use Rattle.reencode_component.specs.WithinLaws.{BinaryFault, as_binary}
+use Rattle.reencode_component.specs.WithinLaws.{BinaryFault, ReadsBinary, as_binary}
 use Rattle.reencode_component.proofs.WithinLaws.{binary_error_tells, binary_output}
 use Rattle.reencode_c.specs.declared.entries.EntryFault.{EntryFault}
 use Rattle.reencode_c.specs.declared.entries.EntryFault.TheVariants.{NoSpace, NoMemory}
@@ -22,10 +25,12 @@ use Rattle.reencode_c.specs.declared.outcome.ListedVisit.{ListedVisit}
 use Rattle.reencode_c.specs.declared.outcome.Outcome.{Outcome}
 use Rattle.reencode_c.specs.Ends.{Ends, HasStatus, IsErrorOf, IsPut, IsTooSmall, Tells, bare, hooks_by}
 use Rattle.reencode_c.specs.Entries.{FirstWithoutSpace, HasSpace, IsBad, IsBadRenaming, Renaming, TellsFault, renaming_reply}
-use Rattle.reencode_c.specs.Outputs.{AreVisits, IsAnswered, IsMiscounted, IsPlain, IsRenamed}
-use Rattle.reencode_c.specs.Visits.{Answering, Listing, all_listed, answers_next, answers_reply, dealt, lister_next, lister_reply, put_all, tally}
+use Rattle.reencode_c.specs.Outputs.{ArePlaced, AreVisits, IsAnswered, IsMiscounted, IsPlain, IsRenamed}
+use Rattle.reencode_c.specs.Places.{Gains, module_placed}
+use Rattle.reencode_c.specs.Visits.{Answering, Listing, Placing, all_listed, answers_next, answers_reply, dealt, listed_scope, lister_next, lister_reply, listing_none, nowhere, placed, tally}
 use Rattle.reencode_c.proofs.Lists.{put_count, put_front, put_length}
 use Rattle.reencode_c.proofs.Runs.{Dealt, dealt_run, listed_run, renamed_run, unchanged}
+use Rattle.reencode_c.proofs.Unplaced.{unplaced_module, unplaced_visits}
 
 -- ---- any reencoder that answers by one method
 
@@ -202,50 +207,67 @@ below n h = go (nat_lt n 18446744073709551615) refl
         let all : tally n ≡ 18446744073709551615 = min-eq_right high in
         absurd (omega (arith, all, h))
 
-module _ {c : ℕ} {bytes out : List ℕ} {list : List ListedVisit} {m : Listing}
-    (h : IsTaken as_binary (asks (hooks_by lister_reply lister_next)) c bytes (record { list = list; count = 0 }) m out) where
-  all : List ListedVisit
-  all = all_listed (visits h.tree)
+-- these were listed in room for so many
+module _ {bytes : List ℕ} (xs : List ListedVisit) (are : AreVisits bytes xs) (wide : ℕ) (m : Placing) (gains : Gains (listing_none wide) m xs) where
+  begun : Listing
+  begun = (listing_none wide).listing
 
-  state : m ≡ put_all (record { list = list; count = 0 }) (all_listed (visits h.tree))
-  state = listed_run (visits h.tree) (record { list = list; count = 0 }) h.filled.ran
-
-  there_are : AreVisits bytes (all_listed (visits h.tree))
-  there_are = record { tree = h.tree; reading = h.reads; are = refl }
-
-  counted : m.count ≡ tally (length (all_listed (visits h.tree)))
+  counted : m.listing.count ≡ tally (length xs)
   counted =
-      let same : 0 + length (all_listed (visits h.tree)) ≡ length (all_listed (visits h.tree)) = omega arith in
-      ap (λ (l : Listing). l.count) state ∙ put_count (all_listed (visits h.tree)) (record { list = list; count = 0 }) (omega arith) ∙ ap tally same
+      let same : 0 + length xs ≡ length xs = omega arith in
+      ap (λ (l : Listing). l.count) gains ∙ put_count xs (listing_none wide).listing (omega arith) ∙ ap tally same
 
-  pub as_long : length m.list ≡ length list
-  as_long = ap (λ (l : Listing). length l.list) state ∙ put_length (all_listed (visits h.tree)) (record { list = list; count = 0 })
+  room_is : length m.listing.list ≡ length (listing_none wide).listing.list
+  room_is = ap (λ (l : Listing). length l.list) gains ∙ put_length xs (listing_none wide).listing
 
-  front : m.count ≤ length m.list → m.count < 18446744073709551615 → take m.count m.list ≡ all_listed (visits h.tree)
+  pub as_long : length m.listing.list ≡ wide
+  as_long = room_is ∙ length-replicate wide (listed_scope 0)
+
+  front : m.listing.count ≤ length m.listing.list → m.listing.count < 18446744073709551615 → take m.listing.count m.listing.list ≡ xs
   front fits low =
-      let many : m.count ≡ length (all_listed (visits h.tree)) =
-      counted ∙ below (length (all_listed (visits h.tree))) (subst (λ (n : ℕ). n < 18446744073709551615) counted low) in
-      let zero : 0 + length (all_listed (visits h.tree)) ≡ length (all_listed (visits h.tree)) = omega arith in
-      let room : 0 + length (all_listed (visits h.tree)) ≤ length list = omega (arith, many, fits, as_long) in
-      let less : 0 + length (all_listed (visits h.tree)) ≤ 18446744073709551615 = omega (arith, many, low) in
-      ap (λ (n : ℕ). take n m.list) (many ∙ sym zero) ∙ ap (λ (l : Listing). take (0 + length (all_listed (visits h.tree))) l.list) state
-      ∙ put_front (all_listed (visits h.tree)) (record { list = list; count = 0 }) room less
+      let many : m.listing.count ≡ length xs = counted ∙ below (length xs) (subst (λ (n : ℕ). n < 18446744073709551615) counted low) in
+      let zero : 0 + length xs ≡ length xs = omega arith in
+      let room : 0 + length xs ≤ length (listing_none wide).listing.list = omega (arith, many, fits, room_is) in
+      let less : 0 + length xs ≤ 18446744073709551615 = omega (arith, many, low) in
+      ap (λ (n : ℕ). take n m.listing.list) (many ∙ sym zero) ∙ ap (λ (l : Listing). take (0 + length xs) l.list) gains ∙ put_front xs (listing_none wide).listing room less
 
-  pub listed_ends : (Bad Miscounted : Type 0) (Why : Error Unmapped → Type 0) (o : Outcome) (room seen : List ListedVisit) (n : ℕ) → seen ≡ m.list → n ≡ m.count →
+  pub listed_ends : (Bad Miscounted : Type 0) (Why : Error Unmapped → Type 0) (o : Outcome) (room seen : List ListedVisit) (n : ℕ) → seen ≡ m.listing.list → n ≡ m.listing.count →
       (o.status ≡ 0 → (room ≡ seen) × (o ≡ record (bare 0) { length = n }) × (n ≤ length seen) × (n < 18446744073709551615)) →
       (o.status ≡ 16 → IsTooSmall o room n) → (o.status ≡ 0) ⊎ (o.status ≡ 16) → Ends (AreVisits bytes) Bad Miscounted Why o room o.status
   listed_ends Bad Miscounted Why o room seen n same many done small other =
-      put_ends (AreVisits bytes) Bad Miscounted Why o room (all_listed (visits h.tree)) there_are
+      put_ends (AreVisits bytes) Bad Miscounted Why o room xs are
       (λ e.
       let d = done e in
-      let fits : m.count ≤ length m.list = subst (λ (k : ℕ). k ≤ length m.list) many (subst (λ (xs : List ListedVisit). n ≤ length xs) same d.2) in
-      let low : m.count < 18446744073709551615 = subst (λ (k : ℕ). k < 18446744073709551615) many d.3 in
+      let fits : m.listing.count ≤ length m.listing.list = subst (λ (k : ℕ). k ≤ length m.listing.list) many (subst (λ (ys : List ListedVisit). n ≤ length ys) same d.2) in
+      let low : m.listing.count < 18446744073709551615 = subst (λ (k : ℕ). k < 18446744073709551615) many d.3 in
       let long = ap (λ (x : Outcome). x.length) d.1 in (
         d.1 ∙ ap (λ (k : ℕ). record (bare 0) { length = k }) (sym long),
-        subst (λ (k : ℕ). k ≤ length room) (sym long) (subst (λ (xs : List ListedVisit). n ≤ length xs) (sym d.0) d.2),
-        ap₂ (λ (k : ℕ) (xs : List ListedVisit). take k xs) (long ∙ many) (d.0 ∙ same) ∙ front fits low,
+        subst (λ (k : ℕ). k ≤ length room) (sym long) (subst (λ (ys : List ListedVisit). n ≤ length ys) (sym d.0) d.2),
+        ap₂ (λ (k : ℕ) (ys : List ListedVisit). take k ys) (long ∙ many) (d.0 ∙ same) ∙ front fits low,
       ))
       (λ e. subst (λ (k : ℕ). IsTooSmall o room k) (many ∙ counted) (small e)) other
+
+-- by the rows of a core module
+pub module_visits : {bytes : List ℕ} (t : Tree) → CoreReading bytes t → AreVisits bytes (module_placed t)
+module_visits {bytes} t reading = record {
+  tree = core_tree t;
+  reading = inl (module_headed.forth bytes t reading);
+  are = unplaced_module t;
+  places = ArePlaced.of_module t reading refl;
+}
+
+-- of bytes that are no core module
+pub component_visits : {bytes : List ℕ} → NoCoreReading bytes → (t : Tree) → ReadsBinary bytes t → AreVisits bytes (placed nowhere (visits t))
+component_visits {bytes} none t reading = record { tree = t; reading = reading; are = unplaced_visits nowhere (visits t); places = go reading }
+  where
+    go : ReadsBinary bytes t → ArePlaced bytes (placed nowhere (visits t))
+    go (inl p) = let b = module_headed.back bytes t p in absurd (none b.0 b.2)
+    go (inr p) = ArePlaced.of_component p.0 p.2 (ap (λ (z : Tree). placed nowhere (visits z)) p.1)
+
+module _ {c : ℕ} {bytes out : List ℕ} {begun m : Placing} (wide : ℕ) (is : begun ≡ listing_none wide)
+    (h : IsTaken as_binary (asks (hooks_by lister_reply lister_next)) c bytes begun m out) where
+  pub taken_gains : Gains (listing_none wide) m (placed nowhere (visits h.tree))
+  taken_gains = subst (λ (l : Placing). Gains l m (placed l.place (visits h.tree))) is (listed_run (visits h.tree) begun h.filled.ran)
 
 -- ---- answers
 
@@ -285,19 +307,7 @@ module _ {c : ℕ} {bytes out : List ℕ} {answers : List ℕ} {m : Answering}
       wrong_number (IsAnswered answers c bytes) Bad (IsMiscounted answers c bytes o.length) Why o room (tells ∙ ap (λ (k : ℕ). record (bare 15) { length = k }) (sym long))
       (subst (λ (k : ℕ). IsMiscounted answers c bytes k) (sym (long ∙ same)) (is_miscounted other))
 
--- ---- from the states of the calls, of which it is known that nothing was counted before
-
-module _ {c : ℕ} {bytes out : List ℕ} {m : Listing} (l : Listing) (none : l.count ≡ 0) (h : IsTaken as_binary (asks (hooks_by lister_reply lister_next)) c bytes l m out) where
-  from_none : IsTaken as_binary (asks (hooks_by lister_reply lister_next)) c bytes (record { list = l.list; count = 0 }) m out
-  from_none = subst (λ (n : ℕ). IsTaken as_binary (asks (hooks_by lister_reply lister_next)) c bytes (record { list = l.list; count = n }) m out) none h
-
-  pub long : length m.list ≡ length l.list
-  long = as_long from_none
-
-  pub visits_ends : (Bad Miscounted : Type 0) (Why : Error Unmapped → Type 0) (o : Outcome) (room seen : List ListedVisit) (n : ℕ) → seen ≡ m.list → n ≡ m.count →
-      (o.status ≡ 0 → (room ≡ seen) × (o ≡ record (bare 0) { length = n }) × (n ≤ length seen) × (n < 18446744073709551615)) →
-      (o.status ≡ 16 → IsTooSmall o room n) → (o.status ≡ 0) ⊎ (o.status ≡ 16) → Ends (AreVisits bytes) Bad Miscounted Why o room o.status
-  visits_ends = listed_ends from_none
+-- ---- from the state of the call, of which it is known that nothing was counted before
 
 module _ {c : ℕ} {bytes out : List ℕ} {m : Answering} (a : Answering) (none : a.count ≡ 0) (h : IsTaken as_binary (asks (hooks_by answers_reply answers_next)) c bytes a m out) where
   begun_none : IsTaken as_binary (asks (hooks_by answers_reply answers_next)) c bytes (record { left = a.left; count = 0 }) m out

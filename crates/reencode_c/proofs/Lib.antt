@@ -1,6 +1,9 @@
 mod Endings
 mod Finishings
 mod Lists
+mod ModulesPlaced
 mod Packing
+mod RowsPlaced
 mod Runs
 mod Tables
+mod Unplaced

@@ -9,8 +9,11 @@ use Rattle.reencode_hooks.specs.declared.asked.Unmapped.{Unmapped}
 use Rattle.reencode_hooks.specs.declared.error.Error.{Error}
 use Rattle.reencode_hooks.specs.Hooks.{index_of}
 use Rattle.reencode_hooks.specs.Run.{Step, accepted, refused, and_then, answered, ask, run}
+use Rattle.reencode_hooks.specs.Walk.{walk}
+use Rattle.reencode_hooks.proofs.Walks.{walk_is_run}
 use Rattle.reencode_c.specs.Entries.{Renaming, renaming_reply}
-use Rattle.reencode_c.specs.Visits.{Answering, Listing, all_listed, answer_to, answers_next, answers_reply, dealt, listed, lister_next, lister_reply, put_all, taken_by, tally}
+use Rattle.reencode_c.specs.Places.{Lists}
+use Rattle.reencode_c.specs.Visits.{Answering, Placing, all_listed, answer_to, answers_next, answers_reply, at, dealt, listed, lister_next, lister_reply, moved, placed, put_all, taken_by, tally}
 use Rattle.reencode_c.proofs.Lists.{counted_low, counted_more, counted_none, put_all-append}
 
 -- ---- by entries
@@ -60,19 +63,25 @@ unchanged t answers e = ap (λ (a : List ℕ). fill t a) (one_answer answers (ow
 
 -- ---- the lister
 
-abbrev pub lists : Listing → Visit → Step Listing (Error Unmapped) ℕ
+abbrev pub lists : Placing → Visit → Step Placing (Error Unmapped) ℕ
 lists l v = ask lister_reply lister_next l v
 
--- a run lists its visits
-pub listed_run : (vs : List Visit) (l : Listing) {m : Listing} {given : List ℕ} → run lists l vs ≡ accepted given m → m ≡ put_all l (all_listed vs)
-listed_run [] l {m} {given} e = let same : l ≡ m = cc in sym same
-listed_run (v ∷ vs) l {m} {given} e = more (λ ns k same. listed_run vs (put_all l (listed v)) same) (run lists (put_all l (listed v)) vs) refl e
+-- a run lists its visits where they stand
+pub listed_run : (vs : List Visit) (l : Placing) {m : Placing} {given : List ℕ} → run lists l vs ≡ accepted given m → m.listing ≡ put_all l.listing (placed l.place vs)
+listed_run [] l {m} {given} e = let same : l ≡ m = cc in ap (λ (z : Placing). z.listing) (sym same)
+listed_run (v ∷ vs) l {m} {given} e = more (λ ns k same. listed_run vs (lister_next l v) same) (run lists (lister_next l v) vs) refl e
   where
-    more : ((ns : List ℕ) (k : Listing) → run lists (put_all l (listed v)) vs ≡ accepted ns k → k ≡ put_all (put_all l (listed v)) (all_listed vs)) →
-        (w : Step Listing (Error Unmapped) (List ℕ)) → run lists (put_all l (listed v)) vs ≡ w → and_then w (λ ns k. accepted (index_of v ∷ ns) k) ≡ accepted given m →
-        m ≡ put_all l (all_listed (v ∷ vs))
-    more again (accepted ns k) same e = let state : k ≡ m = cc in sym state ∙ again ns k same ∙ sym (put_all-append (listed v) l (all_listed vs))
+    more : ((ns : List ℕ) (k : Placing) → run lists (lister_next l v) vs ≡ accepted ns k → k.listing ≡ put_all (lister_next l v).listing (placed (moved l.place v) vs)) →
+        (w : Step Placing (Error Unmapped) (List ℕ)) → run lists (lister_next l v) vs ≡ w → and_then w (λ ns k. accepted (index_of v ∷ ns) k) ≡ accepted given m →
+        m.listing ≡ put_all l.listing (placed l.place (v ∷ vs))
+    more again (accepted ns k) same e =
+        let state : k ≡ m = cc in
+        ap (λ (z : Placing). z.listing) (sym state) ∙ again ns k same ∙ sym (put_all-append (map (at l.place) (listed v)) l.listing (placed (moved l.place v) vs))
     more again (refused d k) same e = absurd cc
+
+-- and so does a walk
+pub listed_walk : (c : ℕ) (s m : Placing) (t u : Tree) → walk lists c s t ≡ accepted u m → Lists t s m
+listed_walk c s m t u e = listed_run (visits t) s ((walk_is_run lists).forth c s m t u e).ran
 
 -- ---- answers in order
 

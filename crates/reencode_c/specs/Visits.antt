@@ -1,25 +1,30 @@
--- The visits of a binary as they are listed, and answers to them in the same order.
-use Rattle.std.specs.Prelude.{◌≡◌, ◌+◌, ◌-◌, ◌^◌, ◌++◌, ℕ, Bool, true, false, List, [], ◌∷◌, drop, min, nat_lt, slice_set, Result, Ok, if◌then◌else◌, refl}
+-- The visits of a binary as they are listed, where they stand, and answers to them in the same order.
+use Rattle.std.specs.Prelude.{◌≡◌, ◌+◌, ◌-◌, ◌^◌, ◌++◌, ℕ, Bool, true, false, List, [], ◌∷◌, drop, map, min, nat_lt, replicate, slice_set, Some, None, Result, Ok, if◌then◌else◌, refl}
 use Rattle.std.specs.Coded.{Coded, code_by, coded×, coded_list, coded_ℕ}
 use Rattle.std.proofs.lemmas.Bool.{ltb-true}
+use Rattle.wasm_shapes.specs.declared.SectionId.{SectionId}
 use Rattle.wasm_shapes.specs.declared.Space.{Space}
 use Rattle.wasm_shapes.specs.declared.Space.TheVariants as space
 use Rattle.wasm_shapes.specs.declared.Visit.{Visit}
 use Rattle.wasm_shapes.specs.declared.Visit.TheVariants.{Index, Outer, Section, Closed, Push, Pop}
+use Rattle.wasm_shapes.specs.SectionTable.{number}
 use Rattle.reencode_hooks.specs.declared.asked.Unmapped.{Unmapped}
 use Rattle.reencode_hooks.specs.Hooks.{IsAnswer, IsGiven, IsInRange, index_of}
 use Rattle.reencode_hooks.specs.Renamings.{space_number}
 use Rattle.reencode_c.specs.declared.outcome.ListedVisit.{ListedVisit}
+use Rattle.reencode_c.specs.declared.places.Place.{Place}
+
+-- ---- what is asked, without a place, whose numbers are 0
 
 -- an index of a space, one so many scopes further out, and the begin of a scope, by 2, or its end, by 3
 abbrev pub listed_index : Space → ℕ → ListedVisit
-listed_index p i = record { kind = 0; space = space_number p; count = 0; index = i }
+listed_index p i = record { kind = 0; space = space_number p; count = 0; index = i; section = 0; row = 0 }
 
 abbrev pub listed_outer : Space → ℕ → ℕ → ListedVisit
-listed_outer p k i = record { kind = 1; space = space_number p; count = k; index = i }
+listed_outer p k i = record { kind = 1; space = space_number p; count = k; index = i; section = 0; row = 0 }
 
 abbrev pub listed_scope : ℕ → ListedVisit
-listed_scope kind = record { kind = kind; space = 0; count = 0; index = 0 }
+listed_scope kind = record { kind = kind; space = 0; count = 0; index = 0; section = 0; row = 0 }
 
 -- a visit as it is listed, one of the section hook or the closing hook not
 abbrev pub listed : Visit → List ListedVisit
@@ -35,6 +40,37 @@ abbrev pub all_listed : List Visit → List ListedVisit
 all_listed [] = []
 all_listed (v ∷ vs) = listed v ++ all_listed vs
 
+-- ---- where it stands
+
+-- in a row of a section; in a section, and in no row that is told; and in none of a known kind
+abbrev pub in_row : SectionId → ℕ → Place
+in_row k n = record { section = number k; row = n }
+
+abbrev pub in_section : SectionId → Place
+in_section k = in_row k 4294967295
+
+abbrev pub nowhere : Place
+nowhere = record { section = 0; row = 4294967295 }
+
+-- a visit at a place, and the same without it
+abbrev pub at : Place → ListedVisit → ListedVisit
+at p v = record v { section = p.section; row = p.row }
+
+abbrev pub unplaced : ListedVisit → ListedVisit
+unplaced v = record v { section = 0; row = 0 }
+
+-- the place behind a visit: the hooks tell of the sections of known kinds
+abbrev pub moved : Place → Visit → Place
+moved p (Section after (Some k)) = in_section k
+moved p (Section after None) = nowhere
+moved p (Closed k) = nowhere
+moved p _ = p
+
+-- visits as they are listed, in order, the first at this place
+abbrev pub placed : Place → List Visit → List ListedVisit
+placed p [] = []
+placed p (v ∷ vs) = map (at p) (listed v) ++ placed (moved p v) vs
+
 -- a number as it is counted: a count stays at 2^64 - 1
 abbrev pub tally : ℕ → ℕ
 tally n = min n (2 ^ 64 - 1)
@@ -46,17 +82,32 @@ pub record Listing : Type 0 where
   pub list : List ListedVisit
   pub count : ℕ
 
+-- the same, and where the next one stands
+pub record Placing : Type 0 where
+  pub listing : Listing
+  pub place : Place
+
+-- room for so many, and nothing listed yet
+abbrev pub listing_none : ℕ → Placing
+listing_none room = record { listing = record { list = replicate room (listed_scope 0); count = 0 }; place = nowhere }
+
 -- how contracts hold visits, and a lister
 abbrev pub visit_code : Coded ListedVisit
 visit_code =
-    code_by (ℕ × (ℕ × (ℕ × ℕ))) (coded× coded_ℕ (coded× coded_ℕ (coded× coded_ℕ coded_ℕ)))
-    (λ v. (v.kind, (v.space, (v.count, v.index))))
-    (λ p. record { kind = p.0; space = p.1.0; count = p.1.1.0; index = p.1.1.1 }) (λ v. refl)
+    code_by (ℕ × (ℕ × (ℕ × (ℕ × (ℕ × ℕ))))) (coded× coded_ℕ (coded× coded_ℕ (coded× coded_ℕ (coded× coded_ℕ (coded× coded_ℕ coded_ℕ)))))
+    (λ v. (v.kind, (v.space, (v.count, (v.index, (v.section, v.row))))))
+    (λ p. record { kind = p.0; space = p.1.0; count = p.1.1.0; index = p.1.1.1.0; section = p.1.1.1.1.0; row = p.1.1.1.1.1 }) (λ v. refl)
 
 abbrev pub listing_code : Coded Listing
 listing_code =
     code_by (List ListedVisit × ℕ) (coded× (coded_list visit_code) coded_ℕ) (λ l. (l.list, l.count))
     (λ p. record { list = p.0; count = p.1 }) (λ l. refl)
+
+abbrev pub place_code : Coded Place
+place_code = code_by (ℕ × ℕ) (coded× coded_ℕ coded_ℕ) (λ p. (p.section, p.row)) (λ p. record { section = p.0; row = p.1 }) (λ p. refl)
+
+abbrev pub placing_code : Coded Placing
+placing_code = code_by (Listing × Place) (coded× listing_code place_code) (λ l. (l.listing, l.place)) (λ p. record { listing = p.0; place = p.1 }) (λ l. refl)
 
 -- a visit is put in its place, where there is room, and counted
 abbrev pub put : Listing → ListedVisit → Listing
@@ -68,12 +119,12 @@ put_all l [] = l
 put_all l (v ∷ vs) = put_all (put l v) vs
 
 -- each index stays as it is
-abbrev pub lister_reply : Listing → Visit → Result ℕ Unmapped
+abbrev pub lister_reply : Placing → Visit → Result ℕ Unmapped
 lister_reply l v = Ok (index_of v)
 
--- and is listed
-abbrev pub lister_next : Listing → Visit → Listing
-lister_next l v = put_all l (listed v)
+-- and is listed where it stands
+abbrev pub lister_next : Placing → Visit → Placing
+lister_next l v = record { listing = put_all l.listing (map (at l.place) (listed v)); place = moved l.place v }
 
 -- ---- answers in order
 

@@ -1,12 +1,13 @@
 //! The calls, before they cross to C.
-ghost use Rattle.std.specs.Prelude.{◌≡◌, ◌≢◌, ◌<◌, ◌≤◌, ◌⊎◌, All, length, replicate};
+ghost use Rattle.std.specs.Prelude.{◌≡◌, ◌≢◌, ◌<◌, ◌≤◌, ◌⊎◌, All, length};
 ghost use Rattle.reencode_c.specs.Ends.{Ends, IsErrorOf, IsPut, IsTooSmall, bare, hooks_by};
 ghost use Rattle.reencode_c.specs.Entries.{HasSpace, IsBadRenaming, renaming_reply};
 ghost use Rattle.reencode_c.specs.Outputs.{AreVisits, IsAnswered, IsMiscounted, IsRenamed};
-ghost use Rattle.reencode_c.specs.Visits.{answers_next, answers_reply, lister_next, lister_reply, listed_scope, tally};
+ghost use Rattle.reencode_c.specs.Visits.{answers_next, answers_reply, lister_next, lister_reply, listing_none, tally};
 
 use crate::answers::Answers;
 use crate::entries::{ByEntries, by_entries};
+use crate::modules::{is_module, listed_module};
 use crate::outcome::{Entry, ListedVisit, Outcome};
 use crate::visits::Lister;
 use reencode_component::reencode_within;
@@ -93,7 +94,8 @@ pub fn rename(
     }
 }
 
-/// The visits of the bytes, in order, by a lister with as much room.
+/// The visits of the bytes, in order, by a lister with as much room. Those of a core module are not put, since their rows are not told:
+/// these count as out of memory.
 fn visits_by(
     alloc: Global,
     lister: Lister,
@@ -101,8 +103,7 @@ fn visits_by(
     room: &mut [ListedVisit],
     outcome: &mut Outcome,
 )
-    requires count { lister.count ≡ 0 }
-    requires room { length lister.list ≡ length room.old }
+    requires begun { lister ≡ listing_none (length room.old) }
     ensures ends { Ends (AreVisits bytes.now) ⊥ ⊥
         (IsErrorOf (hooks_by lister_reply lister_next) lister 4294967295 bytes.now)
         outcome.new room.new outcome.new.status }
@@ -110,19 +111,28 @@ fn visits_by(
 {
     let mut lister = lister;
     match reencode_within(alloc, &mut lister, bytes, u32::MAX) {
-        Ok(_) => put_list(lister.list(), lister.count(), room, outcome),
+        Ok(_) => {
+            if is_module(bytes) {
+                outcome.no_memory();
+            } else {
+                put_list(lister.list(), lister.count(), room, outcome);
+            }
+        }
         Err(e) => outcome.fail(e),
     }
 }
 
-/// The visits of the bytes, in order.
+/// The visits of the bytes, in order, with their places: of a core module by its rows, where memory is found.
 pub fn visits(alloc: Global, bytes: &[u8], room: &mut [ListedVisit], outcome: &mut Outcome)
     ensures ends { Ends (AreVisits bytes.now) ⊥ ⊥
-        (IsErrorOf (hooks_by lister_reply lister_next)
-        (record { list = replicate (length room.old) (listed_scope 0); count = 0 }) 4294967295
+        (IsErrorOf (hooks_by lister_reply lister_next) (listing_none (length room.old)) 4294967295
         bytes.now) outcome.new room.new outcome.new.status }
     ensures kept { outcome.new.status ≢ 0 → room.new ≡ room.old }
 {
+    if let Some(lister) = listed_module(alloc, bytes, room.len()) {
+        put_list(lister.list(), lister.count(), room, outcome);
+        return;
+    }
     match Lister::new(alloc, room.len()) {
         Ok(lister) => visits_by(alloc, lister, bytes, room, outcome),
         Err(_) => outcome.no_memory(),

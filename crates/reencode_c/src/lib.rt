@@ -5,19 +5,22 @@
 //! but that a merge with status 19 puts there the name that both modules export.
 #![tactic(auto)]
 
-ghost use Rattle.std.specs.Prelude.{◌≡◌, ◌≢◌, [], All, false, not, length, nat_eq, replicate};
+ghost use Rattle.std.specs.Prelude.{◌≡◌, ◌≢◌, [], All, false, not, length, nat_eq};
 ghost use Rattle.reencode_c.specs.Ends.{Ends, IsErrorOf, hooks_by};
 ghost use Rattle.reencode_c.specs.Entries.{HasSpace, IsBadRenaming, renaming_reply};
 ghost use Rattle.reencode_c.specs.Outputs.{AreVisits, IsAnswered, IsMiscounted, IsPlain, IsRenamed};
 ghost use Rattle.reencode_c.specs.Tools.{GivesCalls, Merges, Prunes, Renumbers};
-ghost use Rattle.reencode_c.specs.Visits.{answers_next, answers_reply, lister_next, lister_reply, listed_scope};
+ghost use Rattle.reencode_c.specs.Visits.{answers_next, answers_reply, lister_next, lister_reply, listing_none};
 
 mod answers;
 mod calls;
 mod entries;
+mod modules;
 mod outcome;
 mod packed;
+mod places;
 mod refusals;
+mod rows;
 mod tools;
 mod visits;
 
@@ -67,7 +70,7 @@ pub extern "C" fn reencode_raw_rename(
     outcome.status
 }
 
-/// The visits of the bytes, in order.
+/// The visits of the bytes, in order, with their places.
 #[unsafe(no_mangle)]
 pub extern "C" fn reencode_raw_visits(
     alloc: Global,
@@ -77,8 +80,7 @@ pub extern "C" fn reencode_raw_visits(
 ) -> u32
     ensures status { result ≡ outcome.new.status }
     ensures ends { Ends (AreVisits bytes.now) ⊥ ⊥
-        (IsErrorOf (hooks_by lister_reply lister_next)
-        (record { list = replicate (length room.old) (listed_scope 0); count = 0 }) 4294967295 bytes.now)
+        (IsErrorOf (hooks_by lister_reply lister_next) (listing_none (length room.old)) 4294967295 bytes.now)
         outcome.new room.new result }
     ensures kept { result ≢ 0 → room.new ≡ room.old }
 {

@@ -3,8 +3,9 @@ ghost use Rattle.std.specs.Prelude.{◌≡◌, ◌<◌};
 ghost use Rattle.reencode_hooks.specs.Renamings.{space_number};
 ghost use Rattle.reencode_c.specs.Ends.{HasStatus, Tells, bare};
 ghost use Rattle.reencode_c.specs.Refusals.{TellsCore, dangling, repeated, uneven};
-ghost use Rattle.reencode_c.specs.Visits.{listed_index, listed_outer, listed_scope};
+ghost use Rattle.reencode_c.specs.Visits.{at, listed_index, listed_outer, listed_scope};
 
+use crate::places::Place;
 use reencode_hooks::{Error, Unmapped};
 use std::convert::Infallible;
 use wasm_leb::ReadError;
@@ -19,7 +20,7 @@ pub struct Entry {
     pub to: u32,
 }
 
-/// A visit of a binary: what is asked.
+/// A visit of a binary: what is asked, and where.
 #[repr(C)]
 #[derive(Clone, Copy, Debug)]
 pub struct ListedVisit {
@@ -29,6 +30,9 @@ pub struct ListedVisit {
     pub space: u32,
     pub count: u32,
     pub index: u32,
+    /// The id of the section, and the number of the row in it, or 2^32 - 1 in no row that is told.
+    pub section: u32,
+    pub row: u32,
 }
 
 /// What a call answers: a status, and what goes with it. What does not go with the status is 0.
@@ -132,6 +136,8 @@ impl ListedVisit {
             space: number_of(space),
             count: 0,
             index,
+            section: 0,
+            row: 0,
         }
     }
 
@@ -145,6 +151,8 @@ impl ListedVisit {
             space: number_of(space),
             count,
             index,
+            section: 0,
+            row: 0,
         }
     }
 
@@ -158,6 +166,20 @@ impl ListedVisit {
             space: 0,
             count: 0,
             index: 0,
+            section: 0,
+            row: 0,
+        }
+    }
+
+    /// The same at a place.
+    #[inline(always)]
+    pub fn at(self, place: Place) -> ListedVisit
+        ensures { result ≡ at place self }
+    {
+        ListedVisit {
+            section: place.section,
+            row: place.row,
+            ..self
         }
     }
 }

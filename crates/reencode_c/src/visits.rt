@@ -1,8 +1,9 @@
 //! The reencoder that lists what it is asked.
-ghost use Rattle.std.specs.Prelude.{◌≡◌, IfOk, replicate};
-ghost use Rattle.reencode_c.specs.Visits.{listed_scope, put};
+ghost use Rattle.std.specs.Prelude.{◌≡◌, IfOk};
+ghost use Rattle.reencode_c.specs.Visits.{at, listing_none, put};
 
 use crate::outcome::ListedVisit;
+use crate::places::Place;
 use reencode_component::{
     AnswerComponentVisits, DefaultComponent, DefaultComponentItems, DefaultComponentRows,
 };
@@ -13,56 +14,70 @@ use std::alloc::{AllocError, Global};
 use std::marker::Model;
 use wasm_shapes::Visit;
 
-/// Answers each index as it is, and lists what it is asked, the section hook and the closing hook aside.
+/// Answers each index as it is, and lists what it is asked, the section hook and the closing hook aside: these move it from
+/// section to section.
 #[derive(Drop)]
 pub struct Lister {
     // room for the list
     list: Vec<ListedVisit>,
     // how many visits were to be listed
     count: u64,
+    // where the next one stands
+    place: Place,
 }
 
 impl Model for Lister {
-    ghost use Rattle.reencode_c.specs.Visits.{Listing, listing_code};
+    ghost use Rattle.reencode_c.specs.Visits.{Placing, placing_code};
 
-    ghost Value = { Listing };
+    ghost Value = { Placing };
 
-    ghost coded = { listing_code };
+    ghost coded = { placing_code };
 
-    ghost view = { λ l. record { list = l.list.items; count = l.count } };
+    ghost view = { λ l. record { listing = record { list = l.list.items; count = l.count }; place = l.place } };
 }
 
 impl Lister {
     /// A lister with room for so many visits.
     pub fn new(alloc: Global, room: usize) -> Result<Lister, AllocError>
-        ensures { IfOk result
-            (λ l. l ≡ record { list = replicate room (listed_scope 0); count = 0 }) }
+        ensures { IfOk result (λ l. l ≡ listing_none room) }
     {
         let list = vec![in alloc; ListedVisit::scope(0); room]?;
-        Ok(Lister { list, count: 0 })
+        Ok(Lister {
+            list,
+            count: 0,
+            place: Place::nowhere(),
+        })
     }
 
     /// How many visits were to be listed.
     pub fn count(&self) -> u64
-        ensures { result ≡ self.now.count }
+        ensures { result ≡ self.now.listing.count }
     {
         self.count
     }
 
     /// The room, with the list in front.
     pub fn list(&self) -> &[ListedVisit]
-        ensures { result.now ≡ self.now.list }
+        ensures { result.now ≡ self.now.listing.list }
     {
         self.list.as_slice()
+    }
+
+    /// What is asked from now on stands here.
+    #[inline(always)]
+    pub fn move_to(&mut self, place: Place)
+        ensures { self.new ≡ record self.old { place = place } }
+    {
+        self.place = place;
     }
 
     /// Lists a visit where there is room, and counts it.
     #[inline(always)]
     fn put(&mut self, visit: ListedVisit)
-        ensures { self.new ≡ put self.old visit }
+        ensures { self.new ≡ record self.old { listing = put self.old.listing (at self.old.place visit) } }
     {
         if self.count < self.list.len() as u64 {
-            self.list[self.count as usize] = visit;
+            self.list[self.count as usize] = visit.at(self.place);
         }
         self.count = self.count.saturating_add(1);
     }
@@ -94,7 +109,14 @@ impl AnswerVisits for Lister {
                 self.put(ListedVisit::outer(space, count, index));
                 Ok(index)
             }
-            Visit::Section(..) | Visit::Closed(_) => Ok(0),
+            Visit::Section(_, Some(section)) => {
+                self.move_to(Place::in_section(section));
+                Ok(0)
+            }
+            Visit::Section(_, None) | Visit::Closed(_) => {
+                self.move_to(Place::nowhere());
+                Ok(0)
+            }
             Visit::Push => {
                 self.put(ListedVisit::scope(2));
                 Ok(0)
