@@ -1,6 +1,6 @@
 -- How each stage ends the program, and what a status says of how it ended.
 use Rattle.std.proofs.Common.{◌≡◌, ◌≢◌, ℕ, ◌≤◌, ◌⊎◌, inl, inr, true, Bool, Option, Some, None, Result, Err, List, [], ◌∷◌, ◌++◌, codes, decimal, refl, sym, ap, ◌∙◌, subst, arith, lit<}
-use Rattle.std.specs.Prelude.{Contains, MatchOption}
+use Rattle.std.specs.Prelude.{Contains, MatchOption, zero, suc}
 use Rattle.reencode_hooks.specs.Renamings.{Renaming}
 use Rattle.reencode_run.specs.declared.answer.Answer.{Answer}
 use Rattle.reencode_run.specs.declared.answer.Answer.TheVariants.{File, Input, Digits, Reencoding}
@@ -16,7 +16,7 @@ use Rattle.reencode_run.specs.declared.answer.ReencodingFault.{ReencodingFault}
 use Rattle.reencode_run.specs.declared.answer.ReencodingFault.TheVariants as reencoding_fault
 use Rattle.reencode_run.specs.declared.renamers.Refusal.{Refusal}
 use Rattle.reencode_run.specs.declared.task.Task.{Task}
-use Rattle.reencode_run.specs.Answer.{AtFile, Ends, EndsFor, ForJob, FileSays, HasBytes, HasNoDigits, IsBadFile, IsTooLong, IsUnfetched, IsUnread, MadeFor, Outside, RefusesDigits, RefusesFile, RefusesFrom, RefusesInput, RefusesTask, Says, StopsFor, StopsWith, Takes, TakesFrom, Texts, Uses, by_text, message, most_bytes, report_of, status_of, text_of}
+use Rattle.reencode_run.specs.Answer.{AtFile, AtPlace, Ends, EndsFor, ForJob, FileSays, HasBytes, HasNoDigits, IsBadFile, IsTooLong, IsUnfetched, IsUnread, MadeFor, Outside, RefusesDigits, RefusesFile, RefusesFrom, RefusesInput, RefusesTask, Says, StopsFor, StopsWith, Takes, TakesFrom, Texts, Uses, by_text, message, report_of, status_of, text_of}
 use Rattle.reencode_run.specs.Outside.{Rose, GaveAll, TookFront, TookMore, WhereTold, followed}
 use Rattle.reencode_run.specs.Hexadecimal.{binary}
 use Rattle.reencode_run.specs.Renamers.{refusal_text}
@@ -42,16 +42,16 @@ before_output texts a b left_old left_new r s held_old held_new w x = record {
   write_faults_new = x;
 }
 
-pub input_refused : {T : Type 0} (fault : InputFault) (a b : ℕ) (old new : Option (List ℕ)) → (◌≡◌ {A = Result T InputFault} (Err fault) (Err input_fault.Failed) → Rose a b)
-    → (◌≡◌ {A = Result T InputFault} (Err fault) (Err input_fault.TooLong) → TookMore most_bytes old new) → RefusesInput a b old new fault
-input_refused input_fault.Failed a b old new failed long = failed refl
-input_refused input_fault.TooLong a b old new failed long = long refl
-input_refused input_fault.NoMemory a b old new failed long = tt
+pub input_refused : {T : Type 0} (fault : InputFault) (most a b : ℕ) (old new : Option (List ℕ)) → (◌≡◌ {A = Result T InputFault} (Err fault) (Err input_fault.Failed) → Rose a b)
+    → (◌≡◌ {A = Result T InputFault} (Err fault) (Err input_fault.TooLong) → TookMore most old new) → RefusesInput most a b old new fault
+input_refused input_fault.Failed most a b old new failed long = failed refl
+input_refused input_fault.TooLong most a b old new failed long = long refl
+input_refused input_fault.NoMemory most a b old new failed long = tt
 
-pub digits_refused : {T : Type 0} (fault : TextFault) (is_text : Bool) (text : List ℕ) (old new : Option (List ℕ)) → is_text ≡ true → GaveAll most_bytes old new text
-    → (◌≡◌ {A = Result T TextFault} (Err fault) (Err digits_fault.NotHexadecimal) → binary text ≡ None) → RefusesDigits is_text old new fault
-digits_refused digits_fault.NotHexadecimal is_text text old new is gave refused = (is, (text, gave, refused refl))
-digits_refused digits_fault.NoMemory is_text text old new is gave refused = tt
+pub digits_refused : {T : Type 0} (fault : TextFault) (most : ℕ) (is_text : Bool) (text : List ℕ) (old new : Option (List ℕ)) → is_text ≡ true → GaveAll most old new text
+    → (◌≡◌ {A = Result T TextFault} (Err fault) (Err digits_fault.NotHexadecimal) → binary text ≡ None) → RefusesDigits most is_text old new fault
+digits_refused digits_fault.NotHexadecimal most is_text text old new is gave refused = (is, (text, gave, refused refl))
+digits_refused digits_fault.NoMemory most is_text text old new is gave refused = tt
 
 rose_from : (a b c : ℕ) → a ≤ b → Rose b c → Rose a c
 rose_from a b c le (inl h) = inl (omega (arith, le, h))
@@ -66,33 +66,39 @@ refused_from k name texts a b c file_fault.NoMemory le h = tt
 
 -- the second of two files says nothing
 pub second_refused : (first second : List ℕ) (old mid : Texts) (a b c : ℕ) (r : Renaming) (fault : FileFault) → mid ≡ old → a ≤ b → FileSays of_renaming old first r
-    → RefusesFile of_renaming second mid b c fault → RefusesTask (twice first second) old a c fault
+    → RefusesFile of_renaming second mid b c fault → RefusesTask (twice first second) old a c fault 1
 second_refused first second old mid a b c r fault same le says h =
-    inr ((r, says), inl (refused_from of_renaming second old a b c fault le (subst (λ (t : Texts). RefusesFile of_renaming second t b c fault) same h)))
+    ((r, says), refused_from of_renaming second old a b c fault le (subst (λ (t : Texts). RefusesFile of_renaming second t b c fault) same h))
+
+-- what holds of the file at a place holds of a file
+at_file : (k : Kind) (texts : Texts) (names : List (List ℕ)) (place : ℕ) (P : List ℕ → Type 0) → AtPlace k texts names place P → AtFile k texts names P
+at_file k texts [] place P h = h
+at_file k texts (name ∷ names) zero P h = inl h
+at_file k texts (name ∷ names) (suc place) P h = inr (h.0, at_file k texts names place P h.1)
 
 module _ (job : Job) (o : Outside) (U : Type 0) where
   -- how an answer ends the program
   abbrev pub Stopped : Answer → Type 0
   Stopped answer = Ends job o U (status_of answer) (text_of answer)
 
-  pub by_file : (fault : FileFault) → RefusesTask job.command o.texts o.shelf_faults_old o.shelf_faults_new fault → U → Stopped (File fault)
-  by_file file_fault.Failed h u = Ends.unfetched h u
-  by_file file_fault.TooLong h u = Ends.too_long (inl (h, u))
-  by_file file_fault.Bad h u = Ends.bad_file h u
-  by_file file_fault.NoMemory h u = Ends.no_memory
+  pub by_file : (fault : FileFault) (place : ℕ) → RefusesTask job.command o.texts o.shelf_faults_old o.shelf_faults_new fault place → U → Stopped (File fault place)
+  by_file file_fault.Failed place h u = Ends.unfetched (at_file (says job.command) o.texts (files job.command) place _ h) u
+  by_file file_fault.TooLong place h u = Ends.too_long (inl (at_file (says job.command) o.texts (files job.command) place _ h, u))
+  by_file file_fault.Bad place h u = Ends.bad_file (at_file (says job.command) o.texts (files job.command) place _ h) u
+  by_file file_fault.NoMemory place h u = Ends.no_memory
 
   reads : (source : Option ℕ) → source ≡ None → MatchOption source ⊥ (λ n. Unit {0}) → ⊥
   reads None e h = h
   reads (Some n) e h = cc
 
   by_input : (t : Task) → Uses job.command o.texts t → functions job.command ≡ None → (fault : InputFault)
-      → RefusesInput o.read_faults_old o.read_faults_new o.left_old o.left_new fault → Stopped (Input fault)
+      → RefusesInput job.most o.read_faults_old o.read_faults_new o.left_old o.left_new fault → Stopped (Input fault)
   by_input t uses e input_fault.Failed h = Ends.read_fault (reads (functions job.command) e, (t, uses), h)
   by_input t uses e input_fault.TooLong h = Ends.too_long (inr (reads (functions job.command) e, (t, uses), h))
   by_input t uses e input_fault.NoMemory h = Ends.no_memory
 
   by_digits : (t : Task) → Uses job.command o.texts t → functions job.command ≡ None → (fault : TextFault)
-      → RefusesDigits job.is_text o.left_old o.left_new fault → Stopped (Digits fault)
+      → RefusesDigits job.most job.is_text o.left_old o.left_new fault → Stopped (Digits fault)
   by_digits t uses e digits_fault.NotHexadecimal h = Ends.no_digits (record {
     reads = reads (functions job.command) e;
     asked = h.0;
@@ -105,7 +111,7 @@ module _ (job : Job) (o : Outside) (U : Type 0) where
   by_digits t uses e digits_fault.NoMemory h = Ends.no_memory
 
   pub by_source : (t : Task) → Uses job.command o.texts t → (source : Option ℕ) → functions job.command ≡ source → (answer : Answer)
-      → RefusesFrom source job.is_text o.read_faults_old o.read_faults_new o.left_old o.left_new answer → Stopped answer
+      → RefusesFrom source job.most job.is_text o.read_faults_old o.read_faults_new o.left_old o.left_new answer → Stopped answer
   by_source t uses None e (Input fault) h = by_input t uses e fault h
   by_source t uses None e (Digits fault) h = by_digits t uses e fault h
   by_source t uses None e _ h = absurd h
@@ -121,19 +127,20 @@ module _ (job : Job) (o : Outside) (U : Type 0) where
   reads_form keep_report t same uses none = refl
   reads_form (renumber name) t same uses none = refl
   reads_form prune t same uses none = refl
-  reads_form (merge name) t same uses none = refl
+  reads_form (merge most name) t same uses none = refl
 
-  given : (source : Option ℕ) (is_text : Bool) (old new : Option (List ℕ)) (bytes : List ℕ) → source ≡ None → TakesFrom source is_text old new bytes → HasBytes is_text old new bytes
-  given None is_text old new bytes e h = h
-  given (Some n) is_text old new bytes e h = absurd cc
+  given : (source : Option ℕ) (most : ℕ) (is_text : Bool) (old new : Option (List ℕ)) (bytes : List ℕ) → source ≡ None → TakesFrom source most is_text old new bytes
+      → HasBytes most is_text old new bytes
+  given None most is_text old new bytes e h = h
+  given (Some n) most is_text old new bytes e h = absurd cc
 
   -- the module that a file has is not in the form that is asked for
-  pub by_form : (t : Task) → Uses job.command o.texts t → (bytes : List ℕ) → Takes job.command job.is_text o.left_old o.left_new bytes → (fault : TextFault)
+  pub by_form : (t : Task) → Uses job.command o.texts t → (bytes : List ℕ) → Takes job.command job.most job.is_text o.left_old o.left_new bytes → (fault : TextFault)
       → (fault ≡ digits_fault.NotHexadecimal → (job.is_text ≡ true) × (formed true t ≡ None)) → Stopped (Digits fault)
   by_form t uses bytes takes digits_fault.NotHexadecimal h =
       let p = h refl in
       let none = reads_form job.command t refl uses p.1 in
-      let has = given (functions job.command) job.is_text o.left_old o.left_new bytes none takes in
+      let has = given (functions job.command) job.most job.is_text o.left_old o.left_new bytes none takes in
       Ends.no_digits (record {
         reads = reads (functions job.command) none;
         asked = p.0;
@@ -168,7 +175,7 @@ pub at_status : (answer : Answer) (j : Option Job) (o : Outside) (U F : Type 0) 
 at_status answer j o U F status n s e h = subst (λ (k : ℕ). EndsFor j o U F k (text_of answer)) (sym s ∙ e) h
 
 pub not_zero : (a status n : ℕ) → status ≡ a → status ≡ n → (n ≡ 0 → ⊥) → a ≡ 0 → ⊥
-not_zero a status n s e other zero = other (sym e ∙ s ∙ zero)
+not_zero a status n s e other none = other (sym e ∙ s ∙ none)
 
 -- what a status other than 2 says
 pub for_any : (n : ℕ) (t : List ℕ) (j : Option Job) (o : Outside) (U F P : Type 0) → (n ≡ 2 → ⊥) → EndsFor j o U F n t → ((job : Job) → Ends job o U n t → P) → P
@@ -197,6 +204,15 @@ said faults_old faults_new held_old held_new t u e h = subst (λ (z : List ℕ).
 pub of_printed : {job : Job} {o : Outside} {U : Type 0} {t : List ℕ} → Ends job o U 0 t → (made : MadeFor job o) × WhereTold o.held_new (followed o.held_old (report_of made))
 of_printed (Ends.printed made told) = (made, told)
 
+-- what ends however the sink stands was not printed
+pub never_printed : {job : Job} {texts : Texts} {a b : ℕ} {left_old left_new : Option (List ℕ)} {r s w x : ℕ} {U : Type 0} {n : ℕ} {t : List ℕ}
+    → Ends job (before_output texts a b left_old left_new r s (Some (0 ∷ [])) (Some []) w x) U n t → n ≢ 0
+never_printed {job} {texts} {a} {b} {left_old} {left_new} {r} {s} {w} {x} {U} {n} {t} h e =
+    let o = before_output texts a b left_old left_new r s (Some (0 ∷ [])) (Some []) w x in
+    let p = of_printed (subst (λ (k : ℕ). Ends job o U k t) e h) in
+    let told : Some (0 ∷ report_of p.0) ≡ Some [] = p.1 in
+    absurd cc
+
 pub of_read_fault : {job : Job} {o : Outside} {U : Type 0} {t : List ℕ} → Ends job o U 3 t → IsUnread job.command o.texts o.read_faults_old o.read_faults_new
 of_read_fault (Ends.read_fault h) = h
 
@@ -212,7 +228,7 @@ of_bad_file (Ends.bad_file h u) = (h, u)
 pub of_unfetched : {job : Job} {o : Outside} {U : Type 0} {t : List ℕ} → Ends job o U 12 t → IsUnfetched job.command o.texts o.shelf_faults_old o.shelf_faults_new × U
 of_unfetched (Ends.unfetched h u) = (h, u)
 
-pub of_too_long : {job : Job} {o : Outside} {U : Type 0} {t : List ℕ} → Ends job o U 13 t → IsTooLong job.command o.texts o.left_old o.left_new U
+pub of_too_long : {job : Job} {o : Outside} {U : Type 0} {t : List ℕ} → Ends job o U 13 t → IsTooLong job.command job.most o.texts o.left_old o.left_new U
 of_too_long (Ends.too_long h) = h
 
 pub of_no_digits : {job : Job} {o : Outside} {U : Type 0} {t : List ℕ} → Ends job o U 14 t → HasNoDigits job o.texts o.left_old o.left_new

@@ -5,7 +5,7 @@ use Rattle.std.specs.Prelude.{MatchOption}
 use Rattle.reencode_run.specs.declared.answer.ReencodingFault.{ReencodingFault}
 use Rattle.reencode_run.specs.declared.answer.ReencodingFault.TheVariants as reencoding_fault
 use Rattle.reencode_run.specs.declared.task.Task.{Task}
-use Rattle.reencode_run.specs.Answer.{AtFile, Ends, EndsFor, FileSays, FilesSay, HasBytes, IsDecided, IsDecidedByBytes, IsDecidedByFile, IsDecidedByFiles, IsDecidedByForm, IsDecidedByInput, IsDecidedByJob, IsDecidedByLeft, IsDecidedByTask, IsMaking, IsTooLong, MadeFor, Outside, SaysNone, StopsFor, TakesFrom, Texts, Uses, Work, fault_status, most_bytes, told_text}
+use Rattle.reencode_run.specs.Answer.{AtFile, Ends, EndsFor, FileSays, FilesSay, HasBytes, IsDecided, IsDecidedByBytes, IsDecidedByFile, IsDecidedByFiles, IsDecidedByForm, IsDecidedByInput, IsDecidedByJob, IsDecidedByLeft, IsDecidedByTask, IsMaking, IsTooLong, MadeFor, Outside, SaysNone, StopsFor, TakesFrom, Texts, Uses, Work, fault_status, told_text}
 use Rattle.reencode_run.specs.Generated.{generated}
 use Rattle.reencode_run.specs.Hexadecimal.{binary, bytes_of}
 use Rattle.reencode_run.specs.Outside.{GaveAll, HasText, IsLonger, Rose, TookMore, WhereTold}
@@ -47,7 +47,7 @@ has (Some texts) name text h t e = go (texts name) refl h
 
 same_saying : (k : Kind) (text t : List ℕ) (c d : Saying k) → t ≡ text → IsSaying k text c → IsSaying k t d → c ≡ d
 same_saying of_order text t c d e h j = let j' = subst (λ (z : List ℕ). IsSaying of_order z d) e j in let both : Some c ≡ Some d = sym h.is ∙ j'.is in cc
-same_saying of_module text t c d e h j = h ∙ sym (j ∙ e)
+same_saying (of_module most) text t c d e h j = h ∙ sym (j ∙ e)
 same_saying of_renaming text t c d e h j = let j' = subst (λ (z : List ℕ). IsSaying of_renaming z d) e j in let both : Some c ≡ Some d = sym h.is ∙ j'.is in cc
 
 module _ (H R W : Type 0) where
@@ -94,27 +94,27 @@ module _ (H R W : Type 0) where
   by_formed : (said : Option Task) (t : Task) (c : ℕ) (bytes : List ℕ) (n : ℕ) → said ≡ Some t → IsDecidedByBytes W t c bytes n → IsDecidedByTask W said c bytes n
   by_formed said t c bytes n e d = subst (λ (z : Option Task). IsDecidedByTask W z c bytes n) (sym e) d
 
-  by_bytes : (job : Job) (said t : Task) (old new : Option (List ℕ)) (bytes : List ℕ) (n : ℕ) → HasBytes job.is_text old new bytes → formed job.is_text said ≡ Some t
+  by_bytes : (job : Job) (said t : Task) (old new : Option (List ℕ)) (bytes : List ℕ) (n : ℕ) → HasBytes job.most job.is_text old new bytes → formed job.is_text said ≡ Some t
       → IsDecidedByBytes W t job.ceiling bytes n → IsDecidedByLeft R W job said old n
   by_bytes job said t None new bytes n h f d = tt
   by_bytes job said t (Some told) new bytes n h f d =
-      let e = gave_told most_bytes new h.text told h.gave in
+      let e = gave_told job.most new h.text told h.gave in
       let form : bytes_of job.is_text told ≡ Some bytes = ap (bytes_of job.is_text) e ∙ h.are in
       inr (record {
-        long = λ more. absurd (not_long most_bytes told h.text e h.gave.within more);
+        long = λ more. absurd (not_long job.most told h.text e h.gave.within more);
         short = λ less. subst (λ (z : Option (List ℕ)). IsDecidedByForm W (formed job.is_text said) job.ceiling z n) (sym form) (by_formed (formed job.is_text said) t job.ceiling bytes n f d);
       })
 
-  by_takes : (source : Option ℕ) (job : Job) (said t : Task) (old new : Option (List ℕ)) (bytes : List ℕ) (n : ℕ) → TakesFrom source job.is_text old new bytes
+  by_takes : (source : Option ℕ) (job : Job) (said t : Task) (old new : Option (List ℕ)) (bytes : List ℕ) (n : ℕ) → TakesFrom source job.most job.is_text old new bytes
       → formed job.is_text said ≡ Some t → IsDecidedByBytes W t job.ceiling bytes n → IsDecidedByInput R W source job said old n
   by_takes None job said t old new bytes n h f d = by_bytes job said t old new bytes n h f d
   by_takes (Some k) job said t old new bytes n h f d =
       subst (λ (b : List ℕ). IsDecidedByTask W (formed job.is_text said) job.ceiling b n) h (by_formed (formed job.is_text said) t job.ceiling bytes n f d)
 
-  long_left : (job : Job) (t : Task) (old new : Option (List ℕ)) → TookMore most_bytes old new → IsDecidedByLeft R W job t old 13
+  long_left : (job : Job) (t : Task) (old new : Option (List ℕ)) → TookMore job.most old new → IsDecidedByLeft R W job t old 13
   long_left job t None new h = tt
   long_left job t (Some told) new h =
-      let more = took_longer most_bytes new told h in
+      let more = took_longer job.most new told h in
       inr (record { long = λ m. inl refl; short = λ less. absurd (omega (arith, more, less)) })
 
   -- a text is no hexadecimal text, or what the files say is none
@@ -129,14 +129,14 @@ module _ (H R W : Type 0) where
   formless true told t is h = h
   formless false told t is h = absurd cc
 
-  no_digits : (job : Job) (t : Task) (old new : Option (List ℕ)) (text : List ℕ) → job.is_text ≡ true → GaveAll most_bytes old new text
+  no_digits : (job : Job) (t : Task) (old new : Option (List ℕ)) (text : List ℕ) → job.is_text ≡ true → GaveAll job.most old new text
       → (binary text ≡ None) ⊎ (formed true t ≡ None) → IsDecidedByLeft R W job t old 14
   no_digits job t None new text is gave none = tt
   no_digits job t (Some told) new text is gave none =
-      let e = gave_told most_bytes new text told gave in
+      let e = gave_told job.most new text told gave in
       let none' = subst (λ (z : List ℕ). (binary z ≡ None) ⊎ (formed true t ≡ None)) (sym e) none in
       inr (record {
-        long = λ more. absurd (not_long most_bytes told text e gave.within more);
+        long = λ more. absurd (not_long job.most told text e gave.within more);
         short = λ less. no_form (formed job.is_text t) job.ceiling (bytes_of job.is_text told) (formless job.is_text told t is none');
       })
 
@@ -235,14 +235,14 @@ module _ (H R W : Type 0) where
   by_refused job o fault by h = by_work job o.texts o.left_old o.left_new (fault_status fault) h.work (inr (stop fault by, refl, h.stops))
 
   by_made : (job : Job) (o : Outside) (n : ℕ) → (n ≡ 0) ⊎ ((n ≡ 4) × W) → MadeFor job o → IsDecidedByJob H R W job o.texts o.left_old n
-  by_made job o n s made = by_work job o.texts o.left_old o.left_new n made.work (inl (s, (made.text, made.does)))
+  by_made job o n s made = by_work job o.texts o.left_old o.left_new n made.work (inl (s, (made.shown, made.does)))
 
   at_file_of : (job : Job) (o : Outside) (n : ℕ) {P : List ℕ → Type 0}
       → ((name : List ℕ) (later : Saying (says job.command) → Type 0) → P name → IsDecidedByFile H (says job.command) (told_text o.texts name) n later)
       → AtFile (says job.command) o.texts (files job.command) P → IsDecidedByJob H R W job o.texts o.left_old n
   at_file_of job o n here h = at_file (says job.command) o.texts (files job.command) n (By job o.left_old n) here h
 
-  by_too_long : (job : Job) (o : Outside) (U : Type 0) → IsTooLong job.command o.texts o.left_old o.left_new U → IsDecidedByJob H R W job o.texts o.left_old 13
+  by_too_long : (job : Job) (o : Outside) (U : Type 0) → IsTooLong job.command job.most o.texts o.left_old o.left_new U → IsDecidedByJob H R W job o.texts o.left_old 13
   by_too_long job o U (inl h) = at_file_of job o 13 (λ name by long. long_file (says job.command) name o.texts by long (told_text o.texts name) refl) h.0
   by_too_long job o U (inr h) =
       by_task job o.texts h.1.0 o.left_old 13 h.1.1 (by_left job h.1.0 o.left_old 13 h.0 (long_left job h.1.0 o.left_old o.left_new h.2))

@@ -1,4 +1,4 @@
--- What a task prints, and that want of memory is always a reason for nothing.
+-- What a task shows, and that want of memory is always a reason for nothing.
 use Rattle.std.proofs.Common.{◌≡◌, ℕ, List, None, refl, subst, Err}
 use Rattle.reencode_run.specs.declared.answer.ReencodingFault.TheVariants.{NoMemory}
 use Rattle.reencode_run.specs.declared.renamers.Renamers.{Renamers}
@@ -6,15 +6,16 @@ use Rattle.reencode_run.specs.declared.taken.Taken.{Taken}
 use Rattle.reencode_run.specs.declared.task.Task.{Task}
 use Rattle.reencode_run.specs.declared.task.Task.TheVariants as task
 use Rattle.reencode_run.specs.Reencoded.{IsReencoded}
+use Rattle.reencode_run.specs.Report.{Shown}
 use Rattle.reencode_run.specs.Tasks.{Does, Reports}
 use Rattle.reencode_run.specs.Tools.{stop}
 use Rattle.reencode_run.proofs.Outcomes.{plain_of}
 use Rattle.reencode_run.proofs.Refusing.{no_memory_merging, no_memory_pruning, no_memory_renumbering}
 
--- the text of an output that was made
-pub reports : (k : Taken) (c : ℕ) (rs : Renamers) (bytes : List ℕ) (shown : List ℕ → List (List ℕ) → List ℕ) (output : List ℕ) (counts : List (List ℕ)) (text : List ℕ)
-    → IsReencoded k c rs bytes output counts → text ≡ shown output counts → Reports k c rs bytes shown text
-reports k c rs bytes shown output counts text h told = record {
+-- what is shown of an output that was made
+pub reports : (k : Taken) (c : ℕ) (rs : Renamers) (bytes : List ℕ) (shown : List ℕ → List (List ℕ) → Shown) (output : List ℕ) (counts : List (List ℕ)) (made : Shown)
+    → IsReencoded k c rs bytes output counts → made ≡ shown output counts → Reports k c rs bytes shown made
+reports k c rs bytes shown output counts made h told = record {
   output = output;
   counts = counts;
   reencoded = h;

@@ -1,5 +1,5 @@
 -- How the program ends.
-use Rattle.std.specs.Prelude.{◌≡◌, ℕ, ◌<◌, ◌≤◌, ◌==◌, ◌⊎◌, if◌then◌else◌, Bool, true, Option, Some, None, MatchOption, List, [], ◌∷◌, ◌++◌, codes, decimal, length, Ok, Err}
+use Rattle.std.specs.Prelude.{◌≡◌, ℕ, suc, zero, ◌-◌, ◌<◌, ◌≤◌, ◌==◌, ◌⊎◌, if◌then◌else◌, Bool, true, Option, Some, None, MatchOption, List, [], ◌∷◌, ◌++◌, codes, decimal, length, Result, Ok, Err}
 use Rattle.reencode_run.specs.declared.answer.Answer.{Answer}
 use Rattle.reencode_run.specs.declared.answer.Answer.TheVariants.{Printed, Words, File, Input, Digits, Reencoding, Writing}
 use Rattle.reencode_run.specs.declared.answer.WordsFault.TheVariants as words_fault
@@ -18,6 +18,7 @@ use Rattle.reencode_run.specs.declared.task.Task.{Task}
 use Rattle.reencode_run.specs.Outside.{Rose, WhereTold, followed, HasText, IsLonger, GaveAll, TookMore, TookFront}
 use Rattle.reencode_run.specs.Hexadecimal.{binary, bytes_of}
 use Rattle.reencode_run.specs.Renamers.{refusal_text}
+use Rattle.reencode_run.specs.Report.{Shown, as_binary, printed_as}
 use Rattle.reencode_run.specs.Generated.{generated}
 use Rattle.wasm_shapes.specs.declared.Space.{Space}
 use Rattle.wasm_shapes.specs.Names.{space_name}
@@ -28,10 +29,6 @@ use Rattle.reencode_run.specs.Words.{Command, Job, Kind, files, functions, says}
 -- what shelves tell
 abbrev pub Texts : Type 0
 Texts = Option (List ℕ → Option (List ℕ))
-
--- the most bytes that an input may have
-abbrev pub most_bytes : ℕ
-most_bytes = 67108864
 
 -- where the shelf, the source and the sink stood before the program and stand after it
 pub record Outside : Type 0 where
@@ -64,6 +61,12 @@ abbrev pub AtFile : (k : Kind) → Texts → List (List ℕ) → (List ℕ → T
 AtFile k texts [] P = ⊥
 AtFile k texts (name ∷ names) P = P name ⊎ (((c : Saying k) × FileSays k texts name c) × AtFile k texts names P)
 
+-- this holds of the file at this place, and all before it say what they are to say
+abbrev pub AtPlace : (k : Kind) → Texts → List (List ℕ) → ℕ → (List ℕ → Type 0) → Type 0
+AtPlace k texts [] place P = ⊥
+AtPlace k texts (name ∷ names) zero P = P name
+AtPlace k texts (name ∷ names) (suc place) P = ((c : Saying k) × FileSays k texts name c) × AtPlace k texts names place P
+
 -- the same of the files of a command
 abbrev pub AtFileOf : Command → Texts → (List ℕ → Type 0) → Type 0
 AtFileOf command texts P = AtFile (says command) texts (files command) P
@@ -76,20 +79,20 @@ Uses command texts task = (said : List (Saying (says command))) × FilesSay (say
 abbrev pub HasTask : Command → Texts → Type 0
 HasTask command texts = (task : Task) × Uses command texts task
 
--- the source was read to its end, and these are the bytes that its text is, or is the hexadecimal text of
-pub record HasBytes (is_text : Bool) (left_old left_new : Option (List ℕ)) (bytes : List ℕ) : Type 0 where
+-- the source, of at most so many bytes, was read to its end, and these are the bytes that its text is, or is the hexadecimal text of
+pub record HasBytes (most : ℕ) (is_text : Bool) (left_old left_new : Option (List ℕ)) (bytes : List ℕ) : Type 0 where
   pub text : List ℕ
-  pub gave : GaveAll most_bytes left_old left_new text
+  pub gave : GaveAll most left_old left_new text
   pub are : bytes_of is_text text ≡ Some bytes
 
 -- the bytes: those of a made module of so many functions, or of the source
-abbrev pub TakesFrom : Option ℕ → Bool → (left_old left_new : Option (List ℕ)) → List ℕ → Type 0
-TakesFrom None is_text left_old left_new bytes = HasBytes is_text left_old left_new bytes
-TakesFrom (Some n) is_text left_old left_new bytes = bytes ≡ generated n
+abbrev pub TakesFrom : Option ℕ → (most : ℕ) → Bool → (left_old left_new : Option (List ℕ)) → List ℕ → Type 0
+TakesFrom None most is_text left_old left_new bytes = HasBytes most is_text left_old left_new bytes
+TakesFrom (Some n) most is_text left_old left_new bytes = bytes ≡ generated n
 
 -- the bytes of a command
-abbrev pub Takes : Command → Bool → (left_old left_new : Option (List ℕ)) → List ℕ → Type 0
-Takes command is_text left_old left_new bytes = TakesFrom (functions command) is_text left_old left_new bytes
+abbrev pub Takes : Command → (most : ℕ) → Bool → (left_old left_new : Option (List ℕ)) → List ℕ → Type 0
+Takes command most is_text left_old left_new bytes = TakesFrom (functions command) most is_text left_old left_new bytes
 
 -- the task of a job, in the form that it asks for, and its bytes
 pub record Work (job : Job) (texts : Texts) (left_old left_new : Option (List ℕ)) : Type 0 where
@@ -98,17 +101,25 @@ pub record Work (job : Job) (texts : Texts) (left_old left_new : Option (List �
   pub bytes : List ℕ
   pub uses : Uses job.command texts said
   pub is_formed : formed job.is_text said ≡ Some task
-  pub takes : Takes job.command job.is_text left_old left_new bytes
+  pub takes : Takes job.command job.most job.is_text left_old left_new bytes
 
--- This text is printed for a job.
+-- This is shown for a job.
 pub record Made (job : Job) (texts : Texts) (left_old left_new : Option (List ℕ)) : Type 0 where
   pub work : Work job texts left_old left_new
-  pub text : List ℕ
-  pub does : Does work.task job.ceiling work.bytes (Ok text)
+  pub shown : Shown
+  pub does : Does work.task job.ceiling work.bytes (Ok shown)
 
--- what is printed of what was made
+-- what is printed of what was made, in the job's notation
 abbrev pub report_of : {job : Job} {texts : Texts} {left_old left_new : Option (List ℕ)} → Made job texts left_old left_new → List ℕ
-report_of made = made.text
+report_of {job} made = printed_as job.notation made.shown
+
+-- the bytes of the output that was made
+abbrev pub output_of : {job : Job} {texts : Texts} {left_old left_new : Option (List ℕ)} → Made job texts left_old left_new → List ℕ
+output_of made = as_binary made.shown.output
+
+-- the lines about it
+abbrev pub lines_of : {job : Job} {texts : Texts} {left_old left_new : Option (List ℕ)} → Made job texts left_old left_new → List ℕ
+lines_of made = made.shown.lines
 
 abbrev pub MadeFor : Job → Outside → Type 0
 MadeFor job o = Made job o.texts o.left_old o.left_new
@@ -126,46 +137,46 @@ RefusesFile k name texts faults_old faults_new file_fault.TooLong = IsLonger tex
 RefusesFile k name texts faults_old faults_new file_fault.Bad = SaysNone k name texts
 RefusesFile k name texts faults_old faults_new file_fault.NoMemory = Unit {0}
 
--- why a command has no task: one of its files says nothing, and all before it say what they are to say
-abbrev pub RefusesTask : Command → Texts → (faults_old faults_new : ℕ) → FileFault → Type 0
-RefusesTask command texts faults_old faults_new fault =
-    AtFileOf command texts (λ name. RefusesFile (says command) name texts faults_old faults_new fault)
+-- why a command has no task: its file at this place says nothing, and all before it say what they are to say
+abbrev pub RefusesTask : Command → Texts → (faults_old faults_new : ℕ) → FileFault → (place : ℕ) → Type 0
+RefusesTask command texts faults_old faults_new fault place =
+    AtPlace (says command) texts (files command) place (λ name. RefusesFile (says command) name texts faults_old faults_new fault)
 
 -- why the source gives no text
-abbrev pub RefusesInput : (faults_old faults_new : ℕ) (left_old left_new : Option (List ℕ)) → InputFault → Type 0
-RefusesInput faults_old faults_new left_old left_new input_fault.Failed = Rose faults_old faults_new
-RefusesInput faults_old faults_new left_old left_new input_fault.TooLong = TookMore most_bytes left_old left_new
-RefusesInput faults_old faults_new left_old left_new input_fault.NoMemory = Unit {0}
+abbrev pub RefusesInput : (most : ℕ) (faults_old faults_new : ℕ) (left_old left_new : Option (List ℕ)) → InputFault → Type 0
+RefusesInput most faults_old faults_new left_old left_new input_fault.Failed = Rose faults_old faults_new
+RefusesInput most faults_old faults_new left_old left_new input_fault.TooLong = TookMore most left_old left_new
+RefusesInput most faults_old faults_new left_old left_new input_fault.NoMemory = Unit {0}
 
 -- the source was read to its end, and its text is no hexadecimal text, as `-x` asks
-abbrev pub NoDigits : Bool → (left_old left_new : Option (List ℕ)) → Type 0
-NoDigits is_text left_old left_new =
-    (is_text ≡ true) × ((text : List ℕ) × GaveAll most_bytes left_old left_new text × (binary text ≡ None))
+abbrev pub NoDigits : (most : ℕ) → Bool → (left_old left_new : Option (List ℕ)) → Type 0
+NoDigits most is_text left_old left_new =
+    (is_text ≡ true) × ((text : List ℕ) × GaveAll most left_old left_new text × (binary text ≡ None))
 
 -- why the text gives no bytes
-abbrev pub RefusesDigits : Bool → (left_old left_new : Option (List ℕ)) → TextFault → Type 0
-RefusesDigits is_text left_old left_new digits_fault.NotHexadecimal = NoDigits is_text left_old left_new
-RefusesDigits is_text left_old left_new digits_fault.NoMemory = Unit {0}
+abbrev pub RefusesDigits : (most : ℕ) → Bool → (left_old left_new : Option (List ℕ)) → TextFault → Type 0
+RefusesDigits most is_text left_old left_new digits_fault.NotHexadecimal = NoDigits most is_text left_old left_new
+RefusesDigits most is_text left_old left_new digits_fault.NoMemory = Unit {0}
 
 -- a made module takes nothing of the source
 abbrev pub IsMaking : Command → Type 0
 IsMaking command = MatchOption (functions command) ⊥ (λ n. Unit {0})
 
 -- why the source gives no bytes
-abbrev pub RefusesSource : Bool → (faults_old faults_new : ℕ) (left_old left_new : Option (List ℕ)) → Answer → Type 0
-RefusesSource is_text faults_old faults_new left_old left_new (Input fault) = RefusesInput faults_old faults_new left_old left_new fault
-RefusesSource is_text faults_old faults_new left_old left_new (Digits fault) = RefusesDigits is_text left_old left_new fault
-RefusesSource is_text faults_old faults_new left_old left_new _ = ⊥
+abbrev pub RefusesSource : (most : ℕ) → Bool → (faults_old faults_new : ℕ) (left_old left_new : Option (List ℕ)) → Answer → Type 0
+RefusesSource most is_text faults_old faults_new left_old left_new (Input fault) = RefusesInput most faults_old faults_new left_old left_new fault
+RefusesSource most is_text faults_old faults_new left_old left_new (Digits fault) = RefusesDigits most is_text left_old left_new fault
+RefusesSource most is_text faults_old faults_new left_old left_new _ = ⊥
 
 -- why there are no bytes, of a made module or of the source
-abbrev pub RefusesFrom : Option ℕ → Bool → (faults_old faults_new : ℕ) (left_old left_new : Option (List ℕ)) → Answer → Type 0
-RefusesFrom None is_text faults_old faults_new left_old left_new answer = RefusesSource is_text faults_old faults_new left_old left_new answer
-RefusesFrom (Some n) is_text faults_old faults_new left_old left_new answer = answer ≡ Input input_fault.NoMemory
+abbrev pub RefusesFrom : Option ℕ → (most : ℕ) → Bool → (faults_old faults_new : ℕ) (left_old left_new : Option (List ℕ)) → Answer → Type 0
+RefusesFrom None most is_text faults_old faults_new left_old left_new answer = RefusesSource most is_text faults_old faults_new left_old left_new answer
+RefusesFrom (Some n) most is_text faults_old faults_new left_old left_new answer = answer ≡ Input input_fault.NoMemory
 
 -- why a command has no bytes
-abbrev pub RefusesBytes : Command → Bool → (faults_old faults_new : ℕ) (left_old left_new : Option (List ℕ)) → Answer → Type 0
-RefusesBytes command is_text faults_old faults_new left_old left_new answer =
-    RefusesFrom (functions command) is_text faults_old faults_new left_old left_new answer
+abbrev pub RefusesBytes : Command → (most : ℕ) → Bool → (faults_old faults_new : ℕ) (left_old left_new : Option (List ℕ)) → Answer → Type 0
+RefusesBytes command most is_text faults_old faults_new left_old left_new answer =
+    RefusesFrom (functions command) most is_text faults_old faults_new left_old left_new answer
 
 -- The files and the bytes were accepted, and the task makes nothing of these.
 pub record StopsAtReencoding (job : Job) (texts : Texts) (left_old left_new : Option (List ℕ)) (fault : TaskFault) : Type 0 where
@@ -174,6 +185,33 @@ pub record StopsAtReencoding (job : Job) (texts : Texts) (left_old left_new : Op
 
 abbrev pub StopsFor : Job → Outside → TaskFault → Type 0
 StopsFor job o fault = StopsAtReencoding job o.texts o.left_old o.left_new fault
+
+-- how a job ended, by what came of it: with all output written where something came
+abbrev pub ended : {A : Type 0} → Result A Answer → Answer
+ended (Ok made) = Printed
+ended (Err answer) = answer
+
+-- a fault of a file is that of the file at its place
+abbrev pub IsOfFile : Command → Texts → (faults_old faults_new : ℕ) → Answer → Type 0
+IsOfFile command texts faults_old faults_new (File fault place) = RefusesTask command texts faults_old faults_new fault place
+IsOfFile command texts faults_old faults_new _ = Unit {0}
+
+-- the name at a place
+abbrev pub name_at : List (List ℕ) → ℕ → List ℕ
+name_at [] place = []
+name_at (name ∷ names) place = if place == 0 then name else name_at names (place - 1)
+
+-- of which of two modules an end is said, by its number: the second is that in the file of the command
+abbrev pub module_name : Command → (input : List ℕ) → Option ℕ → List ℕ
+module_name command input None = input
+module_name command input (Some n) = if n == 2 then name_at (files command) 0 else input
+
+-- the name of the file that an end is said of
+abbrev pub name_of : Command → (input output : List ℕ) → Answer → List ℕ
+name_of command input output (File fault place) = name_at (files command) place
+name_of command input output (Reencoding e) = module_name command input e.by
+name_of command input output (Writing fault) = output
+name_of command input output _ = input
 
 -- ---- what is said where the words are accepted
 
@@ -212,10 +250,10 @@ IsUnread command texts faults_old faults_new = ¬ IsMaking command × HasTask co
 
 -- A file of the command is too long, and all before it say what they are to say, and this holds, which is that the source is as it was; or
 -- all say it, and the input is too long.
-abbrev pub IsTooLong : Command → Texts → (left_old left_new : Option (List ℕ)) → (Unread : Type 0) → Type 0
-IsTooLong command texts left_old left_new Unread =
+abbrev pub IsTooLong : Command → (most : ℕ) → Texts → (left_old left_new : Option (List ℕ)) → (Unread : Type 0) → Type 0
+IsTooLong command most texts left_old left_new Unread =
     (AtFileOf command texts (λ name. IsLonger texts name (most_of (says command))) × Unread)
-    ⊎ (¬ IsMaking command × HasTask command texts × TookMore most_bytes left_old left_new)
+    ⊎ (¬ IsMaking command × HasTask command texts × TookMore most left_old left_new)
 
 -- The files were accepted, the source was read to its end, and its text, or that of a module which a file has, is no hexadecimal
 -- text, as `-x` asks.
@@ -225,7 +263,7 @@ pub record HasNoDigits (job : Job) (texts : Texts) (left_old left_new : Option (
   pub said : Task
   pub uses : Uses job.command texts said
   pub text : List ℕ
-  pub gave : GaveAll most_bytes left_old left_new text
+  pub gave : GaveAll job.most left_old left_new text
   pub none : (binary text ≡ None) ⊎ (formed true said ≡ None)
 
 -- ---- statuses and what is said with them
@@ -250,7 +288,7 @@ fault_status reencoding_fault.TwoStarts = 20
 abbrev pub status_of : Answer → ℕ
 status_of Printed = 0
 status_of (Words words_fault.NoMemory) = 1
-status_of (File file_fault.NoMemory) = 1
+status_of (File file_fault.NoMemory place) = 1
 status_of (Input input_fault.NoMemory) = 1
 status_of (Digits digits_fault.NoMemory) = 1
 status_of (Writing writing_fault.NoMemory) = 1
@@ -258,9 +296,9 @@ status_of (Words words_fault.NotAccepted) = 2
 status_of (Input input_fault.Failed) = 3
 status_of (Writing writing_fault.Failed) = 4
 status_of (Reencoding e) = fault_status e.fault
-status_of (File file_fault.Bad) = 11
-status_of (File file_fault.Failed) = 12
-status_of (File file_fault.TooLong) = 13
+status_of (File file_fault.Bad place) = 11
+status_of (File file_fault.Failed place) = 12
+status_of (File file_fault.TooLong place) = 13
 status_of (Input input_fault.TooLong) = 13
 status_of (Digits digits_fault.NotHexadecimal) = 14
 
@@ -358,7 +396,7 @@ pub data Ends (job : Job) (o : Outside) (Unread : Type 0) : ℕ → List ℕ →
   two_starts : (by : Option ℕ) → StopsFor job o (stop reencoding_fault.TwoStarts by) → Ends job o Unread 20 (message 20 ++ by_text by)
   bad_file : IsBadFile job.command o.texts → Unread → Ends job o Unread 11 (message 11)
   unfetched : IsUnfetched job.command o.texts o.shelf_faults_old o.shelf_faults_new → Unread → Ends job o Unread 12 (message 12)
-  too_long : IsTooLong job.command o.texts o.left_old o.left_new Unread → Ends job o Unread 13 (message 13)
+  too_long : IsTooLong job.command job.most o.texts o.left_old o.left_new Unread → Ends job o Unread 13 (message 13)
   no_digits : HasNoDigits job o.texts o.left_old o.left_new → Ends job o Unread 14 (message 14)
 
 -- How the program ends for the words: without a job by these alone, with the source and the shelf as they were.
@@ -368,10 +406,10 @@ EndsFor (Some job) o Unread Unfetched status text = Ends job o Unread status tex
 
 -- ---- what decides: the words, each file, the input, its digits, the re-encoding and the output, in this order
 
--- Which status comes by the task and the bytes: 0, or 4 where the sink failed, where the task makes a text of them, and else by why it makes none.
+-- Which status comes by the task and the bytes: 0, or 4 where the sink failed, where the task shows what it makes of them, and else by why it shows nothing.
 abbrev pub IsDecidedByBytes : (Unwritten : Type 0) → Task → ℕ → List ℕ → ℕ → Type 0
 IsDecidedByBytes Unwritten task ceiling bytes status =
-    (((status ≡ 0) ⊎ ((status ≡ 4) × Unwritten)) × ((text : List ℕ) × Does task ceiling bytes (Ok text)))
+    (((status ≡ 0) ⊎ ((status ≡ 4) × Unwritten)) × ((shown : Shown) × Does task ceiling bytes (Ok shown)))
     ⊎ ((fault : TaskFault) × (status ≡ fault_status fault.fault) × Does task ceiling bytes (Err fault))
 
 -- which status comes by the form of what the files say
@@ -386,8 +424,8 @@ IsDecidedByForm Unwritten task ceiling (Some bytes) status = IsDecidedByTask Unw
 
 -- which status comes for an input that was read
 pub record IsDecidedFor (Unwritten : Type 0) (job : Job) (task : Task) (text : List ℕ) (status : ℕ) : Type 0 where
-  pub long : most_bytes < length text → (status ≡ 13) ⊎ (status ≡ 1)
-  pub short : length text ≤ most_bytes → IsDecidedByForm Unwritten (formed job.is_text task) job.ceiling (bytes_of job.is_text text) status
+  pub long : job.most < length text → (status ≡ 13) ⊎ (status ≡ 1)
+  pub short : length text ≤ job.most → IsDecidedByForm Unwritten (formed job.is_text task) job.ceiling (bytes_of job.is_text text) status
 
 -- which status comes for the input, where it is told: 3 where the source failed, and else by what was read
 abbrev pub IsDecidedByLeft : (Unread Unwritten : Type 0) → Job → Task → Option (List ℕ) → ℕ → Type 0

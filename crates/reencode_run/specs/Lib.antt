@@ -16,4 +16,5 @@ pub mod Errors
 pub mod Tools
 pub mod Tasks
 pub mod Answer
+pub mod Requests
 pub mod Memory

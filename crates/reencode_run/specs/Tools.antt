@@ -1,7 +1,6 @@
--- What the tools over modules print, and why they make nothing.
+-- What the tools over modules show, and why they make nothing.
 use Rattle.std.specs.Prelude.{◌≡◌, ℕ, List, [], ◌∷◌, ◌++◌, codes, decimal, Option, Some, None, Result, Ok, Err}
 use Rattle.std.specs.declared.convert.Infallible.{Infallible}
-use Rattle.hex.specs.Hex.{encode_lower}
 use Rattle.wasm_shapes.specs.declared.Space.TheVariants as space
 use Rattle.wasm_renumber.specs.declared.fault.RenumberFault.{RenumberFault}
 use Rattle.wasm_renumber.specs.declared.fault.RenumberFault.TheVariants as renumber_fault
@@ -18,6 +17,7 @@ use Rattle.reencode_run.specs.declared.answer.ReencodingFault.TheVariants as ree
 use Rattle.reencode_run.specs.declared.answer.TaskFault.{TaskFault}
 use Rattle.reencode_run.specs.declared.renamers.Refusal.{Refusal}
 use Rattle.reencode_run.specs.Errors.{EndsAs, HasStatus}
+use Rattle.reencode_run.specs.Report.{Shown, with_output}
 
 -- what is wrong, and of which input that is said
 abbrev pub stop : ReencodingFault → Option ℕ → TaskFault
@@ -42,11 +42,11 @@ abbrev pub EndsRenumbering : RenumberFault → Type 0
 EndsRenumbering (renumber_fault.Core error) = HasStatus error
 EndsRenumbering _ = Unit {0}
 
--- The digits of the module whose functions are moved, and a line end.
-pub record PrintsRenumbered (order : List ℕ) (ceiling : ℕ) (bytes text : List ℕ) : Type 0 where
+-- The module whose functions are moved, and no line.
+pub record ShowsRenumbered (order : List ℕ) (ceiling : ℕ) (bytes : List ℕ) (made : Shown) : Type 0 where
   pub output : List ℕ
   pub renumbered : renumbering.IsRenumbered bytes order ceiling output
-  pub told : text ≡ encode_lower output ++ codes "\n"
+  pub told : made ≡ with_output output []
 
 -- Why nothing is made. Where nothing is refused, and no frame of the moved module is above the ceiling, that is want of memory alone.
 pub record StopsRenumbering (order : List ℕ) (ceiling : ℕ) (bytes : List ℕ) (e : TaskFault) : Type 0 where
@@ -55,8 +55,8 @@ pub record StopsRenumbering (order : List ℕ) (ceiling : ℕ) (bytes : List ℕ
   pub made : renumbering.IsMade bytes order ceiling fault
   pub tells : TellsRenumbering ceiling fault e
 
-abbrev pub Renumbers : List ℕ → ℕ → List ℕ → Result (List ℕ) TaskFault → Type 0
-Renumbers order ceiling bytes (Ok text) = PrintsRenumbered order ceiling bytes text
+abbrev pub Renumbers : List ℕ → ℕ → List ℕ → Result Shown TaskFault → Type 0
+Renumbers order ceiling bytes (Ok made) = ShowsRenumbered order ceiling bytes made
 Renumbers order ceiling bytes (Err e) = StopsRenumbering order ceiling bytes e
 
 -- ---- without the functions that nothing reaches
@@ -77,12 +77,12 @@ abbrev pub spaced : List ℕ → List ℕ
 spaced [] = []
 spaced (n ∷ ns) = codes " " ++ decimal n ++ spaced ns
 
--- The digits of the module without them, and a line of the functions that are kept, by their old indices.
-pub record PrintsPruned (ceiling : ℕ) (bytes text : List ℕ) : Type 0 where
+-- The module without them, and a line of the functions that are kept, by their old indices.
+pub record ShowsPruned (ceiling : ℕ) (bytes : List ℕ) (made : Shown) : Type 0 where
   pub output : List ℕ
   pub kept : List ℕ
   pub pruned : pruning.IsPruned bytes ceiling output kept
-  pub told : text ≡ encode_lower output ++ codes "\nkept" ++ spaced kept ++ codes "\n"
+  pub told : made ≡ with_output output (codes "kept" ++ spaced kept ++ codes "\n")
 
 pub record StopsPruning (ceiling : ℕ) (bytes : List ℕ) (e : TaskFault) : Type 0 where
   pub fault : ReachFault
@@ -90,8 +90,8 @@ pub record StopsPruning (ceiling : ℕ) (bytes : List ℕ) (e : TaskFault) : Typ
   pub made : pruning.IsMade bytes ceiling fault
   pub tells : TellsPruning ceiling fault e
 
-abbrev pub Prunes : ℕ → List ℕ → Result (List ℕ) TaskFault → Type 0
-Prunes ceiling bytes (Ok text) = PrintsPruned ceiling bytes text
+abbrev pub Prunes : ℕ → List ℕ → Result Shown TaskFault → Type 0
+Prunes ceiling bytes (Ok made) = ShowsPruned ceiling bytes made
 Prunes ceiling bytes (Err e) = StopsPruning ceiling bytes e
 
 -- ---- one module of two
@@ -110,11 +110,11 @@ abbrev pub EndsMerging : MergeFault → Type 0
 EndsMerging (merge_fault.Core by error) = HasStatus error
 EndsMerging _ = Unit {0}
 
--- The digits of the merged module, and a line end. The first module is the input.
-pub record PrintsMerged (second : List ℕ) (ceiling : ℕ) (first text : List ℕ) : Type 0 where
+-- The merged module, and no line. The first module is the input.
+pub record ShowsMerged (second : List ℕ) (ceiling : ℕ) (first : List ℕ) (made : Shown) : Type 0 where
   pub output : List ℕ
   pub merged : merging.IsMerged first second ceiling output
-  pub told : text ≡ encode_lower output ++ codes "\n"
+  pub told : made ≡ with_output output []
 
 pub record StopsMerging (second : List ℕ) (ceiling : ℕ) (first : List ℕ) (e : TaskFault) : Type 0 where
   pub fault : MergeFault
@@ -122,6 +122,6 @@ pub record StopsMerging (second : List ℕ) (ceiling : ℕ) (first : List ℕ) (
   pub made : merging.IsMade first second ceiling fault
   pub tells : TellsMerging ceiling fault e
 
-abbrev pub Merges : List ℕ → ℕ → List ℕ → Result (List ℕ) TaskFault → Type 0
-Merges second ceiling first (Ok text) = PrintsMerged second ceiling first text
+abbrev pub Merges : List ℕ → ℕ → List ℕ → Result Shown TaskFault → Type 0
+Merges second ceiling first (Ok made) = ShowsMerged second ceiling first made
 Merges second ceiling first (Err e) = StopsMerging second ceiling first e

@@ -4,9 +4,11 @@ use Rattle.std.specs.Cmp.Lexicographic.{pointwise}
 use Rattle.reencode_run.specs.declared.words.Command as of_command
 use Rattle.reencode_run.specs.declared.words.Command.TheVariants as said
 use Rattle.reencode_run.specs.declared.words.Job as of_job
+use Rattle.reencode_run.specs.declared.words.Notation.{Notation}
+use Rattle.reencode_run.specs.declared.words.Notation.TheVariants.{Hexadecimal}
 use Rattle.reencode_run.specs.Numerals.{index_of}
 
--- what is to be done
+-- what is to be done; the file of a merge has at most so many bytes
 pub data Command : Type 0 where
   plain : Command
   rename : List ℕ → Command
@@ -15,19 +17,22 @@ pub data Command : Type 0 where
   keep_report : Command
   renumber : List ℕ → Command
   prune : Command
-  merge : List ℕ → Command
+  merge : ℕ → List ℕ → Command
 
--- whether the input is hexadecimal text, the most bytes that a frame of the output may have, and what is to be done
+-- whether the input is hexadecimal text, how the output is written, the most bytes that a frame of it may have, those that the input may have, and
+-- what is to be done
 pub record Job : Type 0 where
   pub is_text : Bool
+  pub notation : Notation
   pub ceiling : ℕ
+  pub most : ℕ
   pub command : Command
 
--- what a file of a command is to say
+-- what a file of a command is to say: a renaming, an order, or a module of at most so many bytes
 pub data Kind : Type 0 where
   of_renaming : Kind
   of_order : Kind
-  of_module : Kind
+  of_module : ℕ → Kind
 
 -- What a command is: what its files are to say, these files in order, and how many functions it makes a module of, where it reads no source.
 pub record Form : Type 0 where
@@ -43,7 +48,7 @@ form (generate n) = record { says = of_renaming; files = []; functions = Some n 
 form keep_report = record { says = of_renaming; files = []; functions = None }
 form (renumber name) = record { says = of_order; files = name ∷ []; functions = None }
 form prune = record { says = of_renaming; files = []; functions = None }
-form (merge name) = record { says = of_module; files = name ∷ []; functions = None }
+form (merge most name) = record { says = of_module most; files = name ∷ []; functions = None }
 
 -- what its files are to say
 abbrev pub says : Command → Kind
@@ -56,6 +61,10 @@ files command = (form command).files
 -- how many functions it makes a module of, where it makes one
 abbrev pub functions : Command → Option ℕ
 functions command = (form command).functions
+
+-- the most bytes that the program takes of an input, or of the file of a module
+abbrev pub most_bytes : ℕ
+most_bytes = 67108864
 
 abbrev pub is_word : List ℕ → List ℕ → Bool
 is_word word text = pointwise nat_eq word text
@@ -89,7 +98,7 @@ long_command w a =
     if is_word w (codes "rename") then Some (rename a)
     else if is_word w (codes "generate") then option_and_then some_functions (index_of a)
     else if is_word w (codes "renumber") then Some (renumber a)
-    else if is_word w (codes "merge") then Some (merge a)
+    else if is_word w (codes "merge") then Some (merge most_bytes a)
     else None
 
 abbrev pub longer_command : List ℕ → List ℕ → List ℕ → Option Command
@@ -104,19 +113,20 @@ command _ = None
 -- what all words ask for, or nothing
 abbrev pub job : List (List ℕ) → Option Job
 job words =
-    option_and_then (λ p. option_map (λ c. record { is_text = (without_flag words).0; ceiling = p.0; command = c }) (command p.1))
+    option_and_then (λ p. option_map (λ c. record { is_text = (without_flag words).0; notation = Hexadecimal; ceiling = p.0; most = most_bytes; command = c }) (command p.1))
     (without_ceiling (without_flag words).1)
 
--- what is seen of a command and of a job
-abbrev pub command_seen : of_command.Command → Command
-command_seen said.Plain = plain
-command_seen (said.Rename name) = rename name.now
-command_seen (said.Twice first second) = twice first.now second.now
-command_seen (said.Generate n) = generate n
-command_seen said.KeepReport = keep_report
-command_seen (said.Renumber name) = renumber name.now
-command_seen said.Prune = prune
-command_seen (said.Merge name) = merge name.now
+-- what is seen of a command, whose file of a module has at most so many bytes
+abbrev pub command_seen : ℕ → of_command.Command → Command
+command_seen most said.Plain = plain
+command_seen most (said.Rename name) = rename name.now
+command_seen most (said.Twice first second) = twice first.now second.now
+command_seen most (said.Generate n) = generate n
+command_seen most said.KeepReport = keep_report
+command_seen most (said.Renumber name) = renumber name.now
+command_seen most said.Prune = prune
+command_seen most (said.Merge name) = merge most name.now
 
+-- what is seen of a job
 abbrev pub job_seen : of_job.Job → Job
-job_seen j = record { is_text = j.is_text; ceiling = j.ceiling; command = command_seen j.command }
+job_seen j = record { is_text = j.is_text; notation = j.notation; ceiling = j.ceiling; most = j.most; command = command_seen j.most j.command }

@@ -13,7 +13,7 @@ use crate::hexadecimal::TextFault;
 use crate::input::InputFault;
 use crate::outside::{Failed, Sink};
 use crate::renamers::{Refusal, Refuses};
-use crate::write::write_all;
+use crate::write::{write_all, write_both};
 use itoa::Buffer;
 use reencode_hooks::{ChainError, Error, Unmapped};
 use wasm_leb::{List, ReadError};
@@ -114,8 +114,8 @@ pub enum Answer {
     Printed,
     /// The words ask for nothing.
     Words(WordsFault),
-    /// A file says nothing.
-    File(FileFault),
+    /// The file at this place among those of the command, counted from 0, says nothing.
+    File(FileFault, u8),
     /// The input was not read to its end.
     Input(InputFault),
     /// The input, or a module that a file has, is no hexadecimal text.
@@ -215,7 +215,7 @@ impl Answer {
         match self {
             Answer::Printed => (0, b"\n"),
             Answer::Words(WordsFault::NoMemory)
-            | Answer::File(FileFault::NoMemory)
+            | Answer::File(FileFault::NoMemory, _)
             | Answer::Input(InputFault::NoMemory)
             | Answer::Digits(TextFault::NoMemory)
             | Answer::Writing(WritingFault::NoMemory) => (1, b"no memory\n"),
@@ -226,9 +226,9 @@ impl Answer {
             Answer::Input(InputFault::Failed) => (3, b"read fault\n"),
             Answer::Writing(WritingFault::Failed) => (4, b"write fault\n"),
             Answer::Reencoding(e) => (e.fault.ending().0, b""),
-            Answer::File(FileFault::Bad) => (11, b"bad renaming\n"),
-            Answer::File(FileFault::Failed) => (12, b"shelf fault\n"),
-            Answer::File(FileFault::TooLong) | Answer::Input(InputFault::TooLong) => {
+            Answer::File(FileFault::Bad, _) => (11, b"bad renaming\n"),
+            Answer::File(FileFault::Failed, _) => (12, b"shelf fault\n"),
+            Answer::File(FileFault::TooLong, _) | Answer::Input(InputFault::TooLong) => {
                 (13, b"too long\n")
             }
             Answer::Digits(TextFault::NotHexadecimal) => (14, b"not hex\n"),
@@ -282,21 +282,6 @@ impl Answer {
             },
             _ => write_all(err, self.ending().1),
         }
-    }
-}
-
-/// Writes a text and then another. After a failure a front of both was taken.
-fn write_both<D: Sink>(err: &mut D, first: &[u8], second: &[u8]) -> Result<(), Failed>
-    ensures rises { D.faults err.old ≤ D.faults err.new }
-    ensures ok { OnOk result
-        (WhereTold (D.held err.new) (followed (D.held err.old) (first.now ++ second.now))) }
-    ensures failed { OnErr result (Rose (D.faults err.old) (D.faults err.new)) }
-    ensures front { OnErr result
-        (TookFront (D.held err.old) (D.held err.new) (first.now ++ second.now)) }
-{
-    match write_all(err, first) {
-        Ok(()) => write_all(err, second),
-        Err(Failed) => Err(Failed),
     }
 }
 

@@ -1,4 +1,5 @@
-//! The program without its `main`: its top call `run`, over an outside (sources, sinks and shelves) that it is handed.
+//! The programs without their `main`: the top calls `run` and `transform`, over an outside (sources, sinks and shelves) that they are
+//! handed.
 #![tactic(auto)]
 
 pub mod answer;
@@ -22,5 +23,6 @@ pub mod taken;
 pub mod task;
 pub mod tool;
 mod tools;
+pub mod transform;
 pub mod words;
 mod write;

@@ -1,11 +1,10 @@
 //! From a job to what is printed.
-ghost use Rattle.std.specs.Prelude.{◌≡◌, ◌≤◌, ◌++◌, ℕ, List, Option, Some, None, true, [], length, replicate, Ok, Err, IfOk, IfErr, IsErrOf, vec_len};
-ghost use Rattle.hex.specs.Hex.{encode_lower};
+ghost use Rattle.std.specs.Prelude.{◌≡◌, ◌≤◌, ℕ, List, Option, Some, None, true, [], length, option_map, replicate, Ok, Err, IfOk, IfErr, IsErrOf, vec_len};
 ghost use Rattle.reencode_hooks.specs.Renamings.{no_renaming};
-ghost use Rattle.reencode_run.specs.Answer.{Ends, FileSays, HasBytes, IsMaking, Made, RefusesBytes, RefusesFile, RefusesSource, RefusesTask, Takes, Uses, report_of, status_of, text_of};
+ghost use Rattle.reencode_run.specs.Answer.{Ends, FileSays, HasBytes, IsMaking, IsOfFile, Made, RefusesBytes, RefusesFile, RefusesSource, RefusesTask, Takes, Uses, status_of, text_of};
 ghost use Rattle.reencode_run.specs.Generated.{generated};
 ghost use Rattle.reencode_run.specs.Renamers.{AreCounts};
-ghost use Rattle.reencode_run.specs.Report.{lengths_report, report};
+ghost use Rattle.reencode_run.specs.Report.{lengths_report, lines_alone, report, shown, with_output};
 ghost use Rattle.reencode_run.specs.Outside.{HasText};
 ghost use Rattle.reencode_run.specs.Tasks.{Does, HasCounts, IsStopped, Reports, formed, most_of};
 ghost use Rattle.reencode_run.specs.Words.{Kind, command_seen, files, functions, job_seen, of_module, of_order, of_renaming};
@@ -21,7 +20,7 @@ use crate::outside::{Shelf, ShelfFault, Source};
 use crate::reencoded::reencoded;
 use crate::renamers::Renamers;
 use crate::renaming::{RenamingFault, renaming_of};
-use crate::report::{made_lines, tail};
+use crate::report::{lines_of, made_lines};
 use crate::taken::Taken;
 use crate::task::Task;
 use crate::tools::{alone, merged, pruned, renumbered};
@@ -29,9 +28,6 @@ use crate::words::{Command, Job, functions};
 use reencode_hooks::{Chain, Renamer};
 use std::alloc::Global;
 use wasm_leb::List;
-
-/// The most bytes that an input, or the file of a module, may have: 64 MiB.
-const MOST_INPUT: u32 = 67_108_864;
 
 /// The most bytes that the file of a renaming or of an order may have: 1 MiB.
 const MOST_RENAMING: u32 = 1_048_576;
@@ -42,11 +38,11 @@ const PIECE: usize = 65_536;
 /// What is to be printed, with all memory that this takes.
 #[derive(Drop)]
 pub struct Ready {
-    /// The bytes to be printed as digits.
-    pub output: Vec<u8>,
-    /// The text behind the digits.
-    pub tail: Vec<u8>,
-    /// The room through which the digits go.
+    /// The bytes of the output, where there is one.
+    pub output: Option<Vec<u8>>,
+    /// The lines about it.
+    pub lines: Vec<u8>,
+    /// The room through which digits go.
     pub buffer: Vec<u8>,
 }
 
@@ -114,55 +110,70 @@ fn order_of_file<F: Shelf>(alloc: Global, file: &str, shelf: &mut F) -> Result<L
     }
 }
 
-/// The text of a file that has a module.
-fn module_of_file<F: Shelf>(alloc: Global, file: &str, shelf: &mut F) -> Result<List<u8>, FileFault>
+/// The text, of at most so many bytes, of a file that has a module.
+fn module_of_file<F: Shelf>(
+    alloc: Global,
+    file: &str,
+    most: u32,
+    shelf: &mut F,
+) -> Result<List<u8>, FileFault>
     ensures rises { F.faults shelf.old ≤ F.faults shelf.new }
-    ensures says { IfOk result (λ text. FileSays of_module (F.texts shelf.old) file.now text) }
+    ensures says { IfOk result
+        (λ text. FileSays (of_module most) (F.texts shelf.old) file.now text) }
     ensures stops { IfErr result
-        (λ fault. RefusesFile of_module file.now (F.texts shelf.old) (F.faults shelf.old)
+        (λ fault. RefusesFile (of_module most) file.now (F.texts shelf.old) (F.faults shelf.old)
         (F.faults shelf.new) fault) }
 {
-    let text = match fetched(alloc, file, MOST_INPUT, shelf) {
+    let text = match fetched(alloc, file, most, shelf) {
         Ok(text) => text,
         Err(fault) => return Err(fault),
     };
     Ok(List::from_vec(text))
 }
 
-/// What a command does, by what its files say.
-fn task_of<F: Shelf>(alloc: Global, command: Command<'_>, shelf: &mut F) -> Result<Task, FileFault>
+/// What a command does, by what its files say, of which that of a module has at most so many bytes. A fault stands with the place of
+/// its file.
+fn task_of<F: Shelf>(
+    alloc: Global,
+    command: Command<'_>,
+    most: u32,
+    shelf: &mut F,
+) -> Result<Task, (FileFault, u8)>
     ensures rises { F.faults shelf.old ≤ F.faults shelf.new }
     ensures uses { IfOk result
-        (λ task. Uses (command_seen command.entry) (F.texts shelf.old) task) }
+        (λ task. Uses (command_seen most command.entry) (F.texts shelf.old) task) }
     ensures counts { IfOk result HasCounts }
     ensures stops { IfErr result
-        (λ fault. RefusesTask (command_seen command.entry) (F.texts shelf.old)
-        (F.faults shelf.old) (F.faults shelf.new) fault) }
-    ensures unfetched { files (command_seen command.entry) ≡ [] → shelf.new ≡ shelf.old }
+        (λ e. RefusesTask (command_seen most command.entry) (F.texts shelf.old)
+        (F.faults shelf.old) (F.faults shelf.new) e.0 e.1) }
+    ensures unfetched { files (command_seen most command.entry) ≡ [] → shelf.new ≡ shelf.old }
 {
     match command {
         Command::Plain => Ok(Task::Reencode(Renamers::Alone(Renamer::new(alloc)))),
-        Command::Rename(file) => {
-            let renamer = renamer_of_file(alloc, file, shelf)?;
-            Ok(Task::Reencode(Renamers::Alone(renamer)))
-        }
+        Command::Rename(file) => match renamer_of_file(alloc, file, shelf) {
+            Ok(renamer) => Ok(Task::Reencode(Renamers::Alone(renamer))),
+            Err(fault) => Err((fault, 0)),
+        },
         Command::Twice(first, second) => {
-            let a = renamer_of_file(alloc, first, shelf)?;
+            let a = match renamer_of_file(alloc, first, shelf) {
+                Ok(a) => a,
+                Err(fault) => return Err((fault, 0)),
+            };
             match renamer_of_file(alloc, second, shelf) {
                 Ok(b) => Ok(Task::Reencode(Renamers::Both(Chain::new(a, b)))),
-                Err(fault) => Err(fault),
+                Err(fault) => Err((fault, 1)),
             }
         }
         Command::Generate(n) => Ok(Task::Generate(n)),
         Command::KeepReport => Ok(Task::KeepReport),
         Command::Renumber(file) => match order_of_file(alloc, file, shelf) {
             Ok(order) => Ok(Task::Renumber(order)),
-            Err(fault) => Err(fault),
+            Err(fault) => Err((fault, 0)),
         },
         Command::Prune => Ok(Task::Prune),
-        Command::Merge(file) => match module_of_file(alloc, file, shelf) {
+        Command::Merge(file) => match module_of_file(alloc, file, most, shelf) {
             Ok(text) => Ok(Task::Merge(text)),
-            Err(fault) => Err(fault),
+            Err(fault) => Err((fault, 0)),
         },
     }
 }
@@ -183,17 +194,22 @@ fn formed(alloc: Global, is_text: bool, task: Task) -> Result<Task, TextFault>
     }
 }
 
-/// The bytes that the input is, or is the hexadecimal text of.
-fn read_bytes<S: Source>(alloc: Global, is_text: bool, input: &mut S) -> Result<Vec<u8>, Answer>
+/// The bytes that the input, of at most so many bytes, is, or is the hexadecimal text of.
+fn read_bytes<S: Source>(
+    alloc: Global,
+    most: u32,
+    is_text: bool,
+    input: &mut S,
+) -> Result<Vec<u8>, Answer>
     requires { S.can_read input.old }
     ensures rises { S.faults input.old ≤ S.faults input.new }
     ensures ok { IfOk result
-        (λ bytes. HasBytes is_text (S.left input.old) (S.left input.new) bytes.items) }
+        (λ bytes. HasBytes most is_text (S.left input.old) (S.left input.new) bytes.items) }
     ensures stops { IfErr result
-        (λ answer. RefusesSource is_text (S.faults input.old) (S.faults input.new)
+        (λ answer. RefusesSource most is_text (S.faults input.old) (S.faults input.new)
         (S.left input.old) (S.left input.new) answer) }
 {
-    let text = match read_all(alloc, input, MOST_INPUT) {
+    let text = match read_all(alloc, input, most) {
         Ok(text) => text,
         Err(fault) => return Err(Answer::Input(fault)),
     };
@@ -221,28 +237,29 @@ fn made_bytes(alloc: Global, n: u32) -> Result<Vec<u8>, Answer>
 fn bytes_of<S: Source>(
     alloc: Global,
     command: Command<'_>,
+    most: u32,
     is_text: bool,
     input: &mut S,
 ) -> Result<Vec<u8>, Answer>
-    requires { functions (command_seen command) ≡ None → S.can_read input.old }
+    requires { functions (command_seen most command) ≡ None → S.can_read input.old }
     ensures rises { S.faults input.old ≤ S.faults input.new }
     ensures takes { IfOk result
-        (λ bytes. Takes (command_seen command.entry) is_text (S.left input.old) (S.left input.new)
-        bytes.items) }
+        (λ bytes. Takes (command_seen most command.entry) most is_text
+        (S.left input.old) (S.left input.new) bytes.items) }
     ensures stops { IfErr result
-        (λ answer. RefusesBytes (command_seen command.entry) is_text (S.faults input.old)
-        (S.faults input.new) (S.left input.old) (S.left input.new) answer) }
-    ensures unread { IsMaking (command_seen command.entry) → input.new ≡ input.old }
+        (λ answer. RefusesBytes (command_seen most command.entry) most is_text
+        (S.faults input.old) (S.faults input.new) (S.left input.old) (S.left input.new) answer) }
+    ensures unread { IsMaking (command_seen most command.entry) → input.new ≡ input.old }
 {
     match functions(command) {
         Some(n) => made_bytes(alloc, n),
-        None => read_bytes(alloc, is_text, input),
+        None => read_bytes(alloc, most, is_text, input),
     }
 }
 
-/// The digits of what the re-encoding makes, and the lines of the counts.
+/// What the re-encoding makes, and the lines of the counts.
 #[tactic(auto, using(crate::proofs::Reports::reports))]
-fn digits(
+fn counted(
     alloc: Global,
     renamers: Renamers,
     bytes: &[u8],
@@ -250,13 +267,13 @@ fn digits(
 ) -> Result<(Vec<u8>, Vec<u8>), ReencodingFault>
     requires { AreCounts renamers }
     ensures ok { IfOk result (λ p. Reports Taken.Binaries ceiling renamers bytes.now report
-        (encode_lower p.0.items ++ p.1.items)) }
+        (with_output p.0.items p.1.items)) }
     ensures stops { IfErr result
         (λ fault. IsStopped Taken.Binaries ceiling renamers bytes.now fault) }
 {
     let made = reencoded(alloc, Taken::Binaries, renamers, bytes, ceiling)?;
-    match tail(alloc, &made.1) {
-        Ok(tail) => Ok((made.0, tail)),
+    match lines_of(alloc, &made.1) {
+        Ok(lines) => Ok((made.0, lines)),
         Err(_) => Err(ReencodingFault::NoMemory),
     }
 }
@@ -270,7 +287,7 @@ fn lengths(
 ) -> Result<Vec<u8>, ReencodingFault>
     ensures ok { IfOk result
         (λ text. Reports Taken.Modules ceiling (Renamers.Alone no_renaming) bytes.now
-        (lengths_report functions (length bytes.now)) text.items) }
+        (lengths_report functions (length bytes.now)) (lines_alone text.items)) }
     ensures stops { IfErr result
         (λ fault. IsStopped Taken.Modules ceiling (Renamers.Alone no_renaming) bytes.now fault) }
 {
@@ -282,41 +299,43 @@ fn lengths(
     }
 }
 
-/// These lines, with no digits in front of them.
-fn undigited(alloc: Global, lines: Vec<u8>) -> (Vec<u8>, Vec<u8>)
-    ensures { encode_lower result.0.items ++ result.1.items ≡ lines.items }
-{
-    (Vec::new(alloc), lines)
-}
-
-/// What a task prints: the digits of its output, where it prints them, and the text behind them.
+/// What a task shows: its output, where it has one, and the lines about it.
 fn shown(
     alloc: Global,
     task: Task,
     bytes: &[u8],
     ceiling: u32,
-) -> Result<(Vec<u8>, Vec<u8>), TaskFault>
+) -> Result<(Option<Vec<u8>>, Vec<u8>), TaskFault>
     requires { HasCounts task }
     ensures ok { IfOk result
-        (λ p. Does task ceiling bytes.now (Ok (encode_lower p.0.items ++ p.1.items))) }
+        (λ p. Does task ceiling bytes.now (Ok (shown (option_map (λ v. v.items) p.0) p.1.items))) }
     ensures stops { IfErr result (λ fault. Does task ceiling bytes.now (Err fault)) }
 {
     match task {
-        Task::Reencode(renamers) => match digits(alloc, renamers, bytes, ceiling) {
-            Ok(made) => Ok(made),
+        Task::Reencode(renamers) => match counted(alloc, renamers, bytes, ceiling) {
+            Ok((output, lines)) => Ok((Some(output), lines)),
             Err(fault) => Err(alone(fault)),
         },
         Task::Generate(n) => match lengths(alloc, n, bytes, ceiling) {
-            Ok(lines) => Ok(undigited(alloc, lines)),
+            Ok(lines) => Ok((None, lines)),
             Err(fault) => Err(alone(fault)),
         },
         Task::KeepReport => match kept_report(alloc, bytes, ceiling) {
-            Ok(lines) => Ok(undigited(alloc, lines)),
+            Ok(lines) => Ok((None, lines)),
             Err(fault) => Err(alone(fault)),
         },
-        Task::Renumber(order) => renumbered(alloc, bytes, order.as_slice(), ceiling),
-        Task::Prune => pruned(alloc, bytes, ceiling),
-        Task::Merge(second) => merged(alloc, bytes, second.as_slice(), ceiling),
+        Task::Renumber(order) => match renumbered(alloc, bytes, order.as_slice(), ceiling) {
+            Ok(output) => Ok((Some(output), Vec::new(alloc))),
+            Err(fault) => Err(fault),
+        },
+        Task::Prune => match pruned(alloc, bytes, ceiling) {
+            Ok((output, lines)) => Ok((Some(output), lines)),
+            Err(fault) => Err(fault),
+        },
+        Task::Merge(second) => match merged(alloc, bytes, second.as_slice(), ceiling) {
+            Ok(output) => Ok((Some(output), Vec::new(alloc))),
+            Err(fault) => Err(fault),
+        },
     }
 }
 
@@ -332,7 +351,7 @@ pub fn make<F: Shelf, S: Source>(
     ensures rises { S.faults input.old ≤ S.faults input.new }
     ensures made { IfOk result (λ ready. (made : Made (job_seen job.entry) (F.texts shelf.old)
         (S.left input.old) (S.left input.new))
-        × (encode_lower ready.output.items ++ ready.tail.items ≡ report_of made)) }
+        × (shown (option_map (λ v. v.items) ready.output) ready.lines.items ≡ made.shown)) }
     ensures room { IfOk result (λ ready. 2 ≤ vec_len ready.buffer) }
     // However the sink stands.
     ensures stops { IfErr result (λ answer. (held_old : Option (List ℕ))
@@ -350,14 +369,16 @@ pub fn make<F: Shelf, S: Source>(
           write_faults_old = write_faults_old;
           write_faults_new = write_faults_new;
         }) (input.new ≡ input.old) (status_of answer) (text_of answer)) }
+    ensures file { IfErr result (λ answer. IsOfFile (job_seen job.entry).command
+        (F.texts shelf.old) (F.faults shelf.old) (F.faults shelf.new) answer) }
     ensures unread { IsMaking (job_seen job.entry).command → input.new ≡ input.old }
     ensures unfetched { files (job_seen job.entry).command ≡ [] → shelf.new ≡ shelf.old }
 {
-    let task = match task_of(alloc, job.command, shelf) {
+    let task = match task_of(alloc, job.command, job.most, shelf) {
         Ok(task) => task,
-        Err(fault) => return Err(Answer::File(fault)),
+        Err((fault, place)) => return Err(Answer::File(fault, place)),
     };
-    let bytes = match bytes_of(alloc, job.command, job.is_text, input) {
+    let bytes = match bytes_of(alloc, job.command, job.most, job.is_text, input) {
         Ok(bytes) => bytes,
         Err(answer) => return Err(answer),
     };
@@ -369,7 +390,7 @@ pub fn make<F: Shelf, S: Source>(
         Ok(made) => match zeros(alloc, PIECE) {
             Ok(buffer) => Ok(Ready {
                 output: made.0,
-                tail: made.1,
+                lines: made.1,
                 buffer,
             }),
             Err(_) => Err(Answer::Writing(WritingFault::NoMemory)),

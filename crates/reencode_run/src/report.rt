@@ -129,13 +129,13 @@ pub fn add_tail(text: &mut Vec<u8>, renamers: &Renamers) -> Result<(), AllocErro
     add_lines(text, renamers)
 }
 
-/// What is printed behind the digits: a line end, and the line of each renamer's counts.
-pub fn tail(alloc: Global, renamers: &Renamers) -> Result<Vec<u8>, AllocError>
+/// The line of each renamer's counts.
+pub fn lines_of(alloc: Global, renamers: &Renamers) -> Result<Vec<u8>, AllocError>
     ensures { AreCounts renamers.now → IfOk result
-        (λ text. text.items ≡ tail (counts_in renamers.now)) }
+        (λ text. text.items ≡ asked_lines (counts_in renamers.now)) }
 {
     let mut text = Vec::new(alloc);
-    add_tail(&mut text, renamers)?;
+    add_lines(&mut text, renamers)?;
     Ok(text)
 }
 

@@ -1,73 +1,117 @@
 //! The top call.
-ghost use Rattle.std.specs.Prelude.{None, Some, Option, List, ℕ, [], ◌∷◌, ◌<◌, Contains, decimal, ◌≡◌, ◌≢◌, ◌≤◌, ◌++◌, ◌↔◌, ◌⊎◌, codes, map, length, string_bytes, vec_len, OnOk, OnErr};
+ghost use Rattle.std.specs.Prelude.{None, Some, Option, List, ℕ, [], ◌∷◌, ◌<◌, Contains, decimal, ◌≡◌, ◌≢◌, ◌≤◌, ◌++◌, ◌↔◌, ◌⊎◌, codes, map, length, option_map, string_bytes, vec_len, IfOk, IfErr, OnOk, OnErr};
 ghost use Rattle.hex.specs.Hex.{encode_lower};
-ghost use Rattle.reencode_run.specs.Answer.{Ends, EndsFor, ForJob, HasNoDigits, IsBadFile, IsDecided, IsMaking, IsTooLong, IsUnfetched, IsUnread, Made, MakesModule, NamesNone, ReadsSource, Says, StopsWith, by_text, message, report_of, status_of, text_of};
+ghost use Rattle.reencode_run.specs.Answer.{Ends, EndsFor, ForJob, HasNoDigits, IsBadFile, IsDecided, IsMaking, IsTooLong, IsUnfetched, IsOfFile, IsUnread, Made, MakesModule, NamesNone, ReadsSource, Says, StopsWith, by_text, ended, lines_of, message, report_of, status_of, text_of};
 ghost use Rattle.reencode_run.specs.Words.{files, functions, job, job_seen};
 ghost use Rattle.wasm_shapes.specs.declared.Space.{Space};
 ghost use Rattle.wasm_shapes.specs.Names.{space_name};
 ghost use Rattle.reencode_run.specs.Tools.{stop};
 ghost use Rattle.reencode_run.specs.declared.renamers.Refusal.{Refusal};
 ghost use Rattle.reencode_run.specs.Renamers.{refusal_text};
+ghost use Rattle.reencode_run.specs.Report.{printed_as, shown};
 ghost use Rattle.reencode_run.specs.Outside.{Rose, TookFront, WhereTold, followed};
 
 use crate::answer::{Answer, ReencodingFault, WordsFault, WritingFault};
 use crate::make::{Ready, make};
 use crate::outside::{Failed, Shelf, Sink, Source};
-use crate::words::{Job, job_of};
-use crate::write::{write_all, write_digits};
+use crate::words::{Job, Notation, job_of};
+use crate::write::{write_all, write_both, write_digits};
 use std::alloc::Global;
 
-/// Prints output as digits through a buffer, and then the text behind them. After a failure a front
-/// of both was taken.
-fn print<K: Sink>(out: &mut K, output: &[u8], tail: &[u8], buffer: &mut [u8]) -> Result<(), Failed>
+/// Prints output as digits through a buffer, and behind a line end the lines about it. After a failure a front
+/// of all was taken.
+fn print_digits<K: Sink>(
+    out: &mut K,
+    output: &[u8],
+    lines: &[u8],
+    buffer: &mut [u8],
+) -> Result<(), Failed>
     requires { 2 ≤ length buffer.old }
     ensures rises { K.faults out.old ≤ K.faults out.new }
     ensures ok { OnOk result
         (WhereTold (K.held out.new)
-        (followed (K.held out.old) (encode_lower output.now ++ tail.now))) }
+        (followed (K.held out.old) (encode_lower output.now ++ codes "\n" ++ lines.now))) }
     ensures failed { OnErr result (Rose (K.faults out.old) (K.faults out.new)) }
     ensures front { OnErr result
-        (TookFront (K.held out.old) (K.held out.new) (encode_lower output.now ++ tail.now)) }
+        (TookFront (K.held out.old) (K.held out.new)
+        (encode_lower output.now ++ codes "\n" ++ lines.now)) }
 {
     match write_digits(out, output, buffer) {
-        Ok(()) => write_all(out, tail),
+        Ok(()) => write_both(out, b"\n", lines),
         Err(Failed) => Err(Failed),
     }
 }
 
-/// Prints what is ready.
-fn print_ready<K: Sink>(out: &mut K, ready: Ready) -> Result<(), Failed>
+/// Prints what a task shows in a notation.
+fn print<K: Sink>(
+    out: &mut K,
+    notation: Notation,
+    output: &Option<Vec<u8>>,
+    lines: &[u8],
+    buffer: &mut [u8],
+) -> Result<(), Failed>
+    requires { 2 ≤ length buffer.old }
+    ensures rises { K.faults out.old ≤ K.faults out.new }
+    ensures ok { OnOk result
+        (WhereTold (K.held out.new)
+        (followed (K.held out.old)
+        (printed_as notation (shown (option_map (λ v. v.items) output.now) lines.now)))) }
+    ensures failed { OnErr result (Rose (K.faults out.old) (K.faults out.new)) }
+    ensures front { OnErr result
+        (TookFront (K.held out.old) (K.held out.new)
+        (printed_as notation (shown (option_map (λ v. v.items) output.now) lines.now))) }
+{
+    match (notation, output) {
+        (Notation::Hexadecimal, Some(output)) => {
+            print_digits(out, output.as_slice(), lines, buffer)
+        }
+        (Notation::Hexadecimal, None) => write_all(out, lines),
+        (Notation::Binary, Some(output)) => write_all(out, output.as_slice()),
+        (Notation::Binary, None) => write_all(out, b""),
+    }
+}
+
+/// Prints what is ready, and gives back the lines about it.
+fn print_ready<K: Sink>(out: &mut K, notation: Notation, ready: Ready) -> Result<Vec<u8>, Failed>
     requires { 2 ≤ vec_len ready.buffer }
     ensures rises { K.faults out.old ≤ K.faults out.new }
     ensures ok { OnOk result
         (WhereTold (K.held out.new)
-        (followed (K.held out.old) (encode_lower ready.output.items ++ ready.tail.items))) }
+        (followed (K.held out.old)
+        (printed_as notation
+        (shown (option_map (λ v. v.items) ready.output) ready.lines.items)))) }
+    ensures lines { IfOk result (λ lines. lines.items ≡ ready.lines.items) }
     ensures failed { OnErr result (Rose (K.faults out.old) (K.faults out.new)) }
     ensures front { OnErr result
         (TookFront (K.held out.old) (K.held out.new)
-        (encode_lower ready.output.items ++ ready.tail.items)) }
+        (printed_as notation
+        (shown (option_map (λ v. v.items) ready.output) ready.lines.items))) }
 {
     let Ready {
         output,
-        tail,
+        lines,
         mut buffer,
     } = ready;
-    print(
+    match print(
         out,
-        output.as_slice(),
-        tail.as_slice(),
+        notation,
+        &output,
+        lines.as_slice(),
         buffer.as_mut_slice(),
-    )
+    ) {
+        Ok(()) => Ok(lines),
+        Err(Failed) => Err(Failed),
+    }
 }
 
-/// Does a job, and prints what is made.
-fn perform<F: Shelf, S: Source, K: Sink>(
+/// Does a job, and prints what is made. The lines about it come back.
+pub fn perform<F: Shelf, S: Source, K: Sink>(
     alloc: Global,
     job: Job<'_>,
     shelf: &mut F,
     input: &mut S,
     out: &mut K,
-) -> Answer
+) -> Result<Vec<u8>, Answer>
     requires { functions (job_seen job).command ≡ None → S.can_read input.old }
     ensures ends { Ends (job_seen job.entry) (record {
       texts = F.texts shelf.old;
@@ -81,20 +125,27 @@ fn perform<F: Shelf, S: Source, K: Sink>(
       held_new = K.held out.new;
       write_faults_old = K.faults out.old;
       write_faults_new = K.faults out.new;
-    }) (input.new ≡ input.old) (status_of result) (text_of result) }
+    }) (input.new ≡ input.old) (status_of (ended result)) (text_of (ended result)) }
+    ensures made { IfOk result (λ lines. (made : Made (job_seen job.entry) (F.texts shelf.old)
+        (S.left input.old) (S.left input.new))
+        × WhereTold (K.held out.new) (followed (K.held out.old) (report_of made))
+        × (lines.items ≡ lines_of made)) }
+    ensures stopped { IfErr result (λ answer. status_of answer ≢ 0) }
+    ensures file { IsOfFile (job_seen job.entry).command (F.texts shelf.old) (F.faults shelf.old)
+        (F.faults shelf.new) (ended result) }
     ensures shelf_rises { F.faults shelf.old ≤ F.faults shelf.new }
     ensures input_rises { S.faults input.old ≤ S.faults input.new }
     ensures out_rises { K.faults out.old ≤ K.faults out.new }
     ensures unread { IsMaking (job_seen job.entry).command → input.new ≡ input.old }
     ensures unfetched { files (job_seen job.entry).command ≡ [] → shelf.new ≡ shelf.old }
-    ensures untouched { status_of result ≢ 0 → status_of result ≢ 4 → out.new ≡ out.old }
+    ensures untouched { status_of (ended result) ≢ 0 → status_of (ended result) ≢ 4 → out.new ≡ out.old }
 {
     match make(alloc, job, shelf, input) {
-        Ok(ready) => match print_ready(out, ready) {
-            Ok(()) => Answer::Printed,
-            Err(Failed) => Answer::Writing(WritingFault::Failed),
+        Ok(ready) => match print_ready(out, job.notation, ready) {
+            Ok(lines) => Ok(lines),
+            Err(Failed) => Err(Answer::Writing(WritingFault::Failed)),
         },
-        Err(answer) => answer,
+        Err(answer) => Err(answer),
     }
 }
 
@@ -128,7 +179,10 @@ fn perform_words<F: Shelf, S: Source, K: Sink>(
     ensures untouched { status_of result ≢ 0 → status_of result ≢ 4 → out.new ≡ out.old }
 {
     match job_of(words) {
-        Some(job) => perform(alloc, job, shelf, input, out),
+        Some(job) => match perform(alloc, job, shelf, input, out) {
+            Ok(_) => Answer::Printed,
+            Err(answer) => answer,
+        },
         None => Answer::Words(WordsFault::NotAccepted),
     }
 }
@@ -277,7 +331,7 @@ pub fn run<F: Shelf, S: Source, K: Sink, D: Sink>(
     ensures bad_renaming { result ≡ 11 → ForJob (job (map string_bytes words.now))
         (λ j. IsBadFile j.command (F.texts shelf.old)) }
     ensures too_long { result ≡ 13 → ForJob (job (map string_bytes words.now))
-        (λ j. IsTooLong j.command (F.texts shelf.old) (S.left input.old) (S.left input.new)
+        (λ j. IsTooLong j.command j.most (F.texts shelf.old) (S.left input.old) (S.left input.new)
         (input.new ≡ input.old)) }
     ensures not_hexadecimal { result ≡ 14 → ForJob (job (map string_bytes words.now))
         (λ j. HasNoDigits j (F.texts shelf.old) (S.left input.old) (S.left input.new)) }

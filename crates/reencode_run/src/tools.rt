@@ -1,8 +1,8 @@
 //! What the tools over modules make of their bytes, and why they make nothing.
-ghost use Rattle.std.specs.Prelude.{◌≡◌, ◌++◌, codes, IfOk, IfErr, None, Some, OnOk};
-ghost use Rattle.hex.specs.Hex.{encode_lower};
+ghost use Rattle.std.specs.Prelude.{◌≡◌, ◌++◌, [], codes, IfOk, IfErr, None, Some, OnOk};
 ghost use Rattle.reencode_run.specs.Errors.{EndsAs, HasStatus};
-ghost use Rattle.reencode_run.specs.Tools.{EndsMerging, EndsPruning, EndsRenumbering, PrintsMerged, PrintsPruned, PrintsRenumbered, StopsMerging, StopsPruning, StopsRenumbering, TellsMerging, TellsPruning, TellsRenumbering, no_refusal, spaced, stop};
+ghost use Rattle.reencode_run.specs.Report.{with_output};
+ghost use Rattle.reencode_run.specs.Tools.{EndsMerging, EndsPruning, EndsRenumbering, ShowsMerged, ShowsPruned, ShowsRenumbered, StopsMerging, StopsPruning, StopsRenumbering, TellsMerging, TellsPruning, TellsRenumbering, no_refusal, spaced, stop};
 
 use crate::answer::{ReencodingFault, TaskFault, fault_or_refusal};
 use crate::report::add_number;
@@ -31,15 +31,6 @@ fn of(by: u8, fault: ReencodingFault) -> TaskFault
     }
 }
 
-/// The text behind the digits: a line end.
-fn line_end(alloc: Global) -> Result<Vec<u8>, AllocError>
-    ensures { IfOk result (λ text. text.items ≡ codes "\n") }
-{
-    let mut text = Vec::new(alloc);
-    text.extend_from_slice(b"\n")?;
-    Ok(text)
-}
-
 /// Adds each number behind a space.
 fn add_spaced(text: &mut Vec<u8>, numbers: &[u32]) -> Result<(), AllocError>
     ensures { OnOk result (text.new.items ≡ text.old.items ++ spaced numbers.now) }
@@ -51,12 +42,12 @@ fn add_spaced(text: &mut Vec<u8>, numbers: &[u32]) -> Result<(), AllocError>
     Ok(())
 }
 
-/// The text behind the digits of a module without some functions: a line end, and the line of those that are kept.
+/// The line of the functions that are kept.
 fn kept_line(alloc: Global, kept: &[u32]) -> Result<Vec<u8>, AllocError>
-    ensures { IfOk result (λ text. text.items ≡ codes "\nkept" ++ spaced kept.now ++ codes "\n") }
+    ensures { IfOk result (λ text. text.items ≡ codes "kept" ++ spaced kept.now ++ codes "\n") }
 {
     let mut text = Vec::new(alloc);
-    text.extend_from_slice(b"\nkept")?;
+    text.extend_from_slice(b"kept")?;
     add_spaced(&mut text, kept)?;
     text.extend_from_slice(b"\n")?;
     Ok(text)
@@ -131,30 +122,27 @@ fn merging_fault(fault: MergeFault, ceiling: u32) -> TaskFault
     }
 }
 
-/// What is printed of a module whose functions are moved to where an order says.
+/// The module whose functions are moved to where an order says.
 pub fn renumbered(
     alloc: Global,
     bytes: &[u8],
     order: &[u32],
     ceiling: u32,
-) -> Result<(Vec<u8>, Vec<u8>), TaskFault>
-    ensures ok { IfOk result (λ p. PrintsRenumbered order.now ceiling bytes.now
-        (encode_lower p.0.items ++ p.1.items)) }
+) -> Result<Vec<u8>, TaskFault>
+    ensures ok { IfOk result (λ output. ShowsRenumbered order.now ceiling bytes.now
+        (with_output output.items [])) }
     ensures stops { IfErr result (StopsRenumbering order.now ceiling bytes.now) }
 {
     match renumber(alloc, bytes, order, ceiling) {
-        Ok(output) => match line_end(alloc) {
-            Ok(end) => Ok((output, end)),
-            Err(_) => Err(alone(ReencodingFault::NoMemory)),
-        },
+        Ok(output) => Ok(output),
         Err(fault) => Err(renumbering_fault(fault, ceiling)),
     }
 }
 
-/// What is printed of a module without the functions that nothing reaches.
+/// A module without the functions that nothing reaches, and the line of those that are kept.
 pub fn pruned(alloc: Global, bytes: &[u8], ceiling: u32) -> Result<(Vec<u8>, Vec<u8>), TaskFault>
-    ensures ok { IfOk result (λ p. PrintsPruned ceiling bytes.now
-        (encode_lower p.0.items ++ p.1.items)) }
+    ensures ok { IfOk result (λ p. ShowsPruned ceiling bytes.now
+        (with_output p.0.items p.1.items)) }
     ensures stops { IfErr result (StopsPruning ceiling bytes.now) }
 {
     match prune(alloc, bytes, ceiling) {
@@ -171,22 +159,19 @@ pub fn pruned(alloc: Global, bytes: &[u8], ceiling: u32) -> Result<(Vec<u8>, Vec
     }
 }
 
-/// What is printed of one module that is made of two.
+/// The one module that is made of two.
 pub fn merged(
     alloc: Global,
     first: &[u8],
     second: &[u8],
     ceiling: u32,
-) -> Result<(Vec<u8>, Vec<u8>), TaskFault>
-    ensures ok { IfOk result (λ p. PrintsMerged second.now ceiling first.now
-        (encode_lower p.0.items ++ p.1.items)) }
+) -> Result<Vec<u8>, TaskFault>
+    ensures ok { IfOk result (λ output. ShowsMerged second.now ceiling first.now
+        (with_output output.items [])) }
     ensures stops { IfErr result (StopsMerging second.now ceiling first.now) }
 {
     match merge(alloc, first, second, ceiling) {
-        Ok(output) => match line_end(alloc) {
-            Ok(end) => Ok((output, end)),
-            Err(_) => Err(alone(ReencodingFault::NoMemory)),
-        },
+        Ok(output) => Ok(output),
         Err(fault) => Err(merging_fault(fault, ceiling)),
     }
 }

@@ -1,11 +1,14 @@
 //! The words of the command line.
-ghost use Rattle.std.specs.Prelude.{◌≡◌, map, option_map, string_bytes};
-ghost use Rattle.reencode_run.specs.Words.{command, command_seen, job, job_seen, functions, long_command, longer_command, short_command, without_ceiling, without_flag};
+ghost use Rattle.std.specs.Prelude.{◌≡◌, ℕ, map, option_map, string_bytes};
+ghost use Rattle.reencode_run.specs.Words.{command, command_seen, job, job_seen, functions, long_command, longer_command, most_bytes, short_command, without_ceiling, without_flag};
 
 use crate::index::index_of;
 
 /// The most functions that a made module may have.
 const MOST_FUNCTIONS: u32 = 1_000_000;
+
+/// The most bytes that an input, or the file of a module, may have: 64 MiB.
+const MOST_INPUT: u32 = 67_108_864;
 
 /// What is to be done.
 #[derive(Clone, Copy, Debug)]
@@ -30,7 +33,8 @@ pub enum Command<'a> {
 
 /// How many functions a command makes a module of, where it makes one.
 pub fn functions(command: Command<'_>) -> Option<u32>
-    ensures { result ≡ functions (command_seen command.entry) }
+    // However long the file of a module may be.
+    ensures { (most : ℕ) → result ≡ functions (command_seen most command.entry) }
 {
     match command {
         Command::Generate(n) => Some(n),
@@ -44,13 +48,26 @@ pub fn functions(command: Command<'_>) -> Option<u32>
     }
 }
 
-/// What the words ask for.
+/// How an output is written.
+#[derive(Clone, Copy, Debug, PartialEq, Eq)]
+pub enum Notation {
+    /// As hexadecimal digits, with the lines about it behind them.
+    Hexadecimal,
+    /// As its bytes alone.
+    Binary,
+}
+
+/// What is asked for.
 #[derive(Clone, Copy, Debug)]
 pub struct Job<'a> {
     /// Whether the input is hexadecimal text.
     pub is_text: bool,
+    /// How the output is written.
+    pub notation: Notation,
     /// The most bytes that a frame of the output may have.
     pub ceiling: u32,
+    /// The most bytes that the input, or the file of a module, may have.
+    pub most: u32,
     /// What is to be done.
     pub command: Command<'a>,
 }
@@ -82,7 +99,7 @@ fn ceiling_of(words: &[String]) -> Option<(u32, &[String])>
 
 /// The command that is one word.
 fn short_command(word: &str) -> Option<Command<'static>>
-    ensures { option_map command_seen result ≡ short_command word.now }
+    ensures { option_map (command_seen most_bytes) result ≡ short_command word.now }
 {
     if word == "plain" {
         return Some(Command::Plain);
@@ -98,7 +115,7 @@ fn short_command(word: &str) -> Option<Command<'static>>
 
 /// The command that is a word and an argument.
 fn long_command<'a>(word: &str, argument: &'a str) -> Option<Command<'a>>
-    ensures { option_map command_seen result ≡ long_command word.now argument.now }
+    ensures { option_map (command_seen most_bytes) result ≡ long_command word.now argument.now }
 {
     if word == "rename" {
         return Some(Command::Rename(argument));
@@ -120,7 +137,8 @@ fn long_command<'a>(word: &str, argument: &'a str) -> Option<Command<'a>>
 
 /// The command that is a word and two arguments.
 fn longer_command<'a>(word: &str, first: &'a str, second: &'a str) -> Option<Command<'a>>
-    ensures { option_map command_seen result ≡ longer_command word.now first.now second.now }
+    ensures { option_map (command_seen most_bytes) result
+        ≡ longer_command word.now first.now second.now }
 {
     if word == "twice" {
         Some(Command::Twice(first, second))
@@ -131,7 +149,8 @@ fn longer_command<'a>(word: &str, first: &'a str, second: &'a str) -> Option<Com
 
 /// The command that the words are.
 fn command_of(words: &[String]) -> Option<Command<'_>>
-    ensures { option_map command_seen result ≡ command (map string_bytes words.now) }
+    ensures { option_map (command_seen most_bytes) result
+        ≡ command (map string_bytes words.now) }
 {
     match words {
         [word] => short_command(word.as_str()),
@@ -152,7 +171,9 @@ pub fn job_of(words: &[String]) -> Option<Job<'_>>
         Some((ceiling, rest)) => match command_of(rest) {
             Some(command) => Some(Job {
                 is_text,
+                notation: Notation::Hexadecimal,
                 ceiling,
+                most: MOST_INPUT,
                 command,
             }),
             None => None,

@@ -1,5 +1,5 @@
 //! Writing whole texts to a sink.
-ghost use Rattle.std.specs.Prelude.{◌≡◌, ◌*◌, ◌≤◌, length, OnOk, OnErr};
+ghost use Rattle.std.specs.Prelude.{◌≡◌, ◌*◌, ◌≤◌, ◌++◌, length, OnOk, OnErr};
 ghost use Rattle.hex.specs.Hex.{encode_lower};
 ghost use Rattle.reencode_run.specs.Outside.{Rose, WhereTold, followed, TookFront};
 
@@ -20,6 +20,21 @@ pub fn write_all<K: Sink>(out: &mut K, text: &[u8]) -> Result<(), Failed>
         }
     }
     Ok(())
+}
+
+/// Writes a text and then another. After a failure a front of both was taken.
+pub fn write_both<K: Sink>(out: &mut K, first: &[u8], second: &[u8]) -> Result<(), Failed>
+    ensures rises { K.faults out.old ≤ K.faults out.new }
+    ensures ok { OnOk result
+        (WhereTold (K.held out.new) (followed (K.held out.old) (first.now ++ second.now))) }
+    ensures failed { OnErr result (Rose (K.faults out.old) (K.faults out.new)) }
+    ensures front { OnErr result
+        (TookFront (K.held out.old) (K.held out.new) (first.now ++ second.now)) }
+{
+    match write_all(out, first) {
+        Ok(()) => write_all(out, second),
+        Err(Failed) => Err(Failed),
+    }
 }
 
 /// Writes bytes as digits in lower case, through a buffer that has just room for them.

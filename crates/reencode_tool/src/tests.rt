@@ -6,7 +6,7 @@ use reencode_run::memory::{MemShelf, MemSink, MemSource};
 use reencode_run::outside::{Failed, Shelf, ShelfFault, Sink, Source};
 use reencode_run::renamers::{Refusal, Renamers};
 use reencode_run::renaming::{RenamingFault, renaming_of};
-use reencode_run::report::tail;
+use reencode_run::report::lines_of;
 use reencode_run::standard::FileShelf;
 use reencode_run::sure::{SureShelf, SureSink, SureSource};
 use reencode_run::tool::run;
@@ -1535,7 +1535,7 @@ fn failing_outside(rt: HostRuntime) -> Result<(), Fail> {
 
 /// The line of the counts.
 fn line_of(alloc: Global, renamers: &Renamers) -> Option<Vec<u8>> {
-    tail(alloc, renamers).ok()
+    lines_of(alloc, renamers).ok()
 }
 
 /// A renamer that was asked some things.
@@ -1558,7 +1558,7 @@ fn try_line(rt: &impl Abort, alloc: Global, renamers: Renamers, wanted: &[u8]) -
 fn line_of_counts(rt: HostRuntime) -> Result<(), Fail> {
     let alloc = rt.alloc();
     let none = Renamers::Alone(Renamer::new(alloc));
-    try_line(&rt, alloc, none, b"\nasked\n")?;
+    try_line(&rt, alloc, none, b"asked\n")?;
     let mut renamer = asked(
         alloc,
         &[
@@ -1577,7 +1577,7 @@ fn line_of_counts(rt: HostRuntime) -> Result<(), Fail> {
         &rt,
         alloc,
         both,
-        b"\nasked function 1 type 2 data_count 1 section_hook 10 pop 1\nasked\n",
+        b"asked function 1 type 2 data_count 1 section_hook 10 pop 1\nasked\n",
     )
 }
 

@@ -1,6 +1,6 @@
-use Rattle.std.proofs.Common.{◌≡◌, ◌++◌, List, ℕ, Ok, Err, refl, ap, subst}
-use Rattle.hex.specs.Hex.{encode_lower}
+use Rattle.std.proofs.Common.{◌≡◌, List, ℕ, Ok, Err, option_map, refl, ap, subst}
 use Rattle.reencode_run.specs.Answer.{Ends}
+use Rattle.reencode_run.specs.Report.{shown}
 use Rattle.reencode_run.specs.Tasks.{Does}
 use Rattle.reencode_run.specs.Words.{command_seen, functions, job_seen}
 use Rattle.reencode_run.proofs.AnswerLemmas.{before_output, by_file, by_form, by_reencoding, by_source}
@@ -8,12 +8,12 @@ use Rattle.reencode_run.proofs.make.make.Goals as goal
 
 pub returns-in-Err-clause-stops : goal.returns-in-Err-clause-stops
 returns-in-Err-clause-stops g c held_old held_new w x =
-    by_file (job_seen c.args.job) (before_output _ _ _ _ _ _ _ held_old held_new w x) (c.args.input.now ≡ c.args.input.now) c.in-Err.fault c.in-Err.ensures.stops refl
+    by_file (job_seen c.args.job) (before_output _ _ _ _ _ _ _ held_old held_new w x) (c.args.input.now ≡ c.args.input.now) c.in-Err.fault c.in-Err.place c.in-Err.ensures.stops refl
 
 pub returns-in-Err-bytes_of-clause-stops : goal.returns-in-Err-bytes_of-clause-stops
 returns-in-Err-bytes_of-clause-stops g c held_old held_new w x =
     by_source (job_seen c.args.job) (before_output _ _ _ _ _ _ _ held_old held_new w x) _ c.in-Ok.task c.in-Ok.ensures.uses
-    (functions (command_seen c.args.job.command)) refl _ c.in-Err-bytes_of.ensures.stops
+    (functions (command_seen c.args.job.most c.args.job.command)) refl _ c.in-Err-bytes_of.ensures.stops
 
 pub returns-in-Err-formed-clause-stops : goal.returns-in-Err-formed-clause-stops
 returns-in-Err-formed-clause-stops g c held_old held_new w x =
@@ -43,8 +43,8 @@ returns-clause-stops g c held_old held_new w x =
 pub returns-in-Ok-zeros-clause-made : goal.returns-in-Ok-zeros-clause-made
 returns-in-Ok-zeros-clause-made g c =
     let task = c.in-Ok-formed.task in
-    let text = encode_lower c.in-Ok-shown.made.0.items ++ c.in-Ok-shown.made.1.items in
-    let does = subst (λ (b : List ℕ). Does task c.args.job.ceiling b (Ok text)) c.as_slice.ensures.value c.in-Ok-shown.ensures.ok in (
+    let s = shown (option_map (λ v. v.items) c.in-Ok-shown.made.0) c.in-Ok-shown.made.1.items in
+    let does = subst (λ (b : List ℕ). Does task c.args.job.ceiling b (Ok s)) c.as_slice.ensures.value c.in-Ok-shown.ensures.ok in (
       record {
         work = record {
           said = c.in-Ok.task;
@@ -54,7 +54,7 @@ returns-in-Ok-zeros-clause-made g c =
           is_formed = c.in-Ok-formed.ensures.ok;
           takes = c.in-Ok-bytes_of.ensures.takes;
         };
-        text = text;
+        shown = s;
         does = does;
       },
       refl,

@@ -18,11 +18,11 @@ returns-in-NotAnOrder-clause-front g c = rw c.in-NotAnOrder.is c.write_number-in
 pub returns-in-Clash-clause-ok : goal.returns-in-Clash-clause-ok
 returns-in-Clash-clause-ok g c =
     rw c.in-Clash.is
-    (subst (λ (t : List ℕ). OnOk c.write_both.result (WhereTold (g.D.Sink.held c.write_both.new.err) (followed (g.D.Sink.held c.args.err.now) (codes "export clash " ++ t)))) c.as_slice.ensures
+    (subst (λ (t : List ℕ). OnOk c.write_both.result (WhereTold (g.D.Sink.held c.write_both.new.out) (followed (g.D.Sink.held c.args.err.now) (codes "export clash " ++ t)))) c.as_slice.ensures
     c.write_both.ensures.ok)
 
 pub returns-in-Clash-clause-front : goal.returns-in-Clash-clause-front
 returns-in-Clash-clause-front g c =
     rw c.in-Clash.is
-    (subst (λ (t : List ℕ). OnErr c.write_both.result (TookFront (g.D.Sink.held c.args.err.now) (g.D.Sink.held c.write_both.new.err) (codes "export clash " ++ t))) c.as_slice.ensures
+    (subst (λ (t : List ℕ). OnErr c.write_both.result (TookFront (g.D.Sink.held c.args.err.now) (g.D.Sink.held c.write_both.new.out) (codes "export clash " ++ t))) c.as_slice.ensures
     c.write_both.ensures.front)

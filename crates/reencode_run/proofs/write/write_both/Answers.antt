@@ -1,5 +1,5 @@
 use Rattle.reencode_run.proofs.OutsideLemmas.{TookFront-behind_err, TookFront-longer}
-use Rattle.reencode_run.proofs.answer.write_both.Goals as goal
+use Rattle.reencode_run.proofs.write.write_both.Goals as goal
 
 pub returns-in-Ok-clause-front : goal.returns-in-Ok-clause-front
 returns-in-Ok-clause-front g c =

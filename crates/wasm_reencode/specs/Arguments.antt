@@ -1,0 +1,54 @@
+-- What a command and its arguments ask for.
+use Rattle.std.specs.Prelude.{◌≡◌, ℕ, ◌-◌, ◌^◌, List, [], Option, Some, None, codes, option_map, unwrap_or, if◌then◌else◌, Bool, true, false}
+use Rattle.clap.specs.declared.parser.matches.Found.{Found}
+use Rattle.clap.specs.Matches.{first_value, one_text, subcommand_name_of}
+use Rattle.clap.specs.Simple.{subcommand_rows}
+use Rattle.clap.specs.Walk.{rows_of}
+use Rattle.clap.specs.declared.parser.matches.ArgMatches.{ArgMatches}
+use Rattle.clap.specs.declared.parser.matches.ArgMatches.TheViews.{out-ArgMatches}
+use Rattle.wasm_reencode.specs.declared.words.Asked.{Asked}
+use Rattle.reencode_run.specs.Words.{Command, command_seen, is_word, plain, rename, twice, renumber, prune, merge}
+
+-- the text of an argument, or nothing
+abbrev pub argument : Found → List ℕ → List ℕ
+argument found id = unwrap_or (first_value found id) []
+
+-- a renaming by the first file, or by both
+abbrev pub renaming : List ℕ → Option (List ℕ) → Command
+renaming first None = rename first
+renaming first (Some second) = twice first second
+
+-- what a command of this name asks for by its arguments; the file of a module has at most so many bytes
+abbrev pub named : ℕ → List ℕ → Found → Option Command
+named most name found =
+    if is_word name (codes "plain") then Some plain
+    else if is_word name (codes "rename") then Some (renaming (argument found (codes "map")) (first_value found (codes "then")))
+    else if is_word name (codes "renumber") then Some (renumber (argument found (codes "order")))
+    else if is_word name (codes "prune") then Some prune
+    else if is_word name (codes "merge") then Some (merge most (argument found (codes "second")))
+    else None
+
+-- a flag is set, or not, as the words have it
+pub record IsFlag (found : Found) (id : List ℕ) (flag : Bool) : Type 0 where
+  pub none : one_text found id ≡ None → flag ≡ false
+  pub set : one_text found id ≡ Some (codes "true") → flag ≡ true
+  pub unset : one_text found id ≡ Some (codes "false") → flag ≡ false
+
+-- what is asked for by a command of this name with these arguments
+pub record AsksBy (name : List ℕ) (found : Found) (a : Asked) : Type 0 where
+  pub command : (most : ℕ) → named most name found ≡ Some (command_seen most a.request.command)
+  pub input : a.request.input.now ≡ argument found (codes "input")
+  pub output : a.request.output.now ≡ argument found (codes "output")
+  pub most : a.request.most ≡ 2 ^ 32 - 1
+  pub ceiling : one_text found (codes "max-frame") ≡ None → a.request.ceiling ≡ 2 ^ 32 - 1
+  pub counts : IsFlag found (codes "counts") a.counts
+  pub quiet : IsFlag found (codes "quiet") a.quiet
+  pub kept : option_map (λ name. name.now) a.kept ≡ first_value found (codes "kept")
+
+-- what is asked for by the command that the words name, and by its arguments
+pub record IsAsked (m : ArgMatches) (a : Asked) : Type 0 where
+  pub name : List ℕ
+  pub found : Found
+  pub named : subcommand_name_of m ≡ Some name
+  pub arguments : option_map (λ p. p.1) (subcommand_rows (out-ArgMatches m).subcommand) ≡ Some (rows_of found)
+  pub asks : AsksBy name found a

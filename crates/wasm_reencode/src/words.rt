@@ -1,0 +1,243 @@
+//! The words of the command line.
+ghost use Rattle.std.specs.Prelude.{ℕ, ◌≡◌, ◌-◌, ◌^◌, None, IfSome, codes, option_map};
+ghost use Rattle.clap.specs.Matches.{first_value, found_of, one_text};
+ghost use Rattle.reencode_run.specs.Words.{command_seen};
+ghost use Rattle.wasm_reencode.specs.Arguments.{AsksBy, IsAsked, argument, named, renaming};
+
+use clap::{Arg, ArgAction, ArgMatches, Command, value_parser};
+use reencode_run::transform::Request;
+use reencode_run::words;
+use std::alloc::{AllocError, Global};
+
+/// What the words ask for.
+#[derive(Clone, Copy, Debug)]
+pub struct Asked<'a> {
+    /// What is to be done.
+    pub request: Request<'a>,
+    /// Whether the counts are told.
+    pub counts: bool,
+    /// Whether what goes wrong is told by the status alone.
+    pub quiet: bool,
+    /// The name of the file that gets the line of the functions that are kept.
+    pub kept: Option<&'a str>,
+}
+
+/// A file that has to be named.
+fn needed(alloc: Global, id: &'static str, name: &'static str, help: &'static str) -> Arg<'static> {
+    Arg::new(alloc, id)
+        .required(true)
+        .value_name(name)
+        .help(help)
+}
+
+/// What each command takes beside its own.
+fn with_output(alloc: Global, command: Command<'static>) -> Result<Command<'static>, AllocError> {
+    let output = needed(
+        alloc,
+        "output",
+        "OUT",
+        "The new binary, or - for standard output",
+    )
+    .short('o')
+    .long("output");
+    let frame = Arg::new(alloc, "max-frame")
+        .long("max-frame")
+        .value_name("N")
+        .value_parser(value_parser!(u32))
+        .help("The most bytes that a section, a function or a name subsection may have");
+    let quiet = Arg::new(alloc, "quiet")
+        .short('q')
+        .long("quiet")
+        .action(ArgAction::SetTrue)
+        .help("Tell what goes wrong by the status alone");
+    command.arg(output)?.arg(frame)?.arg(quiet)
+}
+
+/// A command over one binary.
+fn over_one(
+    alloc: Global,
+    name: &'static str,
+    about: &'static str,
+) -> Result<Command<'static>, AllocError> {
+    let input = needed(alloc, "input", "IN", "The binary, or - for standard input");
+    with_output(alloc, Command::new(alloc, name).about(about).arg(input)?)
+}
+
+/// Whether the counts are told.
+fn counts(alloc: Global) -> Arg<'static> {
+    Arg::new(alloc, "counts")
+        .long("counts")
+        .action(ArgAction::SetTrue)
+        .help("Say on standard error how often each kind of index was asked")
+}
+
+/// The command without a renaming.
+fn plain(alloc: Global) -> Result<Command<'static>, AllocError> {
+    over_one(
+        alloc,
+        "plain",
+        "Writes a core module or a component in its normal spelling",
+    )?
+    .arg(counts(alloc))
+}
+
+/// The command with one renaming or two.
+fn rename(alloc: Global) -> Result<Command<'static>, AllocError> {
+    let map = needed(alloc, "map", "FILE", "The renaming, a JSON object").long("map");
+    let then = Arg::new(alloc, "then")
+        .long("then")
+        .value_name("FILE")
+        .help("A second renaming, of what comes of the first");
+    over_one(alloc, "rename", "Renames the indices as a file says")?
+        .arg(map)?
+        .arg(then)?
+        .arg(counts(alloc))
+}
+
+/// The command that moves functions.
+fn renumber(alloc: Global) -> Result<Command<'static>, AllocError> {
+    let order = needed(
+        alloc,
+        "order",
+        "FILE",
+        "The new place of each function that the module defines, a JSON array",
+    )
+    .long("order");
+    over_one(
+        alloc,
+        "renumber",
+        "Moves the functions of a core module, and renames their uses",
+    )?
+    .arg(order)
+}
+
+/// The command that removes functions.
+fn prune(alloc: Global) -> Result<Command<'static>, AllocError> {
+    let kept = Arg::new(alloc, "kept").long("kept").value_name("FILE").help(
+        "Gets a line of the functions that are kept, by their old indices",
+    );
+    over_one(
+        alloc,
+        "prune",
+        "Removes the functions of a core module that nothing reaches",
+    )?
+    .arg(kept)
+}
+
+/// The command that makes one module of two.
+fn merge(alloc: Global) -> Result<Command<'static>, AllocError> {
+    let first = needed(
+        alloc,
+        "input",
+        "FIRST",
+        "The first module, or - for standard input",
+    );
+    let second = needed(alloc, "second", "SECOND", "The second module");
+    let merge = Command::new(alloc, "merge")
+        .about("Makes one core module of two")
+        .arg(first)?
+        .arg(second)?;
+    with_output(alloc, merge)
+}
+
+/// The program.
+pub fn program(alloc: Global) -> Result<Command<'static>, AllocError> {
+    Command::new(alloc, "wasm-reencode")
+        .about("Re-encodes WebAssembly binaries")
+        .version("0.1.0")
+        .bin_name("wasm-reencode")?
+        .subcommand_required(true)
+        .arg_required_else_help(true)
+        .subcommand(plain(alloc)?)?
+        .subcommand(rename(alloc)?)?
+        .subcommand(renumber(alloc)?)?
+        .subcommand(prune(alloc)?)?
+        .subcommand(merge(alloc)?)
+}
+
+/// The text of an argument, or nothing.
+fn text<'a>(matches: &ArgMatches<'a>, id: &str) -> &'a str
+    ensures { result.now ≡ argument (found_of matches.now) id.now }
+{
+    match matches.get_str(id) {
+        Some(text) => text,
+        None => "",
+    }
+}
+
+/// A renaming by one file or by two.
+fn renaming<'a>(matches: &ArgMatches<'a>) -> words::Command<'a>
+    ensures { (most : ℕ) → command_seen most result
+        ≡ renaming (argument (found_of matches.now) (codes "map"))
+        (first_value (found_of matches.now) (codes "then")) }
+{
+    match matches.get_str("then") {
+        Some(then) => words::Command::Twice(text(matches, "map"), then),
+        None => words::Command::Rename(text(matches, "map")),
+    }
+}
+
+/// What a command of this name asks for by its arguments.
+fn command_of<'a>(name: &str, matches: &ArgMatches<'a>) -> Option<words::Command<'a>>
+    // However long the file of a module may be.
+    ensures { (most : ℕ) → option_map (command_seen most) result
+        ≡ named most name.now (found_of matches.now) }
+{
+    if name == "plain" {
+        return Some(words::Command::Plain);
+    }
+    if name == "rename" {
+        return Some(renaming(matches));
+    }
+    if name == "renumber" {
+        return Some(words::Command::Renumber(text(matches, "order")));
+    }
+    if name == "prune" {
+        return Some(words::Command::Prune);
+    }
+    if name == "merge" {
+        return Some(words::Command::Merge(text(matches, "second")));
+    }
+    None
+}
+
+/// What is asked for of a command.
+fn request_of<'a>(command: words::Command<'a>, matches: &ArgMatches<'a>) -> Request<'a>
+    ensures input { result.input.now ≡ argument (found_of matches.now) (codes "input") }
+    ensures output { result.output.now ≡ argument (found_of matches.now) (codes "output") }
+    ensures command { result.command ≡ command.entry }
+    ensures most { result.most ≡ 2 ^ 32 - 1 }
+    ensures ceiling { (one_text (found_of matches.now) (codes "max-frame") ≡ None)
+        → result.ceiling ≡ 2 ^ 32 - 1 }
+{
+    Request {
+        ceiling: matches.get_one::<u32>("max-frame").unwrap_or(u32::MAX),
+        most: u32::MAX,
+        command,
+        input: text(matches, "input"),
+        output: text(matches, "output"),
+    }
+}
+
+/// What the words ask for of a command of this name.
+fn asked_by<'a>(name: &str, matches: &ArgMatches<'a>) -> Option<Asked<'a>>
+    ensures { IfSome result (AsksBy name.now (found_of matches.now)) }
+{
+    let command = command_of(name, matches)?;
+    Some(Asked {
+        request: request_of(command, matches),
+        counts: matches.get_flag("counts"),
+        quiet: matches.get_flag("quiet"),
+        kept: matches.get_str("kept"),
+    })
+}
+
+/// What the words ask for.
+pub fn asked_of<'a>(matches: &ArgMatches<'a>) -> Option<Asked<'a>>
+    ensures { IfSome result (IsAsked matches.now) }
+{
+    match matches.subcommand() {
+        Some((name, matches)) => asked_by(name, matches),
+        None => None,
+    }
+}
