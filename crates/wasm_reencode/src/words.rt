@@ -23,7 +23,7 @@ pub struct Asked<'a> {
 }
 
 /// A file that has to be named.
-fn needed(alloc: Global, id: &'static str, name: &'static str, help: &'static str) -> Arg<'static> {
+fn needed<'a>(alloc: Global, id: &'a str, name: &'a str, help: &'a str) -> Arg<'a> {
     Arg::new(alloc, id)
         .required(true)
         .value_name(name)
@@ -31,7 +31,7 @@ fn needed(alloc: Global, id: &'static str, name: &'static str, help: &'static st
 }
 
 /// What each command takes beside its own.
-fn with_output(alloc: Global, command: Command<'static>) -> Result<Command<'static>, AllocError> {
+fn with_output<'a>(alloc: Global, command: Command<'a>) -> Result<Command<'a>, AllocError> {
     let output = needed(
         alloc,
         "output",
@@ -54,17 +54,13 @@ fn with_output(alloc: Global, command: Command<'static>) -> Result<Command<'stat
 }
 
 /// A command over one binary.
-fn over_one(
-    alloc: Global,
-    name: &'static str,
-    about: &'static str,
-) -> Result<Command<'static>, AllocError> {
+fn over_one<'a>(alloc: Global, name: &'a str, about: &'a str) -> Result<Command<'a>, AllocError> {
     let input = needed(alloc, "input", "IN", "The binary, or - for standard input");
     with_output(alloc, Command::new(alloc, name).about(about).arg(input)?)
 }
 
 /// Whether the counts are told.
-fn counts(alloc: Global) -> Arg<'static> {
+fn counts<'a>(alloc: Global) -> Arg<'a> {
     Arg::new(alloc, "counts")
         .long("counts")
         .action(ArgAction::SetTrue)
@@ -72,7 +68,7 @@ fn counts(alloc: Global) -> Arg<'static> {
 }
 
 /// The command without a renaming.
-fn plain(alloc: Global) -> Result<Command<'static>, AllocError> {
+fn plain<'a>(alloc: Global) -> Result<Command<'a>, AllocError> {
     over_one(
         alloc,
         "plain",
@@ -82,7 +78,7 @@ fn plain(alloc: Global) -> Result<Command<'static>, AllocError> {
 }
 
 /// The command with one renaming or two.
-fn rename(alloc: Global) -> Result<Command<'static>, AllocError> {
+fn rename<'a>(alloc: Global) -> Result<Command<'a>, AllocError> {
     let map = needed(alloc, "map", "FILE", "The renaming, a JSON object").long("map");
     let then = Arg::new(alloc, "then")
         .long("then")
@@ -95,7 +91,7 @@ fn rename(alloc: Global) -> Result<Command<'static>, AllocError> {
 }
 
 /// The command that moves functions.
-fn renumber(alloc: Global) -> Result<Command<'static>, AllocError> {
+fn renumber<'a>(alloc: Global) -> Result<Command<'a>, AllocError> {
     let order = needed(
         alloc,
         "order",
@@ -112,7 +108,7 @@ fn renumber(alloc: Global) -> Result<Command<'static>, AllocError> {
 }
 
 /// The command that removes functions.
-fn prune(alloc: Global) -> Result<Command<'static>, AllocError> {
+fn prune<'a>(alloc: Global) -> Result<Command<'a>, AllocError> {
     let kept = Arg::new(alloc, "kept").long("kept").value_name("FILE").help(
         "Gets a line of the functions that are kept, by their old indices",
     );
@@ -125,7 +121,7 @@ fn prune(alloc: Global) -> Result<Command<'static>, AllocError> {
 }
 
 /// The command that makes one module of two.
-fn merge(alloc: Global) -> Result<Command<'static>, AllocError> {
+fn merge<'a>(alloc: Global) -> Result<Command<'a>, AllocError> {
     let first = needed(
         alloc,
         "input",
@@ -141,7 +137,7 @@ fn merge(alloc: Global) -> Result<Command<'static>, AllocError> {
 }
 
 /// The program.
-pub fn program(alloc: Global) -> Result<Command<'static>, AllocError> {
+pub fn program<'a>(alloc: Global) -> Result<Command<'a>, AllocError> {
     Command::new(alloc, "wasm-reencode")
         .about("Re-encodes WebAssembly binaries")
         .version("0.1.0")
