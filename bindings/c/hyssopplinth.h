@@ -174,7 +174,8 @@ static inline uint32_t reencode_rename(const uint8_t *bytes, size_t length, cons
                                strict, ceiling, REENCODE_SOME(uint8_t, room), room_length, outcome);
 }
 
-/* The visits, in order, with their places. They depend on the bytes alone. It takes as much memory as the room has. */
+/* The visits, in order, with their places. They depend on the bytes alone. It takes as much memory as the room has,
+   beside what re-encoding a section takes, or a whole component. */
 static inline uint32_t reencode_visits(const uint8_t *bytes, size_t length,
                                        struct reencode_visit *room, size_t room_count, struct reencode_outcome *outcome) {
     return reencode_raw_visits(REENCODE_SOME(uint8_t, bytes), length,

@@ -6,29 +6,13 @@
 
    TABLE has lines of a space's number, an index and what becomes of it. */
 #include "hyssopplinth.h"
+#include "read_file.h"
 #include <string.h>
 
 struct table {
     struct reencode_entry *entries;
     size_t count;
 };
-
-static uint8_t *read_file(const char *path, size_t *length) {
-    FILE *file = fopen(path, "rb");
-    uint8_t *bytes = NULL;
-    long size;
-    if (!file) return NULL;
-    if (!fseek(file, 0, SEEK_END) && (size = ftell(file)) >= 0 && !fseek(file, 0, SEEK_SET)) {
-        *length = (size_t)size;
-        bytes = malloc(*length + 1);
-        if (bytes && fread(bytes, 1, *length, file) != *length) {
-            free(bytes);
-            bytes = NULL;
-        }
-    }
-    fclose(file);
-    return bytes;
-}
 
 static int read_table(const char *path, struct table *table) {
     FILE *file = fopen(path, "r");

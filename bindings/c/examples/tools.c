@@ -7,24 +7,8 @@
 
    ORDER is a file of numbers. */
 #include "hyssopplinth.h"
+#include "read_file.h"
 #include <string.h>
-
-static uint8_t *read_file(const char *path, size_t *length) {
-    FILE *file = fopen(path, "rb");
-    uint8_t *bytes = NULL;
-    long size;
-    if (!file) return NULL;
-    if (!fseek(file, 0, SEEK_END) && (size = ftell(file)) >= 0 && !fseek(file, 0, SEEK_SET)) {
-        *length = (size_t)size;
-        bytes = malloc(*length + 1);
-        if (bytes && fread(bytes, 1, *length, file) != *length) {
-            free(bytes);
-            bytes = NULL;
-        }
-    }
-    fclose(file);
-    return bytes;
-}
 
 static uint32_t *read_numbers(const char *path, size_t *count) {
     FILE *file = fopen(path, "r");

@@ -6,26 +6,10 @@
    export 1: 5          the second export is function 5
    start: 2             the start stands in no row */
 #include "hyssopplinth.h"
+#include "read_file.h"
 
 static const char *const sections[] = {"custom", "type", "import", "function", "table", "memory", "global",
                                        "export", "start", "element", "code", "data", "data count", "tag"};
-
-static uint8_t *read_file(const char *path, size_t *length) {
-    FILE *file = fopen(path, "rb");
-    uint8_t *bytes = NULL;
-    long size;
-    if (!file) return NULL;
-    if (!fseek(file, 0, SEEK_END) && (size = ftell(file)) >= 0 && !fseek(file, 0, SEEK_SET)) {
-        *length = (size_t)size;
-        bytes = malloc(*length + 1);
-        if (bytes && fread(bytes, 1, *length, file) != *length) {
-            free(bytes);
-            bytes = NULL;
-        }
-    }
-    fclose(file);
-    return bytes;
-}
 
 int main(int argc, char **argv) {
     const struct reencode_visit *last = NULL, *v;
