@@ -18,7 +18,10 @@ use Rattle.wasm_shapes.specs.Types.{rows_tree}
 use Rattle.wasm_shapes.proofs.Fronts.{nullable_sound}
 use Rattle.wasm_shapes.proofs.Lists.{no_bytes}
 use Rattle.wasm_write.specs.Held.{AreHeld, Held, Held-one, held_rows}
-use Rattle.wasm_write.proofs.HoldingBodies.{many_is, many_spelled}
+use Rattle.wasm_write.specs.Bodies.{HeldBody, code_tree, function_body, held_body}
+use Rattle.wasm_write.proofs.Holding.{held_grown, held_grown_is}
+use Rattle.wasm_write.proofs.HoldingBodies.{body_normal, body_spells, framed_spells, many_is, many_spelled, row_normal}
+use Rattle.reencode_core.specs.Sinks.{code_sound}
 
 many_normal : (xs ys : List Tree) → normal (rows_tree (xs ++ ys)) ≡ normal (rows_tree xs) ++ normal (rows_tree ys)
 many_normal [] ys = refl
@@ -91,3 +94,37 @@ more_than_number rows p one n q = ∥∥₁_elim p (λ x y. absurd x) (λ s. go 
 pub some_left : {n : ℕ} {rows left : List ℕ} → ((n : ℕ) → IsUnsigned 32 rows n → ⊥) → BeginsNumber 128 32 32 rows n left → 0 < length left
 some_left {n = n} {rows = rows} {left = []} more b = let P : List ℕ → Type 0 = λ z. IsUnsigned 32 z n in absurd (more n (subst P (sym (b.2 ∙ append-nil b.0)) b.1))
 some_left {left = x ∷ left} more b = omega arith
+
+-- ---- a body more
+
+-- a body has bytes
+pub body_fills : (bytes : List ℕ) → HeldBody bytes → 0 < length bytes
+body_fills [] h = absurd (∥∥₁_elim h.1 (λ x y. absurd x) (λ b. let never : nullable body ≡ true = nullable_sound b.shaped [] b.spelled refl in false≢true never))
+body_fills (b ∷ bytes) h = omega arith
+
+-- the length of a body takes a byte
+pub length_fills : (bytes : List ℕ) → length bytes < 2 ^ 32 → 0 < length (leb (length bytes))
+length_fills bytes short = some_number (leb_spells (length bytes) short)
+
+module _ {n : ℕ} {rows : List ℕ} (h : Held code_row n rows) {bytes : List ℕ} (held : HeldBody bytes) (short : length bytes < 2 ^ 32) where
+  abbrev row : Tree
+  row = code_tree (held_body bytes held)
+
+  grows : {new : List ℕ} → new ≡ rows ++ (leb (length bytes) ++ bytes) → new ≡ rows ++ normal row
+  grows e = e ∙ ap (λ (z : List ℕ). rows ++ z) (sym (row_normal held))
+
+  row_spells : ∥ Spells code_row (normal row) row ∥₁
+  row_spells =
+      let small : length (normal (function_body (held_body bytes held))) < 2 ^ 32 = rw (body_normal held) short in
+      framed_spells (held_body bytes held) small (body_spells held)
+
+  -- the bytes have grown by a body in its frame
+  pub held_framed : {m : ℕ} {new : List ℕ} → m ≡ n + 1 → new ≡ rows ++ (leb (length bytes) ++ bytes) → Held code_row m new
+  held_framed {new = new} count e =
+      let P : ℕ → Type 0 = λ k. Held code_row k new in
+      subst P (sym count) (held_grown h row (grows e) row_spells)
+
+  pub held_framed_is : {m : ℕ} {new : List ℕ} (k : Held code_row m new) → m ≡ n + 1 → new ≡ rows ++ (leb (length bytes) ++ bytes) → held_rows code_row m new k ≡ held_rows code_row n rows h ++ row ∷ []
+  held_framed_is {new = new} k count e =
+      let P : ℕ → Type 0 = λ m. (k : Held code_row m new) → held_rows code_row m new k ≡ held_rows code_row n rows h ++ row ∷ [] in
+      subst P (sym count) (λ k. held_grown_is h row code_sound k (grows e) row_spells) k

@@ -1,5 +1,5 @@
 -- The frames of function bodies, and which of them are kept.
-use Rattle.std.proofs.Common.{◌≡◌, ◌+◌, ◌-◌, ◌<◌, ◌≤◌, ◌^◌, ℕ, Bool, true, false, nat_le, if◌then◌else◌, List, [], ◌∷◌, ◌++◌, length, Ok, Err, OnOk, Result, IsTrue, refl, sym, ap, ◌∙◌, subst, append_assoc, append-nil, length-append, arith}
+use Rattle.std.proofs.Common.{◌≡◌, ◌+◌, ◌-◌, ◌<◌, ◌≤◌, ◌^◌, ℕ, Bool, true, false, nat_le, if◌then◌else◌, List, [], ◌∷◌, ◌++◌, length, Ok, Err, OnOk, Result, IsTrue, inl, refl, sym, ap, ◌∙◌, subst, append_assoc, append-nil, length-append, arith}
 use Rattle.std.proofs.lemmas.Bool.{leb-true}
 use Rattle.wasm_leb.specs.Leb.{IsUnsigned}
 use Rattle.wasm_shapes.specs.Tree.{Tree, normal}
@@ -12,7 +12,7 @@ use Rattle.reencode_core.specs.Sections.{AddsMapped, ReadsAs}
 use Rattle.wasm_shapes.specs.declared.SectionId.TheVariants as id
 use Rattle.reencode_core.proofs.Known.{section_fits}
 use Rattle.reencode_core.proofs.OneSection.{rows_made}
-use Rattle.wasm_write.specs.Bodies.{CodeRows}
+use Rattle.wasm_write.specs.Bodies.{CodeRows, GainsBody, function_body}
 use Rattle.reencode_hooks.specs.declared.error.Error.{Error}
 use Rattle.reencode_hooks.specs.declared.error.Error.TheVariants.{TooLarge}
 use Rattle.reencode_hooks.specs.declared.indices.ReencodeIndices.{Ghosts}
@@ -21,7 +21,7 @@ use Rattle.reencode_hooks.specs.Walk.{closed, walk}
 use Rattle.reencode_core.specs.Rows.{Asks, GivesRows}
 use Rattle.reencode_core.specs.Pieces.{Range, range}
 use Rattle.reencode_core.specs.Sinks.{CodeGrown, FramesDone, GainsFrames, KeepsBody, KeepsCodeSection, KeepsFrames, KeepsRow, ModuleGrown, with_rows}
-use Rattle.reencode_core.specs.Clauses.{BodyClauses, asks}
+use Rattle.reencode_core.specs.Clauses.{BodyClauses, BodyStays, asks}
 use Rattle.reencode_core.proofs.Moved.{fresh_code}
 
 -- ---- a body that was mapped
@@ -51,6 +51,12 @@ row_kept i bytes end s m old new one small k g added keeps =
     let rows : one.rows ≡ Tree.sized z.0 ∷ [] = q.2 ∙ ap (λ (v : Tree). v ∷ []) z.1 in
     let short : length (normal z.0) < 2 ^ 32 = omega (arith, z.2, small) in
     (z.0, ap CodeRows.rows added ∙ ap (λ (r : List Tree). old.code.rows ++ r) rows, keeps z.0 rows short)
+
+-- a body that stays is kept
+pub row_stays : {S E : Type 0} (i : Ghosts S E) (bytes : List ℕ) (end : ℕ) (s m : S) (old new : CodeGrown) → BodyStays i bytes s m → GainsBody old.code bytes new.code →
+    new.kept ≡ old.kept ++ range (end - length bytes) end ∷ [] → KeepsRow bytes end old new
+row_stays i bytes end s m old new stays gains kept =
+    (function_body stays.function, ap CodeRows.rows (gains stays.function stays.normally), inl (stays.normally.normally, kept))
 
 -- ---- one frame more
 

@@ -1,5 +1,5 @@
 -- A body whose locals and first operators stay as they stand.
-use Rattle.std.proofs.Common.{◌≡◌, ◌≤◌, ◌<◌, ◌^◌, ◌+◌, ◌-◌, ◌⊎◌, ℕ, List, [], length, length-append, Result, Ok, Err, IsErrAnd, IsTrue, refl, sym, ap, ◌∙◌, drop, subst, arith}
+use Rattle.std.proofs.Common.{◌≡◌, ◌≤◌, ◌<◌, ◌^◌, ◌+◌, ◌-◌, ◌⊎◌, ℕ, Bool, List, [], length, length-append, Result, Ok, Err, IsErrAnd, IsTrue, refl, sym, ap, ◌∙◌, drop, subst, arith}
 use Rattle.std.proofs.Math.ListN.{drop_of_length-le}
 use Rattle.std.proofs.Math.Seq.{take-length}
 use Rattle.wasm_leb.specs.declared.fault.Fault.{Fault}
@@ -20,11 +20,12 @@ use Rattle.reencode_core.specs.Rows.{locals}
 use Rattle.reencode_items.specs.declared.direct.passing.Next.{Next}
 use Rattle.reencode_items.specs.declared.direct.passing.Next.TheVariants as next
 use Rattle.reencode_items.specs.Direct.{IsWithin, PassesRun, Run, SkipsLocals, StopsRun}
+use Rattle.reencode_core.specs.Clauses.{BodyMapped, BodyStays, RefusesBody}
 use Rattle.reencode_core.specs.Direct.{MapsFront}
 use Rattle.reencode_core.proofs.BodyLoop.{keeps_code, same_locals}
 use Rattle.reencode_core.proofs.EachBody.{BodyClauses, body_added, body_refused}
 use Rattle.reencode_core.proofs.MapsOn.{begins_of, behind_skipped, front_at, front_passed, front_skipped, here_of, made_of, passed_body, passed_held, skipped_begins, skipped_rest, with_skipped}
-use Rattle.reencode_core.proofs.OneRow.{asks}
+use Rattle.reencode_core.proofs.OneRow.{answers, asks}
 use Rattle.reencode_core.proofs.Runs.{run_not_added, run_refused}
 use Rattle.reencode_core.proofs.WholeBody.{operators_never}
 
@@ -69,6 +70,13 @@ other_next : (count len : ℕ) (y : Next) → IsWithin count y len → count ≡
 other_next count len next.Other w e = refl
 other_next count len (next.Made op i k) w e = absurd (omega (arith, w.0, w.1))
 
+-- an error of a body that is mapped
+pub mapped_err : {S E : Type 0} (i : Ghosts S E) {bytes : List ℕ} {s m : S} {old new : CodeRows} {e : Error E} → BodyClauses i bytes s old m new (Err e) → (r : Result Bool (Error E)) → IsErrAnd r (λ y. y ≡ e) →
+    BodyMapped i bytes s old m new r
+mapped_err {E = E} i {bytes = bytes} {s = s} {m = m} {old = old} {new = new} given r is =
+    let P : Result Bool (Error E) → Type 0 = λ z. BodyMapped i bytes s old m new z in
+    subst P (answers r is) given
+
 module _ {S E : Type 0} (i : Ghosts S E) {bytes operators : List ℕ} {s0 n : S} (old : CodeRows) {count : ℕ} {y : Next} (q : SkipsLocals bytes operators)
     (p : PassesRun (asks i) s0 operators n (record { kept = count; next = y })) (all : count ≡ length operators) where
   abbrev body_whole : Body
@@ -108,3 +116,27 @@ module _ {S E : Type 0} (i : Ghosts S E) {bytes operators : List ℕ} {s0 n : S}
       let a = whole_front within in
       let P : ℕ → Type 0 = λ z. IfTooLarge w (λ size. ((size ≡ z) × (old.ceiling < size)) ⊎ ((size ≡ length old.rows + 1) × (2 ^ 32 - 1 < size) × (z ≤ old.ceiling))) in
       body_refused i old (made_of i a) (begins_of i a) refl (here_of i a) ended w unchanged (subst P (sym long) large) r is
+
+-- the body stays
+pub whole_stays : {S E : Type 0} (i : Ghosts S E) {bytes operators : List ℕ} {s0 n : S} {count : ℕ} {y : Next} (q : SkipsLocals bytes operators) → (p : PassesRun (asks i) s0 operators n (record { kept = count; next = y })) →
+    count ≡ length operators → IsWithin count y (length operators) → BodyStays i bytes s0 n
+whole_stays i q p all within = record {
+  function = passed_body i q p;
+  normally = whole_is i (record { ceiling = 0; rows = [] }) q p all;
+  added = λ old new gains fits. whole_added i old q p all within gains fits;
+  refused = λ old fault large. whole_refused i old q p all fault within refl large (Err _) refl;
+}
+
+module _ {S E : Type 0} (i : Ghosts S E) {bytes : List ℕ} {s m : S} {old mid new : CodeRows} (stays : BodyStays i bytes s m) (same : mid ≡ old) where
+  -- a body that stays was added
+  pub stays_added : GainsBody mid bytes new → length bytes ≤ mid.ceiling → BodyClauses i bytes s old m new (Ok tt)
+  stays_added gains fits =
+      let P : CodeRows → Type 0 = λ z. BodyClauses i bytes s z m new (Ok tt) in
+      subst P same (stays.added mid new gains fits)
+
+  -- it was not added
+  pub stays_refused : (fault : WriteFault) → new ≡ mid → RefusesBody bytes mid fault → (r : Result (Unit {0}) (Error E)) → IsErrAnd r (λ z. z ≡ error_of_write fault) → BodyClauses i bytes s old m new r
+  stays_refused fault unchanged large r is =
+      let P : CodeRows → CodeRows → Result (Unit {0}) (Error E) → Type 0 = λ x y z. BodyClauses i bytes s x m y z in
+      let given = subst (λ (z : Result (Unit {0}) (Error E)). P mid mid z) (answers r is) (stays.refused mid fault large) in
+      subst (λ (y : CodeRows). P old y r) (sym unchanged) (subst (λ (x : CodeRows). P x mid r) same given)

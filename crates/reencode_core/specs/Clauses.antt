@@ -1,7 +1,7 @@
 -- What a method of `Reencode` promises, whole: one record for each kind of method, which the method, its function in `utils` and its
 -- body cite. Its fields are the clauses by which other pages name them. `i` are the meanings of the reencoder; `s` is its state and
 -- `old` what a sink holds before the call, `m` and `new` are the same after it.
-use Rattle.std.specs.Prelude.{◌≡◌, ℕ, List, [], Result, IsTrue, IfErr}
+use Rattle.std.specs.Prelude.{◌≡◌, ◌≤◌, ◌<◌, ◌+◌, ◌-◌, ◌^◌, ◌⊎◌, ℕ, Bool, true, false, List, [], length, Result, Ok, Err, IsTrue, IfErr}
 use Rattle.wasm_shapes.specs.declared.SectionId.{SectionId}
 use Rattle.wasm_shapes.specs.Module.{code_row, unknown_tree_of}
 use Rattle.wasm_shapes.specs.Shape.{Shape}
@@ -9,10 +9,13 @@ use Rattle.wasm_shapes.specs.Tree.{Tree, visits}
 use Rattle.wasm_read.specs.declared.types.Name.{Name}
 use Rattle.wasm_read.specs.Names.{NamesStanding}
 use Rattle.wasm_read.specs.Reading.{Standing}
-use Rattle.wasm_write.specs.Bodies.{Body, CodeRows}
+use Rattle.wasm_write.specs.Bodies.{Body, CodeRows, GainsBody, IsBody}
+use Rattle.wasm_write.specs.Faults.{IfTooLarge}
+use Rattle.wasm_write.specs.declared.fault.WriteFault.{WriteFault}
 use Rattle.wasm_write.specs.Sections.{Sections}
 use Rattle.reencode_hooks.specs.declared.error.Error.{Error}
 use Rattle.reencode_hooks.specs.declared.indices.ReencodeIndices.{Ghosts}
+use Rattle.reencode_hooks.specs.Errors.{error_of_write}
 use Rattle.reencode_hooks.specs.Run.{LeavesVisited, ask}
 use Rattle.reencode_core.specs.Bodies.{GivesBody, GivesLocals, KeepsCode}
 use Rattle.reencode_core.specs.Core.{GivesBytes, GivesCore}
@@ -70,6 +73,25 @@ BodyClauses i bytes s old m new result =
       default : IsTrue i.keeps_defaults → GivesBody (asks i) bytes (s, old) (m, new) result;
       after_error : IsTrue i.keeps_defaults → LeavesMade i.sure (asks i) (body_in bytes) s m result;
     }
+
+-- A body is refused by a section: it is longer than the ceiling, or it fits and its row is one too many. Of want of memory nothing is said.
+abbrev pub RefusesBody : List ℕ → CodeRows → WriteFault → Type 0
+RefusesBody bytes old fault =
+    IfTooLarge fault (λ size. ((size ≡ length bytes) × (old.ceiling < size)) ⊎ ((size ≡ length old.rows + 1) × (2 ^ 32 - 1 < size) × (length bytes ≤ old.ceiling)))
+
+-- A body was mapped and stays as it stands: its bytes are the normal spelling of a function, and with that function added to a section, or
+-- refused by it, the body is mapped and added.
+pub record BodyStays {S E : Type 0} (i : Ghosts S E) (bytes : List ℕ) (s m : S) : Type 0 where
+  pub function : Body
+  pub normally : IsBody bytes function
+  pub added : (old new : CodeRows) → GainsBody old bytes new → length bytes ≤ old.ceiling → BodyClauses i bytes s old m new (Ok tt)
+  pub refused : (old : CodeRows) (fault : WriteFault) → RefusesBody bytes old fault → BodyClauses i bytes s old m old (Err (error_of_write fault))
+
+-- A body is mapped; where it stays as it stands, that is the answer, and nothing is added, else what it became is.
+abbrev pub BodyMapped : {S E : Type 0} → Ghosts S E → List ℕ → S → CodeRows → S → CodeRows → Result Bool (Error E) → Type 0
+BodyMapped i bytes s old m new (Ok true) = (new ≡ old) × BodyStays i bytes s m
+BodyMapped i bytes s old m new (Ok false) = BodyClauses i bytes s old m new (Ok tt)
+BodyMapped i bytes s old m new (Err e) = BodyClauses i bytes s old m new (Err e)
 
 -- The locals that a body begins with are mapped.
 abbrev pub LocalsClauses : {S E : Type 0} → Ghosts S E → List ℕ → S → S → Result Body (Error E) → Type 0

@@ -21,6 +21,8 @@ pub trait DefaultSections: ReencodeItems {
 }
 
 impl<T: DefaultSections> Reencode for T {
+    const DIRECT_BODIES: bool = T::DIRECT;
+
     fn parse_type_section(
         &mut self,
         alloc: Global,

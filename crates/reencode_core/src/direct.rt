@@ -8,7 +8,7 @@ ghost use Rattle.wasm_write.specs.Instructions.{imm_kind, operator_tree};
 ghost use Rattle.wasm_write.specs.declared.fault.WriteFault.TheVariants as write;
 ghost use Rattle.reencode_hooks.specs.Run.{ask};
 ghost use Rattle.reencode_core.specs.Bodies.{GivesBody, KeepsCode};
-ghost use Rattle.reencode_core.specs.Clauses.{BodyClauses, RowClauses, RowsClauses};
+ghost use Rattle.reencode_core.specs.Clauses.{BodyClauses, BodyMapped, RowClauses, RowsClauses};
 ghost use Rattle.wasm_shapes.specs.declared.SectionId.TheVariants as ids;
 ghost use Rattle.wasm_shapes.specs.Module.{row_of};
 ghost use Rattle.wasm_shapes.specs.Place.{Begins};
@@ -94,6 +94,36 @@ pub(crate) fn map_rest<R: ReencodeItems>(
     }
 }
 
+/// Maps a body as `parse_function_body` does, but for one that stays as it stands: that is the answer, and nothing is added.
+pub(crate) fn map_or_keep<R: ReencodeItems>(
+    reencoder: &mut R,
+    alloc: Global,
+    code: &mut w::CodeSection,
+    func: r::FunctionBody<'_>,
+) -> Result<bool, Error<R::Error>>
+    ensures { BodyMapped R.ReencodeIndices func.entry.bytes.now
+        reencoder.old code.old reencoder.new code.new result }
+{
+    let bytes = func.bytes;
+    let Some(operators) = skip_locals(bytes) else {
+        let function = new_function_with_parsed_locals(reencoder, alloc, &func)?;
+        let reader = func.operators()?;
+        map_rest(reencoder, alloc, code, function, reader, Next::Other, true)?;
+        return Ok(false);
+    };
+    let mut next = Next::Other;
+    let kept = pass_run(reencoder, operators, &mut next)?;
+    if kept == operators.len() {
+        return Ok(true);
+    }
+    let passed = bytes.len() - operators.len() + kept;
+    let function = w::Function::of_spelled(alloc, &bytes[..passed], bytes.len())?;
+    let mut reader = func.operators()?;
+    reader.pass(kept);
+    map_rest(reencoder, alloc, code, function, reader, next, true)?;
+    Ok(false)
+}
+
 /// Maps a body as `Reencode::parse_function_body` does by default, without lists. One that stays as it stands is added so, and
 /// held by no function.
 ///
@@ -110,22 +140,12 @@ pub fn parse_function_body<R: ReencodeItems>(
         reencoder.old code.old reencoder.new code.new result }
 {
     let bytes = func.bytes;
-    let Some(operators) = skip_locals(bytes) else {
-        let function = new_function_with_parsed_locals(reencoder, alloc, &func)?;
-        let reader = func.operators()?;
-        return map_rest(reencoder, alloc, code, function, reader, Next::Other, true);
-    };
-    let mut next = Next::Other;
-    let kept = pass_run(reencoder, operators, &mut next)?;
-    if kept == operators.len() {
-        code.spelled(bytes)?;
+    let stays = map_or_keep(reencoder, alloc, code, func)?;
+    if !stays {
         return Ok(());
     }
-    let passed = bytes.len() - operators.len() + kept;
-    let function = w::Function::of_spelled(alloc, &bytes[..passed], bytes.len())?;
-    let mut reader = func.operators()?;
-    reader.pass(kept);
-    map_rest(reencoder, alloc, code, function, reader, next, true)
+    code.spelled(bytes)?;
+    Ok(())
 }
 
 /// The bytes from a group of types on.

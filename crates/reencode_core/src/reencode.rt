@@ -35,6 +35,11 @@ use wasm_write as w;
 /// `wants` says what a sink holds where the reencoder is sure and memory ran out: what the rows or sections before the one
 /// at which it ran out became, and no more.
 pub trait Reencode: ReencodeItems {
+    /// Whether function bodies are mapped by `direct::parse_function_body`, so that what makes an output may map them so itself, and
+    /// take a body that stays as it stands from the input. A type that has the marker `DefaultReencode`, or `DefaultSections` with
+    /// `DIRECT`, says so; it is not for others to say.
+    const DIRECT_BODIES: bool = false;
+
     /// Maps the rows that the reader still has, each by `parse_recursive_type_group`, and adds each row once it is mapped.
     fn parse_type_section(
         &mut self,

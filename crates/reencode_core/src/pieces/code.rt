@@ -4,15 +4,17 @@ ghost use Rattle.wasm_shapes.specs.Tree.{Tree, normal};
 ghost use Rattle.wasm_leb.specs.Leb.{IsUnsigned, leb};
 ghost use Rattle.wasm_shapes.specs.Types.{rows_tree, vector_tree};
 ghost use Rattle.wasm_shapes.specs.Module.{code_row};
+ghost use Rattle.wasm_write.specs.Bodies.{GainsBody, HeldBody};
 ghost use Rattle.wasm_write.specs.Faults.{IfTooLarge};
 ghost use Rattle.wasm_write.specs.Held.{Held, Held-prop};
+ghost use Rattle.reencode_core.specs.Clauses.{RefusesBody};
 ghost use Rattle.reencode_core.specs.Pieces.{range};
 ghost use Rattle.reencode_core.specs.Sinks.{CodeGrown, KeepsBody, StandsAt, code_sound, with_rows};
 
 use crate::pieces::growing::Growing;
 use std::alloc::Global;
 use std::marker::Model;
-use wasm_leb::{NoMemory, front_u32, len_u32};
+use wasm_leb::{NoMemory, front_u32, len_u32, write_u32};
 use wasm_write as w;
 
 /// The rows of a code section under construction, in pieces.
@@ -21,6 +23,8 @@ pub(crate) struct CodePieces<'a> {
     ceiling: u32,
     count: u32,
     pieces: Growing<'a>,
+    // the length of a body that is kept, as it is written
+    head: Vec<u8>,
     ghost held: { Held code_row count pieces.bytes } by { Held-prop code_row code_sound count pieces.bytes },
 }
 
@@ -75,6 +79,25 @@ fn kept_head<'a>(count: u32, rows: &'a [u8], body: &[u8]) -> Option<&'a [u8]>
     Some(head)
 }
 
+/// Keeps a body that stands in the input up to a place, behind some bytes.
+fn keep_body(
+    pieces: &mut Growing<'_>,
+    head: &[u8],
+    body: &[u8],
+    end: usize,
+) -> Result<(), NoMemory>
+    requires stands { StandsAt pieces.old.input body.now end }
+    requires some { 0 < length head.now }
+    requires filled { 0 < length body.now }
+    ensures bytes { OnOk result (pieces.new.bytes ≡ pieces.old.bytes ++ (head.now ++ body.now)) }
+    ensures kept { OnOk result (pieces.new.kept
+        ≡ pieces.old.kept ++ range (end - length body.now) end ∷ []) }
+    ensures input { pieces.new.input ≡ pieces.old.input }
+    ensures err { OnErr result (pieces.new ≡ pieces.old) }
+{
+    pieces.keep(head, end - body.len(), end)
+}
+
 /// Adds the rows of a section. Where they are one, of the body that stands in the input up to a place, the body is kept.
 fn add_rows(
     pieces: &mut Growing<'_>,
@@ -93,7 +116,7 @@ fn add_rows(
     ensures err { OnErr result (pieces.new ≡ pieces.old) }
 {
     match kept_head(count, rows, body) {
-        Some(head) => pieces.keep(head, end - body.len(), end),
+        Some(head) => keep_body(pieces, head, body, end),
         None => pieces.add(rows),
     }
 }
@@ -108,6 +131,7 @@ impl<'a> CodePieces<'a> {
             ceiling,
             count: 0,
             pieces: Growing::with_room(alloc, input, front),
+            head: Vec::new(alloc),
         }
     }
 
@@ -150,6 +174,45 @@ impl<'a> CodePieces<'a> {
         let rows = code.as_slice();
         let added = add_rows(&mut self.pieces, code.len(), rows, body, end);
         match added {
+            Ok(()) => {
+                self.count = count;
+                Ok(())
+            }
+            Err(NoMemory) => Err(w::WriteFault::NoMemory),
+        }
+    }
+
+    /// Adds a body that stands in the input up to a place, which is the normal spelling of a function: it is kept.
+    ///
+    /// `TooLarge` comes exactly where it is longer than the ceiling, with its length, or it fits and the number of rows would pass
+    /// 2^32 - 1, with that number.
+    pub fn keep(&mut self, body: &[u8], end: usize) -> Result<(), w::WriteFault>
+        requires stands { StandsAt self.old.input body.now end }
+        requires normally { HeldBody body.now }
+        requires small { self.old.code.ceiling < 2 ^ 32 }
+        ensures ok { OnOk result (GainsBody self.old.code body.now self.new.code) }
+        ensures fits { OnOk result (length body.now ≤ self.old.code.ceiling) }
+        ensures kept { OnOk result (self.new.kept
+            ≡ self.old.kept ++ range (end - length body.now) end ∷ []) }
+        ensures input { self.new.input ≡ self.old.input }
+        ensures err { OnErr result (self.new ≡ self.old) }
+        ensures large { IfErr result (RefusesBody body.now self.old.code) }
+    {
+        let size = body.len() as u64;
+        if size > u64::from(self.ceiling) {
+            return Err(w::WriteFault::TooLarge { size });
+        }
+        let Some(count) = self.count.checked_add(1) else {
+            return Err(w::WriteFault::TooLarge {
+                size: u64::from(self.count) + 1,
+            });
+        };
+        self.head.clear();
+        match write_u32(&mut self.head, size as u32) {
+            Ok(()) => {}
+            Err(NoMemory) => return Err(w::WriteFault::NoMemory),
+        }
+        match keep_body(&mut self.pieces, &self.head, body, end) {
             Ok(()) => {
                 self.count = count;
                 Ok(())

@@ -11,7 +11,7 @@ ghost use Rattle.reencode_hooks.specs.Hooks.{MayAdd, RepliesSection};
 ghost use Rattle.reencode_hooks.specs.Run.{LeavesVisited, accepted, ask, run};
 ghost use Rattle.reencode_core.specs.Bodies.{GivesBody, KeepsCode};
 ghost use Rattle.reencode_core.specs.Core.{GivesBytes, GivesCore};
-ghost use Rattle.reencode_core.specs.Clauses.{BytesClauses};
+ghost use Rattle.reencode_core.specs.Clauses.{BodyMapped, BytesClauses};
 ghost use Rattle.reencode_core.specs.Errors.{IfParse};
 ghost use Rattle.reencode_core.specs.Leaves.{LeavesCore, LeavesMade, NoCoreHeading, body_in, core_in, custom_in, module_in, rows_in, section_in};
 ghost use Rattle.reencode_core.specs.Names.{GivesCustom};
@@ -22,6 +22,7 @@ ghost use Rattle.reencode_core.specs.Pieces.{Alternate, AreWithin, joined, kept_
 ghost use Rattle.reencode_core.specs.Kept.{Kept};
 ghost use Rattle.reencode_core.specs.Sinks.{GainsFrames, KeepsCodeSection, KeepsKind, KeepsRanges, KeepsRow, LeavesHook, RowsStand, StandsAt};
 
+use crate::direct;
 use crate::errors::placed;
 use crate::pieces::code::CodePieces;
 use crate::pieces::module::ModulePieces;
@@ -36,7 +37,26 @@ use wasm_read as r;
 use wasm_shapes::{SectionId, Visit};
 use wasm_write as w;
 
-/// Maps a function body into a section of its own, and adds its rows. The memory of that section is used again.
+/// Maps a function body into a section of its own, or says that it stays as it stands.
+fn map_body<R: Reencode>(
+    reencoder: &mut R,
+    alloc: Global,
+    own: &mut w::CodeSection,
+    func: r::FunctionBody<'_>,
+) -> Result<bool, Error<R::Error>>
+    ensures { BodyMapped R.ReencodeIndices func.entry.bytes.now
+        reencoder.old own.old reencoder.new own.new result }
+{
+    if R::DIRECT_BODIES {
+        return direct::map_or_keep(reencoder, alloc, own, func);
+    }
+    match reencoder.parse_function_body(alloc, own, func) {
+        Ok(()) => Ok(false),
+        Err(e) => Err(e),
+    }
+}
+
+/// Maps a function body and adds its row: it is kept where it stays as it stands. The memory of a section of its own is used again.
 fn add_body<R: Reencode>(
     reencoder: &mut R,
     alloc: Global,
@@ -61,9 +81,13 @@ fn add_body<R: Reencode>(
 {
     let body = func.bytes;
     own.clear();
-    match reencoder.parse_function_body(alloc, own, func) {
-        Ok(()) => {}
+    let stays = match map_body(reencoder, alloc, own, func) {
+        Ok(stays) => stays,
         Err(e) => return Err(e),
+    };
+    if stays {
+        code.keep(body, end)?;
+        return Ok(());
     }
     match code.add(own, body, end) {
         Ok(()) => Ok(()),

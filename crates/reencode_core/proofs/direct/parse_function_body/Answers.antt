@@ -1,87 +1,14 @@
-use Rattle.std.proofs.Common.{◌≡◌, ◌∙◌, drop, IsTrue, sym, ap, subst}
-use Rattle.wasm_write.specs.Bodies.{Body}
-use Rattle.reencode_core.specs.Direct.{MapsFront}
-use Rattle.reencode_core.proofs.EachBody.{body_found, body_unbegun}
-use Rattle.reencode_core.proofs.MapsOn.{front_begun, front_passed, passed_body, passed_held, run_deals}
-use Rattle.reencode_core.proofs.MapsWhole.{operators_at, passed_counted, skip_found, skip_refused, skip_wants, whole_added, whole_held, whole_refused, within_most}
-use Rattle.reencode_core.proofs.OneRow.{asks}
+use Rattle.reencode_core.proofs.MapsWhole.{stays_added, stays_refused}
 use Rattle.reencode_core.proofs.direct.parse_function_body.Goals as goal
-
-pub returns-in_err-function : goal.returns-in_err-function
-returns-in_err-function g c = body_unbegun g.R.ReencodeIndices c.args.code.now _ c.in_err-function.ensures _ c.from_residual.ensures.1
-
-pub returns-in_err-reader : goal.returns-in_err-reader
-returns-in_err-reader g c = body_found g.R.ReencodeIndices c.args.code.now c.in_ok-function.ensures _ c.in_err-reader.ensures.err _
-
-pub returns-in_default : goal.returns-in_default
-returns-in_default g c =
-    let i = g.R.ReencodeIndices in
-    let given = c.map_rest.ensures in
-    let bytes = c.args.func.bytes.now in
-    let found = c.in_ok-reader.ensures in
-    let front = λ (k : IsTrue i.keeps_defaults). front_begun i c.in_ok-function.ensures k found.ok.1 found.bytes in
-    record {
-      kept = given.kept;
-      default = λ k. given.default k bytes c.args.reencoder.now (front k);
-      after_error = λ k. given.after_error k bytes c.args.reencoder.now (front k);
-    }
-
-pub returns-in_err-kept : goal.returns-in_err-kept
-returns-in_err-kept g c = skip_refused g.R.ReencodeIndices c.args.code.now c.in-Some.ensures _ c.in_err-kept.ensures.err c.in_err-kept.ensures.sure _ c.from_residual-in_err-kept.ensures.1
-
--- ---- the whole body stays
-
-pub spelled-requires : goal.spelled-requires
-spelled-requires g c = whole_held g.R.ReencodeIndices c.args.code.now c.in-Some.ensures c.in_ok-kept.ensures.ok c.if-kept-operators.true
 
 pub returns-in_err-spelled : goal.returns-in_err-spelled
 returns-in_err-spelled g c =
+    let given = rw c.if-not-stays.false at c.in_ok-stays.ensures in
     let gone = c.in_err-spelled.ensures in
-    whole_refused g.R.ReencodeIndices c.args.code.now c.in-Some.ensures c.in_ok-kept.ensures.ok c.if-kept-operators.true _ c.in_ok-kept.ensures.within gone.err gone.large _ c.from_residual-in_err-spelled.ensures.1
-
-pub returns-then-kept-operators : goal.returns-then-kept-operators
-returns-then-kept-operators g c =
-    let given = c.in_ok-spelled.ensures in
-    whole_added g.R.ReencodeIndices c.args.code.now c.in-Some.ensures c.in_ok-kept.ensures.ok c.if-kept-operators.true c.in_ok-kept.ensures.within given.ok given.fits.0
-
--- ---- an operator does not
-
-pub of_spelled-requires : goal.of_spelled-requires
-of_spelled-requires g c =
-    let q = c.in-Some.ensures in
-    let p = c.in_ok-kept.ensures.ok in
-    (passed_body g.R.ReencodeIndices q p, ∣ passed_held g.R.ReencodeIndices q p _ (passed_counted q c.in_ok-kept.kept) ∣₁)
-
-pub returns-in_err-function-2 : goal.returns-in_err-function-2
-returns-in_err-function-2 g c =
-    skip_wants g.R.ReencodeIndices c.args.code.now c.in-Some.ensures _ c.in_ok-kept.ensures.ok _ c.in_err-function-2.ensures.wants _ c.from_residual-in_err-function-2.ensures.1
-
-pub returns-in_err-reader-2 : goal.returns-in_err-reader-2
-returns-in_err-reader-2 g c = skip_found g.R.ReencodeIndices c.args.code.now c.in-Some.ensures _ c.in_err-reader-2.ensures.err _
-
-pub pass-requires : goal.pass-requires
-pass-requires g c =
-    let here = operators_at c.in-Some.ensures c.in_ok-reader-2.ensures.ok.1 in
-    rw here (within_most _ _ _ c.in_ok-kept.ensures.within)
-
-pub map_rest-requires-2 : goal.map_rest-requires-2
-map_rest-requires-2 g c =
-    let here = operators_at c.in-Some.ensures c.in_ok-reader-2.ensures.ok.1 in
-    run_deals c.in_ok-kept.ensures.ok (c.pass.ensures.rest ∙ ap (drop c.in_ok-kept.kept) here)
+    stays_refused g.R.ReencodeIndices given.1 given.0 _ gone.err gone.large _ c.from_residual-in_err-spelled.ensures.1
 
 pub returns : goal.returns
 returns g c =
-    let i = g.R.ReencodeIndices in
-    let given = c.map_rest-2.ensures in
-    let bytes = c.args.func.bytes.now in
-    let q = c.in-Some.ensures in
-    let p = c.in_ok-kept.ensures.ok in
-    let here = operators_at q c.in_ok-reader-2.ensures.ok.1 in
-    let made : c.in_ok-function-2.function ≡ passed_body i q p = c.in_ok-function-2.ensures.ok (passed_body i q p) (passed_held i q p _ (passed_counted q c.in_ok-kept.kept)) in
-    let P : Body → Type 0 = λ z. MapsFront (asks i) bytes c.args.reencoder.now c.pass.new.self z c.pass_run.new.reencoder c.pass_run.new.next in
-    let front = subst P (sym made) (front_passed i q p c.pass.new.self (c.pass.ensures.bytes ∙ c.in_ok-reader-2.ensures.bytes) (c.pass.ensures.rest ∙ ap (drop c.in_ok-kept.kept) here)) in
-    record {
-      kept = given.kept;
-      default = λ k. given.default k bytes c.args.reencoder.now front;
-      after_error = λ k. given.after_error k bytes c.args.reencoder.now front;
-    }
+    let given = rw c.if-not-stays.false at c.in_ok-stays.ensures in
+    let added = c.in_ok-spelled.ensures in
+    stays_added g.R.ReencodeIndices given.1 given.0 added.ok added.fits.0

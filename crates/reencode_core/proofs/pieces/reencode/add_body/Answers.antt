@@ -1,6 +1,7 @@
-use Rattle.std.proofs.Common.{ap, ◌∙◌, ℕ}
+use Rattle.std.proofs.Common.{ap, ◌∙◌, ℕ, refl}
+use Rattle.reencode_core.proofs.MapsWhole.{stays_added}
 use Rattle.reencode_core.proofs.Moved.{body_stopped, fresh_code, rows_not_added}
-use Rattle.reencode_core.proofs.Frames.{row_kept}
+use Rattle.reencode_core.proofs.Frames.{row_kept, row_stays}
 use Rattle.reencode_core.proofs.pieces.reencode.add_body.Goals as goal
 
 pub returns-in-Err-clause-default : goal.returns-in-Err-clause-default
@@ -8,17 +9,32 @@ returns-in-Err-clause-default g c =
     let fresh = c.clear.ensures ∙ ap (λ (n : ℕ). fresh_code n) c.requires.same_ceiling in
     (body_stopped g.R.ReencodeIndices {old = c.args.code.now.code} c.in-Err.e (rw fresh at c.in-Err.ensures)).default
 
+pub returns-then-stays-clause-default : goal.returns-then-stays-clause-default
+returns-then-stays-clause-default g c =
+    let given = rw c.if-stays.true at c.in-Ok.ensures in
+    let kept = c.in_ok-keep.ensures in
+    (stays_added g.R.ReencodeIndices given.1 refl kept.ok kept.fits).default
+
+pub returns-then-stays-clause-ranges : goal.returns-then-stays-clause-ranges
+returns-then-stays-clause-ranges g c =
+    let given = rw c.if-stays.true at c.in-Ok.ensures in
+    let kept = c.in_ok-keep.ensures in
+    λ k. row_stays g.R.ReencodeIndices _ c.args.end _ _ c.args.code.now c.keep.new.self given.1 kept.ok kept.kept
+
 pub returns-in-Err-add-clause-default : goal.returns-in-Err-add-clause-default
 returns-in-Err-add-clause-default g c =
     let fresh = c.clear.ensures ∙ ap (λ (n : ℕ). fresh_code n) c.requires.same_ceiling in
-    rw (c.from.ensures, c.in-Err-add.ensures.err) (rows_not_added g.R.ReencodeIndices {old = c.args.code.now.code} c.in-Err-add.fault (rw fresh at c.in-Ok.ensures) c.in-Err-add.ensures.large).default
+    let given = rw c.if-stays.false at c.in-Ok.ensures in
+    rw (c.from.ensures, c.in-Err-add.ensures.err) (rows_not_added g.R.ReencodeIndices {old = c.args.code.now.code} c.in-Err-add.fault (rw fresh at given) c.in-Err-add.ensures.large).default
 
 pub returns-in-Err-add-clause-after_error : goal.returns-in-Err-add-clause-after_error
 returns-in-Err-add-clause-after_error g c =
     let fresh = c.clear.ensures ∙ ap (λ (n : ℕ). fresh_code n) c.requires.same_ceiling in
-    rw c.from.ensures (rows_not_added g.R.ReencodeIndices {old = c.args.code.now.code} c.in-Err-add.fault (rw fresh at c.in-Ok.ensures) c.in-Err-add.ensures.large).after_error
+    let given = rw c.if-stays.false at c.in-Ok.ensures in
+    rw c.from.ensures (rows_not_added g.R.ReencodeIndices {old = c.args.code.now.code} c.in-Err-add.fault (rw fresh at given) c.in-Err-add.ensures.large).after_error
 
 pub returns-in-Ok-add-clause-ranges : goal.returns-in-Ok-add-clause-ranges
 returns-in-Ok-add-clause-ranges g c =
     let fresh = c.clear.ensures ∙ ap (λ (n : ℕ). fresh_code n) c.requires.same_ceiling in
-    λ k. row_kept g.R.ReencodeIndices _ c.args.end c.args.reencoder.now _ c.args.code.now c.add.new.self _ c.requires.small k (rw fresh at c.in-Ok.ensures) c.in-Ok-add.ensures.ok c.in-Ok-add.ensures.kept
+    let given = rw c.if-stays.false at c.in-Ok.ensures in
+    λ k. row_kept g.R.ReencodeIndices _ c.args.end c.args.reencoder.now _ c.args.code.now c.add.new.self _ c.requires.small k (rw fresh at given) c.in-Ok-add.ensures.ok c.in-Ok-add.ensures.kept
