@@ -8,7 +8,7 @@ use Rattle.reencode_core.specs.declared.pieces.cuts.Cut.{Cut}
 use Rattle.reencode_core.specs.declared.pieces.piece.Piece.{Piece}
 use Rattle.reencode_core.specs.declared.pieces.piece.Piece.TheVariants.{Kept, Made}
 
-range_len : (input : List ℕ) (start end : ℕ) → start ≤ end → end ≤ length input → length (slice_range input start end) ≡ end - start
+pub range_len : (input : List ℕ) (start end : ℕ) → start ≤ end → end ≤ length input → length (slice_range input start end) ≡ end - start
 range_len input start end ordered within = grind (arith, length-take, length-drop)
 
 -- ---- the bytes

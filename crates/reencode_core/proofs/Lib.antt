@@ -57,6 +57,7 @@ pub mod ModuleHeld
 pub mod Left
 pub mod Moved
 pub mod Walking
+pub mod Filling
 pub mod Frames
 pub mod Ranges
 pub mod KeptLaws

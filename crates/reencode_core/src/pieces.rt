@@ -4,9 +4,11 @@ mod cuts;
 mod growing;
 mod laws;
 mod module;
+mod output;
 mod piece;
 mod reencode;
 
 pub use laws::{fill_is_own, kept_is_answered, spelling_is_kept};
+pub use output::Output;
 pub use piece::{Piece, Pieces};
-pub use reencode::{reencode_joined, reencode_pieces};
+pub use reencode::{reencode_joined, reencode_output, reencode_pieces};

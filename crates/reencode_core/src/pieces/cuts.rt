@@ -165,6 +165,36 @@ pub(crate) fn drop_room(bytes: &mut Vec<u8>, room: usize)
     bytes.truncate(len - room);
 }
 
+/// Copies bytes to a place.
+fn put_at(out: &mut [u8], place: usize, bytes: &[u8])
+    requires { place + length bytes.now ≤ length out.old }
+    ensures { out.new ≡ take place out.old
+        ++ (bytes.now ++ drop (place + length bytes.now) out.old) }
+{
+    out[place..place + bytes.len()].copy_from_slice(bytes);
+}
+
+/// Copies made bytes into as much room as they take with the ranges of the input that are cut into them.
+pub(crate) fn fill(out: &mut [u8], input: &[u8], made: &[u8], cuts: &[Cut])
+    requires within { AreCuts (length input.now) cuts.now }
+    requires shown { cut_made cuts.now ≤ length made.now }
+    requires sized { length out.old ≡ length (cut_bytes input.now made.now cuts.now) }
+    ensures { out.new ≡ cut_bytes input.now made.now cuts.now }
+{
+    let mut from = 0;
+    let mut to = 0;
+    let mut left = cuts;
+    'cuts: while let Some((cut, behind)) = left.split_first() {
+        let kept = &input[cut.start..cut.end];
+        put_at(out, to, &made[from..from + cut.made]);
+        put_at(out, to + cut.made, kept);
+        from += cut.made;
+        to += cut.made + kept.len();
+        left = behind;
+    }
+    put_at(out, to, &made[from..]);
+}
+
 /// Grows bytes to so many, and takes memory for no more than these.
 fn grow(bytes: &mut Vec<u8>, size: usize) -> Result<(), NoMemory>
     requires { length bytes.old.items ≤ size }

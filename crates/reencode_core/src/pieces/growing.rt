@@ -3,7 +3,7 @@ ghost use Rattle.std.specs.Prelude.{◌≡◌, ◌++◌, ◌-◌, ◌<◌, ◌�
 ghost use Rattle.reencode_core.specs.Pieces.{AreGrown, with_bytes, with_grown, with_kept};
 
 use crate::pieces::cuts::{
-    Cut, cut_out, drop_room, joined_in_place, last_behind, raise, take_over,
+    Cut, cut_out, drop_room, fill, joined_in_place, last_behind, raise, take_over,
 };
 use crate::pieces::piece::Pieces;
 use std::alloc::Global;
@@ -183,6 +183,14 @@ impl<'a> Growing<'a> {
             Ok(pieces) => Ok(Pieces::of(pieces, size)),
             Err(NoMemory) => Err(NoMemory),
         }
+    }
+
+    /// Copies the bytes into as much room.
+    pub fn copy_to(&self, room: &mut [u8])
+        requires { length room.old ≡ length self.now.bytes }
+        ensures { room.new ≡ self.now.bytes }
+    {
+        fill(room, self.input, &self.made[self.front..], &self.cuts);
     }
 
     /// The bytes, in the memory of those that were made.

@@ -9,6 +9,7 @@ ghost use Rattle.reencode_core.specs.Sinks.{AreModule, HeldModule, HeldModule-pr
 
 use crate::pieces::code::CodePieces;
 use crate::pieces::growing::Growing;
+use crate::pieces::output::Output;
 use crate::pieces::piece::Pieces;
 use std::alloc::Global;
 use std::marker::Model;
@@ -149,14 +150,11 @@ impl<'a> ModulePieces<'a> {
         }
     }
 
-    /// Its bytes.
-    pub fn join(self) -> Result<Vec<u8>, NoMemory>
-        ensures { IfOk result (λ out. out.items ≡ module_bytes self.entry.sections.sections) }
+    /// Its bytes, not yet in one place.
+    pub fn into_output(self) -> Output<'a>
+        ensures { result ≡ module_bytes self.entry.sections.sections }
     {
-        match self.pieces.join() {
-            Ok(out) => Ok(out),
-            Err(NoMemory) => Err(NoMemory),
-        }
+        Output::of(self.pieces)
     }
 }
 

@@ -26,6 +26,7 @@ use crate::direct;
 use crate::errors::placed;
 use crate::pieces::code::CodePieces;
 use crate::pieces::module::ModulePieces;
+use crate::pieces::output::Output;
 use crate::pieces::piece::Pieces;
 use crate::reencode::Reencode;
 use crate::sections::call_hook;
@@ -422,6 +423,21 @@ pub fn reencode_pieces<R: Reencode>(
     }
 }
 
+/// Re-encodes a core module as `reencode_core` does, and answers an output that is not yet in one place: a function body that stays
+/// as it stands is copied once, when and where the output is wanted.
+pub fn reencode_output<'a, R: Reencode>(
+    alloc: Global,
+    r: &mut R,
+    bytes: &'a [u8],
+    ceiling: u32,
+) -> Result<Output<'a>, Error<R::Error>>
+    ensures { BytesClauses R.ReencodeIndices ceiling bytes.now r.old r.new result (λ o. o) }
+{
+    let mut sink = ModulePieces::new(alloc, bytes, ceiling)?;
+    walk(r, alloc, &mut sink, bytes)?;
+    Ok(sink.into_output())
+}
+
 /// Re-encodes a core module as `reencode_core` does, by way of pieces: a function body that stays as it stands is copied once, from
 /// the input to where it stands in the end.
 pub fn reencode_joined<R: Reencode>(
@@ -434,5 +450,5 @@ pub fn reencode_joined<R: Reencode>(
 {
     let mut sink = ModulePieces::new(alloc, bytes, ceiling)?;
     walk(r, alloc, &mut sink, bytes)?;
-    Ok(sink.join()?)
+    Ok(sink.into_output().into_vec()?)
 }

@@ -1,4 +1,4 @@
-use Rattle.std.proofs.Common.{ap, rules}
+use Rattle.std.proofs.Common.{ap, ◌∙◌, rules}
 use Rattle.std.proofs.lemmas.Result.{err_from_is_err_and}
 use Rattle.reencode_core.specs.Weave.{added}
 use Rattle.reencode_core.proofs.AddsNothing.{added_none, bytes_nothing}
@@ -27,9 +27,9 @@ returns-in_err-walk g c =
       headless = gone.headless;
     })
 
-pub returns-in_err-join : goal.returns-in_err-join
-returns-in_err-join g c =
-    let p = err_from_is_err_and c.from_residual-in_err-join.result c.from_residual-in_err-join.ensures.1 in
+pub returns-in_err-into_vec : goal.returns-in_err-into_vec
+returns-in_err-into_vec g c =
+    let p = err_from_is_err_and c.from_residual-in_err-into_vec.result c.from_residual-in_err-into_vec.ensures.1 in
     let i = g.R.ReencodeIndices in
     rw (p.1, p.2) (record {
       default = search rules;
@@ -46,8 +46,8 @@ returns g c =
     let given = c.in_ok-walk.ensures in
     let same = ap ModuleGrown.sections c.in_ok-sink.ensures in
     record {
-      default = λ k n. bytes_nothing _ _ (added_none g.met.R.ReencodeIndices.adds_ok n) _ _ _ _ _ _ (bytes_given _ _ _ _ _ _ _ _ _ same (given.woven k) _ _ c.in_ok-join.ensures);
-      woven = λ k. bytes_given _ _ _ _ _ _ _ _ _ same (given.woven k) _ _ c.in_ok-join.ensures;
+      default = λ k n. bytes_nothing _ _ (added_none g.met.R.ReencodeIndices.adds_ok n) _ _ _ _ _ _ (bytes_given _ _ _ _ _ _ _ _ _ same (given.woven k) _ _ (c.in_ok-into_vec.ensures ∙ c.into_output.ensures));
+      woven = λ k. bytes_given _ _ _ _ _ _ _ _ _ same (given.woven k) _ _ (c.in_ok-into_vec.ensures ∙ c.into_output.ensures);
       after_error = λ k. tt;
       headless = given.headless;
     }
