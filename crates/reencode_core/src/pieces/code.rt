@@ -80,12 +80,7 @@ fn kept_head<'a>(count: u32, rows: &'a [u8], body: &[u8]) -> Option<&'a [u8]>
 }
 
 /// Keeps a body that stands in the input up to a place, behind some bytes.
-fn keep_body(
-    pieces: &mut Growing<'_>,
-    head: &[u8],
-    body: &[u8],
-    end: usize,
-) -> Result<(), NoMemory>
+fn keep_body(pieces: &mut Growing<'_>, head: &[u8], body: &[u8], end: usize) -> Result<(), NoMemory>
     requires stands { StandsAt pieces.old.input body.now end }
     requires some { 0 < length head.now }
     requires filled { 0 < length body.now }

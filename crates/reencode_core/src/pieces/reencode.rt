@@ -22,7 +22,6 @@ ghost use Rattle.reencode_core.specs.Pieces.{Alternate, AreWithin, joined, kept_
 ghost use Rattle.reencode_core.specs.Kept.{Kept};
 ghost use Rattle.reencode_core.specs.Sinks.{GainsFrames, KeepsCodeSection, KeepsKind, KeepsRanges, KeepsRow, LeavesHook, RowsStand, StandsAt};
 
-use crate::direct;
 use crate::errors::placed;
 use crate::pieces::code::CodePieces;
 use crate::pieces::module::ModulePieces;
@@ -30,7 +29,7 @@ use crate::pieces::output::Output;
 use crate::pieces::piece::Pieces;
 use crate::reencode::Reencode;
 use crate::sections::call_hook;
-use crate::utils;
+use crate::{direct, utils};
 use reencode_hooks::Error;
 use std::alloc::Global;
 use wasm_leb::NoMemory;
