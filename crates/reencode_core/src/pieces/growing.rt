@@ -55,6 +55,21 @@ impl<'a> Growing<'a> {
         }
     }
 
+    /// One piece, of these bytes, over an empty input.
+    pub fn from_vec(alloc: Global, bytes: Vec<u8>) -> Growing<'a>
+        ensures { result ≡ record { input = []; bytes = bytes.items; kept = [] } }
+    {
+        let size = bytes.len() as u64;
+        Growing {
+            input: &[],
+            made: bytes,
+            front: 0,
+            cuts: Vec::new(alloc),
+            last: 0,
+            size,
+        }
+    }
+
     /// No pieces, with room for so many bytes in front of them, where there is memory for it.
     pub fn with_room(alloc: Global, input: &'a [u8], front: usize) -> Growing<'a>
         ensures { result ≡ record { input = input.now; bytes = []; kept = [] } }

@@ -2,6 +2,7 @@
 ghost use Rattle.std.specs.Prelude.{◌≡◌, length, IfOk};
 
 use crate::pieces::growing::Growing;
+use std::alloc::Global;
 use std::marker::Model;
 use wasm_leb::NoMemory;
 
@@ -31,6 +32,15 @@ impl<'a> Output<'a> {
         ensures { result ≡ pieces.entry.bytes }
     {
         Output { pieces }
+    }
+
+    /// The output that these bytes are.
+    pub fn from_vec(alloc: Global, bytes: Vec<u8>) -> Output<'a>
+        ensures { result ≡ bytes.items }
+    {
+        Output {
+            pieces: Growing::from_vec(alloc, bytes),
+        }
     }
 
     /// How many bytes it has.
