@@ -35,10 +35,10 @@ use Rattle.reencode_c.proofs.Unplaced.{unplaced_module, unplaced_visits}
 -- ---- any reencoder that answers by one method
 
 module _ {S : Type 0} (reply : S → Visit → Result ℕ Unmapped) (next : S → Visit → S) (c : ℕ) (bytes : List ℕ) (begun m : S) where
-  pub stopped : (e : Error Unmapped) → WithinClauses {A = Vec ℕ Global} (hooks_by reply next) c bytes begun m (Err e) (λ out. out.items) → IsErrorOf (hooks_by reply next) begun c bytes e
+  pub stopped : (e : Error Unmapped) → WithinClauses {A = List ℕ} (hooks_by reply next) c bytes begun m (Err e) (λ out. out) → IsErrorOf (hooks_by reply next) begun c bytes e
   stopped e g =
-      let tells = binary_error_tells {A = Vec ℕ Global} (hooks_by reply next) (λ s v h. refl) (λ out. out.items) in
-      let output = binary_output {A = Vec ℕ Global} (hooks_by reply next) (λ s v h. refl) (λ out. out.items) in
+      let tells = binary_error_tells {A = List ℕ} (hooks_by reply next) (λ s v h. refl) (λ out. out) in
+      let output = binary_output {A = List ℕ} (hooks_by reply next) (λ s v h. refl) (λ out. out) in
       record {
         after = m;
         allowed = g;
@@ -52,9 +52,9 @@ module _ {S : Type 0} (reply : S → Visit → Result ℕ Unmapped) (next : S �
         unmade = λ other out n h. other (output.complete c bytes begun m (Err e) g refl refl out n h);
       }
 
-  pub taken : (out : Vec ℕ Global) → WithinClauses {A = Vec ℕ Global} (hooks_by reply next) c bytes begun m (Ok out) (λ v. v.items) →
-      IsTaken as_binary (asks (hooks_by reply next)) c bytes begun m out.items
-  taken out g = (binary_output {A = Vec ℕ Global} (hooks_by reply next) (λ s v h. refl) (λ v. v.items)).output c bytes begun m (Ok out) g refl refl
+  pub taken : (out : List ℕ) → WithinClauses {A = List ℕ} (hooks_by reply next) c bytes begun m (Ok out) (λ v. v) →
+      IsTaken as_binary (asks (hooks_by reply next)) c bytes begun m out
+  taken out g = (binary_output {A = List ℕ} (hooks_by reply next) (λ s v h. refl) (λ v. v)).output c bytes begun m (Ok out) g refl refl
 
 -- ---- errors
 

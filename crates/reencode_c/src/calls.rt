@@ -10,7 +10,8 @@ use crate::entries::{ByEntries, by_entries};
 use crate::modules::{is_module, listed_module};
 use crate::outcome::{Entry, ListedVisit, Outcome};
 use crate::visits::Lister;
-use reencode_component::reencode_within;
+use reencode_component::output_within;
+use reencode_core::Output;
 use std::alloc::Global;
 
 /// Puts an output into room for it, or says how much room it takes.
@@ -27,6 +28,23 @@ pub fn put<T: Copy>(output: &[T], room: &mut [T], outcome: &mut Outcome)
     }
     room[..output.len()].copy_from_slice(output);
     outcome.done(output.len());
+}
+
+/// Puts an output that is not yet in one place into room for it, or says how much room it takes.
+fn put_output(output: &Output<'_>, room: &mut [u8], outcome: &mut Outcome)
+    ensures done { outcome.new.status ≡ 0 → IsPut outcome.new room.new output.now }
+    ensures small { outcome.new.status ≡ 16
+        → IsTooSmall outcome.new room.new (tally (length output.now)) }
+    ensures kept { outcome.new.status ≢ 0 → room.new ≡ room.old }
+    ensures other { (outcome.new.status ≡ 0) ⊎ (outcome.new.status ≡ 16) }
+{
+    let len = output.len() as usize;
+    if len > room.len() {
+        outcome.too_small(len);
+        return;
+    }
+    output.copy_to(&mut room[..len]);
+    outcome.done(len);
 }
 
 /// Puts a list of so many visits, in room of the same length, into the room, or says how much room it takes.
@@ -63,8 +81,8 @@ fn rename_by(
     ensures kept { outcome.new.status ≢ 0 → room.new ≡ room.old }
 {
     let mut reencoder = reencoder;
-    match reencode_within(alloc, &mut reencoder, bytes, ceiling) {
-        Ok(output) => put(output.as_slice(), room, outcome),
+    match output_within(alloc, &mut reencoder, bytes, ceiling) {
+        Ok(output) => put_output(&output, room, outcome),
         Err(e) => outcome.fail(e),
     }
 }
@@ -110,7 +128,7 @@ fn visits_by(
     ensures kept { outcome.new.status ≢ 0 → room.new ≡ room.old }
 {
     let mut lister = lister;
-    match reencode_within(alloc, &mut lister, bytes, u32::MAX) {
+    match output_within(alloc, &mut lister, bytes, u32::MAX) {
         Ok(_) => {
             if is_module(bytes) {
                 outcome.no_memory();
@@ -157,10 +175,10 @@ fn answer_by(
 {
     let mut reencoder = reencoder;
     let answers = reencoder.left();
-    match reencode_within(alloc, &mut reencoder, bytes, ceiling) {
+    match output_within(alloc, &mut reencoder, bytes, ceiling) {
         Ok(output) => {
             if reencoder.count() == answers as u64 {
-                put(output.as_slice(), room, outcome);
+                put_output(&output, room, outcome);
             } else {
                 outcome.miscounted(reencoder.count() as usize);
             }

@@ -1,6 +1,7 @@
 -- The laws of `specs/WithinLaws.antt`.
 use Rattle.std.proofs.Common.{arith, ◌≡◌, ◌≢◌, ◌⊎◌, inl, inr, ℕ, Bool, true, false, List, [], ◌∷◌, ◌++◌, nat_eq, Option, Result, Ok, Err, IfOk, IsTrue, refl, sym, ap, ap₂, ◌∙◌, subst}
 use Rattle.std.proofs.lemmas.Bool.Decides.{nat_tests}
+use Rattle.std.proofs.lemmas.Result.{IfErr-at_err}
 use Rattle.wasm_leb.specs.declared.fault.Fault.{Fault}
 use Rattle.wasm_shapes.specs.declared.SectionId.{SectionId}
 use Rattle.wasm_shapes.specs.declared.Visit.{Visit}
@@ -405,3 +406,14 @@ pub component_made : {S E A : Type 0} (i : Ghosts S E) (c : ℕ) (bytes : List �
     ComponentClauses i 0 bytes s old m new (ended result) → IfOk result (λ out. view out ≡ component_bytes new.sections) → ComponentBytesClauses i c bytes s m result view
 component_made i c bytes s m old new result view fresh g spelled =
     let P : Sections → Type 0 = λ z. ComponentClauses i 0 bytes s z m new (ended result) in inr (record { made = new; gives = subst P fresh g; spelled = spelled })
+
+-- the same answer, seen another way
+pub component_seen : {S E A B : Type 0} (i : Ghosts S E) (c : ℕ) (bytes : List ℕ) (s m : S) (out : A) (view : A → List ℕ) (other : B) (seen : B → List ℕ) → seen other ≡ view out →
+    ComponentBytesClauses i c bytes s m (Ok out) view → ComponentBytesClauses i c bytes s m (Ok other) seen
+component_seen i c bytes s m out view other seen same (inl p) = let never : Ok out ≡ Err NoMemory = p.0 in absurd cc
+component_seen i c bytes s m out view other seen same (inr b) = inr (record { made = b.made; gives = b.gives; spelled = same ∙ b.spelled })
+
+pub component_stopped : {S E A B : Type 0} (i : Ghosts S E) (c : ℕ) (bytes : List ℕ) (s m : S) (e : Error E) (view : A → List ℕ) (seen : B → List ℕ) →
+    ComponentBytesClauses i c bytes s m (Err e) view → ComponentBytesClauses i c bytes s m (Err e) seen
+component_stopped i c bytes s m e view seen (inl p) = inl (ap Err (IfErr-at_err (λ y. e ≡ y) p.0 refl), p.1)
+component_stopped i c bytes s m e view seen (inr b) = inr (record { made = b.made; gives = b.gives; spelled = tt })

@@ -46,4 +46,4 @@ pub use laws::{
     component_refusal_tells, module_error_tells, module_is_reencoded, plain_binary_is_made,
     plain_module_is_made, weave_in_is_run, weave_in_of_nothing, woven_component_is_answered,
 };
-pub use within::{reencode, reencode_within};
+pub use within::{output_within, reencode, reencode_within};

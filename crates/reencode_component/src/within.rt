@@ -6,7 +6,7 @@ ghost use Rattle.reencode_component.specs.Within.{ComponentBytesClauses, WithinC
 
 use crate::component::ReencodeComponent;
 use crate::components::parse_component;
-use reencode_core::reencode_core;
+use reencode_core::{Output, reencode_core, reencode_output};
 use reencode_hooks::Error;
 use std::alloc::Global;
 use wasm_leb::NoMemory;
@@ -62,6 +62,24 @@ pub fn reencode_within<R: ReencodeComponent>(
     match behind_header(bytes) {
         Some(_) => reencode_component(alloc, r, bytes, ceiling),
         None => reencode_core(alloc, r, bytes, ceiling),
+    }
+}
+
+/// The new binary as `reencode_within` answers it, not yet in one place: of a core module by `reencode_output`.
+pub fn output_within<'a, R: ReencodeComponent>(
+    alloc: Global,
+    r: &mut R,
+    bytes: &'a [u8],
+    ceiling: u32,
+) -> Result<Output<'a>, Error<R::Error>>
+    ensures { WithinClauses R.ReencodeIndices ceiling bytes.now r.old r.new result (λ o. o) }
+{
+    match behind_header(bytes) {
+        Some(_) => match reencode_component(alloc, r, bytes, ceiling) {
+            Ok(made) => Ok(Output::from_vec(alloc, made)),
+            Err(e) => Err(e),
+        },
+        None => reencode_output(alloc, r, bytes, ceiling),
     }
 }
 
