@@ -11,7 +11,6 @@ ghost use Rattle.reencode_items.specs.Clauses.{ItemClauses, ListClauses};
 ghost use Rattle.reencode_core.specs.Clauses.{BodyClauses, BytesClauses, CodeSectionClauses, CustomClauses, LocalsClauses, ModuleClauses, NamesClauses, RowClauses, RowsClauses, SectionClauses, SubsectionClauses, UnknownClauses};
 
 use crate::errors::placed;
-use crate::pieces::reencode_joined;
 use crate::sections::{Body, add_rows, add_section, read_body, take_section};
 use crate::{default_bodies, direct, row_sections, rows, subsections};
 use reencode_hooks::Error;
@@ -442,8 +441,6 @@ pub trait Reencode: ReencodeItems {
 }
 
 /// Reads a core module and answers its bytes in normal spelling.
-///
-/// Where function bodies are mapped by `direct::parse_function_body`, it goes by way of pieces, as `reencode_joined` does.
 pub fn reencode_core<R: Reencode>(
     alloc: Global,
     r: &mut R,
@@ -452,9 +449,6 @@ pub fn reencode_core<R: Reencode>(
 ) -> Result<Vec<u8>, Error<R::Error>>
     ensures { BytesClauses R.ReencodeIndices ceiling bytes.now r.old r.new result (λ v. v.items) }
 {
-    if R::DIRECT_BODIES {
-        return reencode_joined(alloc, r, bytes, ceiling);
-    }
     let mut module = w::Module::new(alloc, ceiling)?;
     r.parse_core_module(alloc, &mut module, bytes)?;
     Ok(module.finish())
