@@ -1,0 +1,4 @@
+pub mod Binaries
+pub mod Choices
+pub mod Faults
+pub mod Steps
