@@ -1,5 +1,6 @@
 -- Which custom sections a choice removes, by their names.
 use Rattle.std.specs.Prelude.{ℕ, List, [], ◌∷◌, Bool, true, false, not, ◌&&◌, ◌||◌, bytes_eq, codes, length, take}
+use Rattle.std.specs.Borrow.{Bor}
 use Rattle.std.specs.List.{list_any}
 
 -- the name begins with this text
@@ -23,16 +24,16 @@ abbrev pub stays_by_default : List ℕ → Bool
 stays_by_default name = is_names name || begins (codes "component-type:") name || bytes_eq name (codes "dylink.0")
 
 -- whether a text is one of these
-abbrev pub is_one_of : List (List ℕ) → List ℕ → Bool
-is_one_of texts name = list_any (λ text. bytes_eq name text) texts
+abbrev pub is_one_of : List (Bor (List ℕ)) → List ℕ → Bool
+is_one_of texts name = list_any (λ text. bytes_eq text.now name) texts
 
 -- whether nothing is among them
-abbrev pub is_empty : List (List ℕ) → Bool
+abbrev pub is_empty : List (Bor (List ℕ)) → Bool
 is_empty [] = true
 is_empty (_ ∷ _) = false
 
 -- What is removed by what is chosen: names, debug, stale, all, and single names. Where nothing is, all but what stays by default.
-abbrev pub removed_by : Bool → Bool → Bool → Bool → List (List ℕ) → List ℕ → Bool
+abbrev pub removed_by : Bool → Bool → Bool → Bool → List (Bor (List ℕ)) → List ℕ → Bool
 removed_by names debug stale all sections name =
     all || (names && is_names name) || (debug && is_debug name) || (stale && is_stale name) || is_one_of sections name
     || (not all && not names && not debug && not stale && is_empty sections && not (stays_by_default name))

@@ -1,5 +1,5 @@
 //! A rule to choose from.
-ghost use Rattle.std.specs.Prelude.{◌≡◌, map};
+ghost use Rattle.std.specs.Prelude.{◌≡◌};
 ghost use Rattle.wasm_strip.specs.Choices.{begins, is_debug, is_names, is_one_of, is_stale, removed_by, stays_by_default};
 
 use crate::rule::NameRule;
@@ -20,10 +20,9 @@ pub struct Choice<'a> {
 }
 
 impl<'a> NameRule for Choice<'a> {
-    ghost use Rattle.std.specs.Prelude.{map};
     ghost use Rattle.wasm_strip.specs.Choices.{removed_by};
 
-    ghost removed = { λ c name. removed_by c.names c.debug c.stale c.all (map (λ x. x.now) c.sections.now) name };
+    ghost removed = { λ c name. removed_by c.names c.debug c.stale c.all c.sections.now name };
 
     fn removes(&self, name: &str) -> bool {
         self.all
@@ -36,13 +35,13 @@ impl<'a> NameRule for Choice<'a> {
 }
 
 impl<'a> Choice<'a> {
-    ghost use Rattle.std.specs.Prelude.{◌≡◌, not, ◌&&◌, map};
+    ghost use Rattle.std.specs.Prelude.{◌≡◌, not, ◌&&◌};
     ghost use Rattle.wasm_strip.specs.Choices.{is_empty};
 
     /// Whether nothing is chosen.
     fn is_default(&self) -> bool
         ensures { result ≡ (not self.now.all && not self.now.names && not self.now.debug && not self.now.stale
-            && is_empty (map (λ x. x.now) self.now.sections.now)) }
+            && is_empty self.now.sections.now) }
     {
         !self.all && !self.names && !self.debug && !self.stale && self.sections.is_empty()
     }
@@ -88,7 +87,7 @@ fn stays_by_default(name: &str) -> bool
 
 /// Whether a name is one of these.
 fn is_one_of(names: &[&str], name: &str) -> bool
-    ensures { result ≡ is_one_of (map (λ x. x.now) names.now) name.now }
+    ensures { result ≡ is_one_of names.now name.now }
 {
     names.iter().any(|one| *one == name)
 }

@@ -1,0 +1,4 @@
+pub mod Adding
+pub mod Lengths
+pub mod OneSection
+pub mod Unread
