@@ -15,14 +15,14 @@ use Rattle.wasm_strip.specs.Faults.{Fails, FailsWhole, HasNone, IsWhy}
 use Rattle.wasm_strip.proofs.Lengths.{kept_short}
 
 -- bytes begin with one section at most
-same_front : {bytes x y a b : List ℕ} {t u : Tree} → Stands bytes x t a → Stands bytes y u b → (t ≡ u) × (a ≡ b)
+pub same_front : {bytes x y a b : List ℕ} {t u : Tree} → Stands bytes x t a → Stands bytes y u b → (t ≡ u) × (a ≡ b) × (x ≡ y)
 same_front {x = x} {y = y} {a = a} {b = b} {t = t} {u = u} s r =
     let e : x ++ a ≡ y ++ b = sym s.stands ∙ r.stands in
     let one = shapes_unique frame refl refl x y a b t u s.spells r.spells e in
-    (one.1, append_cancel_left y a b (ap (λ (z : List ℕ). z ++ a) (sym one.0) ∙ e))
+    (one.1, append_cancel_left y a b (ap (λ (z : List ℕ). z ++ a) (sym one.0) ∙ e), one.0)
 
 -- a section is no empty text
-not_empty : {text : List ℕ} {t : Tree} (rest : List ℕ) → Spells frame text t → text ++ rest ≢ []
+pub not_empty : {text : List ℕ} {t : Tree} (rest : List ℕ) → Spells frame text t → text ++ rest ≢ []
 not_empty {text = text} {t = t} rest p e = go t text p.shaped p.spelled (no_bytes text rest e).0
   where
     go : (f : Tree) (x : List ℕ) → Is frame f → Spelled f x → x ≢ []
@@ -72,7 +72,7 @@ record Holds (depth : ℕ) (inside : Kind) (whole : List ℕ) : Type 0 where
   inner : Parts
   are : AreParts below inside body inner
 
-same_number : {n m : ℕ} {a b : List ℕ} → numbered_frame n a ≡ numbered_frame m b → (n ≡ m) × (a ≡ b)
+pub same_number : {n m : ℕ} {a b : List ℕ} → numbered_frame n a ≡ numbered_frame m b → (n ≡ m) × (a ≡ b)
 same_number e = (cc, cc)
 
 held_parts : (depth : ℕ) (kind : Kind) {id : ℕ} {inside : Kind} {bytes text whole rest : List ℕ} → Stands bytes text (numbered_frame id whole) rest → held kind id ≡ Some inside → (q : Parts) →
@@ -124,7 +124,7 @@ no_parts {depth = depth} {kind = kind} {bytes = bytes} (Fails.behind front rest 
 -- ---- whole binaries
 
 -- bytes begin with one header at most
-one_header : (k j : Kind) (a b : List ℕ) → header_of k ++ a ≡ header_of j ++ b → (k ≡ j) × (a ≡ b)
+pub one_header : (k j : Kind) (a b : List ℕ) → header_of k ++ a ≡ header_of j ++ b → (k ≡ j) × (a ≡ b)
 one_header kind.Module kind.Module a b e = (refl, append_cancel_left core_header a b e)
 one_header kind.Component kind.Component a b e = (refl, append_cancel_left component_header a b e)
 one_header kind.Module kind.Component a b e = absurd cc

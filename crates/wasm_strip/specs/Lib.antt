@@ -1,4 +1,5 @@
 pub mod Binaries
 pub mod Choices
 pub mod Faults
+pub mod Laws
 pub mod Steps
