@@ -3,3 +3,4 @@ pub mod Choices
 pub mod Faults
 pub mod Laws
 pub mod Steps
+pub mod Texts
