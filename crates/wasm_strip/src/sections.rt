@@ -181,7 +181,7 @@ fn add_numbered<N: NameRule>(
     let Some(rest) = behind_header(inside, body) else {
         return Err(StripFault::Read { at: start });
     };
-    let mut inner = begun(alloc, inside, body.len())?;
+    let mut inner = begun(alloc, inside, 0)?;
     add_sections(alloc, rule, inside, rest, start + 8, depth - 1, &mut inner)?;
     add_sized(out, id, &inner)
 }

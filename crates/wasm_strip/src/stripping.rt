@@ -16,7 +16,10 @@ const DEEPEST: usize = 200;
 /// that stand in it, however deep.
 ///
 /// All other sections stay in order, each as it is spelled; only around a nested binary the size is the one that it has then, in its
-/// shortest spelling. Nothing is read but the frames of sections and the names of custom ones.
+/// shortest spelling. Nothing is read but the frames of sections, the names of custom ones and the headers of binaries.
+///
+/// It takes memory for the output and up to twice a nested binary's bytes. A nested binary is copied once for each binary that it
+/// stands in.
 pub fn strip<N: NameRule>(alloc: Global, rule: &N, bytes: &[u8]) -> Result<Vec<u8>, StripFault>
     ensures ok { IfOk result (λ out. IsStripped (N.removed rule.now) bytes.now out.items) }
     ensures shorter { IfOk result (λ out. length out.items ≤ length bytes.now) }
