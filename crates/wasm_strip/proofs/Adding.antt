@@ -7,39 +7,39 @@ use Rattle.wasm_shapes.specs.Tree.{Tree}
 use Rattle.wasm_shapes.specs.Module.{frame}
 use Rattle.wasm_strip.specs.declared.fault.StripFault.{StripFault}
 use Rattle.wasm_strip.specs.declared.fault.StripFault.TheVariants as fault
-use Rattle.wasm_strip.specs.Binaries.{AreParts, Parts, Stands, header_of, holder, kept, sized, text_of}
+use Rattle.wasm_strip.specs.Binaries.{IsSectionList, SectionList, Stands, header_of, holder, kept, sized, text_of}
 use Rattle.wasm_strip.specs.Faults.{Fails}
 use Rattle.wasm_strip.specs.Steps.{AddsKept, FailsBefore, FailsOr}
 
 -- sections, and others behind them
-pub joined : Parts → Parts → Parts
-joined Parts.ended q = q
-joined (Parts.custom name text p) q = Parts.custom name text (joined p q)
-joined (Parts.other text p) q = Parts.other text (joined p q)
-joined (Parts.nested inside inner p) q = Parts.nested inside inner (joined p q)
+pub joined : SectionList → SectionList → SectionList
+joined SectionList.ended q = q
+joined (SectionList.custom name text p) q = SectionList.custom name text (joined p q)
+joined (SectionList.other text p) q = SectionList.other text (joined p q)
+joined (SectionList.nested inside inner p) q = SectionList.nested inside inner (joined p q)
 
 more : {bytes text rest : List ℕ} {t : Tree} (y : List ℕ) → Stands bytes text t rest → Stands (bytes ++ y) text t (rest ++ y)
 more {text = text} {rest = rest} y s = record { spells = s.spells; stands = ap (λ (z : List ℕ). z ++ y) s.stands ∙ append_assoc text rest y }
 
-pub joined_are : (depth : ℕ) (kind : Kind) (p q : Parts) (x y : List ℕ) → AreParts depth kind x p → AreParts depth kind y q → AreParts depth kind (x ++ y) (joined p q)
+pub joined_are : (depth : ℕ) (kind : Kind) (p q : SectionList) (x y : List ℕ) → IsSectionList depth kind x p → IsSectionList depth kind y q → IsSectionList depth kind (x ++ y) (joined p q)
 unfolding joined
-joined_are depth kind Parts.ended q x y a b = let P : List ℕ → Type 0 = λ z. AreParts depth kind z q in subst P (sym (ap (λ (z : List ℕ). z ++ y) a)) b
-joined_are depth kind (Parts.custom name text p) q x y a b = (a.0, a.1 ++ y, more y a.2, joined_are depth kind p q a.1 y a.3 b)
-joined_are depth kind (Parts.other text p) q x y a b = (a.0, a.1, a.2 ++ y, more y a.3, a.4, joined_are depth kind p q a.2 y a.5 b)
-joined_are depth kind (Parts.nested inside inner p) q x y a b = (a.0, a.1, a.2, a.3, a.4 ++ y, more y a.5, a.6, a.7, a.8, joined_are depth kind p q a.4 y a.9 b)
+joined_are depth kind SectionList.ended q x y a b = let P : List ℕ → Type 0 = λ z. IsSectionList depth kind z q in subst P (sym (ap (λ (z : List ℕ). z ++ y) a)) b
+joined_are depth kind (SectionList.custom name text p) q x y a b = (a.0, a.1 ++ y, more y a.2, joined_are depth kind p q a.1 y a.3 b)
+joined_are depth kind (SectionList.other text p) q x y a b = (a.0, a.1, a.2 ++ y, more y a.3, a.4, joined_are depth kind p q a.2 y a.5 b)
+joined_are depth kind (SectionList.nested inside inner p) q x y a b = (a.0, a.1, a.2, a.3, a.4 ++ y, more y a.5, a.6, a.7, a.8, joined_are depth kind p q a.4 y a.9 b)
 
-pub joined_text : (removed : List ℕ → Bool) (p q : Parts) → text_of (kept removed (joined p q)) ≡ text_of (kept removed p) ++ text_of (kept removed q)
+pub joined_text : (removed : List ℕ → Bool) (p q : SectionList) → text_of (kept removed (joined p q)) ≡ text_of (kept removed p) ++ text_of (kept removed q)
 unfolding joined
-joined_text removed Parts.ended q = refl
-joined_text removed (Parts.custom name text p) q = go (joined_text removed p q) (removed name)
+joined_text removed SectionList.ended q = refl
+joined_text removed (SectionList.custom name text p) q = go (joined_text removed p q) (removed name)
   where
-    go : text_of (kept removed (joined p q)) ≡ text_of (kept removed p) ++ text_of (kept removed q) → (b : Bool) → text_of (if b then kept removed (joined p q) else Parts.custom name text (kept removed (joined p q)))
-        ≡ text_of (if b then kept removed p else Parts.custom name text (kept removed p)) ++ text_of (kept removed q)
+    go : text_of (kept removed (joined p q)) ≡ text_of (kept removed p) ++ text_of (kept removed q) → (b : Bool) → text_of (if b then kept removed (joined p q) else SectionList.custom name text (kept removed (joined p q)))
+        ≡ text_of (if b then kept removed p else SectionList.custom name text (kept removed p)) ++ text_of (kept removed q)
     go again true = again
     go again false = ap (λ (z : List ℕ). text ++ z) again ∙ sym (append_assoc text (text_of (kept removed p)) (text_of (kept removed q)))
-joined_text removed (Parts.other text p) q =
+joined_text removed (SectionList.other text p) q =
     ap (λ (z : List ℕ). text ++ z) (joined_text removed p q) ∙ sym (append_assoc text (text_of (kept removed p)) (text_of (kept removed q)))
-joined_text removed (Parts.nested inside inner p) q =
+joined_text removed (SectionList.nested inside inner p) q =
     let first = sized (holder inside) (header_of inside ++ text_of (kept removed inner)) in
     ap (λ (z : List ℕ). first ++ z) (joined_text removed p q) ∙ sym (append_assoc first (text_of (kept removed p)) (text_of (kept removed q)))
 
@@ -51,7 +51,7 @@ pub record AddedSoFar (removed : List ℕ → Bool) (depth : ℕ) (kind : Kind) 
 
 module _ (removed : List ℕ → Bool) (depth : ℕ) (kind : Kind) where
   pub added_begin : (bytes old : List ℕ) → AddedSoFar removed depth kind bytes bytes old old
-  added_begin bytes old = record { done = []; cut = refl; adds = record { parts = Parts.ended; are = refl; added = sym (append-nil old) } }
+  added_begin bytes old = record { done = []; cut = refl; adds = record { parts = SectionList.ended; are = refl; added = sym (append-nil old) } }
 
   pub added_more : {bytes rest text left old out new : List ℕ} → AddedSoFar removed depth kind bytes rest old out → rest ≡ text ++ left → AddsKept removed depth kind text out new →
       AddedSoFar removed depth kind bytes left old new

@@ -10,7 +10,7 @@ use Rattle.wasm_shapes.specs.Tree.{Tree}
 use Rattle.wasm_shapes.specs.Module.{custom_frame, frame, numbered_frame}
 use Rattle.wasm_strip.specs.declared.fault.StripFault.{StripFault}
 use Rattle.wasm_strip.specs.declared.fault.StripFault.TheVariants as fault
-use Rattle.wasm_strip.specs.Binaries.{Parts, Stands, header_of, held, holder, kept, sized, text_of}
+use Rattle.wasm_strip.specs.Binaries.{SectionList, Stands, header_of, held, holder, kept, sized, text_of}
 use Rattle.wasm_strip.specs.Faults.{Fails, LacksHeader}
 use Rattle.wasm_strip.specs.Steps.{AddsKept, FailsBefore, FailsOr}
 use Rattle.wasm_strip.proofs.Lengths.{is_sized, kept_short, sized_length}
@@ -22,7 +22,7 @@ alone {text = text} p = record { spells = p; stands = sym (append-nil text) }
 pub custom_goes : {removed : List ℕ → Bool} {depth : ℕ} {kind : Kind} {name contents text old : List ℕ} → Spells frame text (custom_frame name contents) → removed name ≡ true →
     AddsKept removed depth kind text old old
 custom_goes {removed = removed} {name = name} {contents = contents} {text = text} {old = old} p e = record {
-  parts = Parts.custom name text Parts.ended;
+  parts = SectionList.custom name text SectionList.ended;
   are = (contents, [], alone p, refl);
   added = rw e (sym (append-nil old));
 }
@@ -31,7 +31,7 @@ custom_goes {removed = removed} {name = name} {contents = contents} {text = text
 pub custom_stays : {removed : List ℕ → Bool} {depth : ℕ} {kind : Kind} {name contents text old new : List ℕ} → Spells frame text (custom_frame name contents) → removed name ≡ false →
     new ≡ old ++ text → AddsKept removed depth kind text old new
 custom_stays {removed = removed} {name = name} {contents = contents} {text = text} {old = old} p e added = record {
-  parts = Parts.custom name text Parts.ended;
+  parts = SectionList.custom name text SectionList.ended;
   are = (contents, [], alone p, refl);
   added = rw e (added ∙ ap (λ (z : List ℕ). old ++ z) (sym (append-nil text)));
 }
@@ -40,7 +40,7 @@ custom_stays {removed = removed} {name = name} {contents = contents} {text = tex
 pub other_stays : {removed : List ℕ → Bool} {depth id : ℕ} {kind : Kind} {body text old new : List ℕ} → Spells frame text (numbered_frame id body) → None ≡ held kind id →
     new ≡ old ++ text → AddsKept removed depth kind text old new
 other_stays {id = id} {body = body} {text = text} {old = old} p e added = record {
-  parts = Parts.other text Parts.ended;
+  parts = SectionList.other text SectionList.ended;
   are = (id, body, [], alone p, sym e, refl);
   added = added ∙ ap (λ (z : List ℕ). old ++ z) (sym (append-nil text));
 }
@@ -63,7 +63,7 @@ pub nested_stays : {removed : List ℕ → Bool} {depth below id : ℕ} {kind in
     Some inside ≡ held kind id → depth ≡ suc below → AddsKept removed below inside body (header_of inside) inner → new ≡ old ++ sized id inner → AddsKept removed depth kind text old new
 nested_stays {removed = removed} {depth = depth} {below = below} {id = id} {kind = kind} {inside = inside} {body = body} {text = text} {old = old} p w e d a added =
     let S : List ℕ → Type 0 = λ z. Spells frame text (numbered_frame id z) in record {
-      parts = Parts.nested inside a.parts Parts.ended;
+      parts = SectionList.nested inside a.parts SectionList.ended;
       are = (id, below, text, body, [], alone (subst S w p), sym e, d, a.are, refl);
       added = added ∙ ap (λ (z : List ℕ). old ++ sized id z) a.added
           ∙ ap (λ (n : ℕ). old ++ sized n (header_of inside ++ text_of (kept removed a.parts))) (holds kind inside id e)

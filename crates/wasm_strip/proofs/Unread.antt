@@ -10,7 +10,7 @@ use Rattle.wasm_shapes.proofs.Laws.{shapes_unique}
 use Rattle.wasm_shapes.proofs.Lists.{no_bytes}
 use Rattle.wasm_strip.specs.declared.fault.StripFault.{StripFault}
 use Rattle.wasm_strip.specs.declared.fault.StripFault.TheVariants as fault
-use Rattle.wasm_strip.specs.Binaries.{AreParts, IsBinary, IsStripped, Parts, Stands, deepest, header_of, held, kept, text_of}
+use Rattle.wasm_strip.specs.Binaries.{IsSectionList, IsBinary, IsStripped, SectionList, Stands, deepest, header_of, held, kept, text_of}
 use Rattle.wasm_strip.specs.Faults.{Fails, FailsWhole, HasNone, IsWhy}
 use Rattle.wasm_strip.proofs.Lengths.{kept_short}
 
@@ -35,33 +35,33 @@ record First (depth : ℕ) (kind : Kind) (bytes : List ℕ) : Type 0 where
   text : List ℕ
   tree : Tree
   rest : List ℕ
-  others : Parts
+  others : SectionList
   stands : Stands bytes text tree rest
-  are : AreParts depth kind rest others
+  are : IsSectionList depth kind rest others
 
-first_of_parts : (depth : ℕ) (kind : Kind) (bytes : List ℕ) (p : Parts) → AreParts depth kind bytes p → (bytes ≡ []) ⊎ First depth kind bytes
-first_of_parts depth kind bytes Parts.ended a = inl a
-first_of_parts depth kind bytes (Parts.custom name text p) a = inr (record { text = text; tree = custom_frame name a.0; rest = a.1; others = p; stands = a.2; are = a.3 })
-first_of_parts depth kind bytes (Parts.other text p) a = inr (record { text = text; tree = numbered_frame a.0 a.1; rest = a.2; others = p; stands = a.3; are = a.5 })
-first_of_parts depth kind bytes (Parts.nested inside inner p) a =
+first_of_parts : (depth : ℕ) (kind : Kind) (bytes : List ℕ) (p : SectionList) → IsSectionList depth kind bytes p → (bytes ≡ []) ⊎ First depth kind bytes
+first_of_parts depth kind bytes SectionList.ended a = inl a
+first_of_parts depth kind bytes (SectionList.custom name text p) a = inr (record { text = text; tree = custom_frame name a.0; rest = a.1; others = p; stands = a.2; are = a.3 })
+first_of_parts depth kind bytes (SectionList.other text p) a = inr (record { text = text; tree = numbered_frame a.0 a.1; rest = a.2; others = p; stands = a.3; are = a.5 })
+first_of_parts depth kind bytes (SectionList.nested inside inner p) a =
     inr (record { text = a.2; tree = numbered_frame a.0 (header_of inside ++ a.3); rest = a.4; others = p; stands = a.5; are = a.9 })
 
 -- what is left behind sections are sections
-behind_one : (depth : ℕ) (kind : Kind) {x text rest : List ℕ} {t : Tree} (y : List ℕ) → Stands x text t rest → (q : Parts) → AreParts depth kind (x ++ y) q → (r : Parts) × AreParts depth kind (rest ++ y) r
+behind_one : (depth : ℕ) (kind : Kind) {x text rest : List ℕ} {t : Tree} (y : List ℕ) → Stands x text t rest → (q : SectionList) → IsSectionList depth kind (x ++ y) q → (r : SectionList) × IsSectionList depth kind (rest ++ y) r
 behind_one depth kind {x = x} {text = text} {rest = rest} {t = t} y s q a = go (first_of_parts depth kind (x ++ y) q a)
   where
     whole : Stands (x ++ y) text t (rest ++ y)
     whole = record { spells = s.spells; stands = ap (λ (z : List ℕ). z ++ y) s.stands ∙ append_assoc text rest y }
 
-    go : ((x ++ y) ≡ []) ⊎ First depth kind (x ++ y) → (r : Parts) × AreParts depth kind (rest ++ y) r
+    go : ((x ++ y) ≡ []) ⊎ First depth kind (x ++ y) → (r : SectionList) × IsSectionList depth kind (rest ++ y) r
     go (inl e) = absurd (not_empty _ s.spells (sym whole.stands ∙ e))
-    go (inr f) = let P : List ℕ → Type 0 = λ z. AreParts depth kind z f.others in (f.others, subst P (sym (same_front whole f.stands).1) f.are)
+    go (inr f) = let P : List ℕ → Type 0 = λ z. IsSectionList depth kind z f.others in (f.others, subst P (sym (same_front whole f.stands).1) f.are)
 
-left_parts : (depth other : ℕ) (kind : Kind) (p q : Parts) (x y : List ℕ) → AreParts other kind x p → AreParts depth kind (x ++ y) q → (r : Parts) × AreParts depth kind y r
-left_parts depth other kind Parts.ended q x y a b = let P : List ℕ → Type 0 = λ z. AreParts depth kind (z ++ y) q in (q, subst P a b)
-left_parts depth other kind (Parts.custom name text p) q x y a b = let r = behind_one depth kind y a.2 q b in left_parts depth other kind p r.0 a.1 y a.3 r.1
-left_parts depth other kind (Parts.other text p) q x y a b = let r = behind_one depth kind y a.3 q b in left_parts depth other kind p r.0 a.2 y a.5 r.1
-left_parts depth other kind (Parts.nested inside inner p) q x y a b = let r = behind_one depth kind y a.5 q b in left_parts depth other kind p r.0 a.4 y a.9 r.1
+left_parts : (depth other : ℕ) (kind : Kind) (p q : SectionList) (x y : List ℕ) → IsSectionList other kind x p → IsSectionList depth kind (x ++ y) q → (r : SectionList) × IsSectionList depth kind y r
+left_parts depth other kind SectionList.ended q x y a b = let P : List ℕ → Type 0 = λ z. IsSectionList depth kind (z ++ y) q in (q, subst P a b)
+left_parts depth other kind (SectionList.custom name text p) q x y a b = let r = behind_one depth kind y a.2 q b in left_parts depth other kind p r.0 a.1 y a.3 r.1
+left_parts depth other kind (SectionList.other text p) q x y a b = let r = behind_one depth kind y a.3 q b in left_parts depth other kind p r.0 a.2 y a.5 r.1
+left_parts depth other kind (SectionList.nested inside inner p) q x y a b = let r = behind_one depth kind y a.5 q b in left_parts depth other kind p r.0 a.4 y a.9 r.1
 
 -- what a section that is to hold a binary holds
 record Holds (depth : ℕ) (inside : Kind) (whole : List ℕ) : Type 0 where
@@ -69,25 +69,25 @@ record Holds (depth : ℕ) (inside : Kind) (whole : List ℕ) : Type 0 where
   deeper : depth ≡ suc below
   body : List ℕ
   headed : whole ≡ header_of inside ++ body
-  inner : Parts
-  are : AreParts below inside body inner
+  inner : SectionList
+  are : IsSectionList below inside body inner
 
 pub same_number : {n m : ℕ} {a b : List ℕ} → numbered_frame n a ≡ numbered_frame m b → (n ≡ m) × (a ≡ b)
 same_number e = (cc, cc)
 
-held_parts : (depth : ℕ) (kind : Kind) {id : ℕ} {inside : Kind} {bytes text whole rest : List ℕ} → Stands bytes text (numbered_frame id whole) rest → held kind id ≡ Some inside → (q : Parts) →
-    AreParts depth kind bytes q → Holds depth inside whole
-held_parts depth kind {rest = rest} s h Parts.ended a = absurd (not_empty _ s.spells (sym s.stands ∙ a))
-held_parts depth kind {id = id} {whole = whole} s h (Parts.custom name text p) a =
+held_parts : (depth : ℕ) (kind : Kind) {id : ℕ} {inside : Kind} {bytes text whole rest : List ℕ} → Stands bytes text (numbered_frame id whole) rest → held kind id ≡ Some inside → (q : SectionList) →
+    IsSectionList depth kind bytes q → Holds depth inside whole
+held_parts depth kind {rest = rest} s h SectionList.ended a = absurd (not_empty _ s.spells (sym s.stands ∙ a))
+held_parts depth kind {id = id} {whole = whole} s h (SectionList.custom name text p) a =
     absurd (let apart : numbered_frame id whole ≡ custom_frame name a.0 = (same_front s a.2).0 in cc)
-held_parts depth kind {inside = inside} s h (Parts.other text p) a =
+held_parts depth kind {inside = inside} s h (SectionList.other text p) a =
     let same = same_number (same_front s a.3).0 in
     absurd (let apart : Some inside ≡ None = sym h ∙ ap (held kind) same.0 ∙ a.4 in cc)
-held_parts depth kind {inside = inside} s h (Parts.nested other inner p) a =
+held_parts depth kind {inside = inside} s h (SectionList.nested other inner p) a =
     let same = same_number (same_front s a.5).0 in
     let both : Some inside ≡ Some other = sym h ∙ ap (held kind) same.0 ∙ a.6 in
     let one : other ≡ inside = cc in
-    let A : Kind → Type 0 = λ k. AreParts a.1 k a.3 inner in
+    let A : Kind → Type 0 = λ k. IsSectionList a.1 k a.3 inner in
     record { below = a.1; deeper = a.7; body = a.3; headed = same.1 ∙ ap (λ (k : Kind). header_of k ++ a.3) one; inner = inner; are = subst A one a.8 }
 
 -- how deep the sections may be, of which a fault says that there are none
@@ -102,7 +102,7 @@ inward (fault.Read at) depth deep below d m = tt
 inward (fault.TooDeep at) depth deep below d m = omega arith
 inward fault.NoMemory depth deep below d m = tt
 
-no_parts : {at depth : ℕ} {kind : Kind} {bytes : List ℕ} {e : StripFault} → Fails at depth kind bytes e → (deep : ℕ) (q : Parts) → MayBe e depth deep → AreParts deep kind bytes q → ⊥
+no_parts : {at depth : ℕ} {kind : Kind} {bytes : List ℕ} {e : StripFault} → Fails at depth kind bytes e → (deep : ℕ) (q : SectionList) → MayBe e depth deep → IsSectionList deep kind bytes q → ⊥
 unfolding MayBe
 no_parts {kind = kind} {bytes = bytes} (Fails.unread some none) deep q m a = go (first_of_parts deep kind bytes q a)
   where
@@ -114,10 +114,10 @@ no_parts {kind = kind} (Fails.deep s h) deep q m a = let holds = held_parts deep
 no_parts {depth = suc depth} {kind = kind} {e = e} (Fails.within {inside = inside} {body = body} s h f) deep q m a =
     let holds = held_parts deep kind s h q a in
     let same : body ≡ holds.body = append_cancel_left (header_of inside) body holds.body holds.headed in
-    let A : List ℕ → Type 0 = λ z. AreParts holds.below inside z holds.inner in
+    let A : List ℕ → Type 0 = λ z. IsSectionList holds.below inside z holds.inner in
     no_parts f holds.below holds.inner (inward e depth deep holds.below holds.deeper m) (subst A (sym same) holds.are)
 no_parts {depth = depth} {kind = kind} {bytes = bytes} (Fails.behind front rest parts cut are f) deep q m a =
-    let A : List ℕ → Type 0 = λ z. AreParts deep kind z q in
+    let A : List ℕ → Type 0 = λ z. IsSectionList deep kind z q in
     let r = left_parts deep depth kind parts q front rest are (subst A cut a) in
     no_parts f deep r.0 m r.1
 
@@ -130,13 +130,13 @@ one_header kind.Component kind.Component a b e = (refl, append_cancel_left compo
 one_header kind.Module kind.Component a b e = absurd cc
 one_header kind.Component kind.Module a b e = absurd cc
 
-no_binary : {bytes : List ℕ} (e : StripFault) → FailsWhole bytes e → (depth : ℕ) (kind : Kind) (parts : Parts) → MayBe e deepest depth → ¬ IsBinary depth bytes kind parts
+no_binary : {bytes : List ℕ} (e : StripFault) → FailsWhole bytes e → (depth : ℕ) (kind : Kind) (parts : SectionList) → MayBe e deepest depth → ¬ IsBinary depth bytes kind parts
 no_binary e (inl none) depth kind.Module parts m b = none.1 b.rest b.stands
 no_binary e (inl none) depth kind.Component parts m b = none.2 b.rest b.stands
 no_binary e (inr why) depth k parts m b =
     let same = one_header k why.0 b.rest why.1 (sym b.stands ∙ why.2) in
-    let A : Kind → Type 0 = λ z. AreParts depth z b.rest parts in
-    let B : List ℕ → Type 0 = λ z. AreParts depth why.0 z parts in
+    let A : Kind → Type 0 = λ z. IsSectionList depth z b.rest parts in
+    let B : List ℕ → Type 0 = λ z. IsSectionList depth why.0 z parts in
     no_parts why.3 depth parts m (subst B same.1 (subst A same.0 b.are))
 
 pub none_where : (bytes : List ℕ) (e : StripFault) → IsWhy bytes e → HasNone bytes e

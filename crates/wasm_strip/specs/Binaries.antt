@@ -8,15 +8,15 @@ use Rattle.wasm_shapes.specs.Spells.{Spells}
 use Rattle.wasm_shapes.specs.Module.{component_header, core_header, custom_frame, frame, numbered_frame}
 
 -- The sections of a binary, in order. A section is kept as its whole text: its id, its size and its body.
-pub data Parts : Type 0 where
+pub data SectionList : Type 0 where
   -- no more sections
-  ended : Parts
+  ended : SectionList
   -- a custom section: its name, its text, and the sections behind it
-  custom : (name text : List ℕ) → (more : Parts) → Parts
+  custom : (name text : List ℕ) → (more : SectionList) → SectionList
   -- a section of another id, which holds no binary: its text, and the sections behind it
-  other : (text : List ℕ) → (more : Parts) → Parts
+  other : (text : List ℕ) → (more : SectionList) → SectionList
   -- in a component a section that holds a binary: the kind of that, its sections, and the sections behind it
-  nested : (inside : Kind) → (inner more : Parts) → Parts
+  nested : (inside : Kind) → (inner more : SectionList) → SectionList
 
 -- the bytes at the front of a binary of a kind
 abbrev pub header_of : Kind → List ℕ
@@ -39,29 +39,29 @@ pub record Stands (bytes text : List ℕ) (section : Tree) (rest : List ℕ) : T
   pub stands : bytes ≡ text ++ rest
 
 -- The bytes are these sections of a binary of a kind, in which binaries stand at most so deep within each other.
-abbrev pub AreParts : ℕ → Kind → List ℕ → Parts → Type 0
-AreParts depth kind bytes ended = bytes ≡ []
-AreParts depth kind bytes (custom name text more) =
-    (contents rest : List ℕ) × Stands bytes text (custom_frame name contents) rest × AreParts depth kind rest more
-AreParts depth kind bytes (other text more) =
-    (id : ℕ) × (body rest : List ℕ) × Stands bytes text (numbered_frame id body) rest × (held kind id ≡ None) × AreParts depth kind rest more
-AreParts depth kind bytes (nested inside inner more) =
+abbrev pub IsSectionList : ℕ → Kind → List ℕ → SectionList → Type 0
+IsSectionList depth kind bytes ended = bytes ≡ []
+IsSectionList depth kind bytes (custom name text more) =
+    (contents rest : List ℕ) × Stands bytes text (custom_frame name contents) rest × IsSectionList depth kind rest more
+IsSectionList depth kind bytes (other text more) =
+    (id : ℕ) × (body rest : List ℕ) × Stands bytes text (numbered_frame id body) rest × (held kind id ≡ None) × IsSectionList depth kind rest more
+IsSectionList depth kind bytes (nested inside inner more) =
     (id below : ℕ) × (text body rest : List ℕ) × Stands bytes text (numbered_frame id (header_of inside ++ body)) rest
-    × (held kind id ≡ Some inside) × (depth ≡ suc below) × AreParts below inside body inner × AreParts depth kind rest more
+    × (held kind id ≡ Some inside) × (depth ≡ suc below) × IsSectionList below inside body inner × IsSectionList depth kind rest more
 
 -- a section of this id and body, with the shortest size
 abbrev pub sized : ℕ → List ℕ → List ℕ
 sized id body = id ∷ (leb (length body) ++ body)
 
 -- How sections are spelled: each as its text stands, and around a nested binary the shortest size.
-abbrev pub text_of : Parts → List ℕ
+abbrev pub text_of : SectionList → List ℕ
 text_of ended = []
 text_of (custom name text more) = text ++ text_of more
 text_of (other text more) = text ++ text_of more
 text_of (nested inside inner more) = sized (holder inside) (header_of inside ++ text_of inner) ++ text_of more
 
 -- The sections without the custom ones whose name is removed, here and in what is nested. All others stay, in order.
-abbrev pub kept : (List ℕ → Bool) → Parts → Parts
+abbrev pub kept : (List ℕ → Bool) → SectionList → SectionList
 kept removed ended = ended
 kept removed (custom name text more) = if removed name then kept removed more else custom name text (kept removed more)
 kept removed (other text more) = other text (kept removed more)
@@ -72,14 +72,14 @@ abbrev pub deepest : ℕ
 deepest = 200
 
 -- The bytes are a binary of a kind: its header and these sections, nested at most so deep.
-pub record IsBinary (depth : ℕ) (bytes : List ℕ) (kind : Kind) (parts : Parts) : Type 0 where
+pub record IsBinary (depth : ℕ) (bytes : List ℕ) (kind : Kind) (parts : SectionList) : Type 0 where
   pub rest : List ℕ
   pub stands : bytes ≡ header_of kind ++ rest
-  pub are : AreParts depth kind rest parts
+  pub are : IsSectionList depth kind rest parts
 
 -- The output is the input without the custom sections whose name is removed.
 pub record IsStripped (removed : List ℕ → Bool) (bytes output : List ℕ) : Type 0 where
   pub kind : Kind
-  pub parts : Parts
+  pub parts : SectionList
   pub reads : IsBinary deepest bytes kind parts
   pub spelled : output ≡ header_of kind ++ text_of (kept removed parts)

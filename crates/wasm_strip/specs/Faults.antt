@@ -6,7 +6,7 @@ use Rattle.wasm_shapes.specs.Module.{frame, numbered_frame}
 use Rattle.wasm_shapes.specs.Place.{BeginsNone}
 use Rattle.wasm_strip.specs.declared.fault.StripFault.{StripFault}
 use Rattle.wasm_strip.specs.declared.fault.StripFault.TheVariants as fault
-use Rattle.wasm_strip.specs.Binaries.{AreParts, IsBinary, Parts, Stands, deepest, header_of, held}
+use Rattle.wasm_strip.specs.Binaries.{IsSectionList, IsBinary, SectionList, Stands, deepest, header_of, held}
 
 -- the bytes do not begin with the header of a kind
 abbrev pub LacksHeader : Kind → List ℕ → Type 0
@@ -26,7 +26,7 @@ pub data Fails : ℕ → ℕ → Kind → List ℕ → StripFault → Type 0 whe
   within : {at depth id : ℕ} {kind inside : Kind} {bytes text body rest : List ℕ} {e : StripFault} → Stands bytes text (numbered_frame id (header_of inside ++ body)) rest →
       held kind id ≡ Some inside → Fails (at + (length text - length body)) depth inside body e → Fails at (suc depth) kind bytes e
   -- the fault comes behind sections that have none
-  behind : {at depth : ℕ} {kind : Kind} {bytes : List ℕ} {e : StripFault} (front rest : List ℕ) (parts : Parts) → bytes ≡ front ++ rest → AreParts depth kind front parts →
+  behind : {at depth : ℕ} {kind : Kind} {bytes : List ℕ} {e : StripFault} (front rest : List ℕ) (parts : SectionList) → bytes ≡ front ++ rest → IsSectionList depth kind front parts →
       Fails (at + length front) depth kind rest e → Fails at depth kind bytes e
 
 -- the fault of a binary: it begins with neither header, or its sections have a fault
@@ -43,5 +43,5 @@ IsWhy bytes e = FailsWhole bytes e
 -- and what it tells of the whole: there are no such sections, however deep; or all that there may be are too deep
 abbrev pub HasNone : List ℕ → StripFault → Type 0
 HasNone bytes fault.NoMemory = Unit {0}
-HasNone bytes (fault.Read at) = (depth : ℕ) (kind : Kind) (parts : Parts) → ¬ IsBinary depth bytes kind parts
-HasNone bytes (fault.TooDeep at) = (kind : Kind) (parts : Parts) → ¬ IsBinary deepest bytes kind parts
+HasNone bytes (fault.Read at) = (depth : ℕ) (kind : Kind) (parts : SectionList) → ¬ IsBinary depth bytes kind parts
+HasNone bytes (fault.TooDeep at) = (kind : Kind) (parts : SectionList) → ¬ IsBinary deepest bytes kind parts

@@ -3,13 +3,13 @@ use Rattle.std.specs.Prelude.{◌≡◌, ℕ, List, ◌++◌, Bool}
 use Rattle.wasm_leb.specs.declared.fault.Kind.{Kind}
 use Rattle.wasm_strip.specs.declared.fault.StripFault.{StripFault}
 use Rattle.wasm_strip.specs.declared.fault.StripFault.TheVariants as fault
-use Rattle.wasm_strip.specs.Binaries.{AreParts, Parts, kept, text_of}
+use Rattle.wasm_strip.specs.Binaries.{IsSectionList, SectionList, kept, text_of}
 use Rattle.wasm_strip.specs.Faults.{Fails}
 
 -- the bytes are sections, and what stays of these is added
 pub record AddsKept (removed : List ℕ → Bool) (depth : ℕ) (kind : Kind) (bytes old new : List ℕ) : Type 0 where
-  pub parts : Parts
-  pub are : AreParts depth kind bytes parts
+  pub parts : SectionList
+  pub are : IsSectionList depth kind bytes parts
   pub added : new ≡ old ++ text_of (kept removed parts)
 
 -- sections have this fault, or memory is wanting
