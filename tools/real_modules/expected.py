@@ -1,5 +1,5 @@
 """What comes of the tools over core modules by the independent reading (reader.py): functions in another order, without those that
-nothing reaches, two modules in one. It is written from what the README says of the commands, and shares nothing with the crates.
+nothing reaches, two modules in one. It is written from what docs/PROGRAM.md says of the commands, and shares nothing with the crates.
 
 `renumber(data, order, ceiling)`, `prune(data, ceiling)` and `merge(first, second, ceiling)` give an Outcome: the status and what is
 said with it, and with 0 the new module, and of `prune` the kept functions. `Parts` is a module with its rows apart.

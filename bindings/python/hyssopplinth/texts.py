@@ -58,7 +58,7 @@ def _is_index(value: Any) -> bool:
 
 
 def read_renaming(text: Union[str, bytes]) -> ReadRenaming:
-    """The renaming of a JSON text, as README has it: `{"strict": false, "function": {"0": 1, "1": 0}}`. Of two equal keys the last counts.
+    """The renaming of a JSON text, as docs/PROGRAM.md has it: `{"strict": false, "function": {"0": 1, "1": 0}}`. Of two equal keys the last counts.
     Any other text raises a RenamingError."""
     said = _read(text)
     if not isinstance(said, dict):

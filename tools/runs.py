@@ -1,8 +1,36 @@
-"""Runs of the program over bytes, each with a bound on its memory: for tools/hostile and tools/mutated.
-They need Linux, /bin/sh, and Python 3.9 or later."""
+"""What the scripts share that run the program: their words, what came of many runs, and runs over bytes, each with a bound on its
+memory (these need Linux, /bin/sh, and Python 3.9 or later)."""
+import argparse
+import collections
 import os
 import select
 import signal
+import sys
+
+
+def parser_of(doc, **numbers):
+    """The parser of a script whose doc has its usage in a line, with these numbers among its words; --help prints the doc."""
+    if {"-h", "--help"} & set(sys.argv[1:]):
+        print(doc.strip())
+        sys.exit(0)
+    parser = argparse.ArgumentParser(usage=next(line for line in doc.split("\n") if line.startswith("tools/")))
+    for key, usual in numbers.items():
+        parser.add_argument("--" + key.replace("_", "-"), type=int, default=usual)
+    return parser
+
+
+def collected(pieces):
+    """The failures of pieces of work, each a count of statuses and its failures. They are printed as they come, and then the counts."""
+    statuses, failures = collections.Counter(), []
+    for done in pieces:
+        found, said = done.result()
+        statuses.update(found)
+        failures += said
+        for line in said:
+            print(line, flush=True)
+    for status, count in sorted(statuses.items()):
+        print(f"status {status}: {count}")
+    return failures
 
 
 class Run:
