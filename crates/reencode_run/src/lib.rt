@@ -25,4 +25,4 @@ pub mod tool;
 mod tools;
 pub mod transform;
 pub mod words;
-mod write;
+pub mod write;
