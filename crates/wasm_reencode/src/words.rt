@@ -1,8 +1,8 @@
 //! The words of the command line.
-ghost use Rattle.std.specs.Prelude.{ℕ, ◌≡◌, ◌-◌, ◌^◌, None, IfSome, codes, option_map};
-ghost use Rattle.clap.specs.Matches.{first_value, found_of, one_text};
+ghost use Rattle.std.specs.Prelude.{ℕ, ◌≡◌, ◌-◌, ◌^◌, IfNone, IfSome, codes, false, option_map};
+ghost use Rattle.clap.specs.Matches.{first_value, found_of};
 ghost use Rattle.reencode_run.specs.Words.{command_seen};
-ghost use Rattle.wasm_reencode.specs.Arguments.{AsksBy, IsAsked, argument, named, renaming};
+ghost use Rattle.wasm_reencode.specs.Arguments.{AsksBy, IsAsked, IsCeiling, NamesNone, argument, is_command, named, renaming};
 
 use clap::{Arg, ArgAction, ArgMatches, Command, value_parser};
 use reencode_run::transform::Request;
@@ -176,8 +176,9 @@ fn renaming<'a>(matches: &ArgMatches<'a>) -> words::Command<'a>
 /// What a command of this name asks for by its arguments.
 fn command_of<'a>(name: &str, matches: &ArgMatches<'a>) -> Option<words::Command<'a>>
     // However long the file of a module may be.
-    ensures { (most : ℕ) → option_map (command_seen most) result
+    ensures command { (most : ℕ) → option_map (command_seen most) result
         ≡ named most name.now (found_of matches.now) }
+    ensures none { IfNone result (is_command name.now ≡ false) }
 {
     if name == "plain" {
         return Some(words::Command::Plain);
@@ -197,17 +198,26 @@ fn command_of<'a>(name: &str, matches: &ArgMatches<'a>) -> Option<words::Command
     None
 }
 
+/// The most bytes that a frame may have.
+fn ceiling_of(matches: &ArgMatches<'_>) -> u32
+    ensures { IsCeiling (found_of matches.now) (codes "max-frame") result }
+{
+    match matches.get_one::<u32>("max-frame") {
+        Some(number) => number,
+        None => u32::MAX,
+    }
+}
+
 /// What is asked for of a command.
 fn request_of<'a>(command: words::Command<'a>, matches: &ArgMatches<'a>) -> Request<'a>
     ensures input { result.input.now ≡ argument (found_of matches.now) (codes "input") }
     ensures output { result.output.now ≡ argument (found_of matches.now) (codes "output") }
     ensures command { result.command ≡ command.entry }
     ensures most { result.most ≡ 2 ^ 32 - 1 }
-    ensures ceiling { (one_text (found_of matches.now) (codes "max-frame") ≡ None)
-        → result.ceiling ≡ 2 ^ 32 - 1 }
+    ensures ceiling { IsCeiling (found_of matches.now) (codes "max-frame") result.ceiling }
 {
     Request {
-        ceiling: matches.get_one::<u32>("max-frame").unwrap_or(u32::MAX),
+        ceiling: ceiling_of(matches),
         most: u32::MAX,
         command,
         input: text(matches, "input"),
@@ -217,7 +227,8 @@ fn request_of<'a>(command: words::Command<'a>, matches: &ArgMatches<'a>) -> Requ
 
 /// What the words ask for of a command of this name.
 fn asked_by<'a>(name: &str, matches: &ArgMatches<'a>) -> Option<Asked<'a>>
-    ensures { IfSome result (AsksBy name.now (found_of matches.now)) }
+    ensures some { IfSome result (AsksBy name.now (found_of matches.now)) }
+    ensures none { IfNone result (is_command name.now ≡ false) }
 {
     let command = command_of(name, matches)?;
     Some(Asked {
@@ -230,7 +241,8 @@ fn asked_by<'a>(name: &str, matches: &ArgMatches<'a>) -> Option<Asked<'a>>
 
 /// What the words ask for.
 pub fn asked_of<'a>(matches: &ArgMatches<'a>) -> Option<Asked<'a>>
-    ensures { IfSome result (IsAsked matches.now) }
+    ensures some { IfSome result (IsAsked matches.now) }
+    ensures none { IfNone result (NamesNone matches.now) }
 {
     match matches.subcommand() {
         Some((name, matches)) => asked_by(name, matches),
