@@ -8,7 +8,7 @@ use Rattle.clap.specs.Walk.{rows_of}
 use Rattle.clap.specs.declared.parser.matches.ArgMatches.{ArgMatches}
 use Rattle.clap.specs.declared.parser.matches.ArgMatches.TheViews.{out-ArgMatches}
 use Rattle.wasm_reencode.specs.declared.words.Asked.{Asked}
-use Rattle.reencode_run.specs.Words.{Command, command_seen, is_word, plain, rename, twice, renumber, prune, merge}
+use Rattle.reencode_run.specs.Words.{Command, command_seen, is_word, plain, rename, twice, renumber, prune, merge, keep_report}
 
 -- the text of an argument, or nothing
 abbrev pub argument : Found → List ℕ → List ℕ
@@ -27,12 +27,13 @@ named most name found =
     else if is_word name (codes "renumber") then Some (renumber (argument found (codes "order")))
     else if is_word name (codes "prune") then Some prune
     else if is_word name (codes "merge") then Some (merge most (argument found (codes "second")))
+    else if is_word name (codes "kept") then Some keep_report
     else None
 
 -- the name of a command
 abbrev pub is_command : List ℕ → Bool
 is_command name = is_word name (codes "plain") || is_word name (codes "rename") || is_word name (codes "renumber")
-    || is_word name (codes "prune") || is_word name (codes "merge")
+    || is_word name (codes "prune") || is_word name (codes "merge") || is_word name (codes "kept")
 
 -- the number that a text says in decimal digits, behind a plus or none
 abbrev pub number_of : List ℕ → ℕ
@@ -43,7 +44,7 @@ abbrev pub IsNumber : List ℕ → Type 0
 IsNumber t = IsNumeral 10 (without_leading_plus t) × (number_of t < 2 ^ 32)
 
 -- the number that an argument says, and the greatest where it stands nowhere or says none
-pub record IsCeiling (found : Found) (id : List ℕ) (n : ℕ) : Type 0 where
+pub record IsMost (found : Found) (id : List ℕ) (n : ℕ) : Type 0 where
   pub absent : one_text found id ≡ None → n ≡ 2 ^ 32 - 1
   pub number : (t : List ℕ) → one_text found id ≡ Some t → IsNumber t → n ≡ number_of t
   pub other : (t : List ℕ) → one_text found id ≡ Some t → ¬ (IsNumber t) → n ≡ 2 ^ 32 - 1
@@ -59,10 +60,11 @@ pub record AsksBy (name : List ℕ) (found : Found) (a : Asked) : Type 0 where
   pub command : (most : ℕ) → named most name found ≡ Some (command_seen most a.request.command)
   pub input : a.request.input.now ≡ argument found (codes "input")
   pub output : a.request.output.now ≡ argument found (codes "output")
-  pub most : a.request.most ≡ 2 ^ 32 - 1
-  pub ceiling : IsCeiling found (codes "max-frame") a.request.ceiling
+  pub most : IsMost found (codes "max-input") a.request.most
+  pub ceiling : IsMost found (codes "max-frame") a.request.ceiling
   pub counts : IsFlag found (codes "counts") a.counts
   pub quiet : IsFlag found (codes "quiet") a.quiet
+  pub force : IsFlag found (codes "force") a.force
   pub kept : option_map (λ name. name.now) a.kept ≡ first_value found (codes "kept")
 
 -- what is asked for by the command that the words name, and by its arguments

@@ -1,8 +1,8 @@
 //! The words of the command line.
-ghost use Rattle.std.specs.Prelude.{ℕ, ◌≡◌, ◌-◌, ◌^◌, IfNone, IfSome, codes, false, option_map};
+ghost use Rattle.std.specs.Prelude.{ℕ, ◌≡◌, IfNone, IfSome, codes, false, option_map};
 ghost use Rattle.clap.specs.Matches.{first_value, found_of};
 ghost use Rattle.reencode_run.specs.Words.{command_seen};
-ghost use Rattle.wasm_reencode.specs.Arguments.{AsksBy, IsAsked, IsCeiling, NamesNone, argument, is_command, named, renaming};
+ghost use Rattle.wasm_reencode.specs.Arguments.{AsksBy, IsAsked, IsMost, NamesNone, argument, is_command, named, renaming};
 
 use clap::{Arg, ArgAction, ArgMatches, Command, value_parser};
 use reencode_run::transform::Request;
@@ -18,6 +18,8 @@ pub struct Asked<'a> {
     pub counts: bool,
     /// Whether what goes wrong is told by the status alone.
     pub quiet: bool,
+    /// Whether a binary is written to a terminal too.
+    pub force: bool,
     /// The name of the file that gets the line of the functions that are kept.
     pub kept: Option<&'a str>,
 }
@@ -30,7 +32,22 @@ fn needed<'a>(alloc: Global, id: &'a str, name: &'a str, help: &'a str) -> Arg<'
         .help(help)
 }
 
-/// What each command takes beside its own.
+/// What each command takes.
+fn with_quiet<'a>(alloc: Global, command: Command<'a>) -> Result<Command<'a>, AllocError> {
+    let most = Arg::new(alloc, "max-input")
+        .long("max-input")
+        .value_name("N")
+        .value_parser(value_parser!(u32))
+        .help("The most bytes that the input, or the second module, may have");
+    let quiet = Arg::new(alloc, "quiet")
+        .short('q')
+        .long("quiet")
+        .action(ArgAction::SetTrue)
+        .help("Tell what goes wrong by the status alone");
+    command.arg(most)?.arg(quiet)
+}
+
+/// What each command that makes a binary takes beside its own.
 fn with_output<'a>(alloc: Global, command: Command<'a>) -> Result<Command<'a>, AllocError> {
     let output = needed(
         alloc,
@@ -45,12 +62,17 @@ fn with_output<'a>(alloc: Global, command: Command<'a>) -> Result<Command<'a>, A
         .value_name("N")
         .value_parser(value_parser!(u32))
         .help("The most bytes that a section, a function or a name subsection may have");
-    let quiet = Arg::new(alloc, "quiet")
-        .short('q')
-        .long("quiet")
+    let force = Arg::new(alloc, "force")
+        .long("force")
         .action(ArgAction::SetTrue)
-        .help("Tell what goes wrong by the status alone");
-    command.arg(output)?.arg(frame)?.arg(quiet)
+        .help("Write a binary to a terminal too");
+    with_quiet(alloc, command.arg(output)?.arg(frame)?.arg(force)?)
+}
+
+/// A command that tells of a binary.
+fn telling<'a>(alloc: Global, name: &'a str, about: &'a str) -> Result<Command<'a>, AllocError> {
+    let input = needed(alloc, "input", "IN", "The binary, or - for standard input");
+    with_quiet(alloc, Command::new(alloc, name).about(about).arg(input)?)
 }
 
 /// A command over one binary.
@@ -136,6 +158,24 @@ fn merge<'a>(alloc: Global) -> Result<Command<'a>, AllocError> {
     with_output(alloc, merge)
 }
 
+/// The command that tells what stays as it is.
+fn kept<'a>(alloc: Global) -> Result<Command<'a>, AllocError> {
+    telling(
+        alloc,
+        "kept",
+        "Tells which function bodies of a core module plain leaves as they are",
+    )
+}
+
+/// The command that tells the sections.
+fn list<'a>(alloc: Global) -> Result<Command<'a>, AllocError> {
+    telling(
+        alloc,
+        "list",
+        "Tells the sections: number, id, kind, place, size, rows or name",
+    )
+}
+
 /// The program.
 pub fn program<'a>(alloc: Global) -> Result<Command<'a>, AllocError> {
     Command::new(alloc, "wasm-reencode")
@@ -148,7 +188,9 @@ pub fn program<'a>(alloc: Global) -> Result<Command<'a>, AllocError> {
         .subcommand(rename(alloc)?)?
         .subcommand(renumber(alloc)?)?
         .subcommand(prune(alloc)?)?
-        .subcommand(merge(alloc)?)
+        .subcommand(merge(alloc)?)?
+        .subcommand(kept(alloc)?)?
+        .subcommand(list(alloc)?)
 }
 
 /// The text of an argument, or nothing.
@@ -195,14 +237,17 @@ fn command_of<'a>(name: &str, matches: &ArgMatches<'a>) -> Option<words::Command
     if name == "merge" {
         return Some(words::Command::Merge(text(matches, "second")));
     }
+    if name == "kept" {
+        return Some(words::Command::KeepReport);
+    }
     None
 }
 
-/// The most bytes that a frame may have.
-fn ceiling_of(matches: &ArgMatches<'_>) -> u32
-    ensures { IsCeiling (found_of matches.now) (codes "max-frame") result }
+/// The number of an argument, or the greatest.
+pub fn most_of(matches: &ArgMatches<'_>, id: &str) -> u32
+    ensures { IsMost (found_of matches.now) id.now result }
 {
-    match matches.get_one::<u32>("max-frame") {
+    match matches.get_one::<u32>(id) {
         Some(number) => number,
         None => u32::MAX,
     }
@@ -213,12 +258,12 @@ fn request_of<'a>(command: words::Command<'a>, matches: &ArgMatches<'a>) -> Requ
     ensures input { result.input.now ≡ argument (found_of matches.now) (codes "input") }
     ensures output { result.output.now ≡ argument (found_of matches.now) (codes "output") }
     ensures command { result.command ≡ command.entry }
-    ensures most { result.most ≡ 2 ^ 32 - 1 }
-    ensures ceiling { IsCeiling (found_of matches.now) (codes "max-frame") result.ceiling }
+    ensures most { IsMost (found_of matches.now) (codes "max-input") result.most }
+    ensures ceiling { IsMost (found_of matches.now) (codes "max-frame") result.ceiling }
 {
     Request {
-        ceiling: ceiling_of(matches),
-        most: u32::MAX,
+        ceiling: most_of(matches, "max-frame"),
+        most: most_of(matches, "max-input"),
         command,
         input: text(matches, "input"),
         output: text(matches, "output"),
@@ -235,6 +280,7 @@ fn asked_by<'a>(name: &str, matches: &ArgMatches<'a>) -> Option<Asked<'a>>
         request: request_of(command, matches),
         counts: matches.get_flag("counts"),
         quiet: matches.get_flag("quiet"),
+        force: matches.get_flag("force"),
         kept: matches.get_str("kept"),
     })
 }
