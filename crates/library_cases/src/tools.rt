@@ -1,4 +1,4 @@
-//! Core modules whose functions are moved or removed, and two that become one.
+//! Core modules whose functions are moved or removed, two that become one, and binaries without custom sections.
 use crate::case::{Case, bytes_between, number};
 use crate::stop::{Stop, refusal};
 use crate::text::{add, add_bytes, add_word};
@@ -8,6 +8,7 @@ use std::fmt::{Display, Write};
 use wasm_merge::{MergeFault, merge};
 use wasm_reach::{ModuleCalls, Pruned, ReachFault, call_graph, prune};
 use wasm_renumber::{OrderFault, RenumberFault, inverse, renumber};
+use wasm_strip::{Choice, strip};
 
 /// The numbers of some words, without the word `KEY=NUMBER`, and that number.
 pub fn numbers_of(
@@ -161,11 +162,54 @@ fn reached(alloc: Global, words: &str, text: &str) -> Result<String, Stop> {
     Ok(text)
 }
 
+/// Whether a word stands among others.
+fn has_word(words: &str, wanted: &str) -> bool {
+    for word in words.split_whitespace() {
+        if word == wanted {
+            return true;
+        }
+    }
+    false
+}
+
+/// The names of the words `section=NAME`.
+fn sections_of<'a>(alloc: Global, words: &'a str) -> Result<Vec<&'a str>, Stop> {
+    let mut names = Vec::new(alloc);
+    for word in words.split_whitespace() {
+        match word.split_once('=') {
+            Some(("section", name)) => match names.push(name) {
+                Ok(()) => {}
+                Err(_) => return Err(Stop::NoMemory),
+            },
+            Some(_) => return Err(Stop::Unread),
+            None => {}
+        }
+    }
+    Ok(names)
+}
+
+/// A binary without the custom sections that the words choose.
+fn stripped(alloc: Global, words: &str, bytes: &[u8]) -> Result<String, Stop> {
+    let sections = sections_of(alloc, words)?;
+    let choice = Choice {
+        names: has_word(words, "names"),
+        debug: has_word(words, "debug"),
+        stale: has_word(words, "stale"),
+        all: has_word(words, "all"),
+        sections: &sections,
+    };
+    match strip(alloc, &choice, bytes) {
+        Ok(out) => made(alloc, out.as_slice()),
+        Err(fault) => said(alloc, &fault),
+    }
+}
+
 /// What comes of a tool, where there is one of this name.
 pub fn answer(alloc: Global, case: &Case<'_>) -> Result<Option<String>, Stop> {
     let given = match case.call {
         "renumber" => renumbered(alloc, case.words, &case.bytes(alloc)?)?,
         "prune" => pruned(alloc, case.words, &case.bytes(alloc)?)?,
+        "strip" => stripped(alloc, case.words, &case.bytes(alloc)?)?,
         "calls" => graph(alloc, &case.bytes(alloc)?)?,
         "merge" => {
             let Some((first, second)) = case.input.split_once('+') else {

@@ -1,0 +1,104 @@
+-- Sections that are added, one behind another.
+use Rattle.std.proofs.Common.{◌≡◌, ℕ, ◌+◌, ◌-◌, List, [], ◌++◌, length, Bool, true, false, if◌then◌else◌, refl, sym, ap, ◌∙◌, subst, arith, append_assoc, append-nil, length-append, take, ap₂}
+use Rattle.std.proofs.Math.Seq.{take-append_seam}
+use Rattle.wasm_shapes.specs.Place.{Begins}
+use Rattle.wasm_leb.specs.declared.fault.Kind.{Kind}
+use Rattle.wasm_shapes.specs.Tree.{Tree}
+use Rattle.wasm_shapes.specs.Module.{frame}
+use Rattle.wasm_strip.specs.declared.fault.StripFault.{StripFault}
+use Rattle.wasm_strip.specs.declared.fault.StripFault.TheVariants as fault
+use Rattle.wasm_strip.specs.Binaries.{AreParts, Parts, Stands, header_of, holder, kept, sized, text_of}
+use Rattle.wasm_strip.specs.Faults.{Fails}
+use Rattle.wasm_strip.specs.Steps.{AddsKept, FailsBefore, FailsOr}
+
+-- sections, and others behind them
+pub joined : Parts → Parts → Parts
+joined Parts.ended q = q
+joined (Parts.custom name text p) q = Parts.custom name text (joined p q)
+joined (Parts.other text p) q = Parts.other text (joined p q)
+joined (Parts.nested inside inner p) q = Parts.nested inside inner (joined p q)
+
+more : {bytes text rest : List ℕ} {t : Tree} (y : List ℕ) → Stands bytes text t rest → Stands (bytes ++ y) text t (rest ++ y)
+more {text = text} {rest = rest} y s = record { spells = s.spells; stands = ap (λ (z : List ℕ). z ++ y) s.stands ∙ append_assoc text rest y }
+
+pub joined_are : (depth : ℕ) (kind : Kind) (p q : Parts) (x y : List ℕ) → AreParts depth kind x p → AreParts depth kind y q → AreParts depth kind (x ++ y) (joined p q)
+unfolding joined
+joined_are depth kind Parts.ended q x y a b = let P : List ℕ → Type 0 = λ z. AreParts depth kind z q in subst P (sym (ap (λ (z : List ℕ). z ++ y) a)) b
+joined_are depth kind (Parts.custom name text p) q x y a b = (a.0, a.1 ++ y, more y a.2, joined_are depth kind p q a.1 y a.3 b)
+joined_are depth kind (Parts.other text p) q x y a b = (a.0, a.1, a.2 ++ y, more y a.3, a.4, joined_are depth kind p q a.2 y a.5 b)
+joined_are depth kind (Parts.nested inside inner p) q x y a b = (a.0, a.1, a.2, a.3, a.4 ++ y, more y a.5, a.6, a.7, a.8, joined_are depth kind p q a.4 y a.9 b)
+
+pub joined_text : (removed : List ℕ → Bool) (p q : Parts) → text_of (kept removed (joined p q)) ≡ text_of (kept removed p) ++ text_of (kept removed q)
+unfolding joined
+joined_text removed Parts.ended q = refl
+joined_text removed (Parts.custom name text p) q = go (joined_text removed p q) (removed name)
+  where
+    go : text_of (kept removed (joined p q)) ≡ text_of (kept removed p) ++ text_of (kept removed q) → (b : Bool) → text_of (if b then kept removed (joined p q) else Parts.custom name text (kept removed (joined p q)))
+        ≡ text_of (if b then kept removed p else Parts.custom name text (kept removed p)) ++ text_of (kept removed q)
+    go again true = again
+    go again false = ap (λ (z : List ℕ). text ++ z) again ∙ sym (append_assoc text (text_of (kept removed p)) (text_of (kept removed q)))
+joined_text removed (Parts.other text p) q =
+    ap (λ (z : List ℕ). text ++ z) (joined_text removed p q) ∙ sym (append_assoc text (text_of (kept removed p)) (text_of (kept removed q)))
+joined_text removed (Parts.nested inside inner p) q =
+    let first = sized (holder inside) (header_of inside ++ text_of (kept removed inner)) in
+    ap (λ (z : List ℕ). first ++ z) (joined_text removed p q) ∙ sym (append_assoc first (text_of (kept removed p)) (text_of (kept removed q)))
+
+-- so far these sections were read, and what stays of them was added
+pub record AddedSoFar (removed : List ℕ → Bool) (depth : ℕ) (kind : Kind) (bytes rest old out : List ℕ) : Type 0 where
+  pub done : List ℕ
+  pub cut : bytes ≡ done ++ rest
+  pub adds : AddsKept removed depth kind done old out
+
+module _ (removed : List ℕ → Bool) (depth : ℕ) (kind : Kind) where
+  pub added_begin : (bytes old : List ℕ) → AddedSoFar removed depth kind bytes bytes old old
+  added_begin bytes old = record { done = []; cut = refl; adds = record { parts = Parts.ended; are = refl; added = sym (append-nil old) } }
+
+  pub added_more : {bytes rest text left old out new : List ℕ} → AddedSoFar removed depth kind bytes rest old out → rest ≡ text ++ left → AddsKept removed depth kind text out new →
+      AddedSoFar removed depth kind bytes left old new
+  added_more {text = text} {left = left} {old = old} s e a = record {
+    done = s.done ++ text;
+    cut = s.cut ∙ ap (λ (z : List ℕ). s.done ++ z) e ∙ sym (append_assoc s.done text left);
+    adds = record {
+      parts = joined s.adds.parts a.parts;
+      are = joined_are depth kind s.adds.parts a.parts s.done text s.adds.are a.are;
+      added = a.added ∙ ap (λ (z : List ℕ). z ++ text_of (kept removed a.parts)) s.adds.added
+          ∙ append_assoc old (text_of (kept removed s.adds.parts)) (text_of (kept removed a.parts))
+          ∙ ap (λ (z : List ℕ). old ++ z) (sym (joined_text removed s.adds.parts a.parts));
+    };
+  }
+
+  pub added_end : {bytes rest old out : List ℕ} → AddedSoFar removed depth kind bytes rest old out → rest ≡ [] → AddsKept removed depth kind bytes old out
+  added_end {old = old} {out = out} s e =
+      let P : List ℕ → Type 0 = λ z. AddsKept removed depth kind z old out in
+      subst P (sym (s.cut ∙ ap (λ (z : List ℕ). s.done ++ z) e ∙ append-nil s.done)) s.adds
+
+  -- the place of what is left
+  pub left_at : (at place : ℕ) {bytes rest old out : List ℕ} (s : AddedSoFar removed depth kind bytes rest old out) → place ≡ at + (length bytes - length rest) → place ≡ at + length s.done
+  left_at at place {rest = rest} s e = let whole = ap length s.cut ∙ length-append s.done rest in omega (arith, whole, e)
+
+  pub fails_behind : {at place : ℕ} {bytes rest old out : List ℕ} {e : StripFault} (s : AddedSoFar removed depth kind bytes rest old out) → place ≡ at + (length bytes - length rest) →
+      Fails place depth kind rest e → Fails at depth kind bytes e
+  fails_behind {at = at} {place = place} {rest = rest} {e = e} s p f = let P : ℕ → Type 0 = λ n. Fails n depth kind rest e in Fails.behind s.done rest s.adds.parts s.cut s.adds.are (subst P (left_at at place s p) f)
+
+  -- what comes of the faults of a section
+  pub section_fails : (at place : ℕ) {bytes rest old out : List ℕ} (text left : List ℕ) (e : StripFault) → AddedSoFar removed depth kind bytes rest old out → place ≡ at + (length bytes - length rest) → rest ≡ text ++ left →
+      FailsBefore place depth kind text e → FailsOr at depth kind bytes e
+  section_fails at place {bytes = bytes} {rest = rest} text left e s p cut = go e
+    where
+      one : (f : StripFault) → ((more : List ℕ) → Fails place depth kind (text ++ more) f) → Fails at depth kind bytes f
+      one f fails = let P : List ℕ → Type 0 = λ z. Fails place depth kind z f in fails_behind s p (subst P (sym cut) (fails left))
+
+      go : (f : StripFault) → FailsBefore place depth kind text f → FailsOr at depth kind bytes f
+      go (fault.Read a) = one (fault.Read a)
+      go (fault.TooDeep a) = one (fault.TooDeep a)
+      go fault.NoMemory = λ t. t
+
+-- the text of the section at the front
+pub text_is : {rest left text : List ℕ} {t : Tree} (there : Begins frame rest t left) → text ≡ take (length rest - length left) rest → text ≡ there.text
+text_is {rest = rest} {left = left} there e =
+    let whole : length rest ≡ length there.text + length left = ap length there.reads ∙ length-append there.text left in
+    let many : length rest - length left ≡ length there.text = omega (arith, whole) in
+    e ∙ ap₂ (λ (n : ℕ) (z : List ℕ). take n z) many there.reads ∙ take-append_seam there.text left
+
+pub cut_at : {rest left text : List ℕ} {t : Tree} (there : Begins frame rest t left) → text ≡ take (length rest - length left) rest → rest ≡ text ++ left
+cut_at {left = left} there e = there.reads ∙ ap (λ (z : List ℕ). z ++ left) (sym (text_is there e))

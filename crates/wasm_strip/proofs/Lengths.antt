@@ -1,0 +1,89 @@
+-- What stays of sections is no longer than they are.
+use Rattle.std.proofs.Common.{◌≡◌, ℕ, zero, suc, ◌+◌, ◌*◌, ◌/◌, ◌%◌, ◌<◌, ◌≤◌, List, [], ◌∷◌, ◌++◌, length, Bool, true, false, refl, sym, ap, ◌∙◌, arith, length-append, nat_lt, if◌then◌else◌, ltb-false}
+use Rattle.wasm_leb.specs.Leb.{IsLeb, IsUnsigned, leb, shortest}
+use Rattle.wasm_leb.specs.declared.fault.Kind.{Kind}
+use Rattle.wasm_shapes.specs.Spells.{Spells, Spelled}
+use Rattle.wasm_shapes.specs.Tree.{Tree}
+use Rattle.wasm_shapes.specs.Module.{frame, numbered_frame}
+use Rattle.wasm_strip.specs.Binaries.{AreParts, Parts, Stands, header_of, holder, kept, sized, text_of}
+
+-- the shortest spelling of a number is no longer than any spelling of it, or of a greater one
+leb_short : (most m n : ℕ) (x : List ℕ) → IsLeb 128 x n → m ≤ n → length (shortest most 128 m) ≤ length x
+unfolding shortest
+leb_short most m n [] p h = absurd p
+leb_short zero m n (b ∷ x) p h = omega arith
+leb_short (suc most) m n (b ∷ []) p h = go (nat_lt m 128) refl
+  where
+    go : (t : Bool) → nat_lt m 128 ≡ t → length (if t then m ∷ [] else ((m % 128 + 128) ∷ shortest most 128 (m / 128))) ≤ 1
+    go true e = omega arith
+    go false e = let above : 128 ≤ m = ltb-false m 128 e in let small : b < 128 = p.0 in let same : n ≡ b = p.1 in absurd (omega arith)
+leb_short (suc most) m n (b ∷ c ∷ x) p h =
+    let low : 128 ≤ b = p.0 in
+    let high : b < 256 = p.1 in
+    let sum : n + 128 ≡ b + 128 * p.2 = p.3 in
+    go (nat_lt m 128) (leb_short most (m / 128) p.2 (c ∷ x) p.4 (omega arith))
+  where
+    go : (t : Bool) → length (shortest most 128 (m / 128)) ≤ length (c ∷ x) → length (if t then m ∷ [] else ((m % 128 + 128) ∷ shortest most 128 (m / 128))) ≤ suc (length (c ∷ x))
+    go true again = omega arith
+    go false again = omega arith
+
+-- the parts of a section
+pub record IsSized (text : List ℕ) (id : ℕ) (body : List ℕ) : Type 0 where
+  pub size : List ℕ
+  pub is : text ≡ id ∷ (size ++ body)
+  pub counted : IsUnsigned 32 size (length body)
+
+pub is_sized : {text body : List ℕ} {id : ℕ} → Spells frame text (numbered_frame id body) → IsSized text id body
+is_sized {text = text} {body = body} {id = id} p = go p.spelled
+  where
+    go : Spelled (numbered_frame id body) text → IsSized text id body
+    go s =
+        let size = s.4.0 in
+        let P : List ℕ → Type 0 = λ z. IsUnsigned 32 size (length z) in record {
+          size = size;
+          is = s.2 ∙ ap (λ (z : List ℕ). z ++ s.1) s.3.0 ∙ ap (λ (z : List ℕ). id ∷ z) (s.4.2 ∙ ap (λ (z : List ℕ). size ++ z) s.4.4);
+          counted = let c = s.4.3 in let e = s.4.4 in rw (sym e) c;
+        }
+
+-- the sizes of its parts
+pub sized_length : {text body : List ℕ} {id : ℕ} (s : IsSized text id body) → length text ≡ suc (length s.size + length body)
+sized_length {body = body} s = ap length s.is ∙ ap suc (length-append s.size body)
+
+-- a section with a shorter body is shorter
+pub sized_short : {text body : List ℕ} {id : ℕ} (other : ℕ) (new : List ℕ) → Spells frame text (numbered_frame id body) → length new ≤ length body → length (sized other new) ≤ length text
+sized_short {text = text} {body = body} other new p h =
+    let s = is_sized p in
+    let whole : length text ≡ suc (length s.size + length body) = sized_length s in
+    let size : length (leb (length new)) ≤ length s.size = leb_short 9 (length new) (length body) s.size s.counted.spelled h in
+    let parts : length (leb (length new) ++ new) ≡ length (leb (length new)) + length new = length-append (leb (length new)) new in
+    omega arith
+
+front_length : {bytes text rest : List ℕ} {t : Tree} → Stands bytes text t rest → length bytes ≡ length text + length rest
+front_length {text = text} {rest = rest} s = ap length s.stands ∙ length-append text rest
+
+both_short : (x y a b : List ℕ) → length x ≤ length a → length y ≤ length b → length (x ++ y) ≤ length a + length b
+both_short x y a b h i = let e = length-append x y in omega (arith, e, h, i)
+
+pub kept_short : (removed : List ℕ → Bool) (depth : ℕ) (kind : Kind) (p : Parts) (x : List ℕ) → AreParts depth kind x p → length (text_of (kept removed p)) ≤ length x
+kept_short removed depth kind Parts.ended x a = omega arith
+kept_short removed depth kind (Parts.custom name text p) x a =
+    go a.1 (front_length a.2) (kept_short removed depth kind p a.1 a.3) (removed name)
+  where
+    go : (rest : List ℕ) → length x ≡ length text + length rest → length (text_of (kept removed p)) ≤ length rest → (b : Bool) →
+        length (text_of (if b then kept removed p else Parts.custom name text (kept removed p))) ≤ length x
+    go rest e h true = omega (arith, e, h)
+    go rest e h false = let both = both_short text (text_of (kept removed p)) text rest (omega arith) h in omega (arith, e, both)
+kept_short removed depth kind (Parts.other text p) x a =
+    let e = front_length a.3 in
+    let both = both_short text (text_of (kept removed p)) text a.2 (omega arith) (kept_short removed depth kind p a.2 a.5) in
+    omega (arith, e, both)
+kept_short removed depth kind (Parts.nested inside inner p) x a =
+    let e = front_length a.5 in
+    let within = kept_short removed a.1 inside inner a.3 a.8 in
+    let bodies : length (header_of inside ++ text_of (kept removed inner)) ≤ length (header_of inside ++ a.3) =
+    let l = length-append (header_of inside) (text_of (kept removed inner)) in
+    let m = length-append (header_of inside) a.3 in
+    omega (arith, l, m, within) in
+    let first = sized_short (holder inside) (header_of inside ++ text_of (kept removed inner)) a.5.spells bodies in
+    let both = both_short (sized (holder inside) (header_of inside ++ text_of (kept removed inner))) (text_of (kept removed p)) a.2 a.4 first (kept_short removed depth kind p a.4 a.9) in
+    omega (arith, e, both)

@@ -1,0 +1,136 @@
+-- One section: what is added for it, and its faults.
+use Rattle.std.proofs.Common.{◌≡◌, ◌≢◌, ℕ, suc, ◌+◌, ◌-◌, ◌<◌, ◌^◌, List, [], ◌∷◌, ◌++◌, length, Bool, true, false, Some, None, refl, sym, ap, ◌∙◌, subst, arith, append-nil, length-append, if◌then◌else◌}
+use Rattle.std.specs.Prelude.{nat_eq}
+use Rattle.std.proofs.lemmas.Bool.{eqb-true}
+use Rattle.wasm_leb.specs.declared.fault.Kind.{Kind}
+use Rattle.wasm_leb.specs.declared.fault.Kind.TheVariants as kind
+use Rattle.wasm_shapes.specs.Spells.{Spells}
+use Rattle.wasm_shapes.specs.Place.{BeginsNone}
+use Rattle.wasm_shapes.specs.Tree.{Tree}
+use Rattle.wasm_shapes.specs.Module.{custom_frame, frame, numbered_frame}
+use Rattle.wasm_strip.specs.declared.fault.StripFault.{StripFault}
+use Rattle.wasm_strip.specs.declared.fault.StripFault.TheVariants as fault
+use Rattle.wasm_strip.specs.Binaries.{Parts, Stands, header_of, held, holder, kept, sized, text_of}
+use Rattle.wasm_strip.specs.Faults.{Fails, LacksHeader}
+use Rattle.wasm_strip.specs.Steps.{AddsKept, FailsBefore, FailsOr}
+use Rattle.wasm_strip.proofs.Lengths.{is_sized, kept_short, sized_length}
+
+alone : {text : List ℕ} {t : Tree} → Spells frame text t → Stands text text t []
+alone {text = text} p = record { spells = p; stands = sym (append-nil text) }
+
+-- a custom section that is removed
+pub custom_goes : {removed : List ℕ → Bool} {depth : ℕ} {kind : Kind} {name contents text old : List ℕ} → Spells frame text (custom_frame name contents) → removed name ≡ true →
+    AddsKept removed depth kind text old old
+custom_goes {removed = removed} {name = name} {contents = contents} {text = text} {old = old} p e = record {
+  parts = Parts.custom name text Parts.ended;
+  are = (contents, [], alone p, refl);
+  added = rw e (sym (append-nil old));
+}
+
+-- one that stays
+pub custom_stays : {removed : List ℕ → Bool} {depth : ℕ} {kind : Kind} {name contents text old new : List ℕ} → Spells frame text (custom_frame name contents) → removed name ≡ false →
+    new ≡ old ++ text → AddsKept removed depth kind text old new
+custom_stays {removed = removed} {name = name} {contents = contents} {text = text} {old = old} p e added = record {
+  parts = Parts.custom name text Parts.ended;
+  are = (contents, [], alone p, refl);
+  added = rw e (added ∙ ap (λ (z : List ℕ). old ++ z) (sym (append-nil text)));
+}
+
+-- one of another id that holds no binary
+pub other_stays : {removed : List ℕ → Bool} {depth id : ℕ} {kind : Kind} {body text old new : List ℕ} → Spells frame text (numbered_frame id body) → None ≡ held kind id →
+    new ≡ old ++ text → AddsKept removed depth kind text old new
+other_stays {id = id} {body = body} {text = text} {old = old} p e added = record {
+  parts = Parts.other text Parts.ended;
+  are = (id, body, [], alone p, sym e, refl);
+  added = added ∙ ap (λ (z : List ℕ). old ++ z) (sym (append-nil text));
+}
+
+-- the id that a section has where it holds a binary
+pub holds : (kind inside : Kind) (id : ℕ) → Some inside ≡ held kind id → id ≡ holder inside
+holds kind.Module inside id e = absurd cc
+holds kind.Component inside id e = first (nat_eq id 1) refl e
+  where
+    second : (b : Bool) → nat_eq id 4 ≡ b → Some inside ≡ (if b then Some kind.Component else None) → id ≡ holder inside
+    second true t h = let same : inside ≡ kind.Component = cc in rw same (eqb-true id 4 t)
+    second false t h = absurd cc
+
+    first : (b : Bool) → nat_eq id 1 ≡ b → Some inside ≡ (if b then Some kind.Module else (if nat_eq id 4 then Some kind.Component else None)) → id ≡ holder inside
+    first true t h = let same : inside ≡ kind.Module = cc in rw same (eqb-true id 1 t)
+    first false t h = second (nat_eq id 4) refl h
+
+-- one that holds a binary
+pub nested_stays : {removed : List ℕ → Bool} {depth below id : ℕ} {kind inside : Kind} {whole body text old inner new : List ℕ} → Spells frame text (numbered_frame id whole) → whole ≡ header_of inside ++ body →
+    Some inside ≡ held kind id → depth ≡ suc below → AddsKept removed below inside body (header_of inside) inner → new ≡ old ++ sized id inner → AddsKept removed depth kind text old new
+nested_stays {removed = removed} {depth = depth} {below = below} {id = id} {kind = kind} {inside = inside} {body = body} {text = text} {old = old} p w e d a added =
+    let S : List ℕ → Type 0 = λ z. Spells frame text (numbered_frame id z) in record {
+      parts = Parts.nested inside a.parts Parts.ended;
+      are = (id, below, text, body, [], alone (subst S w p), sym e, d, a.are, refl);
+      added = added ∙ ap (λ (z : List ℕ). old ++ sized id z) a.added
+          ∙ ap (λ (n : ℕ). old ++ sized n (header_of inside ++ text_of (kept removed a.parts))) (holds kind inside id e)
+          ∙ ap (λ (z : List ℕ). old ++ z) (sym (append-nil (sized (holder inside) (header_of inside ++ text_of (kept removed a.parts)))));
+    }
+
+-- what is left of it is short enough for a size
+pub nested_fits : {removed : List ℕ → Bool} {below id : ℕ} {inside : Kind} {whole body text inner : List ℕ} → Spells frame text (numbered_frame id whole) → whole ≡ header_of inside ++ body →
+    AddsKept removed below inside body (header_of inside) inner → length inner < 2 ^ 32
+nested_fits {removed = removed} {below = below} {inside = inside} {body = body} p w a =
+    let few = (is_sized p).counted.fits in
+    let short = kept_short removed below inside a.parts body a.are in
+    let l = ap length a.added ∙ length-append (header_of inside) (text_of (kept removed a.parts)) in
+    let m = ap length w ∙ length-append (header_of inside) body in
+    omega (arith, few, short, l, m)
+
+-- ---- faults
+
+front : {text : List ℕ} {t : Tree} (rest : List ℕ) → Spells frame text t → Stands (text ++ rest) text t rest
+front rest p = record { spells = p; stands = refl }
+
+pub too_deep : {at depth id : ℕ} {kind inside : Kind} {body text : List ℕ} → Spells frame text (numbered_frame id body) → Some inside ≡ held kind id → depth ≡ 0 →
+    (rest : List ℕ) → Fails at depth kind (text ++ rest) (fault.TooDeep at)
+too_deep {at = at} {kind = kind} {text = text} p e d rest =
+    let P : ℕ → Type 0 = λ n. Fails at n kind (text ++ rest) (fault.TooDeep at) in
+    subst P (sym d) (Fails.deep (front rest p) (sym e))
+
+pub no_header : {at depth below id : ℕ} {kind inside : Kind} {body text : List ℕ} → Spells frame text (numbered_frame id body) → Some inside ≡ held kind id → depth ≡ suc below → LacksHeader inside body →
+    (rest : List ℕ) → Fails at depth kind (text ++ rest) (fault.Read (at + (length text - length body)))
+no_header {at = at} {kind = kind} {body = body} {text = text} p e d none rest =
+    let P : ℕ → Type 0 = λ n. Fails at n kind (text ++ rest) (fault.Read (at + (length text - length body))) in
+    subst P (sym d) (Fails.headless (front rest p) (sym e) none)
+
+pub fails_within : (at depth below id place : ℕ) (kind inside : Kind) (whole body text : List ℕ) (e : StripFault) → Spells frame text (numbered_frame id whole) → whole ≡ header_of inside ++ body →
+    Some inside ≡ held kind id → depth ≡ suc below → place ≡ at + (length text - length whole) + length (header_of inside) → FailsOr place below inside body e → FailsBefore at depth kind text e
+fails_within at depth below id place kind inside whole body text e p w h d l = go e
+  where
+    S : List ℕ → Type 0
+    S z = Spells frame text (numbered_frame id z)
+
+    there : place ≡ at + (length text - length body)
+    there =
+        let s = is_sized p in
+        let long = sized_length s in
+        let parts = ap length w ∙ length-append (header_of inside) body in
+        omega (arith, long, parts, l)
+
+    one : (f : StripFault) → Fails place below inside body f → (rest : List ℕ) → Fails at depth kind (text ++ rest) f
+    one f fails rest =
+        let P : ℕ → Type 0 = λ n. Fails at n kind (text ++ rest) f in
+        let Q : ℕ → Type 0 = λ n. Fails n below inside body f in
+        subst P (sym d) (Fails.within (front rest (subst S w p)) (sym h) (subst Q there fails))
+
+    go : (f : StripFault) → FailsOr place below inside body f → FailsBefore at depth kind text f
+    go (fault.Read a) = one (fault.Read a)
+    go (fault.TooDeep a) = one (fault.TooDeep a)
+    go fault.NoMemory = λ t. t
+
+-- no section begins where bytes are left
+pub none_begins : {at depth : ℕ} {kind : Kind} {rest : List ℕ} → rest ≢ [] → BeginsNone frame rest → Fails at depth kind rest (fault.Read at)
+none_begins some none = Fails.unread some none
+
+pub some_left : {rest : List ℕ} → nat_eq (length rest) 0 ≡ false → rest ≢ []
+some_left {rest = []} e h = absurd (let never : true ≡ false = e in cc)
+some_left {rest = b ∷ rest} e h = absurd cc
+
+-- each header has eight bytes
+pub eight : (k : Kind) → 8 ≡ length (header_of k)
+eight kind.Module = refl
+eight kind.Component = refl

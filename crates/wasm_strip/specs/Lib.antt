@@ -1,0 +1,6 @@
+pub mod Binaries
+pub mod Choices
+pub mod Faults
+pub mod Laws
+pub mod Steps
+pub mod Texts

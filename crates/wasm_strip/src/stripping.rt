@@ -1,0 +1,50 @@
+//! A binary without some custom sections.
+ghost use Rattle.std.specs.Prelude.{◌≡◌, ◌≤◌, ◌++◌, length, IfOk, IfErr};
+ghost use Rattle.wasm_strip.specs.Binaries.{IsStripped, header_of};
+ghost use Rattle.wasm_strip.specs.Faults.{HasNone, IsWhy};
+
+use crate::fault::StripFault;
+use crate::rule::NameRule;
+use crate::sections::{add_sections, begun, behind_header};
+use std::alloc::Global;
+use wasm_leb::Kind;
+
+/// How deep binaries may stand within each other, below the outermost.
+const DEEPEST: usize = 200;
+
+/// The core module or component without the custom sections whose names the rule removes, also in the core modules and components
+/// that stand in it, however deep.
+///
+/// All other sections stay in order, each as it is spelled; only around a nested binary the size is the one that it has then, in its
+/// shortest spelling. Nothing is read but the frames of sections and the names of custom ones.
+pub fn strip<N: NameRule>(alloc: Global, rule: &N, bytes: &[u8]) -> Result<Vec<u8>, StripFault>
+    ensures ok { IfOk result (λ out. IsStripped (N.removed rule.now) bytes.now out.items) }
+    ensures shorter { IfOk result (λ out. length out.items ≤ length bytes.now) }
+    ensures err { IfErr result (λ e. IsWhy bytes.now e) }
+    ensures none { IfErr result (λ e. HasNone bytes.now e) }
+{
+    if let Some(rest) = behind_header(Kind::Module, bytes) {
+        return stripped(alloc, rule, Kind::Module, bytes, rest);
+    }
+    match behind_header(Kind::Component, bytes) {
+        Some(rest) => stripped(alloc, rule, Kind::Component, bytes, rest),
+        None => Err(StripFault::Read { at: 0 }),
+    }
+}
+
+/// The same of a binary of a kind, whose sections are these bytes.
+fn stripped<N: NameRule>(
+    alloc: Global,
+    rule: &N,
+    kind: Kind,
+    bytes: &[u8],
+    rest: &[u8],
+) -> Result<Vec<u8>, StripFault>
+    requires { bytes.now ≡ header_of kind ++ rest.now }
+    ensures ok { IfOk result (λ out. IsStripped (N.removed rule.now) bytes.now out.items) }
+    ensures err { IfErr result (λ e. IsWhy bytes.now e) }
+{
+    let mut out = begun(alloc, kind, bytes.len())?;
+    add_sections(alloc, rule, kind, rest, 8, DEEPEST, &mut out)?;
+    Ok(out)
+}
