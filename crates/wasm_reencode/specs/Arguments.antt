@@ -2,7 +2,7 @@
 use Rattle.std.specs.Prelude.{◌≡◌, ℕ, ◌-◌, ◌^◌, ◌<◌, ◌||◌, List, [], Option, Some, None, codes, option_map, unwrap_or, if◌then◌else◌, Bool, true, false}
 use Rattle.std.specs.Str.Parse.{IsNumeral, digits_value, without_leading_plus}
 use Rattle.clap.specs.declared.parser.matches.Found.{Found}
-use Rattle.clap.specs.Matches.{first_value, one_text, subcommand_name_of}
+use Rattle.clap.specs.Matches.{first_value, matched_of, one_text, raw_values, subcommand_name_of}
 use Rattle.clap.specs.Simple.{subcommand_rows}
 use Rattle.clap.specs.Walk.{rows_of}
 use Rattle.clap.specs.declared.parser.matches.ArgMatches.{ArgMatches}
@@ -13,6 +13,10 @@ use Rattle.reencode_run.specs.Words.{Command, command_seen, is_word, plain, rena
 -- the text of an argument, or nothing
 abbrev pub argument : Found → List ℕ → List ℕ
 argument found id = unwrap_or (first_value found id) []
+
+-- the texts of an argument that may stand more than once
+abbrev pub texts : Found → List ℕ → List (List ℕ)
+texts found id = unwrap_or (option_map raw_values (matched_of found id)) []
 
 -- a renaming by the first file, or by both
 abbrev pub renaming : List ℕ → Option (List ℕ) → Command
@@ -27,13 +31,14 @@ named most name found =
     else if is_word name (codes "renumber") then Some (renumber (argument found (codes "order")))
     else if is_word name (codes "prune") then Some prune
     else if is_word name (codes "merge") then Some (merge most (argument found (codes "second")))
+    else if is_word name (codes "strip") then Some plain
     else if is_word name (codes "kept") then Some keep_report
     else None
 
 -- the name of a command
 abbrev pub is_command : List ℕ → Bool
 is_command name = is_word name (codes "plain") || is_word name (codes "rename") || is_word name (codes "renumber")
-    || is_word name (codes "prune") || is_word name (codes "merge") || is_word name (codes "kept")
+    || is_word name (codes "prune") || is_word name (codes "merge") || is_word name (codes "strip") || is_word name (codes "kept")
 
 -- the number that a text says in decimal digits, behind a plus or none
 abbrev pub number_of : List ℕ → ℕ

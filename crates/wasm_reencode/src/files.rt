@@ -259,6 +259,14 @@ pub fn place_of(rt: &HostRuntime, name: &str) -> io::Result<Place> {
 }
 
 impl Place {
+    /// Takes away what was made there.
+    pub fn give_up(self, rt: &HostRuntime) {
+        match self {
+            Place::Staged(staged) => staged.give_up(rt),
+            _ => {}
+        }
+    }
+
     /// Whether a terminal shows what is written there.
     pub fn is_terminal(&self, rt: &HostRuntime) -> bool {
         match self {
@@ -278,7 +286,7 @@ pub fn looked_at(rt: &HostRuntime, name: &str) -> Option<Vec<u8>> {
 }
 
 /// Writes a whole text to a place.
-fn fill(rt: &HostRuntime, place: Place, text: &[u8]) -> io::Result<()> {
+pub fn fill(rt: &HostRuntime, place: Place, text: &[u8]) -> io::Result<()> {
     match place {
         Place::Standard => rt.stdout().write_all(text),
         Place::Direct(mut file) => file.write_all(text),

@@ -9,9 +9,11 @@ mod sections;
 mod words;
 
 use crate::explain::{add_json_place, add_place};
-use crate::files::{Held, Input, Output, Place, Staged, Target, looked_at, place_of, write_whole};
+use crate::files::{
+    Held, Input, Output, Place, Staged, Target, fill, looked_at, place_of, write_whole,
+};
 use crate::listing::list_of;
-use crate::words::{Asked, asked_of, most_of, program};
+use crate::words::{Asked, asked_of, choice_of, most_of, program};
 use clap::ArgMatches;
 use clap::error::ErrorKind;
 use reencode_run::answer::{Answer, ReencodingFault, TaskFault, WordsFault, WritingFault};
@@ -23,6 +25,7 @@ use std::alloc::AllocError;
 use std::io::Write;
 use std::process::ExitCode;
 use std::{env, io};
+use wasm_strip::{Choice, StripFault, strip};
 
 /// The words of the command line, the program's name first.
 fn given_words(rt: &HostRuntime) -> io::Result<Vec<String>> {
@@ -130,6 +133,31 @@ fn transformed(rt: &HostRuntime, asked: &Asked<'_>, target: Target<'_>) -> Resul
     }
 }
 
+/// The bytes of the output of what is asked for, or the status.
+fn gathered(rt: &HostRuntime, asked: &Asked<'_>) -> Result<Vec<u8>, u8> {
+    let mut bytes = Vec::new(rt.alloc());
+    let mut line = Vec::new(rt.alloc());
+    let made = transform(
+        rt.alloc(),
+        asked.request,
+        &mut FileShelf::new(rt),
+        &mut StdSource::new(Input::of(rt, asked.request.input)),
+        &mut StdSink::new(Held::new(&mut bytes)),
+        &mut StdSink::new(Held::new(&mut line)),
+    );
+    match made {
+        Ok(_) => Ok(bytes),
+        // Memory alone is wanting where a text in memory takes no more.
+        Err(4) => Err(no_memory(rt)),
+        Err(status) => {
+            if !asked.quiet {
+                say_why(rt, asked, status, line);
+            }
+            Err(status)
+        }
+    }
+}
+
 /// Writes the lines about an output where they are asked for, and answers the status.
 fn write_lines(rt: &HostRuntime, asked: &Asked<'_>, lines: &[u8]) -> u8 {
     if asked.counts {
@@ -216,6 +244,52 @@ fn run_kept(rt: &HostRuntime, asked: &Asked<'_>) -> u8 {
     }
 }
 
+/// Says why nothing is removed of the bytes of an output, and answers the status.
+fn unstripped(rt: &HostRuntime, asked: &Asked<'_>, fault: StripFault) -> u8 {
+    match fault {
+        StripFault::NoMemory => no_memory(rt),
+        StripFault::Read { at } | StripFault::TooDeep { at } => {
+            let answer = Answer::Reencoding(TaskFault {
+                fault: ReencodingFault::ParseError { at },
+                by: None,
+            });
+            end_of(rt, asked.quiet, asked.request.input, &answer)
+        }
+    }
+}
+
+/// Writes the output of what is asked for without some custom sections to its place, and answers the status.
+fn run_strip_at(rt: &HostRuntime, asked: &Asked<'_>, choice: &Choice<'_>, place: Place) -> u8 {
+    if !asked.force && place.is_terminal(rt) {
+        return refused_terminal(rt, asked);
+    }
+    let made = match gathered(rt, asked) {
+        Ok(bytes) => strip(rt.alloc(), choice, bytes.as_slice()),
+        Err(status) => {
+            place.give_up(rt);
+            return status;
+        }
+    };
+    match made {
+        Ok(text) => match fill(rt, place, text.as_slice()) {
+            Ok(()) => 0,
+            Err(e) => failed(rt, asked.quiet, asked.request.output, &e),
+        },
+        Err(fault) => {
+            place.give_up(rt);
+            unstripped(rt, asked, fault)
+        }
+    }
+}
+
+/// Removes custom sections, and answers the status.
+fn run_strip(rt: &HostRuntime, asked: &Asked<'_>, choice: &Choice<'_>) -> u8 {
+    match place_of(rt, asked.request.output) {
+        Ok(place) => run_strip_at(rt, asked, choice, place),
+        Err(_) => unwritten(rt, asked.quiet, asked.request.output),
+    }
+}
+
 /// Does what is asked for, and answers the status.
 fn run_asked(rt: &HostRuntime, asked: &Asked<'_>) -> u8 {
     match asked.request.command {
@@ -286,7 +360,10 @@ fn run_matches(rt: &HostRuntime, matches: &ArgMatches<'_>) -> u8 {
         return run_list(rt, list);
     }
     match asked_of(matches) {
-        Some(asked) => run_asked(rt, &asked),
+        Some(asked) => match matches.subcommand_matches("strip") {
+            Some(strip) => run_strip(rt, &asked, &choice_of(strip)),
+            None => run_asked(rt, &asked),
+        },
         None => not_taken(rt),
     }
 }

@@ -1,13 +1,14 @@
 //! The words of the command line.
-ghost use Rattle.std.specs.Prelude.{ℕ, ◌≡◌, IfNone, IfSome, codes, false, option_map};
+ghost use Rattle.std.specs.Prelude.{ℕ, ◌≡◌, IfNone, IfSome, codes, false, map, option_map};
 ghost use Rattle.clap.specs.Matches.{first_value, found_of};
 ghost use Rattle.reencode_run.specs.Words.{command_seen};
-ghost use Rattle.wasm_reencode.specs.Arguments.{AsksBy, IsAsked, IsMost, NamesNone, argument, is_command, named, renaming};
+ghost use Rattle.wasm_reencode.specs.Arguments.{AsksBy, IsAsked, IsFlag, IsMost, NamesNone, argument, is_command, named, renaming, texts};
 
 use clap::{Arg, ArgAction, ArgMatches, Command, value_parser};
 use reencode_run::transform::Request;
 use reencode_run::words;
 use std::alloc::{AllocError, Global};
+use wasm_strip::Choice;
 
 /// What the words ask for.
 #[derive(Clone, Copy, Debug)]
@@ -158,6 +159,33 @@ fn merge<'a>(alloc: Global) -> Result<Command<'a>, AllocError> {
     with_output(alloc, merge)
 }
 
+/// A flag of the command that removes custom sections.
+fn flag<'a>(alloc: Global, id: &'a str, help: &'a str) -> Arg<'a> {
+    Arg::new(alloc, id)
+        .long(id)
+        .action(ArgAction::SetTrue)
+        .help(help)
+}
+
+/// The command that removes custom sections.
+fn strip<'a>(alloc: Global) -> Result<Command<'a>, AllocError> {
+    let section = Arg::new(alloc, "section")
+        .long("section")
+        .value_name("NAME")
+        .action(ArgAction::Append)
+        .help("Remove the custom sections of this name");
+    over_one(
+        alloc,
+        "strip",
+        "Writes a binary in its normal spelling, without some custom sections",
+    )?
+    .arg(flag(alloc, "names", "Remove the names"))?
+    .arg(flag(alloc, "debug", "Remove what a debugger reads"))?
+    .arg(flag(alloc, "stale", "Remove what tells places in code"))?
+    .arg(flag(alloc, "all", "Remove all custom sections"))?
+    .arg(section)
+}
+
 /// The command that tells what stays as it is.
 fn kept<'a>(alloc: Global) -> Result<Command<'a>, AllocError> {
     telling(
@@ -189,6 +217,7 @@ pub fn program<'a>(alloc: Global) -> Result<Command<'a>, AllocError> {
         .subcommand(renumber(alloc)?)?
         .subcommand(prune(alloc)?)?
         .subcommand(merge(alloc)?)?
+        .subcommand(strip(alloc)?)?
         .subcommand(kept(alloc)?)?
         .subcommand(list(alloc)?)
 }
@@ -237,6 +266,9 @@ fn command_of<'a>(name: &str, matches: &ArgMatches<'a>) -> Option<words::Command
     if name == "merge" {
         return Some(words::Command::Merge(text(matches, "second")));
     }
+    if name == "strip" {
+        return Some(words::Command::Plain);
+    }
     if name == "kept" {
         return Some(words::Command::KeepReport);
     }
@@ -267,6 +299,32 @@ fn request_of<'a>(command: words::Command<'a>, matches: &ArgMatches<'a>) -> Requ
         command,
         input: text(matches, "input"),
         output: text(matches, "output"),
+    }
+}
+
+/// The names of the sections to be removed.
+fn sections_of<'b>(matches: &'b ArgMatches<'_>) -> &'b [&'b str]
+    ensures { map (λ name. name.now) result.now ≡ texts (found_of matches.now) (codes "section") }
+{
+    let none: &'b [&'b str] = &[];
+    matches.get_strs("section").unwrap_or(none)
+}
+
+/// Which custom sections are to be removed.
+pub fn choice_of<'b>(matches: &'b ArgMatches<'_>) -> Choice<'b>
+    ensures names { IsFlag (found_of matches.now) (codes "names") result.names }
+    ensures debug { IsFlag (found_of matches.now) (codes "debug") result.debug }
+    ensures stale { IsFlag (found_of matches.now) (codes "stale") result.stale }
+    ensures all { IsFlag (found_of matches.now) (codes "all") result.all }
+    ensures sections { map (λ name. name.now) result.sections.now
+        ≡ texts (found_of matches.now) (codes "section") }
+{
+    Choice {
+        names: matches.get_flag("names"),
+        debug: matches.get_flag("debug"),
+        stale: matches.get_flag("stale"),
+        all: matches.get_flag("all"),
+        sections: sections_of(matches),
     }
 }
 
