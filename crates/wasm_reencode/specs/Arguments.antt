@@ -1,17 +1,22 @@
 -- What a command and its arguments ask for.
-use Rattle.std.specs.Prelude.{◌≡◌, ℕ, ◌-◌, ◌^◌, List, [], Option, Some, None, codes, option_map, unwrap_or, if◌then◌else◌, Bool, true, false}
+use Rattle.std.specs.Prelude.{◌≡◌, ℕ, ◌-◌, ◌^◌, ◌<◌, ◌||◌, List, [], Option, Some, None, codes, option_map, unwrap_or, if◌then◌else◌, Bool, true, false}
+use Rattle.std.specs.Str.Parse.{IsNumeral, digits_value, without_leading_plus}
 use Rattle.clap.specs.declared.parser.matches.Found.{Found}
-use Rattle.clap.specs.Matches.{first_value, one_text, subcommand_name_of}
+use Rattle.clap.specs.Matches.{first_value, matched_of, one_text, raw_values, subcommand_name_of}
 use Rattle.clap.specs.Simple.{subcommand_rows}
 use Rattle.clap.specs.Walk.{rows_of}
 use Rattle.clap.specs.declared.parser.matches.ArgMatches.{ArgMatches}
 use Rattle.clap.specs.declared.parser.matches.ArgMatches.TheViews.{out-ArgMatches}
 use Rattle.wasm_reencode.specs.declared.words.Asked.{Asked}
-use Rattle.reencode_run.specs.Words.{Command, command_seen, is_word, plain, rename, twice, renumber, prune, merge}
+use Rattle.reencode_run.specs.Words.{Command, command_seen, is_word, plain, rename, twice, renumber, prune, merge, keep_report}
 
 -- the text of an argument, or nothing
 abbrev pub argument : Found → List ℕ → List ℕ
 argument found id = unwrap_or (first_value found id) []
+
+-- the texts of an argument that may stand more than once
+abbrev pub texts : Found → List ℕ → List (List ℕ)
+texts found id = unwrap_or (option_map raw_values (matched_of found id)) []
 
 -- a renaming by the first file, or by both
 abbrev pub renaming : List ℕ → Option (List ℕ) → Command
@@ -26,7 +31,28 @@ named most name found =
     else if is_word name (codes "renumber") then Some (renumber (argument found (codes "order")))
     else if is_word name (codes "prune") then Some prune
     else if is_word name (codes "merge") then Some (merge most (argument found (codes "second")))
+    else if is_word name (codes "strip") then Some plain
+    else if is_word name (codes "kept") then Some keep_report
     else None
+
+-- the name of a command
+abbrev pub is_command : List ℕ → Bool
+is_command name = is_word name (codes "plain") || is_word name (codes "rename") || is_word name (codes "renumber")
+    || is_word name (codes "prune") || is_word name (codes "merge") || is_word name (codes "strip") || is_word name (codes "kept")
+
+-- the number that a text says in decimal digits, behind a plus or none
+abbrev pub number_of : List ℕ → ℕ
+number_of t = digits_value 10 (without_leading_plus t)
+
+-- a text that says a number of 32 bits
+abbrev pub IsNumber : List ℕ → Type 0
+IsNumber t = IsNumeral 10 (without_leading_plus t) × (number_of t < 2 ^ 32)
+
+-- the number that an argument says, and the greatest where it stands nowhere or says none
+pub record IsMost (found : Found) (id : List ℕ) (n : ℕ) : Type 0 where
+  pub absent : one_text found id ≡ None → n ≡ 2 ^ 32 - 1
+  pub number : (t : List ℕ) → one_text found id ≡ Some t → IsNumber t → n ≡ number_of t
+  pub other : (t : List ℕ) → one_text found id ≡ Some t → ¬ (IsNumber t) → n ≡ 2 ^ 32 - 1
 
 -- a flag is set, or not, as the words have it
 pub record IsFlag (found : Found) (id : List ℕ) (flag : Bool) : Type 0 where
@@ -39,10 +65,11 @@ pub record AsksBy (name : List ℕ) (found : Found) (a : Asked) : Type 0 where
   pub command : (most : ℕ) → named most name found ≡ Some (command_seen most a.request.command)
   pub input : a.request.input.now ≡ argument found (codes "input")
   pub output : a.request.output.now ≡ argument found (codes "output")
-  pub most : a.request.most ≡ 2 ^ 32 - 1
-  pub ceiling : one_text found (codes "max-frame") ≡ None → a.request.ceiling ≡ 2 ^ 32 - 1
+  pub most : IsMost found (codes "max-input") a.request.most
+  pub ceiling : IsMost found (codes "max-frame") a.request.ceiling
   pub counts : IsFlag found (codes "counts") a.counts
   pub quiet : IsFlag found (codes "quiet") a.quiet
+  pub force : IsFlag found (codes "force") a.force
   pub kept : option_map (λ name. name.now) a.kept ≡ first_value found (codes "kept")
 
 -- what is asked for by the command that the words name, and by its arguments
@@ -52,3 +79,7 @@ pub record IsAsked (m : ArgMatches) (a : Asked) : Type 0 where
   pub named : subcommand_name_of m ≡ Some name
   pub arguments : option_map (λ p. p.1) (subcommand_rows (out-ArgMatches m).subcommand) ≡ Some (rows_of found)
   pub asks : AsksBy name found a
+
+-- no command stands there
+abbrev pub NamesNone : ArgMatches → Type 0
+NamesNone m = (name : List ℕ) → subcommand_name_of m ≡ Some name → is_command name ≡ false

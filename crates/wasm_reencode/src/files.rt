@@ -1,11 +1,14 @@
 //! Standard streams and files: where bytes come from, and where they go.
 use std::fs::{File, OpenOptions, Permissions};
-use std::io::{ErrorKind, Read, Stderr, Stdin, Stdout, Write};
+use std::io::{ErrorKind, IsTerminal, Read, Stdin, Stdout, Write};
 use std::os::unix::fs::PermissionsExt;
 use std::{fs, io};
 
 /// The name of a standard stream.
 const STANDARD: &str = "-";
+
+/// How many links are followed to a file that is not there yet.
+const LINKS: u32 = 40;
 
 /// How many names of a temporary file are tried.
 const TRIES: u32 = 10_000;
@@ -44,29 +47,70 @@ impl Read for Input {
     }
 }
 
-/// Where bytes are written to.
+/// What bytes are written into.
 #[derive(Drop)]
-pub enum Output<'a> {
+pub enum Target<'a> {
     /// The standard output.
     Standard(Stdout),
-    /// The standard error.
-    Error(Stderr),
     /// A file.
     File(&'a File),
-    /// Bytes are taken and left out.
-    Nowhere,
-    /// A file that could not be made.
-    Absent,
+}
+
+/// Where bytes are written to.
+#[derive(Drop)]
+pub struct Output<'a> {
+    target: Target<'a>,
+    /// Whether the reader of a pipe was gone.
+    closed: &'a mut bool,
+}
+
+impl<'a> Output<'a> {
+    /// An output into a target, which notes where the reader of a pipe is gone.
+    pub fn new(target: Target<'a>, closed: &'a mut bool) -> Output<'a> {
+        Output { target, closed }
+    }
 }
 
 impl<'a> Write for Output<'a> {
     fn write(&mut self, buf: &[u8]) -> io::Result<usize> {
-        match self {
-            Output::Standard(stdout) => stdout.write(buf),
-            Output::Error(stderr) => stderr.write(buf),
-            Output::File(file) => file.write(buf),
-            Output::Nowhere => Ok(buf.len()),
-            Output::Absent => Err(io::Error::from(ErrorKind::PermissionDenied)),
+        let taken = match &mut self.target {
+            Target::Standard(stdout) => stdout.write(buf),
+            Target::File(file) => file.write(buf),
+        };
+        match taken {
+            Ok(n) => Ok(n),
+            Err(e) => {
+                if e.kind() == ErrorKind::BrokenPipe {
+                    *self.closed = true;
+                }
+                Err(e)
+            }
+        }
+    }
+
+    fn flush(&mut self) -> io::Result<()> {
+        Ok(())
+    }
+}
+
+/// A text in memory that is written to.
+#[derive(Drop)]
+pub struct Held<'a> {
+    text: &'a mut Vec<u8>,
+}
+
+impl<'a> Held<'a> {
+    /// Bytes are written behind those of this text.
+    pub fn new(text: &'a mut Vec<u8>) -> Held<'a> {
+        Held { text }
+    }
+}
+
+impl<'a> Write for Held<'a> {
+    fn write(&mut self, buf: &[u8]) -> io::Result<usize> {
+        match self.text.extend_from_slice(buf) {
+            Ok(()) => Ok(buf.len()),
+            Err(_) => Err(io::Error::from(ErrorKind::OutOfMemory)),
         }
     }
 
@@ -174,22 +218,75 @@ fn place_of_old(rt: &HostRuntime, name: &str) -> io::Result<Place> {
     Ok(Place::Staged(stage(rt, target, Some(mode))?))
 }
 
+/// What a link leads to: a name that does not begin with `/` is told from the folder of the link. Of another name there is none.
+fn behind_link(rt: &HostRuntime, name: &str) -> io::Result<Option<String>> {
+    match fs::read_link(rt, name) {
+        Ok(path) => {
+            let path = path.into_string();
+            if path.as_str().starts_with('/') {
+                return Ok(Some(path));
+            }
+            let folder = folder_of(name);
+            let target = path.as_str();
+            Ok(Some(format!(in rt.alloc(); "{folder}{target}")?))
+        }
+        Err(e) if e.kind() == ErrorKind::OutOfMemory => Err(e),
+        Err(_) => Ok(None),
+    }
+}
+
+/// The place of a file that is not there yet. Through links it is where the last one leads.
+fn place_of_new(rt: &HostRuntime, name: &str) -> io::Result<Place> {
+    let mut target = String::from_str(rt.alloc(), name)?;
+    for _ in 0..LINKS {
+        match behind_link(rt, target.as_str())? {
+            Some(next) => target = next,
+            None => return Ok(Place::Staged(stage(rt, target, None)?)),
+        }
+    }
+    Err(io::Error::from(ErrorKind::FilesystemLoop))
+}
+
 /// The place of a name.
 pub fn place_of(rt: &HostRuntime, name: &str) -> io::Result<Place> {
     if name == STANDARD {
         return Ok(Place::Standard);
     }
     match place_of_old(rt, name) {
-        Err(e) if e.kind() == ErrorKind::NotFound => {
-            let target = String::from_str(rt.alloc(), name)?;
-            Ok(Place::Staged(stage(rt, target, None)?))
-        }
+        Err(e) if e.kind() == ErrorKind::NotFound => place_of_new(rt, name),
         place => place,
     }
 }
 
+impl Place {
+    /// Takes away what was made there.
+    pub fn give_up(self, rt: &HostRuntime) {
+        match self {
+            Place::Staged(staged) => staged.give_up(rt),
+            _ => {}
+        }
+    }
+
+    /// Whether a terminal shows what is written there.
+    pub fn is_terminal(&self, rt: &HostRuntime) -> bool {
+        match self {
+            Place::Standard => rt.stdout().is_terminal(),
+            Place::Direct(file) => file.is_terminal(),
+            Place::Staged(_) => false,
+        }
+    }
+}
+
+/// All bytes of a file, for a second look. Of a standard stream, and where it cannot be read, there are none.
+pub fn looked_at(rt: &HostRuntime, name: &str) -> Option<Vec<u8>> {
+    if name == STANDARD {
+        return None;
+    }
+    fs::read(rt, name).ok()
+}
+
 /// Writes a whole text to a place.
-fn fill(rt: &HostRuntime, place: Place, text: &[u8]) -> io::Result<()> {
+pub fn fill(rt: &HostRuntime, place: Place, text: &[u8]) -> io::Result<()> {
     match place {
         Place::Standard => rt.stdout().write_all(text),
         Place::Direct(mut file) => file.write_all(text),

@@ -1,19 +1,31 @@
 //! Re-encodes WebAssembly binaries, from file to file.
 #![tactic(auto)]
 
+mod explain;
 mod files;
+mod json;
+mod listing;
+mod sections;
 mod words;
 
-use crate::files::{Input, Output, Place, Staged, place_of, write_whole};
-use crate::words::{Asked, asked_of, program};
+use crate::explain::{add_json_place, add_place};
+use crate::files::{
+    Held, Input, Output, Place, Staged, Target, fill, looked_at, place_of, write_whole,
+};
+use crate::listing::list_of;
+use crate::words::{Asked, asked_of, choice_of, most_of, program};
+use clap::ArgMatches;
 use clap::error::ErrorKind;
-use reencode_run::answer::{Answer, WordsFault, WritingFault};
-use reencode_run::outside::Sink;
+use reencode_run::answer::{Answer, ReencodingFault, TaskFault, WordsFault, WritingFault};
+use reencode_run::input::read_all;
 use reencode_run::standard::{FileShelf, StdSink, StdSource};
 use reencode_run::transform::{say_of, transform};
+use reencode_run::words::Command;
+use std::alloc::AllocError;
 use std::io::Write;
 use std::process::ExitCode;
 use std::{env, io};
+use wasm_strip::{Choice, StripFault, strip};
 
 /// The words of the command line, the program's name first.
 fn given_words(rt: &HostRuntime) -> io::Result<Vec<String>> {
@@ -26,72 +38,306 @@ fn given_words(rt: &HostRuntime) -> io::Result<Vec<String>> {
     Ok(words)
 }
 
-/// Says that a file could not be written, and answers the status.
-fn unwritten<D: Sink>(name: &str, err: &mut D) -> u8 {
-    let answer = Answer::Writing(WritingFault::Failed);
-    let _ = say_of(name.as_bytes(), &answer, err);
+/// Says how the program ends behind the name of a file, and answers the status.
+fn end_of(rt: &HostRuntime, quiet: bool, name: &str, answer: &Answer) -> u8 {
+    if !quiet {
+        let _ = say_of(name.as_bytes(), answer, &mut StdSink::new(rt.stderr()));
+    }
     answer.status()
 }
 
-/// Does what is asked for between a source and an output. The lines about the output come back, or the status.
-fn transformed<D: Sink>(
+/// Says that a file could not be written, and answers the status.
+fn unwritten(rt: &HostRuntime, quiet: bool, name: &str) -> u8 {
+    let answer = Answer::Writing(WritingFault::Failed);
+    end_of(rt, quiet, name, &answer)
+}
+
+/// The status where a text could not be written. Where the reader of a pipe was gone, nothing is said.
+fn failed(rt: &HostRuntime, quiet: bool, name: &str, e: &io::Error) -> u8 {
+    let is_gone = e.kind() == io::ErrorKind::BrokenPipe;
+    unwritten(rt, quiet || is_gone, name)
+}
+
+/// The file that a line about a binary begins with: of two modules the second where the line says so.
+fn binary_of<'a>(asked: &Asked<'a>, line: &[u8]) -> &'a str {
+    match asked.request.command {
+        Command::Merge(second) if line.ends_with(b" by 2\n") => second,
+        _ => asked.request.input,
+    }
+}
+
+/// The file that a line about a JSON text begins with.
+fn json_of<'a>(asked: &Asked<'a>, line: &[u8]) -> &'a str {
+    match asked.request.command {
+        Command::Rename(map) => map,
+        Command::Renumber(order) => order,
+        Command::Twice(first, second) => {
+            if line.starts_with(second.as_bytes()) && !line.starts_with(first.as_bytes()) {
+                second
+            } else {
+                first
+            }
+        }
+        _ => "",
+    }
+}
+
+/// Adds to the line of a status what stands in the file that it is said of, where the file can be read once more.
+fn add_detail(
     rt: &HostRuntime,
     asked: &Asked<'_>,
-    output: Output<'_>,
-    err: &mut D,
-) -> Result<Vec<u8>, u8> {
-    transform(
+    status: u8,
+    line: &mut Vec<u8>,
+) -> Result<(), AllocError> {
+    if status == 5 || status == 7 {
+        let name = binary_of(asked, line.as_slice());
+        if let Some(bytes) = looked_at(rt, name) {
+            return add_place(line, name, bytes.as_slice());
+        }
+    }
+    if status == 11 {
+        if let Some(text) = looked_at(rt, json_of(asked, line.as_slice())) {
+            let is_order = matches!(asked.request.command, Command::Renumber(_));
+            return add_json_place(rt.alloc(), line, text.as_slice(), is_order);
+        }
+    }
+    Ok(())
+}
+
+/// Says the line of a status, with what stands in the file that it is said of.
+fn say_why(rt: &HostRuntime, asked: &Asked<'_>, status: u8, mut line: Vec<u8>) {
+    let _ = add_detail(rt, asked, status, &mut line);
+    let _ = rt.stderr().write_all(line.as_slice());
+}
+
+/// Does what is asked for between a source and a target. The lines about the output come back, or the status.
+fn transformed(rt: &HostRuntime, asked: &Asked<'_>, target: Target<'_>) -> Result<Vec<u8>, u8> {
+    let mut closed = false;
+    let mut line = Vec::new(rt.alloc());
+    let made = transform(
         rt.alloc(),
         asked.request,
         &mut FileShelf::new(rt),
         &mut StdSource::new(Input::of(rt, asked.request.input)),
-        &mut StdSink::new(output),
-        err,
-    )
+        &mut StdSink::new(Output::new(target, &mut closed)),
+        &mut StdSink::new(Held::new(&mut line)),
+    );
+    match made {
+        Ok(lines) => Ok(lines),
+        Err(status) => {
+            if !asked.quiet && !closed {
+                say_why(rt, asked, status, line);
+            }
+            Err(status)
+        }
+    }
+}
+
+/// The bytes of the output of what is asked for, or the status.
+fn gathered(rt: &HostRuntime, asked: &Asked<'_>) -> Result<Vec<u8>, u8> {
+    let mut bytes = Vec::new(rt.alloc());
+    let mut line = Vec::new(rt.alloc());
+    let made = transform(
+        rt.alloc(),
+        asked.request,
+        &mut FileShelf::new(rt),
+        &mut StdSource::new(Input::of(rt, asked.request.input)),
+        &mut StdSink::new(Held::new(&mut bytes)),
+        &mut StdSink::new(Held::new(&mut line)),
+    );
+    match made {
+        Ok(_) => Ok(bytes),
+        // Memory alone is wanting where a text in memory takes no more.
+        Err(4) => Err(no_memory(rt)),
+        Err(status) => {
+            if !asked.quiet {
+                say_why(rt, asked, status, line);
+            }
+            Err(status)
+        }
+    }
 }
 
 /// Writes the lines about an output where they are asked for, and answers the status.
-fn write_lines<D: Sink>(rt: &HostRuntime, asked: &Asked<'_>, lines: &[u8], err: &mut D) -> u8 {
+fn write_lines(rt: &HostRuntime, asked: &Asked<'_>, lines: &[u8]) -> u8 {
     if asked.counts {
         let _ = rt.stderr().write_all(lines);
     }
     match asked.kept {
         Some(name) => match write_whole(rt, name, lines) {
             Ok(()) => 0,
-            Err(_) => unwritten(name, err),
+            Err(e) => failed(rt, asked.quiet, name, &e),
         },
         None => 0,
     }
 }
 
 /// Does what is asked for with an output that is written into, and answers the status.
-fn run_into<D: Sink>(rt: &HostRuntime, asked: &Asked<'_>, output: Output<'_>, err: &mut D) -> u8 {
-    match transformed(rt, asked, output, err) {
-        Ok(lines) => write_lines(rt, asked, lines.as_slice(), err),
+fn run_into(rt: &HostRuntime, asked: &Asked<'_>, target: Target<'_>) -> u8 {
+    match transformed(rt, asked, target) {
+        Ok(lines) => write_lines(rt, asked, lines.as_slice()),
         Err(status) => status,
     }
 }
 
 /// Does what is asked for with a file that gets its name once all is written, and answers the status.
-fn run_staged<D: Sink>(rt: &HostRuntime, asked: &Asked<'_>, staged: Staged, err: &mut D) -> u8 {
-    let status = run_into(rt, asked, Output::File(staged.file()), err);
+fn run_staged(rt: &HostRuntime, asked: &Asked<'_>, staged: Staged) -> u8 {
+    let status = run_into(rt, asked, Target::File(staged.file()));
     if status != 0 {
         staged.give_up(rt);
         return status;
     }
     match staged.finish(rt) {
         Ok(()) => 0,
-        Err(_) => unwritten(asked.request.output, err),
+        Err(_) => unwritten(rt, asked.quiet, asked.request.output),
+    }
+}
+
+/// Says that a terminal would show a binary, and answers the status.
+fn refused_terminal(rt: &HostRuntime, asked: &Asked<'_>) -> u8 {
+    if !asked.quiet {
+        let name = asked.request.output;
+        let _ = eprintln!(rt; "{name}: a terminal; --force writes a binary to it");
+    }
+    Answer::Words(WordsFault::NotAccepted).status()
+}
+
+/// Does what is asked for with an output in its place, and answers the status.
+fn run_at(rt: &HostRuntime, asked: &Asked<'_>, place: Place) -> u8 {
+    if !asked.force && place.is_terminal(rt) {
+        return refused_terminal(rt, asked);
+    }
+    match place {
+        Place::Standard => run_into(rt, asked, Target::Standard(rt.stdout())),
+        Place::Direct(file) => run_into(rt, asked, Target::File(&file)),
+        Place::Staged(staged) => run_staged(rt, asked, staged),
+    }
+}
+
+/// The lines but the last.
+fn without_last(lines: &[u8]) -> &[u8] {
+    let mut end = 0;
+    'bytes: for i in 0..lines.len() {
+        if lines[i] == b'\n' && i + 1 < lines.len() {
+            end = i + 1;
+        }
+    }
+    match lines.get(..end) {
+        Some(front) => front,
+        None => lines,
+    }
+}
+
+/// Writes lines to the standard output, and answers the status.
+fn print_lines(rt: &HostRuntime, quiet: bool, lines: &[u8]) -> u8 {
+    match write_whole(rt, "-", lines) {
+        Ok(()) => 0,
+        Err(e) => failed(rt, quiet, "-", &e),
+    }
+}
+
+/// Tells what stays as it is, and answers the status.
+fn run_kept(rt: &HostRuntime, asked: &Asked<'_>) -> u8 {
+    match transformed(rt, asked, Target::Standard(rt.stdout())) {
+        Ok(lines) => print_lines(rt, asked.quiet, without_last(lines.as_slice())),
+        Err(status) => status,
+    }
+}
+
+/// Says why nothing is removed of the bytes of an output, and answers the status.
+fn unstripped(rt: &HostRuntime, asked: &Asked<'_>, fault: StripFault) -> u8 {
+    match fault {
+        StripFault::NoMemory => no_memory(rt),
+        StripFault::Read { at } | StripFault::TooDeep { at } => {
+            let answer = Answer::Reencoding(TaskFault {
+                fault: ReencodingFault::ParseError { at },
+                by: None,
+            });
+            end_of(rt, asked.quiet, asked.request.input, &answer)
+        }
+    }
+}
+
+/// Writes the output of what is asked for without some custom sections to its place, and answers the status.
+fn run_strip_at(rt: &HostRuntime, asked: &Asked<'_>, choice: &Choice<'_>, place: Place) -> u8 {
+    if !asked.force && place.is_terminal(rt) {
+        return refused_terminal(rt, asked);
+    }
+    let made = match gathered(rt, asked) {
+        Ok(bytes) => strip(rt.alloc(), choice, bytes.as_slice()),
+        Err(status) => {
+            place.give_up(rt);
+            return status;
+        }
+    };
+    match made {
+        Ok(text) => match fill(rt, place, text.as_slice()) {
+            Ok(()) => 0,
+            Err(e) => failed(rt, asked.quiet, asked.request.output, &e),
+        },
+        Err(fault) => {
+            place.give_up(rt);
+            unstripped(rt, asked, fault)
+        }
+    }
+}
+
+/// Removes custom sections, and answers the status.
+fn run_strip(rt: &HostRuntime, asked: &Asked<'_>, choice: &Choice<'_>) -> u8 {
+    match place_of(rt, asked.request.output) {
+        Ok(place) => run_strip_at(rt, asked, choice, place),
+        Err(_) => unwritten(rt, asked.quiet, asked.request.output),
     }
 }
 
 /// Does what is asked for, and answers the status.
-fn run_asked<D: Sink>(rt: &HostRuntime, asked: &Asked<'_>, err: &mut D) -> u8 {
-    match place_of(rt, asked.request.output) {
-        Ok(Place::Standard) => run_into(rt, asked, Output::Standard(rt.stdout()), err),
-        Ok(Place::Direct(file)) => run_into(rt, asked, Output::File(&file), err),
-        Ok(Place::Staged(staged)) => run_staged(rt, asked, staged, err),
-        Err(_) => run_into(rt, asked, Output::Absent, err),
+fn run_asked(rt: &HostRuntime, asked: &Asked<'_>) -> u8 {
+    match asked.request.command {
+        Command::KeepReport => run_kept(rt, asked),
+        _ => match place_of(rt, asked.request.output) {
+            Ok(place) => run_at(rt, asked, place),
+            Err(_) => unwritten(rt, asked.quiet, asked.request.output),
+        },
+    }
+}
+
+/// Says that no header of a binary stands in a file, and answers the status.
+fn headless(rt: &HostRuntime, quiet: bool, name: &str, bytes: &[u8]) -> u8 {
+    let answer = Answer::Reencoding(TaskFault {
+        fault: ReencodingFault::ParseError { at: 0 },
+        by: None,
+    });
+    if !quiet {
+        let mut line = Vec::new(rt.alloc());
+        let _ = say_of(
+            name.as_bytes(),
+            &answer,
+            &mut StdSink::new(Held::new(&mut line)),
+        );
+        let _ = add_place(&mut line, name, bytes);
+        let _ = rt.stderr().write_all(line.as_slice());
+    }
+    answer.status()
+}
+
+/// Tells the sections of some bytes, and answers the status.
+fn list_bytes(rt: &HostRuntime, quiet: bool, name: &str, bytes: &[u8]) -> u8 {
+    match list_of(rt.alloc(), bytes) {
+        Ok(Some(lines)) => print_lines(rt, quiet, lines.as_slice()),
+        Ok(None) => headless(rt, quiet, name, bytes),
+        Err(_) => no_memory(rt),
+    }
+}
+
+/// Tells the sections of a file, and answers the status.
+fn run_list(rt: &HostRuntime, matches: &ArgMatches<'_>) -> u8 {
+    let name = matches.get_str("input").unwrap_or("");
+    let quiet = matches.get_flag("quiet");
+    let most = most_of(matches, "max-input");
+    let mut source = StdSource::new(Input::of(rt, name));
+    match read_all(rt.alloc(), &mut source, most) {
+        Ok(bytes) => list_bytes(rt, quiet, name, bytes.as_slice()),
+        Err(fault) => end_of(rt, quiet, name, &Answer::Input(fault)),
     }
 }
 
@@ -108,23 +354,27 @@ fn not_taken(rt: &HostRuntime) -> u8 {
     Answer::Words(WordsFault::NotAccepted).status()
 }
 
+/// Does what the matches ask for, and answers the status.
+fn run_matches(rt: &HostRuntime, matches: &ArgMatches<'_>) -> u8 {
+    if let Some(list) = matches.subcommand_matches("list") {
+        return run_list(rt, list);
+    }
+    match asked_of(matches) {
+        Some(asked) => match matches.subcommand_matches("strip") {
+            Some(strip) => run_strip(rt, &asked, &choice_of(strip)),
+            None => run_asked(rt, &asked),
+        },
+        None => not_taken(rt),
+    }
+}
+
 /// Does what the words ask for, and answers the status.
 fn run_words(rt: &HostRuntime, words: &[String]) -> u8 {
     let Ok(program) = program(rt.alloc()) else {
         return no_memory(rt);
     };
     match program.try_get_matches_from(words) {
-        Ok(matches) => match asked_of(&matches) {
-            Some(asked) => {
-                let said = if asked.quiet {
-                    Output::Nowhere
-                } else {
-                    Output::Error(rt.stderr())
-                };
-                run_asked(rt, &asked, &mut StdSink::new(said))
-            }
-            None => not_taken(rt),
-        },
+        Ok(matches) => run_matches(rt, &matches),
         Err(e) if e.kind() == ErrorKind::OutOfMemory => no_memory(rt),
         Err(e) => {
             let _ = e.print(rt);

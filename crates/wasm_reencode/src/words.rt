@@ -1,13 +1,14 @@
 //! The words of the command line.
-ghost use Rattle.std.specs.Prelude.{ℕ, ◌≡◌, ◌-◌, ◌^◌, None, IfSome, codes, option_map};
-ghost use Rattle.clap.specs.Matches.{first_value, found_of, one_text};
+ghost use Rattle.std.specs.Prelude.{ℕ, ◌≡◌, IfNone, IfSome, codes, false, map, option_map};
+ghost use Rattle.clap.specs.Matches.{first_value, found_of};
 ghost use Rattle.reencode_run.specs.Words.{command_seen};
-ghost use Rattle.wasm_reencode.specs.Arguments.{AsksBy, IsAsked, argument, named, renaming};
+ghost use Rattle.wasm_reencode.specs.Arguments.{AsksBy, IsAsked, IsFlag, IsMost, NamesNone, argument, is_command, named, renaming, texts};
 
 use clap::{Arg, ArgAction, ArgMatches, Command, value_parser};
 use reencode_run::transform::Request;
 use reencode_run::words;
 use std::alloc::{AllocError, Global};
+use wasm_strip::Choice;
 
 /// What the words ask for.
 #[derive(Clone, Copy, Debug)]
@@ -18,6 +19,8 @@ pub struct Asked<'a> {
     pub counts: bool,
     /// Whether what goes wrong is told by the status alone.
     pub quiet: bool,
+    /// Whether a binary is written to a terminal too.
+    pub force: bool,
     /// The name of the file that gets the line of the functions that are kept.
     pub kept: Option<&'a str>,
 }
@@ -30,7 +33,22 @@ fn needed<'a>(alloc: Global, id: &'a str, name: &'a str, help: &'a str) -> Arg<'
         .help(help)
 }
 
-/// What each command takes beside its own.
+/// What each command takes.
+fn with_quiet<'a>(alloc: Global, command: Command<'a>) -> Result<Command<'a>, AllocError> {
+    let most = Arg::new(alloc, "max-input")
+        .long("max-input")
+        .value_name("N")
+        .value_parser(value_parser!(u32))
+        .help("The most bytes that the input, or the second module, may have");
+    let quiet = Arg::new(alloc, "quiet")
+        .short('q')
+        .long("quiet")
+        .action(ArgAction::SetTrue)
+        .help("Tell what goes wrong by the status alone");
+    command.arg(most)?.arg(quiet)
+}
+
+/// What each command that makes a binary takes beside its own.
 fn with_output<'a>(alloc: Global, command: Command<'a>) -> Result<Command<'a>, AllocError> {
     let output = needed(
         alloc,
@@ -45,12 +63,17 @@ fn with_output<'a>(alloc: Global, command: Command<'a>) -> Result<Command<'a>, A
         .value_name("N")
         .value_parser(value_parser!(u32))
         .help("The most bytes that a section, a function or a name subsection may have");
-    let quiet = Arg::new(alloc, "quiet")
-        .short('q')
-        .long("quiet")
+    let force = Arg::new(alloc, "force")
+        .long("force")
         .action(ArgAction::SetTrue)
-        .help("Tell what goes wrong by the status alone");
-    command.arg(output)?.arg(frame)?.arg(quiet)
+        .help("Write a binary to a terminal too");
+    with_quiet(alloc, command.arg(output)?.arg(frame)?.arg(force)?)
+}
+
+/// A command that tells of a binary.
+fn telling<'a>(alloc: Global, name: &'a str, about: &'a str) -> Result<Command<'a>, AllocError> {
+    let input = needed(alloc, "input", "IN", "The binary, or - for standard input");
+    with_quiet(alloc, Command::new(alloc, name).about(about).arg(input)?)
 }
 
 /// A command over one binary.
@@ -136,6 +159,51 @@ fn merge<'a>(alloc: Global) -> Result<Command<'a>, AllocError> {
     with_output(alloc, merge)
 }
 
+/// A flag of the command that removes custom sections.
+fn flag<'a>(alloc: Global, id: &'a str, help: &'a str) -> Arg<'a> {
+    Arg::new(alloc, id)
+        .long(id)
+        .action(ArgAction::SetTrue)
+        .help(help)
+}
+
+/// The command that removes custom sections.
+fn strip<'a>(alloc: Global) -> Result<Command<'a>, AllocError> {
+    let section = Arg::new(alloc, "section")
+        .long("section")
+        .value_name("NAME")
+        .action(ArgAction::Append)
+        .help("Remove the custom sections of this name");
+    over_one(
+        alloc,
+        "strip",
+        "Writes a binary in its normal spelling, without some custom sections",
+    )?
+    .arg(flag(alloc, "names", "Remove the names"))?
+    .arg(flag(alloc, "debug", "Remove what a debugger reads"))?
+    .arg(flag(alloc, "stale", "Remove what tells places in code"))?
+    .arg(flag(alloc, "all", "Remove all custom sections"))?
+    .arg(section)
+}
+
+/// The command that tells what stays as it is.
+fn kept<'a>(alloc: Global) -> Result<Command<'a>, AllocError> {
+    telling(
+        alloc,
+        "kept",
+        "Tells which function bodies of a core module plain leaves as they are",
+    )
+}
+
+/// The command that tells the sections.
+fn list<'a>(alloc: Global) -> Result<Command<'a>, AllocError> {
+    telling(
+        alloc,
+        "list",
+        "Tells the sections: number, id, kind, place, size, rows or name",
+    )
+}
+
 /// The program.
 pub fn program<'a>(alloc: Global) -> Result<Command<'a>, AllocError> {
     Command::new(alloc, "wasm-reencode")
@@ -148,7 +216,10 @@ pub fn program<'a>(alloc: Global) -> Result<Command<'a>, AllocError> {
         .subcommand(rename(alloc)?)?
         .subcommand(renumber(alloc)?)?
         .subcommand(prune(alloc)?)?
-        .subcommand(merge(alloc)?)
+        .subcommand(merge(alloc)?)?
+        .subcommand(strip(alloc)?)?
+        .subcommand(kept(alloc)?)?
+        .subcommand(list(alloc)?)
 }
 
 /// The text of an argument, or nothing.
@@ -176,8 +247,9 @@ fn renaming<'a>(matches: &ArgMatches<'a>) -> words::Command<'a>
 /// What a command of this name asks for by its arguments.
 fn command_of<'a>(name: &str, matches: &ArgMatches<'a>) -> Option<words::Command<'a>>
     // However long the file of a module may be.
-    ensures { (most : ℕ) → option_map (command_seen most) result
+    ensures command { (most : ℕ) → option_map (command_seen most) result
         ≡ named most name.now (found_of matches.now) }
+    ensures none { IfNone result (is_command name.now ≡ false) }
 {
     if name == "plain" {
         return Some(words::Command::Plain);
@@ -194,7 +266,23 @@ fn command_of<'a>(name: &str, matches: &ArgMatches<'a>) -> Option<words::Command
     if name == "merge" {
         return Some(words::Command::Merge(text(matches, "second")));
     }
+    if name == "strip" {
+        return Some(words::Command::Plain);
+    }
+    if name == "kept" {
+        return Some(words::Command::KeepReport);
+    }
     None
+}
+
+/// The number of an argument, or the greatest.
+pub fn most_of(matches: &ArgMatches<'_>, id: &str) -> u32
+    ensures { IsMost (found_of matches.now) id.now result }
+{
+    match matches.get_one::<u32>(id) {
+        Some(number) => number,
+        None => u32::MAX,
+    }
 }
 
 /// What is asked for of a command.
@@ -202,35 +290,63 @@ fn request_of<'a>(command: words::Command<'a>, matches: &ArgMatches<'a>) -> Requ
     ensures input { result.input.now ≡ argument (found_of matches.now) (codes "input") }
     ensures output { result.output.now ≡ argument (found_of matches.now) (codes "output") }
     ensures command { result.command ≡ command.entry }
-    ensures most { result.most ≡ 2 ^ 32 - 1 }
-    ensures ceiling { (one_text (found_of matches.now) (codes "max-frame") ≡ None)
-        → result.ceiling ≡ 2 ^ 32 - 1 }
+    ensures most { IsMost (found_of matches.now) (codes "max-input") result.most }
+    ensures ceiling { IsMost (found_of matches.now) (codes "max-frame") result.ceiling }
 {
     Request {
-        ceiling: matches.get_one::<u32>("max-frame").unwrap_or(u32::MAX),
-        most: u32::MAX,
+        ceiling: most_of(matches, "max-frame"),
+        most: most_of(matches, "max-input"),
         command,
         input: text(matches, "input"),
         output: text(matches, "output"),
     }
 }
 
+/// The names of the sections to be removed.
+fn sections_of<'b>(matches: &'b ArgMatches<'_>) -> &'b [&'b str]
+    ensures { map (λ name. name.now) result.now ≡ texts (found_of matches.now) (codes "section") }
+{
+    let none: &'b [&'b str] = &[];
+    matches.get_strs("section").unwrap_or(none)
+}
+
+/// Which custom sections are to be removed.
+pub fn choice_of<'b>(matches: &'b ArgMatches<'_>) -> Choice<'b>
+    ensures names { IsFlag (found_of matches.now) (codes "names") result.names }
+    ensures debug { IsFlag (found_of matches.now) (codes "debug") result.debug }
+    ensures stale { IsFlag (found_of matches.now) (codes "stale") result.stale }
+    ensures all { IsFlag (found_of matches.now) (codes "all") result.all }
+    ensures sections { map (λ name. name.now) result.sections.now
+        ≡ texts (found_of matches.now) (codes "section") }
+{
+    Choice {
+        names: matches.get_flag("names"),
+        debug: matches.get_flag("debug"),
+        stale: matches.get_flag("stale"),
+        all: matches.get_flag("all"),
+        sections: sections_of(matches),
+    }
+}
+
 /// What the words ask for of a command of this name.
 fn asked_by<'a>(name: &str, matches: &ArgMatches<'a>) -> Option<Asked<'a>>
-    ensures { IfSome result (AsksBy name.now (found_of matches.now)) }
+    ensures some { IfSome result (AsksBy name.now (found_of matches.now)) }
+    ensures none { IfNone result (is_command name.now ≡ false) }
 {
     let command = command_of(name, matches)?;
     Some(Asked {
         request: request_of(command, matches),
         counts: matches.get_flag("counts"),
         quiet: matches.get_flag("quiet"),
+        force: matches.get_flag("force"),
         kept: matches.get_str("kept"),
     })
 }
 
 /// What the words ask for.
 pub fn asked_of<'a>(matches: &ArgMatches<'a>) -> Option<Asked<'a>>
-    ensures { IfSome result (IsAsked matches.now) }
+    ensures some { IfSome result (IsAsked matches.now) }
+    ensures none { IfNone result (NamesNone matches.now) }
 {
     match matches.subcommand() {
         Some((name, matches)) => asked_by(name, matches),

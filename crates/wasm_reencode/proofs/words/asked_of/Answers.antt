@@ -14,5 +14,5 @@ asked : (m : ArgMatches) (name : List â„•) (found : Found) (r : Option Asked) â†
 asked m name found None is rows h = h
 asked m name found (Some a) is rows h = record { name = name; found = found; named = sym is; arguments = sym rows; asks = h }
 
-pub returns-in-Some : goal.returns-in-Some
-returns-in-Some c = asked c.args.matches.now c.in-Some.name.now (found_of c.in-Some.matches.now) c.asked_by.result c.in-Some.ensures.name c.in-Some.ensures.rows c.asked_by.ensures
+pub returns-in-Some-clause-some : goal.returns-in-Some-clause-some
+returns-in-Some-clause-some c = asked c.args.matches.now c.in-Some.name.now (found_of c.in-Some.matches.now) c.asked_by.result c.in-Some.ensures.name c.in-Some.ensures.rows c.asked_by.ensures.some

@@ -1,0 +1,133 @@
+//! The sections of a binary, as they stand in a file.
+use wasm_leb::front_byte;
+use wasm_read::front_sized;
+
+/// What a binary is.
+#[derive(Clone, Copy, Debug, PartialEq, Eq)]
+pub enum Layer {
+    /// A core module.
+    Module,
+    /// A component.
+    Component,
+}
+
+/// A section, as it stands in a file.
+#[derive(Clone, Copy, Debug)]
+pub struct Section<'a> {
+    /// What it is a section of.
+    pub layer: Layer,
+    /// How many sections stand before it.
+    pub number: usize,
+    /// Its id.
+    pub id: u8,
+    /// Where it begins, counted from the first byte of the header.
+    pub start: usize,
+    /// What stands behind its size, and the bytes behind that. There is none where its size passes the end.
+    pub frame: Option<(&'a [u8], &'a [u8])>,
+}
+
+/// What the section of an id is called in a core module.
+fn core_name(id: u8) -> &'static str {
+    match id {
+        0 => "custom",
+        1 => "type",
+        2 => "import",
+        3 => "function",
+        4 => "table",
+        5 => "memory",
+        6 => "global",
+        7 => "export",
+        8 => "start",
+        9 => "element",
+        10 => "code",
+        11 => "data",
+        12 => "data count",
+        13 => "tag",
+        _ => "unknown",
+    }
+}
+
+/// What the section of an id is called in a component.
+fn component_name(id: u8) -> &'static str {
+    match id {
+        0 => "custom",
+        1 => "core module",
+        2 => "core instance",
+        3 => "core type",
+        4 => "component",
+        5 => "instance",
+        6 => "alias",
+        7 => "type",
+        8 => "canon",
+        9 => "start",
+        10 => "import",
+        11 => "export",
+        12 => "value",
+        _ => "unknown",
+    }
+}
+
+impl<'a> Section<'a> {
+    /// What its id is called.
+    pub fn kind_name(&self) -> &'static str {
+        match self.layer {
+            Layer::Module => core_name(self.id),
+            Layer::Component => component_name(self.id),
+        }
+    }
+
+    /// Whether it is a vector of rows.
+    pub fn is_vector(&self) -> bool {
+        match self.layer {
+            Layer::Module => matches!(self.id, 1..=7 | 9..=11 | 13),
+            Layer::Component => matches!(self.id, 2 | 3 | 5..=8 | 10..=12),
+        }
+    }
+
+    /// Whether it is a whole binary.
+    pub fn is_binary(&self) -> bool {
+        self.layer == Layer::Component && matches!(self.id, 1 | 4)
+    }
+}
+
+/// What some bytes are by their header, and the bytes behind that.
+pub fn header_of(bytes: &[u8]) -> Option<(Layer, &[u8])> {
+    match bytes {
+        [0x00, 0x61, 0x73, 0x6d, 0x01, 0x00, 0x00, 0x00, rest @ ..] => Some((Layer::Module, rest)),
+        [0x00, 0x61, 0x73, 0x6d, 0x0d, 0x00, 0x01, 0x00, rest @ ..] => {
+            Some((Layer::Component, rest))
+        }
+        _ => None,
+    }
+}
+
+/// The section at the front of some bytes.
+pub fn front_section<'a>(
+    layer: Layer,
+    number: usize,
+    start: usize,
+    bytes: &'a [u8],
+) -> Option<Section<'a>> {
+    let (id, behind) = front_byte(bytes)?;
+    Some(Section {
+        layer,
+        number,
+        id,
+        start,
+        frame: front_sized(behind),
+    })
+}
+
+/// The section that a place stands in, or the first before it whose size passes the end.
+pub fn section_at<'a>(bytes: &'a [u8], place: usize) -> Option<Section<'a>> {
+    let (layer, mut rest) = header_of(bytes)?;
+    'sections: for number in 0..bytes.len() {
+        let start = bytes.len().saturating_sub(rest.len());
+        let section = front_section(layer, number, start, rest)?;
+        match section.frame {
+            Some((_, behind)) if bytes.len().saturating_sub(behind.len()) <= place => rest = behind,
+            _ => return Some(section),
+        }
+    }
+    None
+}
