@@ -1,6 +1,5 @@
 -- How a call ends: its status, and what then holds.
-use Rattle.std.specs.Prelude.{◌≡◌, ◌≢◌, ◌<◌, ◌≤◌, ℕ, List, [], length, take, true, Result, Err, Vec}
-use Rattle.std.specs.Global.{Global}
+use Rattle.std.specs.Prelude.{◌≡◌, ◌≢◌, ◌<◌, ◌≤◌, ℕ, List, [], length, take, true, Result, Err}
 use Rattle.wasm_shapes.specs.declared.Visit.{Visit}
 use Rattle.wasm_shapes.specs.Tree.{Tree, visits}
 use Rattle.reencode_hooks.specs.declared.asked.Unmapped.{Unmapped}
@@ -34,7 +33,7 @@ hooks_by reply next = record { reply = reply; next = next; adds = λ s v. []; ke
 -- the output can be made.
 pub record IsErrorOf {S : Type 0} (i : Ghosts S Unmapped) (begun : S) (ceiling : ℕ) (bytes : List ℕ) (e : Error Unmapped) : Type 0 where
   pub after : S
-  pub allowed : WithinClauses {A = Vec ℕ Global} i ceiling bytes begun after (Err e) (λ out. out.items)
+  pub allowed : WithinClauses {A = List ℕ} i ceiling bytes begun after (Err e) (λ out. out)
   pub fault : IfFault e (BinaryFault bytes)
   pub before : IsOfBytes e → (t : Tree) (rest : List ℕ) → as_binary.faulty bytes t rest → (n : S) × Filled (asks i) ceiling begun t n
   pub first : (x : Unmapped) → e ≡ UserError x → (t : Tree) → as_binary.reads bytes t → run (asks i) begun (visits t) ≡ refused e after

@@ -1,4 +1,4 @@
-use Rattle.std.proofs.Common.{sym, ◌∙◌}
+use Rattle.std.proofs.Common.{refl, sym, ◌∙◌}
 use Rattle.reencode_c.specs.Ends.{IsErrorOf, hooks_by}
 use Rattle.reencode_c.specs.Outputs.{IsAnswered, IsMiscounted}
 use Rattle.reencode_c.specs.Visits.{answers_next, answers_reply}

@@ -1,3 +1,4 @@
+use Rattle.std.proofs.Common.{refl}
 use Rattle.reencode_c.specs.Ends.{IsErrorOf, hooks_by}
 use Rattle.reencode_c.specs.Entries.{IsBadRenaming, renaming_reply}
 use Rattle.reencode_c.specs.Outputs.{IsRenamed}
