@@ -12,7 +12,8 @@ use crate::explain::{add_json_place, add_place};
 use crate::files::{
     Held, Input, Output, Place, Staged, Target, fill, looked_at, place_of, write_whole,
 };
-use crate::listing::list_of;
+use crate::listing::{lines_of, tree_of};
+use crate::sections::{Section, sections_of};
 use crate::words::{Asked, asked_of, choice_of, most_of, program};
 use clap::ArgMatches;
 use clap::error::ErrorKind;
@@ -21,7 +22,7 @@ use reencode_run::input::read_all;
 use reencode_run::standard::{FileShelf, StdSink, StdSource};
 use reencode_run::transform::{say_of, transform};
 use reencode_run::words::Command;
-use std::alloc::AllocError;
+use std::alloc::{AllocError, Global};
 use std::io::Write;
 use std::process::ExitCode;
 use std::{env, io};
@@ -320,10 +321,23 @@ fn headless(rt: &HostRuntime, quiet: bool, name: &str, bytes: &[u8]) -> u8 {
     answer.status()
 }
 
+/// What is told of some sections.
+fn list_of(alloc: Global, json: bool, sections: &[Section<'_>]) -> Result<Vec<u8>, AllocError> {
+    if json {
+        tree_of(alloc, sections)
+    } else {
+        lines_of(alloc, sections)
+    }
+}
+
 /// Tells the sections of some bytes, and answers the status.
-fn list_bytes(rt: &HostRuntime, quiet: bool, name: &str, bytes: &[u8]) -> u8 {
-    match list_of(rt.alloc(), bytes) {
-        Ok(Some(lines)) => print_lines(rt, quiet, lines.as_slice()),
+fn list_bytes(rt: &HostRuntime, matches: &ArgMatches<'_>, name: &str, bytes: &[u8]) -> u8 {
+    let quiet = matches.get_flag("quiet");
+    match sections_of(rt.alloc(), bytes) {
+        Ok(Some(all)) => match list_of(rt.alloc(), matches.get_flag("json"), all.as_slice()) {
+            Ok(text) => print_lines(rt, quiet, text.as_slice()),
+            Err(_) => no_memory(rt),
+        },
         Ok(None) => headless(rt, quiet, name, bytes),
         Err(_) => no_memory(rt),
     }
@@ -336,7 +350,7 @@ fn run_list(rt: &HostRuntime, matches: &ArgMatches<'_>) -> u8 {
     let most = most_of(matches, "max-input");
     let mut source = StdSource::new(Input::of(rt, name));
     match read_all(rt.alloc(), &mut source, most) {
-        Ok(bytes) => list_bytes(rt, quiet, name, bytes.as_slice()),
+        Ok(bytes) => list_bytes(rt, matches, name, bytes.as_slice()),
         Err(fault) => end_of(rt, quiet, name, &Answer::Input(fault)),
     }
 }

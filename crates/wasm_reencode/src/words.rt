@@ -159,7 +159,7 @@ fn merge<'a>(alloc: Global) -> Result<Command<'a>, AllocError> {
     with_output(alloc, merge)
 }
 
-/// A flag of the command that removes custom sections.
+/// A flag of a command.
 fn flag<'a>(alloc: Global, id: &'a str, help: &'a str) -> Arg<'a> {
     Arg::new(alloc, id)
         .long(id)
@@ -201,7 +201,8 @@ fn list<'a>(alloc: Global) -> Result<Command<'a>, AllocError> {
         alloc,
         "list",
         "Tells the sections: number, id, kind, place, size, rows or name",
-    )
+    )?
+    .arg(flag(alloc, "json", "Tell them as a JSON object"))
 }
 
 /// The program.
