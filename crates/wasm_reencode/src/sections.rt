@@ -110,6 +110,16 @@ impl<'a> Section<'a> {
         Some(name)
     }
 
+    /// What stands in a code section.
+    pub fn code(&self) -> Option<&'a [u8]> {
+        let (body, _) = self.frame?;
+        if self.layer == Layer::Module && self.id == 10 {
+            Some(body)
+        } else {
+            None
+        }
+    }
+
     /// Whether it is a whole binary.
     pub fn is_binary(&self) -> bool {
         self.layer == Layer::Component && matches!(self.id, 1 | 4)
