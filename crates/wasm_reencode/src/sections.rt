@@ -1,4 +1,7 @@
 //! The sections of a binary, as they stand in a file.
+ghost use Rattle.std.specs.Prelude.{◌≡◌, ◌++◌, ◌∷◌, ℕ, List, [], IfNone, IfSome};
+ghost use Rattle.wasm_reencode.specs.Sections.{IsHeadless, header};
+
 use std::alloc::{AllocError, Global};
 use wasm_leb::{front_byte, front_u32};
 use wasm_read::{front_name, front_sized};
@@ -127,7 +130,10 @@ impl<'a> Section<'a> {
 }
 
 /// What some bytes are by their header, and the bytes behind that.
-pub fn header_of(bytes: &[u8]) -> Option<(Layer, &[u8])> {
+pub fn header_of(bytes: &[u8]) -> Option<(Layer, &[u8])>
+    ensures some { IfSome result (λ r. bytes.now ≡ header r.0 ++ r.1.now) }
+    ensures none { IfNone result (IsHeadless bytes.now) }
+{
     match bytes {
         [0x00, 0x61, 0x73, 0x6d, 0x01, 0x00, 0x00, 0x00, rest @ ..] => Some((Layer::Module, rest)),
         [0x00, 0x61, 0x73, 0x6d, 0x0d, 0x00, 0x01, 0x00, rest @ ..] => {
@@ -144,7 +150,11 @@ fn front_section<'a>(
     number: usize,
     start: usize,
     bytes: &'a [u8],
-) -> Option<Section<'a>> {
+) -> Option<Section<'a>>
+    ensures given { IfSome result (λ s. (s.layer ≡ layer) × (s.depth ≡ depth) × (s.number ≡ number) × (s.start ≡ start)) }
+    ensures id { IfSome result (λ s. (behind : List ℕ) × (bytes.now ≡ s.id ∷ behind)) }
+    ensures none { IfNone result (bytes.now ≡ []) }
+{
     let (id, behind) = front_byte(bytes)?;
     Some(Section {
         layer,
