@@ -1,5 +1,5 @@
 -- What a command and its arguments ask for.
-use Rattle.std.specs.Prelude.{◌≡◌, ℕ, ◌-◌, ◌^◌, ◌<◌, ◌||◌, List, [], Option, Some, None, codes, option_map, unwrap_or, if◌then◌else◌, Bool, true, false}
+use Rattle.std.specs.Prelude.{◌≡◌, ℕ, ◌-◌, ◌^◌, ◌<◌, ◌||◌, List, [], Option, Some, None, codes, option_map, unwrap_or, map, if◌then◌else◌, Bool, true, false, IfNone, IfSome}
 use Rattle.std.specs.Str.Parse.{IsNumeral, digits_value, without_leading_plus}
 use Rattle.clap.specs.declared.parser.matches.Found.{Found}
 use Rattle.clap.specs.Matches.{first_value, matched_of, one_text, raw_values, subcommand_name_of}
@@ -8,6 +8,8 @@ use Rattle.clap.specs.Walk.{rows_of}
 use Rattle.clap.specs.declared.parser.matches.ArgMatches.{ArgMatches}
 use Rattle.clap.specs.declared.parser.matches.ArgMatches.TheViews.{out-ArgMatches}
 use Rattle.wasm_reencode.specs.declared.words.Asked.{Asked}
+use Rattle.wasm_reencode.specs.declared.words.Custom.{Custom}
+use Rattle.wasm_strip.specs.declared.choice.Choice.{Choice}
 use Rattle.reencode_run.specs.Words.{Command, command_seen, is_word, plain, rename, twice, renumber, prune, merge, keep_report}
 
 -- the text of an argument, or nothing
@@ -83,3 +85,32 @@ pub record IsAsked (m : ArgMatches) (a : Asked) : Type 0 where
 -- no command stands there
 abbrev pub NamesNone : ArgMatches → Type 0
 NamesNone m = (name : List ℕ) → subcommand_name_of m ≡ Some name → is_command name ≡ false
+
+-- the words of a command that makes a binary tell that sections are removed
+abbrev pub drops : Found → Bool
+drops found = is_word (argument found (codes "stale")) (codes "drop") || is_word (argument found (codes "names")) (codes "drop")
+
+-- which sections these words tell to remove, of which there are some
+pub record Drops (found : Found) (c : Choice) : Type 0 where
+  pub some : drops found ≡ true
+  pub stale : c.stale ≡ is_word (argument found (codes "stale")) (codes "drop")
+  pub names : c.names ≡ is_word (argument found (codes "names")) (codes "drop")
+  pub debug : c.debug ≡ false
+  pub all : c.all ≡ false
+  pub sections : c.sections.now ≡ []
+
+-- which sections the words of the command that strips tell to remove
+pub record Strips (found : Found) (c : Choice) : Type 0 where
+  pub names : IsFlag found (codes "names") c.names
+  pub debug : IsFlag found (codes "debug") c.debug
+  pub stale : IsFlag found (codes "stale") c.stale
+  pub all : IsFlag found (codes "all") c.all
+  pub sections : map (λ name. name.now) c.sections.now ≡ texts found (codes "section")
+
+-- what a command of this name does with custom sections
+pub record IsCustom (name : List ℕ) (found : Found) (c : Custom) : Type 0 where
+  pub stripped : is_word name (codes "strip") ≡ true → (choice : Choice) × (c.removed ≡ Some choice) × Strips found choice
+  pub told : is_word name (codes "strip") ≡ true → c.refuses ≡ false
+  pub removed : is_word name (codes "strip") ≡ false → IfSome c.removed (Drops found)
+  pub kept : is_word name (codes "strip") ≡ false → IfNone c.removed (drops found ≡ false)
+  pub refuses : is_word name (codes "strip") ≡ false → c.refuses ≡ is_word (argument found (codes "stale")) (codes "refuse")

@@ -9,7 +9,6 @@ use std::alloc::{AllocError, Global};
 fn kind_of(bytes: &[u8]) -> &'static str {
     match bytes {
         [] => "empty",
-        [0x00, 0x61, 0x73, 0x6d, _, _, _, _, ..] => "WebAssembly of another version",
         [0x00, 0x61, 0x73, 0x6d, ..] => "cut short in the header",
         [0x1f, 0x8b, ..] => "a gzip archive",
         [0x50, 0x4b, 0x03, 0x04, ..] => "a zip archive",
@@ -38,6 +37,26 @@ fn add_section(text: &mut Vec<u8>, section: &Section<'_>) -> Result<(), AllocErr
     add_number(text, section.start as u64)
 }
 
+/// The version that a header of a binary names.
+fn version_of(bytes: &[u8]) -> Option<u32> {
+    match bytes {
+        [0x00, 0x61, 0x73, 0x6d, a, b, c, d, ..] => Some(u32::from_le_bytes([*a, *b, *c, *d])),
+        _ => None,
+    }
+}
+
+/// Adds what a file is that has no header of a WebAssembly binary of a version that is read.
+fn add_kind(text: &mut Vec<u8>, bytes: &[u8]) -> Result<(), AllocError> {
+    text.extend_from_slice(b": ")?;
+    match version_of(bytes) {
+        Some(version) => {
+            text.extend_from_slice(b"WebAssembly of version ")?;
+            add_number(text, version as u64)
+        }
+        None => text.extend_from_slice(kind_of(bytes).as_bytes()),
+    }
+}
+
 /// The number that digits say.
 fn number_of(digits: &[u8]) -> Option<usize> {
     match str::from_utf8(digits) {
@@ -62,8 +81,7 @@ pub fn add_place(line: &mut Vec<u8>, name: &str, bytes: &[u8]) -> Result<(), All
     let place = place_in(line.as_slice(), name).unwrap_or(usize::MAX);
     let _ = line.pop();
     if header_of(bytes).is_none() {
-        line.extend_from_slice(b": ")?;
-        line.extend_from_slice(kind_of(bytes).as_bytes())?;
+        add_kind(line, bytes)?;
     } else if let Some(section) = section_at(bytes, place) {
         add_section(line, &section)?;
     }

@@ -54,20 +54,22 @@ pub enum Target<'a> {
     Standard(Stdout),
     /// A file.
     File(&'a File),
+    /// A text in memory.
+    Memory(Held<'a>),
 }
 
 /// Where bytes are written to.
 #[derive(Drop)]
 pub struct Output<'a> {
     target: Target<'a>,
-    /// Whether the reader of a pipe was gone.
-    closed: &'a mut bool,
+    /// Why the last write failed.
+    why: &'a mut Option<ErrorKind>,
 }
 
 impl<'a> Output<'a> {
-    /// An output into a target, which notes where the reader of a pipe is gone.
-    pub fn new(target: Target<'a>, closed: &'a mut bool) -> Output<'a> {
-        Output { target, closed }
+    /// An output into a target, which notes why a write failed.
+    pub fn new(target: Target<'a>, why: &'a mut Option<ErrorKind>) -> Output<'a> {
+        Output { target, why }
     }
 }
 
@@ -76,13 +78,12 @@ impl<'a> Write for Output<'a> {
         let taken = match &mut self.target {
             Target::Standard(stdout) => stdout.write(buf),
             Target::File(file) => file.write(buf),
+            Target::Memory(held) => held.write(buf),
         };
         match taken {
             Ok(n) => Ok(n),
             Err(e) => {
-                if e.kind() == ErrorKind::BrokenPipe {
-                    *self.closed = true;
-                }
+                *self.why = Some(e.kind());
                 Err(e)
             }
         }
@@ -135,6 +136,11 @@ impl Staged {
     /// The file.
     pub fn file(&self) -> &File {
         &self.file
+    }
+
+    /// All that was written.
+    pub fn written(&self, rt: &HostRuntime) -> io::Result<Vec<u8>> {
+        fs::read(rt, self.beside.as_str())
     }
 
     /// Gives the file its name, with all that was written.
@@ -259,14 +265,6 @@ pub fn place_of(rt: &HostRuntime, name: &str) -> io::Result<Place> {
 }
 
 impl Place {
-    /// Takes away what was made there.
-    pub fn give_up(self, rt: &HostRuntime) {
-        match self {
-            Place::Staged(staged) => staged.give_up(rt),
-            _ => {}
-        }
-    }
-
     /// Whether a terminal shows what is written there.
     pub fn is_terminal(&self, rt: &HostRuntime) -> bool {
         match self {

@@ -1,20 +1,11 @@
-//! The sections of a binary, as lines of text.
-use crate::sections::{Layer, Section, front_section, header_of};
+//! The sections of a binary, as lines of text, or as JSON.
+use crate::sections::Section;
+use serde_json::{Map, Value, json, put};
 use std::alloc::{AllocError, Global};
-use wasm_leb::front_u32;
-use wasm_read::front_name;
 
-/// How deep binaries may stand within each other, below the outermost.
-const DEEPEST: usize = 200;
-
-/// Adds the line of a section, so many steps behind the margin.
-fn add_line(
-    alloc: Global,
-    text: &mut Vec<u8>,
-    section: &Section<'_>,
-    steps: usize,
-) -> Result<(), AllocError> {
-    'steps: for _ in 0..steps {
+/// Adds the line of a section.
+fn add_line(alloc: Global, text: &mut Vec<u8>, section: &Section<'_>) -> Result<(), AllocError> {
+    'steps: for _ in 0..section.depth {
         text.extend_from_slice(b"  ")?;
     }
     let number = section.number;
@@ -27,7 +18,7 @@ fn add_line(
         let size = body.len();
         let line = format!(in alloc; " {size:>10}")?;
         text.extend_from_slice(line.as_bytes())?;
-        add_rows(alloc, text, section, body)?;
+        add_rows(alloc, text, section)?;
     } else {
         text.extend_from_slice(b"  cut short")?;
     }
@@ -35,67 +26,89 @@ fn add_line(
 }
 
 /// Adds how many rows a section has, or its name.
-fn add_rows(
-    alloc: Global,
-    text: &mut Vec<u8>,
-    section: &Section<'_>,
-    body: &[u8],
-) -> Result<(), AllocError> {
-    if section.is_vector() {
-        if let Some((rows, _)) = front_u32(body) {
-            let line = format!(in alloc; " {rows:>8}")?;
-            text.extend_from_slice(line.as_bytes())?;
-        }
+fn add_rows(alloc: Global, text: &mut Vec<u8>, section: &Section<'_>) -> Result<(), AllocError> {
+    if let Some(rows) = section.rows() {
+        let line = format!(in alloc; " {rows:>8}")?;
+        text.extend_from_slice(line.as_bytes())?;
     }
-    if section.id == 0 {
-        if let Some((name, _)) = front_name(body) {
-            let line = format!(in alloc; "          {name:?}")?;
-            text.extend_from_slice(line.as_bytes())?;
-        }
+    if let Some(name) = section.custom_name() {
+        let line = format!(in alloc; "          {name:?}")?;
+        text.extend_from_slice(line.as_bytes())?;
     }
     Ok(())
 }
 
-/// Adds the lines of the sections of a binary that begins at a place, and of those in it.
-fn add_sections(
-    alloc: Global,
-    text: &mut Vec<u8>,
-    layer: Layer,
-    bytes: &[u8],
-    place: usize,
-    deeper: usize,
-) -> Result<(), AllocError> {
-    let mut rest = bytes;
-    'sections: for number in 0..bytes.len() {
-        let start = place.saturating_add(bytes.len().saturating_sub(rest.len()));
-        let Some(section) = front_section(layer, number, start, rest) else {
-            return Ok(());
-        };
-        add_line(alloc, text, &section, DEEPEST.saturating_sub(deeper))?;
-        let Some((body, behind)) = section.frame else {
-            return Ok(());
-        };
-        if section.is_binary() && deeper > 0 {
-            if let Some((inner, sections)) = header_of(body) {
-                let before = rest
-                    .len()
-                    .saturating_sub(behind.len())
-                    .saturating_sub(sections.len());
-                let begin = start.saturating_add(before);
-                add_sections(alloc, text, inner, sections, begin, deeper - 1)?;
-            }
-        }
-        rest = behind;
-    }
-    Ok(())
-}
-
-/// The lines of the sections of a binary, or none where no header of one stands there.
-pub fn list_of(alloc: Global, bytes: &[u8]) -> Result<Option<Vec<u8>>, AllocError> {
-    let Some((layer, sections)) = header_of(bytes) else {
-        return Ok(None);
-    };
+/// The lines of some sections.
+pub fn lines_of(alloc: Global, sections: &[Section<'_>]) -> Result<Vec<u8>, AllocError> {
     let mut text = Vec::new(alloc);
-    add_sections(alloc, &mut text, layer, sections, 8, DEEPEST)?;
-    Ok(Some(text))
+    'sections: for section in sections {
+        add_line(alloc, &mut text, section)?;
+    }
+    Ok(text)
+}
+
+/// The JSON object of a section, with those of the sections in it.
+fn object_of(alloc: Global, section: &Section<'_>, inner: Vec<Value>) -> Result<Value, AllocError> {
+    let mut object = Map::new(alloc);
+    put(&mut object, alloc, "number", Value::from(section.number))?;
+    put(&mut object, alloc, "id", Value::from(section.id))?;
+    let name = Value::try_from_str(alloc, section.kind_name())?;
+    put(&mut object, alloc, "name", name)?;
+    put(&mut object, alloc, "place", Value::from(section.start))?;
+    let size = section.frame.map(|(body, _)| body.len());
+    put(&mut object, alloc, "size", Value::from(size))?;
+    if let Some(rows) = section.rows() {
+        put(&mut object, alloc, "rows", Value::from(rows))?;
+    }
+    if let Some(name) = section.custom_name() {
+        let name = Value::try_from_str(alloc, name)?;
+        put(&mut object, alloc, "custom_name", name)?;
+    }
+    if section.is_binary() {
+        put(&mut object, alloc, "sections", Value::from(inner))?;
+    }
+    Ok(Value::Object(object))
+}
+
+/// Takes the objects that stand in a section, of those that no section holds yet: a list for each binary that is open, the outermost
+/// first.
+fn taken(alloc: Global, open: &mut Vec<Vec<Value>>, depth: usize) -> Vec<Value> {
+    let mut inner = Vec::new(alloc);
+    if open.len().saturating_sub(1) > depth {
+        if let Some(last) = open.pop() {
+            inner = last;
+        }
+    }
+    inner.reverse();
+    inner
+}
+
+/// Adds lists up to that of a binary.
+fn open_to(alloc: Global, open: &mut Vec<Vec<Value>>, depth: usize) -> Result<(), AllocError> {
+    'deeper: for _ in open.len()..depth.saturating_add(1) {
+        open.push(Vec::new(alloc))?;
+    }
+    Ok(())
+}
+
+/// The JSON text of some sections, each with those in it behind it.
+pub fn tree_of(alloc: Global, sections: &[Section<'_>]) -> Result<Vec<u8>, AllocError> {
+    let mut open = Vec::new(alloc);
+    // From the last to the first, so that what stands in a section is there before it.
+    'sections: for section in sections.iter().rev() {
+        let inner = taken(alloc, &mut open, section.depth);
+        open_to(alloc, &mut open, section.depth)?;
+        let object = object_of(alloc, section, inner)?;
+        if let Some(last) = open.last_mut() {
+            last.push(object)?;
+        }
+    }
+    let mut all = Vec::new(alloc);
+    if let Some(last) = open.pop() {
+        all = last;
+    }
+    all.reverse();
+    let mut text = json!(in alloc; {"sections": all})?.to_vec(alloc)?;
+    text.push(b'\n')?;
+    Ok(text)
 }

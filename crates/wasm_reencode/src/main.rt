@@ -6,14 +6,19 @@ mod files;
 mod json;
 mod listing;
 mod sections;
+mod stale;
+mod stripped;
 mod words;
 
 use crate::explain::{add_json_place, add_place};
 use crate::files::{
     Held, Input, Output, Place, Staged, Target, fill, looked_at, place_of, write_whole,
 };
-use crate::listing::list_of;
-use crate::words::{Asked, asked_of, choice_of, most_of, program};
+use crate::listing::{lines_of, tree_of};
+use crate::sections::{Section, sections_of};
+use crate::stale::{has_code_of, stale_of};
+use crate::stripped::{Ended, transform_stripped};
+use crate::words::{Asked, Custom, asked_of, custom_of, most_of, program};
 use clap::ArgMatches;
 use clap::error::ErrorKind;
 use reencode_run::answer::{Answer, ReencodingFault, TaskFault, WordsFault, WritingFault};
@@ -21,11 +26,14 @@ use reencode_run::input::read_all;
 use reencode_run::standard::{FileShelf, StdSink, StdSource};
 use reencode_run::transform::{say_of, transform};
 use reencode_run::words::Command;
-use std::alloc::AllocError;
-use std::io::Write;
+use std::alloc::{AllocError, Global};
+use std::io::{ErrorKind as IoKind, Write};
 use std::process::ExitCode;
 use std::{env, io};
-use wasm_strip::{Choice, StripFault, strip};
+use wasm_strip::{Choice, StripFault};
+
+/// The status where a section would go stale.
+const REFUSED: u8 = 6;
 
 /// The words of the command line, the program's name first.
 fn given_words(rt: &HostRuntime) -> io::Result<Vec<String>> {
@@ -110,51 +118,73 @@ fn say_why(rt: &HostRuntime, asked: &Asked<'_>, status: u8, mut line: Vec<u8>) {
     let _ = rt.stderr().write_all(line.as_slice());
 }
 
-/// Does what is asked for between a source and a target. The lines about the output come back, or the status.
-fn transformed(rt: &HostRuntime, asked: &Asked<'_>, target: Target<'_>) -> Result<Vec<u8>, u8> {
-    let mut closed = false;
-    let mut line = Vec::new(rt.alloc());
-    let made = transform(
-        rt.alloc(),
-        asked.request,
-        &mut FileShelf::new(rt),
-        &mut StdSource::new(Input::of(rt, asked.request.input)),
-        &mut StdSink::new(Output::new(target, &mut closed)),
-        &mut StdSink::new(Held::new(&mut line)),
-    );
-    match made {
-        Ok(lines) => Ok(lines),
-        Err(status) => {
-            if !asked.quiet && !closed {
-                say_why(rt, asked, status, line);
-            }
-            Err(status)
-        }
+/// Says why nothing was made, or not all of it written, and answers the status.
+fn ended(
+    rt: &HostRuntime,
+    asked: &Asked<'_>,
+    ended: Ended,
+    why: Option<IoKind>,
+    line: Vec<u8>,
+) -> u8 {
+    match why {
+        Some(IoKind::BrokenPipe) => return Answer::Writing(WritingFault::Failed).status(),
+        Some(IoKind::OutOfMemory) => return no_memory(rt),
+        _ => {}
     }
-}
-
-/// The bytes of the output of what is asked for, or the status.
-fn gathered(rt: &HostRuntime, asked: &Asked<'_>) -> Result<Vec<u8>, u8> {
-    let mut bytes = Vec::new(rt.alloc());
-    let mut line = Vec::new(rt.alloc());
-    let made = transform(
-        rt.alloc(),
-        asked.request,
-        &mut FileShelf::new(rt),
-        &mut StdSource::new(Input::of(rt, asked.request.input)),
-        &mut StdSink::new(Held::new(&mut bytes)),
-        &mut StdSink::new(Held::new(&mut line)),
-    );
-    match made {
-        Ok(_) => Ok(bytes),
-        // Memory alone is wanting where a text in memory takes no more.
-        Err(4) => Err(no_memory(rt)),
-        Err(status) => {
+    match ended {
+        Ended::Command(status) => {
             if !asked.quiet {
                 say_why(rt, asked, status, line);
             }
-            Err(status)
+            status
         }
+        Ended::Strip(fault) => unstripped(rt, asked, fault),
+        Ended::Sink => unwritten(rt, asked.quiet, asked.request.output),
+    }
+}
+
+/// Does what is asked for between a source and a target. The lines about the output come back, or the status.
+fn transformed(
+    rt: &HostRuntime,
+    asked: &Asked<'_>,
+    removed: Option<Choice<'_>>,
+    target: Target<'_>,
+) -> Result<Vec<u8>, u8> {
+    let mut why = None;
+    let mut line = Vec::new(rt.alloc());
+    let mut shelf = FileShelf::new(rt);
+    let mut input = StdSource::new(Input::of(rt, asked.request.input));
+    let mut out = StdSink::new(Output::new(target, &mut why));
+    let mut err = StdSink::new(Held::new(&mut line));
+    let made = match removed {
+        Some(choice) => transform_stripped(
+            rt.alloc(),
+            asked.request,
+            &choice,
+            &mut shelf,
+            &mut input,
+            &mut out,
+            &mut err,
+        ),
+        None => match transform(
+            rt.alloc(),
+            asked.request,
+            &mut shelf,
+            &mut input,
+            &mut out,
+            &mut err,
+        ) {
+            Ok(lines) => Ok(lines),
+            Err(status) => Err(Ended::Command(status)),
+        },
+    };
+    drop(out);
+    drop(err);
+    match made {
+        Ok(lines) => Ok(lines),
+        // What is stripped is gathered in memory first, and nothing else fails there.
+        Err(Ended::Command(4)) if removed.is_some() => Err(no_memory(rt)),
+        Err(e) => Err(ended(rt, asked, e, why, line)),
     }
 }
 
@@ -172,17 +202,121 @@ fn write_lines(rt: &HostRuntime, asked: &Asked<'_>, lines: &[u8]) -> u8 {
     }
 }
 
+/// Whether the code of an output is not that of the input. Of one that cannot be looked at, and of two modules, it counts as moved.
+fn is_moved(
+    rt: &HostRuntime,
+    asked: &Asked<'_>,
+    sections: &[Section<'_>],
+) -> Result<bool, AllocError> {
+    if matches!(asked.request.command, Command::Merge(_)) {
+        return Ok(true);
+    }
+    match looked_at(rt, asked.request.input) {
+        Some(input) => Ok(!has_code_of(rt.alloc(), sections, input.as_slice())?),
+        None => Ok(true),
+    }
+}
+
+/// The names of the sections of an output that went stale, if some did.
+fn gone_stale(
+    rt: &HostRuntime,
+    asked: &Asked<'_>,
+    output: &[u8],
+) -> Result<Option<String>, AllocError> {
+    let Some(sections) = sections_of(rt.alloc(), output)? else {
+        return Ok(None);
+    };
+    let Some(names) = stale_of(rt.alloc(), sections.as_slice())? else {
+        return Ok(None);
+    };
+    if is_moved(rt, asked, sections.as_slice())? {
+        Ok(Some(names))
+    } else {
+        Ok(None)
+    }
+}
+
+/// Says which sections of an output went stale, if some did, and answers the status.
+fn tell_stale(rt: &HostRuntime, asked: &Asked<'_>, refuses: bool, output: &[u8]) -> u8 {
+    let name = asked.request.output;
+    match gone_stale(rt, asked, output) {
+        Ok(None) => 0,
+        Ok(Some(names)) => {
+            let names = names.as_str();
+            if refuses {
+                if !asked.quiet {
+                    let _ = eprintln!(rt;
+                        "{name}: refused: {names} would be copied, and code moved"
+                    );
+                }
+                REFUSED
+            } else {
+                let _ = eprintln!(rt; "{name}: warning: {names} were copied, and code moved");
+                0
+            }
+        }
+        Err(_) if refuses => no_memory(rt),
+        Err(_) => 0,
+    }
+}
+
 /// Does what is asked for with an output that is written into, and answers the status.
-fn run_into(rt: &HostRuntime, asked: &Asked<'_>, target: Target<'_>) -> u8 {
-    match transformed(rt, asked, target) {
+fn run_into(rt: &HostRuntime, asked: &Asked<'_>, custom: &Custom<'_>, target: Target<'_>) -> u8 {
+    match transformed(rt, asked, custom.removed, target) {
         Ok(lines) => write_lines(rt, asked, lines.as_slice()),
         Err(status) => status,
     }
 }
 
+/// Does what is asked for with an output that is written once it is known that no section went stale, and answers the status.
+fn run_held(rt: &HostRuntime, asked: &Asked<'_>, custom: &Custom<'_>, place: Place) -> u8 {
+    let mut bytes = Vec::new(rt.alloc());
+    let made = transformed(
+        rt,
+        asked,
+        custom.removed,
+        Target::Memory(Held::new(&mut bytes)),
+    );
+    let lines = match made {
+        Ok(lines) => lines,
+        Err(status) => return status,
+    };
+    let status = tell_stale(rt, asked, true, bytes.as_slice());
+    if status != 0 {
+        return status;
+    }
+    match fill(rt, place, bytes.as_slice()) {
+        Ok(()) => write_lines(rt, asked, lines.as_slice()),
+        Err(e) => failed(rt, asked.quiet, asked.request.output, &e),
+    }
+}
+
+/// Looks at what was written to a file that has not its name yet, and answers the status.
+fn looked_over(rt: &HostRuntime, asked: &Asked<'_>, refuses: bool, staged: &Staged) -> u8 {
+    if asked.quiet && !refuses {
+        return 0;
+    }
+    match staged.written(rt) {
+        Ok(bytes) => tell_stale(rt, asked, refuses, bytes.as_slice()),
+        Err(_) if refuses => unwritten(rt, asked.quiet, asked.request.output),
+        Err(_) => 0,
+    }
+}
+
+/// Writes what is asked for to a file that has not its name yet, and answers the status.
+fn stage(rt: &HostRuntime, asked: &Asked<'_>, custom: &Custom<'_>, staged: &Staged) -> u8 {
+    match transformed(rt, asked, custom.removed, Target::File(staged.file())) {
+        Ok(lines) => match looked_over(rt, asked, custom.refuses, staged) {
+            0 => write_lines(rt, asked, lines.as_slice()),
+            status => status,
+        },
+        Err(status) => status,
+    }
+}
+
 /// Does what is asked for with a file that gets its name once all is written, and answers the status.
-fn run_staged(rt: &HostRuntime, asked: &Asked<'_>, staged: Staged) -> u8 {
-    let status = run_into(rt, asked, Target::File(staged.file()));
+fn run_staged(rt: &HostRuntime, asked: &Asked<'_>, custom: &Custom<'_>, staged: Staged) -> u8 {
+    let status = stage(rt, asked, custom, &staged);
     if status != 0 {
         staged.give_up(rt);
         return status;
@@ -203,14 +337,15 @@ fn refused_terminal(rt: &HostRuntime, asked: &Asked<'_>) -> u8 {
 }
 
 /// Does what is asked for with an output in its place, and answers the status.
-fn run_at(rt: &HostRuntime, asked: &Asked<'_>, place: Place) -> u8 {
+fn run_at(rt: &HostRuntime, asked: &Asked<'_>, custom: &Custom<'_>, place: Place) -> u8 {
     if !asked.force && place.is_terminal(rt) {
         return refused_terminal(rt, asked);
     }
     match place {
-        Place::Standard => run_into(rt, asked, Target::Standard(rt.stdout())),
-        Place::Direct(file) => run_into(rt, asked, Target::File(&file)),
-        Place::Staged(staged) => run_staged(rt, asked, staged),
+        Place::Staged(staged) => run_staged(rt, asked, custom, staged),
+        place if custom.refuses => run_held(rt, asked, custom, place),
+        Place::Standard => run_into(rt, asked, custom, Target::Standard(rt.stdout())),
+        Place::Direct(file) => run_into(rt, asked, custom, Target::File(&file)),
     }
 }
 
@@ -238,7 +373,7 @@ fn print_lines(rt: &HostRuntime, quiet: bool, lines: &[u8]) -> u8 {
 
 /// Tells what stays as it is, and answers the status.
 fn run_kept(rt: &HostRuntime, asked: &Asked<'_>) -> u8 {
-    match transformed(rt, asked, Target::Standard(rt.stdout())) {
+    match transformed(rt, asked, None, Target::Standard(rt.stdout())) {
         Ok(lines) => print_lines(rt, asked.quiet, without_last(lines.as_slice())),
         Err(status) => status,
     }
@@ -258,44 +393,12 @@ fn unstripped(rt: &HostRuntime, asked: &Asked<'_>, fault: StripFault) -> u8 {
     }
 }
 
-/// Writes the output of what is asked for without some custom sections to its place, and answers the status.
-fn run_strip_at(rt: &HostRuntime, asked: &Asked<'_>, choice: &Choice<'_>, place: Place) -> u8 {
-    if !asked.force && place.is_terminal(rt) {
-        return refused_terminal(rt, asked);
-    }
-    let made = match gathered(rt, asked) {
-        Ok(bytes) => strip(rt.alloc(), choice, bytes.as_slice()),
-        Err(status) => {
-            place.give_up(rt);
-            return status;
-        }
-    };
-    match made {
-        Ok(text) => match fill(rt, place, text.as_slice()) {
-            Ok(()) => 0,
-            Err(e) => failed(rt, asked.quiet, asked.request.output, &e),
-        },
-        Err(fault) => {
-            place.give_up(rt);
-            unstripped(rt, asked, fault)
-        }
-    }
-}
-
-/// Removes custom sections, and answers the status.
-fn run_strip(rt: &HostRuntime, asked: &Asked<'_>, choice: &Choice<'_>) -> u8 {
-    match place_of(rt, asked.request.output) {
-        Ok(place) => run_strip_at(rt, asked, choice, place),
-        Err(_) => unwritten(rt, asked.quiet, asked.request.output),
-    }
-}
-
 /// Does what is asked for, and answers the status.
-fn run_asked(rt: &HostRuntime, asked: &Asked<'_>) -> u8 {
+fn run_asked(rt: &HostRuntime, asked: &Asked<'_>, custom: &Custom<'_>) -> u8 {
     match asked.request.command {
         Command::KeepReport => run_kept(rt, asked),
         _ => match place_of(rt, asked.request.output) {
-            Ok(place) => run_at(rt, asked, place),
+            Ok(place) => run_at(rt, asked, custom, place),
             Err(_) => unwritten(rt, asked.quiet, asked.request.output),
         },
     }
@@ -320,10 +423,23 @@ fn headless(rt: &HostRuntime, quiet: bool, name: &str, bytes: &[u8]) -> u8 {
     answer.status()
 }
 
+/// What is told of some sections.
+fn list_of(alloc: Global, json: bool, sections: &[Section<'_>]) -> Result<Vec<u8>, AllocError> {
+    if json {
+        tree_of(alloc, sections)
+    } else {
+        lines_of(alloc, sections)
+    }
+}
+
 /// Tells the sections of some bytes, and answers the status.
-fn list_bytes(rt: &HostRuntime, quiet: bool, name: &str, bytes: &[u8]) -> u8 {
-    match list_of(rt.alloc(), bytes) {
-        Ok(Some(lines)) => print_lines(rt, quiet, lines.as_slice()),
+fn list_bytes(rt: &HostRuntime, matches: &ArgMatches<'_>, name: &str, bytes: &[u8]) -> u8 {
+    let quiet = matches.get_flag("quiet");
+    match sections_of(rt.alloc(), bytes) {
+        Ok(Some(all)) => match list_of(rt.alloc(), matches.get_flag("json"), all.as_slice()) {
+            Ok(text) => print_lines(rt, quiet, text.as_slice()),
+            Err(_) => no_memory(rt),
+        },
         Ok(None) => headless(rt, quiet, name, bytes),
         Err(_) => no_memory(rt),
     }
@@ -336,7 +452,7 @@ fn run_list(rt: &HostRuntime, matches: &ArgMatches<'_>) -> u8 {
     let most = most_of(matches, "max-input");
     let mut source = StdSource::new(Input::of(rt, name));
     match read_all(rt.alloc(), &mut source, most) {
-        Ok(bytes) => list_bytes(rt, quiet, name, bytes.as_slice()),
+        Ok(bytes) => list_bytes(rt, matches, name, bytes.as_slice()),
         Err(fault) => end_of(rt, quiet, name, &Answer::Input(fault)),
     }
 }
@@ -359,12 +475,9 @@ fn run_matches(rt: &HostRuntime, matches: &ArgMatches<'_>) -> u8 {
     if let Some(list) = matches.subcommand_matches("list") {
         return run_list(rt, list);
     }
-    match asked_of(matches) {
-        Some(asked) => match matches.subcommand_matches("strip") {
-            Some(strip) => run_strip(rt, &asked, &choice_of(strip)),
-            None => run_asked(rt, &asked),
-        },
-        None => not_taken(rt),
+    match (asked_of(matches), matches.subcommand()) {
+        (Some(asked), Some((name, matches))) => run_asked(rt, &asked, &custom_of(name, matches)),
+        _ => not_taken(rt),
     }
 }
 

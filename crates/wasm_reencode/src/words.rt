@@ -1,8 +1,8 @@
 //! The words of the command line.
 ghost use Rattle.std.specs.Prelude.{ℕ, ◌≡◌, IfNone, IfSome, codes, false, map, option_map};
 ghost use Rattle.clap.specs.Matches.{first_value, found_of};
-ghost use Rattle.reencode_run.specs.Words.{command_seen};
-ghost use Rattle.wasm_reencode.specs.Arguments.{AsksBy, IsAsked, IsFlag, IsMost, NamesNone, argument, is_command, named, renaming, texts};
+ghost use Rattle.reencode_run.specs.Words.{command_seen, is_word};
+ghost use Rattle.wasm_reencode.specs.Arguments.{AsksBy, Drops, IsAsked, IsCustom, IsFlag, IsMost, NamesNone, argument, drops, is_command, named, renaming, texts};
 
 use clap::{Arg, ArgAction, ArgMatches, Command, value_parser};
 use reencode_run::transform::Request;
@@ -24,6 +24,21 @@ pub struct Asked<'a> {
     /// The name of the file that gets the line of the functions that are kept.
     pub kept: Option<&'a str>,
 }
+
+/// What is done with custom sections.
+#[derive(Clone, Copy, Debug)]
+pub struct Custom<'a> {
+    /// Those that are removed, where some are.
+    pub removed: Option<Choice<'a>>,
+    /// Whether nothing is made where one would be stale.
+    pub refuses: bool,
+}
+
+/// What is done with custom sections that go stale.
+const STALE: &[&str] = &["keep", "drop", "refuse"];
+
+/// What is done with names.
+const NAMES: &[&str] = &["keep", "drop"];
 
 /// A file that has to be named.
 fn needed<'a>(alloc: Global, id: &'a str, name: &'a str, help: &'a str) -> Arg<'a> {
@@ -70,6 +85,21 @@ fn with_output<'a>(alloc: Global, command: Command<'a>) -> Result<Command<'a>, A
     with_quiet(alloc, command.arg(output)?.arg(frame)?.arg(force)?)
 }
 
+/// What is done with the custom sections of what a command makes.
+fn with_custom<'a>(alloc: Global, command: Command<'a>) -> Result<Command<'a>, AllocError> {
+    let stale = Arg::new(alloc, "stale")
+        .long("stale")
+        .value_name("WHAT")
+        .value_parser(STALE)
+        .help("What is done with sections that tell places in code");
+    let names = Arg::new(alloc, "names")
+        .long("names")
+        .value_name("WHAT")
+        .value_parser(NAMES)
+        .help("What is done with names");
+    command.arg(stale)?.arg(names)
+}
+
 /// A command that tells of a binary.
 fn telling<'a>(alloc: Global, name: &'a str, about: &'a str) -> Result<Command<'a>, AllocError> {
     let input = needed(alloc, "input", "IN", "The binary, or - for standard input");
@@ -82,6 +112,15 @@ fn over_one<'a>(alloc: Global, name: &'a str, about: &'a str) -> Result<Command<
     with_output(alloc, Command::new(alloc, name).about(about).arg(input)?)
 }
 
+/// A command over one binary whose custom sections stay, but where that is said.
+fn made_of_one<'a>(
+    alloc: Global,
+    name: &'a str,
+    about: &'a str,
+) -> Result<Command<'a>, AllocError> {
+    with_custom(alloc, over_one(alloc, name, about)?)
+}
+
 /// Whether the counts are told.
 fn counts<'a>(alloc: Global) -> Arg<'a> {
     Arg::new(alloc, "counts")
@@ -92,7 +131,7 @@ fn counts<'a>(alloc: Global) -> Arg<'a> {
 
 /// The command without a renaming.
 fn plain<'a>(alloc: Global) -> Result<Command<'a>, AllocError> {
-    over_one(
+    made_of_one(
         alloc,
         "plain",
         "Writes a core module or a component in its normal spelling",
@@ -107,7 +146,7 @@ fn rename<'a>(alloc: Global) -> Result<Command<'a>, AllocError> {
         .long("then")
         .value_name("FILE")
         .help("A second renaming, of what comes of the first");
-    over_one(alloc, "rename", "Renames the indices as a file says")?
+    made_of_one(alloc, "rename", "Renames the indices as a file says")?
         .arg(map)?
         .arg(then)?
         .arg(counts(alloc))
@@ -122,7 +161,7 @@ fn renumber<'a>(alloc: Global) -> Result<Command<'a>, AllocError> {
         "The new place of each function that the module defines, a JSON array",
     )
     .long("order");
-    over_one(
+    made_of_one(
         alloc,
         "renumber",
         "Moves the functions of a core module, and renames their uses",
@@ -135,7 +174,7 @@ fn prune<'a>(alloc: Global) -> Result<Command<'a>, AllocError> {
     let kept = Arg::new(alloc, "kept").long("kept").value_name("FILE").help(
         "Gets a line of the functions that are kept, by their old indices",
     );
-    over_one(
+    made_of_one(
         alloc,
         "prune",
         "Removes the functions of a core module that nothing reaches",
@@ -156,10 +195,10 @@ fn merge<'a>(alloc: Global) -> Result<Command<'a>, AllocError> {
         .about("Makes one core module of two")
         .arg(first)?
         .arg(second)?;
-    with_output(alloc, merge)
+    with_custom(alloc, with_output(alloc, merge)?)
 }
 
-/// A flag of the command that removes custom sections.
+/// A flag of a command.
 fn flag<'a>(alloc: Global, id: &'a str, help: &'a str) -> Arg<'a> {
     Arg::new(alloc, id)
         .long(id)
@@ -201,7 +240,8 @@ fn list<'a>(alloc: Global) -> Result<Command<'a>, AllocError> {
         alloc,
         "list",
         "Tells the sections: number, id, kind, place, size, rows or name",
-    )
+    )?
+    .arg(flag(alloc, "json", "Tell them as a JSON object"))
 }
 
 /// The program.
@@ -310,8 +350,8 @@ fn sections_of<'b>(matches: &'b ArgMatches<'_>) -> &'b [&'b str]
     matches.get_strs("section").unwrap_or(none)
 }
 
-/// Which custom sections are to be removed.
-pub fn choice_of<'b>(matches: &'b ArgMatches<'_>) -> Choice<'b>
+/// Which custom sections are to be removed of what is stripped.
+fn choice_of<'b>(matches: &'b ArgMatches<'_>) -> Choice<'b>
     ensures names { IsFlag (found_of matches.now) (codes "names") result.names }
     ensures debug { IsFlag (found_of matches.now) (codes "debug") result.debug }
     ensures stale { IsFlag (found_of matches.now) (codes "stale") result.stale }
@@ -326,6 +366,45 @@ pub fn choice_of<'b>(matches: &'b ArgMatches<'_>) -> Choice<'b>
         all: matches.get_flag("all"),
         sections: sections_of(matches),
     }
+}
+
+/// What is done with the custom sections of what a command makes.
+fn custom_by<'b>(matches: &'b ArgMatches<'_>) -> Custom<'b>
+    ensures removed { IfSome result.removed (Drops (found_of matches.now)) }
+    ensures kept { IfNone result.removed (drops (found_of matches.now) ≡ false) }
+    ensures refuses { result.refuses ≡ is_word (argument (found_of matches.now) (codes "stale")) (codes "refuse") }
+{
+    let stale = text(matches, "stale");
+    let drops_stale = stale == "drop";
+    let drops_names = text(matches, "names") == "drop";
+    let removed = if drops_stale || drops_names {
+        Some(Choice {
+            names: drops_names,
+            debug: false,
+            stale: drops_stale,
+            all: false,
+            sections: &[],
+        })
+    } else {
+        None
+    };
+    Custom {
+        removed,
+        refuses: stale == "refuse",
+    }
+}
+
+/// What is done with the custom sections of what a command of this name makes.
+pub fn custom_of<'b>(name: &str, matches: &'b ArgMatches<'_>) -> Custom<'b>
+    ensures { IsCustom name.now (found_of matches.now) result }
+{
+    if name == "strip" {
+        return Custom {
+            removed: Some(choice_of(matches)),
+            refuses: false,
+        };
+    }
+    custom_by(matches)
 }
 
 /// What the words ask for of a command of this name.
