@@ -30,9 +30,9 @@ use Rattle.reencode_items.specs.Maps.{MovesOn, ParsesOperator}
 use Rattle.reencode_core.specs.Clauses.{LocalsClauses, RowsClauses}
 use Rattle.reencode_core.specs.Direct.{MapsFront}
 use Rattle.reencode_core.specs.Rows.{GivesRows, KeepsFront, locals}
-use Rattle.reencode_core.proofs.EachBody.{body_added}
-use Rattle.reencode_core.proofs.RowLoop.{kept_on}
-use Rattle.reencode_core.proofs.MapsOn.{begins_of, front_begun, front_other, here_of, made_of}
+use Rattle.reencode_core.proofs.bodies.EachBody.{body_added}
+use Rattle.reencode_core.proofs.rows.RowLoop.{kept_on}
+use Rattle.reencode_core.proofs.bodies.BodyFromPlace.{begins_of, front_begun, front_other, here_of, made_of}
 use Rattle.examples.specs.Counter.{AddsBehind, AddsEntered, asks_mover, entered, entry_call, entry_due, entry_section, moved, mover}
 
 module _ {S : Type 0} (imports : S → List Tree) (s : S) (old : Sections) (after before : Option SectionId) (due : entry_due after before ≡ true) where

@@ -17,16 +17,16 @@ use Rattle.reencode_core.specs.Clauses.{asks}
 use Rattle.reencode_core.specs.Core as core
 use Rattle.reencode_core.specs.Weave.{added}
 use Rattle.reencode_core.specs.Woven.{IsWovenCause}
-use Rattle.reencode_core.proofs.AddsNothing.{no_own}
+use Rattle.reencode_core.proofs.weave.AddsNothing.{no_own}
 use Rattle.reencode_component.specs.Causes.{BeforeFault, BehindFront, CauseBy, OwnInside, StopsBy, StopsInRows, StopsNested}
 use Rattle.reencode_component.specs.ComponentNames.{component_names}
 use Rattle.reencode_component.specs.Components.{FaultAt, Framed, ComponentReading, ReadsSection}
 use Rattle.reencode_component.specs.WeaveIn.{AcceptsAll, RefusesAmong}
-use Rattle.reencode_component.proofs.ComponentFronts.{reads_or_fails}
-use Rattle.reencode_component.proofs.ComponentLaws.{is_walk, own_never}
-use Rattle.reencode_component.proofs.NestedReadings.{component_back, module_back}
-use Rattle.reencode_component.proofs.NestedSteps.{nested_tree}
-use Rattle.reencode_component.proofs.SectionsAhead.{section_there}
+use Rattle.reencode_component.proofs.sections.FrontLaws.{reads_or_fails}
+use Rattle.reencode_component.proofs.laws.ComponentLaws.{is_walk, own_never}
+use Rattle.reencode_component.proofs.nested.NestedReadings.{component_back, module_back}
+use Rattle.reencode_component.proofs.nested.NestedSteps.{nested_tree}
+use Rattle.reencode_component.proofs.sections.SectionsAhead.{section_there}
 use Rattle.reencode_run.specs.Reencoded.{IsRefusal}
 use Rattle.reencode_run.proofs.Refusals.{MapsWithin, Tells, custom, first_shorter, names_told, numbered, refusal_is_told, row_told, second_shorter}
 

@@ -20,7 +20,7 @@ use Rattle.reencode_core.specs.Sections.{StopsSection}
 use Rattle.reencode_core.specs.NameFormats.{NameFormat, core_names}
 use Rattle.reencode_core.specs.Names.{RefusesEntryOf, StopsInNames, StopsNamesOf, contents_standing}
 use Rattle.reencode_core.specs.Core.{AcceptsSections, RefusedIn, StopsInside, StopsThere, BeforeFault}
-use Rattle.reencode_core.proofs.Fronts.{reads_or_fails}
+use Rattle.reencode_core.proofs.faults.OneFront.{reads_or_fails}
 
 -- ---- lengths
 

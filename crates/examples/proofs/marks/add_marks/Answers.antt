@@ -1,5 +1,5 @@
 use Rattle.std.proofs.Common.{refl}
-use Rattle.reencode_core.proofs.Interspersing.{made_between, only_added}
+use Rattle.reencode_core.proofs.weave.Interspersing.{made_between, only_added}
 use Rattle.examples.proofs.marks.add_marks.Goals as goal
 
 pub returns-clause-ok : goal.returns-clause-ok

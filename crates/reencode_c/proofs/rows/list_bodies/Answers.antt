@@ -1,7 +1,7 @@
 use Rattle.std.proofs.Common.{◌≡◌, ◌-◌, ap, ◌∙◌}
 use Rattle.wasm_shapes.specs.declared.SectionId.TheVariants as ids
 use Rattle.wasm_shapes.specs.Tree.{Tree}
-use Rattle.reencode_core.proofs.BodyLoop.{code_read}
+use Rattle.reencode_core.proofs.bodies.BodyLoop.{code_read}
 use Rattle.reencode_c.specs.Visits.{in_row}
 use Rattle.reencode_c.proofs.RowsPlaced.{listed_at, rows_begin, rows_ended, rows_more}
 use Rattle.reencode_c.proofs.rows.list_bodies.Goals as goal

@@ -1,5 +1,5 @@
 use Rattle.std.proofs.Common.{◌+◌, ◌-◌, ◌*◌, length}
-use Rattle.reencode_component.proofs.EachComponent.{ComponentKept}
+use Rattle.reencode_component.proofs.sections.EachComponent.{ComponentKept}
 use Rattle.reencode_component.proofs.components.+components.Given as goal
 
 -- the scopes that may still be opened, and between two the order of the calls

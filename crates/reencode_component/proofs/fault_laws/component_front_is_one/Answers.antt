@@ -1,5 +1,5 @@
-use Rattle.reencode_component.proofs.ComponentFronts as fronts
-use Rattle.reencode_component.proofs.FaultLaws as laws
+use Rattle.reencode_component.proofs.sections.FrontLaws as fronts
+use Rattle.reencode_component.proofs.faults.OneFault as laws
 use Rattle.reencode_component.proofs.fault_laws.component_front_is_one.Goals as goal
 
 pub returns-clause-some : goal.returns-clause-some

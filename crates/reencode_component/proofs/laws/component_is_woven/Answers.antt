@@ -1,4 +1,4 @@
-use Rattle.reencode_component.proofs.WovenIn as woven
+use Rattle.reencode_component.proofs.weave.WovenInLaws as woven
 use Rattle.reencode_component.proofs.laws.component_is_woven.Goals as goal
 
 pub returns : goal.returns

@@ -1,4 +1,4 @@
-use Rattle.reencode_component.proofs.WovenAnswered.{woven_is_answered}
+use Rattle.reencode_component.proofs.weave.Completeness.{woven_is_answered}
 use Rattle.reencode_component.proofs.laws.woven_component_is_answered.Goals as goal
 
 pub returns : goal.returns

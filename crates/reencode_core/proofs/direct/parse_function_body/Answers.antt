@@ -1,4 +1,4 @@
-use Rattle.reencode_core.proofs.MapsWhole.{stays_added, stays_refused}
+use Rattle.reencode_core.proofs.bodies.SkippedFront.{stays_added, stays_refused}
 use Rattle.reencode_core.proofs.direct.parse_function_body.Goals as goal
 
 pub returns-in_err-spelled : goal.returns-in_err-spelled

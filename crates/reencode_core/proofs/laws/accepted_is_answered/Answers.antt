@@ -1,5 +1,5 @@
 use Rattle.reencode_hooks.specs.Run.{ask}
-use Rattle.reencode_core.proofs.Completeness as completeness
+use Rattle.reencode_core.proofs.weave.Completeness as completeness
 use Rattle.reencode_core.proofs.laws.accepted_is_answered.Goals as goal
 
 pub returns : goal.returns

@@ -1,4 +1,4 @@
-use Rattle.reencode_core.proofs.Faults as faults
+use Rattle.reencode_core.proofs.faults.FaultPlace as faults
 use Rattle.reencode_core.proofs.laws.fault_gains.Goals as goal
 
 pub returns : goal.returns

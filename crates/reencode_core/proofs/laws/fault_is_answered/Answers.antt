@@ -1,5 +1,5 @@
 use Rattle.reencode_hooks.specs.Run.{ask}
-use Rattle.reencode_core.proofs.Refusals as refusals
+use Rattle.reencode_core.proofs.faults.RefusalLaws as refusals
 use Rattle.reencode_core.proofs.laws.fault_is_answered.Goals as goal
 
 pub returns : goal.returns

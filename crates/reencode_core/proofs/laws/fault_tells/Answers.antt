@@ -1,5 +1,5 @@
 use Rattle.reencode_hooks.specs.Run.{ask}
-use Rattle.reencode_core.proofs.Faults as faults
+use Rattle.reencode_core.proofs.faults.FaultPlace as faults
 use Rattle.reencode_core.proofs.laws.fault_tells.Goals as goal
 
 pub returns : goal.returns

@@ -1,4 +1,4 @@
-use Rattle.reencode_core.proofs.Fronts as fronts
+use Rattle.reencode_core.proofs.faults.OneFront as fronts
 use Rattle.reencode_core.proofs.laws.front_is_one.Goals as goal
 
 pub returns-clause-some : goal.returns-clause-some

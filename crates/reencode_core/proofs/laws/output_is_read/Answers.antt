@@ -1,4 +1,4 @@
-use Rattle.reencode_core.proofs.WovenRead as woven_read
+use Rattle.reencode_core.proofs.weave.WovenReading as woven_read
 use Rattle.reencode_core.proofs.laws.output_is_read.Goals as goal
 
 pub returns : goal.returns

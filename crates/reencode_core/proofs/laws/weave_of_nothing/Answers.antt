@@ -1,5 +1,5 @@
 use Rattle.reencode_hooks.specs.Run.{ask}
-use Rattle.reencode_core.proofs.Weaves as weaves
+use Rattle.reencode_core.proofs.weave.Weaves as weaves
 use Rattle.reencode_core.proofs.laws.weave_of_nothing.Goals as goal
 
 pub returns : goal.returns

@@ -1,9 +1,9 @@
 use Rattle.std.proofs.Common.{rules}
 use Rattle.std.proofs.lemmas.Result.{err_from_is_err_and}
 use Rattle.reencode_core.specs.Clauses.{asks}
-use Rattle.reencode_core.proofs.AddsNothing.{added_none, bytes_nothing}
-use Rattle.reencode_core.proofs.WholeBytes.{bytes_given, bytes_refused, bytes_wanting}
-use Rattle.reencode_core.proofs.BytesMade.{bytes_leave, bytes_leave_none}
+use Rattle.reencode_core.proofs.weave.AddsNothing.{added_none, bytes_nothing}
+use Rattle.reencode_core.proofs.sections.WholeBytes.{bytes_given, bytes_refused, bytes_wanting}
+use Rattle.reencode_core.proofs.after_error.BytesVisited.{bytes_leave, bytes_leave_none}
 use Rattle.reencode_core.proofs.reencode.reencode_core.Goals as goal
 
 pub returns-in_err-module : goal.returns-in_err-module

@@ -3,11 +3,11 @@ use Rattle.std.proofs.lemmas.Result.{err_from_is_err_and}
 use Rattle.wasm_read.specs.Immediates as read
 use Rattle.wasm_write.specs.Bodies as write
 use Rattle.reencode_core.specs.Clauses.{asks}
-use Rattle.reencode_core.proofs.Group.{items_more, all_yielded}
-use Rattle.reencode_core.proofs.Locals.{local_accepted, locals_given, locals_refused, locals_not_made}
+use Rattle.reencode_core.proofs.rows.TypeGroup.{items_more, all_yielded}
+use Rattle.reencode_core.proofs.bodies.Locals.{local_accepted, locals_given, locals_refused, locals_not_made}
 use Rattle.wasm_read.specs.Types as read_types
-use Rattle.reencode_core.proofs.FunctionMade.{items_made, items_made_all, locals_leave, locals_leave_none}
-use Rattle.reencode_core.proofs.Made.{ended_all, fault_unasked, not_wanting, refused_made, tree_made, write_unasked}
+use Rattle.reencode_core.proofs.after_error.BodyVisited.{items_made, items_made_all, locals_leave, locals_leave_none}
+use Rattle.reencode_core.proofs.after_error.VisitsMade.{ended_all, fault_unasked, not_wanting, refused_made, tree_made, write_unasked}
 use Rattle.reencode_core.proofs.rows.new_function_with_parsed_locals.Goals as goal
 
 pub loop-local-preserved : goal.loop-local-preserved

@@ -1,6 +1,6 @@
 use Rattle.std.proofs.Common.{IsTrue}
-use Rattle.reencode_core.proofs.EachBody.{body_found, body_unbegun}
-use Rattle.reencode_core.proofs.MapsOn.{front_begun}
+use Rattle.reencode_core.proofs.bodies.EachBody.{body_found, body_unbegun}
+use Rattle.reencode_core.proofs.bodies.BodyFromPlace.{front_begun}
 use Rattle.reencode_core.proofs.rows.parse_function_body.Goals as goal
 
 pub returns-in_err-function : goal.returns-in_err-function

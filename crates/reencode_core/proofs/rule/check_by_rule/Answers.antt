@@ -1,5 +1,5 @@
 use Rattle.std.proofs.Common.{refl}
-use Rattle.reencode_core.proofs.CheckRuns.{check_accepts, check_refuses, check_unread, check_user}
+use Rattle.reencode_core.proofs.rules.CheckRuns.{check_accepts, check_refuses, check_unread, check_user}
 use Rattle.reencode_core.proofs.rule.check_by_rule.Goals as goal
 
 pub returns-in-Some-clause-refused : goal.returns-in-Some-clause-refused

@@ -1,5 +1,5 @@
 use Rattle.std.proofs.Common.{refl}
-use Rattle.reencode_core.proofs.RuleRuns.{rule_made, rule_ok, rule_refused}
+use Rattle.reencode_core.proofs.rules.RuleRuns.{rule_made, rule_ok, rule_refused}
 use Rattle.reencode_core.proofs.rule.reencode_by_rule.Goals as goal
 
 pub returns-clause-ok : goal.returns-clause-ok

@@ -1,4 +1,4 @@
-use Rattle.reencode_core.proofs.Fitting.{gains_fit}
+use Rattle.reencode_core.proofs.weave.AdditionsFit.{gains_fit}
 use Rattle.reencode_core.proofs.sections.call_hook.Goals as goal
 
 pub returns-in-Ok-clause-fits : goal.returns-in-Ok-clause-fits

@@ -1,4 +1,4 @@
-use Rattle.reencode_core.proofs.EachBody.{code_begun, code_more, code_section_ended, code_section_refused, code_section_stuck}
+use Rattle.reencode_core.proofs.bodies.EachBody.{code_begun, code_more, code_section_ended, code_section_refused, code_section_stuck}
 use Rattle.reencode_core.proofs.utils.parse_code_section.Goals as goal
 
 pub rows-init : goal.rows-init

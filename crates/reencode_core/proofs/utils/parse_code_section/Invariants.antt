@@ -1,4 +1,4 @@
-use Rattle.reencode_core.proofs.EachBody.{CodeKept}
+use Rattle.reencode_core.proofs.bodies.EachBody.{CodeKept}
 use Rattle.reencode_core.proofs.utils.parse_code_section.Given as goal
 
 -- the rows so far are walked and added

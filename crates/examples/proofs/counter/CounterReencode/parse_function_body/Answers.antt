@@ -1,7 +1,7 @@
 use Rattle.std.proofs.Common.{refl}
 use Rattle.wasm_read.specs.Operations.{rest_of}
 use Rattle.wasm_write.specs.Instructions.{instruction_tree}
-use Rattle.reencode_core.proofs.WholeBody.{none_left}
+use Rattle.reencode_core.proofs.bodies.WholeBody.{none_left}
 use Rattle.examples.proofs.Counting.{entering_begun, entering_ended, entering_more}
 use Rattle.examples.proofs.counter.CounterReencode.parse_function_body.Goals as goal
 

@@ -1,6 +1,6 @@
 use Rattle.wasm_read.specs.Types as read
 use Rattle.reencode_hooks.proofs.Leaving.{sure_visited, visited_left}
-use Rattle.reencode_core.proofs.Leaving.{item_leaves}
+use Rattle.reencode_core.proofs.after_error.StateLeft.{item_leaves}
 use Rattle.reencode_component.proofs.item_lists.CoreExportsMapItemWasm_readExportWExport.map.Goals as goal
 
 pub returns-in_err-index-clause-after_error : goal.returns-in_err-index-clause-after_error

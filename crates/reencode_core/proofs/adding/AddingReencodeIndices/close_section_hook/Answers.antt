@@ -1,4 +1,4 @@
-use Rattle.reencode_core.proofs.Additions.{inner_error, rule, rule_error}
+use Rattle.reencode_core.proofs.weave.AddingHooks.{inner_error, rule, rule_error}
 use Rattle.reencode_core.proofs.adding.AddingReencodeIndices.close_section_hook.Goals as goal
 
 pub returns-in_err-close_section_hook-clause-answer :

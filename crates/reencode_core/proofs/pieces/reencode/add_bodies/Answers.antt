@@ -1,10 +1,10 @@
 use Rattle.std.proofs.Common.{◌≡◌, ◌+◌, ℕ, List, ap, sym, ◌∙◌, arith, subst}
 use Rattle.wasm_read.specs.Reading.{place_of}
 use Rattle.wasm_write.specs.Bodies.{CodeRows}
-use Rattle.reencode_core.proofs.EachBody.{code_begun, code_ended, code_more, code_refused, code_stuck}
+use Rattle.reencode_core.proofs.bodies.EachBody.{code_begun, code_ended, code_more, code_refused, code_stuck}
 use Rattle.reencode_core.specs.Sinks.{KeepsRow, StandsAt}
-use Rattle.reencode_core.proofs.Frames.{frames_begun, frames_ended, frames_more}
-use Rattle.reencode_core.proofs.Standing.{body_stands, place_fits, row_behind}
+use Rattle.reencode_core.proofs.pieces.KeptFrames.{frames_begun, frames_ended, frames_more}
+use Rattle.reencode_core.proofs.pieces.StandsAt.{body_stands, place_fits, row_behind}
 use Rattle.reencode_core.proofs.pieces.reencode.add_bodies.Goals as goal
 
 pub rows-init : goal.rows-init

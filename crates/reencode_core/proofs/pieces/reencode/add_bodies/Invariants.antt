@@ -1,5 +1,5 @@
 use Rattle.std.proofs.Common.{◌≡◌, ◌<◌, ◌^◌, IsTrue}
-use Rattle.reencode_core.proofs.EachBody.{CodeKept}
+use Rattle.reencode_core.proofs.bodies.EachBody.{CodeKept}
 use Rattle.reencode_core.specs.Sinks.{FramesDone, RowsStand}
 use Rattle.reencode_core.proofs.pieces.reencode.add_bodies.Given as goal
 

@@ -1,11 +1,11 @@
 use Rattle.std.proofs.Common.{ap, rules}
 use Rattle.std.proofs.lemmas.Result.{err_from_is_err_and}
-use Rattle.reencode_core.proofs.AddsNothing.{added_none, bytes_nothing}
-use Rattle.reencode_core.proofs.BytesMade.{bytes_leave}
-use Rattle.reencode_core.proofs.WholeBytes.{bytes_given, bytes_refused, bytes_wanting}
+use Rattle.reencode_core.proofs.weave.AddsNothing.{added_none, bytes_nothing}
+use Rattle.reencode_core.proofs.after_error.BytesVisited.{bytes_leave}
+use Rattle.reencode_core.proofs.sections.WholeBytes.{bytes_given, bytes_refused, bytes_wanting}
 use Rattle.reencode_core.specs.Sinks.{ModuleGrown}
 use Rattle.reencode_core.specs.Clauses.{asks}
-use Rattle.reencode_core.proofs.Left.{left_none}
+use Rattle.reencode_core.proofs.after_error.NoneOrAllVisited.{left_none}
 use Rattle.reencode_core.proofs.pieces.reencode.reencode_output.Goals as goal
 
 pub returns-in_err-sink : goal.returns-in_err-sink

@@ -1,0 +1,2 @@
+pub mod RowsVisited
+pub mod SectionsDrawn

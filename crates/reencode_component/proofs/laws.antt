@@ -1,0 +1,4 @@
+pub mod ComponentLaws
+pub mod ModuleLaws
+pub mod PlainLaws
+pub mod WithinLaws

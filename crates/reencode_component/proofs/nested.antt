@@ -1,0 +1,5 @@
+pub mod NestedComponent
+pub mod NestedModule
+pub mod NestedReadings
+pub mod NestedSections
+pub mod NestedSteps

@@ -1,0 +1,9 @@
+pub mod ComponentLoop
+pub mod CustomFrames
+pub mod EachComponent
+pub mod EachSection
+pub mod FrontLaws
+pub mod NoHooks
+pub mod RowsMapped
+pub mod SectionAdded
+pub mod SectionsAhead

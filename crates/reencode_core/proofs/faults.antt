@@ -1,0 +1,4 @@
+pub mod FaultPlace
+pub mod OneFront
+pub mod RefusalLaws
+pub mod WalkRefusals

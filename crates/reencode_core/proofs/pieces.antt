@@ -1,0 +1,11 @@
+pub mod CodeRowsHeld
+pub mod Cuts
+pub mod FilledRoom
+pub mod FreshSink
+pub mod KeptAnswers
+pub mod KeptFrames
+pub mod KeptLaws
+pub mod KeptRanges
+pub mod SectionLoop
+pub mod SectionsHeld
+pub mod StandsAt

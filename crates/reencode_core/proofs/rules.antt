@@ -1,0 +1,2 @@
+pub mod CheckRuns
+pub mod RuleRuns

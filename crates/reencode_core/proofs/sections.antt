@@ -1,0 +1,9 @@
+pub mod AnySection
+pub mod CoreLoop
+pub mod CustomSection
+pub mod EachSection
+pub mod HeadAndFrame
+pub mod KnownKind
+pub mod MappedSection
+pub mod OneSection
+pub mod WholeBytes

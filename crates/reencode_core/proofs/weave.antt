@@ -1,0 +1,7 @@
+pub mod AddingHooks
+pub mod AdditionsFit
+pub mod AddsNothing
+pub mod Completeness
+pub mod Interspersing
+pub mod Weaves
+pub mod WovenReading
