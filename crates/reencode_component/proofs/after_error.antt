@@ -1,2 +1,3 @@
+-- The visits that were made when an error came.
 pub mod RowsVisited
 pub mod SectionsDrawn

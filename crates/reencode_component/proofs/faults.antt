@@ -1,1 +1,2 @@
+-- Faults of a component.
 pub mod OneFault

@@ -1,3 +1,4 @@
+-- The laws of whole components and binaries.
 pub mod ComponentLaws
 pub mod ModuleLaws
 pub mod PlainLaws

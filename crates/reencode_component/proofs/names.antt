@@ -1,1 +1,2 @@
+-- The subsections of the names of a component.
 pub mod NameCalls

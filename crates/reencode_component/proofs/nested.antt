@@ -1,3 +1,4 @@
+-- Core modules and components inside a component.
 pub mod NestedComponent
 pub mod NestedModule
 pub mod NestedReadings

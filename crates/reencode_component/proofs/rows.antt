@@ -1,3 +1,4 @@
+-- Rows of a component's sections, and their parts.
 pub mod EachShallowRow
 pub mod FlatRows
 pub mod OperandsWalked

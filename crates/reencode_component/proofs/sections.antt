@@ -1,3 +1,4 @@
+-- Sections of a component in their frames, one by one, and all of them.
 pub mod ComponentLoop
 pub mod CustomFrames
 pub mod EachComponent

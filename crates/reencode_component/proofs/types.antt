@@ -1,3 +1,4 @@
+-- Core types and types of components, with the scopes that they open.
 pub mod CoreGroups
 pub mod CoreTypeCalls
 pub mod ScopeCalls

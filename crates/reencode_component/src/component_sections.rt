@@ -12,7 +12,7 @@ ghost use Rattle.reencode_core.specs.Sections.{AddsMapped};
 ghost use Rattle.reencode_component.specs.ComponentClauses.{FrameClauses, placed_in};
 ghost use Rattle.reencode_component.specs.ScopedRows.{ShallowRowsClauses};
 
-use crate::component::ReencodeComponent;
+use crate::component_methods::ReencodeComponent;
 use crate::component_types::parse_component_type_section;
 use reencode_hooks::{Error, ReencodeIndices};
 use std::alloc::Global;

@@ -8,11 +8,11 @@ ghost use Rattle.reencode_items.specs.Clauses.{ItemClauses};
 ghost use Rattle.reencode_component.specs.DeclarationClauses.{ComponentDeclarationClauses, ComponentRowClauses, ComponentTypeClauses, InstanceDeclarationClauses, InstanceRowClauses, ShallowScopeClauses, TypeRowClauses};
 ghost use Rattle.reencode_component.specs.ScopedRows.{ShallowRowsClauses};
 
-use crate::component::ReencodeComponent;
+use crate::component_methods::ReencodeComponent;
 use crate::items::ReencodeComponentItems;
 use crate::rows::add_row;
 use crate::scoped_sections::{MapScopedRow, map_scoped_rows};
-use crate::{mapped, type_bodies};
+use crate::{row_bodies, type_bodies};
 use reencode_hooks::Error;
 use std::alloc::Global;
 use wasm_read_component as r;
@@ -116,7 +116,7 @@ macro_rules! declaration {
             }
             $(
                 r::$of::$import(import) => {
-                    let import = mapped::component_import($reencoder, import)?;
+                    let import = row_bodies::component_import($reencoder, import)?;
                     Ok(w::$of::$import(import))
                 }
             )?

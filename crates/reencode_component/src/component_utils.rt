@@ -10,20 +10,17 @@ ghost use Rattle.reencode_items.specs.Clauses.{ItemClauses};
 ghost use Rattle.reencode_component.specs.Clauses.{ValueClauses};
 ghost use Rattle.reencode_component.specs.ComponentNames.{component_custom, component_names};
 
-use crate::component::ReencodeComponent;
+pub use crate::by_hooks::{canonical_option, type_bounds};
+use crate::component_methods::ReencodeComponent;
 pub use crate::component_types::{
     component_instance_type, component_type, parse_component_instance_type_declaration,
     parse_component_type, parse_component_type_declaration, parse_component_type_section,
 };
-pub use crate::components::{
+pub use crate::component_walk::{
     parse_component, parse_component_payload, parse_component_subcomponent,
 };
 pub use crate::core_types::parse_component_module_type_declaration;
-pub use crate::hooked::{canonical_option, type_bounds};
 use crate::items::ReencodeComponentItems;
-pub use crate::kinds::{
-    component_export_kind, component_outer_alias_kind, component_primitive_val_type,
-};
 use crate::names::add_section;
 pub use crate::names::parse_custom_component_name_subsection;
 pub use crate::nested::parse_component_submodule;
@@ -39,7 +36,10 @@ pub use crate::scoped_sections::parse_core_type_section;
 pub use crate::sections::{parse_component_start_section, parse_unknown_component_section};
 pub use crate::type_utils::{component_module_type, parse_component_core_type};
 pub use crate::types::{parse_component_defined_type, parse_component_func_type};
-use crate::{default_bodies, hooked};
+pub use crate::without_indices::{
+    component_export_kind, component_outer_alias_kind, component_primitive_val_type,
+};
+use crate::{by_hooks, default_bodies};
 use reencode_core::placed;
 use reencode_hooks::Error;
 use std::alloc::Global;

@@ -61,7 +61,7 @@ macro_rules! component_alias {
                 name,
             }),
             r::ComponentAlias::Outer { kind, count, index } => {
-                let index = hooked::outer_index($reencoder, kind, count, index)?;
+                let index = by_hooks::outer_index($reencoder, kind, count, index)?;
                 Ok(w::Alias::Outer {
                     kind: $reencoder.component_outer_alias_kind(kind),
                     count,

@@ -1,5 +1,5 @@
 //! The reencoders that keep every default.
-use crate::component::ReencodeComponent;
+use crate::component_methods::ReencodeComponent;
 use crate::component_rows::ReencodeComponentRows;
 use crate::indices::ReencodeComponentIndices;
 use crate::items::ReencodeComponentItems;

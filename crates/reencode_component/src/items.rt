@@ -6,7 +6,7 @@ ghost use Rattle.reencode_items.specs.Clauses.{ItemClauses};
 ghost use Rattle.reencode_component.specs.Clauses.{KindClauses, ValueClauses};
 
 use crate::indices::ReencodeComponentIndices;
-use crate::{default_bodies, hooked, kinds};
+use crate::{by_hooks, default_bodies, without_indices};
 use reencode_hooks::Error;
 use reencode_items::ReencodeItems;
 use wasm_read_component as r;
@@ -25,21 +25,21 @@ pub trait ReencodeComponentItems: ReencodeItems + ReencodeComponentIndices {
         ensures { ValueClauses Self.ReencodeIndices (sorted_tree kind index) (sorted_tree kind)
             self.old self.new result }
     {
-        hooked::component_external_index(self, kind, index)
+        by_hooks::component_external_index(self, kind, index)
     }
 
     /// A type of values that names no type (Component Model, Binary Format: `primvaltype`).
     fn component_primitive_val_type(&mut self, ty: r::PrimitiveValType) -> w::PrimitiveValType
         ensures { KindClauses Self.ReencodeIndices ty self.old self.new result }
     {
-        kinds::component_primitive_val_type(self, ty)
+        without_indices::component_primitive_val_type(self, ty)
     }
 
     /// The sort of what a component exports (`sort`).
     fn component_export_kind(&mut self, ty: r::ComponentExternalKind) -> w::ComponentExportKind
         ensures { KindClauses Self.ReencodeIndices ty self.old self.new result }
     {
-        kinds::component_export_kind(self, ty)
+        without_indices::component_export_kind(self, ty)
     }
 
     /// The sort of what an alias names further out (`alias`).
@@ -49,7 +49,7 @@ pub trait ReencodeComponentItems: ReencodeItems + ReencodeComponentIndices {
     ) -> w::ComponentOuterAliasKind
         ensures { KindClauses Self.ReencodeIndices kind self.old self.new result }
     {
-        kinds::component_outer_alias_kind(self, kind)
+        without_indices::component_outer_alias_kind(self, kind)
     }
 
     /// A type of values (`valtype`).
@@ -65,7 +65,7 @@ pub trait ReencodeComponentItems: ReencodeItems + ReencodeComponentIndices {
         ensures { ValueClauses Self.ReencodeIndices
             (type_bounds_tree ty) type_bounds_tree self.old self.new result }
     {
-        hooked::type_bounds(self, ty)
+        by_hooks::type_bounds(self, ty)
     }
 
     /// The type of what is imported or exported (`externdesc`).
@@ -87,7 +87,7 @@ pub trait ReencodeComponentItems: ReencodeItems + ReencodeComponentIndices {
         ensures { ItemClauses Self.ReencodeIndices
             (canonical_option_tree ty) canonical_option_tree self.old self.new result }
     {
-        hooked::canonical_option(self, ty)
+        by_hooks::canonical_option(self, ty)
     }
 
     /// An alias (`alias`). An outer one asks the outer hook of its sort, and its count stays.

@@ -2,28 +2,27 @@
 #![tactic(auto)]
 
 mod adding;
-mod answer;
+mod answer_visits;
+mod by_hooks;
 mod canonical;
 mod chain;
-mod component;
+mod component_methods;
 mod component_rows;
 mod component_sections;
 mod component_types;
 pub mod component_utils;
-mod components;
+mod component_walk;
 mod core_types;
 mod default_bodies;
 mod defaults;
 mod fault_laws;
-mod hooked;
 mod indices;
 mod item_lists;
 mod items;
-mod kinds;
 mod laws;
-mod mapped;
 mod names;
 mod nested;
+mod row_bodies;
 mod row_sections;
 mod rows;
 mod scoped_sections;
@@ -32,9 +31,10 @@ mod type_bodies;
 mod type_utils;
 mod types;
 mod within;
+mod without_indices;
 
-pub use answer::AnswerComponentVisits;
-pub use component::ReencodeComponent;
+pub use answer_visits::AnswerComponentVisits;
+pub use component_methods::ReencodeComponent;
 pub use component_rows::ReencodeComponentRows;
 pub use defaults::{DefaultComponent, DefaultComponentItems, DefaultComponentRows};
 pub use fault_laws::{component_front_is_one, core_module_tells};

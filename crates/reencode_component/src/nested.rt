@@ -2,7 +2,7 @@
 ghost use Rattle.std.specs.Prelude.{◌≤◌};
 ghost use Rattle.reencode_component.specs.NestedClauses.{SubmoduleClauses};
 
-use crate::component::ReencodeComponent;
+use crate::component_methods::ReencodeComponent;
 use reencode_hooks::Error;
 use std::alloc::Global;
 use wasm_leb::ReadError;

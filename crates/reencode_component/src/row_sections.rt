@@ -12,7 +12,7 @@ ghost use Rattle.reencode_core.specs.Clauses.{RowClauses, RowsClauses};
 
 use crate::component_rows::ReencodeComponentRows;
 use crate::items::ReencodeComponentItems;
-use crate::mapped;
+use crate::row_bodies;
 use crate::rows::add_row;
 use reencode_hooks::{Error, ReencodeIndices};
 use std::alloc::Global;
@@ -74,7 +74,7 @@ impl<'a, T: ReencodeComponentItems> MapRow<
         imports: &mut w::ComponentImportSection,
         row: r::ComponentImport<'a>,
     ) -> Result<(), Error<T::Error>> {
-        let row = mapped::component_import(reencoder, row);
+        let row = row_bodies::component_import(reencoder, row);
         add_row(imports, row)
     }
 }

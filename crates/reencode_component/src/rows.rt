@@ -7,7 +7,7 @@ ghost use Rattle.reencode_component.specs.Clauses.{AddsRow};
 
 use crate::canonical::canonical_function;
 use crate::items::ReencodeComponentItems;
-use crate::mapped;
+use crate::row_bodies;
 use reencode_hooks::Error;
 use std::alloc::Global;
 use wasm_read_component as r;
@@ -41,7 +41,7 @@ pub fn parse_component_export<T: ReencodeComponentItems>(
     ensures { RowClauses T.ReencodeIndices (component_export_tree export.entry)
         reencoder.old exports.old reencoder.new exports.new result }
 {
-    let row = mapped::component_export(reencoder, export);
+    let row = row_bodies::component_export(reencoder, export);
     add_row(exports, row)
 }
 
@@ -72,7 +72,7 @@ pub fn parse_component_instance<T: ReencodeComponentItems>(
     ensures { RowClauses T.ReencodeIndices (component_instance_tree instance.entry)
         reencoder.old instances.old reencoder.new instances.new result }
 {
-    let row = mapped::component_instance(reencoder, alloc, instance);
+    let row = row_bodies::component_instance(reencoder, alloc, instance);
     add_row(instances, row)
 }
 
@@ -87,6 +87,6 @@ pub fn parse_instance<T: ReencodeComponentItems>(
     ensures { RowClauses T.ReencodeIndices (instance_tree export_tree instance.entry)
         reencoder.old instances.old reencoder.new instances.new result }
 {
-    let row = mapped::instance(reencoder, alloc, instance);
+    let row = row_bodies::instance(reencoder, alloc, instance);
     add_row(instances, row)
 }

@@ -5,7 +5,7 @@ ghost use Rattle.wasm_read_component.specs.ComponentRows.{start_tree};
 ghost use Rattle.reencode_component.specs.Clauses.{AddedClauses};
 
 use crate::items::ReencodeComponentItems;
-use crate::mapped;
+use crate::row_bodies;
 use reencode_hooks::{Error, ReencodeIndices};
 use std::alloc::Global;
 use wasm_read_component as r;
@@ -23,7 +23,7 @@ pub fn parse_component_start_section<T: ReencodeComponentItems>(
     ensures { AddedClauses T.ReencodeIndices 9 (component_section_tree 9 (start_tree func))
         reencoder.old component.old reencoder.new component.new result }
 {
-    let start = mapped::start(reencoder, alloc, func)?;
+    let start = row_bodies::start(reencoder, alloc, func)?;
     component.section(&start)?;
     Ok(())
 }

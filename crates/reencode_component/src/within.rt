@@ -4,8 +4,8 @@ ghost use Rattle.wasm_shapes.specs.Module.{component_header};
 ghost use Rattle.reencode_component.specs.ComponentLeaves.{NoComponentHeading};
 ghost use Rattle.reencode_component.specs.Within.{ComponentBytesClauses, WithinClauses};
 
-use crate::component::ReencodeComponent;
-use crate::components::parse_component;
+use crate::component_methods::ReencodeComponent;
+use crate::component_walk::parse_component;
 use reencode_core::{Output, reencode_core, reencode_output};
 use reencode_hooks::Error;
 use std::alloc::Global;

@@ -1,3 +1,4 @@
+-- The visits that were made when an error came, and the state that they left.
 pub mod BodyVisited
 pub mod BytesVisited
 pub mod NoneOrAllVisited

@@ -1,3 +1,4 @@
+-- Function bodies: locals, operators, and parts of a body that stay as they are.
 pub mod BodyFromPlace
 pub mod BodyLoop
 pub mod EachBody

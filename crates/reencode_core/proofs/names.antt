@@ -1,3 +1,4 @@
+-- The subsections of a name section, and maps of names.
 pub mod EachSubsection
 pub mod EntriesAhead
 pub mod FormatLaws

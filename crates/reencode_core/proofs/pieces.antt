@@ -1,3 +1,4 @@
+-- Pieces: made bytes between ranges of the input that are kept.
 pub mod CodeRowsHeld
 pub mod Cuts
 pub mod FilledRoom

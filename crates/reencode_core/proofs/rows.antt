@@ -1,3 +1,4 @@
+-- Rows of sections: read, walked and added one by one.
 pub mod CompactRows
 pub mod DataRow
 pub mod EachItem

@@ -1,3 +1,4 @@
+-- Sections in their frames, by kind, one by one, and all of a module.
 pub mod AnySection
 pub mod CoreLoop
 pub mod CustomSection

@@ -1,3 +1,4 @@
+-- Sections that the hooks of a reencoder add.
 pub mod AddingHooks
 pub mod AdditionsFit
 pub mod AddsNothing

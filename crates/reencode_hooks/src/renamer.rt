@@ -3,7 +3,7 @@ ghost use Rattle.std.specs.Prelude.{◌≡◌, ◌<◌, OnOk, OnErr};
 ghost use Rattle.reencode_hooks.specs.declared.asked.Asked.TheVariants.{Of};
 ghost use Rattle.reencode_hooks.specs.Renamings.{no_renaming, with_entry, count_of, noted, renamed, space_number, count_place};
 
-use crate::answer::AnswerVisits;
+use crate::answer_visits::AnswerVisits;
 use crate::asked::{Asked, Unmapped};
 use crate::table::Table;
 use std::alloc::Global;

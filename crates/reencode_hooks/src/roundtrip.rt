@@ -1,7 +1,7 @@
 //! The reencoders that answer every index as it is.
 ghost use Rattle.std.specs.Prelude.{true, Bool};
 
-use crate::answer::AnswerVisits;
+use crate::answer_visits::AnswerVisits;
 use crate::utils;
 use std::convert::Infallible;
 use wasm_shapes::Visit;

@@ -3,7 +3,7 @@ ghost use Rattle.std.specs.Prelude.{◌≡◌, ℕ, Result};
 ghost use Rattle.wasm_shapes.specs.declared.Space.{Space};
 ghost use Rattle.reencode_hooks.specs.Rules.{IsRule};
 
-use crate::answer::AnswerVisits;
+use crate::answer_visits::AnswerVisits;
 use wasm_shapes::{Space, Visit};
 
 /// A rule for indices: it answers each index of each space by the space and the index alone.

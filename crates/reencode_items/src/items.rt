@@ -11,7 +11,7 @@ ghost use Rattle.wasm_write.specs.Rows as rows;
 ghost use Rattle.wasm_write.specs.Types as write;
 ghost use Rattle.reencode_items.specs.Clauses.{ImmediateClauses, ItemClauses, ListClauses, OperatorClauses, ValTypesClauses};
 
-use crate::{default_bodies, indices, kinds};
+use crate::{default_bodies, indices, without_indices};
 use reencode_hooks::{Error, ReencodeIndices};
 use std::alloc::Global;
 use wasm_leb::List;
@@ -61,7 +61,7 @@ pub trait ReencodeItems: ReencodeIndices {
         ensures { ItemClauses Self.ReencodeIndices (read.abstract_tree value) write.abstract_tree
             self.old self.new result }
     {
-        Ok(kinds::abstract_heap_type(self, value))
+        Ok(without_indices::abstract_heap_type(self, value))
     }
 
     /// An array by the type of its elements (section 5.3.8).
@@ -92,7 +92,7 @@ pub trait ReencodeItems: ReencodeIndices {
             (λ kind. rows.item_tree kind index) self.new result }
         ensures sure { IsTrue Self.keeps_defaults → NeverWants Self.sure result }
     {
-        Ok(kinds::export_kind(self, external_kind))
+        Ok(without_indices::export_kind(self, external_kind))
     }
 
     /// A field of a structure or of an array (section 5.3.8).
@@ -214,7 +214,7 @@ pub trait ReencodeItems: ReencodeIndices {
         ensures { ItemClauses Self.ReencodeIndices (read.memory_type_tree memory_ty)
             write.memory_type_tree self.old self.new result }
     {
-        Ok(kinds::memory_type(self, memory_ty))
+        Ok(without_indices::memory_type(self, memory_ty))
     }
 
     /// A global: its type, by the method `val_type`, and whether it may change (section 5.3.13).
@@ -234,7 +234,7 @@ pub trait ReencodeItems: ReencodeIndices {
             self.new result }
         ensures sure { IsTrue Self.keeps_defaults → NeverWants Self.sure result }
     {
-        Ok(kinds::tag_kind(self, kind))
+        Ok(without_indices::tag_kind(self, kind))
     }
 
     /// A tag, by the index of its function type (section 5.3.14).
@@ -292,7 +292,7 @@ pub trait ReencodeItems: ReencodeIndices {
             → Gives (accepted arg self.old) (λ made. made) self.new result }
         ensures sure { IsTrue Self.keeps_defaults → NeverWants Self.sure result }
     {
-        Ok(kinds::ordering(self, arg))
+        Ok(without_indices::ordering(self, arg))
     }
 
     /// A floating-point number of 32 bits, by its bits.
@@ -301,7 +301,7 @@ pub trait ReencodeItems: ReencodeIndices {
             → Gives (accepted arg.0 self.old) (λ made. made.0) self.new result }
         ensures sure { IsTrue Self.keeps_defaults → NeverWants Self.sure result }
     {
-        Ok(kinds::ieee32_arg(self, arg))
+        Ok(without_indices::ieee32_arg(self, arg))
     }
 
     /// A floating-point number of 64 bits, by its bits.
@@ -310,7 +310,7 @@ pub trait ReencodeItems: ReencodeIndices {
             → Gives (accepted arg.0 self.old) (λ made. made.0) self.new result }
         ensures sure { IsTrue Self.keeps_defaults → NeverWants Self.sure result }
     {
-        Ok(kinds::ieee64_arg(self, arg))
+        Ok(without_indices::ieee64_arg(self, arg))
     }
 
     /// An immediate of an operator (section 5.4) that has a kind: its types, its memory access, what it catches or handles,

@@ -6,8 +6,8 @@ mod defaults;
 pub mod direct;
 mod indices;
 mod items;
-mod kinds;
 pub mod utils;
+mod without_indices;
 
 pub use defaults::DefaultItems;
 pub use items::ReencodeItems;

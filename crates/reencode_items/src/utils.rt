@@ -13,7 +13,7 @@ ghost use Rattle.reencode_items.specs.Clauses.{ImmediateClauses, ItemClauses, Li
 
 pub use crate::indices::{catch, external_index, handle, mem_arg, type_index_unpacked};
 use crate::items::ReencodeItems;
-pub use crate::kinds::{
+pub use crate::without_indices::{
     abstract_heap_type, export_kind, ieee32_arg, ieee64_arg, memory_type, ordering, tag_kind,
 };
 use crate::{default_bodies, indices};

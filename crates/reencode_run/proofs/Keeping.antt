@@ -10,7 +10,7 @@ use Rattle.reencode_run.specs.declared.renamers.Renamers.{Renamers}
 use Rattle.reencode_hooks.specs.Renamings.{Renaming, no_renaming}
 use Rattle.reencode_core.specs.Clauses.{BytesClauses}
 use Rattle.reencode_run.specs.declared.renamers.Renamers.TheVariants.{Alone}
-use Rattle.reencode_run.specs.declared.taken.Taken.TheVariants.{Modules}
+use Rattle.reencode_run.specs.declared.binary_taken.Taken.TheVariants.{Modules}
 use Rattle.reencode_run.specs.Kept.{Keeps, kept_report}
 use Rattle.reencode_run.specs.Renamers.{State, asks_of, begun, hooks_of}
 use Rattle.reencode_run.specs.Reencoded.{IsReencoded}

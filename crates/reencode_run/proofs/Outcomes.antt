@@ -43,8 +43,8 @@ use Rattle.reencode_run.specs.Renamers.{AreCounts, IsLacking, Lack, State, all_c
 use Rattle.reencode_run.specs.Reencoded.{IsReencoded, IsMakingFault, IsRefused, IsFault, IsFirstUpTo, IsUserRefusal, IsOutputTooLarge, IsRefusal, OfComponent, OfModule}
 use Rattle.reencode_run.specs.Reencoded.{AnyBeforeFault}
 use Rattle.reencode_run.specs.Taken.{HasFault, Reads, promised, taking}
-use Rattle.reencode_run.specs.declared.taken.Taken.{Taken}
-use Rattle.reencode_run.specs.declared.taken.Taken.TheVariants.{Modules, Binaries}
+use Rattle.reencode_run.specs.declared.binary_taken.Taken.{Taken}
+use Rattle.reencode_run.specs.declared.binary_taken.Taken.TheVariants.{Modules, Binaries}
 use Rattle.reencode_run.specs.Errors.{EndsAs, HasStatus}
 use Rattle.reencode_run.proofs.Blank.{Blank, Large, blank_new, blank_next, run_is, walk_blank, only_large}
 use Rattle.reencode_run.proofs.ByRule.{Keeps, Told, hook_answers, keeps_begun, keeps_next, lacking_or_not, no_answer, now, now_begun, ran, replies_by_rule, runs, stops, told_walk, walk_keeps}

@@ -2,7 +2,7 @@
 use Rattle.std.proofs.Common.{◌≡◌, ℕ, List, None, refl, subst, Err}
 use Rattle.reencode_run.specs.declared.answer.ReencodingFault.TheVariants.{NoMemory}
 use Rattle.reencode_run.specs.declared.renamers.Renamers.{Renamers}
-use Rattle.reencode_run.specs.declared.taken.Taken.{Taken}
+use Rattle.reencode_run.specs.declared.binary_taken.Taken.{Taken}
 use Rattle.reencode_run.specs.declared.task.Task.{Task}
 use Rattle.reencode_run.specs.declared.task.Task.TheVariants as task
 use Rattle.reencode_run.specs.Reencoded.{IsReencoded}

@@ -2,7 +2,7 @@
 use Rattle.std.proofs.Common.{◌≡◌, ℕ, ◌+◌, ◌<◌, List, length, map, drop, get_or, nat_eq, true, false, Some, refl, sym, ap, ◌∙◌, string_bytes}
 use Rattle.std.proofs.lemmas.List.{drop_more}
 use Rattle.std.specs.Cmp.Lexicographic.{pointwise}
-use Rattle.reencode_run.specs.declared.memory.Text.{Text}
+use Rattle.reencode_run.specs.declared.failing_memory.Text.{Text}
 use Rattle.reencode_run.specs.Memory.{Named, text_of}
 
 abbrev pub named : Text → Named

@@ -6,7 +6,7 @@ use Rattle.reencode_core.specs.declared.pieces.piece.Piece.TheVariants as piece
 use Rattle.reencode_core.specs.Pieces.{Range, range}
 use Rattle.reencode_core.specs.Kept.{Kept}
 use Rattle.reencode_run.specs.declared.renamers.Renamers.TheVariants.{Alone}
-use Rattle.reencode_run.specs.declared.taken.Taken.TheVariants.{Modules}
+use Rattle.reencode_run.specs.declared.binary_taken.Taken.TheVariants.{Modules}
 use Rattle.reencode_run.specs.Plain.{IsPlain}
 use Rattle.reencode_run.specs.Reencoded.{IsReencoded}
 use Rattle.reencode_run.specs.Report.{tail}

@@ -24,8 +24,8 @@ use Rattle.reencode_run.specs.declared.answer.ReencodingFault.TheVariants.{NoMem
 use Rattle.reencode_run.specs.declared.renamers.Refusal.{Refusal}
 use Rattle.reencode_run.specs.declared.renamers.Renamers.{Renamers}
 use Rattle.reencode_run.specs.declared.renamers.Renamers.TheVariants.{Alone}
-use Rattle.reencode_run.specs.declared.taken.Taken.{Taken}
-use Rattle.reencode_run.specs.declared.taken.Taken.TheVariants.{Modules, Binaries}
+use Rattle.reencode_run.specs.declared.binary_taken.Taken.{Taken}
+use Rattle.reencode_run.specs.declared.binary_taken.Taken.TheVariants.{Modules, Binaries}
 use Rattle.reencode_run.specs.Renamers.{IsLacking, Lack, State, all_counted, asks_of, begun, counts_in, hooks_of, rule_of, told_lack}
 use Rattle.reencode_run.specs.Taken.{Faulty, HasFault, Reads}
 

@@ -5,8 +5,8 @@ use Rattle.wasm_shapes.specs.Tree.{Tree}
 use Rattle.reencode_hooks.specs.declared.indices.ReencodeIndices.{Ghosts}
 use Rattle.reencode_component.specs.ComponentLaws.{Taking}
 use Rattle.reencode_component.specs.WithinLaws.{Promises, as_binary, as_module, of_binary, of_module}
-use Rattle.reencode_run.specs.declared.taken.Taken.{Taken}
-use Rattle.reencode_run.specs.declared.taken.Taken.TheVariants.{Modules, Binaries}
+use Rattle.reencode_run.specs.declared.binary_taken.Taken.{Taken}
+use Rattle.reencode_run.specs.declared.binary_taken.Taken.TheVariants.{Modules, Binaries}
 
 abbrev pub taking : Taken → Taking
 taking Modules = as_module

@@ -5,8 +5,8 @@ use Rattle.reencode_run.specs.declared.answer.ReencodingFault.{ReencodingFault}
 use Rattle.reencode_run.specs.declared.answer.TaskFault.{TaskFault}
 use Rattle.reencode_run.specs.declared.renamers.Renamers.{Renamers}
 use Rattle.reencode_run.specs.declared.renamers.Renamers.TheVariants.{Alone}
-use Rattle.reencode_run.specs.declared.taken.Taken.{Taken}
-use Rattle.reencode_run.specs.declared.taken.Taken.TheVariants.{Modules, Binaries}
+use Rattle.reencode_run.specs.declared.binary_taken.Taken.{Taken}
+use Rattle.reencode_run.specs.declared.binary_taken.Taken.TheVariants.{Modules, Binaries}
 use Rattle.reencode_run.specs.declared.task.Task.{Task}
 use Rattle.reencode_run.specs.declared.task.Task.TheVariants as task
 use Rattle.reencode_run.specs.Hexadecimal.{bytes_of}

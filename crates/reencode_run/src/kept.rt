@@ -7,9 +7,9 @@ ghost use Rattle.reencode_run.specs.Renamers.{AreCounts, counts_in};
 ghost use Rattle.reencode_run.specs.Tasks.{IsStopped};
 
 use crate::answer::{ReencodingFault, reencoding_fault};
+use crate::binary_taken::Taken;
 use crate::renamers::Renamers;
 use crate::report::{add_number, add_tail};
-use crate::taken::Taken;
 use reencode_core::{Piece, Pieces, reencode_pieces};
 use reencode_hooks::Renamer;
 use std::alloc::{AllocError, Global};

@@ -3,14 +3,15 @@
 #![tactic(auto)]
 
 pub mod answer;
+pub mod binary_taken;
 mod buffer;
+pub mod failing_memory;
 mod generate;
 pub mod hexadecimal;
 mod index;
 pub mod input;
+mod job;
 mod kept;
-mod make;
-pub mod memory;
 pub mod order;
 pub mod outside;
 mod reencoded;
@@ -18,8 +19,7 @@ pub mod renamers;
 pub mod renaming;
 pub mod report;
 pub mod standard;
-pub mod sure;
-pub mod taken;
+pub mod sure_memory;
 pub mod task;
 pub mod tool;
 mod tools;

@@ -4,8 +4,8 @@ ghost use Rattle.reencode_run.specs.Reencoded.{IsMakingFault, IsReencoded, IsRef
 ghost use Rattle.reencode_run.specs.Renamers.{AreCounts, counts_in};
 
 use crate::answer::{ReencodingFault, reencoding_fault};
+use crate::binary_taken::{Taken, reencode_taken};
 use crate::renamers::Renamers;
-use crate::taken::{Taken, reencode_taken};
 use reencode_hooks::{Chain, Renamer};
 use std::alloc::Global;
 

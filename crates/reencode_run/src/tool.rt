@@ -12,7 +12,7 @@ ghost use Rattle.reencode_run.specs.Report.{printed_as, shown};
 ghost use Rattle.reencode_run.specs.Outside.{Rose, TookFront, WhereTold, followed};
 
 use crate::answer::{Answer, ReencodingFault, WordsFault, WritingFault};
-use crate::make::{Ready, make};
+use crate::job::{Ready, make};
 use crate::outside::{Failed, Shelf, Sink, Source};
 use crate::words::{Job, Notation, job_of};
 use crate::write::{write_all, write_both, write_digits};

@@ -2,13 +2,13 @@
 //! program ends where the outside is slow or fails.
 use reencode_hooks::{Asked, Chain, ChainError, Error, Renamer, Unmapped};
 use reencode_run::answer::{Answer, ReencodingFault, TaskFault, reencoding_fault};
-use reencode_run::memory::{MemShelf, MemSink, MemSource};
+use reencode_run::failing_memory::{MemShelf, MemSink, MemSource};
 use reencode_run::outside::{Failed, Shelf, ShelfFault, Sink, Source};
 use reencode_run::renamers::{Refusal, Renamers};
 use reencode_run::renaming::{RenamingFault, renaming_of};
 use reencode_run::report::lines_of;
 use reencode_run::standard::FileShelf;
-use reencode_run::sure::{SureShelf, SureSink, SureSource};
+use reencode_run::sure_memory::{SureShelf, SureSink, SureSource};
 use reencode_run::tool::run;
 use std::alloc::Global;
 use std::process::Abort;

@@ -3,7 +3,7 @@ use Rattle.reencode_core.specs.Clauses.{BytesClauses}
 use Rattle.reencode_core.specs.Pieces.{joined, kept_ranges}
 use Rattle.reencode_hooks.specs.Renamings.{Renaming}
 use Rattle.reencode_run.specs.declared.renamers.Renamers.TheVariants as renamers
-use Rattle.reencode_run.specs.declared.taken.Taken.TheVariants.{Modules}
+use Rattle.reencode_run.specs.declared.binary_taken.Taken.TheVariants.{Modules}
 use Rattle.reencode_run.specs.Kept.{kept_report}
 use Rattle.reencode_run.specs.Renamers.{hooks_of}
 use Rattle.reencode_run.specs.Tasks.{IsStopped}
