@@ -31,7 +31,7 @@ use Rattle.reencode_core.specs.Clauses.{LocalsClauses, RowsClauses}
 use Rattle.reencode_core.specs.Direct.{MapsFront}
 use Rattle.reencode_core.specs.Rows.{GivesRows, KeepsFront, locals}
 use Rattle.reencode_core.proofs.bodies.EachBody.{body_added}
-use Rattle.reencode_core.proofs.rows.RowLoop.{kept_on}
+use Rattle.reencode_core.proofs.rows_walked.RowLoop.{kept_on}
 use Rattle.reencode_core.proofs.bodies.BodyFromPlace.{begins_of, front_begun, front_other, here_of, made_of}
 use Rattle.examples.specs.Counter.{AddsBehind, AddsEntered, asks_mover, entered, entry_call, entry_due, entry_section, moved, mover}
 

@@ -27,9 +27,9 @@ use Rattle.reencode_hooks.specs.declared.error.Error.{Error}
 use Rattle.reencode_hooks.specs.declared.error.Error.TheVariants.{NoMemory}
 use Rattle.reencode_hooks.specs.Errors.{error_of_fault}
 use Rattle.reencode_core.specs.Rows.{RowsBefore}
-use Rattle.reencode_core.proofs.sections.CoreLoop.{no_header}
-use Rattle.reencode_core.proofs.rows.RowsToEnd.{first_of_many, none_of_many}
-use Rattle.reencode_core.proofs.rows.RowLoop.{before_more}
+use Rattle.reencode_core.proofs.sections_walked.CoreLoop.{no_header}
+use Rattle.reencode_core.proofs.rows_walked.RowsToEnd.{first_of_many, none_of_many}
+use Rattle.reencode_core.proofs.rows_walked.RowLoop.{before_more}
 use Rattle.examples.specs.Stripper.{AddsKept, Framed, IsStripped, IsUnframed, Stay, payload_row}
 
 -- ---- one section

@@ -16,7 +16,7 @@ use Rattle.reencode_component.specs.Causes.{IfFault}
 use Rattle.reencode_component.specs.ComponentLaws.{IsTaken}
 use Rattle.reencode_component.specs.Within.{WithinClauses}
 use Rattle.reencode_component.specs.WithinLaws.{BinaryFault, ReadsBinary, as_binary}
-use Rattle.reencode_component.proofs.laws.WithinLaws.{binary_error_tells, binary_output}
+use Rattle.reencode_component.proofs.whole_binaries.WithinLaws.{binary_error_tells, binary_output}
 use Rattle.reencode_c.specs.declared.entries.EntryFault.{EntryFault}
 use Rattle.reencode_c.specs.declared.entries.EntryFault.TheVariants.{NoSpace, NoMemory}
 use Rattle.reencode_c.specs.declared.outcome.Entry.{Entry}

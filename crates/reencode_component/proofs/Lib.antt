@@ -1,9 +1,9 @@
 pub mod after_error
 pub mod faults
-pub mod laws
-pub mod names
-pub mod nested
-pub mod rows
-pub mod sections
-pub mod types
+pub mod whole_binaries
+pub mod names_mapped
+pub mod nested_binaries
+pub mod rows_walked
+pub mod sections_walked
+pub mod types_walked
 pub mod weave

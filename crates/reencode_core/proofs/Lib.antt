@@ -1,9 +1,9 @@
 pub mod after_error
 pub mod bodies
 pub mod faults
-pub mod names
-pub mod pieces
-pub mod rows
+pub mod names_mapped
+pub mod kept_pieces
+pub mod rows_walked
 pub mod rules
-pub mod sections
+pub mod sections_walked
 pub mod weave

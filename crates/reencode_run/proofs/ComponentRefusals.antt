@@ -22,11 +22,11 @@ use Rattle.reencode_component.specs.Causes.{BeforeFault, BehindFront, CauseBy, O
 use Rattle.reencode_component.specs.ComponentNames.{component_names}
 use Rattle.reencode_component.specs.Components.{FaultAt, Framed, ComponentReading, ReadsSection}
 use Rattle.reencode_component.specs.WeaveIn.{AcceptsAll, RefusesAmong}
-use Rattle.reencode_component.proofs.sections.FrontLaws.{reads_or_fails}
-use Rattle.reencode_component.proofs.laws.ComponentLaws.{is_walk, own_never}
-use Rattle.reencode_component.proofs.nested.NestedReadings.{component_back, module_back}
-use Rattle.reencode_component.proofs.nested.NestedSteps.{nested_tree}
-use Rattle.reencode_component.proofs.sections.SectionsAhead.{section_there}
+use Rattle.reencode_component.proofs.sections_walked.FrontLaws.{reads_or_fails}
+use Rattle.reencode_component.proofs.whole_binaries.ComponentLaws.{is_walk, own_never}
+use Rattle.reencode_component.proofs.nested_binaries.NestedReadings.{component_back, module_back}
+use Rattle.reencode_component.proofs.nested_binaries.NestedSteps.{nested_tree}
+use Rattle.reencode_component.proofs.sections_walked.SectionsAhead.{section_there}
 use Rattle.reencode_run.specs.Reencoded.{IsRefusal}
 use Rattle.reencode_run.proofs.Refusals.{MapsWithin, Tells, custom, first_shorter, names_told, numbered, refusal_is_told, row_told, second_shorter}
 

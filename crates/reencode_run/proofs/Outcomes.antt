@@ -32,8 +32,8 @@ use Rattle.reencode_component.specs.ComponentLeaves.{NoComponentHeading}
 use Rattle.reencode_component.specs.Components.{ComponentReading}
 use Rattle.reencode_component.specs.Within.{ComponentBytesClauses, HasComponentHeading}
 use Rattle.reencode_component.specs.WithinLaws.{ErrorTells, OutputIsTaken}
-use Rattle.reencode_component.proofs.laws.ComponentLaws as components
-use Rattle.reencode_component.proofs.laws.WithinLaws.{binary_error_tells, binary_output, heading_or_not, module_error_tells, module_output}
+use Rattle.reencode_component.proofs.whole_binaries.ComponentLaws as components
+use Rattle.reencode_component.proofs.whole_binaries.WithinLaws.{binary_error_tells, binary_output, heading_or_not, module_error_tells, module_output}
 use Rattle.reencode_run.specs.Counts.{counted, counted_at}
 use Rattle.reencode_run.specs.declared.answer.ReencodingFault.{ReencodingFault}
 use Rattle.reencode_run.specs.declared.renamers.Renamers.{Renamers}

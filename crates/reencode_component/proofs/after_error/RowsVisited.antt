@@ -24,7 +24,7 @@ use Rattle.reencode_core.proofs.after_error.RowsVisited.{drawn_rows}
 use Rattle.reencode_component.specs.Components.{ReadsSection}
 use Rattle.reencode_component.specs.ComponentLeaves.{SectionUpTo, section_in}
 use Rattle.reencode_component.specs.ScopedRows.{ShallowRows, ShallowUpTo, shallow_rows_in, standing_at}
-use Rattle.reencode_component.proofs.sections.RowsMapped.{SectionRows, rows_read, section_read}
+use Rattle.reencode_component.proofs.sections_walked.RowsMapped.{SectionRows, rows_read, section_read}
 
 -- the count that stands there is one
 same_up_to : {body rest : List ℕ} {depth : ℕ} {a b : Standing} {row : Shape} {t : Tree} → CountRead body a → CountRead body b → ShallowUpTo row (standing_at depth b) t rest →

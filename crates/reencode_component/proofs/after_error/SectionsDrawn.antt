@@ -14,15 +14,15 @@ use Rattle.wasm_shapes.proofs.ComponentFrames.{in_component_frame}
 use Rattle.wasm_shapes.proofs.Depth.{shallow_first}
 use Rattle.wasm_shapes.proofs.Drawn.{drawn_behind, drawn_front, drawn_item, drawn_joined, drawn_none, drawn_scope}
 use Rattle.wasm_shapes.proofs.Laws.{module_headed}
-use Rattle.reencode_core.proofs.sections.CustomSection.{drawn_contents}
+use Rattle.reencode_core.proofs.sections_walked.CustomSection.{drawn_contents}
 use Rattle.reencode_core.proofs.after_error.NoneOrAllVisited.{module_drawn}
 use Rattle.reencode_core.proofs.after_error.RowsVisited.{drawn_rows}
 use Rattle.reencode_core.proofs.after_error.SectionVisited.{custom_drawn, numbered_drawn}
 use Rattle.reencode_component.specs.ComponentNames.{component_custom}
 use Rattle.reencode_component.specs.Components.{ComponentReading, ReadsSection}
-use Rattle.reencode_component.proofs.names.NameCalls.{component_laws}
-use Rattle.reencode_component.proofs.nested.NestedReadings.{component_forth, module_forth}
-use Rattle.reencode_component.proofs.nested.NestedSteps.{nested_tree}
+use Rattle.reencode_component.proofs.names_mapped.NameCalls.{component_laws}
+use Rattle.reencode_component.proofs.nested_binaries.NestedReadings.{component_forth, module_forth}
+use Rattle.reencode_component.proofs.nested_binaries.NestedSteps.{nested_tree}
 
 -- ---- one section
 

@@ -10,10 +10,10 @@ use Rattle.wasm_shapes.specs.Module.{core_header, component_header, alsos, frame
 use Rattle.wasm_shapes.specs.Tree.{Tree}
 use Rattle.wasm_shapes.proofs.Depth.{begins_unique}
 use Rattle.reencode_core.specs.Core.{NoHeader}
-use Rattle.reencode_core.proofs.sections.CoreLoop as loop
+use Rattle.reencode_core.proofs.sections_walked.CoreLoop as loop
 use Rattle.reencode_component.specs.Components.{FaultAt, FaultBy, Framed, IsHandedOut, ModuleFault, NestedFault, ComponentReading}
 use Rattle.reencode_component.specs.ComponentFaults as statements
-use Rattle.reencode_component.proofs.sections.SectionsAhead.{SectionsAhead, none_at_nil, sections_ahead, sections_of}
+use Rattle.reencode_component.proofs.sections_walked.SectionsAhead.{SectionsAhead, none_at_nil, sections_ahead, sections_of}
 
 -- ---- one place
 

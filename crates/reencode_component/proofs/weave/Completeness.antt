@@ -19,8 +19,8 @@ use Rattle.reencode_core.specs.Rows.{Asks}
 use Rattle.reencode_core.specs.Weave.{Puts, added, weave}
 use Rattle.reencode_core.specs.Woven.{AddsFit, GivesWovenBytes, OwnNext, OwnTooLarge}
 use Rattle.reencode_core.proofs.weave.Completeness.{accepted_is_answered}
-use Rattle.reencode_core.proofs.rows.TypeGroup.{rows_then-both}
-use Rattle.reencode_core.proofs.sections.KnownKind.{some_begun}
+use Rattle.reencode_core.proofs.rows_walked.TypeGroup.{rows_then-both}
+use Rattle.reencode_core.proofs.sections_walked.KnownKind.{some_begun}
 use Rattle.reencode_core.proofs.after_error.VisitsMade.{run_state}
 use Rattle.reencode_core.proofs.after_error.RowsVisited.{visits_more}
 use Rattle.reencode_component.specs.Causes.{BehindFront, OwnInside, Stops, own_inside, room}
@@ -29,9 +29,9 @@ use Rattle.reencode_component.specs.ComponentLaws.{AddsOrWants}
 use Rattle.reencode_component.specs.Components.{ComponentReading, ReadsSection}
 use Rattle.reencode_component.specs.WeaveIn.{weave_in}
 use Rattle.reencode_component.specs.WovenIn.{WovenIsAnswered}
-use Rattle.reencode_component.proofs.nested.NestedReadings.{component_forth, module_forth}
-use Rattle.reencode_component.proofs.nested.NestedSteps.{core_same, headed_refused, nested_tree, walk_stopped}
-use Rattle.reencode_component.proofs.sections.SectionsAhead.{SectionsAhead, none_at_nil, section_of, sections_ahead, sections_of}
+use Rattle.reencode_component.proofs.nested_binaries.NestedReadings.{component_forth, module_forth}
+use Rattle.reencode_component.proofs.nested_binaries.NestedSteps.{core_same, headed_refused, nested_tree, walk_stopped}
+use Rattle.reencode_component.proofs.sections_walked.SectionsAhead.{SectionsAhead, none_at_nil, section_of, sections_ahead, sections_of}
 use Rattle.reencode_component.proofs.weave.ComponentWalk.{all_refused, weave_in_ran}
 use Rattle.reencode_component.proofs.weave.WovenInLaws.{weave_in_is_run}
 

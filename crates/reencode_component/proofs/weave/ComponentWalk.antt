@@ -12,8 +12,8 @@ use Rattle.reencode_hooks.specs.Walk.{closed}
 use Rattle.reencode_hooks.proofs.Agrees.{inv, given}
 use Rattle.reencode_core.specs.Rows.{Asks, onto_rows}
 use Rattle.reencode_core.specs.Weave.{Puts}
-use Rattle.reencode_core.proofs.rows.SmallCounts.{run_then}
-use Rattle.reencode_core.proofs.rows.RowLoop.{one_onto, onto_nothing}
+use Rattle.reencode_core.proofs.rows_walked.SmallCounts.{run_then}
+use Rattle.reencode_core.proofs.rows_walked.RowLoop.{one_onto, onto_nothing}
 use Rattle.reencode_core.proofs.weave.Weaves.{weave_is_run, weave_of_nothing}
 use Rattle.reencode_component.specs.WeaveIn.{weave_in, AcceptsAll, WeaveInOfNothing}
 

@@ -15,8 +15,8 @@ use Rattle.reencode_hooks.specs.declared.indices.ReencodeIndices.{Ghosts}
 use Rattle.reencode_core.specs.Clauses.{asks}
 use Rattle.reencode_core.specs.Rows.{Asks}
 use Rattle.reencode_core.specs.Weave.{Puts, added}
-use Rattle.reencode_core.proofs.rows.SmallCounts.{run_parts, run_then}
-use Rattle.reencode_core.proofs.sections.KnownKind.{closed_fits}
+use Rattle.reencode_core.proofs.rows_walked.SmallCounts.{run_parts, run_then}
+use Rattle.reencode_core.proofs.sections_walked.KnownKind.{closed_fits}
 use Rattle.reencode_core.proofs.weave.Weaves.{weave_is_run}
 use Rattle.reencode_component.specs.WeaveIn.{weave_in}
 use Rattle.reencode_component.specs.WovenIn as statements

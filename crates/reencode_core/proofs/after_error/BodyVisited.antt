@@ -25,10 +25,10 @@ use Rattle.reencode_core.specs.Errors.{placed_at}
 use Rattle.reencode_core.specs.Leaves.{BodyUpTo, EndsBy, IsFront, Leaves, MadeUpTo, TellsFault, body_in, locals_in, rows_in}
 use Rattle.reencode_core.specs.Rows.{Asks, RowsBefore, locals}
 use Rattle.reencode_core.proofs.bodies.BodyLoop.{ManyLeft, OperatorsDone, body_is, in_frame, many_first, same_locals}
-use Rattle.reencode_core.proofs.rows.TypeGroup.{ItemsDone}
+use Rattle.reencode_core.proofs.rows_walked.TypeGroup.{ItemsDone}
 use Rattle.reencode_core.proofs.after_error.VisitsMade.{PartMade, Unasked, drawn_made, ended_behind, ended_placed, front_first, front_none, front_same, front_then, part_first, part_same, part_then, refused_made, tells_none, tells_placed, tree_made, wants_made, wants_tells_none}
 use Rattle.reencode_core.proofs.faults.WalkRefusals.{stops_usual, usual_walk}
-use Rattle.reencode_core.proofs.rows.RowLoop.{RowsDone, first_of}
+use Rattle.reencode_core.proofs.rows_walked.RowLoop.{RowsDone, first_of}
 use Rattle.reencode_core.proofs.after_error.RowsVisited.{RowsAhead, drawn_rows, drawn_then, rows_ahead, rows_leave, visits_behind, visits_more}
 
 -- ---- items one behind another

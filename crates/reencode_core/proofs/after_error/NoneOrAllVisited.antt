@@ -18,8 +18,8 @@ use Rattle.reencode_core.specs.Leaves.{Leaves, Text, body_in, core_in, custom_in
 use Rattle.reencode_core.specs.Rows.{Asks}
 use Rattle.reencode_core.specs.Sections.{ReadsAs}
 use Rattle.reencode_core.specs.NameFormats.{core_custom}
-use Rattle.reencode_core.proofs.names.FormatLaws.{core_laws}
-use Rattle.reencode_core.proofs.sections.CustomSection.{one_contents}
+use Rattle.reencode_core.proofs.names_mapped.FormatLaws.{core_laws}
+use Rattle.reencode_core.proofs.sections_walked.CustomSection.{one_contents}
 use Rattle.reencode_core.proofs.after_error.BodyVisited.{drawn_locals}
 use Rattle.reencode_core.proofs.after_error.VisitsMade.{PartMade, Unasked, drawn_made, ended_all, front_none, front_same, tree_made, wants_tells_none, whole_made}
 use Rattle.reencode_core.proofs.after_error.RowsVisited.{drawn_rows}

@@ -25,9 +25,9 @@ use Rattle.reencode_hooks.proofs.Walks.{walk_is_run}
 use Rattle.reencode_core.specs.Leaves.{EndsBy, IsFront, Leaves, MadeUpTo, RowsUpTo, TellsFault, rows_in}
 use Rattle.reencode_core.specs.Holds.{AskedRow, HoldsMade}
 use Rattle.reencode_core.specs.Rows.{Asks, RowsBefore, TooLargeMade}
-use Rattle.reencode_core.proofs.rows.TypeGroup.{rows_then-both}
+use Rattle.reencode_core.proofs.rows_walked.TypeGroup.{rows_then-both}
 use Rattle.reencode_core.proofs.after_error.VisitsMade.{PartMade, drawn_made, ended_all, ended_behind, fault_unasked, front_first, front_none, front_same, front_then, is_wanting, refused_made, tree_made, wants_made}
-use Rattle.reencode_core.proofs.rows.RowLoop.{RowsDone}
+use Rattle.reencode_core.proofs.rows_walked.RowLoop.{RowsDone}
 
 -- ---- two fronts of the same rows
 

@@ -22,9 +22,9 @@ use Rattle.reencode_hooks.specs.Run.{accepted}
 use Rattle.reencode_core.specs.Leaves.{Leaves, MadeUpTo, RowsUpTo, SectionUpTo, rows_in, section_in}
 use Rattle.reencode_core.specs.Rows.{Asks}
 use Rattle.reencode_core.specs.Sections.{HasItem, HasRows, ReadsAs}
-use Rattle.reencode_core.proofs.sections.KnownKind.{section_visits}
+use Rattle.reencode_core.proofs.sections_walked.KnownKind.{section_visits}
 use Rattle.reencode_core.proofs.after_error.VisitsMade.{PartMade, Unasked, drawn_made, ended_all, front_none, front_same, tree_made}
-use Rattle.reencode_core.proofs.sections.OneSection.{BodyMade, rows_read, section_read}
+use Rattle.reencode_core.proofs.sections_walked.OneSection.{BodyMade, rows_read, section_read}
 use Rattle.reencode_core.proofs.after_error.RowsVisited.{drawn_rows}
 
 -- ---- the kinds

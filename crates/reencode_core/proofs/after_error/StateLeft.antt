@@ -19,7 +19,7 @@ use Rattle.reencode_hooks.specs.Walk.{walk}
 use Rattle.reencode_items.proofs.Leaving.{first_visited, second_visited}
 use Rattle.reencode_core.specs.Rows.{Asks}
 use Rattle.reencode_core.proofs.after_error.RowsVisited.{visits_behind}
-use Rattle.reencode_core.proofs.rows.TypeGroup.{ItemsDone, rows_then-both}
+use Rattle.reencode_core.proofs.rows_walked.TypeGroup.{ItemsDone, rows_then-both}
 
 -- a group, explicit or not, has the visits of its types
 group_visits : (explicit : Bool) (types : List r.SubType) → (explicit ≡ false → length types ≡ 1) →

@@ -21,7 +21,7 @@ use Rattle.reencode_hooks.proofs.Walks.{moments_asked, walk_is_run, walk_stops}
 use Rattle.reencode_core.specs.Errors.{IfParse, placed_at}
 use Rattle.reencode_core.specs.Leaves.{Ended, EndsBy, IsFront, MadeUpTo, TellsFault}
 use Rattle.reencode_core.specs.Rows.{Asks}
-use Rattle.reencode_core.proofs.rows.SmallCounts.{run_then}
+use Rattle.reencode_core.proofs.rows_walked.SmallCounts.{run_then}
 use Rattle.reencode_core.proofs.faults.WalkRefusals.{IfParse-map}
 
 -- ---- errors

@@ -27,7 +27,7 @@ use Rattle.reencode_items.specs.Direct.{MakesOperator, PassesNext, PassesRun, Sk
 use Rattle.reencode_core.specs.Direct.{AcceptsFront, DealsWith, MapsFront}
 use Rattle.reencode_core.proofs.bodies.BodyLoop.{OperatorsDone, operators_begin, operators_more, same_locals}
 use Rattle.reencode_core.proofs.bodies.EachBody.{BodyClauses, LocalsClauses, OperatorsKept}
-use Rattle.reencode_core.proofs.rows.OneRow.{asks}
+use Rattle.reencode_core.proofs.rows_walked.OneRow.{asks}
 use Rattle.reencode_items.proofs.Passing.{unasked_walk}
 use Rattle.reencode_items.proofs.Runs.{no_run, no_run_counted, run_left}
 use Rattle.reencode_core.proofs.bodies.OperatorRuns.{many_front, operators_many, run_not_added}

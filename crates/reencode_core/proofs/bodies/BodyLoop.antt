@@ -24,9 +24,9 @@ use Rattle.reencode_hooks.specs.Run.{accepted, refused, ask}
 use Rattle.reencode_hooks.specs.Walk.{walk}
 use Rattle.reencode_core.specs.Errors.{IfParse, IfRefused, placed_at}
 use Rattle.reencode_core.specs.Rows.{Asks, GivesRow, locals, StopsBody, RefusesWhole, RefusesInside, GivesRows}
-use Rattle.reencode_core.proofs.rows.RowsToEnd.{ManyDone, end_of_many, first_of_many, many_begun, many_more, none_of_many}
-use Rattle.reencode_core.proofs.rows.RowLoop.{RowsDone, rows_more, rows_unread, rows_faulty, rows_refused_if, large_is_many}
-use Rattle.reencode_core.proofs.sections.KnownKind.{closed_fits, closed_large}
+use Rattle.reencode_core.proofs.rows_walked.RowsToEnd.{ManyDone, end_of_many, first_of_many, many_begun, many_more, none_of_many}
+use Rattle.reencode_core.proofs.rows_walked.RowLoop.{RowsDone, rows_more, rows_unread, rows_faulty, rows_refused_if, large_is_many}
+use Rattle.reencode_core.proofs.sections_walked.KnownKind.{closed_fits, closed_large}
 use Rattle.reencode_core.specs.Bodies.{KeepsCode, GivesBody}
 
 -- ---- frames and bodies

@@ -32,8 +32,8 @@ use Rattle.reencode_core.proofs.bodies.BodyLoop.{OperatorsDone, body_err, body_m
 use Rattle.reencode_core.proofs.after_error.BodyVisited.{body_leaves_locals, body_leaves_next, body_leaves_none, body_leaves_operator, code_leaves_next}
 use Rattle.reencode_core.proofs.after_error.VisitsMade.{ended_all, fault_known, placed_wants, tells_if, tree_made, wants_placed, wants_tells_none, write_tells_none, write_unasked}
 use Rattle.reencode_core.proofs.after_error.RowsVisited.{rows_held, rows_leave_none}
-use Rattle.reencode_core.proofs.rows.OneRow.{answers}
-use Rattle.reencode_core.proofs.rows.RowLoop.{RowsDone, kept_on, rows_all, rows_begin}
+use Rattle.reencode_core.proofs.rows_walked.OneRow.{answers}
+use Rattle.reencode_core.proofs.rows_walked.RowLoop.{RowsDone, kept_on, rows_all, rows_begin}
 use Rattle.reencode_core.proofs.bodies.WholeBody.{body_given, body_locals_refused, body_not_added, body_wants, operator_err, operators_never}
 
 -- ---- a code section

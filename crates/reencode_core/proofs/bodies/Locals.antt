@@ -20,7 +20,7 @@ use Rattle.reencode_core.specs.Rows.{Asks, onto_rows}
 use Rattle.reencode_core.specs.Bodies.{GivesLocals}
 use Rattle.reencode_core.specs.Rows.{locals}
 use Rattle.reencode_core.proofs.faults.WalkRefusals.{unless_wanting, usual_walk, stops_usual}
-use Rattle.reencode_core.proofs.rows.TypeGroup.{ItemsDone, rows_then-both}
+use Rattle.reencode_core.proofs.rows_walked.TypeGroup.{ItemsDone, rows_then-both}
 use Rattle.reencode_core.proofs.bodies.BodyLoop.{same_locals}
 use Rattle.std.proofs.lemmas.List.{map-append}
 

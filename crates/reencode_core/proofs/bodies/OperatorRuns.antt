@@ -27,7 +27,7 @@ use Rattle.reencode_core.proofs.bodies.BodyLoop.{ManyLeft, OperatorsDone, keeps_
 use Rattle.reencode_core.proofs.bodies.EachBody.{BodyClauses, LocalsClauses, OperatorsKept}
 use Rattle.reencode_core.proofs.after_error.BodyVisited.{body_leaves_next, body_leaves_none, body_leaves_refused}
 use Rattle.reencode_core.proofs.after_error.VisitsMade.{not_wanting, tree_made, wants_tells_none}
-use Rattle.reencode_core.proofs.rows.OneRow.{answers, asks}
+use Rattle.reencode_core.proofs.rows_walked.OneRow.{answers, asks}
 use Rattle.reencode_core.proofs.bodies.WholeBody.{body_wants, operator_refused}
 
 pub many_front : (rows : List Tree) (text left bytes : List ℕ) → Is (Shape.many (Shape.op true)) (rows_tree rows) → Spelled (rows_tree rows) text → bytes ≡ text ++ left →

@@ -24,7 +24,7 @@ use Rattle.reencode_items.proofs.Runs.{run_added}
 use Rattle.reencode_core.proofs.bodies.BodyLoop.{keeps_code}
 use Rattle.reencode_core.proofs.bodies.EachBody.{body_added, body_refused, operator_not_added, operator_refused}
 use Rattle.reencode_core.proofs.bodies.BodyFromPlace.{RestClauses, RestKept, begins_of, front_at, front_made, front_other, front_run, here_of, made_of, next_not_added, rest_given}
-use Rattle.reencode_core.proofs.rows.OneRow.{asks}
+use Rattle.reencode_core.proofs.rows_walked.OneRow.{asks}
 use Rattle.reencode_core.proofs.bodies.OperatorRuns.{run_not_added, run_refused}
 use Rattle.reencode_core.proofs.bodies.WholeBody.{some_length}
 

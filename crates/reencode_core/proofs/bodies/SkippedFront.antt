@@ -25,7 +25,7 @@ use Rattle.reencode_core.specs.Direct.{MapsFront}
 use Rattle.reencode_core.proofs.bodies.BodyLoop.{keeps_code, same_locals}
 use Rattle.reencode_core.proofs.bodies.EachBody.{BodyClauses, body_added, body_refused}
 use Rattle.reencode_core.proofs.bodies.BodyFromPlace.{begins_of, behind_skipped, front_at, front_passed, front_skipped, here_of, made_of, passed_body, passed_held, skipped_begins, skipped_rest, with_skipped}
-use Rattle.reencode_core.proofs.rows.OneRow.{answers, asks}
+use Rattle.reencode_core.proofs.rows_walked.OneRow.{answers, asks}
 use Rattle.reencode_core.proofs.bodies.OperatorRuns.{run_not_added, run_refused}
 use Rattle.reencode_core.proofs.bodies.WholeBody.{operators_never}
 

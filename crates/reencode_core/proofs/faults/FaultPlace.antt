@@ -21,7 +21,7 @@ use Rattle.reencode_core.specs.Weave.{Puts}
 use Rattle.reencode_core.specs.Woven.{AddedThere, GainsFront, IsOwn}
 use Rattle.reencode_core.specs.Faults.{FaultGives, FaultTells}
 use Rattle.reencode_core.specs.Leaves.{TellsFault}
-use Rattle.reencode_core.proofs.sections.CoreLoop.{Ahead, same, more, ahead, none_behind, same_sections}
+use Rattle.reencode_core.proofs.sections_walked.CoreLoop.{Ahead, same, more, ahead, none_behind, same_sections}
 use Rattle.reencode_core.proofs.faults.OneFront.{one_front}
 use Rattle.reencode_core.proofs.faults.WalkRefusals.{Usual, stops_usual, usual_ask, usual_walk}
 

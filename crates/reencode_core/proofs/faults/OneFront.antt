@@ -8,7 +8,7 @@ use Rattle.wasm_shapes.specs.Spells.{Is, Spells}
 use Rattle.wasm_shapes.specs.Module.{core_header, section, sections, alsos, CoreReading, Front}
 use Rattle.wasm_shapes.proofs.Fronts.{nullable_sound}
 use Rattle.reencode_core.specs.Faults.{HasFront, OneFront, ReadsOrFails}
-use Rattle.reencode_core.proofs.sections.CoreLoop.{Ahead, same, more, ahead, joined, one_section, same_sections}
+use Rattle.reencode_core.proofs.sections_walked.CoreLoop.{Ahead, same, more, ahead, joined, one_section, same_sections}
 use Rattle.reencode_core.proofs.weave.Weaves.{alsos-append}
 
 -- ---- there is one

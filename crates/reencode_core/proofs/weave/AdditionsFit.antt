@@ -17,7 +17,7 @@ use Rattle.reencode_hooks.proofs.SectionVisits.{none_told, within}
 use Rattle.reencode_core.specs.Rows.{Asks}
 use Rattle.reencode_core.specs.Weave.{AtSections, Puts}
 use Rattle.reencode_core.specs.Woven.{AddedAt, AddedBefore, AddsFit}
-use Rattle.reencode_core.proofs.sections.AnySection.{AreTold, added_run, told_before, told_behind}
+use Rattle.reencode_core.proofs.sections_walked.AnySection.{AreTold, added_run, told_before, told_behind}
 use Rattle.reencode_core.proofs.after_error.VisitsMade.{run_state}
 
 abbrev none_there : SectionRow

@@ -17,11 +17,11 @@ use Rattle.reencode_core.specs.Rows.{Asks}
 use Rattle.reencode_core.specs.Weave.{Puts, added, weave}
 use Rattle.reencode_core.specs.Woven.{AddsFit, IsOwn, OwnBehind, OwnNext, OwnTooLarge, WovenFront, AcceptedIsAnswered}
 use Rattle.reencode_core.proofs.weave.AddsNothing.{own_fits}
-use Rattle.reencode_core.proofs.sections.CoreLoop.{Ahead, same, more, ahead, none_behind, same_there, visits_alsos}
+use Rattle.reencode_core.proofs.sections_walked.CoreLoop.{Ahead, same, more, ahead, none_behind, same_there, visits_alsos}
 use Rattle.reencode_hooks.specs.Walk.{walk}
 use Rattle.reencode_hooks.proofs.Walks.{walk_is_run}
-use Rattle.reencode_core.proofs.sections.AnySection.{told_before, told_behind}
-use Rattle.reencode_core.proofs.sections.KnownKind.{some_begun}
+use Rattle.reencode_core.proofs.sections_walked.AnySection.{told_before, told_behind}
+use Rattle.reencode_core.proofs.sections_walked.KnownKind.{some_begun}
 use Rattle.reencode_core.proofs.after_error.VisitsMade.{run_state}
 use Rattle.reencode_core.proofs.weave.Weaves.{weave_is_run}
 

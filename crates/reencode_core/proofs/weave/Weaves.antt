@@ -19,7 +19,7 @@ use Rattle.reencode_core.specs.Rows.{Asks}
 use Rattle.reencode_core.specs.Core.{onto}
 use Rattle.reencode_core.specs.Weave.{AtSections, Puts, put_at, put_before, put_behind, woven_one, weave, weave_from, woven_from, woven}
 use Rattle.reencode_core.specs.WovenLaws.{WeaveOfNothing, ends, WeaveEnds, AcceptsWoven, WeaveIsRun}
-use Rattle.reencode_core.proofs.rows.SmallCounts.{run_parts, run_then}
+use Rattle.reencode_core.proofs.rows_walked.SmallCounts.{run_parts, run_then}
 use Rattle.reencode_core.proofs.after_error.VisitsMade.{run_state}
 
 -- ---- steps

@@ -1,7 +1,7 @@
 use Rattle.wasm_shapes.specs.declared.Space.TheVariants as space
 use Rattle.wasm_types.specs.declared.components.Operands.TheVariants as operands
-use Rattle.reencode_component.proofs.rows.OperandsWalked.{hands_on_operands}
-use Rattle.reencode_component.proofs.rows.PartsWalked.{first_ended, index_ended, index_mapped, second_ended}
+use Rattle.reencode_component.proofs.rows_walked.OperandsWalked.{hands_on_operands}
+use Rattle.reencode_component.proofs.rows_walked.PartsWalked.{first_ended, index_ended, index_mapped, second_ended}
 use Rattle.reencode_component.proofs.canonical.core_type_and_table.Goals as goal
 
 pub returns-in_err-ty : goal.returns-in_err-ty

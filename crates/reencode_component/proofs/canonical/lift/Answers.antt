@@ -2,8 +2,8 @@ use Rattle.std.proofs.Common.{refl}
 use Rattle.wasm_shapes.specs.declared.Space.TheVariants as space
 use Rattle.wasm_types.specs.declared.components.Operands.TheVariants as operands
 use Rattle.wasm_types.specs.ComponentTrees.{canonical_options_tree}
-use Rattle.reencode_component.proofs.rows.OperandsWalked.{gives_operands, hands_on_operands}
-use Rattle.reencode_component.proofs.rows.PartsWalked.{both_mapped, first_ended, index_ended, index_mapped, late_ended, led_ended, led_mapped, list_ended, list_mapped, second_ended, swap_mapped}
+use Rattle.reencode_component.proofs.rows_walked.OperandsWalked.{gives_operands, hands_on_operands}
+use Rattle.reencode_component.proofs.rows_walked.PartsWalked.{both_mapped, first_ended, index_ended, index_mapped, late_ended, led_ended, led_mapped, list_ended, list_mapped, second_ended, swap_mapped}
 use Rattle.reencode_component.proofs.canonical.lift.Goals as goal
 
 pub returns-in_err-func : goal.returns-in_err-func

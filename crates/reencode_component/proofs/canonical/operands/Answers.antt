@@ -3,8 +3,8 @@ use Rattle.wasm_shapes.specs.declared.Space.TheVariants as space
 use Rattle.wasm_types.specs.declared.components.Operands.TheVariants as operands
 use Rattle.wasm_read.specs.Types as read
 use Rattle.wasm_write.specs.Types as write
-use Rattle.reencode_component.proofs.rows.OperandsWalked.{hands_on_operands}
-use Rattle.reencode_component.proofs.rows.PartsWalked.{first_ended, index_ended, item_ended}
+use Rattle.reencode_component.proofs.rows_walked.OperandsWalked.{hands_on_operands}
+use Rattle.reencode_component.proofs.rows_walked.PartsWalked.{first_ended, index_ended, item_ended}
 use Rattle.reencode_component.proofs.canonical.operands.Goals as goal
 
 pub returns-in-Lift : goal.returns-in-Lift

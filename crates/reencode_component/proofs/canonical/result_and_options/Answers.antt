@@ -1,7 +1,7 @@
 use Rattle.wasm_types.specs.declared.components.Operands.TheVariants as operands
 use Rattle.wasm_types.specs.ComponentTrees.{canonical_options_tree, result_tree}
-use Rattle.reencode_component.proofs.rows.OperandsWalked.{hands_on_operands}
-use Rattle.reencode_component.proofs.rows.PartsWalked.{early_ended, list_ended}
+use Rattle.reencode_component.proofs.rows_walked.OperandsWalked.{hands_on_operands}
+use Rattle.reencode_component.proofs.rows_walked.PartsWalked.{early_ended, list_ended}
 use Rattle.reencode_component.proofs.canonical.result_and_options.Goals as goal
 
 pub returns-in_err-options : goal.returns-in_err-options

@@ -1,6 +1,6 @@
-use Rattle.reencode_component.proofs.sections.RowsMapped.{section_rows}
-use Rattle.reencode_component.proofs.sections.EachSection.{section_mapped, section_unread}
-use Rattle.reencode_component.proofs.rows.FlatRows.{flat_clauses}
+use Rattle.reencode_component.proofs.sections_walked.RowsMapped.{section_rows}
+use Rattle.reencode_component.proofs.sections_walked.EachSection.{section_mapped, section_unread}
+use Rattle.reencode_component.proofs.rows_walked.FlatRows.{flat_clauses}
 use Rattle.reencode_component.proofs.component_sections.flat_rows.Goals as goal
 
 pub returns-in-Ok : goal.returns-in-Ok

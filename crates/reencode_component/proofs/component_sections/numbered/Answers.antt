@@ -1,5 +1,5 @@
 use Rattle.std.proofs.Common.{arith}
-use Rattle.reencode_component.proofs.sections.EachSection.{raw_added, unknown_not_read}
+use Rattle.reencode_component.proofs.sections_walked.EachSection.{raw_added, unknown_not_read}
 use Rattle.reencode_component.proofs.component_sections.numbered.Goals as goal
 
 pub returns-in_default : goal.returns-in_default

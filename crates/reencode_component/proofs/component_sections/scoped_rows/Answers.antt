@@ -1,5 +1,5 @@
-use Rattle.reencode_component.proofs.sections.RowsMapped.{section_rows}
-use Rattle.reencode_component.proofs.sections.EachSection.{scoped_mapped, section_unread}
+use Rattle.reencode_component.proofs.sections_walked.RowsMapped.{section_rows}
+use Rattle.reencode_component.proofs.sections_walked.EachSection.{scoped_mapped, section_unread}
 use Rattle.reencode_component.proofs.component_sections.scoped_rows.Goals as goal
 
 pub returns-in-Ok : goal.returns-in-Ok

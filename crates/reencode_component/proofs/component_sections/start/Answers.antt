@@ -1,4 +1,4 @@
-use Rattle.reencode_component.proofs.sections.EachSection.{frame_wanted, start_added, start_unread}
+use Rattle.reencode_component.proofs.sections_walked.EachSection.{frame_wanted, start_added, start_unread}
 use Rattle.reencode_component.proofs.component_sections.start.Goals as goal
 
 pub returns-in-Ok : goal.returns-in-Ok

@@ -13,12 +13,12 @@ use Rattle.wasm_write_component.specs.declared.declarations.ComponentTypeRow.The
 use Rattle.wasm_write_component.specs.declared.declarations.ComponentTypeDeclaration.TheVariants as made_component
 use Rattle.wasm_write_component.specs.declared.declarations.InstanceTypeDeclaration.TheVariants as made_instance
 use Rattle.wasm_write_component.specs.TypeRows as made
-use Rattle.reencode_component.proofs.rows.EachShallowRow.{shallow_added, shallow_begun, shallow_ended, shallow_refused, shallow_stuck}
-use Rattle.reencode_component.proofs.types.ScopeCalls.{shallow_closed, shallow_stopped}
-use Rattle.reencode_component.proofs.types.TypesBehind.{core_behind, core_behind_ended, shallow_behind, shallow_behind_ended, type_behind, type_behind_ended}
-use Rattle.reencode_component.proofs.types.TypesStanding.{component_row, instance_row}
-use Rattle.reencode_component.proofs.types.TypeWeights.{component_falls, component_weight, instance_falls, instance_weight, scope_weight}
-use Rattle.reencode_component.proofs.rows.PartsWalked.{Mapped, first_ended, hands_on, item_ended, led_ended, row_ended, second_ended}
+use Rattle.reencode_component.proofs.rows_walked.EachShallowRow.{shallow_added, shallow_begun, shallow_ended, shallow_refused, shallow_stuck}
+use Rattle.reencode_component.proofs.types_walked.ScopeCalls.{shallow_closed, shallow_stopped}
+use Rattle.reencode_component.proofs.types_walked.TypesBehind.{core_behind, core_behind_ended, shallow_behind, shallow_behind_ended, type_behind, type_behind_ended}
+use Rattle.reencode_component.proofs.types_walked.TypesStanding.{component_row, instance_row}
+use Rattle.reencode_component.proofs.types_walked.TypeWeights.{component_falls, component_weight, instance_falls, instance_weight, scope_weight}
+use Rattle.reencode_component.proofs.rows_walked.PartsWalked.{Mapped, first_ended, hands_on, item_ended, led_ended, row_ended, second_ended}
 use Rattle.reencode_component.proofs.component_types.+types.Goals as goal
 
 pub parse_component_type-returns-in_err-declarations-in-Component : goal.parse_component_type-returns-in_err-declarations-in-Component

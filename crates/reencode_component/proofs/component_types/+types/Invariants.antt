@@ -1,7 +1,7 @@
 use Rattle.std.proofs.Common.{◌+◌}
 use Rattle.wasm_shapes.specs.Component as shapes
-use Rattle.reencode_component.proofs.rows.EachShallowRow.{ShallowKept}
-use Rattle.reencode_component.proofs.types.TypeWeights.{component_weight, instance_weight, scope_weight, type_weight}
+use Rattle.reencode_component.proofs.rows_walked.EachShallowRow.{ShallowKept}
+use Rattle.reencode_component.proofs.types_walked.TypeWeights.{component_weight, instance_weight, scope_weight, type_weight}
 use Rattle.reencode_component.proofs.component_types.+types.Given as goal
 
 -- the scopes that may still be opened, and between two the order of the calls

@@ -1,5 +1,5 @@
-use Rattle.reencode_core.proofs.names.SubsectionLoop.{names_begun, names_ended, names_on, names_refused, names_stuck}
-use Rattle.reencode_component.proofs.names.NameCalls.{component_laws}
+use Rattle.reencode_core.proofs.names_mapped.SubsectionLoop.{names_begun, names_ended, names_on, names_refused, names_stuck}
+use Rattle.reencode_component.proofs.names_mapped.NameCalls.{component_laws}
 use Rattle.reencode_component.proofs.component_utils.custom_component_name_section.Goals as goal
 
 pub rows-init : goal.rows-init

@@ -1,8 +1,8 @@
 use Rattle.std.proofs.Common.{rules}
 use Rattle.wasm_write.specs.Types.{custom_section_tree}
-use Rattle.reencode_core.proofs.sections.CustomSection.{names_added, names_not_added, other_added, other_not_mapped}
+use Rattle.reencode_core.proofs.sections_walked.CustomSection.{names_added, names_not_added, other_added, other_not_mapped}
 use Rattle.reencode_component.specs.ComponentNames.{component_custom}
-use Rattle.reencode_component.proofs.names.NameCalls.{component_laws}
+use Rattle.reencode_component.proofs.names_mapped.NameCalls.{component_laws}
 use Rattle.reencode_component.proofs.component_utils.parse_component_custom_section.Goals as goal
 
 pub returns-in_err-names : goal.returns-in_err-names

@@ -1,9 +1,9 @@
 use Rattle.std.proofs.Common.{◌+◌, refl}
 use Rattle.reencode_component.specs.NestedClauses.{inner_component}
-use Rattle.reencode_component.proofs.sections.EachComponent.{component_begun, component_headless, kept_ended, kept_more, kept_refused, kept_unframed}
-use Rattle.reencode_component.proofs.nested.NestedComponent.{component_accepted, component_nested, component_no_rows, component_refused}
-use Rattle.reencode_component.proofs.nested.NestedReadings.{component_too_deep}
-use Rattle.reencode_component.proofs.nested.NestedSections.{nested_added, nested_deep, nested_large, nested_refused, nested_unmade, nested_unopened}
+use Rattle.reencode_component.proofs.sections_walked.EachComponent.{component_begun, component_headless, kept_ended, kept_more, kept_refused, kept_unframed}
+use Rattle.reencode_component.proofs.nested_binaries.NestedComponent.{component_accepted, component_nested, component_no_rows, component_refused}
+use Rattle.reencode_component.proofs.nested_binaries.NestedReadings.{component_too_deep}
+use Rattle.reencode_component.proofs.nested_binaries.NestedSections.{nested_added, nested_deep, nested_large, nested_refused, nested_unmade, nested_unopened}
 use Rattle.reencode_component.proofs.component_walk.+components.Goals as goal
 
 pub parse_component-returns-in_err-payloads : goal.parse_component-returns-in_err-payloads

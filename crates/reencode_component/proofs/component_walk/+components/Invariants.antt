@@ -1,5 +1,5 @@
 use Rattle.std.proofs.Common.{◌+◌, ◌-◌, ◌*◌, length}
-use Rattle.reencode_component.proofs.sections.EachComponent.{ComponentKept}
+use Rattle.reencode_component.proofs.sections_walked.EachComponent.{ComponentKept}
 use Rattle.reencode_component.proofs.component_walk.+components.Given as goal
 
 -- the scopes that may still be opened, and between two the order of the calls

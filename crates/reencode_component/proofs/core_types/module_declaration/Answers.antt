@@ -3,8 +3,8 @@ use Rattle.wasm_write.specs.Types as write_types
 use Rattle.wasm_read_component.specs.declared.declarations.ModuleTypeDeclaration.TheVariants as decl
 use Rattle.wasm_read_component.specs.TypeRows as read
 use Rattle.wasm_write_component.specs.TypeRows as write
-use Rattle.reencode_component.proofs.types.TypeParts.{name_mapped, outer_ended}
-use Rattle.reencode_component.proofs.rows.PartsWalked.{hands_on, item_ended, led_ended, row_ended, second_ended}
+use Rattle.reencode_component.proofs.types_walked.TypeParts.{name_mapped, outer_ended}
+use Rattle.reencode_component.proofs.rows_walked.PartsWalked.{hands_on, item_ended, led_ended, row_ended, second_ended}
 use Rattle.reencode_component.proofs.core_types.module_declaration.Goals as goal
 
 pub returns-in_err-ty-in-Export : goal.returns-in_err-ty-in-Export

@@ -1,6 +1,6 @@
 use Rattle.wasm_read_component.specs.TypeRows as read
 use Rattle.wasm_write_component.specs.TypeRows as write
-use Rattle.reencode_component.proofs.rows.RowAdded.{list_added}
+use Rattle.reencode_component.proofs.rows_walked.RowAdded.{list_added}
 use Rattle.reencode_component.proofs.core_types.parse_component_module_type_declaration.Goals as goal
 
 pub returns : goal.returns

@@ -1,4 +1,4 @@
-use Rattle.reencode_component.proofs.sections.FrontLaws as fronts
+use Rattle.reencode_component.proofs.sections_walked.FrontLaws as fronts
 use Rattle.reencode_component.proofs.faults.OneFault as laws
 use Rattle.reencode_component.proofs.fault_laws.component_front_is_one.Goals as goal
 

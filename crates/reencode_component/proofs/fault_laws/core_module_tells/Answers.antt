@@ -1,4 +1,4 @@
-use Rattle.reencode_component.proofs.laws.ModuleLaws as laws
+use Rattle.reencode_component.proofs.whole_binaries.ModuleLaws as laws
 use Rattle.reencode_component.proofs.fault_laws.core_module_tells.Goals as goal
 
 pub returns : goal.returns

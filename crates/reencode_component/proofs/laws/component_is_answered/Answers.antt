@@ -1,4 +1,4 @@
-use Rattle.reencode_component.proofs.laws.ComponentLaws as laws
+use Rattle.reencode_component.proofs.whole_binaries.ComponentLaws as laws
 use Rattle.reencode_component.proofs.laws.component_is_answered.Goals as goal
 
 pub returns : goal.returns

@@ -1,4 +1,4 @@
-use Rattle.reencode_component.proofs.laws.WithinLaws as laws
+use Rattle.reencode_component.proofs.whole_binaries.WithinLaws as laws
 use Rattle.reencode_component.proofs.laws.module_error_tells.Goals as goal
 
 pub returns : goal.returns

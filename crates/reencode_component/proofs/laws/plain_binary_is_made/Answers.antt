@@ -1,6 +1,6 @@
 use Rattle.reencode_component.specs.WithinLaws.{as_binary, of_binary}
-use Rattle.reencode_component.proofs.laws.PlainLaws as plain
-use Rattle.reencode_component.proofs.laws.WithinLaws as laws
+use Rattle.reencode_component.proofs.whole_binaries.PlainLaws as plain
+use Rattle.reencode_component.proofs.whole_binaries.WithinLaws as laws
 use Rattle.reencode_component.proofs.laws.plain_binary_is_made.Goals as goal
 
 pub returns-clause-ok : goal.returns-clause-ok

@@ -1,6 +1,6 @@
 use Rattle.std.proofs.Common.{ap}
 use Rattle.wasm_read_component.specs.ComponentNames.{component_content}
-use Rattle.reencode_component.proofs.names.NameCalls.{component_written, raw_written}
+use Rattle.reencode_component.proofs.names_mapped.NameCalls.{component_written, raw_written}
 use Rattle.reencode_component.proofs.names.parse_custom_component_name_subsection.Goals as goal
 
 pub returns-in-Component : goal.returns-in-Component

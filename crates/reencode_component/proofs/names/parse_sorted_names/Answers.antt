@@ -1,9 +1,9 @@
 use Rattle.std.proofs.Common.{◌≡◌, Err, refl, rules, true}
 use denote.Param.Always.{mut_by}
 use Rattle.wasm_shapes.specs.ComponentNames.{has_sort}
-use Rattle.reencode_core.proofs.names.EachSubsection.{map_calls, map_stopped, map_written, not_written}
-use Rattle.reencode_core.proofs.names.MapCalls.{quiet_name}
-use Rattle.reencode_component.proofs.names.NameCalls.{sorted_length, sorted_map, wraps}
+use Rattle.reencode_core.proofs.names_mapped.EachSubsection.{map_calls, map_stopped, map_written, not_written}
+use Rattle.reencode_core.proofs.names_mapped.MapCalls.{quiet_name}
+use Rattle.reencode_component.proofs.names_mapped.NameCalls.{sorted_length, sorted_map, wraps}
 use Rattle.reencode_component.proofs.names.parse_sorted_names.Goals as goal
 
 pub map_names-requires : goal.map_names-requires

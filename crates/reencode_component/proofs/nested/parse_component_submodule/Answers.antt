@@ -1,7 +1,7 @@
 use Rattle.reencode_component.specs.NestedClauses.{inner_module}
-use Rattle.reencode_component.proofs.nested.NestedModule.{module_accepted, module_nested, module_no_rows, module_refused}
-use Rattle.reencode_component.proofs.nested.NestedReadings.{module_too_deep}
-use Rattle.reencode_component.proofs.nested.NestedSections.{nested_added, nested_deep, nested_large, nested_refused, nested_unmade, nested_unopened}
+use Rattle.reencode_component.proofs.nested_binaries.NestedModule.{module_accepted, module_nested, module_no_rows, module_refused}
+use Rattle.reencode_component.proofs.nested_binaries.NestedReadings.{module_too_deep}
+use Rattle.reencode_component.proofs.nested_binaries.NestedSections.{nested_added, nested_deep, nested_large, nested_refused, nested_unmade, nested_unopened}
 use Rattle.reencode_component.proofs.nested.parse_component_submodule.Goals as goal
 
 pub returns-then-depth-ge-DEPTH : goal.returns-then-depth-ge-DEPTH

@@ -3,7 +3,7 @@ use Rattle.wasm_shapes.specs.declared.Space.TheVariants as space
 use Rattle.wasm_shapes.specs.Types.{vector_tree}
 use Rattle.wasm_types.specs.declared.components.ComponentInstance.TheVariants as instance
 use Rattle.wasm_types.specs.ComponentTrees.{component_arg_tree, component_instance_tree}
-use Rattle.reencode_component.proofs.rows.PartsWalked.{hands_on, index_mapped, led_ended, list_ended, row_ended, second_ended}
+use Rattle.reencode_component.proofs.rows_walked.PartsWalked.{hands_on, index_mapped, led_ended, list_ended, row_ended, second_ended}
 use Rattle.reencode_component.proofs.row_bodies.component_instance.Goals as goal
 
 pub returns-in_err-args-in-Instantiate : goal.returns-in_err-args-in-Instantiate

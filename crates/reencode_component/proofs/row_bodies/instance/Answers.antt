@@ -5,7 +5,7 @@ use Rattle.wasm_types.specs.declared.components.Instance.TheVariants as instance
 use Rattle.wasm_types.specs.ComponentTrees.{instance_tree, instantiation_arg_tree}
 use Rattle.wasm_read.specs.Types.{export_tree}
 use Rattle.wasm_write_component.specs.ComponentRows as write
-use Rattle.reencode_component.proofs.rows.PartsWalked.{hands_on, index_mapped, led_ended, list_ended, row_ended, second_ended}
+use Rattle.reencode_component.proofs.rows_walked.PartsWalked.{hands_on, index_mapped, led_ended, list_ended, row_ended, second_ended}
 use Rattle.reencode_component.proofs.row_bodies.instance.Goals as goal
 
 pub returns-in_err-args-in-Instantiate : goal.returns-in_err-args-in-Instantiate

@@ -4,8 +4,8 @@ use Rattle.wasm_shapes.specs.Tree.{Tree}
 use Rattle.wasm_shapes.specs.Types.{vector_tree}
 use Rattle.wasm_read_component.specs.ComponentRows.{start_tree}
 use Rattle.wasm_write_component.specs.ComponentRows.{value_index_tree}
-use Rattle.reencode_component.proofs.sections.SectionAdded.{made_tree}
-use Rattle.reencode_component.proofs.rows.PartsWalked.{Mapped, both_mapped, first_ended, gives_list, hands_on, index_mapped, list_ended, list_mapped, second_ended}
+use Rattle.reencode_component.proofs.sections_walked.SectionAdded.{made_tree}
+use Rattle.reencode_component.proofs.rows_walked.PartsWalked.{Mapped, both_mapped, first_ended, gives_list, hands_on, index_mapped, list_ended, list_mapped, second_ended}
 use Rattle.reencode_component.proofs.row_bodies.start.Goals as goal
 
 pub returns-in_err-args : goal.returns-in_err-args

@@ -1,5 +1,5 @@
-use Rattle.reencode_core.proofs.rows.EachRow.{rows_begun, rows_ended, rows_stuck, rows_added, rows_refused_at}
-use Rattle.reencode_core.proofs.rows.RowLoop.{none_if}
+use Rattle.reencode_core.proofs.rows_walked.EachRow.{rows_begun, rows_ended, rows_stuck, rows_added, rows_refused_at}
+use Rattle.reencode_core.proofs.rows_walked.RowLoop.{none_if}
 use Rattle.reencode_component.proofs.row_sections.map_rows.Goals as goal
 
 pub rows-init : goal.rows-init

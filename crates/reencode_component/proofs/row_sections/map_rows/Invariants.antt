@@ -1,4 +1,4 @@
-use Rattle.reencode_core.proofs.rows.EachRow.{RowsKept}
+use Rattle.reencode_core.proofs.rows_walked.EachRow.{RowsKept}
 use Rattle.reencode_component.proofs.row_sections.map_rows.Given as goal
 
 -- the rows so far are walked and added

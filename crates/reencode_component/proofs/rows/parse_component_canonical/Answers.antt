@@ -1,6 +1,6 @@
 use Rattle.wasm_read_component.specs.ComponentRows as read
 use Rattle.wasm_write_component.specs.ComponentRows as write
-use Rattle.reencode_component.proofs.rows.RowAdded.{list_added}
+use Rattle.reencode_component.proofs.rows_walked.RowAdded.{list_added}
 use Rattle.reencode_component.proofs.rows.parse_component_canonical.Goals as goal
 
 pub returns : goal.returns

@@ -1,5 +1,5 @@
 use Rattle.wasm_types.specs.ComponentTrees.{component_export_tree}
-use Rattle.reencode_component.proofs.rows.RowAdded.{item_added}
+use Rattle.reencode_component.proofs.rows_walked.RowAdded.{item_added}
 use Rattle.reencode_component.proofs.rows.parse_component_export.Goals as goal
 
 pub returns : goal.returns

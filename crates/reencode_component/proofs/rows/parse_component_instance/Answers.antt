@@ -1,5 +1,5 @@
 use Rattle.wasm_types.specs.ComponentTrees.{component_instance_tree}
-use Rattle.reencode_component.proofs.rows.RowAdded.{list_added}
+use Rattle.reencode_component.proofs.rows_walked.RowAdded.{list_added}
 use Rattle.reencode_component.proofs.rows.parse_component_instance.Goals as goal
 
 pub returns : goal.returns

@@ -1,7 +1,7 @@
 use Rattle.wasm_types.specs.ComponentTrees.{instance_tree}
 use Rattle.wasm_read.specs.Types.{export_tree}
 use Rattle.wasm_write_component.specs.ComponentRows as write
-use Rattle.reencode_component.proofs.rows.RowAdded.{list_added}
+use Rattle.reencode_component.proofs.rows_walked.RowAdded.{list_added}
 use Rattle.reencode_component.proofs.rows.parse_instance.Goals as goal
 
 pub returns : goal.returns

@@ -1,5 +1,5 @@
-use Rattle.reencode_core.proofs.rows.RowLoop.{none_if}
-use Rattle.reencode_component.proofs.rows.EachShallowRow.{shallow_added, shallow_begun, shallow_ended, shallow_refused, shallow_stuck}
+use Rattle.reencode_core.proofs.rows_walked.RowLoop.{none_if}
+use Rattle.reencode_component.proofs.rows_walked.EachShallowRow.{shallow_added, shallow_begun, shallow_ended, shallow_refused, shallow_stuck}
 use Rattle.reencode_component.proofs.scoped_sections.map_scoped_rows.Goals as goal
 
 pub rows-init : goal.rows-init

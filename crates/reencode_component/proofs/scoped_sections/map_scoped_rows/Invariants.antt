@@ -1,4 +1,4 @@
-use Rattle.reencode_component.proofs.rows.EachShallowRow.{ShallowKept}
+use Rattle.reencode_component.proofs.rows_walked.EachShallowRow.{ShallowKept}
 use Rattle.reencode_component.proofs.scoped_sections.map_scoped_rows.Given as goal
 
 -- the rows so far are walked and added

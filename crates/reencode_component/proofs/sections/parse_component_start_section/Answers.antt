@@ -1,8 +1,8 @@
 use Rattle.std.proofs.Common.{Ok, refl}
 use Rattle.wasm_shapes.specs.Tree.{Tree}
 use Rattle.wasm_read_component.specs.ComponentRows.{start_tree}
-use Rattle.reencode_component.proofs.sections.SectionAdded.{made_tree, start_refused, whole_added, whole_not_added, whole_refused}
-use Rattle.reencode_component.proofs.rows.PartsWalked.{list_ended, list_mapped}
+use Rattle.reencode_component.proofs.sections_walked.SectionAdded.{made_tree, start_refused, whole_added, whole_not_added, whole_refused}
+use Rattle.reencode_component.proofs.rows_walked.PartsWalked.{list_ended, list_mapped}
 use Rattle.reencode_component.proofs.sections.parse_component_start_section.Goals as goal
 
 pub returns-in_err-start : goal.returns-in_err-start

@@ -1,7 +1,7 @@
 use Rattle.std.proofs.Common.{Ok, refl}
 use Rattle.wasm_shapes.specs.Tree.{Tree}
-use Rattle.reencode_component.proofs.sections.SectionAdded.{whole_added, whole_not_added}
-use Rattle.reencode_component.proofs.rows.PartsWalked.{Mapped}
+use Rattle.reencode_component.proofs.sections_walked.SectionAdded.{whole_added, whole_not_added}
+use Rattle.reencode_component.proofs.rows_walked.PartsWalked.{Mapped}
 use Rattle.reencode_component.proofs.sections.parse_unknown_component_section.Goals as goal
 
 pub returns-in_err-section : goal.returns-in_err-section

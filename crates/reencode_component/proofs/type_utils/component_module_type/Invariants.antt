@@ -1,5 +1,5 @@
 use Rattle.wasm_shapes.specs.Component.{module_declaration}
-use Rattle.reencode_core.proofs.rows.EachRow.{RowsKept}
+use Rattle.reencode_core.proofs.rows_walked.EachRow.{RowsKept}
 use Rattle.reencode_component.proofs.type_utils.component_module_type.Given as goal
 
 -- the declarations so far are walked and added

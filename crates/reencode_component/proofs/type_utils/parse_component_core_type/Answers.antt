@@ -1,8 +1,8 @@
 use Rattle.wasm_shapes.specs.Component.{module_declaration}
 use Rattle.wasm_write_component.specs.declared.declarations.CoreType.TheVariants as core
 use Rattle.wasm_write_component.specs.TypeRows.{core_type_tree, scope_tree}
-use Rattle.reencode_component.proofs.types.CoreGroups.{group_ended, group_mapped}
-use Rattle.reencode_component.proofs.types.TypesBehind.{scope_behind, scope_behind_ended}
+use Rattle.reencode_component.proofs.types_walked.CoreGroups.{group_ended, group_mapped}
+use Rattle.reencode_component.proofs.types_walked.TypesBehind.{scope_behind, scope_behind_ended}
 use Rattle.std.proofs.Common.{refl}
 use Rattle.reencode_component.proofs.type_utils.parse_component_core_type.Goals as goal
 

@@ -1,6 +1,6 @@
 use Rattle.std.proofs.Common.{refl}
 use Rattle.reencode_hooks.specs.Run.{ask}
-use Rattle.reencode_component.proofs.types.TypeParts.{labels_kept}
+use Rattle.reencode_component.proofs.types_walked.TypeParts.{labels_kept}
 use Rattle.reencode_component.proofs.types.parse_component_defined_type.Goals as goal
 
 pub returns-in-Flags : goal.returns-in-Flags

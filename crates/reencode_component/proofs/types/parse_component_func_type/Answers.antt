@@ -1,8 +1,8 @@
 use Rattle.std.proofs.Common.{map}
 use Rattle.wasm_shapes.specs.Types.{vector_tree}
 use Rattle.wasm_types.specs.ComponentTrees.{component_func_type_tree, named_value_tree, result_tree}
-use Rattle.reencode_component.proofs.types.TypeParts.{func_ended}
-use Rattle.reencode_component.proofs.rows.PartsWalked.{first_ended, hands_on, list_ended}
+use Rattle.reencode_component.proofs.types_walked.TypeParts.{func_ended}
+use Rattle.reencode_component.proofs.rows_walked.PartsWalked.{first_ended, hands_on, list_ended}
 use Rattle.reencode_component.proofs.types.parse_component_func_type.Goals as goal
 
 pub returns-in_err-params : goal.returns-in_err-params

@@ -1,4 +1,4 @@
-use Rattle.reencode_component.proofs.laws.WithinLaws.{component_seen, component_stopped}
+use Rattle.reencode_component.proofs.whole_binaries.WithinLaws.{component_seen, component_stopped}
 use Rattle.reencode_component.proofs.within.output_within.Goals as goal
 
 pub returns-in-Ok : goal.returns-in-Ok

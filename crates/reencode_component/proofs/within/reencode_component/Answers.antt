@@ -1,5 +1,5 @@
 use Rattle.std.proofs.Common.{Ok, Err}
-use Rattle.reencode_component.proofs.laws.WithinLaws.{component_made}
+use Rattle.reencode_component.proofs.whole_binaries.WithinLaws.{component_made}
 use Rattle.reencode_component.proofs.within.reencode_component.Goals as goal
 
 pub returns-in-Ok-parse_component : goal.returns-in-Ok-parse_component

@@ -4,7 +4,7 @@ use Rattle.reencode_core.specs.Direct.{MapsFront}
 use Rattle.reencode_core.proofs.bodies.EachBody.{body_found, body_unbegun}
 use Rattle.reencode_core.proofs.bodies.BodyFromPlace.{front_begun, front_passed, passed_body, passed_held, run_deals}
 use Rattle.reencode_core.proofs.bodies.SkippedFront.{mapped_err, operators_at, passed_counted, skip_found, skip_refused, skip_wants, whole_stays, within_most}
-use Rattle.reencode_core.proofs.rows.OneRow.{asks}
+use Rattle.reencode_core.proofs.rows_walked.OneRow.{asks}
 use Rattle.reencode_core.proofs.direct.map_or_keep.Goals as goal
 
 pub returns-in_err-function : goal.returns-in_err-function

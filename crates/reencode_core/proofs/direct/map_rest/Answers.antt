@@ -5,7 +5,7 @@ use Rattle.wasm_write.specs.Instructions.{instruction_tree}
 use Rattle.reencode_items.specs.declared.direct.passing.Next.TheVariants as next
 use Rattle.reencode_core.proofs.bodies.BodyFromPlace.{RestKept, deals_made, made_within, run_deals}
 use Rattle.reencode_core.proofs.bodies.RestOfBody.{rest_added, rest_at, rest_code, rest_is, rest_made, rest_not_added, rest_other, rest_run, rest_refused, rest_run_refused, rest_run_wants, rest_stuck, rest_wants, some_behind}
-use Rattle.reencode_core.proofs.rows.OneRow.{asks}
+use Rattle.reencode_core.proofs.rows_walked.OneRow.{asks}
 use Rattle.reencode_core.proofs.bodies.WholeBody.{none_left, some_left}
 use Rattle.reencode_core.proofs.direct.map_rest.Goals as goal
 use Rattle.reencode_core.proofs.direct.map_rest.Goals.{in-Made+in_ok-add-in-Made, in-Other+else-eof+in_ok-instruction-in-Other+in_ok-instruction-in-Other-2}

@@ -2,7 +2,7 @@ use Rattle.std.proofs.Common.{◌≡◌, ◌-◌, length}
 use Rattle.wasm_read.specs.Operations.{rest_of}
 use Rattle.reencode_core.specs.Direct.{DealsWith}
 use Rattle.reencode_core.proofs.bodies.BodyFromPlace.{RestKept}
-use Rattle.reencode_core.proofs.rows.OneRow.{asks}
+use Rattle.reencode_core.proofs.rows_walked.OneRow.{asks}
 use Rattle.reencode_core.proofs.direct.map_rest.Given as goal
 
 -- the operators so far are mapped

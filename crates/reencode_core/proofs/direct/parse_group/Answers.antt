@@ -1,4 +1,4 @@
-use Rattle.reencode_core.proofs.rows.TypeRow.{row_added, row_refused, row_too_many}
+use Rattle.reencode_core.proofs.rows_walked.TypeRow.{row_added, row_refused, row_too_many}
 use Rattle.reencode_core.proofs.direct.parse_group.Goals as goal
 
 pub returns-in-Ok-true : goal.returns-in-Ok-true

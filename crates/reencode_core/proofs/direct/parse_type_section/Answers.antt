@@ -1,9 +1,9 @@
 use Rattle.std.proofs.Common.{false, refl}
 use Rattle.wasm_shapes.specs.declared.SectionId.TheVariants as id
 use Rattle.wasm_shapes.specs.Drawn.{IsItem}
-use Rattle.reencode_core.proofs.rows.EachRow.{rows_begun, rows_ended, rows_stuck}
-use Rattle.reencode_core.proofs.rows.RowLoop.{none_if}
-use Rattle.reencode_core.proofs.rows.TypeRow.{group_added, group_refused}
+use Rattle.reencode_core.proofs.rows_walked.EachRow.{rows_begun, rows_ended, rows_stuck}
+use Rattle.reencode_core.proofs.rows_walked.RowLoop.{none_if}
+use Rattle.reencode_core.proofs.rows_walked.TypeRow.{group_added, group_refused}
 use Rattle.reencode_core.proofs.direct.parse_type_section.Goals as goal
 
 pub rows-init : goal.rows-init

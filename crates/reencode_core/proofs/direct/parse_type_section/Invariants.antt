@@ -1,5 +1,5 @@
-use Rattle.reencode_core.proofs.rows.EachRow.{RowsKept}
-use Rattle.reencode_core.proofs.rows.TypeRow.{group}
+use Rattle.reencode_core.proofs.rows_walked.EachRow.{RowsKept}
+use Rattle.reencode_core.proofs.rows_walked.TypeRow.{group}
 use Rattle.reencode_core.proofs.direct.parse_type_section.Given as goal
 
 -- the rows so far are walked and added

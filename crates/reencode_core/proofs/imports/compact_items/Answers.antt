@@ -6,8 +6,8 @@ use Rattle.wasm_write.specs.Rows.{compact_tree}
 use Rattle.wasm_write.specs.Types as write
 use Rattle.reencode_hooks.specs.Run.{ask}
 use Rattle.reencode_items.proofs.Leaving.{accepted_visited, sure_visited, visited_left}
-use Rattle.reencode_core.proofs.rows.CompactRows.{item_maps, trees_accepted, trees_refused, trees_leave}
-use Rattle.reencode_core.proofs.rows.TypeGroup.{items_begin, items_more}
+use Rattle.reencode_core.proofs.rows_walked.CompactRows.{item_maps, trees_accepted, trees_refused, trees_leave}
+use Rattle.reencode_core.proofs.rows_walked.TypeGroup.{items_begin, items_more}
 use Rattle.reencode_core.proofs.imports.compact_items.Goals as goal
 
 pub items-init : goal.items-init

@@ -2,7 +2,7 @@ use Rattle.std.proofs.Common.{◌≡◌, ◌++◌, List, IsTrue, length}
 use Rattle.wasm_shapes.specs.Tree.{Tree}
 use Rattle.wasm_write.specs.Rows.{compact_tree}
 use Rattle.reencode_hooks.specs.Run.{ask}
-use Rattle.reencode_core.proofs.rows.TypeGroup.{ItemsDone}
+use Rattle.reencode_core.proofs.rows_walked.TypeGroup.{ItemsDone}
 use Rattle.reencode_core.proofs.imports.compact_items.Given as goal
 
 -- the items so far are mapped, and the others are left

@@ -1,5 +1,5 @@
 use Rattle.std.proofs.Common.{refl, ap, length, arith}
-use Rattle.reencode_core.proofs.rows.CompactRows.{names_more, names_all}
+use Rattle.reencode_core.proofs.rows_walked.CompactRows.{names_more, names_all}
 use Rattle.reencode_core.proofs.imports.compact_names.Goals as goal
 
 pub names-init : goal.names-init

@@ -2,8 +2,8 @@ use Rattle.std.proofs.Common.{◌++◌, ◌∷◌, [], ◌∙◌, List, ap, sym,
 use Rattle.std.proofs.lemmas.Result.{err_from_is_err_and}
 use Rattle.reencode_hooks.specs.Run.{ask}
 use Rattle.reencode_items.proofs.Leaving.{accepted_visited, visited_left}
-use Rattle.reencode_core.proofs.rows.TypeGroup.{items_begin, items_more, all_yielded}
-use Rattle.reencode_core.proofs.rows.EachItem.{vector_accepted, vector_refused}
+use Rattle.reencode_core.proofs.rows_walked.TypeGroup.{items_begin, items_more, all_yielded}
+use Rattle.reencode_core.proofs.rows_walked.EachItem.{vector_accepted, vector_refused}
 use Rattle.reencode_core.proofs.after_error.StateLeft.{items_leave}
 use Rattle.reencode_core.proofs.item_lists.map_items.Goals as goal
 

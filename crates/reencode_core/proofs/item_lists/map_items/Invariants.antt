@@ -1,6 +1,6 @@
 use Rattle.std.proofs.Common.{◌≡◌, ◌++◌, IsTrue}
 use Rattle.reencode_hooks.specs.Run.{ask}
-use Rattle.reencode_core.proofs.rows.TypeGroup.{ItemsDone}
+use Rattle.reencode_core.proofs.rows_walked.TypeGroup.{ItemsDone}
 use Rattle.reencode_core.proofs.item_lists.map_items.Given as goal
 
 -- the items so far are mapped

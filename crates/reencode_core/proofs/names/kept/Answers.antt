@@ -1,5 +1,5 @@
 use Rattle.std.proofs.Common.{rules}
-use Rattle.reencode_core.proofs.names.MapLoops.{keeps_names}
+use Rattle.reencode_core.proofs.names_mapped.MapLoops.{keeps_names}
 use Rattle.reencode_core.proofs.names.kept.Goals as goal
 
 pub returns : goal.returns

@@ -1,6 +1,6 @@
 use Rattle.std.proofs.Common.{length}
 use Rattle.wasm_shapes.specs.Namings.{plain_indirect}
-use Rattle.reencode_core.proofs.names.MapLoops.{Walked}
+use Rattle.reencode_core.proofs.names_mapped.MapLoops.{Walked}
 use Rattle.reencode_core.proofs.names.map_indirect_names.Given as goal
 
 -- the entries so far were asked for and added

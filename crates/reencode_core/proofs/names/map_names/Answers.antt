@@ -1,5 +1,5 @@
 use Rattle.std.proofs.Common.{refl, of_calls}
-use Rattle.reencode_core.proofs.names.MapLoops.{walked_more, walked_all, walked_unread, name_fault}
+use Rattle.reencode_core.proofs.names_mapped.MapLoops.{walked_more, walked_all, walked_unread, name_fault}
 use Rattle.reencode_core.proofs.names.map_names.Goals as goal
 
 pub entries-preserved : goal.entries-preserved

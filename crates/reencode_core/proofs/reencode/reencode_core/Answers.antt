@@ -2,7 +2,7 @@ use Rattle.std.proofs.Common.{rules}
 use Rattle.std.proofs.lemmas.Result.{err_from_is_err_and}
 use Rattle.reencode_core.specs.Clauses.{asks}
 use Rattle.reencode_core.proofs.weave.AddsNothing.{added_none, bytes_nothing}
-use Rattle.reencode_core.proofs.sections.WholeBytes.{bytes_given, bytes_refused, bytes_wanting}
+use Rattle.reencode_core.proofs.sections_walked.WholeBytes.{bytes_given, bytes_refused, bytes_wanting}
 use Rattle.reencode_core.proofs.after_error.BytesVisited.{bytes_leave, bytes_leave_none}
 use Rattle.reencode_core.proofs.reencode.reencode_core.Goals as goal
 

@@ -1,7 +1,7 @@
 use Rattle.std.proofs.Common.{Err, refl}
-use Rattle.reencode_core.proofs.rows.EachRow.{rows_begun, rows_ended, rows_stuck, rows_added, rows_refused_at}
-use Rattle.reencode_core.proofs.rows.OneRow.{row_mapped, row_unmapped, row_not_added, sure_left}
-use Rattle.reencode_core.proofs.rows.RowLoop.{none_if}
+use Rattle.reencode_core.proofs.rows_walked.EachRow.{rows_begun, rows_ended, rows_stuck, rows_added, rows_refused_at}
+use Rattle.reencode_core.proofs.rows_walked.OneRow.{row_mapped, row_unmapped, row_not_added, sure_left}
+use Rattle.reencode_core.proofs.rows_walked.RowLoop.{none_if}
 use Rattle.reencode_core.proofs.row_sections.map_section.Goals as goal
 
 pub rows-init : goal.rows-init

@@ -3,7 +3,7 @@ use Rattle.std.proofs.lemmas.Result.{err_from_is_err_and}
 use Rattle.wasm_read.specs.Immediates as read
 use Rattle.wasm_write.specs.Bodies as write
 use Rattle.reencode_core.specs.Clauses.{asks}
-use Rattle.reencode_core.proofs.rows.TypeGroup.{items_more, all_yielded}
+use Rattle.reencode_core.proofs.rows_walked.TypeGroup.{items_more, all_yielded}
 use Rattle.reencode_core.proofs.bodies.Locals.{local_accepted, locals_given, locals_refused, locals_not_made}
 use Rattle.wasm_read.specs.Types as read_types
 use Rattle.reencode_core.proofs.after_error.BodyVisited.{items_made, items_made_all, locals_leave, locals_leave_none}

@@ -2,7 +2,7 @@ use Rattle.std.proofs.Common.{◌≡◌, ◌++◌, IsTrue, length}
 use Rattle.wasm_read.specs.Immediates as read
 use Rattle.wasm_write.specs.Bodies as write
 use Rattle.reencode_hooks.specs.Run.{ask}
-use Rattle.reencode_core.proofs.rows.TypeGroup.{ItemsDone}
+use Rattle.reencode_core.proofs.rows_walked.TypeGroup.{ItemsDone}
 use Rattle.reencode_core.proofs.rows.new_function_with_parsed_locals.Given as goal
 
 -- the locals so far are mapped

@@ -6,8 +6,8 @@ use Rattle.wasm_shapes.specs.Types.{active_data_of, expression_of, passive_data_
 use Rattle.wasm_read.specs.Expressions.{expr_tree}
 use Rattle.wasm_write.specs.Counts.{counts}
 use Rattle.reencode_items.proofs.Leaving.{first_visited, hook_visited}
-use Rattle.reencode_core.proofs.rows.DataRow.{as_it_is, data_large, memory_refused, offset_refused, offset_visited, passive_mapped, segment_mapped}
-use Rattle.reencode_core.proofs.rows.OneRow.{row_not_added, row_unmapped}
+use Rattle.reencode_core.proofs.rows_walked.DataRow.{as_it_is, data_large, memory_refused, offset_refused, offset_visited, passive_mapped, segment_mapped}
+use Rattle.reencode_core.proofs.rows_walked.OneRow.{row_not_added, row_unmapped}
 use Rattle.reencode_core.proofs.rows.parse_data.Goals as goal
 
 pub returns-in_err-memory-in-Active : goal.returns-in_err-memory-in-Active

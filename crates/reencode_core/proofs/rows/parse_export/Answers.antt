@@ -5,7 +5,7 @@ use Rattle.wasm_write.specs.Rows.{export_tree}
 use Rattle.reencode_items.proofs.Leaving.{never_wants, sure_visited}
 use Rattle.reencode_core.specs.Clauses.{asks}
 use Rattle.reencode_core.proofs.after_error.StateLeft.{item_leaves, item_refused, never_refused}
-use Rattle.reencode_core.proofs.rows.OneRow.{export_accepted, export_large, row_mapped, row_not_added, row_unmapped}
+use Rattle.reencode_core.proofs.rows_walked.OneRow.{export_accepted, export_large, row_mapped, row_not_added, row_unmapped}
 use Rattle.reencode_core.proofs.rows.parse_export.Goals as goal
 
 pub returns-in_err-kind : goal.returns-in_err-kind

@@ -6,7 +6,7 @@ use Rattle.wasm_read.specs.Types as read
 use Rattle.wasm_write.specs.Rows.{global_tree}
 use Rattle.wasm_write.specs.Types as write
 use Rattle.reencode_items.proofs.Leaving.{first_visited, second_visited, sure_visited}
-use Rattle.reencode_core.proofs.rows.OneRow.{first_refused, one_too_many, row_not_added, row_unmapped, second_mapped}
+use Rattle.reencode_core.proofs.rows_walked.OneRow.{first_refused, one_too_many, row_not_added, row_unmapped, second_mapped}
 use Rattle.reencode_core.proofs.rows.parse_global.Goals as goal
 
 pub returns-in_err-ty : goal.returns-in_err-ty

@@ -8,8 +8,8 @@ use Rattle.wasm_write.specs.Rows.{compact_tree, name_tree}
 use Rattle.wasm_write.specs.Types as write
 use Rattle.wasm_write.specs.declared.types.EntityType.{EntityType}
 use Rattle.reencode_items.proofs.Leaving.{accepted_visited, first_visited, sure_visited, visited_left}
-use Rattle.reencode_core.proofs.rows.CompactRows.{items_map, names_map, names_unmapped}
-use Rattle.reencode_core.proofs.rows.OneRow.{import_view, import_maps, row_mapped, row_unmapped, row_not_added, sure_left}
+use Rattle.reencode_core.proofs.rows_walked.CompactRows.{items_map, names_map, names_unmapped}
+use Rattle.reencode_core.proofs.rows_walked.OneRow.{import_view, import_maps, row_mapped, row_unmapped, row_not_added, sure_left}
 use Rattle.reencode_core.proofs.rows.parse_imports.Goals as goal
 
 pub returns-in_err-ty-in-Single : goal.returns-in_err-ty-in-Single

@@ -3,7 +3,7 @@ use Rattle.std.proofs.lemmas.Result.{err_from_is_err_and}
 use Rattle.wasm_read.specs.Types as read
 use Rattle.wasm_write.specs.Types as write
 use Rattle.reencode_hooks.specs.Run.{ask}
-use Rattle.reencode_core.proofs.rows.TypeGroup.{items_begin, items_more, all_yielded, group_accepted, group_refused}
+use Rattle.reencode_core.proofs.rows_walked.TypeGroup.{items_begin, items_more, all_yielded, group_accepted, group_refused}
 use Rattle.reencode_items.proofs.Leaving.{accepted_visited, visited_left}
 use Rattle.reencode_core.proofs.after_error.StateLeft.{group_leaves, items_leave}
 use Rattle.reencode_core.proofs.rows.parse_recursive_type_group.Goals as goal

@@ -2,7 +2,7 @@ use Rattle.std.proofs.Common.{◌≡◌, ◌++◌, IsTrue, length}
 use Rattle.wasm_read.specs.Types as read
 use Rattle.wasm_write.specs.Types as write
 use Rattle.reencode_hooks.specs.Run.{ask}
-use Rattle.reencode_core.proofs.rows.TypeGroup.{ItemsDone}
+use Rattle.reencode_core.proofs.rows_walked.TypeGroup.{ItemsDone}
 use Rattle.reencode_core.proofs.rows.parse_recursive_type_group.Given as goal
 
 -- the types so far are mapped

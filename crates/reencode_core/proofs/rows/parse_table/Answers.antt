@@ -7,7 +7,7 @@ use Rattle.wasm_write.specs.Rows.{null_table_tree, table_with_init_tree}
 use Rattle.reencode_items.proofs.Leaving.{second_visited, sure_visited}
 use Rattle.reencode_core.specs.Clauses.{asks}
 use Rattle.reencode_core.proofs.after_error.StateLeft.{init_refused, table_leaves, table_refused}
-use Rattle.reencode_core.proofs.rows.OneRow.{null_table_mapped, one_too_many, row_not_added, row_unmapped, table_mapped}
+use Rattle.reencode_core.proofs.rows_walked.OneRow.{null_table_mapped, one_too_many, row_not_added, row_unmapped, table_mapped}
 use Rattle.reencode_core.proofs.rows.parse_table.Goals as goal
 
 pub returns-in_err-ty : goal.returns-in_err-ty

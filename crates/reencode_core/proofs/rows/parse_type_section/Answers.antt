@@ -3,8 +3,8 @@ use Rattle.wasm_shapes.specs.declared.SectionId.TheVariants as id
 use Rattle.wasm_shapes.specs.Drawn.{IsItem}
 use Rattle.wasm_read.specs.Types as read
 use Rattle.wasm_write.specs.Types as write
-use Rattle.reencode_core.proofs.rows.EachRow.{rows_begun, rows_ended, rows_stuck, rows_added, rows_refused_at}
-use Rattle.reencode_core.proofs.rows.OneRow.{row_mapped, row_unmapped, row_not_added}
+use Rattle.reencode_core.proofs.rows_walked.EachRow.{rows_begun, rows_ended, rows_stuck, rows_added, rows_refused_at}
+use Rattle.reencode_core.proofs.rows_walked.OneRow.{row_mapped, row_unmapped, row_not_added}
 use Rattle.reencode_core.proofs.rows.parse_type_section.Goals as goal
 
 pub rows-init : goal.rows-init

@@ -1,5 +1,5 @@
 use Rattle.wasm_shapes.specs.Shape.{Shape, Named}
-use Rattle.reencode_core.proofs.rows.EachRow.{RowsKept}
+use Rattle.reencode_core.proofs.rows_walked.EachRow.{RowsKept}
 use Rattle.reencode_core.proofs.rows.parse_type_section.Given as goal
 
 -- the rows so far are walked and added

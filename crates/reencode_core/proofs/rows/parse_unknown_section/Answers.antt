@@ -1,4 +1,4 @@
-use Rattle.reencode_core.proofs.sections.CustomSection.{unknown_added}
+use Rattle.reencode_core.proofs.sections_walked.CustomSection.{unknown_added}
 use Rattle.reencode_core.proofs.rows.parse_unknown_section.Goals as goal
 
 pub returns : goal.returns

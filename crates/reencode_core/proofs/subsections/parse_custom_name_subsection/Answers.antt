@@ -1,6 +1,6 @@
 use Rattle.std.proofs.Common.{ap}
 use Rattle.wasm_read.specs.Subsections.{content_of}
-use Rattle.reencode_core.proofs.names.EachSubsection.{module_written, raw_written}
+use Rattle.reencode_core.proofs.names_mapped.EachSubsection.{module_written, raw_written}
 use Rattle.reencode_core.proofs.subsections.parse_custom_name_subsection.Goals as goal
 
 pub returns-in-Module : goal.returns-in-Module

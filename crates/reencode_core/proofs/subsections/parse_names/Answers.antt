@@ -1,8 +1,8 @@
 use Rattle.std.proofs.Common.{◌≡◌, ap, length, Err, refl, rules, true}
 use denote.Param.Always.{mut_by}
 use Rattle.wasm_shapes.specs.Types.{is_core}
-use Rattle.reencode_core.proofs.names.EachSubsection.{direct_map, direct_row, map_calls, map_stopped, map_written, no_wrap, normal_map, not_written}
-use Rattle.reencode_core.proofs.names.MapCalls.{quiet_name}
+use Rattle.reencode_core.proofs.names_mapped.EachSubsection.{direct_map, direct_row, map_calls, map_stopped, map_written, no_wrap, normal_map, not_written}
+use Rattle.reencode_core.proofs.names_mapped.MapCalls.{quiet_name}
 use Rattle.reencode_core.proofs.subsections.parse_names.Goals as goal
 
 pub map_names-requires : goal.map_names-requires

@@ -1,5 +1,5 @@
 use Rattle.std.proofs.Common.{length}
-use Rattle.reencode_core.proofs.sections.EachSection.{SectionsKept}
+use Rattle.reencode_core.proofs.sections_walked.EachSection.{SectionsKept}
 use Rattle.reencode_core.proofs.utils.parse_core_module.Given as goal
 
 -- the sections so far are walked and added

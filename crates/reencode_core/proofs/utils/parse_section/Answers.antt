@@ -1,6 +1,6 @@
 use Rattle.std.proofs.Common.{refl}
 use Rattle.reencode_core.proofs.bodies.EachBody.{code_clauses}
-use Rattle.reencode_core.proofs.sections.MappedSection.{body_missing, code_done, held, hook_item, item_done, item_refused, section_done}
+use Rattle.reencode_core.proofs.sections_walked.MappedSection.{body_missing, code_done, held, hook_item, item_done, item_refused, section_done}
 use Rattle.reencode_core.proofs.utils.parse_section.Goals as goal
 
 pub returns-in_err-content : goal.returns-in_err-content

@@ -1,5 +1,5 @@
 use Rattle.std.proofs.Common.{length}
-use Rattle.reencode_core.proofs.names.SubsectionLoop.{NamesKept}
+use Rattle.reencode_core.proofs.names_mapped.SubsectionLoop.{NamesKept}
 use Rattle.reencode_component.specs.ComponentNames.{component_names}
 use Rattle.reencode_component.proofs.component_methods.ReencodeComponent.custom_component_name_section.Given as goal
 

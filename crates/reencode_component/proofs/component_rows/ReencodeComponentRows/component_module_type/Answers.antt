@@ -1,8 +1,8 @@
 use Rattle.std.proofs.Common.{Err, refl, arith}
 use Rattle.wasm_shapes.specs.Component.{module_declaration}
 use Rattle.wasm_shapes.specs.Drawn.{IsItem}
-use Rattle.reencode_core.proofs.rows.EachRow.{rows_begun, rows_ended, rows_stuck, rows_added, rows_refused_at}
-use Rattle.reencode_component.proofs.types.ScopeCalls.{scope_closed, scope_stopped}
+use Rattle.reencode_core.proofs.rows_walked.EachRow.{rows_begun, rows_ended, rows_stuck, rows_added, rows_refused_at}
+use Rattle.reencode_component.proofs.types_walked.ScopeCalls.{scope_closed, scope_stopped}
 use Rattle.reencode_component.proofs.component_rows.ReencodeComponentRows.component_module_type.Goals as goal
 
 pub rows-init : goal.rows-init

@@ -1,4 +1,4 @@
-use Rattle.reencode_component.proofs.types.TypesStanding.{type_row}
+use Rattle.reencode_component.proofs.types_walked.TypesStanding.{type_row}
 use Rattle.reencode_component.proofs.component_types.ROfKindsComponentTypesMapScopedRowWOfKindsComponentTypesRComponentType.map_row.Goals as goal
 
 pub returns : goal.returns

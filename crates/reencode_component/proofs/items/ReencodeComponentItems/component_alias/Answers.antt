@@ -1,7 +1,7 @@
 use Rattle.std.proofs.Common.{arith}
 use Rattle.wasm_read_component.specs.Aliases as read
 use Rattle.wasm_write_component.specs.Aliases as write
-use Rattle.reencode_component.proofs.rows.SortKept.{kind_refused, same_sort}
+use Rattle.reencode_component.proofs.rows_walked.SortKept.{kind_refused, same_sort}
 use Rattle.reencode_component.proofs.items.ReencodeComponentItems.component_alias.Goals as goal
 
 pub returns-in_err-export_kind-in-CoreInstanceExport : goal.returns-in_err-export_kind-in-CoreInstanceExport

@@ -1,6 +1,6 @@
 use Rattle.wasm_read_component.specs.Aliases as read
 use Rattle.wasm_write_component.specs.Aliases as write
-use Rattle.reencode_component.proofs.rows.RowAdded.{item_added}
+use Rattle.reencode_component.proofs.rows_walked.RowAdded.{item_added}
 use Rattle.reencode_component.proofs.row_sections.ROfKindsAliasesMapRowWOfKindsAliasesRComponentAlias.map_row.Goals as goal
 
 pub returns : goal.returns

@@ -1,5 +1,5 @@
 use Rattle.wasm_types.specs.ComponentTrees.{component_import_tree}
-use Rattle.reencode_component.proofs.rows.RowAdded.{item_added}
+use Rattle.reencode_component.proofs.rows_walked.RowAdded.{item_added}
 use Rattle.reencode_component.proofs.row_sections.ROfKindsComponentImportsMapRowWOfKindsComponentImportsRComponentImport.map_row.Goals as goal
 
 pub returns : goal.returns

@@ -1,4 +1,4 @@
-use Rattle.reencode_component.proofs.types.CoreTypeCalls.{core_row_added}
+use Rattle.reencode_component.proofs.types_walked.CoreTypeCalls.{core_row_added}
 use Rattle.reencode_component.proofs.scoped_sections.ROfKindsCoreTypesMapScopedRowWOfKindsCoreTypesRCoreType.map_row.Goals as goal
 
 pub returns : goal.returns

@@ -1,4 +1,4 @@
-use Rattle.reencode_core.proofs.rows.TypeRow.{group_absent}
+use Rattle.reencode_core.proofs.rows_walked.TypeRow.{group_absent}
 use Rattle.reencode_core.proofs.direct.GroupAppendRowKindsTypesErrorError.append.Goals as goal
 
 pub returns-in-Ok-None-clause-refused : goal.returns-in-Ok-None-clause-refused

@@ -1,4 +1,4 @@
-use Rattle.reencode_core.proofs.rows.EachItem.{hook_leaves}
+use Rattle.reencode_core.proofs.rows_walked.EachItem.{hook_leaves}
 use Rattle.reencode_core.proofs.item_lists.FunctionItemsMapItemU32U32.map.Goals as goal
 
 pub returns-clause-after_error : goal.returns-clause-after_error

@@ -1,5 +1,5 @@
 use Rattle.std.proofs.Common.{sym, ◌∙◌}
-use Rattle.reencode_core.proofs.pieces.CodeRowsHeld.{body_begins, body_behind, left_behind, some_left}
+use Rattle.reencode_core.proofs.kept_pieces.CodeRowsHeld.{body_begins, body_behind, left_behind, some_left}
 use Rattle.reencode_core.proofs.pieces.code.kept_head.Goals as goal
 
 pub returns-in_default-clause-other : goal.returns-in_default-clause-other

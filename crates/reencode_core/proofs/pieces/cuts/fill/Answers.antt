@@ -1,7 +1,7 @@
 use Rattle.std.proofs.Common.{◌≡◌, ◌+◌, ◌-◌, ℕ, List, length, take, drop, slice_range, ap, sym, subst, ◌∙◌, arith}
 use Rattle.reencode_core.specs.Pieces.{cut_bytes}
 use Rattle.reencode_core.specs.declared.pieces.cuts.Cut.{Cut}
-use Rattle.reencode_core.proofs.pieces.FilledRoom.{AreFilled, filled_more, put}
+use Rattle.reencode_core.proofs.kept_pieces.FilledRoom.{AreFilled, filled_more, put}
 use Rattle.reencode_core.proofs.pieces.cuts.fill.Goals as goal
 
 pub cuts-preserved : goal.cuts-preserved

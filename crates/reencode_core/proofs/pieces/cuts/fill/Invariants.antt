@@ -1,6 +1,6 @@
 use Rattle.std.proofs.Common.{length}
 use Rattle.reencode_core.specs.Pieces.{cut_bytes}
-use Rattle.reencode_core.proofs.pieces.FilledRoom.{AreFilled}
+use Rattle.reencode_core.proofs.kept_pieces.FilledRoom.{AreFilled}
 use Rattle.reencode_core.proofs.pieces.cuts.fill.Given as goal
 
 -- the ranges so far are put between the made bytes so far

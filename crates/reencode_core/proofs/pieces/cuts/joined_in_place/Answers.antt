@@ -1,6 +1,6 @@
 use Rattle.std.proofs.Common.{arith, rules}
 use Rattle.std.proofs.lemmas.Slice.{overwrites}
-use Rattle.reencode_core.proofs.pieces.Cuts.{made_in_bytes}
+use Rattle.reencode_core.proofs.kept_pieces.CutBytes.{made_in_bytes}
 use Rattle.reencode_core.proofs.pieces.cuts.joined_in_place.Goals as goal
 
 pub grow-requires : goal.grow-requires

@@ -1,6 +1,6 @@
 use Rattle.std.proofs.Common.{◌≡◌, ◌++◌, ◌+◌, ◌-◌, ℕ, List, [], ◌∷◌, length, take, drop, slice_range, subst, arith, rules}
 use Rattle.reencode_core.specs.declared.pieces.cuts.Cut.{Cut}
-use Rattle.reencode_core.proofs.pieces.Cuts.{AreLeft, LastFits, last_fits, left_first, left_more}
+use Rattle.reencode_core.proofs.kept_pieces.CutBytes.{AreLeft, LastFits, last_fits, left_first, left_more}
 use Rattle.reencode_core.proofs.pieces.cuts.move_apart.Goals as goal
 
 -- what the last of the ranges that are left needs

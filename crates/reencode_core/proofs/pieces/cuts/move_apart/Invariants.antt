@@ -1,6 +1,6 @@
 use Rattle.std.proofs.Common.{length, take}
 use Rattle.reencode_core.specs.Pieces.{cut_bytes}
-use Rattle.reencode_core.proofs.pieces.Cuts.{AreLeft}
+use Rattle.reencode_core.proofs.kept_pieces.CutBytes.{AreLeft}
 use Rattle.reencode_core.proofs.pieces.cuts.move_apart.Given as goal
 
 -- the ranges in front are left to be put between the made bytes in front

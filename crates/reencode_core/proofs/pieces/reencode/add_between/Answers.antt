@@ -1,4 +1,4 @@
-use Rattle.reencode_core.proofs.pieces.SectionLoop.{hook_left}
+use Rattle.reencode_core.proofs.kept_pieces.SectionLoop.{hook_left}
 use Rattle.reencode_core.proofs.pieces.reencode.add_between.Goals as goal
 
 pub returns-in-Err-clause-leaves : goal.returns-in-Err-clause-leaves

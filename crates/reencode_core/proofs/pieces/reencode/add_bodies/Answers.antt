@@ -3,8 +3,8 @@ use Rattle.wasm_read.specs.Reading.{place_of}
 use Rattle.wasm_write.specs.Bodies.{CodeRows}
 use Rattle.reencode_core.proofs.bodies.EachBody.{code_begun, code_ended, code_more, code_refused, code_stuck}
 use Rattle.reencode_core.specs.Sinks.{KeepsRow, StandsAt}
-use Rattle.reencode_core.proofs.pieces.KeptFrames.{frames_begun, frames_ended, frames_more}
-use Rattle.reencode_core.proofs.pieces.StandsAt.{body_stands, place_fits, row_behind}
+use Rattle.reencode_core.proofs.kept_pieces.KeptFrames.{frames_begun, frames_ended, frames_more}
+use Rattle.reencode_core.proofs.kept_pieces.StandsAt.{body_stands, place_fits, row_behind}
 use Rattle.reencode_core.proofs.pieces.reencode.add_bodies.Goals as goal
 
 pub rows-init : goal.rows-init

@@ -1,7 +1,7 @@
 use Rattle.std.proofs.Common.{ap, ◌∙◌, ℕ, refl}
 use Rattle.reencode_core.proofs.bodies.SkippedFront.{stays_added}
-use Rattle.reencode_core.proofs.pieces.FreshSink.{body_stopped, fresh_code, rows_not_added}
-use Rattle.reencode_core.proofs.pieces.KeptFrames.{row_kept, row_stays}
+use Rattle.reencode_core.proofs.kept_pieces.FreshSink.{body_stopped, fresh_code, rows_not_added}
+use Rattle.reencode_core.proofs.kept_pieces.KeptFrames.{row_kept, row_stays}
 use Rattle.reencode_core.proofs.pieces.reencode.add_body.Goals as goal
 
 pub returns-in-Err-clause-default : goal.returns-in-Err-clause-default

@@ -1,11 +1,11 @@
 use Rattle.std.proofs.Common.{ap, refl}
 use Rattle.wasm_shapes.specs.declared.SectionId.TheVariants as id
-use Rattle.reencode_core.proofs.sections.MappedSection.{code_done, section_unread}
-use Rattle.reencode_core.proofs.rows.RowLoop.{at_ceiling}
+use Rattle.reencode_core.proofs.sections_walked.MappedSection.{code_done, section_unread}
+use Rattle.reencode_core.proofs.rows_walked.RowLoop.{at_ceiling}
 use Rattle.reencode_core.specs.Sinks.{CodeGrown}
 use Rattle.reencode_core.specs.Clauses.{asks}
-use Rattle.reencode_core.proofs.pieces.KeptFrames.{section_kept}
-use Rattle.reencode_core.proofs.pieces.StandsAt.{rows_counted}
+use Rattle.reencode_core.proofs.kept_pieces.KeptFrames.{section_kept}
+use Rattle.reencode_core.proofs.kept_pieces.StandsAt.{rows_counted}
 use Rattle.reencode_core.proofs.pieces.reencode.add_code_section.Goals as goal
 
 pub add_bodies-mapped-requires-clause-stands : goal.add_bodies-mapped-requires-clause-stands

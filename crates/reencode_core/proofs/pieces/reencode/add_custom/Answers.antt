@@ -2,7 +2,7 @@ use Rattle.std.proofs.Common.{ap, ◌∙◌, ℕ}
 use Rattle.reencode_core.specs.Sinks.{ModuleGrown}
 use Rattle.reencode_core.specs.Clauses.{asks}
 use Rattle.reencode_core.proofs.after_error.NoneOrAllVisited.{left_custom, left_none}
-use Rattle.reencode_core.proofs.pieces.FreshSink.{added_moved, fresh_module}
+use Rattle.reencode_core.proofs.kept_pieces.FreshSink.{added_moved, fresh_module}
 use Rattle.reencode_core.proofs.pieces.reencode.add_custom.Goals as goal
 
 pub returns-in-Ok-add-clause-default : goal.returns-in-Ok-add-clause-default

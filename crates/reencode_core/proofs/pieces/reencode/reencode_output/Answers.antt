@@ -2,7 +2,7 @@ use Rattle.std.proofs.Common.{ap, rules}
 use Rattle.std.proofs.lemmas.Result.{err_from_is_err_and}
 use Rattle.reencode_core.proofs.weave.AddsNothing.{added_none, bytes_nothing}
 use Rattle.reencode_core.proofs.after_error.BytesVisited.{bytes_leave}
-use Rattle.reencode_core.proofs.sections.WholeBytes.{bytes_given, bytes_refused, bytes_wanting}
+use Rattle.reencode_core.proofs.sections_walked.WholeBytes.{bytes_given, bytes_refused, bytes_wanting}
 use Rattle.reencode_core.specs.Sinks.{ModuleGrown}
 use Rattle.reencode_core.specs.Clauses.{asks}
 use Rattle.reencode_core.proofs.after_error.NoneOrAllVisited.{left_none}

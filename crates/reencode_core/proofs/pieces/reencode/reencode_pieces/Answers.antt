@@ -4,12 +4,12 @@ use Rattle.reencode_core.specs.Weave.{added}
 use Rattle.reencode_core.proofs.weave.AddsNothing.{added_none, bytes_nothing}
 use Rattle.reencode_core.proofs.after_error.BytesVisited.{bytes_leave}
 use Rattle.reencode_core.proofs.weave.Weaves.{weave_is_run}
-use Rattle.reencode_core.proofs.sections.WholeBytes.{bytes_given, bytes_refused}
+use Rattle.reencode_core.proofs.sections_walked.WholeBytes.{bytes_given, bytes_refused}
 use Rattle.reencode_core.specs.Pieces.{joined}
 use Rattle.reencode_core.specs.Sinks.{ModuleGrown}
 use Rattle.reencode_core.specs.Clauses.{asks}
 use Rattle.reencode_core.proofs.after_error.NoneOrAllVisited.{left_core, left_none}
-use Rattle.reencode_core.proofs.pieces.KeptRanges.{answered_kept}
+use Rattle.reencode_core.proofs.kept_pieces.KeptRanges.{answered_kept}
 use Rattle.reencode_core.proofs.pieces.reencode.reencode_pieces.Goals as goal
 
 pub returns-in_err-sink-clause-after_error : goal.returns-in_err-sink-clause-after_error

@@ -1,16 +1,16 @@
 use Rattle.std.proofs.Common.{◌≡◌, ◌+◌, ◌-◌, ◌++◌, ℕ, List, Some, inr, length, refl, sym, ap, ◌∙◌, append_assoc, subst, arith}
 use Rattle.wasm_shapes.specs.declared.Visit.TheVariants.{Section, Closed}
 use Rattle.wasm_shapes.specs.Module.{core_header}
-use Rattle.reencode_core.proofs.sections.EachSection.{core_closed, core_headless, core_more, core_section_refused, core_unframed, custom_called, kind_called, sections_begun, unknown_called}
+use Rattle.reencode_core.proofs.sections_walked.EachSection.{core_closed, core_headless, core_more, core_section_refused, core_unframed, custom_called, kind_called, sections_begun, unknown_called}
 use Rattle.reencode_core.specs.Woven.{AddedAt}
-use Rattle.reencode_core.proofs.sections.CoreLoop.{nothing_put}
+use Rattle.reencode_core.proofs.sections_walked.CoreLoop.{nothing_put}
 use Rattle.wasm_shapes.proofs.SectionLaws.{frame_id}
 use Rattle.reencode_core.specs.Pieces.{Range}
 use Rattle.reencode_core.specs.Sinks.{KeepsKind, StandsAt}
 use Rattle.reencode_core.specs.Clauses.{asks}
-use Rattle.reencode_core.proofs.pieces.KeptRanges.{body_place, custom_not_code, kind_one, ranges_begun, ranges_end, ranges_more, unknown_not_code}
-use Rattle.reencode_core.proofs.pieces.StandsAt.{section_stands, text_within}
-use Rattle.reencode_core.proofs.pieces.SectionLoop.{behind_refused, between_ended, between_refused, hook_answered}
+use Rattle.reencode_core.proofs.kept_pieces.KeptRanges.{body_place, custom_not_code, kind_one, ranges_begun, ranges_end, ranges_more, unknown_not_code}
+use Rattle.reencode_core.proofs.kept_pieces.StandsAt.{section_stands, text_within}
+use Rattle.reencode_core.proofs.kept_pieces.SectionLoop.{behind_refused, between_ended, between_refused, hook_answered}
 use Rattle.reencode_core.proofs.pieces.reencode.walk.Goals as goal
 
 -- what is left behind a part

@@ -1,7 +1,7 @@
 use Rattle.std.proofs.Common.{◌≡◌, ◌++◌, ℕ, List, IsTrue, length}
 use Rattle.reencode_core.specs.Clauses.{asks}
-use Rattle.reencode_core.proofs.sections.EachSection.{SectionsKept}
-use Rattle.reencode_core.proofs.pieces.KeptRanges.{RangesDone}
+use Rattle.reencode_core.proofs.sections_walked.EachSection.{SectionsKept}
+use Rattle.reencode_core.proofs.kept_pieces.KeptRanges.{RangesDone}
 use Rattle.reencode_core.proofs.pieces.reencode.walk.Given as goal
 
 -- the sections so far are walked and added

@@ -1,5 +1,5 @@
-use Rattle.reencode_core.proofs.names.FormatLaws.{core_laws}
-use Rattle.reencode_core.proofs.names.SubsectionLoop.{names_begun, names_ended, names_on, names_refused, names_stuck}
+use Rattle.reencode_core.proofs.names_mapped.FormatLaws.{core_laws}
+use Rattle.reencode_core.proofs.names_mapped.SubsectionLoop.{names_begun, names_ended, names_on, names_refused, names_stuck}
 use Rattle.reencode_core.proofs.reencode.Reencode.custom_name_section.Goals as goal
 
 pub rows-init : goal.rows-init

@@ -1,6 +1,6 @@
 use Rattle.std.proofs.Common.{length}
 use Rattle.reencode_core.specs.NameFormats.{core_names}
-use Rattle.reencode_core.proofs.names.SubsectionLoop.{NamesKept}
+use Rattle.reencode_core.proofs.names_mapped.SubsectionLoop.{NamesKept}
 use Rattle.reencode_core.proofs.reencode.Reencode.custom_name_section.Given as goal
 
 -- the subsections so far are walked and added

@@ -1,6 +1,6 @@
 use Rattle.std.proofs.Common.{refl}
 use Rattle.reencode_core.specs.Woven.{AddedAt}
-use Rattle.reencode_core.proofs.sections.EachSection.{module_closing_refused, module_ended, module_headless, module_hook_refused, core_closed, core_more, module_section_refused, module_unframed, custom_called, kind_called, sections_begun, unknown_called}
+use Rattle.reencode_core.proofs.sections_walked.EachSection.{module_closing_refused, module_ended, module_headless, module_hook_refused, core_closed, core_more, module_section_refused, module_unframed, custom_called, kind_called, sections_begun, unknown_called}
 use Rattle.wasm_shapes.proofs.SectionLaws.{frame_id}
 use Rattle.reencode_core.proofs.reencode.Reencode.parse_core_module.Goals as goal
 

@@ -1,8 +1,8 @@
 use Rattle.std.proofs.Common.{rules}
 use Rattle.wasm_write.specs.Types.{custom_section_tree}
 use Rattle.reencode_core.specs.NameFormats.{core_custom}
-use Rattle.reencode_core.proofs.names.FormatLaws.{core_laws}
-use Rattle.reencode_core.proofs.sections.CustomSection.{names_added, names_not_added, other_added, other_not_mapped}
+use Rattle.reencode_core.proofs.names_mapped.FormatLaws.{core_laws}
+use Rattle.reencode_core.proofs.sections_walked.CustomSection.{names_added, names_not_added, other_added, other_not_mapped}
 use Rattle.reencode_core.proofs.reencode.Reencode.parse_custom_section.Goals as goal
 
 pub returns-in_err-names : goal.returns-in_err-names

@@ -1,8 +1,8 @@
 use Rattle.std.proofs.Common.{refl}
 use Rattle.wasm_shapes.specs.declared.SectionId.TheVariants as id
 use Rattle.wasm_shapes.specs.Drawn.{IsItem}
-use Rattle.reencode_core.proofs.rows.EachRow.{rows_begun, rows_ended, rows_stuck, rows_added, rows_refused_at}
-use Rattle.reencode_core.proofs.rows.RowLoop.{none_or_wants}
+use Rattle.reencode_core.proofs.rows_walked.EachRow.{rows_begun, rows_ended, rows_stuck, rows_added, rows_refused_at}
+use Rattle.reencode_core.proofs.rows_walked.RowLoop.{none_or_wants}
 use Rattle.reencode_core.proofs.reencode.Reencode.parse_data_section.Goals as goal
 
 pub rows-init : goal.rows-init

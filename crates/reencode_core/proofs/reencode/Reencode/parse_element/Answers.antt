@@ -1,4 +1,4 @@
-use Rattle.reencode_core.proofs.rows.ElementWalks.{element_unlisted, active_added, active_offset_refused, active_table_refused, active_too_large, declared_added, declared_too_large, passive_added, passive_too_large}
+use Rattle.reencode_core.proofs.rows_walked.ElementWalks.{element_unlisted, active_added, active_offset_refused, active_table_refused, active_too_large, declared_added, declared_too_large, passive_added, passive_too_large}
 use Rattle.reencode_core.proofs.reencode.Reencode.parse_element.Goals as goal
 
 pub returns-in_err-items : goal.returns-in_err-items

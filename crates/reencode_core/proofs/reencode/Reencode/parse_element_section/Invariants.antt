@@ -1,5 +1,5 @@
 use Rattle.wasm_shapes.specs.Module.{element_row}
-use Rattle.reencode_core.proofs.rows.EachRow.{RowsKept}
+use Rattle.reencode_core.proofs.rows_walked.EachRow.{RowsKept}
 use Rattle.reencode_core.proofs.reencode.Reencode.parse_element_section.Given as goal
 
 -- the rows so far are walked and added

@@ -4,7 +4,7 @@ use Rattle.wasm_shapes.specs.Tree.{Tree}
 use Rattle.wasm_write.proofs.Holding.{held_length, held_same_is}
 use Rattle.reencode_core.specs.Pieces.{Grown}
 use Rattle.reencode_core.specs.Sinks.{CodeGrown, code_sound, with_rows}
-use Rattle.reencode_core.proofs.pieces.CodeRowsHeld.{held_both, held_both_is, more_than_number}
+use Rattle.reencode_core.proofs.kept_pieces.CodeRowsHeld.{held_both, held_both_is, more_than_number}
 use Rattle.reencode_core.proofs.pieces.code.CodePieces.add.Goals as goal
 
 pub returns-in_default-clause-large : goal.returns-in_default-clause-large

@@ -6,7 +6,7 @@ use Rattle.wasm_write.proofs.Holding.{held_length, held_same_is}
 use Rattle.wasm_write.proofs.HoldingBodies.{gains_row}
 use Rattle.reencode_core.specs.Pieces.{Grown}
 use Rattle.reencode_core.specs.Sinks.{CodeGrown, code_sound}
-use Rattle.reencode_core.proofs.pieces.CodeRowsHeld.{body_fills, held_framed, held_framed_is, length_fills}
+use Rattle.reencode_core.proofs.kept_pieces.CodeRowsHeld.{body_fills, held_framed, held_framed_is, length_fills}
 use Rattle.reencode_core.proofs.pieces.code.CodePieces.keep.Goals as goal
 
 pub returns-in_default-clause-large : goal.returns-in_default-clause-large

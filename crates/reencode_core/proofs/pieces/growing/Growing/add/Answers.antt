@@ -1,6 +1,6 @@
 use Rattle.std.proofs.Common.{ℕ, List, ap, arith}
 use Rattle.reencode_core.specs.Pieces.{cut_ranges}
-use Rattle.reencode_core.proofs.pieces.Cuts.{added_bytes, added_is}
+use Rattle.reencode_core.proofs.kept_pieces.CutBytes.{added_bytes, added_is}
 use Rattle.reencode_core.proofs.pieces.growing.Growing.add.Goals as goal
 
 pub invariant_of-self : goal.invariant_of-self

@@ -1,7 +1,7 @@
 use Rattle.std.proofs.Common.{◌≡◌, ◌+◌, ◌-◌, ℕ, List, ◌++◌, length, drop, refl, ap, ap₂, sym, subst, ◌∙◌, arith, length-drop}
 use Rattle.reencode_core.specs.Pieces.{AreCuts, Grown, Range, cut_bytes, cut_ranges, last_of, raised}
 use Rattle.reencode_core.specs.declared.pieces.cuts.Cut.{Cut}
-use Rattle.reencode_core.proofs.pieces.Cuts.{grown_bytes, grown_is, grown_ranges}
+use Rattle.reencode_core.proofs.kept_pieces.CutBytes.{grown_bytes, grown_is, grown_ranges}
 use Rattle.reencode_core.proofs.pieces.growing.Growing.append.Goals as goal
 
 -- the ranges, by the calls that made them

@@ -1,7 +1,7 @@
 use Rattle.std.proofs.Common.{List, length, drop, ap, sym, ◌∙◌, arith, length-drop}
 use Rattle.reencode_core.specs.Pieces.{cut_pieces, total}
 use Rattle.reencode_core.specs.declared.pieces.cuts.Cut.{Cut}
-use Rattle.reencode_core.proofs.pieces.Cuts.{alternate_pieces, joined_pieces, ranges_pieces, total_joined, within_pieces}
+use Rattle.reencode_core.proofs.kept_pieces.CutBytes.{alternate_pieces, joined_pieces, ranges_pieces, total_joined, within_pieces}
 use Rattle.reencode_core.proofs.pieces.growing.Growing.finish.Goals as goal
 
 pub of-requires-clause-size : goal.of-requires-clause-size

@@ -1,7 +1,7 @@
 use Rattle.std.proofs.Common.{◌≡◌, ◌+◌, ◌-◌, ℕ, List, [], ◌∷◌, ◌++◌, length, drop, refl, ap, ap₂, ◌∙◌, arith, length-append}
 use Rattle.reencode_core.specs.Pieces.{Grown, Range, cut_bytes, cut_ranges}
 use Rattle.reencode_core.specs.declared.pieces.cuts.Cut.{Cut}
-use Rattle.reencode_core.proofs.pieces.Cuts.{kept_bytes, kept_is, ranges_both}
+use Rattle.reencode_core.proofs.kept_pieces.CutBytes.{kept_bytes, kept_is, ranges_both}
 use Rattle.reencode_core.proofs.pieces.growing.Growing.keep.Goals as goal
 
 pub invariant_of-self-2 : goal.invariant_of-self-2

@@ -1,7 +1,7 @@
 use Rattle.std.proofs.Common.{◌≡◌, ℕ, List, Result, Ok, Err, OnOk, ap, ◌∙◌}
 use Rattle.reencode_core.specs.Pieces.{Grown, with_bytes}
 use Rattle.reencode_core.specs.Sinks.{ModuleGrown}
-use Rattle.reencode_core.proofs.pieces.SectionsHeld.{added_held, added_seen, same_seen, with_more}
+use Rattle.reencode_core.proofs.kept_pieces.SectionsHeld.{added_held, added_seen, same_seen, with_more}
 use Rattle.reencode_core.proofs.pieces.module.ModulePieces.add.Goals as goal
 
 -- the bytes by another name

@@ -3,7 +3,7 @@ use Rattle.wasm_leb.specs.Leb.{leb}
 use Rattle.wasm_shapes.specs.Tree.{normal}
 use Rattle.wasm_shapes.specs.Types.{vector_tree}
 use Rattle.reencode_core.specs.Sinks.{ModuleGrown, with_code}
-use Rattle.reencode_core.proofs.pieces.SectionsHeld.{code_held, code_seen, same_seen}
+use Rattle.reencode_core.proofs.kept_pieces.SectionsHeld.{code_held, code_seen, same_seen}
 use Rattle.reencode_core.proofs.pieces.module.ModulePieces.add_code.Goals as goal
 
 sized_as : {A E : Type 0} (r : Result A E) (new old body : List ℕ) (n : ℕ) → n ≡ length body → OnOk r (new ≡ old ++ (10 ∷ (leb n ++ body))) → OnOk r (new ≡ old ++ (10 ∷ (leb (length body) ++ body)))

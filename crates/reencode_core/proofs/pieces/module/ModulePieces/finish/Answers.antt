@@ -1,5 +1,5 @@
 use Rattle.std.proofs.Common.{length, ap, sym, ◌∙◌}
-use Rattle.reencode_core.proofs.pieces.SectionsHeld.{module_are}
+use Rattle.reencode_core.proofs.kept_pieces.SectionsHeld.{module_are}
 use Rattle.reencode_core.proofs.pieces.module.ModulePieces.finish.Goals as goal
 
 pub returns-in-Ok : goal.returns-in-Ok

@@ -1,5 +1,5 @@
 use Rattle.std.proofs.Common.{◌∙◌}
-use Rattle.reencode_core.proofs.pieces.SectionsHeld.{module_are}
+use Rattle.reencode_core.proofs.kept_pieces.SectionsHeld.{module_are}
 use Rattle.reencode_core.proofs.pieces.module.ModulePieces.into_output.Goals as goal
 
 pub returns : goal.returns

@@ -3,7 +3,7 @@ use Rattle.wasm_shapes.specs.Module.{core_header}
 use Rattle.wasm_write.specs.Sections.{SectionRow}
 use Rattle.reencode_core.specs.Pieces.{Grown, with_bytes}
 use Rattle.reencode_core.specs.Sinks.{ModuleGrown}
-use Rattle.reencode_core.proofs.pieces.SectionsHeld.{module_none, module_none_is}
+use Rattle.reencode_core.proofs.kept_pieces.SectionsHeld.{module_none, module_none_is}
 use Rattle.reencode_core.proofs.pieces.module.ModulePieces.new.Goals as goal
 
 pub invariant_of-result : goal.invariant_of-result
