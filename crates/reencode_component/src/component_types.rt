@@ -217,7 +217,7 @@ impl<'a, T: ReencodeComponent> MapScopedRow<T, w::Of<kinds::ComponentTypes>, r::
 }
 
 /// Maps the rows that the reader still has, each by `parse_component_type`, and adds each row once it is mapped.
-#[tactic(auto, using(crate::proofs::SectionItems::component_types))]
+#[tactic(auto, using(crate::proofs::rows_walked::SectionItems::component_types))]
 pub fn parse_component_type_section<T: ReencodeComponent>(
     reencoder: &mut T,
     alloc: Global,

@@ -27,13 +27,13 @@ ghost use Rattle.reencode_component.specs.WovenIn.{OkIsWoven, WeaveInIsRun, Wove
 use reencode_hooks::ReencodeIndices;
 
 /// What is wrong with bytes that are read as a component is one fault at most, and then they have no reading.
-#[tactic(auto, using(crate::proofs::FaultLaws::fault_is_one))]
+#[tactic(auto, using(crate::proofs::faults::OneFault::fault_is_one))]
 pub fn component_fault_is_one()
     ensures { FaultIsOne }
 {}
 
 /// Where the section hooks add nothing, the walk over the sections of a component is the plain walk.
-#[tactic(auto, using(crate::proofs::WeavesIn::weave_in_of_nothing))]
+#[tactic(auto, using(crate::proofs::weave::ComponentWalk::weave_in_of_nothing))]
 pub fn weave_in_of_nothing<T: ReencodeIndices>(_reencoder: &T)
     ensures { WeaveInOfNothing (ask T.reply T.next) }
 {}
@@ -79,7 +79,7 @@ pub fn component_fault_gains<T: ReencodeIndices>(_reencoder: &T)
 
 /// The walk over the sections of a component is accepted exactly where the fold of the hooks over its visits is, and no frame round
 /// what a section becomes is above the ceiling; it gives the filled tree with what the section hooks add to nested modules where it is.
-#[tactic(auto, using(crate::proofs::WovenIn::weave_in_is_run))]
+#[tactic(auto, using(crate::proofs::weave::WovenInLaws::weave_in_is_run))]
 pub fn weave_in_is_run<T: ReencodeIndices>(_reencoder: &T)
     ensures { WeaveInIsRun (ask T.reply T.next) }
 {}

@@ -80,7 +80,7 @@ impl<'a, T: ReencodeComponentItems> MapRow<
 }
 
 /// Maps the rows that the reader still has, each type by `component_type_ref`, and adds each row once it is mapped.
-#[tactic(auto, using(crate::proofs::SectionItems::imports))]
+#[tactic(auto, using(crate::proofs::rows_walked::SectionItems::imports))]
 pub fn parse_component_import_section<T: ReencodeComponentItems>(
     reencoder: &mut T,
     alloc: Global,
@@ -109,7 +109,7 @@ impl<'a, T: ReencodeComponentItems> MapRow<T, w::Of<kinds::Aliases>, r::Componen
 }
 
 /// Maps the rows that the reader still has, each by `component_alias`, and adds each row once it is mapped.
-#[tactic(auto, using(crate::proofs::SectionItems::aliases))]
+#[tactic(auto, using(crate::proofs::rows_walked::SectionItems::aliases))]
 pub fn parse_component_alias_section<T: ReencodeComponentItems>(
     reencoder: &mut T,
     alloc: Global,
@@ -137,7 +137,7 @@ impl<'a, T: ReencodeComponentRows> MapRow<T, w::Of<kinds::ComponentExports>, r::
 }
 
 /// Maps the rows that the reader still has, each by `parse_component_export`.
-#[tactic(auto, using(crate::proofs::SectionItems::exports))]
+#[tactic(auto, using(crate::proofs::rows_walked::SectionItems::exports))]
 pub fn parse_component_export_section<T: ReencodeComponentRows>(
     reencoder: &mut T,
     alloc: Global,
@@ -165,7 +165,7 @@ impl<T: ReencodeComponentRows> MapRow<T, w::Of<kinds::CanonicalFunctions>, r::Ca
 }
 
 /// Maps the rows that the reader still has, each by `parse_component_canonical`.
-#[tactic(auto, using(crate::proofs::SectionItems::canonical_functions))]
+#[tactic(auto, using(crate::proofs::rows_walked::SectionItems::canonical_functions))]
 pub fn parse_component_canonical_section<T: ReencodeComponentRows>(
     reencoder: &mut T,
     alloc: Global,
@@ -196,7 +196,7 @@ impl<'a, T: ReencodeComponentRows> MapRow<
 }
 
 /// Maps the rows that the reader still has, each by `parse_component_instance`.
-#[tactic(auto, using(crate::proofs::SectionItems::component_instances))]
+#[tactic(auto, using(crate::proofs::rows_walked::SectionItems::component_instances))]
 pub fn parse_component_instance_section<T: ReencodeComponentRows>(
     reencoder: &mut T,
     alloc: Global,
@@ -224,7 +224,7 @@ impl<'a, T: ReencodeComponentRows> MapRow<T, w::Of<kinds::Instances>, r::Instanc
 }
 
 /// Maps the rows that the reader still has, each by `parse_instance`.
-#[tactic(auto, using(crate::proofs::SectionItems::instances))]
+#[tactic(auto, using(crate::proofs::rows_walked::SectionItems::instances))]
 pub fn parse_instance_section<T: ReencodeComponentRows>(
     reencoder: &mut T,
     alloc: Global,

@@ -75,7 +75,7 @@ impl<'a, T: ReencodeComponentRows> MapScopedRow<T, w::Of<kinds::CoreTypes>, r::C
 }
 
 /// Maps the rows that the reader still has, each by `parse_component_core_type`, and adds each row once it is mapped.
-#[tactic(auto, using(crate::proofs::SectionItems::core_types))]
+#[tactic(auto, using(crate::proofs::rows_walked::SectionItems::core_types))]
 pub fn parse_core_type_section<T: ReencodeComponentRows>(
     reencoder: &mut T,
     alloc: Global,
