@@ -23,6 +23,8 @@ pub trait DefaultSections: ReencodeItems {
 impl<T: DefaultSections> Reencode for T {
     const DIRECT_BODIES: bool = T::DIRECT;
 
+    const DEFAULT_SECTIONS: bool = true;
+
     fn parse_type_section(
         &mut self,
         alloc: Global,

@@ -40,6 +40,10 @@ pub trait Reencode: ReencodeItems {
     /// `DIRECT`, says so; it is not for others to say.
     const DIRECT_BODIES: bool = false;
 
+    /// Whether no method of this trait is overridden, so that what makes an output may take a custom section but `name` from the
+    /// input. A type that has the marker `DefaultReencode` or `DefaultSections` says so; it is not for others to say.
+    const DEFAULT_SECTIONS: bool = false;
+
     /// Maps the rows that the reader still has, each by `parse_recursive_type_group`, and adds each row once it is mapped.
     fn parse_type_section(
         &mut self,

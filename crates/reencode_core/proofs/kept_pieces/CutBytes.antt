@@ -1,8 +1,8 @@
 -- Made bytes, and kept ranges that are cut into them.
-use Rattle.std.proofs.Common.{◌≡◌, ◌≢◌, ◌≤◌, ◌<◌, ℕ, ◌+◌, ◌-◌, List, [], ◌∷◌, ◌++◌, length, take, drop, slice_range, refl, ap, sym, ◌∙◌, append_assoc, append-nil, length-append, length-take, length-drop, arith}
+use Rattle.std.proofs.Common.{◌≡◌, ◌≢◌, ◌≤◌, ◌<◌, ℕ, ◌+◌, ◌-◌, List, [], ◌∷◌, ◌++◌, length, take, drop, slice_range, refl, ap, sym, ◌∙◌, append_assoc, append-nil, length-append, length-take, length-drop, subst, arith}
 use Rattle.std.proofs.lemmas.List.{drop-append-le, drop_all, drop_at, length-take-le, take-append-le, take_all, take-take}
 use Rattle.std.proofs.Math.Seq.{drop-append-add, take-add, take-append-add}
-use lib.Seq.{paste}
+use lib.Seq.{drop-drop, paste}
 use Rattle.reencode_core.specs.Pieces.{Alternate, AreCut, AreCuts, AreWithin, Range, cut_bytes, cut_made, cut_pieces, cut_ranges, joined, kept_ranges, last_made, last_of, raised, range, total}
 use Rattle.reencode_core.specs.declared.pieces.cuts.Cut.{Cut}
 use Rattle.reencode_core.specs.declared.pieces.piece.Piece.{Piece}
@@ -126,6 +126,70 @@ kept_is {input} {made} {front} {last} {size} {cs} head c last' size' p e some or
       cuts_are = cuts_both (length input) cs (c ∷ []) p.cuts_are ((omega (arith, b, e, h, some), (ordered, within)), tt);
       sized = omega (arith, s, g, r, whole, more);
     }
+
+-- ---- the last range lengthened
+
+-- a range up to a place, and on from there
+pub range_on : (input : List ℕ) (a m b : ℕ) → a ≤ m → m ≤ b → slice_range input a b ≡ slice_range input a m ++ slice_range input m b
+range_on input a m b p q =
+    let whole : b - a ≡ (m - a) + (b - m) = omega (arith, p, q) in
+    let at : a + (m - a) ≡ m = omega (arith, p) in
+    ap (λ (n : ℕ). take n (drop a input)) whole ∙ take-add (m - a) (b - m) (drop a input)
+    ∙ ap (λ (z : List ℕ). slice_range input a m ++ take (b - m) z) (drop-drop (m - a) a input ∙ ap (λ (n : ℕ). drop n input) at)
+
+module _ {input made : List ℕ} {front last size : ℕ} {cs : List Cut} (before : List Cut) (c : Cut) (head : List ℕ) (start end : ℕ)
+    (p : AreCut input made front last size cs) (is : cs ≡ before ++ c ∷ []) (full : length made ≤ last) (apart : c.end ≤ start) (between : slice_range input c.end start ≡ head)
+    (ordered : start < end) (within : end ≤ length input) where
+  last_cuts : AreCuts (length input) before × AreCuts (length input) (c ∷ [])
+  last_cuts = cuts_parts before (subst (λ (z : List Cut). AreCuts (length input) z) is p.cuts_are)
+    where
+      cuts_parts : (ds : List Cut) → AreCuts (length input) (ds ++ c ∷ []) → AreCuts (length input) ds × AreCuts (length input) (c ∷ [])
+      cuts_parts [] q = (tt, q)
+      cuts_parts (d ∷ ds) q = let r = cuts_parts ds q.1 in ((q.0, r.0), r.1)
+
+  abbrev pub longer : Cut
+  longer = record c { end = end }
+
+  made_same : cut_made (before ++ longer ∷ []) ≡ cut_made cs
+  made_same = let a = made_both before (longer ∷ []) in let b = made_both before (c ∷ []) in let d = ap cut_made is in omega (arith, a, b, d)
+
+  filled : cut_made before + c.made ≡ length (drop front made)
+  filled =
+      let a = p.placed in
+      let b = p.shown in
+      let l = length-drop front made in
+      let m = made_both before (c ∷ []) in
+      let d = ap cut_made is in
+      omega (arith, a, b, l, m, d, full)
+
+  pub longer_bytes : cut_bytes input (drop front made) (before ++ longer ∷ []) ≡ cut_bytes input (drop front made) cs ++ (head ++ slice_range input start end)
+  longer_bytes =
+      let rest = drop front made in
+      let some = last_cuts.1.0.1.0 in
+      let whole : slice_range input c.start end ≡ slice_range input c.start c.end ++ (head ++ slice_range input start end) =
+      range_on input c.start c.end end (omega (arith, some)) (omega (arith, apart, ordered))
+      ∙ ap (λ (z : List ℕ). slice_range input c.start c.end ++ z) (range_on input c.end start end apart (omega (arith, ordered)) ∙ ap (λ (z : List ℕ). z ++ slice_range input start end) between) in
+      bytes_kept input rest before longer filled
+      ∙ ap (λ (z : List ℕ). cut_bytes input rest before ++ z) whole
+      ∙ sym (append_assoc (cut_bytes input rest before) (slice_range input c.start c.end) (head ++ slice_range input start end))
+      ∙ ap (λ (z : List ℕ). z ++ (head ++ slice_range input start end)) (sym (bytes_kept input rest before c filled) ∙ ap (cut_bytes input rest) (sym is))
+
+  pub longer_is : (size' : ℕ) → size' ≡ (size + length head) + (end - start) → AreCut input made front last size' (before ++ longer ∷ [])
+  longer_is size' e =
+      let a = p.placed in
+      let s = p.sized in
+      let m = made_same in
+      let r = range_len input start end (omega (arith, ordered)) within in
+      let whole = ap length longer_bytes ∙ length-append (cut_bytes input (drop front made) cs) (head ++ slice_range input start end) in
+      let more = length-append head (slice_range input start end) in
+      let q = last_cuts in
+      let o = q.1.0.1.0 in
+      record {
+        placed = omega (arith, a, m);
+        shown = p.shown;
+        cuts_are = cuts_both (length input) before (longer ∷ []) q.0 ((q.1.0.0, (omega (arith, o, apart, ordered), within)), tt);
+        sized = omega (arith, s, e, r, whole, more);
+      }
 
 -- others more, behind some bytes
 pub grown_bytes : {input made : List ℕ} {front last size : ℕ} {cs : List Cut} (head : List ℕ) (rest : List ℕ) (ds : List Cut) (m : ℕ) → AreCut input made front last size cs →

@@ -44,23 +44,20 @@ sections_both bytes text rows others p q = record {
   held = rw (length-append rows others, map_append rows others) (both_held p.held q);
 }
 
--- a code section is such
-pub code_framed : (body : List ℕ) → length body < 2 ^ 32 → AreFramed (section_bytes (record { id = 10; body = body })) (record { id = 10; body = body } ∷ [])
-code_framed body short = record {
+-- a section is such
+pub is_framed : (id : ℕ) (body : List ℕ) → id < 256 → length body < 2 ^ 32 → AreFramed (section_bytes (record { id = id; body = body })) (record { id = id; body = body } ∷ [])
+is_framed id body byte short = record {
   shaped = Is.cons (Is.seq Is.byte (Is.sized Is.rest)) Is.nil;
   counted = refl;
   spelled = (
-    10 ∷ (leb (length body) ++ body),
+    id ∷ (leb (length body) ++ body),
     [],
-    sym (append-nil (10 ∷ (leb (length body) ++ body))),
-    (10 ∷ [], leb (length body) ++ body, refl, (refl, byte), (leb (length body), body, refl, leb_spells (length body) short, refl)),
+    sym (append-nil (id ∷ (leb (length body) ++ body))),
+    (id ∷ [], leb (length body) ++ body, refl, (refl, byte), (leb (length body), body, refl, leb_spells (length body) short, refl)),
     refl,
   );
-  normally = append-nil (10 ∷ (leb (length body) ++ body));
+  normally = append-nil (id ∷ (leb (length body) ++ body));
 }
-  where
-    byte : 10 < 256
-    byte = omega arith
 
 module _ {bytes : List ℕ} where
   pub module_none : bytes ≡ core_header → HeldModule bytes
@@ -93,6 +90,11 @@ module _ {bytes : List ℕ} (h : HeldModule bytes) where
       let P : List ℕ → Type 0 = λ z. ∥ AreSections (length h.0) z h.0 ∥₁ in
       HeldModule-one new k (h.0, subst P (sym e) h.1)
 
+-- the length of a section that was added, by another number
+pub sized_as : {A E : Type 0} (r : Result A E) (id : ℕ) (new old body : List ℕ) (n : ℕ) → n ≡ length body → OnOk r (new ≡ old ++ (id ∷ (leb n ++ body))) → OnOk r (new ≡ old ++ (id ∷ (leb (length body) ++ body)))
+sized_as (Ok a) id new old body n e h = h ∙ ap (λ (k : ℕ). old ++ (id ∷ (leb k ++ body))) e
+sized_as (Err x) id new old body n e h = tt
+
 -- ---- the whole module, as contracts see it
 
 abbrev pub seen : ℕ → Grown → List SectionRow → ModuleGrown
@@ -113,9 +115,14 @@ module _ (ceiling : ℕ) (old : Grown) (h : HeldModule old.bytes) (new : Grown) 
   added_held (Ok a) text others ok err p = module_both h text others (ap Grown.bytes ok) p
   added_held (Err e) text others ok err p = let P : Grown → Type 0 = λ g. HeldModule g.bytes in subst P (sym err) h
 
-  pub code_held : {A E : Type 0} (r : Result A E) (body : List ℕ) → length body < 2 ^ 32 → OnOk r (new.bytes ≡ old.bytes ++ section_bytes (record { id = 10; body = body })) → OnErr r (new ≡ old) → HeldModule new.bytes
-  code_held (Ok a) body short ok err = module_both h (section_bytes (record { id = 10; body = body })) (record { id = 10; body = body } ∷ []) ok ∣ code_framed body short ∣₁
-  code_held (Err e) body short ok err = let P : Grown → Type 0 = λ g. HeldModule g.bytes in subst P (sym err) h
+  pub section_held : {A E : Type 0} (r : Result A E) (id : ℕ) (body : List ℕ) → id < 256 → length body < 2 ^ 32 → OnOk r (new.bytes ≡ old.bytes ++ section_bytes (record { id = id; body = body })) →
+      OnErr r (new ≡ old) → HeldModule new.bytes
+  section_held (Ok a) id body byte short ok err = module_both h (section_bytes (record { id = id; body = body })) (record { id = id; body = body } ∷ []) ok ∣ is_framed id body byte short ∣₁
+  section_held (Err e) id body byte short ok err = let P : Grown → Type 0 = λ g. HeldModule g.bytes in subst P (sym err) h
+
+  pub section_seen : (k : HeldModule new.bytes) (id : ℕ) (body : List ℕ) → id < 256 → length body < 2 ^ 32 → new.bytes ≡ old.bytes ++ section_bytes (record { id = id; body = body }) →
+      held_module new.bytes k ≡ held_module old.bytes h ++ record { id = id; body = body } ∷ []
+  section_seen k id body byte short e = module_both_is h (section_bytes (record { id = id; body = body })) (record { id = id; body = body } ∷ []) k e ∣ is_framed id body byte short ∣₁
 
   pub code_seen : (k : HeldModule new.bytes) (body : List ℕ) (kept : List Range) → length body < 2 ^ 32 → new.bytes ≡ old.bytes ++ section_bytes (record { id = 10; body = body }) →
       new.input ≡ old.input → new.kept ≡ old.kept ++ kept →
@@ -124,6 +131,4 @@ module _ (ceiling : ℕ) (old : Grown) (h : HeldModule old.bytes) (new : Grown) 
         sections = record { ceiling = ceiling; sections = held_module old.bytes h ++ record { id = 10; body = body } ∷ [] };
         kept = old.kept ++ kept;
       }
-  code_seen k body kept short e i r =
-      let rows = module_both_is h (section_bytes (record { id = 10; body = body })) (record { id = 10; body = body } ∷ []) k e ∣ code_framed body short ∣₁ in
-      rw (rows, i, r) refl
+  code_seen k body kept short e i r = rw (section_seen k 10 body (omega arith) short e, i, r) refl

@@ -4,7 +4,7 @@ use Rattle.std.proofs.Math.Seq.{take-append_seam, drop-append_seam}
 use Rattle.wasm_shapes.specs.Tree.{Tree}
 use Rattle.wasm_shapes.specs.Place.{Begins}
 use Rattle.wasm_shapes.specs.Module.{frame}
-use Rattle.wasm_read.specs.Frames.{numbered_frame}
+use Rattle.wasm_read.specs.Frames.{custom_frame, numbered_frame}
 use Rattle.wasm_read.specs.Operations.{frame_row}
 use Rattle.wasm_read.specs.Reading.{CountRead, RowRead, Standing, place_of}
 use Rattle.reencode_core.specs.Sinks.{RowsStand, StandsAt}
@@ -106,6 +106,26 @@ section_stands bytes front rest body left id e b =
     e ∙ ap (λ (z : List ℕ). front ++ z) (b.reads ∙ ap (λ (z : List ℕ). z ++ left) text_is ∙ append_assoc head body left) ∙ sym (append_assoc front head (body ++ left)) in
     let len = ap length whole ∙ length-append (front ++ head) (body ++ left) in
     let len' = length-append body left in record {
+      front = front ++ head;
+      behind = left;
+      parts = whole;
+      place = omega (arith, len, len');
+    }
+
+-- the contents of a custom section, too
+pub custom_stands : (bytes front rest name contents left : List ℕ) → bytes ≡ front ++ rest → Begins frame rest (custom_frame name contents) left → StandsAt bytes contents (length bytes - length left)
+custom_stands bytes front rest name contents left e b =
+    let p = b.spells.spelled in
+    let q = p.4 in
+    let n = q.4 in
+    let head : List ℕ = p.0 ++ (q.0 ++ n.0) in
+    let body_is : q.1 ≡ n.0 ++ contents = n.2 ∙ ap (λ (z : List ℕ). n.0 ++ z) n.4 in
+    let text_is : b.text ≡ head ++ contents =
+    p.2 ∙ ap (λ (z : List ℕ). p.0 ++ z) (q.2 ∙ ap (λ (z : List ℕ). q.0 ++ z) body_is ∙ sym (append_assoc q.0 n.0 contents)) ∙ sym (append_assoc p.0 (q.0 ++ n.0) contents) in
+    let whole : bytes ≡ (front ++ head) ++ (contents ++ left) =
+    e ∙ ap (λ (z : List ℕ). front ++ z) (b.reads ∙ ap (λ (z : List ℕ). z ++ left) text_is ∙ append_assoc head contents left) ∙ sym (append_assoc front head (contents ++ left)) in
+    let len = ap length whole ∙ length-append (front ++ head) (contents ++ left) in
+    let len' = length-append contents left in record {
       front = front ++ head;
       behind = left;
       parts = whole;

@@ -79,18 +79,30 @@ fn kept_head<'a>(count: u32, rows: &'a [u8], body: &[u8]) -> Option<&'a [u8]>
     Some(head)
 }
 
-/// Keeps a body that stands in the input up to a place, behind some bytes.
-fn keep_body(pieces: &mut Growing<'_>, head: &[u8], body: &[u8], end: usize) -> Result<(), NoMemory>
+/// Keeps a body that stands in the input up to a place, behind some bytes. Where other ranges than bodies may be kept, it may be one
+/// range with what stands in front of it.
+fn keep_body(
+    pieces: &mut Growing<'_>,
+    head: &[u8],
+    body: &[u8],
+    end: usize,
+    more: bool,
+) -> Result<(), NoMemory>
     requires stands { StandsAt pieces.old.input body.now end }
     requires some { 0 < length head.now }
     requires filled { 0 < length body.now }
     ensures bytes { OnOk result (pieces.new.bytes ≡ pieces.old.bytes ++ (head.now ++ body.now)) }
-    ensures kept { OnOk result (pieces.new.kept
+    ensures kept { more ≡ false → OnOk result (pieces.new.kept
         ≡ pieces.old.kept ++ range (end - length body.now) end ∷ []) }
     ensures input { pieces.new.input ≡ pieces.old.input }
     ensures err { OnErr result (pieces.new ≡ pieces.old) }
 {
-    pieces.keep(head, end - body.len(), end)
+    let start = end - body.len();
+    if more {
+        pieces.keep_on(head, start, end)
+    } else {
+        pieces.keep(head, start, end)
+    }
 }
 
 /// Adds the rows of a section. Where they are one, of the body that stands in the input up to a place, the body is kept.
@@ -111,7 +123,7 @@ fn add_rows(
     ensures err { OnErr result (pieces.new ≡ pieces.old) }
 {
     match kept_head(count, rows, body) {
-        Some(head) => keep_body(pieces, head, body, end),
+        Some(head) => keep_body(pieces, head, body, end, false),
         None => pieces.add(rows),
     }
 }
@@ -177,17 +189,18 @@ impl<'a> CodePieces<'a> {
         }
     }
 
-    /// Adds a body that stands in the input up to a place, which is the normal spelling of a function: it is kept.
+    /// Adds a body that stands in the input up to a place, which is the normal spelling of a function: it is kept, and where other
+    /// ranges than bodies may be kept, as one with bodies in front of it.
     ///
     /// `TooLarge` comes exactly where it is longer than the ceiling, with its length, or it fits and the number of rows would pass
     /// 2^32 - 1, with that number.
-    pub fn keep(&mut self, body: &[u8], end: usize) -> Result<(), w::WriteFault>
+    pub fn keep(&mut self, body: &[u8], end: usize, more: bool) -> Result<(), w::WriteFault>
         requires stands { StandsAt self.old.input body.now end }
         requires normally { HeldBody body.now }
         requires small { self.old.code.ceiling < 2 ^ 32 }
         ensures ok { OnOk result (GainsBody self.old.code body.now self.new.code) }
         ensures fits { OnOk result (length body.now ≤ self.old.code.ceiling) }
-        ensures kept { OnOk result (self.new.kept
+        ensures kept { more ≡ false → OnOk result (self.new.kept
             ≡ self.old.kept ++ range (end - length body.now) end ∷ []) }
         ensures input { self.new.input ≡ self.old.input }
         ensures err { OnErr result (self.new ≡ self.old) }
@@ -207,7 +220,7 @@ impl<'a> CodePieces<'a> {
             Ok(()) => {}
             Err(NoMemory) => return Err(w::WriteFault::NoMemory),
         }
-        match keep_body(&mut self.pieces, &self.head, body, end) {
+        match keep_body(&mut self.pieces, &self.head, body, end, more) {
             Ok(()) => {
                 self.count = count;
                 Ok(())

@@ -1,5 +1,6 @@
 //! Kept ranges that are cut into made bytes.
-ghost use Rattle.std.specs.Prelude.{◌≡◌, ◌++◌, ◌∷◌, ◌+◌, ◌-◌, ◌<◌, ◌≤◌, ◌^◌, [], length, take, drop, IfOk, OnOk, OnErr};
+ghost use Rattle.std.specs.Prelude.{◌≡◌, ◌++◌, ◌∷◌, ◌+◌, ◌-◌, ◌<◌, ◌≤◌, ◌^◌, [], List, length, take, drop, slice_range, IfOk, IsTrue, OnOk, OnErr};
+ghost use Rattle.reencode_core.specs.declared.pieces.cuts.Cut.{Cut};
 ghost use Rattle.reencode_core.specs.Pieces.{AreCuts, cut_bytes, cut_made, cut_pieces, last_made, last_of, raised};
 ghost use Rattle.reencode_core.specs.declared.pieces.piece.Piece.TheVariants.{Made};
 
@@ -42,6 +43,32 @@ pub(crate) fn last_behind(cuts: &[Cut], last: usize, begun: usize, made: usize) 
     ensures { result ≡ last_of cuts.now last begun }
 {
     if cuts.is_empty() { last } else { begun + made }
+}
+
+/// Whether some bytes stand in the input between the last range and a place.
+pub(crate) fn stand_behind(input: &[u8], cuts: &[Cut], bytes: &[u8], place: usize) -> bool
+    requires { place ≤ length input.now }
+    ensures { IsTrue result → (front : List Cut) × (last : Cut) × (cuts.now ≡ front ++ last ∷ [])
+        × (last.end ≤ place) × (slice_range input.now last.end place ≡ bytes.now) }
+{
+    let Some((last, _)) = cuts.split_last() else {
+        return false;
+    };
+    if last.end > place {
+        return false;
+    }
+    &input[last.end..place] == bytes
+}
+
+/// Has the last range end at another place.
+pub(crate) fn lengthen_last(cuts: &mut [Cut], end: usize)
+    ensures { (front : List Cut) (last : Cut) → cuts.old ≡ front ++ last ∷ []
+        → cuts.new ≡ front ++ record last { end = end } ∷ [] }
+{
+    let count = cuts.len();
+    if count > 0 {
+        cuts[count - 1].end = end;
+    }
 }
 
 /// Copies bytes over the first of others.

@@ -1,9 +1,10 @@
 //! Pieces under construction.
-ghost use Rattle.std.specs.Prelude.{◌≡◌, ◌++◌, ◌-◌, ◌<◌, ◌≤◌, ◌^◌, [], length, OnOk, OnErr, IfOk};
+ghost use Rattle.std.specs.Prelude.{◌≡◌, ◌++◌, ◌-◌, ◌<◌, ◌≤◌, ◌^◌, [], length, slice_range, OnOk, OnErr, IfOk};
 ghost use Rattle.reencode_core.specs.Pieces.{AreGrown, with_bytes, with_grown, with_kept};
 
 use crate::pieces::cuts::{
-    Cut, cut_out, drop_room, fill, joined_in_place, last_behind, raise, take_over,
+    Cut, cut_out, drop_room, fill, joined_in_place, last_behind, lengthen_last, raise,
+    stand_behind, take_over,
 };
 use crate::pieces::piece::Pieces;
 use std::alloc::Global;
@@ -151,6 +152,31 @@ impl<'a> Growing<'a> {
         self.last += made;
         self.size = size;
         Ok(())
+    }
+
+    /// Adds bytes, and a range of the input that is not empty behind them. Where both stand in the input right behind the range that
+    /// is the last piece, they are added to that range.
+    pub fn keep_on(&mut self, head: &[u8], start: usize, end: usize) -> Result<(), NoMemory>
+        requires ordered { start < end }
+        requires within { end ≤ length self.old.input }
+        requires some { 0 < length head.now }
+        ensures bytes { OnOk result (self.new.bytes
+            ≡ self.old.bytes ++ (head.now ++ slice_range self.old.input start end)) }
+        ensures input { self.new.input ≡ self.old.input }
+        ensures err { OnErr result (self.new ≡ self.old) }
+    {
+        if self.made.len() == self.last && stand_behind(self.input, &self.cuts, head, start) {
+            let Some(size) = self.size.checked_add(head.len() as u64) else {
+                return Err(NoMemory);
+            };
+            let Some(size) = size.checked_add((end - start) as u64) else {
+                return Err(NoMemory);
+            };
+            lengthen_last(&mut self.cuts, end);
+            self.size = size;
+            return Ok(());
+        }
+        self.keep(head, start, end)
     }
 
     /// Adds bytes, and the pieces of another over the same input behind them.

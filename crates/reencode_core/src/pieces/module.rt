@@ -4,8 +4,9 @@ ghost use Rattle.wasm_leb.specs.Leb.{leb};
 ghost use Rattle.wasm_shapes.specs.Tree.{normal};
 ghost use Rattle.wasm_shapes.specs.Types.{vector_tree};
 ghost use Rattle.wasm_write.specs.Faults.{IfTooLarge};
-ghost use Rattle.wasm_write.specs.Sections.{module_bytes};
-ghost use Rattle.reencode_core.specs.Sinks.{AreModule, HeldModule, HeldModule-prop, with_code, with_sections};
+ghost use Rattle.wasm_write.specs.Sections.{module_bytes, section_row, with_section};
+ghost use Rattle.wasm_write.specs.Types.{custom_section_tree};
+ghost use Rattle.reencode_core.specs.Sinks.{AreModule, HeldModule, HeldModule-prop, StandsAt, with_code, with_sections};
 
 use crate::pieces::code::CodePieces;
 use crate::pieces::growing::Growing;
@@ -15,6 +16,7 @@ use std::alloc::Global;
 use std::marker::Model;
 use wasm_leb::{NoMemory, len_u32, write_u32};
 use wasm_write as w;
+use wasm_write::Section;
 
 /// The header of a core module.
 const HEADER: [u8; 8] = [0x00, 0x61, 0x73, 0x6d, 0x01, 0x00, 0x00, 0x00];
@@ -40,6 +42,49 @@ impl<'a> Model for ModulePieces<'a> {
       sections = record { ceiling = m.ceiling; sections = held_module m.pieces.bytes m.held };
       kept = m.pieces.kept;
     } };
+}
+
+/// The id of a custom section, the length of its body, and what stands in the body in front of the contents.
+fn custom_head(alloc: Global, len: u32, section: w::CustomSection<'_>) -> Result<Vec<u8>, NoMemory>
+    ensures stands { IfOk result (λ head. head.items ++ section.entry.contents.now
+        ≡ 0 ∷ (leb len ++ normal (custom_section_tree section.entry))) }
+    ensures some { IfOk result (λ head. 0 < length head.items) }
+{
+    let Ok(mut head) = Vec::with_capacity(alloc, section.name.len().saturating_add(11)) else {
+        return Err(NoMemory);
+    };
+    match head.push(0) {
+        Ok(()) => {}
+        Err(_) => return Err(NoMemory),
+    }
+    write_u32(&mut head, len)?;
+    let named = w::CustomSection {
+        name: section.name,
+        contents: &[],
+    };
+    named.encode_body(&mut head)?;
+    Ok(head)
+}
+
+/// Adds a custom section whose body has so many bytes, and whose contents end at a place of the input: they are kept.
+fn keep_framed(
+    alloc: Global,
+    pieces: &mut Growing<'_>,
+    len: u32,
+    section: w::CustomSection<'_>,
+    end: usize,
+) -> Result<(), NoMemory>
+    requires { StandsAt pieces.old.input section.contents.now end }
+    ensures bytes { OnOk result (pieces.new.bytes
+        ≡ pieces.old.bytes ++ (0 ∷ (leb len ++ normal (custom_section_tree section.entry)))) }
+    ensures input { pieces.new.input ≡ pieces.old.input }
+    ensures err { OnErr result (pieces.new ≡ pieces.old) }
+{
+    let head = custom_head(alloc, len, section)?;
+    if section.contents.is_empty() {
+        return pieces.add(&head);
+    }
+    pieces.keep_on(&head, end - section.contents.len(), end)
 }
 
 /// The id of a code section, the length of its body, and the number of its rows.
@@ -110,6 +155,40 @@ impl<'a> ModulePieces<'a> {
         match self.pieces.add(module.sections_as_slice()) {
             Ok(()) => {}
             Err(NoMemory) => return Err(NoMemory),
+        }
+        Ok(())
+    }
+
+    /// Adds a custom section whose contents end at a place of the input: they are kept. A refusal changes nothing.
+    ///
+    /// `TooLarge` comes exactly where the body is longer than the ceiling, with its length.
+    pub fn keep_custom(
+        &mut self,
+        alloc: Global,
+        section: w::CustomSection<'_>,
+        end: usize,
+    ) -> Result<(), w::WriteFault>
+        requires { StandsAt self.old.input section.contents.now end }
+        ensures ok { OnOk result (self.new.sections ≡ with_section self.old.sections
+            (section_row 0 (normal (custom_section_tree section.entry)))) }
+        ensures fits { OnOk result
+            (length (normal (custom_section_tree section.entry)) ≤ self.old.sections.ceiling) }
+        ensures input { self.new.input ≡ self.old.input }
+        ensures err { OnErr result (self.new ≡ self.old) }
+        ensures large { IfErr result (λ e. IfTooLarge e (λ size.
+            (size ≡ length (normal (custom_section_tree section.entry)))
+            × (self.old.sections.ceiling < size))) }
+    {
+        let Some(size) = section.known_len() else {
+            return Err(w::WriteFault::NoMemory);
+        };
+        let size = size as u64;
+        if size > u64::from(self.ceiling) {
+            return Err(w::WriteFault::TooLarge { size });
+        }
+        match keep_framed(alloc, &mut self.pieces, size as u32, section, end) {
+            Ok(()) => {}
+            Err(NoMemory) => return Err(w::WriteFault::NoMemory),
         }
         Ok(())
     }

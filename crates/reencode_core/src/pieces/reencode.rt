@@ -1,5 +1,5 @@
 //! The re-encoding of a core module into pieces.
-ghost use Rattle.std.specs.Prelude.{◌≡◌, ◌++◌, ◌+◌, ◌-◌, ◌<◌, ◌≤◌, ◌^◌, ◌∷◌, [], List, ℕ, length, IfOk, IfErr, IsTrue, OnOk};
+ghost use Rattle.std.specs.Prelude.{◌≡◌, ◌++◌, ◌+◌, ◌-◌, ◌<◌, ◌≤◌, ◌^◌, ◌∷◌, [], List, ℕ, length, IfOk, IfErr, IsTrue, Ok, OnOk, false};
 ghost use Rattle.wasm_shapes.specs.declared.SectionId.TheVariants as kinds;
 ghost use Rattle.wasm_shapes.specs.Tree.{normal, visits, Tree};
 ghost use Rattle.wasm_shapes.specs.Types.{vector_tree};
@@ -7,6 +7,7 @@ ghost use Rattle.wasm_shapes.specs.Module.{code_row, core_module, unknown_tree_o
 ghost use Rattle.wasm_shapes.specs.Spells.{Spells};
 ghost use Rattle.wasm_read.specs.Reading.{place_of};
 ghost use Rattle.wasm_write.specs.Sections.{AllFit, section_row};
+ghost use Rattle.wasm_write.specs.Types.{custom_section_tree};
 ghost use Rattle.reencode_hooks.specs.Hooks.{MayAdd, RepliesSection};
 ghost use Rattle.reencode_hooks.specs.Run.{LeavesVisited, accepted, ask, run};
 ghost use Rattle.reencode_core.specs.Bodies.{GivesBody, KeepsCode};
@@ -57,6 +58,7 @@ fn map_body<R: Reencode>(
 }
 
 /// Maps a function body and adds its row: it is kept where it stays as it stands. The memory of a section of its own is used again.
+/// `more` says whether other ranges than function bodies may be kept.
 fn add_body<R: Reencode>(
     reencoder: &mut R,
     alloc: Global,
@@ -64,6 +66,7 @@ fn add_body<R: Reencode>(
     code: &mut CodePieces<'_>,
     func: r::FunctionBody<'_>,
     end: usize,
+    more: bool,
 ) -> Result<(), Error<R::Error>>
     requires stands { StandsAt code.old.input func.bytes.now end }
     requires same_ceiling { own.old.ceiling ≡ code.old.code.ceiling }
@@ -76,7 +79,7 @@ fn add_body<R: Reencode>(
     ensures after_error { IsTrue R.keeps_defaults → LeavesMade R.sure (ask R.reply R.next) (body_in func.entry.bytes.now)
         reencoder.old reencoder.new result }
     ensures input { code.new.input ≡ code.old.input }
-    ensures ranges { IsTrue R.keeps_defaults
+    ensures ranges { more ≡ false → IsTrue R.keeps_defaults
         → OnOk result (KeepsRow func.entry.bytes.now end code.old code.new) }
 {
     let body = func.bytes;
@@ -86,7 +89,7 @@ fn add_body<R: Reencode>(
         Err(e) => return Err(e),
     };
     if stays {
-        code.keep(body, end)?;
+        code.keep(body, end, more)?;
         return Ok(());
     }
     match code.add(own, body, end) {
@@ -111,6 +114,7 @@ fn add_bodies<R: Reencode>(
     section: r::CodeSectionReader<'_>,
     input: &[u8],
     start: usize,
+    more: bool,
 ) -> Result<(), Error<R::Error>>
     requires stands { RowsStand input.now start section }
     requires same { code.old.input ≡ input.now }
@@ -121,7 +125,7 @@ fn add_bodies<R: Reencode>(
     ensures after_error { IsTrue R.keeps_defaults → LeavesMade R.sure (ask R.reply R.next) (rows_in code_row section.entry)
         reencoder.old reencoder.new result }
     ensures input { code.new.input ≡ code.old.input }
-    ensures ranges { IsTrue R.keeps_defaults → OnOk result
+    ensures ranges { more ≡ false → IsTrue R.keeps_defaults → OnOk result
         (GainsFrames (start + place_of section.entry) section.entry.rest code.old code.new) }
 {
     let mut rows = section;
@@ -131,7 +135,7 @@ fn add_bodies<R: Reencode>(
         match rows.next_row(alloc)? {
             Some(func) => {
                 let end = place_in(input, start, rows.place());
-                match add_body(reencoder, alloc, &mut own, code, func, end) {
+                match add_body(reencoder, alloc, &mut own, code, func, end, more) {
                     Ok(()) => {}
                     Err(e) => return Err(placed(e, at)),
                 }
@@ -166,6 +170,7 @@ fn add_code_section<R: Reencode>(
     sink: &mut ModulePieces<'_>,
     body: &[u8],
     start: usize,
+    more: bool,
 ) -> Result<(), Error<R::Error>>
     requires { StandsAt sink.old.input body.now (start + length body.now) }
     ensures kept { KeepsModule sink.old.sections sink.new.sections }
@@ -174,14 +179,14 @@ fn add_code_section<R: Reencode>(
     ensures after_error { IsTrue R.keeps_defaults → LeavesMade R.sure (ask R.reply R.next) (section_in kinds.Code body.now)
         reencoder.old reencoder.new result }
     ensures input { sink.new.input ≡ sink.old.input }
-    ensures ranges { IsTrue R.keeps_defaults
+    ensures ranges { more ≡ false → IsTrue R.keeps_defaults
         → OnOk result (KeepsCodeSection (ask R.reply R.next) sink.old.sections.ceiling start body.now
         reencoder.old reencoder.new sink.old.kept sink.new.kept) }
 {
     let section = r::CodeSectionReader::new(body)?;
     let input = sink.input();
     let mut code = sink.new_code(alloc, section.place(), body.len());
-    let mapped = add_bodies(reencoder, alloc, &mut code, section, input, start);
+    let mapped = add_bodies(reencoder, alloc, &mut code, section, input, start, more);
     add_mapped(alloc, sink, mapped, code)
 }
 
@@ -214,13 +219,33 @@ fn add_section<R: Reencode>(
     }
 }
 
-/// Maps a custom section into a module of its own, and adds it.
+/// Adds a custom section as it is. Its contents end at a place of the input, and are kept.
+fn keep_custom<E>(
+    alloc: Global,
+    sink: &mut ModulePieces<'_>,
+    section: r::CustomSection<'_>,
+    end: usize,
+) -> Result<(), Error<E>>
+    requires { StandsAt sink.old.input section.contents.now end }
+    ensures adds { AddsMapped {E = E} (section_row 0 (normal (custom_section_tree section.entry)))
+        sink.old.sections (Ok tt) sink.new.sections result }
+    ensures input { sink.new.input ≡ sink.old.input }
+{
+    sink.keep_custom(alloc, section, end)?;
+    Ok(())
+}
+
+/// Maps a custom section into a module of its own, and adds it. Its contents end at a place of the input. Where other ranges than
+/// function bodies may be kept, and the section stays as it is, they are kept.
 fn add_custom<R: Reencode>(
     reencoder: &mut R,
     alloc: Global,
     sink: &mut ModulePieces<'_>,
     section: r::CustomSection<'_>,
+    end: usize,
+    more: bool,
 ) -> Result<(), Error<R::Error>>
+    requires { StandsAt sink.old.input section.contents.now end }
     ensures kept { KeepsModule sink.old.sections sink.new.sections }
     ensures default { IsTrue R.keeps_defaults → GivesCustom (ask R.reply R.next)
         section.entry.name.now section.entry.contents.now
@@ -229,8 +254,11 @@ fn add_custom<R: Reencode>(
         (custom_in section.entry.name.now section.entry.contents.now)
         reencoder.old reencoder.new result }
     ensures input { sink.new.input ≡ sink.old.input }
-    ensures ranges { OnOk result (sink.new.kept ≡ sink.old.kept) }
+    ensures ranges { more ≡ false → OnOk result (sink.new.kept ≡ sink.old.kept) }
 {
+    if more && R::DEFAULT_SECTIONS && section.name != "name" {
+        return keep_custom(alloc, sink, section, end);
+    }
     let Ok(mut own) = w::Module::new(alloc, sink.ceiling()) else {
         return Err(Error::NoMemory);
     };
@@ -317,6 +345,7 @@ fn add_kind<R: Reencode>(
     id: SectionId,
     body: &[u8],
     start: usize,
+    more: bool,
 ) -> Result<(), Error<R::Error>>
     requires { StandsAt sink.old.input body.now (start + length body.now) }
     ensures kept { KeepsModule sink.old.sections sink.new.sections }
@@ -325,23 +354,24 @@ fn add_kind<R: Reencode>(
     ensures after_error { IsTrue R.keeps_defaults → LeavesMade R.sure (ask R.reply R.next) (section_in id body.now)
         reencoder.old reencoder.new result }
     ensures input { sink.new.input ≡ sink.old.input }
-    ensures ranges { IsTrue R.keeps_defaults
+    ensures ranges { more ≡ false → IsTrue R.keeps_defaults
         → OnOk result (KeepsKind (ask R.reply R.next) sink.old.sections.ceiling id start body.now
         reencoder.old reencoder.new sink.old.kept sink.new.kept) }
 {
     match id {
-        SectionId::Code => add_code_section(reencoder, alloc, sink, body, start),
+        SectionId::Code => add_code_section(reencoder, alloc, sink, body, start, more),
         _ => add_section(reencoder, alloc, sink, id, body),
     }
 }
 
 /// Reads a module and adds what its sections become. The section hook is called before each section of the ids 1 to 13 and at the
-/// end, and the closing hook behind each of these, once it was added.
+/// end, and the closing hook behind each of these, once it was added. `more` says whether other ranges than function bodies may be kept.
 fn walk<R: Reencode>(
     reencoder: &mut R,
     alloc: Global,
     sink: &mut ModulePieces<'_>,
     bytes: &[u8],
+    more: bool,
 ) -> Result<(), Error<R::Error>>
     requires { sink.old.input ≡ bytes.now }
     ensures kept { KeepsModule sink.old.sections sink.new.sections }
@@ -355,7 +385,7 @@ fn walk<R: Reencode>(
         (module_in bytes.now) reencoder.old reencoder.new result }
     ensures headless { IsTrue R.keeps_defaults → NoCoreHeading bytes.now → reencoder.new ≡ reencoder.old }
     ensures input { sink.new.input ≡ sink.old.input }
-    ensures ranges { IsTrue R.keeps_defaults → OnOk result (KeepsRanges (ask R.reply R.next)
+    ensures ranges { more ≡ false → IsTrue R.keeps_defaults → OnOk result (KeepsRanges (ask R.reply R.next)
         sink.old.sections.ceiling bytes.now reencoder.old reencoder.new sink.old.kept sink.new.kept) }
 {
     let mut payloads = r::Payloads::new(bytes)?;
@@ -365,7 +395,7 @@ fn walk<R: Reencode>(
             Some(r::Payload::Section { id, at, body }) => {
                 add_between(reencoder, alloc, sink, Visit::Section(last, Some(id)))?;
                 let start = payloads.place().saturating_sub(body.len());
-                match add_kind(reencoder, alloc, sink, id, body, start) {
+                match add_kind(reencoder, alloc, sink, id, body, start, more) {
                     Ok(()) => {
                         add_between(reencoder, alloc, sink, Visit::Closed(id))?;
                         last = Some(id);
@@ -374,7 +404,8 @@ fn walk<R: Reencode>(
                 }
             }
             Some(r::Payload::Custom { at, section }) => {
-                match add_custom(reencoder, alloc, sink, section) {
+                let end = payloads.place();
+                match add_custom(reencoder, alloc, sink, section, end, more) {
                     Ok(()) => {}
                     Err(e) => return Err(placed(e, at)),
                 }
@@ -416,7 +447,7 @@ pub fn reencode_pieces<R: Reencode>(
         × Kept bytes.now t given (kept_ranges pieces)) }
 {
     let mut sink = ModulePieces::new(alloc, bytes, ceiling)?;
-    match walk(r, alloc, &mut sink, bytes) {
+    match walk(r, alloc, &mut sink, bytes, false) {
         Ok(()) => Ok(sink.finish(alloc)?),
         Err(e) => Err(e),
     }
@@ -433,7 +464,7 @@ pub fn reencode_output<'a, R: Reencode>(
     ensures { BytesClauses R.ReencodeIndices ceiling bytes.now r.old r.new result (λ o. o) }
 {
     let mut sink = ModulePieces::new(alloc, bytes, ceiling)?;
-    walk(r, alloc, &mut sink, bytes)?;
+    walk(r, alloc, &mut sink, bytes, true)?;
     Ok(sink.into_output())
 }
 
@@ -448,6 +479,6 @@ pub fn reencode_joined<R: Reencode>(
     ensures { BytesClauses R.ReencodeIndices ceiling bytes.now r.old r.new result (λ v. v.items) }
 {
     let mut sink = ModulePieces::new(alloc, bytes, ceiling)?;
-    walk(r, alloc, &mut sink, bytes)?;
+    walk(r, alloc, &mut sink, bytes, true)?;
     Ok(sink.into_output().into_vec()?)
 }

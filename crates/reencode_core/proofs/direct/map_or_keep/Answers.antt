@@ -1,4 +1,4 @@
-use Rattle.std.proofs.Common.{◌≡◌, ◌∙◌, Ok, Err, drop, IsTrue, refl, sym, ap, subst}
+use Rattle.std.proofs.Common.{◌≡◌, ◌∙◌, Err, drop, IsTrue, refl, sym, ap, subst}
 use Rattle.wasm_write.specs.Bodies.{Body}
 use Rattle.reencode_core.specs.Direct.{MapsFront}
 use Rattle.reencode_core.proofs.bodies.EachBody.{body_found, body_unbegun}

@@ -8,7 +8,7 @@ use Rattle.reencode_core.proofs.kept_pieces.StandsAt.{body_stands, place_fits, r
 use Rattle.reencode_core.proofs.pieces.reencode.add_bodies.Goals as goal
 
 pub rows-init : goal.rows-init
-rows-init g c = record { done = code_begun g.R.ReencodeIndices; stands = c.requires.stands; same = c.requires.same; small = omega (arith, c.ceiling.ensures, c.ceiling.type_inv); own = ap CodeRows.ceiling c.new-own.ensures ∙ c.ceiling.ensures; frames = λ k. frames_begun c.args.start _ _ }
+rows-init g c = record { done = code_begun g.R.ReencodeIndices; stands = c.requires.stands; same = c.requires.same; small = omega (arith, c.ceiling.ensures, c.ceiling.type_inv); own = ap CodeRows.ceiling c.new-own.ensures ∙ c.ceiling.ensures; frames = λ more k. frames_begun c.args.start _ _ }
 
 pub returns-in_err-func-clause-default : goal.returns-in_err-func-clause-default
 returns-in_err-func-clause-default g c = (code_stuck g.R.ReencodeIndices c.rows.invariant.done _ c.in_err-func.ensures.err _ c.from_residual.ensures.1).default
@@ -41,10 +41,10 @@ rows-preserved g c =
       same = e.input ∙ c.rows.invariant.same;
       small = rw e.kept.ceiling c.rows.invariant.small;
       own = e.own ∙ c.rows.invariant.own ∙ sym e.kept.ceiling;
-      frames = λ k.
+      frames = λ more k.
           let is : c.place_in-end.result ≡ c.args.start + place_of c.next_row.new.self = omega (arith, c.place.ensures, c.place_in-end.ensures) in
           let P : ℕ → Type 0 = λ n. KeepsRow c.in-Some.func.bytes.now n c.rows.code c.add_body.new.code in
-          frames_more c.args.start c.in-Some.func.bytes.now _ _ _ _ _ _ c.requires.stands.short (c.rows.invariant.frames k) row (subst P is (e.ranges k));
+          frames_more c.args.start c.in-Some.func.bytes.now _ _ _ _ _ _ c.requires.stands.short (c.rows.invariant.frames more k) row (subst P is (e.ranges more k));
     }
 
 pub returns-in-Err-clause-default : goal.returns-in-Err-clause-default
@@ -65,4 +65,4 @@ returns-in-None-clause-default g c = (code_ended g.R.ReencodeIndices c.rows.inva
 pub returns-in-None-clause-ranges : goal.returns-in-None-clause-ranges
 returns-in-None-clause-ranges g c =
     let ended = rw c.in-None.is at c.in_ok-func.ensures.ended in
-    λ k. frames_ended c.args.start _ _ _ _ (c.rows.invariant.frames k) ended.filled
+    λ more k. frames_ended c.args.start _ _ _ _ (c.rows.invariant.frames more k) ended.filled

@@ -1,4 +1,4 @@
-use Rattle.std.proofs.Common.{◌≡◌, ◌<◌, ◌^◌, IsTrue}
+use Rattle.std.proofs.Common.{◌≡◌, ◌<◌, ◌^◌, IsTrue, false}
 use Rattle.reencode_core.proofs.bodies.EachBody.{CodeKept}
 use Rattle.reencode_core.specs.Sinks.{FramesDone, RowsStand}
 use Rattle.reencode_core.proofs.pieces.reencode.add_bodies.Given as goal
@@ -12,7 +12,7 @@ invariant-rows g l =
       same : l.code.input ≡ l.input;
       small : l.code.code.ceiling < 2 ^ 32;
       own : l.own.ceiling ≡ l.code.code.ceiling;
-      frames : IsTrue g.R.ReencodeIndices.keeps_defaults → FramesDone l.start l.initial.rows l.initial.code l.rows l.code;
+      frames : l.more ≡ false → IsTrue g.R.ReencodeIndices.keeps_defaults → FramesDone l.start l.initial.rows l.initial.code l.rows l.code;
     }
 
 abbrev pub decreases-rows : goal.decreases-rows

@@ -19,7 +19,7 @@ pub returns-then-stays-clause-ranges : goal.returns-then-stays-clause-ranges
 returns-then-stays-clause-ranges g c =
     let given = rw c.if-stays.true at c.in-Ok.ensures in
     let kept = c.in_ok-keep.ensures in
-    λ k. row_stays g.R.ReencodeIndices _ c.args.end _ _ c.args.code.now c.keep.new.self given.1 kept.ok kept.kept
+    λ more k. row_stays g.R.ReencodeIndices _ c.args.end _ _ c.args.code.now c.keep.new.self given.1 kept.ok (kept.kept more)
 
 pub returns-in-Err-add-clause-default : goal.returns-in-Err-add-clause-default
 returns-in-Err-add-clause-default g c =
@@ -37,4 +37,4 @@ pub returns-in-Ok-add-clause-ranges : goal.returns-in-Ok-add-clause-ranges
 returns-in-Ok-add-clause-ranges g c =
     let fresh = c.clear.ensures ∙ ap (λ (n : ℕ). fresh_code n) c.requires.same_ceiling in
     let given = rw c.if-stays.false at c.in-Ok.ensures in
-    λ k. row_kept g.R.ReencodeIndices _ c.args.end c.args.reencoder.now _ c.args.code.now c.add.new.self _ c.requires.small k (rw fresh at given) c.in-Ok-add.ensures.ok c.in-Ok-add.ensures.kept
+    λ more k. row_kept g.R.ReencodeIndices _ c.args.end c.args.reencoder.now _ c.args.code.now c.add.new.self _ c.requires.small k (rw fresh at given) c.in-Ok-add.ensures.ok c.in-Ok-add.ensures.kept

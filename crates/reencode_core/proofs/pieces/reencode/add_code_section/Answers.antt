@@ -23,9 +23,9 @@ returns-clause-after_error g c =
 
 pub returns-clause-ranges : goal.returns-clause-ranges
 returns-clause-ranges g c =
-    λ k. section_kept (asks g.R.ReencodeIndices) c.args.reencoder.now c.add_bodies-mapped.new.reencoder c.args.start c.args.body.now _ c.new_code-code.result c.add_bodies-mapped.new.code c.args.sink.now c.add_mapped.new.sink c.add_bodies-mapped.result c.add_mapped.result
+    λ more k. section_kept (asks g.R.ReencodeIndices) c.args.reencoder.now c.add_bodies-mapped.new.reencoder c.args.start c.args.body.now _ c.new_code-code.result c.add_bodies-mapped.new.code c.args.sink.now c.add_mapped.new.sink c.add_bodies-mapped.result c.add_mapped.result
     (ap (λ (z : CodeGrown). z.code.rows) c.new_code-code.ensures) (ap CodeGrown.kept c.new_code-code.ensures) c.in_ok-section.ensures.ok
-    (at_ceiling _ _ (ap (λ (z : CodeGrown). z.code.ceiling) c.new_code-code.ensures) (c.add_bodies-mapped.ensures.default k)) c.add_mapped.ensures.adds (c.add_bodies-mapped.ensures.ranges k) c.add_mapped.ensures.kept
+    (at_ceiling _ _ (ap (λ (z : CodeGrown). z.code.ceiling) c.new_code-code.ensures) (c.add_bodies-mapped.ensures.default k)) c.add_mapped.ensures.adds (c.add_bodies-mapped.ensures.ranges more k) c.add_mapped.ensures.kept
 
 pub returns-in_err-section-clause-after_error : goal.returns-in_err-section-clause-after_error
 returns-in_err-section-clause-after_error g c =

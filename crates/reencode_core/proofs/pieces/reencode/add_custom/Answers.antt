@@ -1,7 +1,11 @@
-use Rattle.std.proofs.Common.{ap, ◌∙◌, ℕ}
+use Rattle.std.proofs.Common.{ap, ◌∙◌, ℕ, refl, rules}
+use Rattle.wasm_write.specs.Types.{custom_section_tree}
 use Rattle.reencode_core.specs.Sinks.{ModuleGrown}
 use Rattle.reencode_core.specs.Clauses.{asks}
 use Rattle.reencode_core.proofs.after_error.NoneOrAllVisited.{left_custom, left_none}
+use Rattle.reencode_core.specs.NameFormats.{core_custom}
+use Rattle.reencode_core.proofs.names_mapped.FormatLaws.{core_laws}
+use Rattle.reencode_core.proofs.sections_walked.CustomSection.{other_added}
 use Rattle.reencode_core.proofs.kept_pieces.FreshSink.{added_moved, fresh_module}
 use Rattle.reencode_core.proofs.pieces.reencode.add_custom.Goals as goal
 
@@ -26,3 +30,10 @@ returns-clause-after_error g c =
 
 pub returns-in_default-clause-after_error : goal.returns-in_default-clause-after_error
 returns-in_default-clause-after_error g c = λ k told. left_none (asks g.R.ReencodeIndices) _
+
+-- a section that stays
+pub returns-then-ne-clause-default : goal.returns-then-ne-clause-default
+returns-then-ne-clause-default g c = (other_added core_custom core_laws g.R.ReencodeIndices _ _ (λ e. search rules) custom_section_tree c.args.section _ (λ k ceiling. refl) c.keep_custom.ensures.adds).default
+
+pub returns-then-ne-clause-after_error : goal.returns-then-ne-clause-after_error
+returns-then-ne-clause-after_error g c = (other_added core_custom core_laws g.R.ReencodeIndices _ _ (λ e. search rules) custom_section_tree c.args.section _ (λ k ceiling. refl) c.keep_custom.ensures.adds).after_error

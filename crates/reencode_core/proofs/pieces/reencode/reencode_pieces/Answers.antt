@@ -1,4 +1,4 @@
-use Rattle.std.proofs.Common.{◌<◌, ◌^◌, ℕ, List, ap, ◌∙◌, sym, arith}
+use Rattle.std.proofs.Common.{◌<◌, ◌^◌, ℕ, List, refl, ap, ◌∙◌, sym, arith}
 use Rattle.std.proofs.lemmas.Result.{err_from_is_err_and}
 use Rattle.reencode_core.specs.Weave.{added}
 use Rattle.reencode_core.proofs.weave.AddsNothing.{added_none, bytes_nothing}
@@ -55,6 +55,6 @@ returns-in_ok-finish-in-Ok-clause-kept g c =
     let fresh = c.in_ok-sink.ensures in
     λ k.
     let i = g.R.ReencodeIndices in
-    let keeps = rw (ap (λ (m : ModuleGrown). m.sections.ceiling) fresh, ap ModuleGrown.kept fresh) at (c.in-Ok.ensures.ranges k) in
+    let keeps = rw (ap (λ (m : ModuleGrown). m.sections.ceiling) fresh, ap ModuleGrown.kept fresh) at (c.in-Ok.ensures.ranges refl k) in
     let bound : c.args.ceiling < 2 ^ 32 = omega (arith, c.ranges.ceiling.fits) in
     rw made.ranges (answered_kept i.reply i.next c.args.ceiling c.args.bytes.now c.args.r.now _ _ g.met.R.ReencodeIndices.answers_ok bound keeps)

@@ -9,7 +9,7 @@ use Rattle.reencode_core.specs.Pieces.{Range}
 use Rattle.reencode_core.specs.Sinks.{KeepsKind, StandsAt}
 use Rattle.reencode_core.specs.Clauses.{asks}
 use Rattle.reencode_core.proofs.kept_pieces.KeptRanges.{body_place, custom_not_code, kind_one, ranges_begun, ranges_end, ranges_more, unknown_not_code}
-use Rattle.reencode_core.proofs.kept_pieces.StandsAt.{section_stands, text_within}
+use Rattle.reencode_core.proofs.kept_pieces.StandsAt.{custom_stands, section_stands, text_within}
 use Rattle.reencode_core.proofs.kept_pieces.SectionLoop.{behind_refused, between_ended, between_refused, hook_answered}
 use Rattle.reencode_core.proofs.pieces.reencode.walk.Goals as goal
 
@@ -40,7 +40,7 @@ returns-in_err-payloads-clause-headless g c =
 pub sections-init : goal.sections-init
 sections-init g c =
     let header = c.in_ok-payloads.ensures.ok in
-    record { done = sections_begun g.R.ReencodeIndices _ _ _; same = c.requires; stands = (core_header, header.stands); ranges = λ k. ranges_begun (asks g.R.ReencodeIndices) g.R.ReencodeIndices.adds _ _ _ _ }
+    record { done = sections_begun g.R.ReencodeIndices _ _ _; same = c.requires; stands = (core_header, header.stands); ranges = λ more k. ranges_begun (asks g.R.ReencodeIndices) g.R.ReencodeIndices.adds _ _ _ _ }
 
 pub returns-in_err-id-clause-default : goal.returns-in_err-id-clause-default
 returns-in_err-id-clause-default g c =
@@ -179,12 +179,12 @@ sections-preserved-in-Ok g c =
       done = core_closed g.R.ReencodeIndices keeps header inv.done c.in-Some-Section.id refl c.in_ok-id.ensures.len (kind_called g.R.ReencodeIndices keeps header inv.done c.in-Some-Section.id frame (hook_answered g.R.ReencodeIndices c.sections.reencoder c.add_between.new.reencoder c.sections.sink.sections c.add_between.new.sink.sections (Section c.sections.last (Some c.in-Some-Section.id)) c.in_ok-add_between-in-Some-Section.ensures.answer c.in_ok-add_between-in-Some-Section.ensures.fits) (record { kept = e.kept; default = e.default; after_error = e.after_error })) (hook_answered g.R.ReencodeIndices c.add_kind.new.reencoder c.add_between-in-Ok.new.reencoder c.add_kind.new.sink.sections c.add_between-in-Ok.new.sink.sections (Closed c.in-Some-Section.id) c.in_ok-add_between-in-Ok.ensures.answer c.in_ok-add_between-in-Ok.ensures.fits);
       same = c.in_ok-add_between-in-Ok.ensures.input ∙ e.input ∙ c.in_ok-add_between-in-Some-Section.ensures.input ∙ inv.same;
       stands = (inv.stands.0 ++ frame.text, behind c.args.bytes.now inv.stands.0 _ frame.text _ inv.stands.1 frame.reads);
-      ranges = λ d.
+      ranges = λ more d.
           let K : List Range → Type 0 = λ z. KeepsKind (asks g.R.ReencodeIndices) c.add_between.new.sink.sections.ceiling c.in-Some-Section.id c.saturating_sub-start.result c.in-Some-Section.body.now c.add_between.new.reencoder c.add_kind.new.reencoder z c.add_kind.new.sink.kept in
           let L : List Range → Type 0 = λ z. KeepsKind (asks g.R.ReencodeIndices) c.add_between.new.sink.sections.ceiling c.in-Some-Section.id c.saturating_sub-start.result c.in-Some-Section.body.now c.add_between.new.reencoder c.add_kind.new.reencoder c.sections.sink.kept z in
-          ranges_more (asks g.R.ReencodeIndices) g.R.ReencodeIndices.adds _ c.sections.sink.kept c.add_between-in-Ok.new.sink.kept (inv.ranges d) (call.reached d) call.put (call.gives d)
+          ranges_more (asks g.R.ReencodeIndices) g.R.ReencodeIndices.adds _ c.sections.sink.kept c.add_between-in-Ok.new.sink.kept (inv.ranges more d) (call.reached d) call.put (call.gives d)
           (record { own = g.R.ReencodeIndices.adds c.add_kind.new.reencoder (Closed c.in-Some-Section.id); gains = c.in_ok-add_between-in-Ok.ensures.answer.1; there = AddedAt.known c.in-Some-Section.id c.in-Some-Section.body.now c.add_between-in-Ok.new.reencoder c.in_ok-add_between-in-Ok.ensures.answer.0; fits = c.in_ok-add_between-in-Ok.ensures.fits })
-          (λ text x t u st rd i w. kind_one (asks g.R.ReencodeIndices) _ c.in-Some-Section.id _ _ c.saturating_sub-start.result (8 + length text) _ x _ c.in-Some-Section.body.now t u _ _ (subst L (sym c.in_ok-add_between-in-Ok.ensures.ranges) (subst K same_kept (e.ranges d))) i rd frame
+          (λ text x t u st rd i w. kind_one (asks g.R.ReencodeIndices) _ c.in-Some-Section.id _ _ c.saturating_sub-start.result (8 + length text) _ x _ c.in-Some-Section.body.now t u _ _ (subst L (sym c.in_ok-add_between-in-Ok.ensures.ranges) (subst K same_kept (e.ranges more d))) i rd frame
           (body_place c.args.bytes.now _ text _ x _ _ header.stands st rd end) w);
     }
 
@@ -228,6 +228,18 @@ returns-in-Err-clause-headless g c =
     let e = c.in-Err.ensures in
     (core_section_refused g.R.ReencodeIndices keeps header inv.done c.in-Err.e c.in-Some-Section.at (kind_called g.R.ReencodeIndices keeps header inv.done c.in-Some-Section.id frame (hook_answered g.R.ReencodeIndices c.sections.reencoder c.add_between.new.reencoder c.sections.sink.sections c.add_between.new.sink.sections (Section c.sections.last (Some c.in-Some-Section.id)) c.in_ok-add_between-in-Some-Section.ensures.answer c.in_ok-add_between-in-Some-Section.ensures.fits) (record { kept = e.kept; default = e.default; after_error = e.after_error })) at _ c.placed.ensures).headless
 
+pub add_custom-requires : goal.add_custom-requires
+add_custom-requires g c =
+    let header = c.in_ok-payloads.ensures.ok in
+    let inv = c.sections.invariant in
+    let frame = rw (c.in-Some-Custom.is, c.in-Some-Custom.field-0-is) at c.in_ok-id.ensures.some in
+    let contents = c.in-Some-Custom.section.contents.now in
+    let stands = custom_stands c.args.bytes.now inv.stands.0 _ c.in-Some-Custom.section.name.now contents _ inv.stands.1 frame in
+    let end : length c.args.bytes.now - length c.next.new.self.rest ≡ c.place-end.result = omega (arith, c.place-end.ensures, c.in_ok-id.ensures.len, inv.done.len, header.len) in
+    let Q : ℕ → Type 0 = λ n. StandsAt c.args.bytes.now contents n in
+    let P : List ℕ → Type 0 = λ z. StandsAt z contents c.place-end.result in
+    subst P (sym inv.same) (subst Q end stands)
+
 pub sections-preserved-in-Ok-add_custom : goal.sections-preserved-in-Ok-add_custom
 sections-preserved-in-Ok-add_custom g c =
     let keeps = g.met.R.ReencodeIndices.adds_ok in
@@ -240,7 +252,7 @@ sections-preserved-in-Ok-add_custom g c =
       done = core_more g.R.ReencodeIndices keeps header inv.done refl c.in_ok-id.ensures.len (custom_called g.R.ReencodeIndices keeps header inv.done frame (record { kept = e.kept; default = e.default; after_error = e.after_error })) (AddedAt.custom _ _);
       same = e.input ∙ inv.same;
       stands = (inv.stands.0 ++ frame.text, behind c.args.bytes.now inv.stands.0 _ frame.text _ inv.stands.1 frame.reads);
-      ranges = λ d. ranges_more (asks g.R.ReencodeIndices) g.R.ReencodeIndices.adds _ c.sections.sink.kept c.add_custom.new.sink.kept (inv.ranges d) (call.reached d) call.put (call.gives d) (nothing_put (AddedAt.custom _ _)) (λ text x t u st rd i w. inr (custom_not_code _ _ t i, e.ranges));
+      ranges = λ more d. ranges_more (asks g.R.ReencodeIndices) g.R.ReencodeIndices.adds _ c.sections.sink.kept c.add_custom.new.sink.kept (inv.ranges more d) (call.reached d) call.put (call.gives d) (nothing_put (AddedAt.custom _ _)) (λ text x t u st rd i w. inr (custom_not_code _ _ t i, e.ranges more));
     }
 
 pub returns-in-Err-add_custom-clause-default : goal.returns-in-Err-add_custom-clause-default
@@ -300,7 +312,7 @@ sections-preserved g c =
       done = core_more g.R.ReencodeIndices keeps header inv.done refl c.in_ok-id.ensures.len (unknown_called g.R.ReencodeIndices keeps header inv.done low frame (record { kept = e.kept; default = e.default; after_error = e.after_error; usual = e.usual })) (AddedAt.unknown _ _ low);
       same = e.input ∙ inv.same;
       stands = (inv.stands.0 ++ frame.text, behind c.args.bytes.now inv.stands.0 _ frame.text _ inv.stands.1 frame.reads);
-      ranges = λ d. ranges_more (asks g.R.ReencodeIndices) g.R.ReencodeIndices.adds _ c.sections.sink.kept c.add_unknown.new.sink.kept (inv.ranges d) (call.reached d) call.put (call.gives d) (nothing_put (AddedAt.unknown _ _ low)) (λ text x t u st rd i w. inr (unknown_not_code _ _ t low i, e.ranges));
+      ranges = λ more d. ranges_more (asks g.R.ReencodeIndices) g.R.ReencodeIndices.adds _ c.sections.sink.kept c.add_unknown.new.sink.kept (inv.ranges more d) (call.reached d) call.put (call.gives d) (nothing_put (AddedAt.unknown _ _ low)) (λ text x t u st rd i w. inr (unknown_not_code _ _ t low i, e.ranges));
     }
 
 pub returns-in-Err-add_unknown-clause-default : goal.returns-in-Err-add_unknown-clause-default
@@ -392,4 +404,4 @@ returns-in-None-clause-ranges g c =
     let header = c.in_ok-payloads.ensures.ok in
     let inv = c.sections.invariant in
     let ended = rw c.in-None.is at c.in_ok-id.ensures.ended in
-    λ d. ranges_end g.R.ReencodeIndices _ _ _ _ _ c.add_between-in-None.result header.stands (inv.ranges d) ended.0 c.add_between-in-None.ensures.answer c.add_between-in-None.ensures.ranges
+    λ more d. ranges_end g.R.ReencodeIndices _ _ _ _ _ c.add_between-in-None.result header.stands (inv.ranges more d) ended.0 c.add_between-in-None.ensures.answer c.add_between-in-None.ensures.ranges

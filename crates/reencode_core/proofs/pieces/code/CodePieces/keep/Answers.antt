@@ -1,4 +1,4 @@
-use Rattle.std.proofs.Common.{◌≡◌, ◌+◌, ◌<◌, ◌≤◌, ◌^◌, ℕ, List, ◌++◌, length, inr, refl, ap, ap₂, ◌∙◌, arith}
+use Rattle.std.proofs.Common.{◌≡◌, ◌<◌, ◌^◌, ℕ, List, ◌++◌, length, inr, refl, ap, ap₂, ◌∙◌, arith}
 use Rattle.wasm_leb.specs.Leb.{leb}
 use Rattle.wasm_shapes.specs.Tree.{Tree}
 use Rattle.wasm_write.specs.Bodies.{CodeRows}
