@@ -129,10 +129,10 @@ pub fn parse_component_subcomponent<T: ReencodeComponent>(
     if depth >= DEPTH {
         return Err(Error::ParseError(ReadError { at: 0 }));
     }
-    let mut nested = w::Component::new(alloc, component.ceiling())?;
+    let mut nested = component.component_within(alloc, bytes.len())?;
     reencoder.push_depth()?;
     parse_component(reencoder, alloc, &mut nested, bytes, depth + 1)?;
     reencoder.pop_depth();
-    component.section(&w::NestedComponentSection(&nested))?;
+    component.take_component(nested)?;
     Ok(())
 }

@@ -6,7 +6,6 @@ use crate::component_methods::ReencodeComponent;
 use reencode_hooks::Error;
 use std::alloc::Global;
 use wasm_leb::ReadError;
-use wasm_write::Module;
 use wasm_write_component as w;
 
 /// At most so many scopes are open within each other.
@@ -31,10 +30,10 @@ pub fn parse_component_submodule<T: ReencodeComponent>(
     if depth >= DEPTH {
         return Err(Error::ParseError(ReadError { at: 0 }));
     }
-    let mut module = Module::new(alloc, component.ceiling())?;
+    let mut module = component.module_within(alloc, bytes.len())?;
     reencoder.push_depth()?;
     reencoder.parse_core_module(alloc, &mut module, bytes)?;
     reencoder.pop_depth();
-    component.section(&w::ModuleSection(&module))?;
+    component.take_module(module)?;
     Ok(())
 }

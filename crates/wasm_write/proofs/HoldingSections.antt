@@ -1,5 +1,5 @@
 -- The sections of a module, and one more.
-use Rattle.std.proofs.Common.{◌≡◌, ℕ, suc, ◌+◌, ◌<◌, ◌≤◌, ◌^◌, List, [], ◌∷◌, ◌++◌, length, map, refl, sym, ap, ◌∙◌, append_assoc, arith, length-append, subst}
+use Rattle.std.proofs.Common.{◌≡◌, ℕ, suc, ◌+◌, ◌<◌, ◌≤◌, ◌^◌, List, [], ◌∷◌, ◌++◌, drop, length, map, refl, sym, ap, ◌∙◌, append_assoc, arith, length-append, subst}
 use Rattle.std.specs.Coded.{Coded-set, coded_ℕ, coded_list}
 use Rattle.std.proofs.lemmas.List.Elements.{All-append, All-cons, All-nil}
 use mathlib.Core.Logic.{∥∥₁_elim, ∥∥₁_map}
@@ -108,6 +108,10 @@ module _ {n : ℕ} {bytes : List ℕ} (h : HeldSections n bytes) where
   sections_same_is : {new : List ℕ} (k : HeldSections n new) → new ≡ bytes → held_sections n new k ≡ held_sections n bytes h
   unfolding held_sections
   sections_same_is {new} k e = HeldSections-one n new k (h.0, ∥∥₁_map h.1 (λ r. rw e r))
+
+  -- another header in place of theirs
+  pub headed_anew : (header : List ℕ) {new : List ℕ} → length header ≡ 8 → new ≡ header ++ drop (length header) bytes → new ≡ header ++ sections_bytes (held_sections n bytes h)
+  headed_anew header l e = e ∙ ap (λ (z : List ℕ). header ++ z) (ap (λ (k : ℕ). drop k bytes) l ∙ ap (drop 8) sections_are)
 
   -- ---- and each of them fits
 

@@ -10,12 +10,16 @@ ghost use Rattle.wasm_write.specs.Sections.{AllFit, section_row, with_section, s
 
 use crate::fault::WriteFault;
 use crate::frames::frame_at;
+use crate::roomed::Roomed;
 use crate::row_section::{RowSection, behind};
 use crate::section::Section;
 use std::alloc::Global;
 use std::marker::Model;
-use wasm_leb::{NoMemory, len_u32, write_u32};
+use wasm_leb::{NoMemory, len_u32};
 use wasm_shapes::kinds::SectionKind;
+
+/// The header of a core module.
+const HEADER: [u8; 8] = [0x00, 0x61, 0x73, 0x6d, 0x01, 0x00, 0x00, 0x00];
 
 /// A core module under construction (WebAssembly Core Specification 3.0, section 5.5.17).
 ///
@@ -26,8 +30,8 @@ pub struct Module {
     ceiling: u32,
     count: usize,
     // the header and the sections
-    bytes: Vec<u8>,
-    ghost held: { HeldSections count bytes.items } by { HeldSections-prop count bytes.items },
+    bytes: Roomed,
+    ghost held: { HeldSections count bytes } by { HeldSections-prop count bytes },
 }
 
 impl Model for Module {
@@ -37,10 +41,10 @@ impl Model for Module {
 
     ghost view = { λ m. record {
       ceiling = m.ceiling;
-      sections = held_sections m.count m.bytes.items m.held;
+      sections = held_sections m.count m.bytes m.held;
     } };
 
-    ghost invariant = { λ m. AllFit m.ceiling (held_sections m.count m.bytes.items m.held) };
+    ghost invariant = { λ m. AllFit m.ceiling (held_sections m.count m.bytes m.held) };
 }
 
 impl Module {
@@ -48,14 +52,39 @@ impl Module {
     pub fn new(alloc: Global, ceiling: u32) -> Result<Module, NoMemory>
         ensures { IfOk result (λ m. m ≡ record { ceiling = ceiling; sections = [] }) }
     {
-        match Vec::from_slice(alloc, &[0x00, 0x61, 0x73, 0x6d, 0x01, 0x00, 0x00, 0x00]) {
+        Module::behind_room(alloc, ceiling, 0)
+    }
+
+    /// A module without sections that is to be added to another as a section, with its ceiling: by `take_sections`, which copies
+    /// little where the body that it becomes has `len` bytes or nearly so many.
+    pub fn within(alloc: Global, outer: &Module, len: usize) -> Result<Module, NoMemory>
+        ensures { IfOk result (λ m. m ≡ record { ceiling = outer.now.ceiling; sections = [] }) }
+    {
+        Module::behind_room(alloc, outer.ceiling, outer.room_within(len))
+    }
+
+    /// A module without sections behind room for so many bytes, and the greatest length that the body of a section may have.
+    fn behind_room(alloc: Global, ceiling: u32, room: usize) -> Result<Module, NoMemory>
+        ensures { IfOk result (λ m. m ≡ record { ceiling = ceiling; sections = [] }) }
+    {
+        match Roomed::new(alloc, room, &HEADER) {
             Ok(bytes) => Ok(Module {
                 ceiling,
                 count: 0,
                 bytes,
             }),
-            Err(_) => Err(NoMemory),
+            Err(NoMemory) => Err(NoMemory),
         }
+    }
+
+    /// How much room the body of a section of nearly so many bytes has for the bytes in front of it: for all of them, where these
+    /// are far fewer.
+    fn room_within(&self, len: usize) -> usize {
+        let held = self.bytes.len_all();
+        if held > len / 256 || len > u32::MAX as usize {
+            return 0;
+        }
+        held + 1 + len_u32(len as u32)
     }
 
     /// The greatest length that the body of a section may have.
@@ -92,16 +121,12 @@ impl Module {
         ensures large { IfErr result (λ e. IfTooLarge e
             (λ size. (size ≡ length (S.contents section.now)) × (self.old.ceiling < size))) }
     {
-        let len = self.bytes.len();
-        match write_section(&mut self.bytes, section, self.ceiling) {
+        match self.bytes.add(section, self.ceiling) {
             Ok(()) => {
                 self.count += 1;
                 Ok(())
             }
-            Err(fault) => {
-                self.bytes.truncate(len);
-                Err(fault)
-            }
+            Err(fault) => Err(fault),
         }
     }
 
@@ -117,23 +142,49 @@ impl Module {
         ensures large { IfErr result (λ e. IfTooLarge e
             (λ size. (size ≡ length (normal (vector_tree section))) × (self.old.ceiling < size))) }
     {
-        let len = self.bytes.len();
-        match write_taken(&mut self.bytes, section, self.ceiling) {
+        match self.bytes.take(section, self.ceiling) {
             Ok(()) => {
                 self.count += 1;
                 Ok(())
             }
-            Err(fault) => {
-                self.bytes.truncate(len);
-                Err(fault)
+            Err(fault) => Err(fault),
+        }
+    }
+
+    /// Adds a section of this id at the end, whose body is a header and the sections of another module. The memory of that one is
+    /// taken over where it is the longer one: see `within`. A refusal changes nothing.
+    ///
+    /// `TooLarge` comes exactly where the body is longer than the ceiling, with its length.
+    pub fn take_sections(
+        &mut self,
+        id: u8,
+        header: &[u8; 8],
+        nested: Module,
+    ) -> Result<(), WriteFault>
+        requires { id ≤ 127 }
+        ensures ok { OnOk result (self.new ≡ with_section self.old
+            (section_row id (header.now ++ sections_bytes nested.sections))) }
+        ensures fits { OnOk result
+            (length (header.now ++ sections_bytes nested.sections) ≤ self.old.ceiling) }
+        ensures err { OnErr result (self.new ≡ self.old) }
+        ensures large { IfErr result (λ e. IfTooLarge e (λ size.
+            (size ≡ length (header.now ++ sections_bytes nested.sections)) × (self.old.ceiling < size))) }
+    {
+        let mut body = nested.bytes;
+        body.put_first(header);
+        match self.bytes.take_body(id, body, self.ceiling) {
+            Ok(()) => {
+                self.count += 1;
+                Ok(())
             }
+            Err(fault) => Err(fault),
         }
     }
 
     /// How many bytes stand in front of the rows of a section that is added at the end, if its body has `len` bytes of which
     /// the first `counted` are the number of the rows; or 0 where the body is no longer than the module.
     pub(crate) fn len_before(&self, counted: usize, len: usize) -> usize {
-        let held = self.bytes.len();
+        let held = self.bytes.len_all();
         if len <= held || len > u32::MAX as usize {
             return 0;
         }
@@ -145,7 +196,7 @@ impl Module {
     pub fn as_slice(&self) -> &[u8]
         ensures { result.now ≡ module_bytes self.now.sections }
     {
-        &self.bytes
+        self.bytes.as_slice()
     }
 
     /// The sections, without the header: they read back as they were added.
@@ -154,7 +205,7 @@ impl Module {
         ensures held { ∥ AreHeld framed (length self.now.sections) (sections_bytes self.now.sections)
             (map framed_tree self.now.sections) ∥₁ }
     {
-        behind(&self.bytes, 8)
+        behind(self.bytes.as_slice(), 8)
     }
 
     /// The id and the body of a section, by its number, counted from 0. None exactly where there is no such section.
@@ -173,119 +224,6 @@ impl Module {
     pub fn finish(self) -> Vec<u8>
         ensures { result.items ≡ module_bytes self.sections }
     {
-        self.bytes
+        self.bytes.into_vec()
     }
-}
-
-/// Appends the id of a section and the length of its body, or a part of them where that is refused.
-fn write_head(out: &mut Vec<u8>, id: u8, size: u64, ceiling: u32) -> Result<(), WriteFault>
-    ensures ok { OnOk result (out.new.items ≡ out.old.items ++ (id ∷ leb size)) }
-    ensures fits { OnOk result (size ≤ ceiling) }
-    ensures err { OnErr result (take (vec_len out.old) out.new.items ≡ out.old.items) }
-    ensures large { IfErr result (λ e. IfTooLarge e (λ n. (n ≡ size) × (ceiling < n))) }
-{
-    if size > u64::from(ceiling) {
-        return Err(WriteFault::TooLarge { size });
-    }
-    match out.push(id) {
-        Ok(()) => {}
-        Err(_) => return Err(WriteFault::NoMemory),
-    }
-    match write_u32(out, size as u32) {
-        Ok(()) => Ok(()),
-        Err(NoMemory) => Err(WriteFault::NoMemory),
-    }
-}
-
-/// Appends the id, the length and the body of a section, or a part of them where that is refused.
-fn write_section<S: Section>(out: &mut Vec<u8>, section: &S, ceiling: u32) -> Result<(), WriteFault>
-    ensures ok { OnOk result
-        (out.new.items ≡ out.old.items
-        ++ section_bytes (section_row (S.number section.now) (S.contents section.now))) }
-    ensures fits { OnOk result (length (S.contents section.now) ≤ ceiling) }
-    ensures err { OnErr result (take (vec_len out.old) out.new.items ≡ out.old.items) }
-    ensures large { IfErr result (λ e. IfTooLarge e
-        (λ size. (size ≡ length (S.contents section.now)) × (ceiling < size))) }
-{
-    let Some(len) = section.known_len() else {
-        return write_measured(out, section, ceiling);
-    };
-    match write_head(out, section.id(), len as u64, ceiling) {
-        Ok(()) => {}
-        Err(fault) => return Err(fault),
-    }
-    match section.encode_body(out) {
-        Ok(()) => Ok(()),
-        Err(NoMemory) => Err(WriteFault::NoMemory),
-    }
-}
-
-/// The same of a section whose length is not known before. The body is written where it stands in the end, but for the bytes
-/// of its length.
-fn write_measured<S: Section>(
-    out: &mut Vec<u8>,
-    section: &S,
-    ceiling: u32,
-) -> Result<(), WriteFault>
-    ensures ok { OnOk result
-        (out.new.items ≡ out.old.items
-        ++ section_bytes (section_row (S.number section.now) (S.contents section.now))) }
-    ensures fits { OnOk result (length (S.contents section.now) ≤ ceiling) }
-    ensures err { OnErr result (take (vec_len out.old) out.new.items ≡ out.old.items) }
-    ensures large { IfErr result (λ e. IfTooLarge e
-        (λ size. (size ≡ length (S.contents section.now)) × (ceiling < size))) }
-{
-    match out.push(section.id()) {
-        Ok(()) => {}
-        Err(_) => return Err(WriteFault::NoMemory),
-    }
-    let start = out.len();
-    match section.encode_body(out) {
-        Ok(()) => {}
-        Err(NoMemory) => return Err(WriteFault::NoMemory),
-    }
-    let end = out.len();
-    let size = (end - start) as u64;
-    if size > u64::from(ceiling) {
-        return Err(WriteFault::TooLarge { size });
-    }
-    match write_u32(out, size as u32) {
-        Ok(()) => {}
-        Err(NoMemory) => return Err(WriteFault::NoMemory),
-    }
-    move_behind(out.as_mut_slice(), start, end);
-    Ok(())
-}
-
-/// Appends the id, the length and the body of a section of rows, or a part of them where that is refused.
-fn write_taken<K: SectionKind>(
-    out: &mut Vec<u8>,
-    section: RowSection<K>,
-    ceiling: u32,
-) -> Result<(), WriteFault>
-    ensures ok { OnOk result
-        (out.new.items ≡ out.old.items
-        ++ section_bytes (section_row K.ID (normal (vector_tree section)))) }
-    ensures fits { OnOk result (length (normal (vector_tree section)) ≤ ceiling) }
-    ensures err { OnErr result (take (vec_len out.old) out.new.items ≡ out.old.items) }
-    ensures large { IfErr result (λ e. IfTooLarge e
-        (λ size. (size ≡ length (normal (vector_tree section))) × (ceiling < size))) }
-{
-    match write_head(out, K::ID, section.body_len() as u64, ceiling) {
-        Ok(()) => {}
-        Err(fault) => return Err(fault),
-    }
-    match section.move_to(out) {
-        Ok(()) => Ok(()),
-        Err(NoMemory) => Err(WriteFault::NoMemory),
-    }
-}
-
-/// Moves the bytes between two places behind all others.
-fn move_behind(bytes: &mut [u8], start: usize, end: usize)
-    requires ordered { start ≤ end }
-    requires in_bounds { end ≤ length bytes.old }
-    ensures { bytes.new ≡ remove_range bytes.old start end ++ slice_range bytes.old start end }
-{
-    bytes[start..].rotate_left(end - start);
 }

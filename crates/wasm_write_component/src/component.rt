@@ -26,6 +26,12 @@ impl<'a> ComponentSection for CustomSection<'a> {}
 
 impl<'a> ComponentSection for RawSection<'a> {}
 
+/// The header of a core module.
+const MODULE_HEADER: [u8; 8] = [0x00, 0x61, 0x73, 0x6d, 0x01, 0x00, 0x00, 0x00];
+
+/// The header of a component.
+const HEADER: [u8; 8] = [0x00, 0x61, 0x73, 0x6d, 0x0d, 0x00, 0x01, 0x00];
+
 /// A component under construction.
 ///
 /// Contracts see it as they see a module: as the list of its sections, each an id and a body, and its ceiling, the greatest
@@ -50,6 +56,25 @@ impl Component {
         ensures { IfOk result (λ c. c ≡ record { ceiling = ceiling; sections = [] }) }
     {
         match Module::new(alloc, ceiling) {
+            Ok(sections) => Ok(Component { sections }),
+            Err(NoMemory) => Err(NoMemory),
+        }
+    }
+
+    /// A core module without sections that is to be added by `take_module`, with the ceiling of this component. Little is copied
+    /// then where its section has a body of `len` bytes or nearly so many.
+    pub fn module_within(&self, alloc: Global, len: usize) -> Result<Module, NoMemory>
+        ensures { IfOk result (λ m. m ≡ record { ceiling = self.now.ceiling; sections = [] }) }
+    {
+        Module::within(alloc, &self.sections, len)
+    }
+
+    /// A component without sections that is to be added by `take_component`, with the ceiling of this one, as `module_within`
+    /// has a core module.
+    pub fn component_within(&self, alloc: Global, len: usize) -> Result<Component, NoMemory>
+        ensures { IfOk result (λ c. c ≡ record { ceiling = self.now.ceiling; sections = [] }) }
+    {
+        match Module::within(alloc, &self.sections, len) {
             Ok(sections) => Ok(Component { sections }),
             Err(NoMemory) => Err(NoMemory),
         }
@@ -90,6 +115,36 @@ impl Component {
             (λ size. (size ≡ length (S.Section.contents section.now)) × (self.old.ceiling < size))) }
     {
         self.sections.section(section)
+    }
+
+    /// Adds a core module at the end, as `section` adds a `ModuleSection`, and takes its memory over where it is longer than what
+    /// the component has. A refusal changes nothing.
+    ///
+    /// `TooLarge` comes exactly where its bytes are more than the ceiling, with their number.
+    pub fn take_module(&mut self, module: Module) -> Result<(), WriteFault>
+        ensures ok { OnOk result
+            (self.new ≡ with_section self.old (section_row 1 (module_bytes module.sections))) }
+        ensures fits { OnOk result (length (module_bytes module.sections) ≤ self.old.ceiling) }
+        ensures err { OnErr result (self.new ≡ self.old) }
+        ensures large { IfErr result (λ e. IfTooLarge e
+            (λ size. (size ≡ length (module_bytes module.sections)) × (self.old.ceiling < size))) }
+    {
+        self.sections.take_sections(1, &MODULE_HEADER, module)
+    }
+
+    /// Adds a component at the end, as `section` adds a `NestedComponentSection`, and takes its memory over where it is longer
+    /// than what this one has. A refusal changes nothing.
+    ///
+    /// `TooLarge` comes exactly where its bytes are more than the ceiling, with their number.
+    pub fn take_component(&mut self, nested: Component) -> Result<(), WriteFault>
+        ensures ok { OnOk result
+            (self.new ≡ with_section self.old (section_row 4 (component_bytes nested.sections))) }
+        ensures fits { OnOk result (length (component_bytes nested.sections) ≤ self.old.ceiling) }
+        ensures err { OnErr result (self.new ≡ self.old) }
+        ensures large { IfErr result (λ e. IfTooLarge e
+            (λ size. (size ≡ length (component_bytes nested.sections)) × (self.old.ceiling < size))) }
+    {
+        self.sections.take_sections(4, &HEADER, nested.sections)
     }
 
     /// The header and the sections. It takes no memory.
@@ -148,7 +203,7 @@ impl<'a> Section for NestedComponentSection<'a> {
     }
 
     fn encode_body(&self, out: &mut Vec<u8>) -> Result<(), NoMemory> {
-        match out.extend_from_slice(&[0x00, 0x61, 0x73, 0x6d, 0x0d, 0x00, 0x01, 0x00]) {
+        match out.extend_from_slice(&HEADER) {
             Ok(()) => {}
             Err(_) => return Err(NoMemory),
         }

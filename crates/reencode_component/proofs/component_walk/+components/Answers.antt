@@ -79,16 +79,16 @@ parse_component_subcomponent-returns-in_err-parse_component g t c =
     let pushed = c.in_ok-push_depth.ensures.answer in
     let low = c.if-depth-ge-DEPTH.false in
     nested_refused g.T.ReencodeIndices c.args.depth 4 (inner_component g.T.ReencodeIndices (c.args.depth + 1) body) low (component_nested c.args.depth body) _ _ _ pushed _
-    (component_refused g.T.ReencodeIndices c.args.depth body low _ _ _ _ _ _ (rw (← c.ceiling.ensures) c.in_ok-nested.ensures) pushed _ c.in_err-parse_component.ensures) _ c.from_residual-in_err-parse_component.ensures.1
+    (component_refused g.T.ReencodeIndices c.args.depth body low _ _ _ _ _ _ c.in_ok-nested.ensures pushed _ c.in_err-parse_component.ensures) _ c.from_residual-in_err-parse_component.ensures.1
 
-pub parse_component_subcomponent-returns-in_err-section : goal.parse_component_subcomponent-returns-in_err-section
-parse_component_subcomponent-returns-in_err-section g t c =
+pub parse_component_subcomponent-returns-in_err-take_component : goal.parse_component_subcomponent-returns-in_err-take_component
+parse_component_subcomponent-returns-in_err-take_component g t c =
     let body = c.args.bytes.now in
     let pushed = c.in_ok-push_depth.ensures.answer in
     let low = c.if-depth-ge-DEPTH.false in
     nested_large g.T.ReencodeIndices c.args.depth 4 (inner_component g.T.ReencodeIndices (c.args.depth + 1) body) low (component_nested c.args.depth body) _ _ _ pushed _
-    (component_accepted g.T.ReencodeIndices c.args.depth body low _ _ _ _ _ _ (rw (← c.ceiling.ensures) c.in_ok-nested.ensures) pushed c.in_ok-parse_component.ensures) c.pop_depth.ensures.answer c.in_err-section.ensures.err _ c.in_err-section.ensures.large _
-    c.from_residual-in_err-section.ensures.1
+    (component_accepted g.T.ReencodeIndices c.args.depth body low _ _ _ _ _ _ c.in_ok-nested.ensures pushed c.in_ok-parse_component.ensures) c.pop_depth.ensures.answer c.in_err-take_component.ensures.err _ c.in_err-take_component.ensures.large _
+    c.from_residual-in_err-take_component.ensures.1
 
 pub parse_component_subcomponent-returns : goal.parse_component_subcomponent-returns
 parse_component_subcomponent-returns g t c =
@@ -96,4 +96,4 @@ parse_component_subcomponent-returns g t c =
     let pushed = c.in_ok-push_depth.ensures.answer in
     let low = c.if-depth-ge-DEPTH.false in
     nested_added g.T.ReencodeIndices c.args.depth 4 (inner_component g.T.ReencodeIndices (c.args.depth + 1) body) low (component_nested c.args.depth body) _ _ _ pushed _
-    (component_accepted g.T.ReencodeIndices c.args.depth body low _ _ _ _ _ _ (rw (← c.ceiling.ensures) c.in_ok-nested.ensures) pushed c.in_ok-parse_component.ensures) c.pop_depth.ensures.answer c.in_ok-section.ensures.ok c.in_ok-section.ensures.fits
+    (component_accepted g.T.ReencodeIndices c.args.depth body low _ _ _ _ _ _ c.in_ok-nested.ensures pushed c.in_ok-parse_component.ensures) c.pop_depth.ensures.answer c.in_ok-take_component.ensures.ok c.in_ok-take_component.ensures.fits

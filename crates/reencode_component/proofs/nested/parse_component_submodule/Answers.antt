@@ -28,16 +28,16 @@ returns-in_err-parse_core_module g c =
     let pushed = c.in_ok-push_depth.ensures.answer in
     let low = c.if-depth-ge-DEPTH.false in
     nested_refused g.T.ReencodeIndices c.args.depth 1 (inner_module g.T.ReencodeIndices body) low (module_nested c.args.depth body low) _ _ _ pushed _
-    (module_refused g.T.ReencodeIndices c.args.depth body low _ _ _ _ _ _ (rw (← c.ceiling.ensures) c.in_ok-module.ensures) pushed _ c.in_err-parse_core_module.ensures) _ c.from_residual-in_err-parse_core_module.ensures.1
+    (module_refused g.T.ReencodeIndices c.args.depth body low _ _ _ _ _ _ c.in_ok-module.ensures pushed _ c.in_err-parse_core_module.ensures) _ c.from_residual-in_err-parse_core_module.ensures.1
 
-pub returns-in_err-section : goal.returns-in_err-section
-returns-in_err-section g c =
+pub returns-in_err-take_module : goal.returns-in_err-take_module
+returns-in_err-take_module g c =
     let body = c.args.bytes.now in
     let pushed = c.in_ok-push_depth.ensures.answer in
     let low = c.if-depth-ge-DEPTH.false in
     nested_large g.T.ReencodeIndices c.args.depth 1 (inner_module g.T.ReencodeIndices body) low (module_nested c.args.depth body low) _ _ _ pushed _
-    (module_accepted g.T.ReencodeIndices c.args.depth body low _ _ _ _ _ _ (rw (← c.ceiling.ensures) c.in_ok-module.ensures) pushed c.in_ok-parse_core_module.ensures) c.pop_depth.ensures.answer c.in_err-section.ensures.err _ c.in_err-section.ensures.large _
-    c.from_residual-in_err-section.ensures.1
+    (module_accepted g.T.ReencodeIndices c.args.depth body low _ _ _ _ _ _ c.in_ok-module.ensures pushed c.in_ok-parse_core_module.ensures) c.pop_depth.ensures.answer c.in_err-take_module.ensures.err _ c.in_err-take_module.ensures.large _
+    c.from_residual-in_err-take_module.ensures.1
 
 pub returns : goal.returns
 returns g c =
@@ -45,4 +45,4 @@ returns g c =
     let pushed = c.in_ok-push_depth.ensures.answer in
     let low = c.if-depth-ge-DEPTH.false in
     nested_added g.T.ReencodeIndices c.args.depth 1 (inner_module g.T.ReencodeIndices body) low (module_nested c.args.depth body low) _ _ _ pushed _
-    (module_accepted g.T.ReencodeIndices c.args.depth body low _ _ _ _ _ _ (rw (← c.ceiling.ensures) c.in_ok-module.ensures) pushed c.in_ok-parse_core_module.ensures) c.pop_depth.ensures.answer c.in_ok-section.ensures.ok c.in_ok-section.ensures.fits
+    (module_accepted g.T.ReencodeIndices c.args.depth body low _ _ _ _ _ _ c.in_ok-module.ensures pushed c.in_ok-parse_core_module.ensures) c.pop_depth.ensures.answer c.in_ok-take_module.ensures.ok c.in_ok-take_module.ensures.fits

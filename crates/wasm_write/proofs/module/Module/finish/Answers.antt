@@ -1,5 +1,6 @@
+use Rattle.std.proofs.Common.{◌∙◌}
 use Rattle.wasm_write.proofs.HoldingSections.{sections_are}
 use Rattle.wasm_write.proofs.module.Module.finish.Goals as goal
 
 pub returns : goal.returns
-returns c = rw (← c.self.view_is) (sections_are c.self.inside.held)
+returns c = rw (← c.self.view_is) (c.into_vec.ensures ∙ sections_are c.self.inside.held)

@@ -3,10 +3,10 @@ use Rattle.wasm_write.proofs.HoldingSections.{sections_are, sections_few, sectio
 use Rattle.wasm_write.proofs.module.Module.sections_as_slice.Goals as goal
 
 pub behind-requires : goal.behind-requires
-behind-requires c = omega (arith, sections_few c.self.inside.held, c.deref.ensures.len, c.deref.ensures.value)
+behind-requires c = rw c.as_slice.ensures (omega (arith, sections_few c.self.inside.held))
 
 pub returns-clause-value : goal.returns-clause-value
-returns-clause-value c = rw (← c.self.view_is) (c.behind.ensures ∙ ap (drop 8) (c.deref.ensures.value ∙ sections_are c.self.inside.held))
+returns-clause-value c = rw (← c.self.view_is) (c.behind.ensures ∙ ap (drop 8) (c.as_slice.ensures ∙ sections_are c.self.inside.held))
 
 pub returns-clause-held : goal.returns-clause-held
 returns-clause-held c = rw (← c.self.view_is) (sections_held c.self.inside.held)

@@ -1,12 +1,12 @@
-use Rattle.std.proofs.Common.{◌<◌, ◌^◌, length, ◌∙◌, arith}
+use Rattle.std.proofs.Common.{◌<◌, ◌^◌, length, ap, arith, length-append}
 use Rattle.wasm_shapes.specs.Tree.{normal}
 use Rattle.wasm_shapes.specs.Types.{vector_tree}
-use Rattle.wasm_write.specs.Sections.{section_row}
+use Rattle.wasm_write.specs.Sections.{section_bytes, section_row}
 use Rattle.wasm_write.proofs.HoldingSections.{IsWritable, sections_few, sections_grown, module_same, module_grown, fit_same, fit_grown}
 use Rattle.wasm_write.proofs.module.Module.take.Goals as goal
 
 pub overflow_add-self : goal.overflow_add-self
-overflow_add-self g c = omega (arith, sections_few c.self.inside.held)
+overflow_add-self g c = omega (arith, sections_few c.self.inside.held, c.in-Ok.ensures.short, ap length c.in-Ok.ensures.ok, length-append c.self.inside.bytes (section_bytes (section_row g.K.SectionKind.ID (normal (vector_tree c.args.section)))))
 
 pub invariant_of-self-inside : goal.invariant_of-self-inside
 invariant_of-self-inside g c =
@@ -23,7 +23,7 @@ invariant_of-self g c =
     fit_grown c.self.inside.held (section_row g.K.SectionKind.ID body) _ c.in-Ok.ensures.ok w c.in-Ok.ensures.fits c.self.invariant
 
 pub invariant_of-self-in-Err : goal.invariant_of-self-in-Err
-invariant_of-self-in-Err g c = fit_same c.self.inside.held _ (c.truncate.ensures.items ∙ rw c.len-len.ensures c.in-Err.ensures.err) c.self.invariant
+invariant_of-self-in-Err g c = fit_same c.self.inside.held _ c.in-Err.ensures.err c.self.invariant
 
 pub returns-in-Ok-clause-ok : goal.returns-in-Ok-clause-ok
 returns-in-Ok-clause-ok g c =
@@ -34,4 +34,4 @@ returns-in-Ok-clause-ok g c =
 
 pub returns-in-Err-clause-err : goal.returns-in-Err-clause-err
 returns-in-Err-clause-err g c =
-    module_same c.self.inside.held c.self.inside.ceiling _ (c.truncate.ensures.items ∙ rw c.len-len.ensures c.in-Err.ensures.err) c.self.view_is
+    module_same c.self.inside.held c.self.inside.ceiling _ c.in-Err.ensures.err c.self.view_is
