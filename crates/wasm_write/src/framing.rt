@@ -14,7 +14,12 @@ use wasm_leb::{NoMemory, write_u32};
 use wasm_shapes::kinds::SectionKind;
 
 /// Appends the id of a section and the length of its body, or a part of them where that is refused.
-pub(crate) fn write_head(out: &mut Vec<u8>, id: u8, size: u64, ceiling: u32) -> Result<(), WriteFault>
+pub(crate) fn write_head(
+    out: &mut Vec<u8>,
+    id: u8,
+    size: u64,
+    ceiling: u32,
+) -> Result<(), WriteFault>
     ensures ok { OnOk result (out.new.items ≡ out.old.items ++ (id ∷ leb size)) }
     ensures fits { OnOk result (size ≤ ceiling) }
     ensures err { OnErr result (take (vec_len out.old) out.new.items ≡ out.old.items) }
@@ -34,7 +39,11 @@ pub(crate) fn write_head(out: &mut Vec<u8>, id: u8, size: u64, ceiling: u32) -> 
 }
 
 /// Appends the id, the length and the body of a section, or a part of them where that is refused.
-pub(crate) fn write_section<S: Section>(out: &mut Vec<u8>, section: &S, ceiling: u32) -> Result<(), WriteFault>
+pub(crate) fn write_section<S: Section>(
+    out: &mut Vec<u8>,
+    section: &S,
+    ceiling: u32,
+) -> Result<(), WriteFault>
     ensures ok { OnOk result
         (out.new.items ≡ out.old.items
         ++ section_bytes (section_row (S.number section.now) (S.contents section.now))) }
