@@ -1,12 +1,10 @@
 //! A core module under construction.
-ghost use Rattle.std.specs.Prelude.{◌≡◌, ◌++◌, ◌∷◌, ◌<◌, ◌≤◌, [], length, map, take, slice_get, slice_range, vec_len, OnOk, OnErr, IfOk, IfErr, IfSome, IfNone, Some};
-ghost use Rattle.std.specs.List.{remove_range};
-ghost use Rattle.wasm_leb.specs.Leb.{leb};
+ghost use Rattle.std.specs.Prelude.{◌≡◌, ◌++◌, ◌<◌, ◌≤◌, [], length, map, slice_get, OnOk, OnErr, IfOk, IfErr, IfSome, IfNone, Some};
 ghost use Rattle.wasm_shapes.specs.Tree.{normal};
 ghost use Rattle.wasm_shapes.specs.Types.{vector_tree};
 ghost use Rattle.wasm_write.specs.Faults.{IfTooLarge};
 ghost use Rattle.wasm_write.specs.Held.{AreHeld};
-ghost use Rattle.wasm_write.specs.Sections.{AllFit, section_row, with_section, section_bytes, sections_bytes, module_bytes, framed, framed_tree, HeldSections, HeldSections-prop};
+ghost use Rattle.wasm_write.specs.Sections.{AllFit, section_row, with_section, sections_bytes, module_bytes, framed, framed_tree, HeldSections, HeldSections-prop};
 
 use crate::fault::WriteFault;
 use crate::frames::frame_at;
