@@ -1,34 +1,62 @@
 //! What stands at a place of a file, for who has to mend it.
+ghost use Rattle.std.specs.Prelude.{◌≡◌, ◌++◌, ◌∷◌, ℕ, List, [], Some, codes, decimal, IfSome, OnOk};
+ghost use Rattle.std.specs.Int.{from_le_bytes, w32};
+ghost use Rattle.wasm_strip.specs.Choices.{begins};
+ghost use Rattle.wasm_reencode.specs.Places.{IsKind, IsTold, magic, section_text};
+
 use crate::json::{wrong_order, wrong_renaming};
 use crate::sections::{Section, header_of, section_at};
 use itoa::Buffer;
 use serde_json::Value;
 use std::alloc::{AllocError, Global};
 
+/// Whether bytes begin with others.
+fn begins(bytes: &[u8], front: &[u8]) -> bool
+    ensures { result ≡ begins front.now bytes.now }
+{
+    bytes.starts_with(front)
+}
+
 /// What a file is that has no header of a WebAssembly binary.
-fn kind_of(bytes: &[u8]) -> &'static str {
-    match bytes {
-        [] => "empty",
-        [0x00, 0x61, 0x73, 0x6d, ..] => "cut short in the header",
-        [0x1f, 0x8b, ..] => "a gzip archive",
-        [0x50, 0x4b, 0x03, 0x04, ..] => "a zip archive",
-        [0x7f, 0x45, 0x4c, 0x46, ..] => "an ELF file",
-        [0x21, 0x3c, 0x61, 0x72, 0x63, 0x68, 0x3e, ..] => "an ar archive",
-        _ => match str::from_utf8(bytes) {
-            Ok(_) => "text",
-            Err(_) => "no WebAssembly",
-        },
+fn kind_of(bytes: &[u8]) -> &'static str
+    ensures { IsKind bytes.now result.now }
+{
+    if bytes.is_empty() {
+        return "empty";
+    }
+    if begins(bytes, b"\x00asm") {
+        return "cut short in the header";
+    }
+    if begins(bytes, b"\x1f\x8b") {
+        return "a gzip archive";
+    }
+    if begins(bytes, b"PK\x03\x04") {
+        return "a zip archive";
+    }
+    if begins(bytes, b"\x7fELF") {
+        return "an ELF file";
+    }
+    if begins(bytes, b"!<arch>") {
+        return "an ar archive";
+    }
+    match str::from_utf8(bytes) {
+        Ok(_) => "text",
+        Err(_) => "no WebAssembly",
     }
 }
 
 /// Adds a number in decimal.
-fn add_number(text: &mut Vec<u8>, n: u64) -> Result<(), AllocError> {
+fn add_number(text: &mut Vec<u8>, n: u64) -> Result<(), AllocError>
+    ensures { OnOk result (text.new.items ≡ text.old.items ++ decimal n) }
+{
     let mut digits = Buffer::new();
     text.extend_from_slice(digits.format(n).as_bytes())
 }
 
 /// Adds which section this is.
-fn add_section(text: &mut Vec<u8>, section: &Section<'_>) -> Result<(), AllocError> {
+fn add_section(text: &mut Vec<u8>, section: &Section<'_>) -> Result<(), AllocError>
+    ensures { OnOk result (text.new.items ≡ text.old.items ++ section_text (Some section.now)) }
+{
     text.extend_from_slice(b": section ")?;
     add_number(text, section.number as u64)?;
     text.extend_from_slice(b", ")?;
@@ -38,15 +66,22 @@ fn add_section(text: &mut Vec<u8>, section: &Section<'_>) -> Result<(), AllocErr
 }
 
 /// The version that a header of a binary names.
-fn version_of(bytes: &[u8]) -> Option<u32> {
+fn version_of(bytes: &[u8]) -> Option<u32>
+    ensures { IfSome result (λ version. (a b c d : ℕ) × (rest : List ℕ) × (bytes.now ≡ magic ++ a ∷ b ∷ c ∷ d ∷ rest)
+        × (version ≡ from_le_bytes w32 (a ∷ b ∷ c ∷ d ∷ []))) }
+{
     match bytes {
-        [0x00, 0x61, 0x73, 0x6d, a, b, c, d, ..] => Some(u32::from_le_bytes([*a, *b, *c, *d])),
+        [0x00, 0x61, 0x73, 0x6d, a, b, c, d, _rest @ ..] => {
+            Some(u32::from_le_bytes([*a, *b, *c, *d]))
+        }
         _ => None,
     }
 }
 
 /// Adds what a file is that has no header of a WebAssembly binary of a version that is read.
-fn add_kind(text: &mut Vec<u8>, bytes: &[u8]) -> Result<(), AllocError> {
+fn add_kind(text: &mut Vec<u8>, bytes: &[u8]) -> Result<(), AllocError>
+    ensures { OnOk result ((kind : List ℕ) × (text.new.items ≡ text.old.items ++ codes ": " ++ kind) × IsKind bytes.now kind) }
+{
     text.extend_from_slice(b": ")?;
     match version_of(bytes) {
         Some(version) => {
@@ -76,15 +111,24 @@ fn place_in(line: &[u8], name: &str) -> Option<usize> {
     number_of(digits)
 }
 
+/// Adds what stands at a place of a file.
+fn add_told(text: &mut Vec<u8>, bytes: &[u8], place: usize) -> Result<(), AllocError>
+    ensures { OnOk result ((detail : List ℕ) × (text.new.items ≡ text.old.items ++ detail) × IsTold bytes.now place detail) }
+{
+    if header_of(bytes).is_none() {
+        return add_kind(text, bytes);
+    }
+    match section_at(bytes, place) {
+        Some(section) => add_section(text, &section),
+        None => Ok(()),
+    }
+}
+
 /// Adds to a line, before its end, what stands in a file where its bytes have no reading.
 pub fn add_place(line: &mut Vec<u8>, name: &str, bytes: &[u8]) -> Result<(), AllocError> {
     let place = place_in(line.as_slice(), name).unwrap_or(usize::MAX);
     let _ = line.pop();
-    if header_of(bytes).is_none() {
-        add_kind(line, bytes)?;
-    } else if let Some(section) = section_at(bytes, place) {
-        add_section(line, &section)?;
-    }
+    add_told(line, bytes, place)?;
     line.extend_from_slice(b"\n")
 }
 

@@ -1,45 +1,94 @@
 //! The sections of a binary, as lines of text, or as JSON.
+ghost use Rattle.std.specs.Prelude.{◌≡◌, ◌++◌, ℕ, List, codes, IfOk, OnOk};
+ghost use Rattle.std.specs.List.{repeat};
+ghost use Rattle.wasm_reencode.specs.Lines.{AreLines, IsLine, TellsName, TellsRows, front_of, size_of};
+
 use crate::sections::Section;
 use serde_json::{Map, Value, json, put};
 use std::alloc::{AllocError, Global};
 
-/// Adds the line of a section.
-fn add_line(alloc: Global, text: &mut Vec<u8>, section: &Section<'_>) -> Result<(), AllocError> {
-    'steps: for _ in 0..section.depth {
+/// Adds two spaces for each binary that a section stands in, beside the outermost.
+fn add_indent(text: &mut Vec<u8>, depth: usize) -> Result<(), AllocError>
+    ensures { OnOk result (text.new.items ≡ text.old.items ++ repeat depth (codes "  ")) }
+{
+    'steps: for step in 0..depth {
         text.extend_from_slice(b"  ")?;
     }
+    Ok(())
+}
+
+/// Adds which section this is, and where.
+fn add_front(alloc: Global, text: &mut Vec<u8>, section: &Section<'_>) -> Result<(), AllocError>
+    ensures { OnOk result (text.new.items ≡ text.old.items ++ front_of section.now) }
+{
+    add_indent(text, section.depth)?;
     let number = section.number;
     let id = section.id;
     let name = section.kind_name();
     let start = section.start;
     let line = format!(in alloc; "{number:>4} {id:>3} {name:<13} {start:>10}")?;
-    text.extend_from_slice(line.as_bytes())?;
-    if let Some((body, _)) = section.frame {
-        let size = body.len();
-        let line = format!(in alloc; " {size:>10}")?;
-        text.extend_from_slice(line.as_bytes())?;
-        add_rows(alloc, text, section)?;
-    } else {
-        text.extend_from_slice(b"  cut short")?;
+    text.extend_from_slice(line.as_bytes())
+}
+
+/// Adds the size of a body.
+fn add_size(
+    alloc: Global,
+    text: &mut Vec<u8>,
+    frame: Option<(&[u8], &[u8])>,
+) -> Result<(), AllocError>
+    ensures { OnOk result (text.new.items ≡ text.old.items ++ size_of frame.entry) }
+{
+    match frame {
+        Some((body, _)) => {
+            let size = body.len();
+            let line = format!(in alloc; " {size:>10}")?;
+            text.extend_from_slice(line.as_bytes())
+        }
+        None => text.extend_from_slice(b"  cut short"),
     }
+}
+
+/// Adds how many rows a section has.
+fn add_rows(alloc: Global, text: &mut Vec<u8>, section: &Section<'_>) -> Result<(), AllocError>
+    ensures { OnOk result ((rows : List ℕ) × (text.new.items ≡ text.old.items ++ rows) × TellsRows section.now rows) }
+{
+    match section.rows() {
+        Some(rows) => {
+            let line = format!(in alloc; " {rows:>8}")?;
+            text.extend_from_slice(line.as_bytes())
+        }
+        None => Ok(()),
+    }
+}
+
+/// Adds the name of a custom section.
+fn add_name(alloc: Global, text: &mut Vec<u8>, section: &Section<'_>) -> Result<(), AllocError>
+    ensures { OnOk result ((name : List ℕ) × (text.new.items ≡ text.old.items ++ name) × TellsName section.now name) }
+{
+    match section.custom_name() {
+        Some(name) => {
+            let line = format!(in alloc; "          {name:?}")?;
+            text.extend_from_slice(line.as_bytes())
+        }
+        None => Ok(()),
+    }
+}
+
+/// Adds the line of a section.
+fn add_line(alloc: Global, text: &mut Vec<u8>, section: &Section<'_>) -> Result<(), AllocError>
+    ensures { OnOk result ((line : List ℕ) × (text.new.items ≡ text.old.items ++ line) × IsLine section.now line) }
+{
+    add_front(alloc, text, section)?;
+    add_size(alloc, text, section.frame)?;
+    add_rows(alloc, text, section)?;
+    add_name(alloc, text, section)?;
     text.extend_from_slice(b"\n")
 }
 
-/// Adds how many rows a section has, or its name.
-fn add_rows(alloc: Global, text: &mut Vec<u8>, section: &Section<'_>) -> Result<(), AllocError> {
-    if let Some(rows) = section.rows() {
-        let line = format!(in alloc; " {rows:>8}")?;
-        text.extend_from_slice(line.as_bytes())?;
-    }
-    if let Some(name) = section.custom_name() {
-        let line = format!(in alloc; "          {name:?}")?;
-        text.extend_from_slice(line.as_bytes())?;
-    }
-    Ok(())
-}
-
 /// The lines of some sections.
-pub fn lines_of(alloc: Global, sections: &[Section<'_>]) -> Result<Vec<u8>, AllocError> {
+pub fn lines_of(alloc: Global, sections: &[Section<'_>]) -> Result<Vec<u8>, AllocError>
+    ensures { IfOk result (λ text. AreLines sections.now text.items) }
+{
     let mut text = Vec::new(alloc);
     'sections: for section in sections {
         add_line(alloc, &mut text, section)?;

@@ -182,8 +182,6 @@ fn transformed(
     drop(err);
     match made {
         Ok(lines) => Ok(lines),
-        // What is stripped is gathered in memory first, and nothing else fails there.
-        Err(Ended::Command(4)) if removed.is_some() => Err(no_memory(rt)),
         Err(e) => Err(ended(rt, asked, e, why, line)),
     }
 }

@@ -1,6 +1,8 @@
 //! The sections of a binary, as they stand in a file.
-ghost use Rattle.std.specs.Prelude.{◌≡◌, ◌++◌, ◌∷◌, ℕ, List, [], IfNone, IfSome};
-ghost use Rattle.wasm_reencode.specs.Sections.{IsHeadless, header};
+ghost use Rattle.std.specs.Prelude.{◌≡◌, ◌++◌, ◌+◌, ◌<◌, ◌≤◌, ◌^◌, ◌∷◌, ℕ, List, [], length, IfNone, IfOk, IfSome, OnOk};
+ghost use Rattle.wasm_reencode.specs.declared.sections.Layer.{Layer};
+ghost use Rattle.wasm_reencode.specs.declared.sections.Section.{Section};
+ghost use Rattle.wasm_reencode.specs.Sections.{AreListed, IsAtIn, IsHeadless, IsInner, IsSection, deepest, header, is_binary, kind_name};
 
 use std::alloc::{AllocError, Global};
 use wasm_leb::{front_byte, front_u32};
@@ -36,7 +38,9 @@ pub struct Section<'a> {
 }
 
 /// What the section of an id is called in a core module.
-fn core_name(id: u8) -> &'static str {
+fn core_name(id: u8) -> &'static str
+    ensures { result.now ≡ kind_name Layer.Module id }
+{
     match id {
         0 => "custom",
         1 => "type",
@@ -57,7 +61,9 @@ fn core_name(id: u8) -> &'static str {
 }
 
 /// What the section of an id is called in a component.
-fn component_name(id: u8) -> &'static str {
+fn component_name(id: u8) -> &'static str
+    ensures { result.now ≡ kind_name Layer.Component id }
+{
     match id {
         0 => "custom",
         1 => "core module",
@@ -77,8 +83,13 @@ fn component_name(id: u8) -> &'static str {
 }
 
 impl<'a> Section<'a> {
+    ghost use Rattle.std.specs.Prelude.{◌≡◌, ℕ, List, IfNone, IfSome};
+    ghost use Rattle.wasm_reencode.specs.Sections.{HasCode, HasName, HasRows, is_binary, is_vector, kind_name};
+
     /// What its id is called.
-    pub fn kind_name(&self) -> &'static str {
+    pub fn kind_name(&self) -> &'static str
+        ensures { result.now ≡ kind_name self.now.layer self.now.id }
+    {
         match self.layer {
             Layer::Module => core_name(self.id),
             Layer::Component => component_name(self.id),
@@ -86,7 +97,9 @@ impl<'a> Section<'a> {
     }
 
     /// Whether it is a vector of rows.
-    fn is_vector(&self) -> bool {
+    fn is_vector(&self) -> bool
+        ensures { result ≡ is_vector self.now.layer self.now.id }
+    {
         match self.layer {
             Layer::Module => matches!(self.id, 1..=7 | 9..=11 | 13),
             Layer::Component => matches!(self.id, 2 | 3 | 5..=8 | 10..=12),
@@ -94,7 +107,10 @@ impl<'a> Section<'a> {
     }
 
     /// How many rows it has, where it is a vector.
-    pub fn rows(&self) -> Option<u32> {
+    pub fn rows(&self) -> Option<u32>
+        ensures some { IfSome result (HasRows self.now) }
+        ensures none { IfNone result ((n : ℕ) → ¬ HasRows self.now n) }
+    {
         let (body, _) = self.frame?;
         if !self.is_vector() {
             return None;
@@ -104,28 +120,47 @@ impl<'a> Section<'a> {
     }
 
     /// The name of a custom section.
-    pub fn custom_name(&self) -> Option<&'a str> {
+    pub fn custom_name(&self) -> Option<&'a str>
+        ensures some { IfSome result (λ name. HasName self.now name.now) }
+        ensures none { IfNone result ((name : List ℕ) → ¬ HasName self.now name) }
+    {
         let (body, _) = self.frame?;
         if self.id != 0 {
             return None;
         }
-        let (name, _) = front_name(body)?;
-        Some(name)
+        match front_name(body) {
+            Some((name, _)) => Some(name),
+            None => None,
+        }
     }
 
     /// What stands in a code section.
-    pub fn code(&self) -> Option<&'a [u8]> {
+    pub fn code(&self) -> Option<&'a [u8]>
+        ensures some { IfSome result (λ body. HasCode self.now body.now) }
+        ensures none { IfNone result ((body : List ℕ) → ¬ HasCode self.now body) }
+    {
         let (body, _) = self.frame?;
-        if self.layer == Layer::Module && self.id == 10 {
-            Some(body)
-        } else {
-            None
+        match self.layer {
+            Layer::Module if self.id == 10 => Some(body),
+            _ => None,
         }
     }
 
     /// Whether it is a whole binary.
-    pub fn is_binary(&self) -> bool {
-        self.layer == Layer::Component && matches!(self.id, 1 | 4)
+    pub fn is_binary(&self) -> bool
+        ensures { result ≡ is_binary self.now.layer self.now.id }
+    {
+        is_binary(self.layer, self.id)
+    }
+}
+
+/// Whether the section of an id is a whole binary.
+fn is_binary(layer: Layer, id: u8) -> bool
+    ensures { result ≡ is_binary layer id }
+{
+    match layer {
+        Layer::Module => false,
+        Layer::Component => id == 1 || id == 4,
     }
 }
 
@@ -151,8 +186,7 @@ fn front_section<'a>(
     start: usize,
     bytes: &'a [u8],
 ) -> Option<Section<'a>>
-    ensures given { IfSome result (λ s. (s.layer ≡ layer) × (s.depth ≡ depth) × (s.number ≡ number) × (s.start ≡ start)) }
-    ensures id { IfSome result (λ s. (behind : List ℕ) × (bytes.now ≡ s.id ∷ behind)) }
+    ensures some { IfSome result (IsSection layer depth number start bytes.now) }
     ensures none { IfNone result (bytes.now ≡ []) }
 {
     let (id, behind) = front_byte(bytes)?;
@@ -167,31 +201,43 @@ fn front_section<'a>(
 }
 
 /// The section that a place stands in, or the first before it whose size passes the end.
-pub fn section_at<'a>(bytes: &'a [u8], place: usize) -> Option<Section<'a>> {
+pub fn section_at<'a>(bytes: &'a [u8], place: usize) -> Option<Section<'a>>
+    ensures { IsAtIn bytes.now place result }
+{
     let (layer, mut rest) = header_of(bytes)?;
     'sections: for number in 0..bytes.len() {
-        let start = bytes.len().saturating_sub(rest.len());
-        let section = front_section(layer, 0, number, start, rest)?;
-        match section.frame {
-            Some((_, behind)) if bytes.len().saturating_sub(behind.len()) <= place => rest = behind,
-            _ => return Some(section),
+        let start = bytes.len() - rest.len();
+        let Some(section) = front_section(layer, 0, number, start, rest) else {
+            return None;
+        };
+        let Some((_, behind)) = section.frame else {
+            return Some(section);
+        };
+        if place < start + (rest.len() - behind.len()) {
+            return Some(section);
         }
+        rest = behind;
     }
     None
 }
 
-/// Adds the sections of a binary that begins at a place, and behind each that is a binary those in it.
+/// Adds the sections of a binary, which begin at a place, and behind each that is a binary those in it.
+#[cycle(sections)]
 fn add_sections<'a>(
     all: &mut Vec<Section<'a>>,
     layer: Layer,
     bytes: &'a [u8],
     place: usize,
-    deeper: usize,
-) -> Result<(), AllocError> {
-    let depth = DEEPEST.saturating_sub(deeper);
+    depth: usize,
+) -> Result<(), AllocError>
+    requires place { place + length bytes.now < 2 ^ 64 }
+    requires depth { depth ≤ deepest }
+    ensures { OnOk result ((found : List Section) × (all.new.items ≡ all.old.items ++ found)
+        × AreListed layer depth 0 place bytes.now found) }
+{
     let mut rest = bytes;
     'sections: for number in 0..bytes.len() {
-        let start = place.saturating_add(bytes.len().saturating_sub(rest.len()));
+        let start = place + (bytes.len() - rest.len());
         let Some(section) = front_section(layer, depth, number, start, rest) else {
             return Ok(());
         };
@@ -199,17 +245,32 @@ fn add_sections<'a>(
         let Some((body, behind)) = section.frame else {
             return Ok(());
         };
-        if section.is_binary() && deeper > 0 {
-            if let Some((inner, sections)) = header_of(body) {
-                let before = rest
-                    .len()
-                    .saturating_sub(behind.len())
-                    .saturating_sub(sections.len());
-                let begin = start.saturating_add(before);
-                add_sections(all, inner, sections, begin, deeper - 1)?;
-            }
-        }
+        let end = start + (rest.len() - behind.len());
+        add_inner(all, layer, section.id, body, end, depth)?;
         rest = behind;
+    }
+    Ok(())
+}
+
+/// Adds the sections in one whose body ends at a place, where it is a binary and does not stand too deep.
+#[cycle(sections)]
+fn add_inner<'a>(
+    all: &mut Vec<Section<'a>>,
+    layer: Layer,
+    id: u8,
+    body: &'a [u8],
+    end: usize,
+    depth: usize,
+) -> Result<(), AllocError>
+    requires place { length body.now ≤ end }
+    requires depth { depth ≤ deepest }
+    ensures { OnOk result ((inner : List Section) × (all.new.items ≡ all.old.items ++ inner)
+        × IsInner layer depth id end body.now inner) }
+{
+    if depth < DEEPEST && is_binary(layer, id) {
+        if let Some((inner, sections)) = header_of(body) {
+            return add_sections(all, inner, sections, end - sections.len(), depth + 1);
+        }
     }
     Ok(())
 }
@@ -218,11 +279,15 @@ fn add_sections<'a>(
 pub fn sections_of<'a>(
     alloc: Global,
     bytes: &'a [u8],
-) -> Result<Option<Vec<Section<'a>>>, AllocError> {
+) -> Result<Option<Vec<Section<'a>>>, AllocError>
+    ensures some { IfOk result (λ found. IfSome found (λ all. (l : Layer) × (rest : List ℕ) × (bytes.now ≡ header l ++ rest)
+        × AreListed l 0 0 8 rest all.items)) }
+    ensures none { IfOk result (λ found. IfNone found (IsHeadless bytes.now)) }
+{
     let Some((layer, sections)) = header_of(bytes) else {
         return Ok(None);
     };
     let mut all = Vec::new(alloc);
-    add_sections(&mut all, layer, sections, 8, DEEPEST)?;
+    add_sections(&mut all, layer, sections, 8, 0)?;
     Ok(Some(all))
 }

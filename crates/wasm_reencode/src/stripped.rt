@@ -1,11 +1,13 @@
 //! What a command makes, without custom sections.
-ghost use Rattle.std.specs.Prelude.{◌≡◌, ◌≢◌, ◌≤◌, ℕ, List, None, Some, IfOk, IfErr};
-ghost use Rattle.reencode_run.specs.Answer.{Made, lines_of, output_of};
-ghost use Rattle.reencode_run.specs.Outside.{Rose, WhereTold, followed};
-ghost use Rattle.reencode_run.specs.Requests.{job_of};
-ghost use Rattle.reencode_run.specs.Words.{functions};
+ghost use Rattle.std.specs.Prelude.{◌≡◌, ◌≢◌, ◌≤◌, ◌++◌, ℕ, List, [], None, Some, codes, IfOk, IfErr};
+ghost use Rattle.reencode_run.specs.Answer.{Ends, IsDecided, IsMaking, IsOfFile, Made, Says, lines_of, output_of, status_of, text_of};
+ghost use Rattle.reencode_run.specs.Outside.{Rose, TookFront, WhereTold, followed};
+ghost use Rattle.reencode_run.specs.Requests.{job_of, name_told};
+ghost use Rattle.reencode_run.specs.Words.{files, functions};
 ghost use Rattle.wasm_strip.specs.Binaries.{IsStripped};
+ghost use Rattle.reencode_run.specs.declared.answer.Answer.{Answer};
 ghost use Rattle.wasm_strip.specs.Faults.{HasNone, IsWhy};
+ghost use Rattle.wasm_reencode.specs.Stripped.{IfCommand, IfSink, IfStrip, status_in, unmade};
 ghost use Rattle.wasm_reencode.specs.declared.stripped.Ended.TheVariants as ended;
 
 use reencode_run::outside::{Failed, Shelf, Sink, Source};
@@ -42,10 +44,21 @@ impl Sink for Gathered {
 pub enum Ended {
     /// The command ended with this status, and said why.
     Command(u8),
-    /// The sections of what it made could not be told apart, or memory ran out.
+    /// The sections of what it made could not be told apart, or memory ran out for it.
     Strip(StripFault),
     /// The sink failed. It may have a front of the output.
     Sink,
+}
+
+/// Why nothing is made where a command ended with a status that is not 0. Its output went to memory, which is all that can fail there.
+fn unmade(status: u8) -> Ended
+    ensures { result ≡ unmade status }
+{
+    if status == 4 {
+        Ended::Strip(StripFault::NoMemory)
+    } else {
+        Ended::Command(status)
+    }
 }
 
 /// Does what is asked for with the bytes of a source, and hands what it makes to a sink, without the custom sections that a rule
@@ -69,10 +82,61 @@ pub fn transform_stripped<N: NameRule, F: Shelf, S: Source, K: Sink, D: Sink>(
         × WhereTold (K.held out.new) (followed (K.held out.old) bytes)
         × (lines.items ≡ lines_of made)) }
 
-    // The sink is as it was, but where it failed.
+    // Where the command makes nothing it ends as its status says, which is none of the sink, and that is told of the file that it
+    // comes of.
+    ensures ends { IfCommand result (λ status. (answer : Answer) × (status ≡ status_of answer)
+        × Ends (job_of request.entry) (record {
+          texts = F.texts shelf.old;
+          shelf_faults_old = F.faults shelf.old;
+          shelf_faults_new = F.faults shelf.new;
+          left_old = S.left input.old;
+          left_new = S.left input.new;
+          read_faults_old = S.faults input.old;
+          read_faults_new = S.faults input.new;
+          held_old = K.held out.old;
+          held_new = K.held out.new;
+          write_faults_old = K.faults out.old;
+          write_faults_new = K.faults out.new;
+        }) (input.new ≡ input.old) status (text_of answer)
+        × IsOfFile (job_of request.entry).command (F.texts shelf.old) (F.faults shelf.old)
+        (F.faults shelf.new) answer
+        × Says (D.faults err.old) (D.faults err.new) (D.held err.old) (D.held err.new)
+        (name_told request.entry answer ++ codes ": " ++ text_of answer ++ codes "\n")) }
+    ensures stopped { IfCommand result (λ status. (status ≢ 0) × (status ≢ 4)) }
+
+    // Where its output is not stripped, that has the fault that is told, at its place, and no sections; or memory ran out.
+    ensures unstripped { IfStrip result (λ fault. (made : Made (job_of request.entry) (F.texts shelf.old)
+        (S.left input.old) (S.left input.new))
+        × IsWhy (output_of made) fault × HasNone (output_of made) fault) }
+
+    // Where the sink failed it took a front of what was to be handed over.
+    ensures failed { IfSink result ((made : Made (job_of request.entry) (F.texts shelf.old)
+        (S.left input.old) (S.left input.new)) × (bytes : List ℕ)
+        × IsStripped (N.removed rule.now) (output_of made) bytes
+        × TookFront (K.held out.old) (K.held out.new) bytes
+        × Rose (K.faults out.old) (K.faults out.new)) }
+
+    // Each file, the input, the re-encoding and the sink decide, in this order. What is not stripped counts as made.
+    ensures decided { IsDecided (Rose (F.faults shelf.old) (F.faults shelf.new))
+        (Rose (S.faults input.old) (S.faults input.new))
+        (Rose (K.faults out.old) (K.faults out.new))
+        (Some (job_of request.entry)) (F.texts shelf.old) (S.left input.old) (status_in result) }
+
+    // The sink is as it was, but where it failed. Nothing is said where the command makes something and memory suffices for it.
     ensures untouched { IfErr result (λ e. e ≢ ended.Sink → out.new ≡ out.old) }
-    ensures fails { IfErr result (λ e. e ≡ ended.Sink → Rose (K.faults out.old) (K.faults out.new)) }
-    ensures rises { K.faults out.old ≤ K.faults out.new }
+    ensures quiet { IfOk result (λ lines. err.new ≡ err.old) }
+    ensures quiet_sink { IfSink result (err.new ≡ err.old) }
+    ensures quiet_strip { IfStrip result (λ fault. fault ≢ StripFault.NoMemory → err.new ≡ err.old) }
+
+    // A made module takes nothing of the source, a command without a file nothing of the shelf.
+    ensures unread { IsMaking (job_of request.entry).command → input.new ≡ input.old }
+    ensures unfetched { files (job_of request.entry).command ≡ [] → shelf.new ≡ shelf.old }
+
+    // No count of failures falls.
+    ensures shelf_rises { F.faults shelf.old ≤ F.faults shelf.new }
+    ensures input_rises { S.faults input.old ≤ S.faults input.new }
+    ensures out_rises { K.faults out.old ≤ K.faults out.new }
+    ensures err_rises { D.faults err.old ≤ D.faults err.new }
 {
     let mut made = Gathered {
         bytes: Vec::new(alloc),
@@ -80,7 +144,7 @@ pub fn transform_stripped<N: NameRule, F: Shelf, S: Source, K: Sink, D: Sink>(
     };
     let lines = match transform(alloc, request, shelf, input, &mut made, err) {
         Ok(lines) => lines,
-        Err(status) => return Err(Ended::Command(status)),
+        Err(status) => return Err(unmade(status)),
     };
     let bytes = match strip(alloc, rule, made.bytes.as_slice()) {
         Ok(bytes) => bytes,

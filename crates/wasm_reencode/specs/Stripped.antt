@@ -1,0 +1,31 @@
+-- How a command ends whose output is stripped.
+use Rattle.std.specs.Prelude.{ℕ, Result, Ok, Err, if◌then◌else◌, ◌==◌}
+use Rattle.wasm_reencode.specs.declared.stripped.Ended.{Ended}
+use Rattle.wasm_reencode.specs.declared.stripped.Ended.TheVariants as ended
+use Rattle.wasm_strip.specs.declared.fault.StripFault.{StripFault}
+use Rattle.wasm_strip.specs.declared.fault.StripFault.TheVariants as fault
+
+-- where the command made nothing, this holds of its status
+abbrev pub IfCommand : {A : Type 0} → Result A Ended → (ℕ → Type 0) → Type 0
+IfCommand (Err (ended.Command status)) P = P status
+IfCommand _ P = Unit {0}
+
+-- where its output was not stripped, this holds of the fault
+abbrev pub IfStrip : {A : Type 0} → Result A Ended → (StripFault → Type 0) → Type 0
+IfStrip (Err (ended.Strip fault)) P = P fault
+IfStrip _ P = Unit {0}
+
+-- where the sink failed, this holds
+abbrev pub IfSink : {A : Type 0} → Result A Ended → Type 0 → Type 0
+IfSink (Err ended.Sink) P = P
+IfSink _ P = Unit {0}
+
+-- the status of the command with the sink behind it: 0 where what it made was handed over, or was not stripped
+abbrev pub status_in : {A : Type 0} → Result A Ended → ℕ
+status_in (Err (ended.Command status)) = status
+status_in (Err ended.Sink) = 4
+status_in _ = 0
+
+-- what comes of a status that is not 0, where all of an output that was made went to memory
+abbrev pub unmade : ℕ → Ended
+unmade status = if status == 4 then ended.Strip fault.NoMemory else ended.Command status
