@@ -2,6 +2,7 @@
 pub mod CoreGroups
 pub mod CoreTypeCalls
 pub mod ScopeCalls
+pub mod StreamedScopes
 pub mod TypeParts
 pub mod TypeWeights
 pub mod TypesBehind

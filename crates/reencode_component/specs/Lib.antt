@@ -12,6 +12,7 @@ pub mod TypeClauses
 pub mod ScopedRows
 pub mod NestedClauses
 pub mod DeclarationClauses
+pub mod DirectTypes
 pub mod ComponentLaws
 pub mod Within
 pub mod WithinLaws

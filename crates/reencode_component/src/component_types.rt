@@ -9,6 +9,7 @@ ghost use Rattle.reencode_component.specs.DeclarationClauses.{ComponentDeclarati
 ghost use Rattle.reencode_component.specs.ScopedRows.{ShallowRowsClauses};
 
 use crate::component_methods::ReencodeComponent;
+use crate::direct::{add_scoped_type, scoped_type};
 use crate::items::ReencodeComponentItems;
 use crate::rows::add_row;
 use crate::scoped_sections::{MapScopedRow, map_scoped_rows};
@@ -131,7 +132,7 @@ macro_rules! declaration {
 /// What a component type declares: core types by `parse_component_core_type`, types by `parse_component_type`, an alias by
 /// `component_alias`, and what is imported or exported by `component_type_ref`.
 #[cycle(types)]
-fn component_declaration<'a, T: ReencodeComponent>(
+pub(crate) fn component_declaration<'a, T: ReencodeComponent>(
     reencoder: &mut T,
     alloc: Global,
     decl: r::ComponentTypeDeclaration<'a>,
@@ -145,7 +146,7 @@ fn component_declaration<'a, T: ReencodeComponent>(
 /// What an instance type declares: core types by `parse_component_core_type`, types by `parse_component_type`, an alias by
 /// `component_alias`, and what is exported by `component_type_ref`.
 #[cycle(types)]
-fn instance_declaration<'a, T: ReencodeComponent>(
+pub(crate) fn instance_declaration<'a, T: ReencodeComponent>(
     reencoder: &mut T,
     alloc: Global,
     decl: r::InstanceTypeDeclaration<'a>,
@@ -212,11 +213,15 @@ impl<'a, T: ReencodeComponent> MapScopedRow<T, w::Of<kinds::ComponentTypes>, r::
         types: &mut w::ComponentTypeSection,
         row: r::ComponentType<'a>,
     ) -> Result<(), Error<T::Error>> {
-        add_type(reencoder, alloc, types, row)
+        match scoped_type(alloc, &row) {
+            Some(ty) => add_scoped_type(reencoder, types, &ty),
+            None => add_type(reencoder, alloc, types, row),
+        }
     }
 }
 
-/// Maps the rows that the reader still has, each by `parse_component_type`, and adds each row once it is mapped.
+/// Maps the rows that the reader still has, each as by `parse_component_type`, and adds each row once it is mapped. A component type
+/// or an instance type goes from the bytes that it stands in to those that it becomes, each declaration in it once.
 #[tactic(auto, using(crate::proofs::rows_walked::SectionItems::component_types))]
 pub fn parse_component_type_section<T: ReencodeComponent>(
     reencoder: &mut T,

@@ -15,6 +15,7 @@ mod component_walk;
 mod core_types;
 mod default_bodies;
 mod defaults;
+mod direct;
 mod fault_laws;
 mod indices;
 mod item_lists;

@@ -97,6 +97,24 @@ impl<'a, K> ScopedReader<'a, K> {
     {
         self.rows.place()
     }
+
+    /// How many scopes are open round the rows.
+    pub fn depth(&self) -> u32
+        ensures is { result ≡ self.now.depth }
+        ensures low { result ≤ 200 }
+    {
+        self.depth
+    }
+
+    /// The bytes where the next row is due, or none where no row is.
+    pub fn due(&self) -> Option<&'a [u8]>
+        ensures { IfSome result (λ bytes. bytes.now ≡ self.now.rows.rest) }
+    {
+        match self.rows.due() {
+            Ok(due) => due,
+            Err(_) => None,
+        }
+    }
 }
 
 impl<'a, K: ReadRowAt<'a>> ScopedReader<'a, K> {

@@ -40,7 +40,7 @@ ended_state UnexpectedNonCoreModuleSection step m h = rw h.1 refl
 ended_state UnexpectedNonComponentSection step m h = rw h.1 refl
 ended_state UnsupportedCoreTypeInComponent step m h = rw h.1 refl
 
-more_state : {S E : Type 0} (n : ℕ) (step : Step S (Error E) (List ℕ)) → state_after (and_then step (λ ns k. accepted (n ∷ ns) k)) ≡ state_after step
+pub more_state : {S E : Type 0} (n : ℕ) (step : Step S (Error E) (List ℕ)) → state_after (and_then step (λ ns k. accepted (n ∷ ns) k)) ≡ state_after step
 more_state n (accepted ns k) = refl
 more_state n (refused e k) = refl
 

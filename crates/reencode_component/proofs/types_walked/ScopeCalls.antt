@@ -49,10 +49,10 @@ never_many UnexpectedNonComponentSection n few h = h
 never_many UnsupportedCoreTypeInComponent n few h = h
 
 module _ {S E : Type 0} (asked : Asks S E) where
-  refused_scope : (s : S) {n m : S} (c : ℕ) (t : Tree) {e : Error E} → asked s Push ≡ accepted 0 n → walk asked c n t ≡ refused e m → walk asked c s (Tree.scope (Tree.vec t)) ≡ refused e m
+  pub refused_scope : (s : S) {n m : S} (c : ℕ) (t : Tree) {e : Error E} → asked s Push ≡ accepted 0 n → walk asked c n t ≡ refused e m → walk asked c s (Tree.scope (Tree.vec t)) ≡ refused e m
   refused_scope s c t push h = rw (push, h) refl
 
-  accepted_scope : (s : S) {n k m : S} (c : ℕ) (t u : Tree) → asked s Push ≡ accepted 0 n → walk asked c n t ≡ accepted u k → asked k Pop ≡ accepted 0 m →
+  pub accepted_scope : (s : S) {n k m : S} (c : ℕ) (t u : Tree) → asked s Push ≡ accepted 0 n → walk asked c n t ≡ accepted u k → asked k Pop ≡ accepted 0 m →
       walk asked c s (Tree.scope (Tree.vec t)) ≡ accepted (Tree.scope (Tree.vec u)) m
   accepted_scope s c t u push h pop = rw (push, h, pop) refl
 
