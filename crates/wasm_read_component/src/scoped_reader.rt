@@ -1,5 +1,5 @@
 //! A reader of rows in which scopes may be opened.
-ghost use Rattle.std.specs.Prelude.{◌≡◌, ◌≤◌, ℕ, Bool, false, IfOk, IfErr, IfSome, IfNone, IsTrue, List};
+ghost use Rattle.std.specs.Prelude.{◌≡◌, ◌≤◌, ◌<◌, ℕ, Bool, false, IfOk, IfErr, IfSome, IfNone, IsTrue, List};
 ghost use Rattle.wasm_leb.specs.Place.{BeginsNoNumber};
 ghost use Rattle.wasm_shapes.specs.Tree.{Tree};
 ghost use Rattle.wasm_shapes.specs.Depth.{BeginsNoneAt};
@@ -106,9 +106,11 @@ impl<'a, K> ScopedReader<'a, K> {
         self.depth
     }
 
-    /// The bytes where the next row is due, or none where no row is.
+    /// The bytes where the next row is due, or none where all counted rows were given.
     pub fn due(&self) -> Option<&'a [u8]>
-        ensures { IfSome result (λ bytes. bytes.now ≡ self.now.rows.rest) }
+        ensures some { IfSome result (λ bytes.
+            (bytes.now ≡ self.now.rows.rest) × (0 < self.now.rows.left)) }
+        ensures none { IfNone result (self.now.rows.left ≡ 0) }
     {
         match self.rows.due() {
             Ok(due) => due,
