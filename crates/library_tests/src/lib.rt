@@ -13,6 +13,8 @@ mod hooks_tests;
 #[cfg(test)]
 mod names_tests;
 #[cfg(test)]
+mod pieces_tests;
+#[cfg(test)]
 mod rules_tests;
 #[cfg(test)]
 mod values_tests;

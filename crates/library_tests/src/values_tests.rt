@@ -7,8 +7,8 @@ use wasm_leb::{List, NoMemory};
 use wasm_read::UnpackedIndex;
 use wasm_shapes::{CALL, Opcode, Space};
 use wasm_write::{
-    CodeSection, Function, FunctionSection, Imm, Instruction, MemorySection, MemoryType, Module,
-    TagKind, TagSection, TagType,
+    CodeSection, CustomSection, Function, FunctionSection, Imm, Instruction, MemorySection,
+    MemoryType, Module, TagKind, TagSection, TagType,
 };
 use wasm_write_component::{Component, ModuleSection};
 
@@ -127,5 +127,43 @@ fn a_nested_module_is_too_large(rt: HostRuntime) -> Made<()> {
     let mut component = Component::new(rt.alloc(), 7)?;
     assert!(rt; component.section(&ModuleSection(&module)).is_err());
     assert_eq!(rt; (component.ceiling(), component.len()), (7, 0));
+    Ok(())
+}
+
+/// A custom section whose contents are so many zeros.
+fn zeros(len: usize) -> &'static [u8] {
+    const ZEROS: [u8; 300] = [0; 300];
+    &ZEROS[..len.min(300)]
+}
+
+/// A component with a module that has so many zeros in a custom section, within a component.
+fn nested(alloc: Global, len: usize) -> Made<Vec<u8>> {
+    let mut outer = Component::new(alloc, 1000)?;
+    let mut inner = outer.component_within(alloc, len)?;
+    let mut module = inner.module_within(alloc, len)?;
+    module.section(&CustomSection {
+        name: "x",
+        contents: zeros(len),
+    })?;
+    inner.take_module(module)?;
+    outer.take_component(inner)?;
+    Ok(outer.finish())
+}
+
+/// The bytes in front of the zeros: sizes of one byte, and of two.
+const SHORT: &[u8] =
+    b"\0asm\x0d\0\x01\0\x04\x17\0asm\x0d\0\x01\0\x01\x0d\0asm\x01\0\0\0\0\x03\x01x";
+
+const LONG: &[u8] =
+    b"\0asm\x0d\0\x01\0\x04\xc4\x02\0asm\x0d\0\x01\0\x01\xb9\x02\0asm\x01\0\0\0\0\xae\x02\x01x";
+
+#[test]
+fn nested_binaries_are_taken(rt: HostRuntime) -> Made<()> {
+    for (len, front) in [(1, SHORT), (300, LONG)] {
+        let bytes = nested(rt.alloc(), len)?;
+        assert_eq!(rt; bytes.len(), front.len() + len);
+        assert!(rt; bytes.starts_with(front));
+        assert!(rt; bytes.ends_with(zeros(len)));
+    }
     Ok(())
 }

@@ -6,6 +6,7 @@ pub mod FreshSink
 pub mod KeptAnswers
 pub mod KeptFrames
 pub mod KeptLaws
+pub mod KeptLengths
 pub mod KeptRanges
 pub mod SectionLoop
 pub mod SectionsHeld

@@ -28,6 +28,11 @@ kept_ranges [] = []
 kept_ranges (Kept start end ∷ ps) = range start end ∷ kept_ranges ps
 kept_ranges (Made bytes ∷ ps) = kept_ranges ps
 
+-- how many bytes the ranges have
+abbrev pub kept_total : List Range → ℕ
+kept_total [] = 0
+kept_total (r ∷ rs) = r.end - r.start + kept_total rs
+
 -- a kept range lies within an input of so many bytes
 abbrev pub IsWithin : ℕ → Piece → Type 0
 IsWithin len (Kept start end) = (start ≤ end) × (end ≤ len)

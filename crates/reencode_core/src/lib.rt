@@ -30,8 +30,8 @@ pub use laws::{
 };
 pub use names::{indirect_name_map, map_indirect_names, map_names, name_map};
 pub use pieces::{
-    Output, Piece, Pieces, fill_is_own, kept_is_answered, reencode_joined, reencode_output,
-    reencode_pieces, spelling_is_kept,
+    KeptOutput, Output, Piece, Pieces, fill_is_own, kept_is_answered, reencode_joined,
+    reencode_kept, reencode_output, reencode_pieces, spelling_is_kept,
 };
 pub use reencode::{Reencode, reencode_core};
 pub use rule::{check_by_rule, reencode_by_rule};

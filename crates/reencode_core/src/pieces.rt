@@ -9,6 +9,6 @@ mod piece;
 mod reencode;
 
 pub use laws::{fill_is_own, kept_is_answered, spelling_is_kept};
-pub use output::Output;
+pub use output::{KeptOutput, Output};
 pub use piece::{Piece, Pieces};
-pub use reencode::{reencode_joined, reencode_output, reencode_pieces};
+pub use reencode::{reencode_joined, reencode_kept, reencode_output, reencode_pieces};

@@ -1,9 +1,7 @@
 -- What is told of the function bodies that are kept.
 use Rattle.std.specs.Prelude.{◌≡◌, ℕ, ◌+◌, ◌-◌, List, [], ◌∷◌, ◌++◌, codes, decimal, length}
 use Rattle.reencode_hooks.specs.Renamings.{no_renaming}
-use Rattle.reencode_core.specs.declared.pieces.piece.Piece.{Piece}
-use Rattle.reencode_core.specs.declared.pieces.piece.Piece.TheVariants as piece
-use Rattle.reencode_core.specs.Pieces.{Range, range}
+use Rattle.reencode_core.specs.Pieces.{Range, kept_total}
 use Rattle.reencode_core.specs.Kept.{Kept}
 use Rattle.reencode_run.specs.declared.renamers.Renamers.TheVariants.{Alone}
 use Rattle.reencode_run.specs.declared.binary_taken.Taken.TheVariants.{Modules}
@@ -20,11 +18,6 @@ abbrev pub kept_lines : List Range → List ℕ
 kept_lines [] = []
 kept_lines (r ∷ rs) = range_line r ++ kept_lines rs
 
--- how many bytes the ranges have
-abbrev pub kept_total : List Range → ℕ
-kept_total [] = 0
-kept_total (r ∷ rs) = r.end - r.start + kept_total rs
-
 -- how many bytes are kept, and of how many, without the line's end
 abbrev pub bytes_line : ℕ → ℕ → List ℕ
 bytes_line kept all = codes "bytes " ++ decimal kept ++ codes " of " ++ decimal all
@@ -32,15 +25,6 @@ bytes_line kept all = codes "bytes " ++ decimal kept ++ codes " of " ++ decimal 
 -- the lines of the ranges that are kept of an output of so many bytes, how many bytes they have, and the lines of the counts
 abbrev pub kept_report : List Range → ℕ → List (List ℕ) → List ℕ
 kept_report ranges all counts = kept_lines ranges ++ bytes_line (kept_total ranges) all ++ tail counts
-
--- what a piece adds to these lines, and how many bytes it keeps
-abbrev pub kept_line : Piece → List ℕ
-kept_line (piece.Kept start end) = range_line (range start end)
-kept_line (piece.Made bytes) = []
-
-abbrev pub kept_len : Piece → ℕ
-kept_len (piece.Kept start end) = end - start
-kept_len (piece.Made bytes) = 0
 
 -- The text tells which function bodies of the bytes are kept where nothing is renamed. The output is the normal spelling itself.
 pub record Keeps (ceiling : ℕ) (bytes text : List ℕ) : Type 0 where

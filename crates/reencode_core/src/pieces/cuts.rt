@@ -71,6 +71,25 @@ pub(crate) fn lengthen_last(cuts: &mut [Cut], end: usize)
     }
 }
 
+/// Appends bytes, and others behind them.
+pub(crate) fn add_two(out: &mut Vec<u8>, head: &[u8], bytes: &[u8]) -> Result<(), NoMemory>
+    ensures ok { OnOk result (out.new.items ≡ out.old.items ++ (head.now ++ bytes.now)) }
+    ensures err { OnErr result (out.new.items ≡ out.old.items) }
+{
+    let begun = out.len();
+    match out.extend_from_slice(head) {
+        Ok(()) => {}
+        Err(_) => return Err(NoMemory),
+    }
+    match out.extend_from_slice(bytes) {
+        Ok(()) => Ok(()),
+        Err(_) => {
+            out.truncate(begun);
+            Err(NoMemory)
+        }
+    }
+}
+
 /// Copies bytes over the first of others.
 fn put_in_front(bytes: &mut [u8], head: &[u8])
     requires { length head.now ≤ length bytes.old }

@@ -1,14 +1,15 @@
 //! Pieces under construction.
-ghost use Rattle.std.specs.Prelude.{◌≡◌, ◌++◌, ◌-◌, ◌<◌, ◌≤◌, ◌^◌, [], length, slice_range, OnOk, OnErr, IfOk};
-ghost use Rattle.reencode_core.specs.Pieces.{AreGrown, with_bytes, with_grown, with_kept};
+ghost use Rattle.std.specs.Prelude.{◌≡◌, ◌++◌, ◌-◌, ◌<◌, ◌≤◌, ◌^◌, [], length, slice_get, slice_range, OnOk, OnErr, IfOk, IfSome, IfNone, Some};
+ghost use Rattle.reencode_core.specs.Pieces.{AreGrown, kept_total, range, with_bytes, with_grown, with_kept};
 
 use crate::pieces::cuts::{
-    Cut, cut_out, drop_room, fill, joined_in_place, last_behind, lengthen_last, raise,
+    Cut, add_two, cut_out, drop_room, fill, joined_in_place, last_behind, lengthen_last, raise,
     stand_behind, take_over,
 };
 use crate::pieces::piece::Pieces;
 use std::alloc::Global;
 use std::marker::Model;
+use std::ops::Range;
 use wasm_leb::NoMemory;
 
 /// Pieces under construction over an input.
@@ -103,6 +104,32 @@ impl<'a> Growing<'a> {
         self.input
     }
 
+    /// How many of its bytes are kept.
+    pub fn kept_len(&self) -> u64
+        ensures { result ≡ kept_total self.now.kept }
+    {
+        self.size - (self.made.len() - self.front) as u64
+    }
+
+    /// How many ranges are kept.
+    pub fn ranges(&self) -> usize
+        ensures { result ≡ length self.now.kept }
+    {
+        self.cuts.len()
+    }
+
+    /// The kept range of a number, from 0.
+    pub fn range(&self, i: usize) -> Option<Range<usize>>
+        ensures some { IfSome result (λ r. slice_get self.now.kept i ≡ Some (range r.start r.end)) }
+        ensures within { IfSome result (λ r. (r.start < r.end) × (r.end ≤ length self.now.input)) }
+        ensures none { IfNone result (length self.now.kept ≤ i) }
+    {
+        match self.cuts.get(i) {
+            Some(cut) => Some(cut.start..cut.end),
+            None => None,
+        }
+    }
+
     /// How many made bytes there are, those of room among them.
     pub fn made_len(&self) -> usize {
         self.made.len()
@@ -122,6 +149,26 @@ impl<'a> Growing<'a> {
                 Ok(())
             }
             Err(_) => Err(NoMemory),
+        }
+    }
+
+    /// Adds bytes, and others behind them.
+    pub fn add_both(&mut self, head: &[u8], bytes: &[u8]) -> Result<(), NoMemory>
+        ensures ok { OnOk result (self.new ≡ with_bytes self.old (head.now ++ bytes.now)) }
+        ensures err { OnErr result (self.new ≡ self.old) }
+    {
+        let Some(size) = self.size.checked_add(head.len() as u64) else {
+            return Err(NoMemory);
+        };
+        let Some(size) = size.checked_add(bytes.len() as u64) else {
+            return Err(NoMemory);
+        };
+        match add_two(&mut self.made, head, bytes) {
+            Ok(()) => {
+                self.size = size;
+                Ok(())
+            }
+            Err(NoMemory) => Err(NoMemory),
         }
     }
 

@@ -1,5 +1,5 @@
 //! A module in pieces.
-ghost use Rattle.std.specs.Prelude.{◌≡◌, ◌++◌, ◌∷◌, ◌<◌, ◌≤◌, ◌^◌, [], length, drop, OnOk, OnErr, IfOk, IfErr};
+ghost use Rattle.std.specs.Prelude.{◌≡◌, ◌++◌, ◌∷◌, ◌<◌, ◌≤◌, ◌^◌, [], length, drop, false, OnOk, OnErr, IfOk, IfErr};
 ghost use Rattle.wasm_leb.specs.Leb.{leb};
 ghost use Rattle.wasm_shapes.specs.Tree.{normal};
 ghost use Rattle.wasm_shapes.specs.Types.{vector_tree};
@@ -10,7 +10,7 @@ ghost use Rattle.reencode_core.specs.Sinks.{AreModule, HeldModule, HeldModule-pr
 
 use crate::pieces::code::CodePieces;
 use crate::pieces::growing::Growing;
-use crate::pieces::output::Output;
+use crate::pieces::output::{KeptOutput, Output};
 use crate::pieces::piece::Pieces;
 use std::alloc::Global;
 use std::marker::Model;
@@ -66,23 +66,26 @@ fn custom_head(alloc: Global, len: u32, section: w::CustomSection<'_>) -> Result
     Ok(head)
 }
 
-/// Adds a custom section whose body has so many bytes, and whose contents end at a place of the input: they are kept.
+/// Adds a custom section whose body has so many bytes, and whose contents end at a place of the input: they are kept, or copied
+/// where none but function bodies may be.
 fn keep_framed(
     alloc: Global,
     pieces: &mut Growing<'_>,
     len: u32,
     section: w::CustomSection<'_>,
     end: usize,
+    more: bool,
 ) -> Result<(), NoMemory>
     requires { StandsAt pieces.old.input section.contents.now end }
     ensures bytes { OnOk result (pieces.new.bytes
         ≡ pieces.old.bytes ++ (0 ∷ (leb len ++ normal (custom_section_tree section.entry)))) }
     ensures input { pieces.new.input ≡ pieces.old.input }
+    ensures ranges { more ≡ false → OnOk result (pieces.new.kept ≡ pieces.old.kept) }
     ensures err { OnErr result (pieces.new ≡ pieces.old) }
 {
     let head = custom_head(alloc, len, section)?;
-    if section.contents.is_empty() {
-        return pieces.add(&head);
+    if !more || section.contents.is_empty() {
+        return pieces.add_both(&head, section.contents);
     }
     pieces.keep_on(&head, end - section.contents.len(), end)
 }
@@ -159,7 +162,8 @@ impl<'a> ModulePieces<'a> {
         Ok(())
     }
 
-    /// Adds a custom section whose contents end at a place of the input: they are kept. A refusal changes nothing.
+    /// Adds a custom section whose contents end at a place of the input: they are kept, or copied where none but function bodies may
+    /// be. A refusal changes nothing.
     ///
     /// `TooLarge` comes exactly where the body is longer than the ceiling, with its length.
     pub fn keep_custom(
@@ -167,6 +171,7 @@ impl<'a> ModulePieces<'a> {
         alloc: Global,
         section: w::CustomSection<'_>,
         end: usize,
+        more: bool,
     ) -> Result<(), w::WriteFault>
         requires { StandsAt self.old.input section.contents.now end }
         ensures ok { OnOk result (self.new.sections ≡ with_section self.old.sections
@@ -174,6 +179,7 @@ impl<'a> ModulePieces<'a> {
         ensures fits { OnOk result
             (length (normal (custom_section_tree section.entry)) ≤ self.old.sections.ceiling) }
         ensures input { self.new.input ≡ self.old.input }
+        ensures ranges { more ≡ false → OnOk result (self.new.kept ≡ self.old.kept) }
         ensures err { OnErr result (self.new ≡ self.old) }
         ensures large { IfErr result (λ e. IfTooLarge e (λ size.
             (size ≡ length (normal (custom_section_tree section.entry)))
@@ -186,7 +192,7 @@ impl<'a> ModulePieces<'a> {
         if size > u64::from(self.ceiling) {
             return Err(w::WriteFault::TooLarge { size });
         }
-        match keep_framed(alloc, &mut self.pieces, size as u32, section, end) {
+        match keep_framed(alloc, &mut self.pieces, size as u32, section, end, more) {
             Ok(()) => {}
             Err(NoMemory) => return Err(w::WriteFault::NoMemory),
         }
@@ -227,6 +233,17 @@ impl<'a> ModulePieces<'a> {
             Ok(pieces) => Ok(pieces),
             Err(NoMemory) => Err(NoMemory),
         }
+    }
+
+    /// Its bytes, not yet in one place, and what is kept in them.
+    pub fn into_kept(self) -> KeptOutput<'a>
+        ensures { result ≡ record {
+          input = self.entry.input;
+          bytes = module_bytes self.entry.sections.sections;
+          kept = self.entry.kept;
+        } }
+    {
+        KeptOutput::of(self.pieces)
     }
 
     /// Its bytes, not yet in one place.

@@ -1,9 +1,11 @@
 //! An output that is not yet in one place.
-ghost use Rattle.std.specs.Prelude.{◌≡◌, length, IfOk};
+ghost use Rattle.std.specs.Prelude.{◌≡◌, ◌<◌, ◌≤◌, length, slice_get, IfOk, IfSome, IfNone, Some};
+ghost use Rattle.reencode_core.specs.Pieces.{kept_total, range};
 
 use crate::pieces::growing::Growing;
 use std::alloc::Global;
 use std::marker::Model;
+use std::ops::Range;
 use wasm_leb::NoMemory;
 
 /// An output that was made, and not yet copied to one place: the function bodies that stay as they are in the input are not in
@@ -66,5 +68,69 @@ impl<'a> Output<'a> {
             Ok(bytes) => Ok(bytes),
             Err(NoMemory) => Err(NoMemory),
         }
+    }
+}
+
+/// An output that was made, and not yet copied to one place, and which function bodies stay in it as they are in the input.
+///
+/// Contracts see the input, the bytes of the output, and the ranges of the input that are kept in it, in order: each is a function
+/// body without its size.
+#[derive(Drop)]
+pub struct KeptOutput<'a> {
+    pieces: Growing<'a>,
+}
+
+impl<'a> Model for KeptOutput<'a> {
+    ghost use Rattle.reencode_core.specs.Pieces.{Grown};
+
+    ghost Value = { Grown };
+
+    ghost view = { λ o. o.pieces };
+}
+
+impl<'a> KeptOutput<'a> {
+    /// The output that these pieces are.
+    pub(crate) fn of(pieces: Growing<'a>) -> KeptOutput<'a>
+        ensures { result ≡ pieces.entry }
+    {
+        KeptOutput { pieces }
+    }
+
+    /// How many bytes it has.
+    pub fn len(&self) -> u64
+        ensures { result ≡ length self.now.bytes }
+    {
+        self.pieces.len()
+    }
+
+    /// How many of its bytes are those of kept function bodies.
+    pub fn kept_len(&self) -> u64
+        ensures { result ≡ kept_total self.now.kept }
+    {
+        self.pieces.kept_len()
+    }
+
+    /// How many function bodies are kept.
+    pub fn bodies(&self) -> usize
+        ensures { result ≡ length self.now.kept }
+    {
+        self.pieces.ranges()
+    }
+
+    /// Where a kept function body stands in the input, of these bodies the one of a number, from 0. None exactly where there are not so
+    /// many.
+    pub fn body(&self, i: usize) -> Option<Range<usize>>
+        ensures some { IfSome result (λ r. slice_get self.now.kept i ≡ Some (range r.start r.end)) }
+        ensures within { IfSome result (λ r. (r.start < r.end) × (r.end ≤ length self.now.input)) }
+        ensures none { IfNone result (length self.now.kept ≤ i) }
+    {
+        self.pieces.range(i)
+    }
+
+    /// The output alone.
+    pub fn into_output(self) -> Output<'a>
+        ensures { result ≡ self.entry.bytes }
+    {
+        Output::of(self.pieces)
     }
 }

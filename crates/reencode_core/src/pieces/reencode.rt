@@ -26,7 +26,7 @@ ghost use Rattle.reencode_core.specs.Sinks.{GainsFrames, KeepsCodeSection, Keeps
 use crate::errors::placed;
 use crate::pieces::code::CodePieces;
 use crate::pieces::module::ModulePieces;
-use crate::pieces::output::Output;
+use crate::pieces::output::{KeptOutput, Output};
 use crate::pieces::piece::Pieces;
 use crate::reencode::Reencode;
 use crate::sections::call_hook;
@@ -219,24 +219,26 @@ fn add_section<R: Reencode>(
     }
 }
 
-/// Adds a custom section as it is. Its contents end at a place of the input, and are kept.
+/// Adds a custom section as it is. Its contents end at a place of the input, and are kept where other ranges than function bodies may be.
 fn keep_custom<E>(
     alloc: Global,
     sink: &mut ModulePieces<'_>,
     section: r::CustomSection<'_>,
     end: usize,
+    more: bool,
 ) -> Result<(), Error<E>>
     requires { StandsAt sink.old.input section.contents.now end }
     ensures adds { AddsMapped {E = E} (section_row 0 (normal (custom_section_tree section.entry)))
         sink.old.sections (Ok tt) sink.new.sections result }
     ensures input { sink.new.input ≡ sink.old.input }
+    ensures ranges { more ≡ false → OnOk result (sink.new.kept ≡ sink.old.kept) }
 {
-    sink.keep_custom(alloc, section, end)?;
+    sink.keep_custom(alloc, section, end, more)?;
     Ok(())
 }
 
-/// Maps a custom section into a module of its own, and adds it. Its contents end at a place of the input. Where other ranges than
-/// function bodies may be kept, and the section stays as it is, they are kept.
+/// Maps a custom section and adds it: as it is where it stays, and else by a module of its own. Its contents end at a place of the
+/// input. Where other ranges than function bodies may be kept, those of a section that stays are.
 fn add_custom<R: Reencode>(
     reencoder: &mut R,
     alloc: Global,
@@ -256,8 +258,8 @@ fn add_custom<R: Reencode>(
     ensures input { sink.new.input ≡ sink.old.input }
     ensures ranges { more ≡ false → OnOk result (sink.new.kept ≡ sink.old.kept) }
 {
-    if more && R::DEFAULT_SECTIONS && section.name != "name" {
-        return keep_custom(alloc, sink, section, end);
+    if R::DEFAULT_SECTIONS && section.name != "name" {
+        return keep_custom(alloc, sink, section, end, more);
     }
     let Ok(mut own) = w::Module::new(alloc, sink.ceiling()) else {
         return Err(Error::NoMemory);
@@ -451,6 +453,26 @@ pub fn reencode_pieces<R: Reencode>(
         Ok(()) => Ok(sink.finish(alloc)?),
         Err(e) => Err(e),
     }
+}
+
+/// Re-encodes a core module as `reencode_core` does, and answers an output that is not yet in one place, with the ranges of the input
+/// that the function bodies have which stay as they stand. These are copied where the output is wanted in one place, and not before.
+pub fn reencode_kept<'a, R: Reencode>(
+    alloc: Global,
+    r: &mut R,
+    bytes: &'a [u8],
+    ceiling: u32,
+) -> Result<KeptOutput<'a>, Error<R::Error>>
+    ensures bytes { BytesClauses R.ReencodeIndices ceiling bytes.now r.old r.new result (λ o. o.bytes) }
+    ensures input { IfOk result (λ o. o.input ≡ bytes.now) }
+    ensures kept { IsTrue R.keeps_defaults → IfOk result (λ o. (t : Tree)
+        → Spells core_module bytes.now t → (given : List ℕ)
+        × (run (ask R.reply R.next) r.old (visits t) ≡ accepted given r.new)
+        × Kept bytes.now t given o.kept) }
+{
+    let mut sink = ModulePieces::new(alloc, bytes, ceiling)?;
+    walk(r, alloc, &mut sink, bytes, false)?;
+    Ok(sink.into_kept())
 }
 
 /// Re-encodes a core module as `reencode_core` does, and answers an output that is not yet in one place: a function body that stays
