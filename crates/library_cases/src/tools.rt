@@ -193,6 +193,7 @@ fn stripped(alloc: Global, words: &str, bytes: &[u8]) -> Result<String, Stop> {
     let sections = sections_of(alloc, words)?;
     let choice = Choice {
         names: has_word(words, "names"),
+        malformed: has_word(words, "malformed"),
         debug: has_word(words, "debug"),
         stale: has_word(words, "stale"),
         all: has_word(words, "all"),

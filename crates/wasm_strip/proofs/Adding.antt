@@ -1,5 +1,5 @@
 -- Sections that are added, one behind another.
-use Rattle.std.proofs.Common.{◌≡◌, ℕ, ◌+◌, ◌-◌, List, [], ◌++◌, length, Bool, true, false, if◌then◌else◌, refl, sym, ap, ◌∙◌, subst, arith, append_assoc, append-nil, length-append, take, ap₂}
+use Rattle.std.proofs.Common.{◌≡◌, ℕ, ◌+◌, ◌-◌, List, [], ◌++◌, length, refl, sym, ap, ◌∙◌, subst, arith, append_assoc, append-nil, length-append, take, ap₂}
 use Rattle.std.proofs.Math.Seq.{take-append_seam}
 use Rattle.wasm_shapes.specs.Place.{Begins}
 use Rattle.wasm_leb.specs.declared.fault.Kind.{Kind}
@@ -7,14 +7,14 @@ use Rattle.wasm_shapes.specs.Tree.{Tree}
 use Rattle.wasm_shapes.specs.Module.{frame}
 use Rattle.wasm_strip.specs.declared.fault.StripFault.{StripFault}
 use Rattle.wasm_strip.specs.declared.fault.StripFault.TheVariants as fault
-use Rattle.wasm_strip.specs.Binaries.{IsSectionList, SectionList, Stands, header_of, holder, kept, sized, text_of}
+use Rattle.wasm_strip.specs.Binaries.{IsSectionList, Leaves, Removed, SectionList, Stands, header_of, holder, sized, text_of}
 use Rattle.wasm_strip.specs.Faults.{Fails}
 use Rattle.wasm_strip.specs.Steps.{AddsKept, FailsBefore, FailsOr}
 
 -- sections, and others behind them
 pub joined : SectionList → SectionList → SectionList
 joined SectionList.ended q = q
-joined (SectionList.custom name text p) q = SectionList.custom name text (joined p q)
+joined (SectionList.custom name contents text p) q = SectionList.custom name contents text (joined p q)
 joined (SectionList.other text p) q = SectionList.other text (joined p q)
 joined (SectionList.nested inside inner p) q = SectionList.nested inside inner (joined p q)
 
@@ -24,34 +24,36 @@ more {text = text} {rest = rest} y s = record { spells = s.spells; stands = ap (
 pub joined_are : (depth : ℕ) (kind : Kind) (p q : SectionList) (x y : List ℕ) → IsSectionList depth kind x p → IsSectionList depth kind y q → IsSectionList depth kind (x ++ y) (joined p q)
 unfolding joined
 joined_are depth kind SectionList.ended q x y a b = let P : List ℕ → Type 0 = λ z. IsSectionList depth kind z q in subst P (sym (ap (λ (z : List ℕ). z ++ y) a)) b
-joined_are depth kind (SectionList.custom name text p) q x y a b = (a.0, a.1 ++ y, more y a.2, joined_are depth kind p q a.1 y a.3 b)
+joined_are depth kind (SectionList.custom name contents text p) q x y a b = (a.0 ++ y, more y a.1, joined_are depth kind p q a.0 y a.2 b)
 joined_are depth kind (SectionList.other text p) q x y a b = (a.0, a.1, a.2 ++ y, more y a.3, a.4, joined_are depth kind p q a.2 y a.5 b)
 joined_are depth kind (SectionList.nested inside inner p) q x y a b = (a.0, a.1, a.2, a.3, a.4 ++ y, more y a.5, a.6, a.7, a.8, joined_are depth kind p q a.4 y a.9 b)
 
-pub joined_text : (removed : List ℕ → Bool) (p q : SectionList) → text_of (kept removed (joined p q)) ≡ text_of (kept removed p) ++ text_of (kept removed q)
+pub joined_leaves : {removed : Removed} {kind : Kind} {p q r s : SectionList} → Leaves removed kind p q → Leaves removed kind r s → Leaves removed kind (joined p r) (joined q s)
 unfolding joined
-joined_text removed SectionList.ended q = refl
-joined_text removed (SectionList.custom name text p) q = go (joined_text removed p q) (removed name)
-  where
-    go : text_of (kept removed (joined p q)) ≡ text_of (kept removed p) ++ text_of (kept removed q) → (b : Bool) → text_of (if b then kept removed (joined p q) else SectionList.custom name text (kept removed (joined p q)))
-        ≡ text_of (if b then kept removed p else SectionList.custom name text (kept removed p)) ++ text_of (kept removed q)
-    go again true = again
-    go again false = ap (λ (z : List ℕ). text ++ z) again ∙ sym (append_assoc text (text_of (kept removed p)) (text_of (kept removed q)))
-joined_text removed (SectionList.other text p) q =
-    ap (λ (z : List ℕ). text ++ z) (joined_text removed p q) ∙ sym (append_assoc text (text_of (kept removed p)) (text_of (kept removed q)))
-joined_text removed (SectionList.nested inside inner p) q =
-    let first = sized (holder inside) (header_of inside ++ text_of (kept removed inner)) in
-    ap (λ (z : List ℕ). first ++ z) (joined_text removed p q) ∙ sym (append_assoc first (text_of (kept removed p)) (text_of (kept removed q)))
+joined_leaves Leaves.nothing k = k
+joined_leaves (Leaves.goes gone j) k = Leaves.goes gone (joined_leaves j k)
+joined_leaves (Leaves.stays stays j) k = Leaves.stays stays (joined_leaves j k)
+joined_leaves (Leaves.unnamed j) k = Leaves.unnamed (joined_leaves j k)
+joined_leaves (Leaves.around i j) k = Leaves.around i (joined_leaves j k)
+
+pub joined_text : (p q : SectionList) → text_of (joined p q) ≡ text_of p ++ text_of q
+unfolding joined
+joined_text SectionList.ended q = refl
+joined_text (SectionList.custom name contents text p) q = ap (λ (z : List ℕ). text ++ z) (joined_text p q) ∙ sym (append_assoc text (text_of p) (text_of q))
+joined_text (SectionList.other text p) q = ap (λ (z : List ℕ). text ++ z) (joined_text p q) ∙ sym (append_assoc text (text_of p) (text_of q))
+joined_text (SectionList.nested inside inner p) q =
+    let first = sized (holder inside) (header_of inside ++ text_of inner) in
+    ap (λ (z : List ℕ). first ++ z) (joined_text p q) ∙ sym (append_assoc first (text_of p) (text_of q))
 
 -- so far these sections were read, and what stays of them was added
-pub record AddedSoFar (removed : List ℕ → Bool) (depth : ℕ) (kind : Kind) (bytes rest old out : List ℕ) : Type 0 where
+pub record AddedSoFar (removed : Removed) (depth : ℕ) (kind : Kind) (bytes rest old out : List ℕ) : Type 0 where
   pub done : List ℕ
   pub cut : bytes ≡ done ++ rest
   pub adds : AddsKept removed depth kind done old out
 
-module _ (removed : List ℕ → Bool) (depth : ℕ) (kind : Kind) where
+module _ (removed : Removed) (depth : ℕ) (kind : Kind) where
   pub added_begin : (bytes old : List ℕ) → AddedSoFar removed depth kind bytes bytes old old
-  added_begin bytes old = record { done = []; cut = refl; adds = record { parts = SectionList.ended; are = refl; added = sym (append-nil old) } }
+  added_begin bytes old = record { done = []; cut = refl; adds = record { parts = SectionList.ended; left = SectionList.ended; are = refl; leaves = Leaves.nothing; added = sym (append-nil old) } }
 
   pub added_more : {bytes rest text left old out new : List ℕ} → AddedSoFar removed depth kind bytes rest old out → rest ≡ text ++ left → AddsKept removed depth kind text out new →
       AddedSoFar removed depth kind bytes left old new
@@ -60,10 +62,12 @@ module _ (removed : List ℕ → Bool) (depth : ℕ) (kind : Kind) where
     cut = s.cut ∙ ap (λ (z : List ℕ). s.done ++ z) e ∙ sym (append_assoc s.done text left);
     adds = record {
       parts = joined s.adds.parts a.parts;
+      left = joined s.adds.left a.left;
       are = joined_are depth kind s.adds.parts a.parts s.done text s.adds.are a.are;
-      added = a.added ∙ ap (λ (z : List ℕ). z ++ text_of (kept removed a.parts)) s.adds.added
-          ∙ append_assoc old (text_of (kept removed s.adds.parts)) (text_of (kept removed a.parts))
-          ∙ ap (λ (z : List ℕ). old ++ z) (sym (joined_text removed s.adds.parts a.parts));
+      leaves = joined_leaves s.adds.leaves a.leaves;
+      added = a.added ∙ ap (λ (z : List ℕ). z ++ text_of a.left) s.adds.added
+          ∙ append_assoc old (text_of s.adds.left) (text_of a.left)
+          ∙ ap (λ (z : List ℕ). old ++ z) (sym (joined_text s.adds.left a.left));
     };
   }
 

@@ -5,7 +5,7 @@ use Rattle.wasm_leb.specs.declared.fault.Kind.{Kind}
 use Rattle.wasm_shapes.specs.Spells.{Spells, Spelled}
 use Rattle.wasm_shapes.specs.Tree.{Tree}
 use Rattle.wasm_shapes.specs.Module.{frame, numbered_frame}
-use Rattle.wasm_strip.specs.Binaries.{IsSectionList, SectionList, Stands, header_of, holder, kept, sized, text_of}
+use Rattle.wasm_strip.specs.Binaries.{IsSectionList, Leaves, Removed, SectionList, Stands, header_of, holder, sized, text_of}
 
 -- the shortest spelling of a number is no longer than any spelling of it, or of a greater one
 leb_short : (most m n : ℕ) (x : List ℕ) → IsLeb 128 x n → m ≤ n → length (shortest most 128 m) ≤ length x
@@ -64,26 +64,27 @@ front_length {text = text} {rest = rest} s = ap length s.stands ∙ length-appen
 both_short : (x y a b : List ℕ) → length x ≤ length a → length y ≤ length b → length (x ++ y) ≤ length a + length b
 both_short x y a b h i = let e = length-append x y in omega (arith, e, h, i)
 
-pub kept_short : (removed : List ℕ → Bool) (depth : ℕ) (kind : Kind) (p : SectionList) (x : List ℕ) → IsSectionList depth kind x p → length (text_of (kept removed p)) ≤ length x
-kept_short removed depth kind SectionList.ended x a = omega arith
-kept_short removed depth kind (SectionList.custom name text p) x a =
-    go a.1 (front_length a.2) (kept_short removed depth kind p a.1 a.3) (removed name)
-  where
-    go : (rest : List ℕ) → length x ≡ length text + length rest → length (text_of (kept removed p)) ≤ length rest → (b : Bool) →
-        length (text_of (if b then kept removed p else SectionList.custom name text (kept removed p))) ≤ length x
-    go rest e h true = omega (arith, e, h)
-    go rest e h false = let both = both_short text (text_of (kept removed p)) text rest (omega arith) h in omega (arith, e, both)
-kept_short removed depth kind (SectionList.other text p) x a =
-    let e = front_length a.3 in
-    let both = both_short text (text_of (kept removed p)) text a.2 (omega arith) (kept_short removed depth kind p a.2 a.5) in
+pub kept_short : (removed : Removed) (depth : ℕ) (kind : Kind) {p q : SectionList} (x : List ℕ) → IsSectionList depth kind x p → Leaves removed kind p q → length (text_of q) ≤ length x
+kept_short removed depth kind x a Leaves.nothing = omega arith
+kept_short removed depth kind x a (Leaves.goes gone k) =
+    let e = front_length a.1 in
+    let others = kept_short removed depth kind a.0 a.2 k in
+    omega (arith, e, others)
+kept_short removed depth kind x a (Leaves.stays {text = text} {left = q} stays k) =
+    let e = front_length a.1 in
+    let both = both_short text (text_of q) text a.0 (omega arith) (kept_short removed depth kind a.0 a.2 k) in
     omega (arith, e, both)
-kept_short removed depth kind (SectionList.nested inside inner p) x a =
+kept_short removed depth kind x a (Leaves.unnamed {text = text} {left = q} k) =
+    let e = front_length a.3 in
+    let both = both_short text (text_of q) text a.2 (omega arith) (kept_short removed depth kind a.2 a.5 k) in
+    omega (arith, e, both)
+kept_short removed depth kind x a (Leaves.around {inside = inside} {within = within} {left = q} j k) =
     let e = front_length a.5 in
-    let within = kept_short removed a.1 inside inner a.3 a.8 in
-    let bodies : length (header_of inside ++ text_of (kept removed inner)) ≤ length (header_of inside ++ a.3) =
-    let l = length-append (header_of inside) (text_of (kept removed inner)) in
+    let shorter = kept_short removed a.1 inside a.3 a.8 j in
+    let bodies : length (header_of inside ++ text_of within) ≤ length (header_of inside ++ a.3) =
+    let l = length-append (header_of inside) (text_of within) in
     let m = length-append (header_of inside) a.3 in
-    omega (arith, l, m, within) in
-    let first = sized_short (holder inside) (header_of inside ++ text_of (kept removed inner)) a.5.spells bodies in
-    let both = both_short (sized (holder inside) (header_of inside ++ text_of (kept removed inner))) (text_of (kept removed p)) a.2 a.4 first (kept_short removed depth kind p a.4 a.9) in
+    omega (arith, l, m, shorter) in
+    let first = sized_short (holder inside) (header_of inside ++ text_of within) a.5.spells bodies in
+    let both = both_short (sized (holder inside) (header_of inside ++ text_of within)) (text_of q) a.2 a.4 first (kept_short removed depth kind a.4 a.9 k) in
     omega (arith, e, both)

@@ -10,7 +10,7 @@ use Rattle.wasm_shapes.specs.Tree.{Tree}
 use Rattle.wasm_shapes.specs.Module.{custom_frame, frame, numbered_frame}
 use Rattle.wasm_strip.specs.declared.fault.StripFault.{StripFault}
 use Rattle.wasm_strip.specs.declared.fault.StripFault.TheVariants as fault
-use Rattle.wasm_strip.specs.Binaries.{SectionList, Stands, header_of, held, holder, kept, sized, text_of}
+use Rattle.wasm_strip.specs.Binaries.{Leaves, Removed, SectionList, Stands, header_of, held, holder, sized, text_of}
 use Rattle.wasm_strip.specs.Faults.{Fails, LacksHeader}
 use Rattle.wasm_strip.specs.Steps.{AddsKept, FailsBefore, FailsOr}
 use Rattle.wasm_strip.proofs.Lengths.{is_sized, kept_short, sized_length}
@@ -19,29 +19,35 @@ alone : {text : List ℕ} {t : Tree} → Spells frame text t → Stands text tex
 alone {text = text} p = record { spells = p; stands = sym (append-nil text) }
 
 -- a custom section that is removed
-pub custom_goes : {removed : List ℕ → Bool} {depth : ℕ} {kind : Kind} {name contents text old : List ℕ} → Spells frame text (custom_frame name contents) → removed name ≡ true →
+pub custom_goes : {removed : Removed} {depth : ℕ} {kind : Kind} {name contents text old : List ℕ} → Spells frame text (custom_frame name contents) → removed kind name contents →
     AddsKept removed depth kind text old old
-custom_goes {removed = removed} {name = name} {contents = contents} {text = text} {old = old} p e = record {
-  parts = SectionList.custom name text SectionList.ended;
-  are = (contents, [], alone p, refl);
-  added = rw e (sym (append-nil old));
+custom_goes {name = name} {contents = contents} {text = text} {old = old} p gone = record {
+  parts = SectionList.custom name contents text SectionList.ended;
+  left = SectionList.ended;
+  are = ([], alone p, refl);
+  leaves = Leaves.goes gone Leaves.nothing;
+  added = sym (append-nil old);
 }
 
 -- one that stays
-pub custom_stays : {removed : List ℕ → Bool} {depth : ℕ} {kind : Kind} {name contents text old new : List ℕ} → Spells frame text (custom_frame name contents) → removed name ≡ false →
+pub custom_stays : {removed : Removed} {depth : ℕ} {kind : Kind} {name contents text old new : List ℕ} → Spells frame text (custom_frame name contents) → ¬ removed kind name contents →
     new ≡ old ++ text → AddsKept removed depth kind text old new
-custom_stays {removed = removed} {name = name} {contents = contents} {text = text} {old = old} p e added = record {
-  parts = SectionList.custom name text SectionList.ended;
-  are = (contents, [], alone p, refl);
-  added = rw e (added ∙ ap (λ (z : List ℕ). old ++ z) (sym (append-nil text)));
+custom_stays {name = name} {contents = contents} {text = text} {old = old} p stays added = record {
+  parts = SectionList.custom name contents text SectionList.ended;
+  left = SectionList.custom name contents text SectionList.ended;
+  are = ([], alone p, refl);
+  leaves = Leaves.stays stays Leaves.nothing;
+  added = added ∙ ap (λ (z : List ℕ). old ++ z) (sym (append-nil text));
 }
 
 -- one of another id that holds no binary
-pub other_stays : {removed : List ℕ → Bool} {depth id : ℕ} {kind : Kind} {body text old new : List ℕ} → Spells frame text (numbered_frame id body) → None ≡ held kind id →
+pub other_stays : {removed : Removed} {depth id : ℕ} {kind : Kind} {body text old new : List ℕ} → Spells frame text (numbered_frame id body) → None ≡ held kind id →
     new ≡ old ++ text → AddsKept removed depth kind text old new
 other_stays {id = id} {body = body} {text = text} {old = old} p e added = record {
   parts = SectionList.other text SectionList.ended;
+  left = SectionList.other text SectionList.ended;
   are = (id, body, [], alone p, sym e, refl);
+  leaves = Leaves.unnamed Leaves.nothing;
   added = added ∙ ap (λ (z : List ℕ). old ++ z) (sym (append-nil text));
 }
 
@@ -59,24 +65,26 @@ holds kind.Component inside id e = first (nat_eq id 1) refl e
     first false t h = second (nat_eq id 4) refl h
 
 -- one that holds a binary
-pub nested_stays : {removed : List ℕ → Bool} {depth below id : ℕ} {kind inside : Kind} {whole body text old inner new : List ℕ} → Spells frame text (numbered_frame id whole) → whole ≡ header_of inside ++ body →
+pub nested_stays : {removed : Removed} {depth below id : ℕ} {kind inside : Kind} {whole body text old inner new : List ℕ} → Spells frame text (numbered_frame id whole) → whole ≡ header_of inside ++ body →
     Some inside ≡ held kind id → depth ≡ suc below → AddsKept removed below inside body (header_of inside) inner → new ≡ old ++ sized id inner → AddsKept removed depth kind text old new
-nested_stays {removed = removed} {depth = depth} {below = below} {id = id} {kind = kind} {inside = inside} {body = body} {text = text} {old = old} p w e d a added =
+nested_stays {depth = depth} {below = below} {id = id} {kind = kind} {inside = inside} {body = body} {text = text} {old = old} p w e d a added =
     let S : List ℕ → Type 0 = λ z. Spells frame text (numbered_frame id z) in record {
       parts = SectionList.nested inside a.parts SectionList.ended;
+      left = SectionList.nested inside a.left SectionList.ended;
       are = (id, below, text, body, [], alone (subst S w p), sym e, d, a.are, refl);
+      leaves = Leaves.around a.leaves Leaves.nothing;
       added = added ∙ ap (λ (z : List ℕ). old ++ sized id z) a.added
-          ∙ ap (λ (n : ℕ). old ++ sized n (header_of inside ++ text_of (kept removed a.parts))) (holds kind inside id e)
-          ∙ ap (λ (z : List ℕ). old ++ z) (sym (append-nil (sized (holder inside) (header_of inside ++ text_of (kept removed a.parts)))));
+          ∙ ap (λ (n : ℕ). old ++ sized n (header_of inside ++ text_of a.left)) (holds kind inside id e)
+          ∙ ap (λ (z : List ℕ). old ++ z) (sym (append-nil (sized (holder inside) (header_of inside ++ text_of a.left))));
     }
 
 -- what is left of it is short enough for a size
-pub nested_fits : {removed : List ℕ → Bool} {below id : ℕ} {inside : Kind} {whole body text inner : List ℕ} → Spells frame text (numbered_frame id whole) → whole ≡ header_of inside ++ body →
+pub nested_fits : {removed : Removed} {below id : ℕ} {inside : Kind} {whole body text inner : List ℕ} → Spells frame text (numbered_frame id whole) → whole ≡ header_of inside ++ body →
     AddsKept removed below inside body (header_of inside) inner → length inner < 2 ^ 32
 nested_fits {removed = removed} {below = below} {inside = inside} {body = body} p w a =
     let few = (is_sized p).counted.fits in
-    let short = kept_short removed below inside a.parts body a.are in
-    let l = ap length a.added ∙ length-append (header_of inside) (text_of (kept removed a.parts)) in
+    let short = kept_short removed below inside body a.are a.leaves in
+    let l = ap length a.added ∙ length-append (header_of inside) (text_of a.left) in
     let m = ap length w ∙ length-append (header_of inside) body in
     omega (arith, few, short, l, m)
 
@@ -129,6 +137,10 @@ none_begins some none = Fails.unread some none
 pub some_left : {rest : List ℕ} → nat_eq (length rest) 0 ≡ false → rest ≢ []
 some_left {rest = []} e h = absurd (let never : true ≡ false = e in cc)
 some_left {rest = b ∷ rest} e h = absurd cc
+
+pub none_left : {rest : List ℕ} → nat_eq (length rest) 0 ≡ true → rest ≡ []
+none_left {rest = []} e = refl
+none_left {rest = b ∷ rest} e = absurd (let never = eqb-true (length (b ∷ rest)) 0 e in omega (arith, never))
 
 -- each header has eight bytes
 pub eight : (k : Kind) → 8 ≡ length (header_of k)

@@ -1,5 +1,5 @@
 -- Where sections have a fault, the bytes are no sections.
-use Rattle.std.proofs.Common.{◌≡◌, ◌≢◌, ◌⊎◌, inl, inr, ℕ, suc, ◌≤◌, List, [], ◌∷◌, ◌++◌, length, Bool, Some, None, refl, sym, ap, ◌∙◌, subst, arith, append_assoc, length-append}
+use Rattle.std.proofs.Common.{◌≡◌, ◌≢◌, ◌⊎◌, inl, inr, ℕ, suc, ◌≤◌, List, [], ◌∷◌, ◌++◌, length, Some, None, refl, sym, ap, ◌∙◌, subst, arith, append_assoc, length-append}
 use Rattle.std.proofs.lemmas.List.{append_cancel_left}
 use Rattle.wasm_leb.specs.declared.fault.Kind.{Kind}
 use Rattle.wasm_leb.specs.declared.fault.Kind.TheVariants as kind
@@ -10,7 +10,7 @@ use Rattle.wasm_shapes.proofs.Laws.{shapes_unique}
 use Rattle.wasm_shapes.proofs.Lists.{no_bytes}
 use Rattle.wasm_strip.specs.declared.fault.StripFault.{StripFault}
 use Rattle.wasm_strip.specs.declared.fault.StripFault.TheVariants as fault
-use Rattle.wasm_strip.specs.Binaries.{IsSectionList, IsBinary, IsStripped, SectionList, Stands, deepest, header_of, held, kept, text_of}
+use Rattle.wasm_strip.specs.Binaries.{IsSectionList, IsBinary, IsStripped, SectionList, Stands, deepest, Removed, header_of, held, text_of}
 use Rattle.wasm_strip.specs.Faults.{Fails, FailsWhole, HasNone, IsWhy}
 use Rattle.wasm_strip.proofs.Lengths.{kept_short}
 
@@ -41,7 +41,7 @@ record First (depth : ℕ) (kind : Kind) (bytes : List ℕ) : Type 0 where
 
 first_of_parts : (depth : ℕ) (kind : Kind) (bytes : List ℕ) (p : SectionList) → IsSectionList depth kind bytes p → (bytes ≡ []) ⊎ First depth kind bytes
 first_of_parts depth kind bytes SectionList.ended a = inl a
-first_of_parts depth kind bytes (SectionList.custom name text p) a = inr (record { text = text; tree = custom_frame name a.0; rest = a.1; others = p; stands = a.2; are = a.3 })
+first_of_parts depth kind bytes (SectionList.custom name contents text p) a = inr (record { text = text; tree = custom_frame name contents; rest = a.0; others = p; stands = a.1; are = a.2 })
 first_of_parts depth kind bytes (SectionList.other text p) a = inr (record { text = text; tree = numbered_frame a.0 a.1; rest = a.2; others = p; stands = a.3; are = a.5 })
 first_of_parts depth kind bytes (SectionList.nested inside inner p) a =
     inr (record { text = a.2; tree = numbered_frame a.0 (header_of inside ++ a.3); rest = a.4; others = p; stands = a.5; are = a.9 })
@@ -59,7 +59,7 @@ behind_one depth kind {x = x} {text = text} {rest = rest} {t = t} y s q a = go (
 
 left_parts : (depth other : ℕ) (kind : Kind) (p q : SectionList) (x y : List ℕ) → IsSectionList other kind x p → IsSectionList depth kind (x ++ y) q → (r : SectionList) × IsSectionList depth kind y r
 left_parts depth other kind SectionList.ended q x y a b = let P : List ℕ → Type 0 = λ z. IsSectionList depth kind (z ++ y) q in (q, subst P a b)
-left_parts depth other kind (SectionList.custom name text p) q x y a b = let r = behind_one depth kind y a.2 q b in left_parts depth other kind p r.0 a.1 y a.3 r.1
+left_parts depth other kind (SectionList.custom name contents text p) q x y a b = let r = behind_one depth kind y a.1 q b in left_parts depth other kind p r.0 a.0 y a.2 r.1
 left_parts depth other kind (SectionList.other text p) q x y a b = let r = behind_one depth kind y a.3 q b in left_parts depth other kind p r.0 a.2 y a.5 r.1
 left_parts depth other kind (SectionList.nested inside inner p) q x y a b = let r = behind_one depth kind y a.5 q b in left_parts depth other kind p r.0 a.4 y a.9 r.1
 
@@ -78,8 +78,8 @@ same_number e = (cc, cc)
 held_parts : (depth : ℕ) (kind : Kind) {id : ℕ} {inside : Kind} {bytes text whole rest : List ℕ} → Stands bytes text (numbered_frame id whole) rest → held kind id ≡ Some inside → (q : SectionList) →
     IsSectionList depth kind bytes q → Holds depth inside whole
 held_parts depth kind {rest = rest} s h SectionList.ended a = absurd (not_empty _ s.spells (sym s.stands ∙ a))
-held_parts depth kind {id = id} {whole = whole} s h (SectionList.custom name text p) a =
-    absurd (let apart : numbered_frame id whole ≡ custom_frame name a.0 = (same_front s a.2).0 in cc)
+held_parts depth kind {id = id} {whole = whole} s h (SectionList.custom name contents text p) a =
+    absurd (let apart : numbered_frame id whole ≡ custom_frame name contents = (same_front s a.1).0 in cc)
 held_parts depth kind {inside = inside} s h (SectionList.other text p) a =
     let same = same_number (same_front s a.3).0 in
     absurd (let apart : Some inside ≡ None = sym h ∙ ap (held kind) same.0 ∙ a.4 in cc)
@@ -146,9 +146,9 @@ none_where bytes (fault.TooDeep at) w = λ kind parts. no_binary (fault.TooDeep 
 none_where bytes fault.NoMemory w = tt
 
 -- what is stripped is no longer
-pub stripped_short : {removed : List ℕ → Bool} {bytes output : List ℕ} → IsStripped removed bytes output → length output ≤ length bytes
+pub stripped_short : {removed : Removed} {bytes output : List ℕ} → IsStripped removed bytes output → length output ≤ length bytes
 stripped_short {removed = removed} s =
-    let short = kept_short removed deepest s.kind s.parts s.reads.rest s.reads.are in
-    let l = ap length s.spelled ∙ length-append (header_of s.kind) (text_of (kept removed s.parts)) in
+    let short = kept_short removed deepest s.kind s.reads.rest s.reads.are s.leaves in
+    let l = ap length s.spelled ∙ length-append (header_of s.kind) (text_of s.left) in
     let m = ap length s.reads.stands ∙ length-append (header_of s.kind) s.reads.rest in
     omega (arith, short, l, m)

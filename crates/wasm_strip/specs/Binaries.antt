@@ -1,5 +1,5 @@
 -- What a binary is made of, section by section, and what is left of it without some custom sections.
-use Rattle.std.specs.Prelude.{◌≡◌, ℕ, suc, List, [], ◌∷◌, ◌++◌, length, Bool, if◌then◌else◌, Option, Some, None, ◌==◌}
+use Rattle.std.specs.Prelude.{◌≡◌, ℕ, suc, List, [], ◌∷◌, ◌++◌, length, if◌then◌else◌, Option, Some, None, ◌==◌}
 use Rattle.wasm_leb.specs.Leb.{leb}
 use Rattle.wasm_leb.specs.declared.fault.Kind.{Kind}
 use Rattle.wasm_leb.specs.declared.fault.Kind.TheVariants as kind
@@ -11,8 +11,8 @@ use Rattle.wasm_shapes.specs.Module.{component_header, core_header, custom_frame
 pub data SectionList : Type 0 where
   -- no more sections
   ended : SectionList
-  -- a custom section: its name, its text, and the sections behind it
-  custom : (name text : List ℕ) → (more : SectionList) → SectionList
+  -- a custom section: its name, its contents behind that, its text, and the sections behind it
+  custom : (name contents text : List ℕ) → (more : SectionList) → SectionList
   -- a section of another id, which holds no binary: its text, and the sections behind it
   other : (text : List ℕ) → (more : SectionList) → SectionList
   -- in a component a section that holds a binary: the kind of that, its sections, and the sections behind it
@@ -41,8 +41,8 @@ pub record Stands (bytes text : List ℕ) (section : Tree) (rest : List ℕ) : T
 -- The bytes are these sections of a binary of a kind, in which binaries stand at most so deep within each other.
 abbrev pub IsSectionList : ℕ → Kind → List ℕ → SectionList → Type 0
 IsSectionList depth kind bytes ended = bytes ≡ []
-IsSectionList depth kind bytes (custom name text more) =
-    (contents rest : List ℕ) × Stands bytes text (custom_frame name contents) rest × IsSectionList depth kind rest more
+IsSectionList depth kind bytes (custom name contents text more) =
+    (rest : List ℕ) × Stands bytes text (custom_frame name contents) rest × IsSectionList depth kind rest more
 IsSectionList depth kind bytes (other text more) =
     (id : ℕ) × (body rest : List ℕ) × Stands bytes text (numbered_frame id body) rest × (held kind id ≡ None) × IsSectionList depth kind rest more
 IsSectionList depth kind bytes (nested inside inner more) =
@@ -56,16 +56,24 @@ sized id body = id ∷ (leb (length body) ++ body)
 -- How sections are spelled: each as its text stands, and around a nested binary the shortest size.
 abbrev pub text_of : SectionList → List ℕ
 text_of ended = []
-text_of (custom name text more) = text ++ text_of more
+text_of (custom name contents text more) = text ++ text_of more
 text_of (other text more) = text ++ text_of more
 text_of (nested inside inner more) = sized (holder inside) (header_of inside ++ text_of inner) ++ text_of more
 
--- The sections without the custom ones whose name is removed, here and in what is nested. All others stay, in order.
-abbrev pub kept : (List ℕ → Bool) → SectionList → SectionList
-kept removed ended = ended
-kept removed (custom name text more) = if removed name then kept removed more else custom name text (kept removed more)
-kept removed (other text more) = other text (kept removed more)
-kept removed (nested inside inner more) = nested inside (kept removed inner) (kept removed more)
+-- which custom sections are removed, by the kind of the binary that they stand in, their name and their contents
+abbrev pub Removed : Type 1
+Removed = Kind → List ℕ → List ℕ → Type 0
+
+-- The second sections are the first, those of a binary of a kind, without the custom ones that are removed, here and in what is
+-- nested. All others stay, in order.
+pub data Leaves (removed : Removed) : Kind → SectionList → SectionList → Type 0 where
+  nothing : {kind : Kind} → Leaves removed kind ended ended
+  goes : {kind : Kind} {name contents text : List ℕ} {more left : SectionList} → removed kind name contents → Leaves removed kind more left → Leaves removed kind (custom name contents text more) left
+  stays : {kind : Kind} {name contents text : List ℕ} {more left : SectionList} → ¬ removed kind name contents → Leaves removed kind more left →
+      Leaves removed kind (custom name contents text more) (custom name contents text left)
+  unnamed : {kind : Kind} {text : List ℕ} {more left : SectionList} → Leaves removed kind more left → Leaves removed kind (other text more) (other text left)
+  around : {kind inside : Kind} {inner within more left : SectionList} → Leaves removed inside inner within → Leaves removed kind more left →
+      Leaves removed kind (nested inside inner more) (nested inside within left)
 
 -- how deep binaries may stand within each other, below the outermost
 abbrev pub deepest : ℕ
@@ -77,9 +85,11 @@ pub record IsBinary (depth : ℕ) (bytes : List ℕ) (kind : Kind) (parts : Sect
   pub stands : bytes ≡ header_of kind ++ rest
   pub are : IsSectionList depth kind rest parts
 
--- The output is the input without the custom sections whose name is removed.
-pub record IsStripped (removed : List ℕ → Bool) (bytes output : List ℕ) : Type 0 where
+-- The output is the input without the custom sections that are removed.
+pub record IsStripped (removed : Removed) (bytes output : List ℕ) : Type 0 where
   pub kind : Kind
   pub parts : SectionList
+  pub left : SectionList
   pub reads : IsBinary deepest bytes kind parts
-  pub spelled : output ≡ header_of kind ++ text_of (kept removed parts)
+  pub leaves : Leaves removed kind parts left
+  pub spelled : output ≡ header_of kind ++ text_of left

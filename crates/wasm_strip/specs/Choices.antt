@@ -1,7 +1,12 @@
--- Which custom sections a choice removes, by their names.
-use Rattle.std.specs.Prelude.{ℕ, List, [], ◌∷◌, Bool, true, false, not, ◌&&◌, ◌||◌, bytes_eq, codes, length, take}
+-- Which custom sections a choice removes.
+use Rattle.std.specs.Prelude.{◌≡◌, ◌⊎◌, ℕ, List, [], ◌∷◌, Bool, true, false, not, ◌&&◌, ◌||◌, bytes_eq, codes, length, take}
 use Rattle.std.specs.Borrow.{Bor}
 use Rattle.std.specs.List.{list_any}
+use Rattle.wasm_leb.specs.declared.fault.Kind.{Kind}
+use Rattle.wasm_leb.specs.declared.fault.Kind.TheVariants as kind
+use Rattle.wasm_shapes.specs.Tree.{Tree}
+use Rattle.wasm_shapes.specs.Spells.{Spells}
+use Rattle.wasm_shapes.specs.Module.{names, names_name}
 
 -- the name begins with this text
 abbrev pub begins : List ℕ → List ℕ → Bool
@@ -32,8 +37,22 @@ abbrev pub is_empty : List (Bor (List ℕ)) → Bool
 is_empty [] = true
 is_empty (_ ∷ _) = false
 
--- What is removed by what is chosen: names, debug, stale, all, and single names. Where nothing is, all but what stays by default.
-abbrev pub removed_by : Bool → Bool → Bool → Bool → List (Bor (List ℕ)) → List ℕ → Bool
-removed_by names debug stale all sections name =
+-- What is removed by its name: names, debug, stale, all, and single names, as they are chosen. Where nothing is, not even malformed
+-- names, all but what stays by default.
+abbrev pub removed_by : Bool → Bool → Bool → Bool → Bool → List (Bor (List ℕ)) → List ℕ → Bool
+removed_by names malformed debug stale all sections name =
     all || (names && is_names name) || (debug && is_debug name) || (stale && is_stale name) || is_one_of sections name
-    || (not all && not names && not debug && not stale && is_empty sections && not (stays_by_default name))
+    || (not all && not names && not malformed && not debug && not stale && is_empty sections && not (stays_by_default name))
+
+-- the bytes are the contents of a name section
+abbrev pub AreNames : List ℕ → Type 0
+AreNames contents = (t : Tree) × Spells names contents t
+
+-- in a core module such a section is a name section, and its contents are none
+abbrev pub IsMalformed : Kind → List ℕ → List ℕ → Type 0
+IsMalformed in_kind name contents = (in_kind ≡ kind.Module) × (name ≡ names_name) × ¬ AreNames contents
+
+-- What is removed: by its name, or, where malformed names are chosen, as such.
+abbrev pub RemovedBy : Bool → Bool → Bool → Bool → Bool → List (Bor (List ℕ)) → Kind → List ℕ → List ℕ → Type 0
+RemovedBy names malformed debug stale all sections in_kind name contents =
+    (removed_by names malformed debug stale all sections name ≡ true) ⊎ ((malformed ≡ true) × IsMalformed in_kind name contents)

@@ -1,14 +1,19 @@
 //! A rule to choose from.
 ghost use Rattle.std.specs.Prelude.{◌≡◌};
-ghost use Rattle.wasm_strip.specs.Choices.{begins, is_debug, is_names, is_one_of, is_stale, removed_by, stays_by_default};
+ghost use Rattle.std.specs.Bool.{Decides};
+ghost use Rattle.wasm_strip.specs.Choices.{IsMalformed, begins, is_debug, is_names, is_one_of, is_stale, stays_by_default};
 
-use crate::rule::NameRule;
+use crate::names::are_names;
+use crate::rule::StripRule;
+use wasm_leb::Kind;
 
 /// What is removed. Where nothing is chosen all custom sections are, but names, `component-type:*` and `dylink.0`.
 #[derive(Clone, Copy, Debug)]
 pub struct Choice<'a> {
     /// The sections `name` and `component-name`.
     pub names: bool,
+    /// The sections `name` of core modules whose contents have no reading.
+    pub malformed: bool,
     /// What a debugger reads: `.debug_*`, `sourceMappingURL`, `external_debug_info`.
     pub debug: bool,
     /// What tells places in code: `reloc.*`, `.debug_*`, `metadata.code.*`, `sourceMappingURL`.
@@ -19,12 +24,38 @@ pub struct Choice<'a> {
     pub sections: &'a [&'a str],
 }
 
-impl<'a> NameRule for Choice<'a> {
-    ghost use Rattle.wasm_strip.specs.Choices.{removed_by};
+impl<'a> StripRule for Choice<'a> {
+    ghost use Rattle.wasm_strip.specs.Choices.{RemovedBy};
 
-    ghost removed = { λ c name. removed_by c.names c.debug c.stale c.all c.sections.now name };
+    ghost removed = { λ c. RemovedBy c.names c.malformed c.debug c.stale c.all c.sections.now };
 
-    fn removes(&self, name: &str) -> bool {
+    fn removes(&self, kind: Kind, name: &str, contents: &[u8]) -> bool {
+        self.removes_by_name(name) || self.malformed && is_malformed(kind, name, contents)
+    }
+}
+
+impl<'a> Choice<'a> {
+    ghost use Rattle.std.specs.Prelude.{◌≡◌, not, ◌&&◌};
+    ghost use Rattle.wasm_strip.specs.Choices.{is_empty, removed_by};
+
+    /// Whether nothing is chosen.
+    fn is_default(&self) -> bool
+        ensures { result ≡ (not self.now.all && not self.now.names && not self.now.malformed && not self.now.debug
+            && not self.now.stale && is_empty self.now.sections.now) }
+    {
+        !self.all
+            && !self.names
+            && !self.malformed
+            && !self.debug
+            && !self.stale
+            && self.sections.is_empty()
+    }
+
+    /// Whether sections of this name are removed whatever they hold.
+    pub fn removes_by_name(&self, name: &str) -> bool
+        ensures { result ≡ removed_by self.now.names self.now.malformed self.now.debug self.now.stale self.now.all
+            self.now.sections.now name.now }
+    {
         self.all
             || self.names && is_names(name)
             || self.debug && is_debug(name)
@@ -34,16 +65,13 @@ impl<'a> NameRule for Choice<'a> {
     }
 }
 
-impl<'a> Choice<'a> {
-    ghost use Rattle.std.specs.Prelude.{◌≡◌, not, ◌&&◌};
-    ghost use Rattle.wasm_strip.specs.Choices.{is_empty};
-
-    /// Whether nothing is chosen.
-    fn is_default(&self) -> bool
-        ensures { result ≡ (not self.now.all && not self.now.names && not self.now.debug && not self.now.stale
-            && is_empty self.now.sections.now) }
-    {
-        !self.all && !self.names && !self.debug && !self.stale && self.sections.is_empty()
+/// Whether a section is a name section of a core module, and its contents have no reading.
+fn is_malformed(kind: Kind, name: &str, contents: &[u8]) -> bool
+    ensures { Decides result (IsMalformed kind name.now contents.now) }
+{
+    match kind {
+        Kind::Module => name == "name" && !are_names(contents),
+        Kind::Component => false,
     }
 }
 

@@ -4,12 +4,16 @@
 mod choice;
 mod fault;
 mod laws;
+mod names;
 mod rule;
 mod sections;
+mod sound;
 mod stripping;
 
 pub use choice::Choice;
 pub use fault::StripFault;
 pub use laws::{bytes_have_one_reading, kept_sections_read_back, stripping_settles};
-pub use rule::NameRule;
+pub use names::are_names;
+pub use rule::StripRule;
+pub use sound::without_malformed;
 pub use stripping::strip;

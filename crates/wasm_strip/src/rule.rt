@@ -1,11 +1,14 @@
 //! Which custom sections are removed.
-ghost use Rattle.std.specs.Prelude.{◌≡◌, ℕ, List, Bool};
+ghost use Rattle.std.specs.Bool.{Decides};
+ghost use Rattle.wasm_strip.specs.Binaries.{Removed};
 
-/// A rule by names: which custom sections are removed.
-pub trait NameRule {
-    ghost removed: { Self → List ℕ → Bool };
+use wasm_leb::Kind;
 
-    /// Whether the custom sections of this name are removed.
-    fn removes(&self, name: &str) -> bool
-        ensures { result ≡ removed self.now name.now };
+/// A rule: which custom sections are removed.
+pub trait StripRule {
+    ghost removed: { Self → Removed };
+
+    /// Whether a custom section of this name with these contents behind it is removed of a binary of a kind.
+    fn removes(&self, kind: Kind, name: &str, contents: &[u8]) -> bool
+        ensures { Decides result (removed self.now kind name.now contents.now) };
 }

@@ -9,7 +9,7 @@ ghost use Rattle.wasm_strip.specs.Faults.{LacksHeader};
 ghost use Rattle.wasm_strip.specs.Steps.{AddsKept, FailsBefore, FailsOr};
 
 use crate::fault::StripFault;
-use crate::rule::NameRule;
+use crate::rule::StripRule;
 use std::alloc::Global;
 use wasm_leb::{Kind, write_u32};
 use wasm_read::{Payload, front_frame};
@@ -92,7 +92,7 @@ fn held(kind: Kind, id: u8) -> Option<Kind>
 
 /// Adds the sections of a binary of a kind that stay. They begin at a place, and binaries may stand so deep within each other.
 #[cycle(sections)]
-pub(crate) fn add_sections<N: NameRule>(
+pub(crate) fn add_sections<N: StripRule>(
     alloc: Global,
     rule: &N,
     kind: Kind,
@@ -120,7 +120,7 @@ pub(crate) fn add_sections<N: NameRule>(
 
 /// Adds a section that stays: as its text stands, or where it holds a binary with what stays of that.
 #[cycle(sections)]
-fn add_section<N: NameRule>(
+fn add_section<N: StripRule>(
     alloc: Global,
     rule: &N,
     kind: Kind,
@@ -138,7 +138,7 @@ fn add_section<N: NameRule>(
 {
     match payload {
         Payload::Custom { section, .. } => {
-            if rule.removes(section.name) {
+            if rule.removes(kind, section.name, section.contents) {
                 Ok(())
             } else {
                 add_bytes(out, text)
@@ -155,7 +155,7 @@ fn add_section<N: NameRule>(
 
 /// The same of a section of another id than that of custom ones.
 #[cycle(sections)]
-fn add_numbered<N: NameRule>(
+fn add_numbered<N: StripRule>(
     alloc: Global,
     rule: &N,
     kind: Kind,

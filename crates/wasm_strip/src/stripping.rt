@@ -4,7 +4,7 @@ ghost use Rattle.wasm_strip.specs.Binaries.{IsStripped, header_of};
 ghost use Rattle.wasm_strip.specs.Faults.{HasNone, IsWhy};
 
 use crate::fault::StripFault;
-use crate::rule::NameRule;
+use crate::rule::StripRule;
 use crate::sections::{add_sections, begun, behind_header};
 use std::alloc::Global;
 use wasm_leb::Kind;
@@ -12,15 +12,15 @@ use wasm_leb::Kind;
 /// How deep binaries may stand within each other, below the outermost.
 const DEEPEST: usize = 200;
 
-/// The core module or component without the custom sections whose names the rule removes, also in the core modules and components
-/// that stand in it, however deep.
+/// The core module or component without the custom sections that the rule removes, also in the core modules and components that
+/// stand in it, however deep.
 ///
 /// All other sections stay in order, each as it is spelled; only around a nested binary the size is the one that it has then, in its
 /// shortest spelling. Nothing is read but the frames of sections, the names of custom ones and the headers of binaries.
 ///
 /// It takes memory for the output and up to twice a nested binary's bytes. A nested binary is copied once for each binary that it
 /// stands in.
-pub fn strip<N: NameRule>(alloc: Global, rule: &N, bytes: &[u8]) -> Result<Vec<u8>, StripFault>
+pub fn strip<N: StripRule>(alloc: Global, rule: &N, bytes: &[u8]) -> Result<Vec<u8>, StripFault>
     ensures ok { IfOk result (λ out. IsStripped (N.removed rule.now) bytes.now out.items) }
     ensures shorter { IfOk result (λ out. length out.items ≤ length bytes.now) }
     ensures err { IfErr result (λ e. IsWhy bytes.now e) }
@@ -36,7 +36,7 @@ pub fn strip<N: NameRule>(alloc: Global, rule: &N, bytes: &[u8]) -> Result<Vec<u
 }
 
 /// The same of a binary of a kind, whose sections are these bytes.
-fn stripped<N: NameRule>(
+fn stripped<N: StripRule>(
     alloc: Global,
     rule: &N,
     kind: Kind,

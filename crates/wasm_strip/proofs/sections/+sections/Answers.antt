@@ -1,6 +1,6 @@
 use Rattle.std.proofs.Common.{◌≡◌, ℕ, suc, ◌+◌, ◌-◌, List, ◌++◌, length, refl, sym, ap, ◌∙◌, arith}
 use Rattle.std.proofs.lemmas.Result.{err_from_is_err_and, on_ok_weaker}
-use Rattle.wasm_strip.proofs.Adding.{added_more, cut_at, fails_behind, section_fails}
+use Rattle.wasm_strip.proofs.Adding.{added_begin, added_more, cut_at, fails_behind, section_fails}
 use Rattle.wasm_strip.specs.Binaries.{sized}
 use Rattle.wasm_strip.proofs.OneSection.{eight, some_left, custom_goes, custom_stays, fails_within, nested_fits, nested_stays, no_header, none_begins, other_stays, too_deep}
 use Rattle.wasm_strip.proofs.sections.+sections.Goals as goal
@@ -39,11 +39,14 @@ add_numbered-returns-clause-ok g t c =
     (added ∙ ap (λ (z : List ℕ). c.args.out.now.items ++ sized c.args.id z) c.deref.ensures.value)) c.add_sized.ensures.ok
 
 pub add_section-returns-then-removes-clause-ok : goal.add_section-returns-then-removes-clause-ok
-add_section-returns-then-removes-clause-ok g t c = custom_goes (rw c.in-Custom.is at c.requires.framed) (sym c.if-removes.ensures)
+add_section-returns-then-removes-clause-ok g t c = custom_goes (rw c.in-Custom.is at c.requires.framed) (c.if-removes.ensures.0 refl)
 
 pub add_section-returns-else-removes-clause-ok : goal.add_section-returns-else-removes-clause-ok
 add_section-returns-else-removes-clause-ok g t c =
-    on_ok_weaker c.add_bytes.result (λ added. custom_stays (rw c.in-Custom.is at c.requires.framed) (sym c.if-removes.ensures) added) c.add_bytes.ensures.ok
+    on_ok_weaker c.add_bytes.result (λ added. custom_stays (rw c.in-Custom.is at c.requires.framed) (λ gone. let never = c.if-removes.ensures.1 gone in cc) added) c.add_bytes.ensures.ok
+
+pub add_sections-sections-init : goal.add_sections-sections-init
+add_sections-sections-init g t c = added_begin _ _ _ _ _
 
 pub add_sections-returns-in_default-clause-err : goal.add_sections-returns-in_default-clause-err
 add_sections-returns-in_default-clause-err g t c = fails_behind _ _ _ c.sections.invariant refl (none_begins (some_left (sym c.sections-test.ensures)) c.in_default.ensures.none)
