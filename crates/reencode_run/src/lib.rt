@@ -8,7 +8,7 @@ mod buffer;
 pub mod failing_memory;
 mod generate;
 pub mod hexadecimal;
-mod index;
+pub mod index;
 pub mod input;
 mod job;
 mod kept;

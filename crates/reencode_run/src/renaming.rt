@@ -41,7 +41,7 @@ const SPACES: [Space; 16] = [
 ];
 
 /// The space of a name.
-fn space_of(name: &str) -> Option<Space>
+pub fn space_of(name: &str) -> Option<Space>
     ensures { result ≡ space_of name.now }
 {
     'spaces: for i in 0..SPACES.len() {

@@ -1,46 +1,8 @@
 //! What is wrong with a JSON text that says no renaming, or no order.
+use reencode_run::index::{index_of, whole_of};
+use reencode_run::renaming::space_of;
 use serde_json::{Map, Value};
 use std::alloc::{AllocError, Global};
-use wasm_shapes::Space;
-
-/// The spaces that a renaming names.
-const SPACES: [Space; 16] = [
-    Space::Data,
-    Space::Element,
-    Space::Function,
-    Space::Global,
-    Space::Memory,
-    Space::Table,
-    Space::Tag,
-    Space::Type_,
-    Space::DataCount,
-    Space::ComponentType,
-    Space::ComponentInstance,
-    Space::ComponentFunc,
-    Space::Component,
-    Space::Module,
-    Space::Instance,
-    Space::ComponentValue,
-];
-
-/// Whether a space has this name.
-fn is_space(name: &str) -> bool {
-    SPACES.iter().any(|space| space.name() == name)
-}
-
-/// Whether a key is an old index.
-fn is_index(key: &str) -> bool {
-    let is_plain = !key.starts_with('+') && (key == "0" || !key.starts_with('0'));
-    is_plain && key.parse::<u32>().is_ok()
-}
-
-/// Whether a value is an index.
-fn is_whole(value: &Value) -> bool {
-    match value.as_u64() {
-        Some(number) => number <= u32::MAX as u64,
-        None => false,
-    }
-}
 
 /// What is wrong with the entries of a space, or nothing.
 fn wrong_entry(
@@ -50,10 +12,10 @@ fn wrong_entry(
 ) -> Result<Option<String>, AllocError> {
     for (from, to) in entries.iter() {
         let from = from.as_str();
-        if !is_index(from) {
+        if index_of(from).is_none() {
             return Ok(Some(format!(in alloc; "key {from:?} of {space:?}: no old index")?));
         }
-        if !is_whole(to) {
+        if whole_of(to).is_none() {
             return Ok(Some(format!(in alloc; "key {from:?} of {space:?}: no new index")?));
         }
     }
@@ -68,7 +30,7 @@ fn wrong_member(alloc: Global, key: &str, value: &Value) -> Result<Option<String
             None => Ok(Some(format!(in alloc; "key {key:?}: neither true nor false")?)),
         };
     }
-    if !is_space(key) {
+    if space_of(key).is_none() {
         return Ok(Some(format!(in alloc; "key {key:?}: no space")?));
     }
     match value.as_object() {
@@ -97,7 +59,7 @@ pub fn wrong_order(alloc: Global, value: &Value) -> Result<Option<String>, Alloc
         return Ok(Some(String::from_str(alloc, "no array")?));
     };
     for (place, value) in values.as_slice().iter().enumerate() {
-        if !is_whole(value) {
+        if whole_of(value).is_none() {
             return Ok(Some(format!(in alloc; "place {place}: no index")?));
         }
     }
