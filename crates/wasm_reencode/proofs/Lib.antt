@@ -5,3 +5,6 @@ pub mod Places
 pub mod StaleNames
 pub mod StripDecides
 pub mod StripEnds
+pub mod Told
+pub mod Trees
+pub mod Wrong

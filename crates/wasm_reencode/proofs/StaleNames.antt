@@ -1,14 +1,18 @@
 -- The names of sections that tell places in code.
-use Rattle.std.proofs.Common.{◌≡◌, ℕ, suc, ◌+◌, ◌<◌, ◌≤◌, ◌⊎◌, inl, inr, Bool, true, false, Bor, List, [], ◌∷◌, ◌++◌, length, get_or, take, map, nat_eq, codes, refl, sym, ap, ◌∙◌, subst, arith}
+use Rattle.std.proofs.Common.{◌≡◌, ℕ, suc, ◌+◌, ◌<◌, ◌≤◌, ◌⊎◌, inl, inr, Ordering, Less, Bool, true, false, Bor, List, [], ◌∷◌, ◌++◌, length, get_or, take, map, nat_eq, codes, refl, sym, ap, ◌∙◌, subst, arith}
 use Rattle.std.specs.List.{Contains}
 use Rattle.std.specs.Prelude.{IsPermutation}
 use Rattle.std.specs.List.Retain.{DiffersFromLast, IsFiltered}
-use Rattle.std.specs.Cmp.Lexicographic.{on_texts_equal, pointwise}
+use Rattle.std.specs.Cmp.Lexicographic.{on_texts, on_texts_equal, pointwise, slice_cmp}
+use Rattle.std.specs.List.{AllByRecursion}
+use Rattle.std.specs.List.Sorted.{IsSorted, IsStrictlySortedBy}
+use Rattle.std.specs.Ordering.{nat_cmp}
+use Rattle.std.proofs.lemmas.Map.Text.{is_eq-slice_cmp}
 use Rattle.std.proofs.Math.Seq.{take-length}
 use Rattle.std.proofs.lemmas.List.{length-map, map-append, take_more}
 use Rattle.std.proofs.lemmas.List.Elements.{Contains-append_cases, Contains-append_left, Contains-append_right, Contains-get_or, Contains-push, Contains-push_cases}
 use Rattle.std.proofs.lemmas.List.Filters.{dedup_is}
-use Rattle.std.proofs.lemmas.List.Kept.{Any-dedup, Contains-from_dedup}
+use Rattle.std.proofs.lemmas.List.Kept.{Any-dedup, Contains-from_dedup, IsStrictlySortedBy-dedup}
 use Rattle.std.proofs.lemmas.List.Sorted.{Contains-permutation, IsPermutation-sym}
 use Rattle.std.proofs.lemmas.Slice.Eq.{bytes_eq-Decides}
 use Rattle.wasm_shapes.specs.Place.{Begins}
@@ -134,8 +138,27 @@ to_map f (a ∷ xs) x h = go (to_map f xs x) (Contains-append_cases (a ∷ []) x
     go again (inl one) = first (Contains-push_cases [] a x one)
     go again (inr more) = Contains-append_right (f a ∷ []) (map f xs) (f x) (again more)
 
-pub names_read : {sections : List Section} (names : List (Bor (List ℕ))) → NamesOf sections names → AreStale sections (read names)
-names_read {sections} names of = record {
+-- names that are sorted and then left out where they repeat
+abbrev text_cmp : Bor (List ℕ) → Bor (List ℕ) → Ordering
+text_cmp x y = slice_cmp nat_cmp x.now y.now
+
+pub names_ordered : (names others : List (Bor (List ℕ))) → IsFiltered (DiffersFromLast same_text) [] names others → IsSorted text_cmp names → IsStrictlySortedBy text_cmp others
+names_ordered names others f sorted =
+    rw (dedup_is same_text names others f) (IsStrictlySortedBy-dedup (on_texts (λ (text : Bor (List ℕ)). text.now)) (λ x y. sym (is_eq-slice_cmp x.now y.now)) names sorted)
+
+all_read : (name : List ℕ) (names : List (Bor (List ℕ))) → AllByRecursion (λ (y : Bor (List ℕ)). slice_cmp nat_cmp name y.now ≡ Less) names
+    → AllByRecursion (λ y. slice_cmp nat_cmp name y ≡ Less) (read names)
+all_read name [] h = tt
+all_read name (y ∷ names) h = (h.0, all_read name names h.1)
+
+ordered_read : (names : List (Bor (List ℕ))) → IsStrictlySortedBy text_cmp names → IsStrictlySortedBy (slice_cmp nat_cmp) (read names)
+unfolding IsStrictlySortedBy
+ordered_read [] h = tt
+ordered_read (name ∷ names) h = (all_read name.now names h.0, ordered_read names h.1)
+
+pub names_read : {sections : List Section} (names : List (Bor (List ℕ))) → NamesOf sections names → IsStrictlySortedBy text_cmp names → AreStale sections (read names)
+names_read {sections} names of ordered = record {
+  ordered = ordered_read names ordered;
   each = λ name h. let one = from_map (λ text. text.now) names name h in subst (IsStaleOf sections) one.2 (of.each one.0 one.1);
   all = λ name h. let one = of.all name h in subst (λ (z : List ℕ). Contains (read names) z) one.2 (to_map (λ text. text.now) names one.0 one.1);
 }

@@ -1,7 +1,10 @@
 -- Custom sections that tell places in code, and code that moved.
 use Rattle.std.specs.Prelude.{◌≡◌, ◌⊎◌, ℕ, Bool, true, false, List, [], ◌∷◌, ◌++◌, IfSome, Contains, codes}
 use Rattle.std.specs.Bool.{Decides}
+use Rattle.std.specs.Cmp.Lexicographic.{slice_cmp}
 use Rattle.std.specs.Fmt.{debug_str}
+use Rattle.std.specs.List.Sorted.{IsStrictlySortedBy}
+use Rattle.std.specs.Ordering.{nat_cmp}
 use Rattle.wasm_reencode.specs.declared.sections.Layer.{Layer}
 use Rattle.wasm_reencode.specs.declared.sections.Section.{Section}
 use Rattle.wasm_reencode.specs.Sections.{AreListed, HasCode, HasName, IsHeadless, header}
@@ -11,10 +14,11 @@ use Rattle.wasm_strip.specs.Choices.{is_stale}
 abbrev pub IsStaleOf : List Section → List ℕ → Type 0
 IsStaleOf sections name = (s : Section) × Contains sections s × HasName s name × (is_stale name ≡ true)
 
--- these are the names of the sections that tell places in code
+-- these are the names of the sections that tell places in code, each once, in the order of their bytes
 pub record AreStale (sections : List Section) (names : List (List ℕ)) : Type 0 where
   pub each : (name : List ℕ) → Contains names name → IsStaleOf sections name
   pub all : (name : List ℕ) → IsStaleOf sections name → Contains names name
+  pub ordered : IsStrictlySortedBy (slice_cmp nat_cmp) names
 
 -- the bodies of the code sections among these, in order
 pub data AreCode : List Section → List (List ℕ) → Type 0 where

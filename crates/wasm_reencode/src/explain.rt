@@ -1,8 +1,10 @@
 //! What stands at a place of a file, for who has to mend it.
-ghost use Rattle.std.specs.Prelude.{◌≡◌, ◌++◌, ◌∷◌, ℕ, List, [], Some, codes, decimal, IfSome, OnOk};
+ghost use Rattle.std.specs.Prelude.{◌≡◌, ◌↔◌, ◌++◌, ◌∷◌, ℕ, List, [], Option, Some, codes, decimal, option_map, string_bytes, IfNone, IfOk, IfSome, IsTrue, OnOk};
 ghost use Rattle.std.specs.Int.{from_le_bytes, w32};
+ghost use Rattle.std.specs.Str.Parse.{AllDigits};
 ghost use Rattle.wasm_strip.specs.Choices.{begins};
-ghost use Rattle.wasm_reencode.specs.Places.{IsKind, IsTold, magic, section_text};
+ghost use Rattle.wasm_reencode.specs.Json.{TellsText};
+ghost use Rattle.wasm_reencode.specs.Places.{BeginsNoDigit, IsDigit, IsKind, IsPlaceOf, IsTold, SaysNumber, TellsPlace, magic, section_text, with_detail, with_said};
 
 use crate::json::{wrong_order, wrong_renaming};
 use crate::sections::{Section, header_of, section_at};
@@ -92,23 +94,48 @@ fn add_kind(text: &mut Vec<u8>, bytes: &[u8]) -> Result<(), AllocError>
     }
 }
 
+/// Whether a byte is a decimal digit.
+fn is_digit(byte: u8) -> bool
+    ensures { IsTrue result ↔ IsDigit byte }
+{
+    byte >= b'0' && byte <= b'9'
+}
+
+/// The digits at the front of a text.
+fn front_digits(text: &[u8]) -> &[u8]
+    ensures { (behind : List ℕ) × (text.now ≡ result.now ++ behind) × AllDigits 10 result.now × BeginsNoDigit behind }
+{
+    'bytes: for count in 0..text.len() {
+        if !is_digit(text[count]) {
+            return &text[..count];
+        }
+    }
+    text
+}
+
 /// The number that digits say.
-fn number_of(digits: &[u8]) -> Option<usize> {
-    match str::from_utf8(digits) {
-        Ok(digits) => digits.parse().ok(),
+fn number_of(digits: &[u8]) -> Option<usize>
+    requires { AllDigits 10 digits.now }
+    ensures some { IfSome result (SaysNumber digits.now) }
+    ensures none { IfNone result ((n : ℕ) → ¬ SaysNumber digits.now n) }
+{
+    let Ok(digits) = str::from_utf8(digits) else {
+        return None;
+    };
+    match digits.parse::<usize>() {
+        Ok(number) => Some(number),
         Err(_) => None,
     }
 }
 
-/// The place that a line tells behind the name of a file, and how many bytes stand behind it.
-fn place_in(line: &[u8], name: &str) -> Option<usize> {
+/// The place that a line tells behind the name of a file.
+fn place_in(line: &[u8], name: &str) -> Option<usize>
+    ensures some { IfSome result (TellsPlace name.now line.now) }
+    ensures none { IfNone result ((place : ℕ) → ¬ TellsPlace name.now line.now place) }
+{
     let behind = line.strip_prefix(name.as_bytes())?;
     let place = behind.strip_prefix(b": parse error at ")?;
-    let digits = match place.iter().position(|byte| *byte < b'0' || *byte > b'9') {
-        Some(end) => &place[..end],
-        None => place,
-    };
-    number_of(digits)
+    number_of(front_digits(place))
 }
 
 /// Adds what stands at a place of a file.
@@ -125,7 +152,10 @@ fn add_told(text: &mut Vec<u8>, bytes: &[u8], place: usize) -> Result<(), AllocE
 }
 
 /// Adds to a line, before its end, what stands in a file where its bytes have no reading.
-pub fn add_place(line: &mut Vec<u8>, name: &str, bytes: &[u8]) -> Result<(), AllocError> {
+pub fn add_place(line: &mut Vec<u8>, name: &str, bytes: &[u8]) -> Result<(), AllocError>
+    ensures { OnOk result ((place : ℕ) × (detail : List ℕ) × IsPlaceOf name.now line.old.items place × IsTold bytes.now place detail
+        × (line.new.items ≡ with_detail line.old.items detail)) }
+{
     let place = place_in(line.as_slice(), name).unwrap_or(usize::MAX);
     let _ = line.pop();
     add_told(line, bytes, place)?;
@@ -133,10 +163,13 @@ pub fn add_place(line: &mut Vec<u8>, name: &str, bytes: &[u8]) -> Result<(), All
 }
 
 /// Why a text says no renaming, or no order, or nothing where it says one.
-fn wrong_text(alloc: Global, text: &[u8], is_order: bool) -> Result<Option<String>, AllocError> {
+fn wrong_text(alloc: Global, text: &[u8], is_order: bool) -> Result<Option<String>, AllocError>
+    ensures { IfOk result (λ wrong. TellsText is_order text.now (option_map string_bytes wrong)) }
+{
     match Value::from_slice(alloc, text) {
         Ok(value) if is_order => wrong_order(alloc, &value),
         Ok(value) => wrong_renaming(alloc, &value),
+        Err(e) if e.is_memory() => Err(AllocError),
         Err(e) => Ok(Some(format!(in alloc; "{e}")?)),
     }
 }
@@ -147,7 +180,10 @@ pub fn add_json_place(
     line: &mut Vec<u8>,
     text: &[u8],
     is_order: bool,
-) -> Result<(), AllocError> {
+) -> Result<(), AllocError>
+    ensures { OnOk result ((said : Option (List ℕ)) × TellsText is_order text.now said
+        × (line.new.items ≡ with_said line.old.items said)) }
+{
     match wrong_text(alloc, text, is_order)? {
         Some(why) => {
             let _ = line.pop();

@@ -1,5 +1,5 @@
 use Rattle.std.proofs.Common.{◌≡◌, ◌+◌, List, Bor, ℕ, [], ◌∷◌, ◌++◌, sym, ap, subst}
-use Rattle.wasm_reencode.proofs.StaleNames.{NamesSoFar, names_all, names_begin, names_deduped, names_permuted, names_push, names_read, names_skip}
+use Rattle.wasm_reencode.proofs.StaleNames.{NamesSoFar, names_all, names_begin, names_deduped, names_ordered, names_permuted, names_push, names_read, names_skip}
 use Rattle.wasm_reencode.proofs.stale.stale_names.Goals as goal
 use Rattle.wasm_reencode.proofs.stale.stale_names.Goals.{in-Some+in_ok-push, in_default}
 
@@ -23,3 +23,4 @@ pub returns : goal.returns
 returns c =
     let found = names_all c.args.sections.now c.sections.section-index c.sections-test.false c.sections.auto.section-index-end c.sections.invariant in
     names_read _ (names_deduped _ _ c.dedup.ensures.filtered (names_permuted _ _ c.sort.ensures.permutation found))
+    (names_ordered _ _ c.dedup.ensures.filtered c.in_ok-sort.ensures.sorted)
