@@ -72,6 +72,7 @@ pub record AsksBy (name : List ℕ) (found : Found) (a : Asked) : Type 0 where
   pub counts : IsFlag found (codes "counts") a.counts
   pub quiet : IsFlag found (codes "quiet") a.quiet
   pub force : IsFlag found (codes "force") a.force
+  pub ignores_malformed : a.ignores_malformed ≡ is_word (argument found (codes "names")) (codes "ignore-malformed")
   pub kept : option_map (λ name. name.now) a.kept ≡ first_value found (codes "kept")
 
 -- what is asked for by the command that the words name, and by its arguments
@@ -95,6 +96,7 @@ pub record Drops (found : Found) (c : Choice) : Type 0 where
   pub some : drops found ≡ true
   pub stale : c.stale ≡ is_word (argument found (codes "stale")) (codes "drop")
   pub names : c.names ≡ is_word (argument found (codes "names")) (codes "drop")
+  pub malformed : c.malformed ≡ false
   pub debug : c.debug ≡ false
   pub all : c.all ≡ false
   pub sections : c.sections.now ≡ []
@@ -102,6 +104,7 @@ pub record Drops (found : Found) (c : Choice) : Type 0 where
 -- which sections the words of the command that strips tell to remove
 pub record Strips (found : Found) (c : Choice) : Type 0 where
   pub names : IsFlag found (codes "names") c.names
+  pub malformed : c.malformed ≡ false
   pub debug : IsFlag found (codes "debug") c.debug
   pub stale : IsFlag found (codes "stale") c.stale
   pub all : IsFlag found (codes "all") c.all

@@ -1,5 +1,7 @@
--- How a command ends whose output is stripped.
-use Rattle.std.specs.Prelude.{ℕ, Result, Ok, Err, if◌then◌else◌, ◌==◌}
+-- How a command ends whose output is stripped, and what is read where malformed names are ignored.
+use Rattle.std.specs.Prelude.{ℕ, List, Option, Result, Ok, Err, if◌then◌else◌, ◌==◌}
+use Rattle.reencode_run.specs.Outside.{GaveAll}
+use Rattle.wasm_strip.specs.Sound.{IsSound}
 use Rattle.wasm_reencode.specs.declared.stripped.Ended.{Ended}
 use Rattle.wasm_reencode.specs.declared.stripped.Ended.TheVariants as ended
 use Rattle.wasm_strip.specs.declared.fault.StripFault.{StripFault}
@@ -29,3 +31,7 @@ status_in _ = 0
 -- what comes of a status that is not 0, where all of an output that was made went to memory
 abbrev pub unmade : ℕ → Ended
 unmade status = if status == 4 then ended.Strip fault.NoMemory else ended.Command status
+
+-- a source gave at most so many bytes and has no more, and these are what is read of them where malformed names are ignored
+abbrev pub GaveSound : ℕ → Option (List ℕ) → Option (List ℕ) → List ℕ → Type 0
+GaveSound most old new sound = (bytes : List ℕ) × GaveAll most old new bytes × IsSound bytes sound

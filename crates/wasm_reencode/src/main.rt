@@ -17,20 +17,26 @@ use crate::files::{
 use crate::listing::{lines_of, tree_of};
 use crate::sections::{Section, sections_of};
 use crate::stale::{has_code_of, stale_of};
-use crate::stripped::{Ended, transform_stripped};
+use crate::stripped::{Ended, read_sound, transform_stripped};
 use crate::words::{Asked, Custom, asked_of, custom_of, most_of, program};
 use clap::ArgMatches;
 use clap::error::ErrorKind;
 use reencode_run::answer::{Answer, ReencodingFault, TaskFault, WordsFault, WritingFault};
 use reencode_run::input::read_all;
+use reencode_run::outside::{Shelf, Sink, Source};
 use reencode_run::standard::{FileShelf, StdSink, StdSource};
+use reencode_run::sure_memory::{SureShelf, SureSource};
 use reencode_run::transform::{say_of, transform};
 use reencode_run::words::Command;
 use std::alloc::{AllocError, Global};
 use std::io::{ErrorKind as IoKind, Write};
 use std::process::ExitCode;
 use std::{env, io};
-use wasm_strip::{Choice, StripFault};
+use wasm_leb::{List, NoMemory};
+use wasm_strip::{Choice, StripFault, without_malformed};
+
+/// The most bytes that one read of bytes in memory gives.
+const PIECE: usize = 65_536;
 
 /// The status where a section would go stale.
 const REFUSED: u8 = 6;
@@ -90,6 +96,15 @@ fn json_of<'a>(asked: &Asked<'a>, line: &[u8]) -> &'a str {
     }
 }
 
+/// The bytes of a binary as they are read.
+fn read_as(alloc: Global, asked: &Asked<'_>, bytes: Vec<u8>) -> Result<Vec<u8>, NoMemory> {
+    if asked.ignores_malformed {
+        without_malformed(alloc, bytes)
+    } else {
+        Ok(bytes)
+    }
+}
+
 /// Adds to the line of a status what stands in the file that it is said of, where the file can be read once more.
 fn add_detail(
     rt: &HostRuntime,
@@ -100,7 +115,10 @@ fn add_detail(
     if status == 5 || status == 7 {
         let name = binary_of(asked, line.as_slice());
         if let Some(bytes) = looked_at(rt, name) {
-            return add_place(line, name, bytes.as_slice());
+            return match read_as(rt.alloc(), asked, bytes) {
+                Ok(bytes) => add_place(line, name, bytes.as_slice()),
+                Err(NoMemory) => Err(AllocError),
+            };
         }
     }
     if status == 11 {
@@ -143,6 +161,70 @@ fn ended(
     }
 }
 
+/// Does what is asked for with the bytes of a source. The lines about the output come back.
+fn made_of<F: Shelf, S: Source, K: Sink, D: Sink>(
+    alloc: Global,
+    asked: &Asked<'_>,
+    removed: Option<Choice<'_>>,
+    shelf: &mut F,
+    input: &mut S,
+    out: &mut K,
+    err: &mut D,
+) -> Result<Vec<u8>, Ended>
+    requires { S.can_read input.old }
+{
+    let request = asked.request;
+    match removed {
+        Some(choice) => transform_stripped(alloc, request, &choice, shelf, input, out, err),
+        None => match transform(alloc, request, shelf, input, out, err) {
+            Ok(lines) => Ok(lines),
+            Err(status) => Err(Ended::Command(status)),
+        },
+    }
+}
+
+/// A shelf with the second module, without its malformed names, where one is asked for and can be read.
+fn second_sound<F: Shelf>(alloc: Global, asked: &Asked<'_>, shelf: &mut F) -> Option<SureShelf> {
+    let Command::Merge(name) = asked.request.command else {
+        return None;
+    };
+    let second = shelf.fetch(alloc, name, asked.request.most).ok()?;
+    let second = without_malformed(alloc, second).ok()?;
+    let mut sound = SureShelf::new(alloc);
+    match sound.put(name, second.as_slice()) {
+        Ok(()) => Some(sound),
+        Err(_) => None,
+    }
+}
+
+/// The same as `made_of`, with the bytes of the binaries that are read without their malformed names. Where the second module
+/// cannot be read, the command says so.
+fn made_of_sound<F: Shelf, S: Source, K: Sink, D: Sink>(
+    alloc: Global,
+    asked: &Asked<'_>,
+    removed: Option<Choice<'_>>,
+    shelf: &mut F,
+    input: &mut S,
+    out: &mut K,
+    err: &mut D,
+) -> Result<Vec<u8>, Ended>
+    requires { S.can_read input.old }
+{
+    let bytes = match read_sound(alloc, input, asked.request.most) {
+        Ok(bytes) => bytes,
+        Err(fault) => {
+            let answer = Answer::Input(fault);
+            let _ = say_of(asked.request.input.as_bytes(), &answer, err);
+            return Err(Ended::Command(answer.status()));
+        }
+    };
+    let mut sound = SureSource::new(List::from_vec(bytes), PIECE);
+    match second_sound(alloc, asked, shelf) {
+        Some(mut second) => made_of(alloc, asked, removed, &mut second, &mut sound, out, err),
+        None => made_of(alloc, asked, removed, shelf, &mut sound, out, err),
+    }
+}
+
 /// Does what is asked for between a source and a target. The lines about the output come back, or the status.
 fn transformed(
     rt: &HostRuntime,
@@ -156,27 +238,26 @@ fn transformed(
     let mut input = StdSource::new(Input::of(rt, asked.request.input));
     let mut out = StdSink::new(Output::new(target, &mut why));
     let mut err = StdSink::new(Held::new(&mut line));
-    let made = match removed {
-        Some(choice) => transform_stripped(
+    let made = if asked.ignores_malformed {
+        made_of_sound(
             rt.alloc(),
-            asked.request,
-            &choice,
+            asked,
+            removed,
             &mut shelf,
             &mut input,
             &mut out,
             &mut err,
-        ),
-        None => match transform(
+        )
+    } else {
+        made_of(
             rt.alloc(),
-            asked.request,
+            asked,
+            removed,
             &mut shelf,
             &mut input,
             &mut out,
             &mut err,
-        ) {
-            Ok(lines) => Ok(lines),
-            Err(status) => Err(Ended::Command(status)),
-        },
+        )
     };
     drop(out);
     drop(err);

@@ -6,11 +6,12 @@ ghost use Rattle.wasm_strip.specs.Choices.{is_stale};
 
 use crate::sections::{Section, sections_of};
 use std::alloc::{AllocError, Global};
-use wasm_strip::{Choice, NameRule};
+use wasm_strip::Choice;
 
 /// What tells places in code.
 const STALE: Choice<'static> = Choice {
     names: false,
+    malformed: false,
     debug: false,
     stale: true,
     all: false,
@@ -21,7 +22,7 @@ const STALE: Choice<'static> = Choice {
 fn is_stale(name: &str) -> bool
     ensures { result ≡ is_stale name.now }
 {
-    STALE.removes(name)
+    STALE.removes_by_name(name)
 }
 
 /// The name of a section that tells places in code.

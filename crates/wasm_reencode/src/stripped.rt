@@ -1,20 +1,22 @@
 //! What a command makes, without custom sections.
-ghost use Rattle.std.specs.Prelude.{◌≡◌, ◌≢◌, ◌≤◌, ◌++◌, ℕ, List, [], None, Some, codes, IfOk, IfErr};
+ghost use Rattle.std.specs.Prelude.{◌≡◌, ◌≢◌, ◌≤◌, ◌++◌, ℕ, List, [], None, Some, codes, IfOk, IfErr, IsErrOf};
 ghost use Rattle.reencode_run.specs.Answer.{Ends, IsDecided, IsMaking, IsOfFile, Made, Says, lines_of, output_of, status_of, text_of};
-ghost use Rattle.reencode_run.specs.Outside.{Rose, TookFront, WhereTold, followed};
+ghost use Rattle.reencode_run.specs.Outside.{Rose, TookFront, TookMore, WhereTold, followed};
 ghost use Rattle.reencode_run.specs.Requests.{job_of, name_told};
 ghost use Rattle.reencode_run.specs.Words.{files, functions};
 ghost use Rattle.wasm_strip.specs.Binaries.{IsStripped};
 ghost use Rattle.reencode_run.specs.declared.answer.Answer.{Answer};
 ghost use Rattle.wasm_strip.specs.Faults.{HasNone, IsWhy};
-ghost use Rattle.wasm_reencode.specs.Stripped.{IfCommand, IfSink, IfStrip, status_in, unmade};
+ghost use Rattle.wasm_reencode.specs.Stripped.{GaveSound, IfCommand, IfSink, IfStrip, status_in, unmade};
 ghost use Rattle.wasm_reencode.specs.declared.stripped.Ended.TheVariants as ended;
 
+use reencode_run::input::{InputFault, read_all};
 use reencode_run::outside::{Failed, Shelf, Sink, Source};
 use reencode_run::transform::{Request, transform};
 use reencode_run::write::write_all;
 use std::alloc::Global;
-use wasm_strip::{NameRule, StripFault, strip};
+use wasm_leb::NoMemory;
+use wasm_strip::{StripFault, StripRule, strip, without_malformed};
 
 /// A sink in memory. It fails where memory runs out.
 #[derive(Drop)]
@@ -61,9 +63,28 @@ fn unmade(status: u8) -> Ended
     }
 }
 
+/// What is read of a source where malformed names are ignored: its bytes up to its end, which are at most `most`, without these.
+pub fn read_sound<S: Source>(alloc: Global, input: &mut S, most: u32) -> Result<Vec<u8>, InputFault>
+    requires { S.can_read input.old }
+    ensures rises { S.faults input.old ≤ S.faults input.new }
+    ensures sound { IfOk result (λ sound. GaveSound most (S.left input.old) (S.left input.new) sound.items) }
+    ensures failed { IsErrOf result InputFault.Failed
+        → Rose (S.faults input.old) (S.faults input.new) }
+    ensures too_long { IsErrOf result InputFault.TooLong
+        → TookMore most (S.left input.old) (S.left input.new) }
+{
+    match read_all(alloc, input, most) {
+        Ok(bytes) => match without_malformed(alloc, bytes) {
+            Ok(sound) => Ok(sound),
+            Err(NoMemory) => Err(InputFault::NoMemory),
+        },
+        Err(fault) => Err(fault),
+    }
+}
+
 /// Does what is asked for with the bytes of a source, and hands what it makes to a sink, without the custom sections that a rule
 /// removes. The lines about what was made come back, as by `transform`, which says on `err` why it makes nothing.
-pub fn transform_stripped<N: NameRule, F: Shelf, S: Source, K: Sink, D: Sink>(
+pub fn transform_stripped<N: StripRule, F: Shelf, S: Source, K: Sink, D: Sink>(
     alloc: Global,
     request: Request<'_>,
     rule: &N,

@@ -21,6 +21,8 @@ pub struct Asked<'a> {
     pub quiet: bool,
     /// Whether a binary is written to a terminal too.
     pub force: bool,
+    /// Whether names that have no reading are left out of what is read.
+    pub ignores_malformed: bool,
     /// The name of the file that gets the line of the functions that are kept.
     pub kept: Option<&'a str>,
 }
@@ -38,7 +40,7 @@ pub struct Custom<'a> {
 const STALE: &[&str] = &["keep", "drop", "refuse"];
 
 /// What is done with names.
-const NAMES: &[&str] = &["keep", "drop"];
+const NAMES: &[&str] = &["keep", "drop", "ignore-malformed"];
 
 /// A file that has to be named.
 fn needed<'a>(alloc: Global, id: &'a str, name: &'a str, help: &'a str) -> Arg<'a> {
@@ -353,6 +355,7 @@ fn sections_of<'b>(matches: &'b ArgMatches<'_>) -> &'b [&'b str]
 /// Which custom sections are to be removed of what is stripped.
 fn choice_of<'b>(matches: &'b ArgMatches<'_>) -> Choice<'b>
     ensures names { IsFlag (found_of matches.now) (codes "names") result.names }
+    ensures malformed { result.malformed ≡ false }
     ensures debug { IsFlag (found_of matches.now) (codes "debug") result.debug }
     ensures stale { IsFlag (found_of matches.now) (codes "stale") result.stale }
     ensures all { IsFlag (found_of matches.now) (codes "all") result.all }
@@ -361,6 +364,7 @@ fn choice_of<'b>(matches: &'b ArgMatches<'_>) -> Choice<'b>
 {
     Choice {
         names: matches.get_flag("names"),
+        malformed: false,
         debug: matches.get_flag("debug"),
         stale: matches.get_flag("stale"),
         all: matches.get_flag("all"),
@@ -380,6 +384,7 @@ fn custom_by<'b>(matches: &'b ArgMatches<'_>) -> Custom<'b>
     let removed = if drops_stale || drops_names {
         Some(Choice {
             names: drops_names,
+            malformed: false,
             debug: false,
             stale: drops_stale,
             all: false,
@@ -418,6 +423,7 @@ fn asked_by<'a>(name: &str, matches: &ArgMatches<'a>) -> Option<Asked<'a>>
         counts: matches.get_flag("counts"),
         quiet: matches.get_flag("quiet"),
         force: matches.get_flag("force"),
+        ignores_malformed: text(matches, "names") == "ignore-malformed",
         kept: matches.get_str("kept"),
     })
 }

@@ -7,4 +7,4 @@ only_stale true = refl
 only_stale false = refl
 
 pub returns : goal.returns
-returns c = c.removes.ensures ∙ only_stale (is_stale c.args.name.now)
+returns c = c.removes_by_name.ensures ∙ only_stale (is_stale c.args.name.now)
