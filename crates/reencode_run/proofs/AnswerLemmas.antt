@@ -15,12 +15,14 @@ use Rattle.wasm_shapes.specs.Names.{space_name}
 use Rattle.reencode_run.specs.declared.answer.ReencodingFault.{ReencodingFault}
 use Rattle.reencode_run.specs.declared.answer.ReencodingFault.TheVariants as reencoding_fault
 use Rattle.reencode_run.specs.declared.renamers.Refusal.{Refusal}
+use Rattle.reencode_run.specs.declared.renamers.Renamers.TheVariants.{Both}
 use Rattle.reencode_run.specs.declared.task.Task.{Task}
+use Rattle.reencode_run.specs.declared.task.Task.TheVariants as task
 use Rattle.reencode_run.specs.Answer.{AtFile, AtPlace, Ends, EndsFor, ForJob, FileSays, HasBytes, HasNoDigits, IsBadFile, IsTooLong, IsUnfetched, IsUnread, MadeFor, Outside, RefusesDigits, RefusesFile, RefusesFrom, RefusesInput, RefusesTask, Says, StopsFor, StopsWith, Takes, TakesFrom, Texts, Uses, by_text, message, report_of, status_of, text_of}
 use Rattle.reencode_run.specs.Outside.{Rose, GaveAll, TookFront, TookMore, WhereTold, followed}
 use Rattle.reencode_run.specs.Hexadecimal.{binary}
 use Rattle.reencode_run.specs.Renamers.{refusal_text}
-use Rattle.reencode_run.specs.Tasks.{formed}
+use Rattle.reencode_run.specs.Tasks.{formed, strictly}
 use Rattle.reencode_run.specs.Tools.{stop}
 use Rattle.reencode_run.specs.Words.{Command, Job, Kind, of_renaming, files, functions, says, plain, rename, twice, generate, keep_report, renumber, prune, merge}
 
@@ -65,10 +67,16 @@ refused_from k name texts a b c file_fault.Bad le h = h
 refused_from k name texts a b c file_fault.NoMemory le h = tt
 
 -- the second of two files says nothing
-pub second_refused : (first second : List ℕ) (old mid : Texts) (a b c : ℕ) (r : Renaming) (fault : FileFault) → mid ≡ old → a ≤ b → FileSays of_renaming old first r
-    → RefusesFile of_renaming second mid b c fault → RefusesTask (twice first second) old a c fault 1
-second_refused first second old mid a b c r fault same le says h =
+pub second_refused : (strict : Bool) (first second : List ℕ) (old mid : Texts) (a b c : ℕ) (r : Renaming) (fault : FileFault) → mid ≡ old → a ≤ b → FileSays of_renaming old first r
+    → RefusesFile of_renaming second mid b c fault → RefusesTask (twice strict first second) old a c fault 1
+second_refused strict first second old mid a b c r fault same le says h =
     ((r, says), refused_from of_renaming second old a b c fault le (subst (λ (t : Texts). RefusesFile of_renaming second t b c fault) same h))
+
+-- two renamings, as they are asked for
+pub both_strictly : (strict : Bool) (r s : Renaming) {p q : Renaming} → p ≡ strictly strict r → q ≡ strictly strict s
+    → task.Reencode (Both (record { a = p; b = q })) ≡ task.Reencode (Both (record { a = strictly strict r; b = strictly strict s }))
+both_strictly strict r s {p} {q} e f =
+    ap (λ (z : Renaming). task.Reencode (Both (record { a = z; b = q }))) e ∙ ap (λ (z : Renaming). task.Reencode (Both (record { a = strictly strict r; b = z }))) f
 
 -- what holds of the file at a place holds of a file
 at_file : (k : Kind) (texts : Texts) (names : List (List ℕ)) (place : ℕ) (P : List ℕ → Type 0) → AtPlace k texts names place P → AtFile k texts names P
@@ -120,8 +128,8 @@ module _ (job : Job) (o : Outside) (U : Type 0) where
   -- a command whose file has a module makes none of its own
   reads_form : (command : Command) (t : Task) → command ≡ job.command → Uses command o.texts t → formed true t ≡ None → functions command ≡ None
   reads_form plain t same uses none = refl
-  reads_form (rename name) t same uses none = refl
-  reads_form (twice first second) t same uses none = refl
+  reads_form (rename strict name) t same uses none = refl
+  reads_form (twice strict first second) t same uses none = refl
   reads_form (generate n) t same uses none =
       let is = subst (λ (z : Task). formed true z ≡ None) uses.2 none in absurd cc
   reads_form keep_report t same uses none = refl

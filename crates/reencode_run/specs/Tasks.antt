@@ -1,5 +1,5 @@
 -- What the files of a command say, and what the command then does: its task.
-use Rattle.std.specs.Prelude.{◌≡◌, ℕ, List, [], ◌∷◌, length, Bool, Option, Some, None, option_map, Result, Ok, Err}
+use Rattle.std.specs.Prelude.{◌≡◌, ℕ, List, [], ◌∷◌, length, map, Bool, true, false, Option, Some, None, option_map, Result, Ok, Err}
 use Rattle.reencode_hooks.specs.Renamings.{Renaming, no_renaming}
 use Rattle.reencode_run.specs.declared.answer.ReencodingFault.{ReencodingFault}
 use Rattle.reencode_run.specs.declared.answer.TaskFault.{TaskFault}
@@ -49,11 +49,16 @@ abbrev pub first_said : List (List ℕ) → List ℕ
 first_said [] = []
 first_said (c ∷ cs) = c
 
+-- a renaming that is strict also where that is asked for
+abbrev pub strictly : Bool → Renaming → Renaming
+strictly false r = r
+strictly true r = record r { strict = true }
+
 -- the task of a command whose files say this
 abbrev pub task_of : (c : Command) → List (Saying (says c)) → Task
 task_of plain said = task.Reencode (renamers_of said)
-task_of (rename name) said = task.Reencode (renamers_of said)
-task_of (twice first second) said = task.Reencode (renamers_of said)
+task_of (rename strict name) said = task.Reencode (renamers_of (map (strictly strict) said))
+task_of (twice strict first second) said = task.Reencode (renamers_of (map (strictly strict) said))
 task_of (generate n) said = task.Generate n
 task_of keep_report said = task.KeepReport
 task_of (renumber name) said = task.Renumber (first_said said)

@@ -8,11 +8,11 @@ use Rattle.reencode_run.specs.declared.words.Notation.{Notation}
 use Rattle.reencode_run.specs.declared.words.Notation.TheVariants.{Hexadecimal}
 use Rattle.reencode_run.specs.Numerals.{index_of}
 
--- what is to be done; the file of a merge has at most so many bytes
+-- what is to be done; renamings are strict where that is asked for, and the file of a merge has at most so many bytes
 pub data Command : Type 0 where
   plain : Command
-  rename : List ℕ → Command
-  twice : List ℕ → List ℕ → Command
+  rename : (strict : Bool) → List ℕ → Command
+  twice : (strict : Bool) → List ℕ → List ℕ → Command
   generate : ℕ → Command
   keep_report : Command
   renumber : List ℕ → Command
@@ -42,8 +42,8 @@ pub record Form : Type 0 where
 
 abbrev pub form : Command → Form
 form plain = record { says = of_renaming; files = []; functions = None }
-form (rename name) = record { says = of_renaming; files = name ∷ []; functions = None }
-form (twice first second) = record { says = of_renaming; files = first ∷ second ∷ []; functions = None }
+form (rename strict name) = record { says = of_renaming; files = name ∷ []; functions = None }
+form (twice strict first second) = record { says = of_renaming; files = first ∷ second ∷ []; functions = None }
 form (generate n) = record { says = of_renaming; files = []; functions = Some n }
 form keep_report = record { says = of_renaming; files = []; functions = None }
 form (renumber name) = record { says = of_order; files = name ∷ []; functions = None }
@@ -95,14 +95,14 @@ some_functions n = if nat_le 1 n && nat_le n 1000000 then Some (generate n) else
 
 abbrev pub long_command : List ℕ → List ℕ → Option Command
 long_command w a =
-    if is_word w (codes "rename") then Some (rename a)
+    if is_word w (codes "rename") then Some (rename false a)
     else if is_word w (codes "generate") then option_and_then some_functions (index_of a)
     else if is_word w (codes "renumber") then Some (renumber a)
     else if is_word w (codes "merge") then Some (merge most_bytes a)
     else None
 
 abbrev pub longer_command : List ℕ → List ℕ → List ℕ → Option Command
-longer_command w a b = if is_word w (codes "twice") then Some (twice a b) else None
+longer_command w a b = if is_word w (codes "twice") then Some (twice false a b) else None
 
 abbrev pub command : List (List ℕ) → Option Command
 command (w ∷ []) = short_command w
@@ -119,8 +119,8 @@ job words =
 -- what is seen of a command, whose file of a module has at most so many bytes
 abbrev pub command_seen : ℕ → of_command.Command → Command
 command_seen most said.Plain = plain
-command_seen most (said.Rename name) = rename name.now
-command_seen most (said.Twice first second) = twice first.now second.now
+command_seen most (said.Rename name strict) = rename strict name.now
+command_seen most (said.Twice first second strict) = twice strict first.now second.now
 command_seen most (said.Generate n) = generate n
 command_seen most said.KeepReport = keep_report
 command_seen most (said.Renumber name) = renumber name.now

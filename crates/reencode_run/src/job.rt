@@ -1,12 +1,12 @@
 //! From a job to what is printed.
 ghost use Rattle.std.specs.Prelude.{◌≡◌, ◌≤◌, ℕ, List, Option, Some, None, true, [], length, option_map, replicate, Ok, Err, IfOk, IfErr, IsErrOf, vec_len};
-ghost use Rattle.reencode_hooks.specs.Renamings.{no_renaming};
+ghost use Rattle.reencode_hooks.specs.Renamings.{Renaming, no_renaming};
 ghost use Rattle.reencode_run.specs.Answer.{Ends, FileSays, HasBytes, IsMaking, IsOfFile, Made, RefusesBytes, RefusesFile, RefusesSource, RefusesTask, Takes, Uses, status_of, text_of};
 ghost use Rattle.reencode_run.specs.Generated.{generated};
 ghost use Rattle.reencode_run.specs.Renamers.{AreCounts};
 ghost use Rattle.reencode_run.specs.Report.{lengths_report, lines_alone, report, shown, with_output};
 ghost use Rattle.reencode_run.specs.Outside.{HasText};
-ghost use Rattle.reencode_run.specs.Tasks.{Does, HasCounts, IsStopped, Reports, formed, most_of};
+ghost use Rattle.reencode_run.specs.Tasks.{Does, HasCounts, IsStopped, Reports, formed, most_of, strictly};
 ghost use Rattle.reencode_run.specs.Words.{Kind, command_seen, files, functions, job_seen, of_module, of_order, of_renaming};
 
 use crate::answer::{Answer, FileFault, ReencodingFault, TaskFault, WritingFault};
@@ -70,11 +70,27 @@ fn fetched<F: Shelf>(
     }
 }
 
-/// The renamer that a file says.
-fn renamer_of_file<F: Shelf>(alloc: Global, file: &str, shelf: &mut F) -> Result<Renamer, FileFault>
+/// A renamer that is strict also where that is asked for.
+fn strictly(mut renamer: Renamer, strict: bool) -> Renamer
+    ensures { result ≡ strictly strict renamer }
+{
+    if strict {
+        renamer.set_strict(true);
+    }
+    renamer
+}
+
+/// The renamer that a file says, strict also where that is asked for.
+fn renamer_of_file<F: Shelf>(
+    alloc: Global,
+    file: &str,
+    strict: bool,
+    shelf: &mut F,
+) -> Result<Renamer, FileFault>
     ensures rises { F.faults shelf.old ≤ F.faults shelf.new }
     ensures same { F.texts shelf.new ≡ F.texts shelf.old }
-    ensures says { IfOk result (λ renamer. FileSays of_renaming (F.texts shelf.old) file.now renamer) }
+    ensures says { IfOk result (λ renamer. (said : Renaming)
+        × FileSays of_renaming (F.texts shelf.old) file.now said × (renamer ≡ strictly strict said)) }
     ensures counts { IfOk result (λ renamer. renamer.counts ≡ replicate 19 0) }
     ensures stops { IfErr result
         (λ fault. RefusesFile of_renaming file.now (F.texts shelf.old) (F.faults shelf.old)
@@ -85,7 +101,7 @@ fn renamer_of_file<F: Shelf>(alloc: Global, file: &str, shelf: &mut F) -> Result
         Err(fault) => return Err(fault),
     };
     match renaming_of(alloc, text.as_slice()) {
-        Ok(renamer) => Ok(renamer),
+        Ok(renamer) => Ok(strictly(renamer, strict)),
         Err(RenamingFault::Bad) => Err(FileFault::Bad),
         Err(RenamingFault::NoMemory) => Err(FileFault::NoMemory),
     }
@@ -150,16 +166,20 @@ fn task_of<F: Shelf>(
 {
     match command {
         Command::Plain => Ok(Task::Reencode(Renamers::Alone(Renamer::new(alloc)))),
-        Command::Rename(file) => match renamer_of_file(alloc, file, shelf) {
+        Command::Rename { file, strict } => match renamer_of_file(alloc, file, strict, shelf) {
             Ok(renamer) => Ok(Task::Reencode(Renamers::Alone(renamer))),
             Err(fault) => Err((fault, 0)),
         },
-        Command::Twice(first, second) => {
-            let a = match renamer_of_file(alloc, first, shelf) {
+        Command::Twice {
+            first,
+            second,
+            strict,
+        } => {
+            let a = match renamer_of_file(alloc, first, strict, shelf) {
                 Ok(a) => a,
                 Err(fault) => return Err((fault, 0)),
             };
-            match renamer_of_file(alloc, second, shelf) {
+            match renamer_of_file(alloc, second, strict, shelf) {
                 Ok(b) => Ok(Task::Reencode(Renamers::Both(Chain::new(a, b)))),
                 Err(fault) => Err((fault, 1)),
             }

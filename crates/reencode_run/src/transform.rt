@@ -34,9 +34,9 @@ fn name_at<'a>(command: Command<'a>, place: u8) -> &'a str
     ensures { (most : ℕ) → result.now ≡ name_at (files (command_seen most command.entry)) place }
 {
     match command {
-        Command::Rename(file) if place == 0 => file,
-        Command::Twice(first, _) if place == 0 => first,
-        Command::Twice(_, second) if place == 1 => second,
+        Command::Rename { file, .. } if place == 0 => file,
+        Command::Twice { first, .. } if place == 0 => first,
+        Command::Twice { second, .. } if place == 1 => second,
         Command::Renumber(file) if place == 0 => file,
         Command::Merge(file) if place == 0 => file,
         _ => "",

@@ -16,9 +16,21 @@ pub enum Command<'a> {
     /// The input is re-encoded, and no index is renamed.
     Plain,
     /// The input is re-encoded with the indices renamed as the file of this name says.
-    Rename(&'a str),
+    Rename {
+        /// The name of the file.
+        file: &'a str,
+        /// Whether an index of a core space without an entry is refused, whatever the file says.
+        strict: bool,
+    },
     /// The input is re-encoded with the indices renamed as the first file says, and these as the second says.
-    Twice(&'a str, &'a str),
+    Twice {
+        /// The name of the first file.
+        first: &'a str,
+        /// The name of the second file.
+        second: &'a str,
+        /// Whether both renamings are strict, whatever the files say.
+        strict: bool,
+    },
     /// A module of so many functions is made and re-encoded.
     Generate(u32),
     /// The input is re-encoded, no index is renamed, and what of it is kept is told.
@@ -39,8 +51,8 @@ pub fn functions(command: Command<'_>) -> Option<u32>
     match command {
         Command::Generate(n) => Some(n),
         Command::Plain => None,
-        Command::Rename(_) => None,
-        Command::Twice(_, _) => None,
+        Command::Rename { .. } => None,
+        Command::Twice { .. } => None,
         Command::KeepReport => None,
         Command::Renumber(_) => None,
         Command::Prune => None,
@@ -118,7 +130,10 @@ fn long_command<'a>(word: &str, argument: &'a str) -> Option<Command<'a>>
     ensures { option_map (command_seen most_bytes) result ≡ long_command word.now argument.now }
 {
     if word == "rename" {
-        return Some(Command::Rename(argument));
+        return Some(Command::Rename {
+            file: argument,
+            strict: false,
+        });
     }
     if word == "generate" {
         return match index_of(argument) {
@@ -141,7 +156,11 @@ fn longer_command<'a>(word: &str, first: &'a str, second: &'a str) -> Option<Com
         ≡ longer_command word.now first.now second.now }
 {
     if word == "twice" {
-        Some(Command::Twice(first, second))
+        Some(Command::Twice {
+            first,
+            second,
+            strict: false,
+        })
     } else {
         None
     }

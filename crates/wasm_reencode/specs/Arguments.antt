@@ -21,15 +21,16 @@ abbrev pub texts : Found → List ℕ → List (List ℕ)
 texts found id = unwrap_or (option_map raw_values (matched_of found id)) []
 
 -- a renaming by the first file, or by both
-abbrev pub renaming : List ℕ → Option (List ℕ) → Command
-renaming first None = rename first
-renaming first (Some second) = twice first second
+abbrev pub renaming : (strict : Bool) → List ℕ → Option (List ℕ) → Command
+renaming strict first None = rename strict first
+renaming strict first (Some second) = twice strict first second
 
--- what a command of this name asks for by its arguments; the file of a module has at most so many bytes
-abbrev pub named : ℕ → List ℕ → Found → Option Command
-named most name found =
+-- what a command of this name asks for by its arguments; renamings are strict where that is asked for, and the file of a module has at most so many
+-- bytes
+abbrev pub named : ℕ → (strict : Bool) → List ℕ → Found → Option Command
+named most strict name found =
     if is_word name (codes "plain") then Some plain
-    else if is_word name (codes "rename") then Some (renaming (argument found (codes "map")) (first_value found (codes "then")))
+    else if is_word name (codes "rename") then Some (renaming strict (argument found (codes "map")) (first_value found (codes "then")))
     else if is_word name (codes "renumber") then Some (renumber (argument found (codes "order")))
     else if is_word name (codes "prune") then Some prune
     else if is_word name (codes "merge") then Some (merge most (argument found (codes "second")))
@@ -64,7 +65,9 @@ pub record IsFlag (found : Found) (id : List ℕ) (flag : Bool) : Type 0 where
 
 -- what is asked for by a command of this name with these arguments
 pub record AsksBy (name : List ℕ) (found : Found) (a : Asked) : Type 0 where
-  pub command : (most : ℕ) → named most name found ≡ Some (command_seen most a.request.command)
+  pub strict : Bool
+  pub is_strict : IsFlag found (codes "strict") strict
+  pub command : (most : ℕ) → named most strict name found ≡ Some (command_seen most a.request.command)
   pub input : a.request.input.now ≡ argument found (codes "input")
   pub output : a.request.output.now ≡ argument found (codes "output")
   pub most : IsMost found (codes "max-input") a.request.most

@@ -83,9 +83,9 @@ fn binary_of<'a>(asked: &Asked<'a>, line: &[u8]) -> &'a str {
 /// The file that a line about a JSON text begins with.
 fn json_of<'a>(asked: &Asked<'a>, line: &[u8]) -> &'a str {
     match asked.request.command {
-        Command::Rename(map) => map,
+        Command::Rename { file, .. } => file,
         Command::Renumber(order) => order,
-        Command::Twice(first, second) => {
+        Command::Twice { first, second, .. } => {
             if line.starts_with(second.as_bytes()) && !line.starts_with(first.as_bytes()) {
                 second
             } else {

@@ -148,9 +148,15 @@ fn rename<'a>(alloc: Global) -> Result<Command<'a>, AllocError> {
         .long("then")
         .value_name("FILE")
         .help("A second renaming, of what comes of the first");
+    let strict = flag(
+        alloc,
+        "strict",
+        "Refuse an index without an entry, whatever the files say",
+    );
     made_of_one(alloc, "rename", "Renames the indices as a file says")?
         .arg(map)?
         .arg(then)?
+        .arg(strict)?
         .arg(counts(alloc))
 }
 
@@ -275,29 +281,36 @@ fn text<'a>(matches: &ArgMatches<'a>, id: &str) -> &'a str
 }
 
 /// A renaming by one file or by two.
-fn renaming<'a>(matches: &ArgMatches<'a>) -> words::Command<'a>
+fn renaming<'a>(matches: &ArgMatches<'a>, strict: bool) -> words::Command<'a>
     ensures { (most : ℕ) → command_seen most result
-        ≡ renaming (argument (found_of matches.now) (codes "map"))
+        ≡ renaming strict (argument (found_of matches.now) (codes "map"))
         (first_value (found_of matches.now) (codes "then")) }
 {
     match matches.get_str("then") {
-        Some(then) => words::Command::Twice(text(matches, "map"), then),
-        None => words::Command::Rename(text(matches, "map")),
+        Some(second) => words::Command::Twice {
+            first: text(matches, "map"),
+            second,
+            strict,
+        },
+        None => words::Command::Rename {
+            file: text(matches, "map"),
+            strict,
+        },
     }
 }
 
-/// What a command of this name asks for by its arguments.
-fn command_of<'a>(name: &str, matches: &ArgMatches<'a>) -> Option<words::Command<'a>>
+/// What a command of this name asks for by its arguments, with renamings that are strict whatever their files say, or not.
+fn command_of<'a>(name: &str, matches: &ArgMatches<'a>, strict: bool) -> Option<words::Command<'a>>
     // However long the file of a module may be.
     ensures command { (most : ℕ) → option_map (command_seen most) result
-        ≡ named most name.now (found_of matches.now) }
+        ≡ named most strict name.now (found_of matches.now) }
     ensures none { IfNone result (is_command name.now ≡ false) }
 {
     if name == "plain" {
         return Some(words::Command::Plain);
     }
     if name == "rename" {
-        return Some(renaming(matches));
+        return Some(renaming(matches, strict));
     }
     if name == "renumber" {
         return Some(words::Command::Renumber(text(matches, "order")));
@@ -417,7 +430,7 @@ fn asked_by<'a>(name: &str, matches: &ArgMatches<'a>) -> Option<Asked<'a>>
     ensures some { IfSome result (AsksBy name.now (found_of matches.now)) }
     ensures none { IfNone result (is_command name.now ≡ false) }
 {
-    let command = command_of(name, matches)?;
+    let command = command_of(name, matches, matches.get_flag("strict"))?;
     Some(Asked {
         request: request_of(command, matches),
         counts: matches.get_flag("counts"),
