@@ -1,5 +1,5 @@
 -- How a command ends whose output is stripped, and what is read where malformed names are ignored.
-use Rattle.std.specs.Prelude.{ℕ, List, Option, Result, Ok, Err, if◌then◌else◌, ◌==◌}
+use Rattle.std.specs.Prelude.{ℕ, List, Option, Result, Err, if◌then◌else◌, ◌==◌}
 use Rattle.reencode_run.specs.Outside.{GaveAll}
 use Rattle.wasm_strip.specs.Sound.{IsSound}
 use Rattle.wasm_reencode.specs.declared.stripped.Ended.{Ended}
