@@ -425,6 +425,13 @@ pub fn custom_of<'b>(name: &str, matches: &'b ArgMatches<'_>) -> Custom<'b>
     custom_by(matches)
 }
 
+/// Whether names without a reading are left out of what is read.
+fn ignores_malformed(matches: &ArgMatches<'_>) -> bool
+    ensures { result ≡ is_word (argument (found_of matches.now) (codes "names")) (codes "ignore-malformed") }
+{
+    text(matches, "names") == "ignore-malformed"
+}
+
 /// What the words ask for of a command of this name.
 fn asked_by<'a>(name: &str, matches: &ArgMatches<'a>) -> Option<Asked<'a>>
     ensures some { IfSome result (AsksBy name.now (found_of matches.now)) }
@@ -436,7 +443,7 @@ fn asked_by<'a>(name: &str, matches: &ArgMatches<'a>) -> Option<Asked<'a>>
         counts: matches.get_flag("counts"),
         quiet: matches.get_flag("quiet"),
         force: matches.get_flag("force"),
-        ignores_malformed: text(matches, "names") == "ignore-malformed",
+        ignores_malformed: ignores_malformed(matches),
         kept: matches.get_str("kept"),
     })
 }
