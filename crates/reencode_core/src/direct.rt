@@ -106,8 +106,9 @@ pub(crate) fn map_or_keep<R: ReencodeItems>(
 {
     let bytes = func.bytes;
     let Some(operators) = skip_locals(bytes) else {
-        let function = new_function_with_parsed_locals(reencoder, alloc, &func)?;
+        // (no memory is taken for locals that have no reading)
         let reader = func.operators()?;
+        let function = new_function_with_parsed_locals(reencoder, alloc, &func)?;
         map_rest(reencoder, alloc, code, function, reader, Next::Other, true)?;
         return Ok(false);
     };

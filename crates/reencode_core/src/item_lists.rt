@@ -87,3 +87,29 @@ where
     }
     Ok(mapped)
 }
+
+/// Maps each index of a list, in the way of the marker, in its place: no second list is made.
+pub(crate) fn map_in_place<T, M>(
+    reencoder: &mut T,
+    alloc: Global,
+    indices: List<u32>,
+) -> Result<List<u32>, Error<T::Error>>
+where
+    T: ReencodeItems,
+    M: MapItem<T, u32, u32>,
+    ensures default { IsTrue T.keeps_defaults
+        → Maps T.reply T.next reencoder.old (vector_tree (map M.read indices))
+        (λ made. vector_tree (map M.made made)) reencoder.new result }
+    ensures after_error { IsTrue T.keeps_defaults → IsTrue T.sure
+        → LeavesVisited (ask T.reply T.next) reencoder.old
+        (visits (vector_tree (map M.read indices))) reencoder.new result }
+{
+    let mut items = indices.into_vec();
+    let mut at = 0;
+    'items: while at < items.len() {
+        let item = M::map(reencoder, alloc, items[at])?;
+        items[at] = item;
+        at += 1;
+    }
+    Ok(List::from_vec(items))
+}

@@ -10,7 +10,7 @@ ghost use Rattle.reencode_core.specs.Elements.{answered_table, asked_table};
 ghost use Rattle.reencode_core.specs.Clauses.{BodyClauses, LocalsClauses, RowClauses, RowsClauses, UnknownClauses};
 
 use crate::imports::{compact_items, compact_names};
-use crate::item_lists::{ExpressionItems, FunctionItems, map_items};
+use crate::item_lists::{ExpressionItems, FunctionItems, map_in_place, map_items};
 use crate::sections::add_section;
 use crate::{default_bodies, direct};
 use reencode_hooks::{Error, ReencodeIndices};
@@ -187,7 +187,7 @@ pub fn element_items<T: ReencodeItems>(
 {
     match items {
         r::ElementItems::Functions(functions) => {
-            let functions = map_items::<T, FunctionItems, u32, u32>(reencoder, alloc, functions)?;
+            let functions = map_in_place::<T, FunctionItems>(reencoder, alloc, functions)?;
             Ok(w::Elements::Functions(functions))
         }
         r::ElementItems::Expressions(ty, expressions) => {

@@ -1,8 +1,9 @@
 -- A body whose locals and first operators stay as they stand.
-use Rattle.std.proofs.Common.{◌≡◌, ◌≤◌, ◌<◌, ◌^◌, ◌+◌, ◌-◌, ◌⊎◌, ℕ, Bool, List, [], length, length-append, Result, Ok, Err, IsErrAnd, IsTrue, refl, sym, ap, ◌∙◌, drop, subst, arith}
+use Rattle.std.proofs.Common.{◌≡◌, ◌≤◌, ◌<◌, ◌^◌, ◌+◌, ◌-◌, ◌⊎◌, ℕ, Bool, List, [], length, length-append, Result, Ok, Err, IsErrAnd, IsTrue, refl, sym, ap, ◌∙◌, drop, subst, arith, rules}
 use Rattle.std.proofs.Math.ListN.{drop_of_length-le}
 use Rattle.std.proofs.Math.Seq.{take-length}
 use Rattle.wasm_leb.specs.declared.fault.Fault.{Fault}
+use Rattle.wasm_leb.specs.declared.fault.Fault.TheVariants as fault
 use Rattle.wasm_shapes.specs.Place.{Begins, BeginsNone}
 use Rattle.wasm_shapes.specs.Tree.{Tree, normal}
 use Rattle.wasm_shapes.specs.Types.{vector_tree}
@@ -14,13 +15,13 @@ use Rattle.wasm_write.specs.declared.fault.WriteFault.{WriteFault}
 use Rattle.wasm_write.specs.declared.fault.WriteFault.TheVariants as faults
 use Rattle.reencode_hooks.specs.declared.error.Error.{Error}
 use Rattle.reencode_hooks.specs.declared.indices.ReencodeIndices.{Ghosts}
-use Rattle.reencode_hooks.specs.Errors.{error_of_write}
+use Rattle.reencode_hooks.specs.Errors.{error_of_fault, error_of_write}
 use Rattle.reencode_hooks.specs.Run.{NeverWants}
 use Rattle.reencode_core.specs.Rows.{locals}
 use Rattle.reencode_items.specs.declared.direct.passing.Next.{Next}
 use Rattle.reencode_items.specs.declared.direct.passing.Next.TheVariants as next
 use Rattle.reencode_items.specs.Direct.{IsWithin, PassesRun, Run, SkipsLocals, StopsRun}
-use Rattle.reencode_core.specs.Clauses.{BodyMapped, BodyStays, RefusesBody}
+use Rattle.reencode_core.specs.Clauses.{BodyMapped, BodyStays, LocalsClauses, RefusesBody}
 use Rattle.reencode_core.specs.Direct.{MapsFront}
 use Rattle.reencode_core.proofs.bodies.BodyLoop.{keeps_code, same_locals}
 use Rattle.reencode_core.proofs.bodies.EachBody.{BodyClauses, body_added, body_refused}
@@ -28,6 +29,8 @@ use Rattle.reencode_core.proofs.bodies.BodyFromPlace.{begins_of, behind_skipped,
 use Rattle.reencode_core.proofs.rows_walked.OneRow.{answers, asks}
 use Rattle.reencode_core.proofs.bodies.OperatorRuns.{run_not_added, run_refused}
 use Rattle.reencode_core.proofs.bodies.WholeBody.{operators_never}
+use Rattle.reencode_core.proofs.after_error.BodyVisited.{locals_leave_none}
+use Rattle.reencode_core.proofs.after_error.VisitsMade.{ended_all, fault_unasked}
 
 module _ {S E : Type 0} (i : Ghosts S E) {bytes operators : List ℕ} {s0 : S} (old : CodeRows) (q : SkipsLocals bytes operators) where
   abbrev first : MapsFront (asks i) bytes s0 (behind_skipped bytes q) (with_skipped q) s0 next.Other
@@ -140,3 +143,13 @@ module _ {S E : Type 0} (i : Ghosts S E) {bytes : List ℕ} {s m : S} {old mid n
       let P : CodeRows → CodeRows → Result (Unit {0}) (Error E) → Type 0 = λ x y z. BodyClauses i bytes s x m y z in
       let given = subst (λ (z : Result (Unit {0}) (Error E)). P mid mid z) (answers r is) (stays.refused mid fault large) in
       subst (λ (y : CodeRows). P old y r) (sym unchanged) (subst (λ (x : CodeRows). P x mid r) same given)
+
+-- no locals begin there, and nothing was asked
+pub locals_unread : {S E : Type 0} (i : Ghosts S E) {bytes : List ℕ} {s : S} (f : Fault) → ReadsNone f 0 (BeginsNone locals bytes) → LocalsClauses i bytes s s (Err (error_of_fault f))
+locals_unread {E = E} i (fault.Read x) h = record {
+  default = search rules;
+  after_error = λ k told. locals_leave_none (asks i) (error_of_fault (fault.Read x)) (ended_all {a = []} _ (fault_unasked E (fault.Read x)) refl);
+}
+locals_unread i fault.NoMemory h = absurd h
+locals_unread i fault.CodeSize h = absurd h
+locals_unread i (fault.Header k) h = absurd h

@@ -140,16 +140,7 @@ impl<'a> Growing<'a> {
         ensures ok { OnOk result (self.new ≡ with_bytes self.old bytes.now) }
         ensures err { OnErr result (self.new ≡ self.old) }
     {
-        let Some(size) = self.size.checked_add(bytes.len() as u64) else {
-            return Err(NoMemory);
-        };
-        match self.made.extend_from_slice(bytes) {
-            Ok(()) => {
-                self.size = size;
-                Ok(())
-            }
-            Err(_) => Err(NoMemory),
-        }
+        self.add_both(&[], bytes)
     }
 
     /// Adds bytes, and others behind them.

@@ -1,19 +1,19 @@
 use Rattle.std.proofs.Common.{◌≡◌, ◌∙◌, Err, drop, IsTrue, refl, sym, ap, subst}
 use Rattle.wasm_write.specs.Bodies.{Body}
 use Rattle.reencode_core.specs.Direct.{MapsFront}
-use Rattle.reencode_core.proofs.bodies.EachBody.{body_found, body_unbegun}
+use Rattle.reencode_core.proofs.bodies.EachBody.{body_unbegun}
 use Rattle.reencode_core.proofs.bodies.BodyFromPlace.{front_begun, front_passed, passed_body, passed_held, run_deals}
-use Rattle.reencode_core.proofs.bodies.SkippedFront.{mapped_err, operators_at, passed_counted, skip_found, skip_refused, skip_wants, whole_stays, within_most}
+use Rattle.reencode_core.proofs.bodies.SkippedFront.{locals_unread, mapped_err, operators_at, passed_counted, skip_found, skip_refused, skip_wants, whole_stays, within_most}
 use Rattle.reencode_core.proofs.rows_walked.OneRow.{asks}
 use Rattle.reencode_core.proofs.direct.map_or_keep.Goals as goal
 
 pub returns-in_err-function : goal.returns-in_err-function
 returns-in_err-function g c =
-    mapped_err g.R.ReencodeIndices (body_unbegun g.R.ReencodeIndices c.args.code.now _ c.in_err-function.ensures (Err _) refl) _ c.from_residual.ensures.1
+    mapped_err g.R.ReencodeIndices (body_unbegun g.R.ReencodeIndices c.args.code.now _ c.in_err-function.ensures (Err _) refl) _ c.from_residual-in_err-function.ensures.1
 
 pub returns-in_err-reader : goal.returns-in_err-reader
 returns-in_err-reader g c =
-    mapped_err g.R.ReencodeIndices (body_found g.R.ReencodeIndices c.args.code.now c.in_ok-function.ensures _ c.in_err-reader.ensures.err (Err _)) _ c.from_residual-in_err-reader.ensures.1
+    mapped_err g.R.ReencodeIndices (body_unbegun g.R.ReencodeIndices c.args.code.now _ (locals_unread g.R.ReencodeIndices _ c.in_err-reader.ensures.err) (Err _) refl) _ c.from_residual.ensures.1
 
 pub returns-in_err-map_rest : goal.returns-in_err-map_rest
 returns-in_err-map_rest g c =
