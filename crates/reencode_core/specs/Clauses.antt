@@ -172,6 +172,17 @@ ModuleClauses i bytes s old m new result =
       wants : IsTrue i.keeps_defaults → IsTrue i.sure → HoldsCore (asks i) i.adds bytes (s, old) (m, new) result;
     }
 
+-- The same of a call that doesn't say by what rows it wants no memory.
+abbrev pub CoreClauses : {S E : Type 0} → Ghosts S E → List ℕ → S → Sections → S → Sections → Result (Unit {0}) (Error E) → Type 0
+CoreClauses i bytes s old m new result =
+    record {
+      kept : KeepsModule old new;
+      default : IsTrue i.keeps_defaults → IsTrue i.adds_nothing → GivesCore (asks i) bytes (s, old) (m, new) result;
+      woven : IsTrue i.keeps_defaults → GivesWoven (asks i) i.adds bytes (s, old) (m, new) result;
+      after_error : IsTrue i.keeps_defaults → LeavesCore i.sure i.adds_nothing (asks i) (module_in bytes) s m result;
+      headless : IsTrue i.keeps_defaults → NoCoreHeading bytes → m ≡ s;
+    }
+
 -- A module is read, and the bytes of the new one are in the answer, by a view of it.
 abbrev pub BytesClauses : {S E A : Type 0} → Ghosts S E → ℕ → List ℕ → S → S → Result A (Error E) → (A → List ℕ) → Type 0
 BytesClauses i ceiling bytes s m result view =

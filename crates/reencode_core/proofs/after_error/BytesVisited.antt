@@ -1,26 +1,15 @@
 -- The visits that were made when the bytes of a module are at fault, or a part of them is refused.
-use Rattle.std.proofs.Common.{ℕ, List, [], refl, sym, ap, inl}
+use Rattle.std.proofs.Common.{ℕ, List, sym, ap}
 use Rattle.wasm_shapes.specs.Tree.{visits}
 use Rattle.wasm_shapes.specs.Module.{core_tree}
-use Rattle.wasm_shapes.proofs.Drawn.{drawn_none}
 use Rattle.wasm_shapes.proofs.Laws.{module_headed}
 use Rattle.reencode_hooks.specs.declared.error.Error.{Error}
-use Rattle.reencode_hooks.specs.declared.error.Error.TheVariants.{NoMemory}
 use Rattle.reencode_core.specs.Leaves.{Leaves, core_in, module_in}
 use Rattle.reencode_core.specs.Rows.{Asks}
-use Rattle.reencode_core.proofs.after_error.VisitsMade.{front_none, front_same, wants_tells_none}
+use Rattle.reencode_core.proofs.after_error.VisitsMade.{front_same}
 
 module _ {S E : Type 0} (asked : Asks S E) (bytes : List ℕ) {s : S} where
-  -- memory ran out before anything was asked
-  pub bytes_leave_none : Leaves asked (core_in bytes) s NoMemory s
-  bytes_leave_none = record {
-    made = [];
-    ended = record { by = refl };
-    drawn = drawn_none;
-    reading = λ t p. front_none (visits t);
-    fault = λ none t rest f. inl (wants_tells_none E, front_none (visits t));
-  }
-
+  -- behind the header
   pub bytes_leave : {m : S} {e : Error E} → Leaves asked (module_in bytes) s e m → Leaves asked (core_in bytes) s e m
   bytes_leave l = record {
     made = l.made;

@@ -18,7 +18,8 @@ use Rattle.wasm_shapes.proofs.Drawn.{drawn_none}
 use Rattle.reencode_core.specs.Leaves.{Leaves, LeavesCore, module_in}
 use Rattle.reencode_core.proofs.weave.AddsNothing.{added_none, core_given}
 use Rattle.reencode_core.proofs.sections_walked.CoreLoop.{core_leaves, core_leaves_closing, core_leaves_end, core_leaves_hook, end_given, hook_refused, hook_stops, hook_told, hook_usual}
-use Rattle.reencode_core.proofs.sections_walked.EachSection.{Called, CoreClauses, HookClauses, SectionsKept, closing_kept, closing_left, closing_woven}
+use Rattle.reencode_core.specs.Clauses.{CoreClauses}
+use Rattle.reencode_core.proofs.sections_walked.EachSection.{Called, HookClauses, SectionsKept, closing_kept, closing_left, closing_woven}
 use Rattle.reencode_core.proofs.sections_walked.KnownKind.{keeps_more, hook_keeps}
 use Rattle.reencode_core.proofs.after_error.VisitsMade.{ended_all, front_none, not_wanting, one_ended, tells_none, wants_tells_none}
 use Rattle.reencode_core.proofs.rows_walked.OneRow.{answers, asks}

@@ -29,11 +29,10 @@ use Rattle.reencode_core.proofs.after_error.SectionVisited.{custom_drawn, number
 use Rattle.reencode_core.specs.Errors.{placed_at}
 use Rattle.reencode_core.specs.Sections.{KeepsModule, GivesAdded, StopsSection}
 use Rattle.reencode_core.specs.Names.{StopsCustom}
-use Rattle.reencode_core.specs.Core.{GivesCore}
 use Rattle.reencode_core.specs.Woven.{AddedAt, GivesWoven}
 use Rattle.reencode_core.specs.Holds.{FrameLeaves, HoldsCore}
 use Rattle.reencode_core.specs.Leaves.{CoreUpTo, EndsBy, Leaves, TellsFault, LeavesCore, NoCoreHeading, LeavesMade, custom_in, module_in, section_in}
-use Rattle.reencode_core.specs.Clauses.{CustomClauses, ModuleClauses, SectionClauses, UnknownClauses, asks}
+use Rattle.reencode_core.specs.Clauses.{CoreClauses, CustomClauses, ModuleClauses, SectionClauses, UnknownClauses, asks}
 use Rattle.reencode_core.proofs.weave.AddsNothing.{added_none, core_given}
 use Rattle.reencode_core.proofs.sections_walked.CoreLoop.{SectionsDone, PutBefore, nothing_put, closing_refused, core_leaves_closing, core_leaves_hook, core_leaves_inside, core_leaves_none, end_given, end_left, header_wrong, hook_refused, hook_told, hook_usual, no_header, hook_stops, no_frame, section_err, section_held, sections_begin, sections_more}
 use Rattle.reencode_core.proofs.sections_walked.AnySection.{GivesFramed, Reached, kind_gives, kind_reached, custom_gives, custom_reached, unknown_gives, unknown_reached}
@@ -45,17 +44,6 @@ pub record SectionsKept {S E : Type 0} (i : Ghosts S E) (start : read.Sections) 
   pub kept : KeepsModule old new
   pub len : reader.len ≡ start.len
   pub done : IsTrue i.keeps_defaults → SectionsDone (asks i) i.adds start.rest s0 old reader.rest last s new
-
--- the clauses of the call that maps a module
-abbrev pub CoreClauses : {S E : Type 0} → Ghosts S E → List ℕ → S → Sections → S → Sections → Result (Unit {0}) (Error E) → Type 0
-CoreClauses i bytes s old m new result =
-    record {
-      kept : KeepsModule old new;
-      default : IsTrue i.keeps_defaults → IsTrue i.adds_nothing → GivesCore (asks i) bytes (s, old) (m, new) result;
-      woven : IsTrue i.keeps_defaults → GivesWoven (asks i) i.adds bytes (s, old) (m, new) result;
-      after_error : IsTrue i.keeps_defaults → LeavesCore i.sure i.adds_nothing (asks i) (module_in bytes) s m result;
-      headless : IsTrue i.keeps_defaults → NoCoreHeading bytes → m ≡ s;
-    }
 
 -- the clauses of a section hook
 abbrev pub HookClauses : {S E : Type 0} → Ghosts S E → S → S → Sections → Sections → Visit → Result (Unit {0}) (Error E) → Type 0

@@ -1,24 +1,20 @@
 //! The re-encoding of a core module into pieces.
-ghost use Rattle.std.specs.Prelude.{◌≡◌, ◌++◌, ◌+◌, ◌-◌, ◌<◌, ◌≤◌, ◌^◌, ◌∷◌, [], List, ℕ, length, IfOk, IfErr, IsTrue, Ok, OnOk, false};
+ghost use Rattle.std.specs.Prelude.{◌≡◌, ◌++◌, ◌+◌, ◌-◌, ◌<◌, ◌≤◌, ◌^◌, List, ℕ, length, IfOk, IsTrue, Ok, OnOk, false};
 ghost use Rattle.wasm_shapes.specs.declared.SectionId.TheVariants as kinds;
 ghost use Rattle.wasm_shapes.specs.Tree.{normal, visits, Tree};
 ghost use Rattle.wasm_shapes.specs.Types.{vector_tree};
-ghost use Rattle.wasm_shapes.specs.Module.{code_row, core_module, unknown_tree_of};
+ghost use Rattle.wasm_shapes.specs.Module.{code_row, core_module};
 ghost use Rattle.wasm_shapes.specs.Spells.{Spells};
 ghost use Rattle.wasm_read.specs.Reading.{place_of};
 ghost use Rattle.wasm_write.specs.Sections.{AllFit, section_row};
 ghost use Rattle.wasm_write.specs.Types.{custom_section_tree};
 ghost use Rattle.reencode_hooks.specs.Hooks.{MayAdd, RepliesSection};
-ghost use Rattle.reencode_hooks.specs.Run.{LeavesVisited, accepted, ask, run};
-ghost use Rattle.reencode_core.specs.Bodies.{GivesBody, KeepsCode};
-ghost use Rattle.reencode_core.specs.Core.{GivesBytes, GivesCore};
-ghost use Rattle.reencode_core.specs.Clauses.{BodyMapped, BytesClauses};
-ghost use Rattle.reencode_core.specs.Errors.{IfParse};
-ghost use Rattle.reencode_core.specs.Leaves.{LeavesCore, LeavesMade, NoCoreHeading, body_in, core_in, custom_in, module_in, rows_in, section_in};
-ghost use Rattle.reencode_core.specs.Names.{GivesCustom};
+ghost use Rattle.reencode_hooks.specs.Run.{accepted, ask, run};
+ghost use Rattle.reencode_core.specs.Bodies.{KeepsCode};
+ghost use Rattle.reencode_core.specs.Clauses.{BodyClauses, BodyMapped, BytesClauses, CoreClauses, CustomClauses, SectionClauses, UnknownClauses};
+ghost use Rattle.reencode_core.specs.Leaves.{LeavesMade, rows_in};
 ghost use Rattle.reencode_core.specs.Rows.{GivesRows};
-ghost use Rattle.reencode_core.specs.Sections.{AddsMapped, GivesAdded, GivesSection, KeepsModule};
-ghost use Rattle.reencode_core.specs.Woven.{GivesWoven, GivesWovenBytes};
+ghost use Rattle.reencode_core.specs.Sections.{AddsMapped};
 ghost use Rattle.reencode_core.specs.Pieces.{Alternate, AreWithin, joined, kept_ranges, total};
 ghost use Rattle.reencode_core.specs.Kept.{Kept};
 ghost use Rattle.reencode_core.specs.Sinks.{GainsFrames, KeepsCodeSection, KeepsKind, KeepsRanges, KeepsRow, LeavesHook, RowsStand, StandsAt};
@@ -72,12 +68,8 @@ fn add_body<R: Reencode>(
     requires same_ceiling { own.old.ceiling ≡ code.old.code.ceiling }
     requires small { code.old.code.ceiling < 2 ^ 32 }
     ensures own { own.new.ceiling ≡ own.old.ceiling }
-    ensures kept { KeepsCode code.old.code code.new.code }
-    ensures default { IsTrue R.keeps_defaults
-        → GivesBody (ask R.reply R.next) func.entry.bytes.now (reencoder.old, code.old.code)
-        (reencoder.new, code.new.code) result }
-    ensures after_error { IsTrue R.keeps_defaults → LeavesMade R.sure (ask R.reply R.next) (body_in func.entry.bytes.now)
-        reencoder.old reencoder.new result }
+    ensures body { BodyClauses R.ReencodeIndices func.entry.bytes.now
+        reencoder.old code.old.code reencoder.new code.new.code result }
     ensures input { code.new.input ≡ code.old.input }
     ensures ranges { more ≡ false → IsTrue R.keeps_defaults
         → OnOk result (KeepsRow func.entry.bytes.now end code.old code.new) }
@@ -173,11 +165,8 @@ fn add_code_section<R: Reencode>(
     more: bool,
 ) -> Result<(), Error<R::Error>>
     requires { StandsAt sink.old.input body.now (start + length body.now) }
-    ensures kept { KeepsModule sink.old.sections sink.new.sections }
-    ensures default { IsTrue R.keeps_defaults → GivesSection (ask R.reply R.next) kinds.Code body.now
-        (reencoder.old, sink.old.sections) (reencoder.new, sink.new.sections) result }
-    ensures after_error { IsTrue R.keeps_defaults → LeavesMade R.sure (ask R.reply R.next) (section_in kinds.Code body.now)
-        reencoder.old reencoder.new result }
+    ensures section { SectionClauses R.ReencodeIndices kinds.Code body.now
+        reencoder.old sink.old.sections reencoder.new sink.new.sections result }
     ensures input { sink.new.input ≡ sink.old.input }
     ensures ranges { more ≡ false → IsTrue R.keeps_defaults
         → OnOk result (KeepsCodeSection (ask R.reply R.next) sink.old.sections.ceiling start body.now
@@ -198,11 +187,8 @@ fn add_section<R: Reencode>(
     id: SectionId,
     body: &[u8],
 ) -> Result<(), Error<R::Error>>
-    ensures kept { KeepsModule sink.old.sections sink.new.sections }
-    ensures default { IsTrue R.keeps_defaults → GivesSection (ask R.reply R.next) id body.now
-        (reencoder.old, sink.old.sections) (reencoder.new, sink.new.sections) result }
-    ensures after_error { IsTrue R.keeps_defaults → LeavesMade R.sure (ask R.reply R.next) (section_in id body.now)
-        reencoder.old reencoder.new result }
+    ensures section { SectionClauses R.ReencodeIndices id body.now
+        reencoder.old sink.old.sections reencoder.new sink.new.sections result }
     ensures input { sink.new.input ≡ sink.old.input }
     ensures ranges { OnOk result (sink.new.kept ≡ sink.old.kept) }
 {
@@ -248,13 +234,8 @@ fn add_custom<R: Reencode>(
     more: bool,
 ) -> Result<(), Error<R::Error>>
     requires { StandsAt sink.old.input section.contents.now end }
-    ensures kept { KeepsModule sink.old.sections sink.new.sections }
-    ensures default { IsTrue R.keeps_defaults → GivesCustom (ask R.reply R.next)
-        section.entry.name.now section.entry.contents.now
-        (reencoder.old, sink.old.sections) (reencoder.new, sink.new.sections) result }
-    ensures after_error { IsTrue R.keeps_defaults → LeavesMade R.sure (ask R.reply R.next)
-        (custom_in section.entry.name.now section.entry.contents.now)
-        reencoder.old reencoder.new result }
+    ensures section { CustomClauses R.ReencodeIndices section.entry.name.now section.entry.contents.now
+        reencoder.old sink.old.sections reencoder.new sink.new.sections result }
     ensures input { sink.new.input ≡ sink.old.input }
     ensures ranges { more ≡ false → OnOk result (sink.new.kept ≡ sink.old.kept) }
 {
@@ -283,13 +264,8 @@ fn add_unknown<R: Reencode>(
     contents: &[u8],
 ) -> Result<(), Error<R::Error>>
     requires { id ≤ 127 }
-    ensures kept { KeepsModule sink.old.sections sink.new.sections }
-    ensures default { IsTrue R.keeps_defaults → GivesAdded (ask R.reply R.next) id
-        (reencoder.old, sink.old.sections) (unknown_tree_of id contents.now)
-        (reencoder.new, sink.new.sections) result }
-    ensures after_error { IsTrue R.keeps_defaults → IsTrue R.sure
-        → LeavesVisited (ask R.reply R.next) reencoder.old [] reencoder.new result }
-    ensures usual { IsTrue R.keeps_defaults → IfErr result (λ e. IfParse e (λ _. ⊥)) }
+    ensures section { UnknownClauses R.ReencodeIndices id contents.now
+        reencoder.old sink.old.sections reencoder.new sink.new.sections result }
     ensures input { sink.new.input ≡ sink.old.input }
     ensures ranges { OnOk result (sink.new.kept ≡ sink.old.kept) }
 {
@@ -350,11 +326,8 @@ fn add_kind<R: Reencode>(
     more: bool,
 ) -> Result<(), Error<R::Error>>
     requires { StandsAt sink.old.input body.now (start + length body.now) }
-    ensures kept { KeepsModule sink.old.sections sink.new.sections }
-    ensures default { IsTrue R.keeps_defaults → GivesSection (ask R.reply R.next) id body.now
-        (reencoder.old, sink.old.sections) (reencoder.new, sink.new.sections) result }
-    ensures after_error { IsTrue R.keeps_defaults → LeavesMade R.sure (ask R.reply R.next) (section_in id body.now)
-        reencoder.old reencoder.new result }
+    ensures section { SectionClauses R.ReencodeIndices id body.now
+        reencoder.old sink.old.sections reencoder.new sink.new.sections result }
     ensures input { sink.new.input ≡ sink.old.input }
     ensures ranges { more ≡ false → IsTrue R.keeps_defaults
         → OnOk result (KeepsKind (ask R.reply R.next) sink.old.sections.ceiling id start body.now
@@ -376,16 +349,8 @@ fn walk<R: Reencode>(
     more: bool,
 ) -> Result<(), Error<R::Error>>
     requires { sink.old.input ≡ bytes.now }
-    ensures kept { KeepsModule sink.old.sections sink.new.sections }
-    ensures default { IsTrue R.keeps_defaults → IsTrue R.adds_nothing
-        → GivesCore (ask R.reply R.next) bytes.now (reencoder.old, sink.old.sections)
-        (reencoder.new, sink.new.sections) result }
-    ensures woven { IsTrue R.keeps_defaults
-        → GivesWoven (ask R.reply R.next) R.adds bytes.now (reencoder.old, sink.old.sections)
-        (reencoder.new, sink.new.sections) result }
-    ensures after_error { IsTrue R.keeps_defaults → LeavesCore R.sure R.adds_nothing (ask R.reply R.next)
-        (module_in bytes.now) reencoder.old reencoder.new result }
-    ensures headless { IsTrue R.keeps_defaults → NoCoreHeading bytes.now → reencoder.new ≡ reencoder.old }
+    ensures core { CoreClauses R.ReencodeIndices bytes.now
+        reencoder.old sink.old.sections reencoder.new sink.new.sections result }
     ensures input { sink.new.input ≡ sink.old.input }
     ensures ranges { more ≡ false → IsTrue R.keeps_defaults → OnOk result (KeepsRanges (ask R.reply R.next)
         sink.old.sections.ceiling bytes.now reencoder.old reencoder.new sink.old.kept sink.new.kept) }
@@ -431,15 +396,7 @@ pub fn reencode_pieces<R: Reencode>(
     bytes: &[u8],
     ceiling: u32,
 ) -> Result<Pieces, Error<R::Error>>
-    ensures default { IsTrue R.keeps_defaults → IsTrue R.adds_nothing
-        → GivesBytes (ask R.reply R.next) ceiling bytes.now r.old r.new result (joined bytes.now) }
-    ensures woven { IsTrue R.keeps_defaults
-        → GivesWovenBytes (ask R.reply R.next) R.adds ceiling bytes.now r.old r.new result
-        (joined bytes.now) }
-    ensures after_error { IsTrue R.keeps_defaults
-        → LeavesCore R.sure R.adds_nothing (ask R.reply R.next) (core_in bytes.now)
-        r.old r.new result }
-    ensures headless { IsTrue R.keeps_defaults → NoCoreHeading bytes.now → r.new ≡ r.old }
+    ensures bytes { BytesClauses R.ReencodeIndices ceiling bytes.now r.old r.new result (joined bytes.now) }
     ensures within { IfOk result (AreWithin (length bytes.now)) }
     ensures alternate { IfOk result Alternate }
     ensures size { IfOk result (λ pieces. total pieces ≡ length (joined bytes.now pieces)) }

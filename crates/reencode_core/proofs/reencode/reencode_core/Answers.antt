@@ -1,40 +1,15 @@
-use Rattle.std.proofs.Common.{rules}
-use Rattle.std.proofs.lemmas.Result.{err_from_is_err_and}
-use Rattle.reencode_core.specs.Clauses.{asks}
-use Rattle.reencode_core.proofs.weave.AddsNothing.{added_none, bytes_nothing}
-use Rattle.reencode_core.proofs.sections_walked.WholeBytes.{bytes_given, bytes_refused, bytes_wanting}
-use Rattle.reencode_core.proofs.after_error.BytesVisited.{bytes_leave, bytes_leave_none}
+use Rattle.reencode_core.proofs.sections_walked.BytesMade.{bytes_made, bytes_stopped, bytes_unmade}
 use Rattle.reencode_core.proofs.reencode.reencode_core.Goals as goal
 
 pub returns-in_err-module : goal.returns-in_err-module
-returns-in_err-module g c =
-    let p = err_from_is_err_and c.from_residual.result c.from_residual.ensures.1 in
-    rw (p.1, p.2) (record {
-      default = search rules;
-      woven = λ k. bytes_wanting _ _ _ _ _ _ _;
-      after_error = λ k told size. bytes_leave_none (asks g.R.ReencodeIndices) _;
-      headless = search rules;
-    })
+returns-in_err-module g c = bytes_unmade g.R.ReencodeIndices g.met.R.ReencodeIndices.adds_ok _ _ c.from_residual.ensures.1
 
 pub returns-in_err-parse_core_module : goal.returns-in_err-parse_core_module
 returns-in_err-parse_core_module g c =
-    let p = err_from_is_err_and c.from_residual-in_err-parse_core_module.result c.from_residual-in_err-parse_core_module.ensures.1 in
     let gone = c.in_err-parse_core_module.ensures in
-    rw (p.1, p.2) (record {
-      default = λ k n. bytes_nothing _ _ (added_none g.met.R.ReencodeIndices.adds_ok n) _ _ _ _ _ _
-          (bytes_refused _ _ _ _ _ _ _ _ _ _ c.in_ok-module.ensures (gone.woven k));
-      woven = λ k. bytes_refused _ _ _ _ _ _ _ _ _ _ c.in_ok-module.ensures (gone.woven k);
-      after_error = λ k told size. bytes_leave (asks g.R.ReencodeIndices) _ (gone.after_error k told size);
-      headless = gone.headless;
-    })
+    bytes_stopped g.R.ReencodeIndices g.met.R.ReencodeIndices.adds_ok _ c.in_ok-module.ensures _ (record { kept = gone.kept; default = gone.default; woven = gone.woven; after_error = gone.after_error; headless = gone.headless }) _ c.from_residual-in_err-parse_core_module.ensures.1
 
 pub returns : goal.returns
 returns g c =
     let given = c.in_ok-parse_core_module.ensures in
-    record {
-      default = λ k n. bytes_nothing _ _ (added_none g.met.R.ReencodeIndices.adds_ok n) _ _ _ _ _ _
-          (bytes_given _ _ _ _ _ _ _ _ _ c.in_ok-module.ensures (given.woven k) _ _ c.finish.ensures);
-      woven = λ k. bytes_given _ _ _ _ _ _ _ _ _ c.in_ok-module.ensures (given.woven k) _ _ c.finish.ensures;
-      after_error = λ k. tt;
-      headless = given.headless;
-    }
+    bytes_made g.R.ReencodeIndices g.met.R.ReencodeIndices.adds_ok _ c.in_ok-module.ensures (record { kept = given.kept; default = given.default; woven = given.woven; after_error = given.after_error; headless = given.headless }) _ c.finish.ensures

@@ -36,11 +36,11 @@ pub rows-preserved : goal.rows-preserved
 rows-preserved g c =
     let row = rw c.in-Some.is at c.in_ok-func.ensures.row in
     let e = c.in-Ok.ensures in record {
-      done = code_more g.R.ReencodeIndices c.rows.invariant.done row (record { kept = e.kept; default = e.default; after_error = e.after_error });
+      done = code_more g.R.ReencodeIndices c.rows.invariant.done row e.body;
       stands = row_behind c.args.input.now c.in-Some.func.bytes.now c.args.start _ _ c.rows.invariant.stands row;
       same = e.input ∙ c.rows.invariant.same;
-      small = rw e.kept.ceiling c.rows.invariant.small;
-      own = e.own ∙ c.rows.invariant.own ∙ sym e.kept.ceiling;
+      small = rw e.body.kept.ceiling c.rows.invariant.small;
+      own = e.own ∙ c.rows.invariant.own ∙ sym e.body.kept.ceiling;
       frames = λ more k.
           let is : c.place_in-end.result ≡ c.args.start + place_of c.next_row.new.self = omega (arith, c.place.ensures, c.place_in-end.ensures) in
           let P : ℕ → Type 0 = λ n. KeepsRow c.in-Some.func.bytes.now n c.rows.code c.add_body.new.code in
@@ -51,13 +51,13 @@ pub returns-in-Err-clause-default : goal.returns-in-Err-clause-default
 returns-in-Err-clause-default g c =
     let row = rw c.in-Some.is at c.in_ok-func.ensures.row in
     let e = c.in-Err.ensures in
-    (code_refused g.R.ReencodeIndices c.rows.invariant.done row c.in-Err.e c.place-at.result (record { kept = e.kept; default = e.default; after_error = e.after_error }) c.place-at.ensures _ c.placed.ensures).default
+    (code_refused g.R.ReencodeIndices c.rows.invariant.done row c.in-Err.e c.place-at.result e.body c.place-at.ensures _ c.placed.ensures).default
 
 pub returns-in-Err-clause-after_error : goal.returns-in-Err-clause-after_error
 returns-in-Err-clause-after_error g c =
     let row = rw c.in-Some.is at c.in_ok-func.ensures.row in
     let e = c.in-Err.ensures in
-    (code_refused g.R.ReencodeIndices c.rows.invariant.done row c.in-Err.e c.place-at.result (record { kept = e.kept; default = e.default; after_error = e.after_error }) c.place-at.ensures _ c.placed.ensures).after_error
+    (code_refused g.R.ReencodeIndices c.rows.invariant.done row c.in-Err.e c.place-at.result e.body c.place-at.ensures _ c.placed.ensures).after_error
 
 pub returns-in-None-clause-default : goal.returns-in-None-clause-default
 returns-in-None-clause-default g c = (code_ended g.R.ReencodeIndices c.rows.invariant.done (rw c.in-None.is at c.in_ok-func.ensures.ended)).default

@@ -17,90 +17,30 @@ use Rattle.reencode_core.proofs.pieces.reencode.walk.Goals as goal
 behind : (bytes front rest text left : List ℕ) → bytes ≡ front ++ rest → rest ≡ text ++ left → bytes ≡ (front ++ text) ++ left
 behind bytes front rest text left e f = e ∙ ap (λ (z : List ℕ). front ++ z) f ∙ sym (append_assoc front text left)
 
-pub returns-in_err-payloads-clause-default : goal.returns-in_err-payloads-clause-default
-returns-in_err-payloads-clause-default g c =
+pub returns-in_err-payloads-clause-core : goal.returns-in_err-payloads-clause-core
+returns-in_err-payloads-clause-core g c =
     let keeps = g.met.R.ReencodeIndices.adds_ok in
-    (core_headless g.R.ReencodeIndices keeps _ c.in_err-payloads.ensures.err _ c.from_residual.ensures.1).default
-
-pub returns-in_err-payloads-clause-woven : goal.returns-in_err-payloads-clause-woven
-returns-in_err-payloads-clause-woven g c =
-    let keeps = g.met.R.ReencodeIndices.adds_ok in
-    (core_headless g.R.ReencodeIndices keeps _ c.in_err-payloads.ensures.err _ c.from_residual.ensures.1).woven
-
-pub returns-in_err-payloads-clause-after_error : goal.returns-in_err-payloads-clause-after_error
-returns-in_err-payloads-clause-after_error g c =
-    let keeps = g.met.R.ReencodeIndices.adds_ok in
-    (core_headless g.R.ReencodeIndices keeps {old = c.args.sink.now.sections} _ c.in_err-payloads.ensures.err _ c.from_residual.ensures.1).after_error
-
-pub returns-in_err-payloads-clause-headless : goal.returns-in_err-payloads-clause-headless
-returns-in_err-payloads-clause-headless g c =
-    let keeps = g.met.R.ReencodeIndices.adds_ok in
-    (core_headless g.R.ReencodeIndices keeps {old = c.args.sink.now.sections} _ c.in_err-payloads.ensures.err _ c.from_residual.ensures.1).headless
+    core_headless g.R.ReencodeIndices keeps _ c.in_err-payloads.ensures.err _ c.from_residual.ensures.1
 
 pub sections-init : goal.sections-init
 sections-init g c =
     let header = c.in_ok-payloads.ensures.ok in
     record { done = sections_begun g.R.ReencodeIndices _ _ _; same = c.requires; stands = (core_header, header.stands); ranges = λ more k. ranges_begun (asks g.R.ReencodeIndices) g.R.ReencodeIndices.adds _ _ _ _ }
 
-pub returns-in_err-id-clause-default : goal.returns-in_err-id-clause-default
-returns-in_err-id-clause-default g c =
+pub returns-in_err-id-clause-core : goal.returns-in_err-id-clause-core
+returns-in_err-id-clause-core g c =
     let keeps = g.met.R.ReencodeIndices.adds_ok in
     let header = c.in_ok-payloads.ensures.ok in
     let inv = c.sections.invariant in
-    (core_unframed g.R.ReencodeIndices keeps header inv.done _ c.in_err-id.ensures.err _ c.from_residual-in_err-id.ensures.1).default
+    core_unframed g.R.ReencodeIndices keeps header inv.done _ c.in_err-id.ensures.err _ c.from_residual-in_err-id.ensures.1
 
-pub returns-in_err-id-clause-woven : goal.returns-in_err-id-clause-woven
-returns-in_err-id-clause-woven g c =
-    let keeps = g.met.R.ReencodeIndices.adds_ok in
-    let header = c.in_ok-payloads.ensures.ok in
-    let inv = c.sections.invariant in
-    (core_unframed g.R.ReencodeIndices keeps header inv.done _ c.in_err-id.ensures.err _ c.from_residual-in_err-id.ensures.1).woven
-
-pub returns-in_err-id-clause-after_error : goal.returns-in_err-id-clause-after_error
-returns-in_err-id-clause-after_error g c =
-    let keeps = g.met.R.ReencodeIndices.adds_ok in
-    let header = c.in_ok-payloads.ensures.ok in
-    let inv = c.sections.invariant in
-    (core_unframed g.R.ReencodeIndices keeps header inv.done _ c.in_err-id.ensures.err _ c.from_residual-in_err-id.ensures.1).after_error
-
-pub returns-in_err-id-clause-headless : goal.returns-in_err-id-clause-headless
-returns-in_err-id-clause-headless g c =
-    let keeps = g.met.R.ReencodeIndices.adds_ok in
-    let header = c.in_ok-payloads.ensures.ok in
-    let inv = c.sections.invariant in
-    (core_unframed g.R.ReencodeIndices keeps header inv.done _ c.in_err-id.ensures.err _ c.from_residual-in_err-id.ensures.1).headless
-
-pub returns-in_err-add_between-in-Some-Section-clause-default : goal.returns-in_err-add_between-in-Some-Section-clause-default
-returns-in_err-add_between-in-Some-Section-clause-default g c =
+pub returns-in_err-add_between-in-Some-Section-clause-core : goal.returns-in_err-add_between-in-Some-Section-clause-core
+returns-in_err-add_between-in-Some-Section-clause-core g c =
     let keeps = g.met.R.ReencodeIndices.adds_ok in
     let header = c.in_ok-payloads.ensures.ok in
     let inv = c.sections.invariant in
     let frame = rw (c.in-Some-Section.is, c.in-Some-Section.field-0-is) at c.in_ok-id.ensures.some in
-    (between_refused g.R.ReencodeIndices keeps header inv.done c.in-Some-Section.id _ frame c.in_err-add_between-in-Some-Section.ensures.answer c.in_err-add_between-in-Some-Section.ensures.leaves _ c.from_residual-in_err-add_between-in-Some-Section.ensures.1).default
-
-pub returns-in_err-add_between-in-Some-Section-clause-woven : goal.returns-in_err-add_between-in-Some-Section-clause-woven
-returns-in_err-add_between-in-Some-Section-clause-woven g c =
-    let keeps = g.met.R.ReencodeIndices.adds_ok in
-    let header = c.in_ok-payloads.ensures.ok in
-    let inv = c.sections.invariant in
-    let frame = rw (c.in-Some-Section.is, c.in-Some-Section.field-0-is) at c.in_ok-id.ensures.some in
-    (between_refused g.R.ReencodeIndices keeps header inv.done c.in-Some-Section.id _ frame c.in_err-add_between-in-Some-Section.ensures.answer c.in_err-add_between-in-Some-Section.ensures.leaves _ c.from_residual-in_err-add_between-in-Some-Section.ensures.1).woven
-
-pub returns-in_err-add_between-in-Some-Section-clause-after_error : goal.returns-in_err-add_between-in-Some-Section-clause-after_error
-returns-in_err-add_between-in-Some-Section-clause-after_error g c =
-    let keeps = g.met.R.ReencodeIndices.adds_ok in
-    let header = c.in_ok-payloads.ensures.ok in
-    let inv = c.sections.invariant in
-    let frame = rw (c.in-Some-Section.is, c.in-Some-Section.field-0-is) at c.in_ok-id.ensures.some in
-    (between_refused g.R.ReencodeIndices keeps header inv.done c.in-Some-Section.id _ frame c.in_err-add_between-in-Some-Section.ensures.answer c.in_err-add_between-in-Some-Section.ensures.leaves _ c.from_residual-in_err-add_between-in-Some-Section.ensures.1).after_error
-
-pub returns-in_err-add_between-in-Some-Section-clause-headless : goal.returns-in_err-add_between-in-Some-Section-clause-headless
-returns-in_err-add_between-in-Some-Section-clause-headless g c =
-    let keeps = g.met.R.ReencodeIndices.adds_ok in
-    let header = c.in_ok-payloads.ensures.ok in
-    let inv = c.sections.invariant in
-    let frame = rw (c.in-Some-Section.is, c.in-Some-Section.field-0-is) at c.in_ok-id.ensures.some in
-    (between_refused g.R.ReencodeIndices keeps header inv.done c.in-Some-Section.id _ frame c.in_err-add_between-in-Some-Section.ensures.answer c.in_err-add_between-in-Some-Section.ensures.leaves _ c.from_residual-in_err-add_between-in-Some-Section.ensures.1).headless
+    between_refused g.R.ReencodeIndices keeps header inv.done c.in-Some-Section.id _ frame c.in_err-add_between-in-Some-Section.ensures.answer c.in_err-add_between-in-Some-Section.ensures.leaves _ c.from_residual-in_err-add_between-in-Some-Section.ensures.1
 
 pub add_kind-requires : goal.add_kind-requires
 add_kind-requires g c =
@@ -115,53 +55,17 @@ add_kind-requires g c =
     let input = c.in_ok-add_between-in-Some-Section.ensures.input ∙ inv.same in
     subst P (sym input) (subst Q end stands)
 
-pub returns-in_err-add_between-in-Ok-clause-default : goal.returns-in_err-add_between-in-Ok-clause-default
-returns-in_err-add_between-in-Ok-clause-default g c =
+pub returns-in_err-add_between-in-Ok-clause-core : goal.returns-in_err-add_between-in-Ok-clause-core
+returns-in_err-add_between-in-Ok-clause-core g c =
     let keeps = g.met.R.ReencodeIndices.adds_ok in
     let header = c.in_ok-payloads.ensures.ok in
     let inv = c.sections.invariant in
     let frame = rw (c.in-Some-Section.is, c.in-Some-Section.field-0-is) at c.in_ok-id.ensures.some in
     let e = c.in-Ok.ensures in
-    (behind_refused g.R.ReencodeIndices keeps header inv.done c.in-Some-Section.id _
-    (kind_called g.R.ReencodeIndices keeps header inv.done c.in-Some-Section.id frame (hook_answered g.R.ReencodeIndices c.sections.reencoder c.add_between.new.reencoder c.sections.sink.sections c.add_between.new.sink.sections (Section c.sections.last (Some c.in-Some-Section.id)) c.in_ok-add_between-in-Some-Section.ensures.answer c.in_ok-add_between-in-Some-Section.ensures.fits) (record { kept = e.kept; default = e.default; after_error = e.after_error }))
+    behind_refused g.R.ReencodeIndices keeps header inv.done c.in-Some-Section.id _
+    (kind_called g.R.ReencodeIndices keeps header inv.done c.in-Some-Section.id frame (hook_answered g.R.ReencodeIndices c.sections.reencoder c.add_between.new.reencoder c.sections.sink.sections c.add_between.new.sink.sections (Section c.sections.last (Some c.in-Some-Section.id)) c.in_ok-add_between-in-Some-Section.ensures.answer c.in_ok-add_between-in-Some-Section.ensures.fits) e.section)
     (hook_answered g.R.ReencodeIndices c.sections.reencoder c.add_between.new.reencoder c.sections.sink.sections c.add_between.new.sink.sections (Section c.sections.last (Some c.in-Some-Section.id)) c.in_ok-add_between-in-Some-Section.ensures.answer c.in_ok-add_between-in-Some-Section.ensures.fits)
-    c.in_err-add_between-in-Ok.ensures.answer c.in_err-add_between-in-Ok.ensures.leaves _ c.from_residual-in_err-add_between-in-Ok.ensures.1).default
-
-pub returns-in_err-add_between-in-Ok-clause-woven : goal.returns-in_err-add_between-in-Ok-clause-woven
-returns-in_err-add_between-in-Ok-clause-woven g c =
-    let keeps = g.met.R.ReencodeIndices.adds_ok in
-    let header = c.in_ok-payloads.ensures.ok in
-    let inv = c.sections.invariant in
-    let frame = rw (c.in-Some-Section.is, c.in-Some-Section.field-0-is) at c.in_ok-id.ensures.some in
-    let e = c.in-Ok.ensures in
-    (behind_refused g.R.ReencodeIndices keeps header inv.done c.in-Some-Section.id _
-    (kind_called g.R.ReencodeIndices keeps header inv.done c.in-Some-Section.id frame (hook_answered g.R.ReencodeIndices c.sections.reencoder c.add_between.new.reencoder c.sections.sink.sections c.add_between.new.sink.sections (Section c.sections.last (Some c.in-Some-Section.id)) c.in_ok-add_between-in-Some-Section.ensures.answer c.in_ok-add_between-in-Some-Section.ensures.fits) (record { kept = e.kept; default = e.default; after_error = e.after_error }))
-    (hook_answered g.R.ReencodeIndices c.sections.reencoder c.add_between.new.reencoder c.sections.sink.sections c.add_between.new.sink.sections (Section c.sections.last (Some c.in-Some-Section.id)) c.in_ok-add_between-in-Some-Section.ensures.answer c.in_ok-add_between-in-Some-Section.ensures.fits)
-    c.in_err-add_between-in-Ok.ensures.answer c.in_err-add_between-in-Ok.ensures.leaves _ c.from_residual-in_err-add_between-in-Ok.ensures.1).woven
-
-pub returns-in_err-add_between-in-Ok-clause-after_error : goal.returns-in_err-add_between-in-Ok-clause-after_error
-returns-in_err-add_between-in-Ok-clause-after_error g c =
-    let keeps = g.met.R.ReencodeIndices.adds_ok in
-    let header = c.in_ok-payloads.ensures.ok in
-    let inv = c.sections.invariant in
-    let frame = rw (c.in-Some-Section.is, c.in-Some-Section.field-0-is) at c.in_ok-id.ensures.some in
-    let e = c.in-Ok.ensures in
-    (behind_refused g.R.ReencodeIndices keeps header inv.done c.in-Some-Section.id _
-    (kind_called g.R.ReencodeIndices keeps header inv.done c.in-Some-Section.id frame (hook_answered g.R.ReencodeIndices c.sections.reencoder c.add_between.new.reencoder c.sections.sink.sections c.add_between.new.sink.sections (Section c.sections.last (Some c.in-Some-Section.id)) c.in_ok-add_between-in-Some-Section.ensures.answer c.in_ok-add_between-in-Some-Section.ensures.fits) (record { kept = e.kept; default = e.default; after_error = e.after_error }))
-    (hook_answered g.R.ReencodeIndices c.sections.reencoder c.add_between.new.reencoder c.sections.sink.sections c.add_between.new.sink.sections (Section c.sections.last (Some c.in-Some-Section.id)) c.in_ok-add_between-in-Some-Section.ensures.answer c.in_ok-add_between-in-Some-Section.ensures.fits)
-    c.in_err-add_between-in-Ok.ensures.answer c.in_err-add_between-in-Ok.ensures.leaves _ c.from_residual-in_err-add_between-in-Ok.ensures.1).after_error
-
-pub returns-in_err-add_between-in-Ok-clause-headless : goal.returns-in_err-add_between-in-Ok-clause-headless
-returns-in_err-add_between-in-Ok-clause-headless g c =
-    let keeps = g.met.R.ReencodeIndices.adds_ok in
-    let header = c.in_ok-payloads.ensures.ok in
-    let inv = c.sections.invariant in
-    let frame = rw (c.in-Some-Section.is, c.in-Some-Section.field-0-is) at c.in_ok-id.ensures.some in
-    let e = c.in-Ok.ensures in
-    (behind_refused g.R.ReencodeIndices keeps header inv.done c.in-Some-Section.id _
-    (kind_called g.R.ReencodeIndices keeps header inv.done c.in-Some-Section.id frame (hook_answered g.R.ReencodeIndices c.sections.reencoder c.add_between.new.reencoder c.sections.sink.sections c.add_between.new.sink.sections (Section c.sections.last (Some c.in-Some-Section.id)) c.in_ok-add_between-in-Some-Section.ensures.answer c.in_ok-add_between-in-Some-Section.ensures.fits) (record { kept = e.kept; default = e.default; after_error = e.after_error }))
-    (hook_answered g.R.ReencodeIndices c.sections.reencoder c.add_between.new.reencoder c.sections.sink.sections c.add_between.new.sink.sections (Section c.sections.last (Some c.in-Some-Section.id)) c.in_ok-add_between-in-Some-Section.ensures.answer c.in_ok-add_between-in-Some-Section.ensures.fits)
-    c.in_err-add_between-in-Ok.ensures.answer c.in_err-add_between-in-Ok.ensures.leaves _ c.from_residual-in_err-add_between-in-Ok.ensures.1).headless
+    c.in_err-add_between-in-Ok.ensures.answer c.in_err-add_between-in-Ok.ensures.leaves _ c.from_residual-in_err-add_between-in-Ok.ensures.1
 
 pub sections-preserved-in-Ok : goal.sections-preserved-in-Ok
 sections-preserved-in-Ok g c =
@@ -173,10 +77,10 @@ sections-preserved-in-Ok g c =
     let stands = section_stands c.args.bytes.now inv.stands.0 _ c.in-Some-Section.body.now _ _ inv.stands.1 frame in
     let within = text_within stands in
     let end : length c.args.bytes.now - length c.next.new.self.rest ≡ c.saturating_sub-start.result + length c.in-Some-Section.body.now = omega (arith, within, c.place.ensures, c.saturating_sub-start.ensures, c.in_ok-id.ensures.len, inv.done.len, header.len) in
-    let call = kind_called g.R.ReencodeIndices keeps header inv.done c.in-Some-Section.id frame (hook_answered g.R.ReencodeIndices c.sections.reencoder c.add_between.new.reencoder c.sections.sink.sections c.add_between.new.sink.sections (Section c.sections.last (Some c.in-Some-Section.id)) c.in_ok-add_between-in-Some-Section.ensures.answer c.in_ok-add_between-in-Some-Section.ensures.fits) (record { kept = e.kept; default = e.default; after_error = e.after_error }) in
+    let call = kind_called g.R.ReencodeIndices keeps header inv.done c.in-Some-Section.id frame (hook_answered g.R.ReencodeIndices c.sections.reencoder c.add_between.new.reencoder c.sections.sink.sections c.add_between.new.sink.sections (Section c.sections.last (Some c.in-Some-Section.id)) c.in_ok-add_between-in-Some-Section.ensures.answer c.in_ok-add_between-in-Some-Section.ensures.fits) e.section in
     let same_kept = c.in_ok-add_between-in-Some-Section.ensures.ranges in
     record {
-      done = core_closed g.R.ReencodeIndices keeps header inv.done c.in-Some-Section.id refl c.in_ok-id.ensures.len (kind_called g.R.ReencodeIndices keeps header inv.done c.in-Some-Section.id frame (hook_answered g.R.ReencodeIndices c.sections.reencoder c.add_between.new.reencoder c.sections.sink.sections c.add_between.new.sink.sections (Section c.sections.last (Some c.in-Some-Section.id)) c.in_ok-add_between-in-Some-Section.ensures.answer c.in_ok-add_between-in-Some-Section.ensures.fits) (record { kept = e.kept; default = e.default; after_error = e.after_error })) (hook_answered g.R.ReencodeIndices c.add_kind.new.reencoder c.add_between-in-Ok.new.reencoder c.add_kind.new.sink.sections c.add_between-in-Ok.new.sink.sections (Closed c.in-Some-Section.id) c.in_ok-add_between-in-Ok.ensures.answer c.in_ok-add_between-in-Ok.ensures.fits);
+      done = core_closed g.R.ReencodeIndices keeps header inv.done c.in-Some-Section.id refl c.in_ok-id.ensures.len (kind_called g.R.ReencodeIndices keeps header inv.done c.in-Some-Section.id frame (hook_answered g.R.ReencodeIndices c.sections.reencoder c.add_between.new.reencoder c.sections.sink.sections c.add_between.new.sink.sections (Section c.sections.last (Some c.in-Some-Section.id)) c.in_ok-add_between-in-Some-Section.ensures.answer c.in_ok-add_between-in-Some-Section.ensures.fits) e.section) (hook_answered g.R.ReencodeIndices c.add_kind.new.reencoder c.add_between-in-Ok.new.reencoder c.add_kind.new.sink.sections c.add_between-in-Ok.new.sink.sections (Closed c.in-Some-Section.id) c.in_ok-add_between-in-Ok.ensures.answer c.in_ok-add_between-in-Ok.ensures.fits);
       same = c.in_ok-add_between-in-Ok.ensures.input ∙ e.input ∙ c.in_ok-add_between-in-Some-Section.ensures.input ∙ inv.same;
       stands = (inv.stands.0 ++ frame.text, behind c.args.bytes.now inv.stands.0 _ frame.text _ inv.stands.1 frame.reads);
       ranges = λ more d.
@@ -188,45 +92,15 @@ sections-preserved-in-Ok g c =
           (body_place c.args.bytes.now _ text _ x _ _ header.stands st rd end) w);
     }
 
-pub returns-in-Err-clause-default : goal.returns-in-Err-clause-default
-returns-in-Err-clause-default g c =
+pub returns-in-Err-clause-core : goal.returns-in-Err-clause-core
+returns-in-Err-clause-core g c =
     let keeps = g.met.R.ReencodeIndices.adds_ok in
     let header = c.in_ok-payloads.ensures.ok in
     let inv = c.sections.invariant in
     let frame = rw (c.in-Some-Section.is, c.in-Some-Section.field-0-is) at c.in_ok-id.ensures.some in
     let at = rw (c.in-Some-Section.is, c.in-Some-Section.field-0-is) at c.in_ok-id.ensures.at in
     let e = c.in-Err.ensures in
-    (core_section_refused g.R.ReencodeIndices keeps header inv.done c.in-Err.e c.in-Some-Section.at (kind_called g.R.ReencodeIndices keeps header inv.done c.in-Some-Section.id frame (hook_answered g.R.ReencodeIndices c.sections.reencoder c.add_between.new.reencoder c.sections.sink.sections c.add_between.new.sink.sections (Section c.sections.last (Some c.in-Some-Section.id)) c.in_ok-add_between-in-Some-Section.ensures.answer c.in_ok-add_between-in-Some-Section.ensures.fits) (record { kept = e.kept; default = e.default; after_error = e.after_error })) at _ c.placed.ensures).default
-
-pub returns-in-Err-clause-woven : goal.returns-in-Err-clause-woven
-returns-in-Err-clause-woven g c =
-    let keeps = g.met.R.ReencodeIndices.adds_ok in
-    let header = c.in_ok-payloads.ensures.ok in
-    let inv = c.sections.invariant in
-    let frame = rw (c.in-Some-Section.is, c.in-Some-Section.field-0-is) at c.in_ok-id.ensures.some in
-    let at = rw (c.in-Some-Section.is, c.in-Some-Section.field-0-is) at c.in_ok-id.ensures.at in
-    let e = c.in-Err.ensures in
-    (core_section_refused g.R.ReencodeIndices keeps header inv.done c.in-Err.e c.in-Some-Section.at (kind_called g.R.ReencodeIndices keeps header inv.done c.in-Some-Section.id frame (hook_answered g.R.ReencodeIndices c.sections.reencoder c.add_between.new.reencoder c.sections.sink.sections c.add_between.new.sink.sections (Section c.sections.last (Some c.in-Some-Section.id)) c.in_ok-add_between-in-Some-Section.ensures.answer c.in_ok-add_between-in-Some-Section.ensures.fits) (record { kept = e.kept; default = e.default; after_error = e.after_error })) at _ c.placed.ensures).woven
-
-pub returns-in-Err-clause-after_error : goal.returns-in-Err-clause-after_error
-returns-in-Err-clause-after_error g c =
-    let keeps = g.met.R.ReencodeIndices.adds_ok in
-    let header = c.in_ok-payloads.ensures.ok in
-    let inv = c.sections.invariant in
-    let frame = rw (c.in-Some-Section.is, c.in-Some-Section.field-0-is) at c.in_ok-id.ensures.some in
-    let at = rw (c.in-Some-Section.is, c.in-Some-Section.field-0-is) at c.in_ok-id.ensures.at in
-    let e = c.in-Err.ensures in
-    (core_section_refused g.R.ReencodeIndices keeps header inv.done c.in-Err.e c.in-Some-Section.at (kind_called g.R.ReencodeIndices keeps header inv.done c.in-Some-Section.id frame (hook_answered g.R.ReencodeIndices c.sections.reencoder c.add_between.new.reencoder c.sections.sink.sections c.add_between.new.sink.sections (Section c.sections.last (Some c.in-Some-Section.id)) c.in_ok-add_between-in-Some-Section.ensures.answer c.in_ok-add_between-in-Some-Section.ensures.fits) (record { kept = e.kept; default = e.default; after_error = e.after_error })) at _ c.placed.ensures).after_error
-
-pub returns-in-Err-clause-headless : goal.returns-in-Err-clause-headless
-returns-in-Err-clause-headless g c =
-    let keeps = g.met.R.ReencodeIndices.adds_ok in
-    let header = c.in_ok-payloads.ensures.ok in
-    let inv = c.sections.invariant in
-    let frame = rw (c.in-Some-Section.is, c.in-Some-Section.field-0-is) at c.in_ok-id.ensures.some in
-    let at = rw (c.in-Some-Section.is, c.in-Some-Section.field-0-is) at c.in_ok-id.ensures.at in
-    let e = c.in-Err.ensures in
-    (core_section_refused g.R.ReencodeIndices keeps header inv.done c.in-Err.e c.in-Some-Section.at (kind_called g.R.ReencodeIndices keeps header inv.done c.in-Some-Section.id frame (hook_answered g.R.ReencodeIndices c.sections.reencoder c.add_between.new.reencoder c.sections.sink.sections c.add_between.new.sink.sections (Section c.sections.last (Some c.in-Some-Section.id)) c.in_ok-add_between-in-Some-Section.ensures.answer c.in_ok-add_between-in-Some-Section.ensures.fits) (record { kept = e.kept; default = e.default; after_error = e.after_error })) at _ c.placed.ensures).headless
+    core_section_refused g.R.ReencodeIndices keeps header inv.done c.in-Err.e c.in-Some-Section.at (kind_called g.R.ReencodeIndices keeps header inv.done c.in-Some-Section.id frame (hook_answered g.R.ReencodeIndices c.sections.reencoder c.add_between.new.reencoder c.sections.sink.sections c.add_between.new.sink.sections (Section c.sections.last (Some c.in-Some-Section.id)) c.in_ok-add_between-in-Some-Section.ensures.answer c.in_ok-add_between-in-Some-Section.ensures.fits) e.section) at _ c.placed.ensures
 
 pub add_custom-requires : goal.add_custom-requires
 add_custom-requires g c =
@@ -247,53 +121,23 @@ sections-preserved-in-Ok-add_custom g c =
     let inv = c.sections.invariant in
     let frame = rw (c.in-Some-Custom.is, c.in-Some-Custom.field-0-is) at c.in_ok-id.ensures.some in
     let e = c.in-Ok-add_custom.ensures in
-    let call = custom_called g.R.ReencodeIndices keeps header inv.done frame (record { kept = e.kept; default = e.default; after_error = e.after_error }) in
+    let call = custom_called g.R.ReencodeIndices keeps header inv.done frame e.section in
     record {
-      done = core_more g.R.ReencodeIndices keeps header inv.done refl c.in_ok-id.ensures.len (custom_called g.R.ReencodeIndices keeps header inv.done frame (record { kept = e.kept; default = e.default; after_error = e.after_error })) (AddedAt.custom _ _);
+      done = core_more g.R.ReencodeIndices keeps header inv.done refl c.in_ok-id.ensures.len (custom_called g.R.ReencodeIndices keeps header inv.done frame e.section) (AddedAt.custom _ _);
       same = e.input ∙ inv.same;
       stands = (inv.stands.0 ++ frame.text, behind c.args.bytes.now inv.stands.0 _ frame.text _ inv.stands.1 frame.reads);
       ranges = λ more d. ranges_more (asks g.R.ReencodeIndices) g.R.ReencodeIndices.adds _ c.sections.sink.kept c.add_custom.new.sink.kept (inv.ranges more d) (call.reached d) call.put (call.gives d) (nothing_put (AddedAt.custom _ _)) (λ text x t u st rd i w. inr (custom_not_code _ _ t i, e.ranges more));
     }
 
-pub returns-in-Err-add_custom-clause-default : goal.returns-in-Err-add_custom-clause-default
-returns-in-Err-add_custom-clause-default g c =
+pub returns-in-Err-add_custom-clause-core : goal.returns-in-Err-add_custom-clause-core
+returns-in-Err-add_custom-clause-core g c =
     let keeps = g.met.R.ReencodeIndices.adds_ok in
     let header = c.in_ok-payloads.ensures.ok in
     let inv = c.sections.invariant in
     let frame = rw (c.in-Some-Custom.is, c.in-Some-Custom.field-0-is) at c.in_ok-id.ensures.some in
     let at = rw (c.in-Some-Custom.is, c.in-Some-Custom.field-0-is) at c.in_ok-id.ensures.at in
     let e = c.in-Err-add_custom.ensures in
-    (core_section_refused g.R.ReencodeIndices keeps header inv.done c.in-Err-add_custom.e c.in-Some-Custom.at (custom_called g.R.ReencodeIndices keeps header inv.done frame (record { kept = e.kept; default = e.default; after_error = e.after_error })) at _ c.placed-in-Err-add_custom.ensures).default
-
-pub returns-in-Err-add_custom-clause-woven : goal.returns-in-Err-add_custom-clause-woven
-returns-in-Err-add_custom-clause-woven g c =
-    let keeps = g.met.R.ReencodeIndices.adds_ok in
-    let header = c.in_ok-payloads.ensures.ok in
-    let inv = c.sections.invariant in
-    let frame = rw (c.in-Some-Custom.is, c.in-Some-Custom.field-0-is) at c.in_ok-id.ensures.some in
-    let at = rw (c.in-Some-Custom.is, c.in-Some-Custom.field-0-is) at c.in_ok-id.ensures.at in
-    let e = c.in-Err-add_custom.ensures in
-    (core_section_refused g.R.ReencodeIndices keeps header inv.done c.in-Err-add_custom.e c.in-Some-Custom.at (custom_called g.R.ReencodeIndices keeps header inv.done frame (record { kept = e.kept; default = e.default; after_error = e.after_error })) at _ c.placed-in-Err-add_custom.ensures).woven
-
-pub returns-in-Err-add_custom-clause-after_error : goal.returns-in-Err-add_custom-clause-after_error
-returns-in-Err-add_custom-clause-after_error g c =
-    let keeps = g.met.R.ReencodeIndices.adds_ok in
-    let header = c.in_ok-payloads.ensures.ok in
-    let inv = c.sections.invariant in
-    let frame = rw (c.in-Some-Custom.is, c.in-Some-Custom.field-0-is) at c.in_ok-id.ensures.some in
-    let at = rw (c.in-Some-Custom.is, c.in-Some-Custom.field-0-is) at c.in_ok-id.ensures.at in
-    let e = c.in-Err-add_custom.ensures in
-    (core_section_refused g.R.ReencodeIndices keeps header inv.done c.in-Err-add_custom.e c.in-Some-Custom.at (custom_called g.R.ReencodeIndices keeps header inv.done frame (record { kept = e.kept; default = e.default; after_error = e.after_error })) at _ c.placed-in-Err-add_custom.ensures).after_error
-
-pub returns-in-Err-add_custom-clause-headless : goal.returns-in-Err-add_custom-clause-headless
-returns-in-Err-add_custom-clause-headless g c =
-    let keeps = g.met.R.ReencodeIndices.adds_ok in
-    let header = c.in_ok-payloads.ensures.ok in
-    let inv = c.sections.invariant in
-    let frame = rw (c.in-Some-Custom.is, c.in-Some-Custom.field-0-is) at c.in_ok-id.ensures.some in
-    let at = rw (c.in-Some-Custom.is, c.in-Some-Custom.field-0-is) at c.in_ok-id.ensures.at in
-    let e = c.in-Err-add_custom.ensures in
-    (core_section_refused g.R.ReencodeIndices keeps header inv.done c.in-Err-add_custom.e c.in-Some-Custom.at (custom_called g.R.ReencodeIndices keeps header inv.done frame (record { kept = e.kept; default = e.default; after_error = e.after_error })) at _ c.placed-in-Err-add_custom.ensures).headless
+    core_section_refused g.R.ReencodeIndices keeps header inv.done c.in-Err-add_custom.e c.in-Some-Custom.at (custom_called g.R.ReencodeIndices keeps header inv.done frame e.section) at _ c.placed-in-Err-add_custom.ensures
 
 pub add_unknown-requires : goal.add_unknown-requires
 add_unknown-requires g c =
@@ -307,16 +151,16 @@ sections-preserved g c =
     let frame = rw (c.in-Some-Unknown.is, c.in-Some-Unknown.field-0-is) at c.in_ok-id.ensures.some in
     let low = rw (c.in-Some-Unknown.is, c.in-Some-Unknown.field-0-is) at c.in_ok-id.ensures.unknown in
     let e = c.in-Ok-add_unknown.ensures in
-    let call = unknown_called g.R.ReencodeIndices keeps header inv.done low frame (record { kept = e.kept; default = e.default; after_error = e.after_error; usual = e.usual }) in
+    let call = unknown_called g.R.ReencodeIndices keeps header inv.done low frame e.section in
     record {
-      done = core_more g.R.ReencodeIndices keeps header inv.done refl c.in_ok-id.ensures.len (unknown_called g.R.ReencodeIndices keeps header inv.done low frame (record { kept = e.kept; default = e.default; after_error = e.after_error; usual = e.usual })) (AddedAt.unknown _ _ low);
+      done = core_more g.R.ReencodeIndices keeps header inv.done refl c.in_ok-id.ensures.len (unknown_called g.R.ReencodeIndices keeps header inv.done low frame e.section) (AddedAt.unknown _ _ low);
       same = e.input ∙ inv.same;
       stands = (inv.stands.0 ++ frame.text, behind c.args.bytes.now inv.stands.0 _ frame.text _ inv.stands.1 frame.reads);
       ranges = λ more d. ranges_more (asks g.R.ReencodeIndices) g.R.ReencodeIndices.adds _ c.sections.sink.kept c.add_unknown.new.sink.kept (inv.ranges more d) (call.reached d) call.put (call.gives d) (nothing_put (AddedAt.unknown _ _ low)) (λ text x t u st rd i w. inr (unknown_not_code _ _ t low i, e.ranges));
     }
 
-pub returns-in-Err-add_unknown-clause-default : goal.returns-in-Err-add_unknown-clause-default
-returns-in-Err-add_unknown-clause-default g c =
+pub returns-in-Err-add_unknown-clause-core : goal.returns-in-Err-add_unknown-clause-core
+returns-in-Err-add_unknown-clause-core g c =
     let keeps = g.met.R.ReencodeIndices.adds_ok in
     let header = c.in_ok-payloads.ensures.ok in
     let inv = c.sections.invariant in
@@ -324,80 +168,15 @@ returns-in-Err-add_unknown-clause-default g c =
     let low = rw (c.in-Some-Unknown.is, c.in-Some-Unknown.field-0-is) at c.in_ok-id.ensures.unknown in
     let at = rw (c.in-Some-Unknown.is, c.in-Some-Unknown.field-0-is) at c.in_ok-id.ensures.at in
     let e = c.in-Err-add_unknown.ensures in
-    (core_section_refused g.R.ReencodeIndices keeps header inv.done c.in-Err-add_unknown.e c.in-Some-Unknown.at (unknown_called g.R.ReencodeIndices keeps header inv.done low frame (record { kept = e.kept; default = e.default; after_error = e.after_error; usual = e.usual })) at _ c.placed-in-Err-add_unknown.ensures).default
+    core_section_refused g.R.ReencodeIndices keeps header inv.done c.in-Err-add_unknown.e c.in-Some-Unknown.at (unknown_called g.R.ReencodeIndices keeps header inv.done low frame e.section) at _ c.placed-in-Err-add_unknown.ensures
 
-pub returns-in-Err-add_unknown-clause-woven : goal.returns-in-Err-add_unknown-clause-woven
-returns-in-Err-add_unknown-clause-woven g c =
-    let keeps = g.met.R.ReencodeIndices.adds_ok in
-    let header = c.in_ok-payloads.ensures.ok in
-    let inv = c.sections.invariant in
-    let frame = rw (c.in-Some-Unknown.is, c.in-Some-Unknown.field-0-is) at c.in_ok-id.ensures.some in
-    let low = rw (c.in-Some-Unknown.is, c.in-Some-Unknown.field-0-is) at c.in_ok-id.ensures.unknown in
-    let at = rw (c.in-Some-Unknown.is, c.in-Some-Unknown.field-0-is) at c.in_ok-id.ensures.at in
-    let e = c.in-Err-add_unknown.ensures in
-    (core_section_refused g.R.ReencodeIndices keeps header inv.done c.in-Err-add_unknown.e c.in-Some-Unknown.at (unknown_called g.R.ReencodeIndices keeps header inv.done low frame (record { kept = e.kept; default = e.default; after_error = e.after_error; usual = e.usual })) at _ c.placed-in-Err-add_unknown.ensures).woven
-
-pub returns-in-Err-add_unknown-clause-after_error : goal.returns-in-Err-add_unknown-clause-after_error
-returns-in-Err-add_unknown-clause-after_error g c =
-    let keeps = g.met.R.ReencodeIndices.adds_ok in
-    let header = c.in_ok-payloads.ensures.ok in
-    let inv = c.sections.invariant in
-    let frame = rw (c.in-Some-Unknown.is, c.in-Some-Unknown.field-0-is) at c.in_ok-id.ensures.some in
-    let low = rw (c.in-Some-Unknown.is, c.in-Some-Unknown.field-0-is) at c.in_ok-id.ensures.unknown in
-    let at = rw (c.in-Some-Unknown.is, c.in-Some-Unknown.field-0-is) at c.in_ok-id.ensures.at in
-    let e = c.in-Err-add_unknown.ensures in
-    (core_section_refused g.R.ReencodeIndices keeps header inv.done c.in-Err-add_unknown.e c.in-Some-Unknown.at (unknown_called g.R.ReencodeIndices keeps header inv.done low frame (record { kept = e.kept; default = e.default; after_error = e.after_error; usual = e.usual })) at _ c.placed-in-Err-add_unknown.ensures).after_error
-
-pub returns-in-Err-add_unknown-clause-headless : goal.returns-in-Err-add_unknown-clause-headless
-returns-in-Err-add_unknown-clause-headless g c =
-    let keeps = g.met.R.ReencodeIndices.adds_ok in
-    let header = c.in_ok-payloads.ensures.ok in
-    let inv = c.sections.invariant in
-    let frame = rw (c.in-Some-Unknown.is, c.in-Some-Unknown.field-0-is) at c.in_ok-id.ensures.some in
-    let low = rw (c.in-Some-Unknown.is, c.in-Some-Unknown.field-0-is) at c.in_ok-id.ensures.unknown in
-    let at = rw (c.in-Some-Unknown.is, c.in-Some-Unknown.field-0-is) at c.in_ok-id.ensures.at in
-    let e = c.in-Err-add_unknown.ensures in
-    (core_section_refused g.R.ReencodeIndices keeps header inv.done c.in-Err-add_unknown.e c.in-Some-Unknown.at (unknown_called g.R.ReencodeIndices keeps header inv.done low frame (record { kept = e.kept; default = e.default; after_error = e.after_error; usual = e.usual })) at _ c.placed-in-Err-add_unknown.ensures).headless
-
-pub returns-in-None-clause-kept : goal.returns-in-None-clause-kept
-returns-in-None-clause-kept g c =
+pub returns-in-None-clause-core : goal.returns-in-None-clause-core
+returns-in-None-clause-core g c =
     let keeps = g.met.R.ReencodeIndices.adds_ok in
     let header = c.in_ok-payloads.ensures.ok in
     let inv = c.sections.invariant in
     let ended = rw c.in-None.is at c.in_ok-id.ensures.ended in
-    (between_ended g.R.ReencodeIndices keeps header inv.done ended.0 _ c.add_between-in-None.ensures.answer c.add_between-in-None.ensures.leaves c.add_between-in-None.ensures.fits).kept
-
-pub returns-in-None-clause-default : goal.returns-in-None-clause-default
-returns-in-None-clause-default g c =
-    let keeps = g.met.R.ReencodeIndices.adds_ok in
-    let header = c.in_ok-payloads.ensures.ok in
-    let inv = c.sections.invariant in
-    let ended = rw c.in-None.is at c.in_ok-id.ensures.ended in
-    (between_ended g.R.ReencodeIndices keeps header inv.done ended.0 _ c.add_between-in-None.ensures.answer c.add_between-in-None.ensures.leaves c.add_between-in-None.ensures.fits).default
-
-pub returns-in-None-clause-woven : goal.returns-in-None-clause-woven
-returns-in-None-clause-woven g c =
-    let keeps = g.met.R.ReencodeIndices.adds_ok in
-    let header = c.in_ok-payloads.ensures.ok in
-    let inv = c.sections.invariant in
-    let ended = rw c.in-None.is at c.in_ok-id.ensures.ended in
-    (between_ended g.R.ReencodeIndices keeps header inv.done ended.0 _ c.add_between-in-None.ensures.answer c.add_between-in-None.ensures.leaves c.add_between-in-None.ensures.fits).woven
-
-pub returns-in-None-clause-after_error : goal.returns-in-None-clause-after_error
-returns-in-None-clause-after_error g c =
-    let keeps = g.met.R.ReencodeIndices.adds_ok in
-    let header = c.in_ok-payloads.ensures.ok in
-    let inv = c.sections.invariant in
-    let ended = rw c.in-None.is at c.in_ok-id.ensures.ended in
-    (between_ended g.R.ReencodeIndices keeps header inv.done ended.0 _ c.add_between-in-None.ensures.answer c.add_between-in-None.ensures.leaves c.add_between-in-None.ensures.fits).after_error
-
-pub returns-in-None-clause-headless : goal.returns-in-None-clause-headless
-returns-in-None-clause-headless g c =
-    let keeps = g.met.R.ReencodeIndices.adds_ok in
-    let header = c.in_ok-payloads.ensures.ok in
-    let inv = c.sections.invariant in
-    let ended = rw c.in-None.is at c.in_ok-id.ensures.ended in
-    (between_ended g.R.ReencodeIndices keeps header inv.done ended.0 _ c.add_between-in-None.ensures.answer c.add_between-in-None.ensures.leaves c.add_between-in-None.ensures.fits).headless
+    between_ended g.R.ReencodeIndices keeps header inv.done ended.0 _ c.add_between-in-None.ensures.answer c.add_between-in-None.ensures.leaves c.add_between-in-None.ensures.fits
 
 pub returns-in-None-clause-ranges : goal.returns-in-None-clause-ranges
 returns-in-None-clause-ranges g c =
