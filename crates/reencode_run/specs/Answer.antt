@@ -25,6 +25,9 @@ use Rattle.wasm_shapes.specs.Names.{space_name}
 use Rattle.reencode_run.specs.Tasks.{Saying, Does, IsSaying, NoSaying, formed, most_of, task_of}
 use Rattle.reencode_run.specs.Tools.{stop}
 use Rattle.reencode_run.specs.Words.{Command, Job, Kind, files, functions, says}
+use Rattle.reencode_run.specs.declared.outside.Shelf as shelves
+use Rattle.reencode_run.specs.declared.outside.Source as sources
+use Rattle.reencode_run.specs.declared.outside.Sink as sinks
 
 -- what shelves tell
 abbrev pub Texts : Type 0
@@ -43,6 +46,23 @@ pub record Outside : Type 0 where
   pub held_new : Option (List ℕ)
   pub write_faults_old : ℕ
   pub write_faults_new : ℕ
+
+-- the same of a shelf, a source and a sink
+abbrev pub outside : {F S K : Type 0} → shelves.Ghosts F → sources.Ghosts S → sinks.Ghosts K → (shelf_old shelf_new : F) → (input_old input_new : S) → (out_old out_new : K) → Outside
+outside f s k shelf_old shelf_new input_old input_new out_old out_new =
+    record {
+      texts = f.texts shelf_old;
+      shelf_faults_old = f.faults shelf_old;
+      shelf_faults_new = f.faults shelf_new;
+      left_old = s.left input_old;
+      left_new = s.left input_new;
+      read_faults_old = s.faults input_old;
+      read_faults_new = s.faults input_new;
+      held_old = k.held out_old;
+      held_new = k.held out_new;
+      write_faults_old = k.faults out_old;
+      write_faults_new = k.faults out_new;
+    }
 
 -- ---- what is done
 

@@ -1,7 +1,7 @@
 //! The top call.
 ghost use Rattle.std.specs.Prelude.{None, Some, Option, List, ℕ, [], ◌∷◌, ◌<◌, Contains, decimal, ◌≡◌, ◌≢◌, ◌≤◌, ◌++◌, ◌↔◌, ◌⊎◌, codes, map, length, option_map, string_bytes, vec_len, IfOk, IfErr, OnOk, OnErr};
 ghost use Rattle.hex.specs.Hex.{encode_lower};
-ghost use Rattle.reencode_run.specs.Answer.{Ends, EndsFor, ForJob, HasNoDigits, IsBadFile, IsDecided, IsMaking, IsTooLong, IsUnfetched, IsOfFile, IsUnread, Made, MakesModule, NamesNone, ReadsSource, Says, StopsWith, by_text, ended, lines_of, message, report_of, status_of, text_of};
+ghost use Rattle.reencode_run.specs.Answer.{Ends, EndsFor, ForJob, HasNoDigits, IsBadFile, IsDecided, IsMaking, IsOfFile, IsTooLong, IsUnfetched, IsUnread, Made, MakesModule, NamesNone, ReadsSource, Says, StopsWith, by_text, ended, lines_of, message, outside, report_of, status_of, text_of};
 ghost use Rattle.reencode_run.specs.Words.{files, functions, job, job_seen};
 ghost use Rattle.wasm_shapes.specs.declared.Space.{Space};
 ghost use Rattle.wasm_shapes.specs.Names.{space_name};
@@ -113,19 +113,9 @@ pub fn perform<F: Shelf, S: Source, K: Sink>(
     out: &mut K,
 ) -> Result<Vec<u8>, Answer>
     requires { functions (job_seen job).command ≡ None → S.can_read input.old }
-    ensures ends { Ends (job_seen job.entry) (record {
-      texts = F.texts shelf.old;
-      shelf_faults_old = F.faults shelf.old;
-      shelf_faults_new = F.faults shelf.new;
-      left_old = S.left input.old;
-      left_new = S.left input.new;
-      read_faults_old = S.faults input.old;
-      read_faults_new = S.faults input.new;
-      held_old = K.held out.old;
-      held_new = K.held out.new;
-      write_faults_old = K.faults out.old;
-      write_faults_new = K.faults out.new;
-    }) (input.new ≡ input.old) (status_of (ended result)) (text_of (ended result)) }
+    ensures ends { Ends (job_seen job.entry)
+        (outside F.Shelf S.Source K.Sink shelf.old shelf.new input.old input.new out.old out.new)
+        (input.new ≡ input.old) (status_of (ended result)) (text_of (ended result)) }
     ensures made { IfOk result (λ lines. (made : Made (job_seen job.entry) (F.texts shelf.old)
         (S.left input.old) (S.left input.new))
         × WhereTold (K.held out.new) (followed (K.held out.old) (report_of made))
@@ -158,19 +148,9 @@ fn perform_words<F: Shelf, S: Source, K: Sink>(
     out: &mut K,
 ) -> Answer
     requires { ReadsSource (job (map string_bytes words.now)) → S.can_read input.old }
-    ensures ends { EndsFor (job (map string_bytes words.now)) (record {
-      texts = F.texts shelf.old;
-      shelf_faults_old = F.faults shelf.old;
-      shelf_faults_new = F.faults shelf.new;
-      left_old = S.left input.old;
-      left_new = S.left input.new;
-      read_faults_old = S.faults input.old;
-      read_faults_new = S.faults input.new;
-      held_old = K.held out.old;
-      held_new = K.held out.new;
-      write_faults_old = K.faults out.old;
-      write_faults_new = K.faults out.new;
-    }) (input.new ≡ input.old) (shelf.new ≡ shelf.old) (status_of result) (text_of result) }
+    ensures ends { EndsFor (job (map string_bytes words.now))
+        (outside F.Shelf S.Source K.Sink shelf.old shelf.new input.old input.new out.old out.new)
+        (input.new ≡ input.old) (shelf.new ≡ shelf.old) (status_of result) (text_of result) }
     ensures shelf_rises { F.faults shelf.old ≤ F.faults shelf.new }
     ensures input_rises { S.faults input.old ≤ S.faults input.new }
     ensures out_rises { K.faults out.old ≤ K.faults out.new }
