@@ -2,7 +2,7 @@
 use Rattle.std.proofs.Common.{◌≡◌, ◌<◌, ◌≤◌, ◌+◌, ℕ, List, [], ◌∷◌, ◌++◌, length, map, min, get_or, Option, None, Some, Result, OnOk, refl, sym, ap, ◌∙◌, subst, arith, append_assoc, append-nil, lit≤}
 use Rattle.std.specs.List.{All, AllByRecursion, filter_map}
 use Rattle.std.proofs.lemmas.List.{get_or_default, map-append}
-use Rattle.std.proofs.lemmas.List.Elements.{All-head, All-tail}
+use Rattle.std.proofs.lemmas.List.Elements.{All-append, All-head, All-nil, All-tail}
 use Rattle.wasm_shapes.specs.declared.SectionId.{SectionId}
 use Rattle.wasm_shapes.specs.declared.SectionId.TheVariants as id
 use Rattle.wasm_shapes.specs.declared.Space.{Space}
@@ -58,9 +58,10 @@ in_its_frame k {body = body} r =
 pub custom_in_its_frame : (name contents : List ℕ) → (t : Tree) × ReadsCustom name contents t → (t : Tree) × InFrame t (custom_frame name contents)
 custom_in_its_frame name contents r = let u = r.1.0 in (custom_tree_of (Tree.pair (Tree.name name) u), InFrame.of_custom name contents u r.1.2)
 
--- what is noted of its body, is of it
-pub seen_all : (k : SectionId) (text old new : List ℕ) → ((u : Tree) → Spells (body_of k) text u → new ≡ old ++ functions_of u) → (t : Tree) → InFrame t (numbered_frame (number k) text) → new ≡ old ++ functions_of t
-seen_all k text old new each = in_kind k text functions_of (λ functions. new ≡ old ++ functions) each
+-- what its body asks for is among so many functions, so what it asks for is
+pub seen_below : (bound : ℕ) (k : SectionId) (text : List ℕ) → ((u : Tree) → Spells (body_of k) text u → All (λ i. i < bound) (functions_of u)) →
+    (t : Tree) → InFrame t (numbered_frame (number k) text) → All (λ i. i < bound) (functions_of t)
+seen_below bound k text each = in_kind k text functions_of (λ functions. All (λ i. i < bound) functions) each
 
 -- the same of code, whose bodies are noted one by one
 module _ {E : Type 0} (text : List ℕ) (k : SectionId) (is : k ≡ id.Code) (r : Result (Unit {0}) E) where
@@ -69,11 +70,11 @@ module _ {E : Type 0} (text : List ℕ) (k : SectionId) (is : k ≡ id.Code) (r 
       let P : SectionId → Type 0 = λ z. OnOk r ((t : Tree) × InFrame t (numbered_frame (number z) text)) in
       subst P (sym is) (on_ok (λ (p : (u : Tree) × Spells (body_of id.Code) text u). in_its_frame id.Code (tree_of id.Code p.0, (p.0, refl, p.1))) r given)
 
-  pub code_all : (old new : List ℕ) → OnOk r ((u : Tree) → Spells (body_of id.Code) text u → new ≡ old ++ functions_of u) →
-      OnOk r ((t : Tree) → InFrame t (numbered_frame (number k) text) → new ≡ old ++ functions_of t)
-  code_all old new given =
-      let P : SectionId → Type 0 = λ z. OnOk r ((t : Tree) → InFrame t (numbered_frame (number z) text) → new ≡ old ++ functions_of t) in
-      subst P (sym is) (on_ok (seen_all id.Code text old new) r given)
+  pub code_below : (bound : ℕ) → OnOk r ((u : Tree) → Spells (body_of id.Code) text u → All (λ i. i < bound) (functions_of u)) →
+      OnOk r ((t : Tree) → InFrame t (numbered_frame (number k) text) → All (λ i. i < bound) (functions_of t))
+  code_below bound given =
+      let P : SectionId → Type 0 = λ z. OnOk r ((t : Tree) → InFrame t (numbered_frame (number z) text) → All (λ i. i < bound) (functions_of t)) in
+      subst P (sym is) (on_ok (seen_below bound id.Code text) r given)
 
 -- ---- the loop
 
@@ -86,35 +87,35 @@ functions_are : (last : Option SectionId) (t : Tree) → Is sections t → asked
 functions_are last (Tree.also t u) (Is.also d d') = asked_also last t u ∙ ap (λ (z : List ℕ). functions_of t ++ z) (functions_are (kind last t) u d')
 functions_are last t Is.finish = refl
 
--- the sections so far are noted, and the others are left
-pub record SeenRest (rest all found : List ℕ) (lists : List (List ℕ)) (t : Tree) : Type 0 where
+-- the sections so far are noted, and the others are left; where what these ask for is among so many functions, all is
+pub record SeenRest (bound : ℕ) (rest found : List ℕ) (lists : List (List ℕ)) (t : Tree) : Type 0 where
   pub others : Tree
   pub spells : Spells sections rest others
-  pub all_are : functions_in t ≡ all ++ functions_in others
+  pub below : All (λ i. i < bound) (functions_in others) → All (λ i. i < bound) (functions_in t)
   pub roots_are : roots t ≡ found ++ roots others
   pub calls_are : calls t ≡ lists ++ calls others
 
 -- and where the others have a reading, the whole has one
-pub record SeenSoFar (bytes rest all found : List ℕ) (lists : List (List ℕ)) : Type 0 where
+pub record SeenSoFar (bound : ℕ) (bytes rest found : List ℕ) (lists : List (List ℕ)) : Type 0 where
   pub readable : (v : Tree) → Spells sections rest v → (t : Tree) × CoreReading bytes t
-  pub noted : (t : Tree) → CoreReading bytes t → SeenRest rest all found lists t
+  pub noted : (t : Tree) → CoreReading bytes t → SeenRest bound rest found lists t
 
-pub seen_begins : {bytes rest all found : List ℕ} {lists : List (List ℕ)} → bytes ≡ core_header ++ rest → all ≡ [] → found ≡ [] → lists ≡ [] → SeenSoFar bytes rest all found lists
-seen_begins {rest = rest} stands none rootless empty = record {
+pub seen_begins : (bound : ℕ) {bytes rest found : List ℕ} {lists : List (List ℕ)} → bytes ≡ core_header ++ rest → found ≡ [] → lists ≡ [] → SeenSoFar bound bytes rest found lists
+seen_begins bound {rest = rest} stands rootless empty = record {
   readable = λ v p. (v, record { rest = rest; stands = stands; spells = p });
   noted = λ t r. record {
     others = t;
     spells = behind_header stands r;
-    all_are = ap (λ (z : List ℕ). z ++ functions_in t) (sym none);
+    below = λ h. h;
     roots_are = ap (λ (z : List ℕ). z ++ roots t) (sym rootless);
     calls_are = ap (λ (z : List (List ℕ)). z ++ calls t) (sym empty);
   };
 }
 
-pub seen_more : {bytes rest left all all' found found' : List ℕ} {lists lists' : List (List ℕ)} (f : Tree) → SeenSoFar bytes rest all found lists → Begins frame rest f left → (u : Tree) × InFrame u f →
-    ((u : Tree) → InFrame u f → all' ≡ all ++ functions_of u) → ((u : Tree) → InFrame u f → found' ≡ found ++ section_roots u) →
-    ((u : Tree) → InFrame u f → lists' ≡ lists ++ map functions_of (rows_in id.Code u)) → SeenSoFar bytes left all' found' lists'
-seen_more {rest = rest} {left = left} {all = all} {found = found} {lists = lists} f so_far there one more_all more_roots more_calls = record {
+pub seen_more : {bound : ℕ} {bytes rest left found found' : List ℕ} {lists lists' : List (List ℕ)} (f : Tree) → SeenSoFar bound bytes rest found lists → Begins frame rest f left → (u : Tree) × InFrame u f →
+    ((u : Tree) → InFrame u f → All (λ i. i < bound) (functions_of u)) → ((u : Tree) → InFrame u f → found' ≡ found ++ section_roots u) →
+    ((u : Tree) → InFrame u f → lists' ≡ lists ++ map functions_of (rows_in id.Code u)) → SeenSoFar bound bytes left found' lists'
+seen_more {bound = bound} {rest = rest} {left = left} {found = found} {lists = lists} f so_far there one low more_roots more_calls = record {
   readable = λ v p. so_far.readable (Tree.also one.0 v) (in_frames.back rest left f one.0 v there one.1 p);
   noted = λ t r.
       let a = so_far.noted t r in
@@ -122,9 +123,9 @@ seen_more {rest = rest} {left = left} {all = all} {found = found} {lists = lists
       record {
         others = n.1;
         spells = n.4;
-        all_are =
-            a.all_are ∙ ap (λ (z : Tree). all ++ functions_in z) n.2 ∙ sym (append_assoc all (functions_of n.0) (functions_in n.1))
-            ∙ ap (λ (z : List ℕ). z ++ functions_in n.1) (sym (more_all n.0 n.3));
+        below = λ h.
+            let P : Tree → Type 0 = λ z. All (λ i. i < bound) (functions_in z) in
+            a.below (subst P (sym n.2) (All-append (λ (i : ℕ). i < bound) (functions_of n.0) (functions_in n.1) (low n.0 n.3) h));
         roots_are =
             a.roots_are ∙ ap (λ (z : Tree). found ++ roots z) n.2 ∙ sym (append_assoc found (section_roots n.0) (roots n.1))
             ∙ ap (λ (z : List ℕ). z ++ roots n.1) (sym (more_roots n.0 n.3));
@@ -137,32 +138,36 @@ seen_more {rest = rest} {left = left} {all = all} {found = found} {lists = lists
 }
 
 -- a custom section is no root, and has no body
-pub seen_custom : {bytes rest left name contents all all' found : List ℕ} {lists : List (List ℕ)} → SeenSoFar bytes rest all found lists → Begins frame rest (custom_frame name contents) left →
-    (u : Tree) × InFrame u (custom_frame name contents) → ((u : Tree) → InFrame u (custom_frame name contents) → all' ≡ all ++ functions_of u) → SeenSoFar bytes left all' found lists
-seen_custom {name = name} {contents = contents} {found = found} {lists = lists} so_far there one more_all =
-    seen_more (custom_frame name contents) so_far there one more_all
+pub seen_custom : {bound : ℕ} {bytes rest left name contents found : List ℕ} {lists : List (List ℕ)} → SeenSoFar bound bytes rest found lists → Begins frame rest (custom_frame name contents) left →
+    (u : Tree) × InFrame u (custom_frame name contents) → ((u : Tree) → InFrame u (custom_frame name contents) → All (λ i. i < bound) (functions_of u)) → SeenSoFar bound bytes left found lists
+seen_custom {name = name} {contents = contents} {found = found} {lists = lists} so_far there one low =
+    seen_more (custom_frame name contents) so_far there one low
     (λ u i. sym (append-nil found) ∙ ap (λ (z : Tree). found ++ section_roots z) (sym (in_frames.of_custom name contents u i).1))
     (λ u i. sym (append-nil lists) ∙ ap (λ (z : Tree). lists ++ map functions_of (rows_in id.Code z)) (sym (in_frames.of_custom name contents u i).1))
 
 -- nor has one of no known kind, which asks for nothing
-pub seen_unknown : {bytes rest left contents all found : List ℕ} {lists : List (List ℕ)} {n : ℕ} → 14 ≤ n → SeenSoFar bytes rest all found lists → Begins frame rest (numbered_frame n contents) left →
-    SeenSoFar bytes left all found lists
-seen_unknown {contents = contents} {all = all} {found = found} {lists = lists} {n = n} high so_far there =
+pub seen_unknown : {bound : ℕ} {bytes rest left contents found : List ℕ} {lists : List (List ℕ)} {n : ℕ} → 14 ≤ n → SeenSoFar bound bytes rest found lists → Begins frame rest (numbered_frame n contents) left →
+    SeenSoFar bound bytes left found lists
+seen_unknown {bound = bound} {contents = contents} {found = found} {lists = lists} {n = n} high so_far there =
     seen_more (numbered_frame n contents) so_far there (unknown_tree_of n contents, InFrame.of_unknown n contents high (frame_id there).1)
-    (λ u i. sym (append-nil all) ∙ ap (λ (z : Tree). all ++ functions_of z) (sym (in_frames.of_unknown n contents u high i)))
+    (λ u i.
+    let P : Tree → Type 0 = λ z. All (λ i. i < bound) (functions_of z) in
+    subst P (sym (in_frames.of_unknown n contents u high i)) (All-nil (λ (i : ℕ). i < bound)))
     (λ u i. sym (append-nil found) ∙ ap (λ (z : Tree). found ++ section_roots z) (sym (in_frames.of_unknown n contents u high i)))
     (λ u i. sym (append-nil lists) ∙ ap (λ (z : Tree). lists ++ map functions_of (rows_in id.Code z)) (sym (in_frames.of_unknown n contents u high i)))
 
-module _ {bytes rest all found : List ℕ} {lists : List (List ℕ)} (so_far : SeenSoFar bytes rest all found lists) (empty : rest ≡ []) where
+module _ {bound : ℕ} {bytes rest found : List ℕ} {lists : List (List ℕ)} (so_far : SeenSoFar bound bytes rest found lists) (empty : rest ≡ []) where
   pub seen_reading : (t : Tree) × CoreReading bytes t
   seen_reading =
       let P : List ℕ → Type 0 = λ z. Spells sections z Tree.finish in
       so_far.readable Tree.finish (subst P (sym empty) (record { shaped = Is.finish; spelled = refl }))
 
-  pub seen_functions : (t : Tree) → CoreReading bytes t → all ≡ functions_of t
+  pub seen_functions : (t : Tree) → CoreReading bytes t → All (λ i. i < bound) (functions_of t)
   seen_functions t r =
       let a = so_far.noted t r in
-      sym (functions_are None t r.spells.shaped ∙ a.all_are ∙ ap (λ (z : Tree). all ++ functions_in z) (none_left empty a.spells) ∙ append-nil all)
+      let P : Tree → Type 0 = λ z. All (λ i. i < bound) (functions_in z) in
+      let Q : List ℕ → Type 0 = λ z. All (λ i. i < bound) z in
+      subst Q (sym (functions_are None t r.spells.shaped)) (a.below (subst P (sym (none_left empty a.spells)) (All-nil (λ (i : ℕ). i < bound))))
 
   pub seen_roots : (t : Tree) → CoreReading bytes t → found ≡ roots t
   seen_roots t r = let a = so_far.noted t r in sym (a.roots_are ∙ ap (λ (z : Tree). found ++ roots z) (none_left empty a.spells) ∙ append-nil found)
@@ -197,13 +202,12 @@ known_back n (v ∷ vs) all = (here v all, known_back n vs (others v all))
     others (Outer space.Function c i) all = All-tail (λ (i : ℕ). i < n) i (filter_map function_asked vs) all
     others _ all = all
 
-pub seen_ready : {bytes : List ℕ} {t : Tree} {numbers : Numbers} {bound : ℕ} {all : List ℕ} → CoreReading bytes t → AreNumbers t None numbers → bound ≡ min (numbers.imports + numbers.defined) 4294967295 →
-    all ≡ functions_of t → All (λ i. i < bound) all → Reads bytes (IsReady numbers)
-seen_ready {t = t} {numbers = numbers} {bound = bound} r n is same below =
+pub seen_ready : {bytes : List ℕ} {t : Tree} {numbers : Numbers} {bound : ℕ} → CoreReading bytes t → AreNumbers t None numbers → bound ≡ min (numbers.imports + numbers.defined) 4294967295 →
+    All (λ i. i < bound) (functions_of t) → Reads bytes (IsReady numbers)
+seen_ready {t = t} {numbers = numbers} {bound = bound} r n is below =
     let number : bound ≡ number_of space.Function t = omega (arith, is, n.few, n.imports, n.defined) in
     let P : ℕ → Type 0 = λ b. All (λ i. i < b) (functions_of t) in
-    let Q : List ℕ → Type 0 = λ z. All (λ i. i < bound) z in
-    let known = known_back (number_of space.Function t) (visits t) (subst P number (subst Q same below)) in
+    let known = known_back (number_of space.Function t) (visits t) (subst P number below) in
     (t, r, record { even = n.even; known = known; imports = n.imports; defined = n.defined; few = n.few })
 
 -- all those that were looked at

@@ -6,4 +6,5 @@ pub loop-place-init : goal.loop-place-init
 loop-place-init c = size_begin _ c.args.front
 
 pub loop-place-preserved : goal.loop-place-preserved
-loop-place-preserved c = size_next c.args.texts.now c.args.places.now c.args.front _ c.loop-place.invariant (omega arith) (omega arith) c.in-Some.ensures.1
+loop-place-preserved c =
+    size_next _ c.args.places.now c.args.front c.loop-place.invariant (omega arith) c.in-Some.ensures.below c.in-Some.ensures.is c.in-Some-checked_add.ensures.1

@@ -1,5 +1,5 @@
 use Rattle.std.proofs.Common.{ℕ, ◌<◌, get_or}
-use Rattle.wasm_reach.proofs.once.are_below.Given as goal
+use Rattle.wasm_reach.proofs.notes.are_below.Given as goal
 
 -- those so far are
 abbrev pub invariant-loop-function : goal.invariant-loop-function
