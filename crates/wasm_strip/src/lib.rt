@@ -7,6 +7,7 @@ mod laws;
 mod names;
 mod rule;
 mod sections;
+mod sorting;
 mod sound;
 mod stripping;
 
@@ -14,6 +15,6 @@ pub use choice::Choice;
 pub use fault::StripFault;
 pub use laws::{bytes_have_one_reading, kept_sections_read_back, stripping_settles};
 pub use names::are_names;
-pub use rule::StripRule;
+pub use rule::{Nothing, StripRule};
 pub use sound::without_malformed;
-pub use stripping::strip;
+pub use stripping::{strip, tidy};
