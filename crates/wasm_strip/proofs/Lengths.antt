@@ -6,6 +6,7 @@ use Rattle.wasm_shapes.specs.Spells.{Spells, Spelled}
 use Rattle.wasm_shapes.specs.Tree.{Tree}
 use Rattle.wasm_shapes.specs.Module.{frame, numbered_frame}
 use Rattle.wasm_strip.specs.Binaries.{IsSectionList, IsStripped, Leaves, Removed, SectionList, Stands, header_of, holder, sized, text_of}
+use Rattle.wasm_strip.specs.Laws.{StripsUnsorted}
 use Rattle.wasm_strip.specs.Tidied.{IsTidied, Tidied}
 use Rattle.wasm_strip.proofs.SortedLengths.{names_length}
 
@@ -118,6 +119,12 @@ unsorted off (Tidied.around j k) = Leaves.around (unsorted off j) (unsorted off 
 -- then what is tidied is stripped
 pub tidied_stripped : {removed : Removed} {bytes output : List ℕ} → IsTidied removed false bytes output → IsStripped removed bytes output
 tidied_stripped s = record { kind = s.kind; parts = s.parts; left = s.left; reads = s.reads; leaves = unsorted refl s.tidied; spelled = s.spelled }
+
+pub strips_unsorted : (removed : Removed) → StripsUnsorted removed
+strips_unsorted removed = record {
+  stripped = λ bytes output s. tidied_stripped s;
+  tidied = λ bytes output s. record { kind = s.kind; parts = s.parts; left = s.left; reads = s.reads; tidied = leaves_tidied s.leaves; spelled = s.spelled };
+}
 
 pub kept_short : (removed : Removed) (depth : ℕ) (kind : Kind) {p q : SectionList} (x : List ℕ) → IsSectionList depth kind x p → Leaves removed kind p q → length (text_of q) ≤ length x
 kept_short removed depth kind x a k = tidied_short removed false depth kind x a (leaves_tidied k)

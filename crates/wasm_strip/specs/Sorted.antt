@@ -1,7 +1,8 @@
 -- Names in the order of their indices (WebAssembly Core Specification 3.0, section 7.4.1).
 use Rattle.std.specs.Prelude.{◌≡◌, ℕ, List, [], ◌∷◌, ◌++◌}
 use Rattle.std.specs.List.{All, flat_map}
-use Rattle.std.specs.List.Sorted.{IsNonDecreasingBy, IsPermutation}
+use Rattle.std.specs.List.Sorted.{IsNonDecreasingBy, IsPermutation, IsStableByKey}
+use Rattle.std.specs.Ordering.{nat_cmp}
 use Rattle.wasm_leb.specs.Leb.{IsUnsigned}
 use Rattle.wasm_shapes.specs.Tree.{Tree}
 use Rattle.wasm_shapes.specs.Shape.{Shape}
@@ -37,12 +38,13 @@ abbrev pub Written : (Row → List ℕ → Type 0) → List Row → List ℕ →
 Written each [] bytes = bytes ≡ []
 Written each (r ∷ rows) bytes = (x y : List ℕ) × (bytes ≡ x ++ y) × each r x × Written each rows y
 
--- The rows are those that some bytes are, in the order of their indices.
+-- The rows are those that some bytes are, in the order of their indices. Those of one index keep their order.
 pub record AreOrdered (s : Shape) (bytes : List ℕ) (ordered : List Row) : Type 0 where
   pub rows : List Row
   pub are : AreRows s bytes rows
   pub permuted : IsPermutation rows ordered
   pub rising : IsNonDecreasingBy (λ (r : Row). r.index) ordered
+  pub stable : IsStableByKey (λ (r : Row). r.index) nat_cmp rows ordered
 
 -- The first bytes are rows of a shape. The second are what is written for these, in the order of their indices.
 pub record Sorts (s : Shape) (each : Row → List ℕ → Type 0) (bytes sorted : List ℕ) : Type 0 where

@@ -1,5 +1,5 @@
 //! The laws of what is stripped, as functions that do nothing: each one's contract is the law.
-ghost use Rattle.wasm_strip.specs.Laws.{HaveOneReading, IsSettled, ReadsAsKept};
+ghost use Rattle.wasm_strip.specs.Laws.{HaveOneReading, IsSettled, ReadsAsKept, StripsUnsorted};
 
 use crate::rule::StripRule;
 
@@ -19,6 +19,14 @@ pub fn kept_sections_read_back<N: StripRule>(rule: &N)
 #[tactic(auto, using(crate::proofs::Readings::settled))]
 pub fn stripping_settles<N: StripRule>(rule: &N)
     ensures { IsSettled (N.removed rule.now) }
+{
+    let _ = rule;
+}
+
+/// Without names in order what is tidied is what is stripped.
+#[tactic(auto, using(crate::proofs::Lengths::strips_unsorted))]
+pub fn unsorted_is_stripped<N: StripRule>(rule: &N)
+    ensures { StripsUnsorted (N.removed rule.now) }
 {
     let _ = rule;
 }

@@ -13,7 +13,9 @@ mod stripping;
 
 pub use choice::Choice;
 pub use fault::StripFault;
-pub use laws::{bytes_have_one_reading, kept_sections_read_back, stripping_settles};
+pub use laws::{
+    bytes_have_one_reading, kept_sections_read_back, stripping_settles, unsorted_is_stripped,
+};
 pub use names::are_names;
 pub use rule::{Nothing, StripRule};
 pub use sound::without_malformed;

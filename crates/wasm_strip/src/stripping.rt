@@ -31,8 +31,8 @@ pub fn strip<N: StripRule>(alloc: Global, rule: &N, bytes: &[u8]) -> Result<Vec<
 }
 
 /// The same, and where that is asked for with names in order: in each `name` section of a core module whose contents have a reading,
-/// the subsections in the order of their ids, and in these the entries of maps in the order of their indices, those of one index in
-/// some order. A section without a reading stays as it is.
+/// the subsections in the order of their ids, and in these the entries of maps in the order of their indices (WebAssembly Core
+/// Specification 3.0, section 7.4.1). Those of one index keep their order. A section without a reading stays as it is.
 pub fn tidy<N: StripRule>(
     alloc: Global,
     rule: &N,
