@@ -125,6 +125,3 @@ strips_unsorted removed = record {
   stripped = λ bytes output s. tidied_stripped s;
   tidied = λ bytes output s. record { kind = s.kind; parts = s.parts; left = s.left; reads = s.reads; tidied = leaves_tidied s.leaves; spelled = s.spelled };
 }
-
-pub kept_short : (removed : Removed) (depth : ℕ) (kind : Kind) {p q : SectionList} (x : List ℕ) → IsSectionList depth kind x p → Leaves removed kind p q → length (text_of q) ≤ length x
-kept_short removed depth kind x a k = tidied_short removed false depth kind x a (leaves_tidied k)

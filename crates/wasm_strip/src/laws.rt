@@ -1,5 +1,5 @@
 //! The laws of what is stripped, as functions that do nothing: each one's contract is the law.
-ghost use Rattle.wasm_strip.specs.Laws.{HaveOneReading, IsSettled, ReadsAsKept, StripsUnsorted};
+ghost use Rattle.wasm_strip.specs.Laws.{HaveOneReading, IsSettled, ReadsAsKept, ReadsAsTidied, StripsUnsorted};
 
 use crate::rule::StripRule;
 
@@ -21,6 +21,14 @@ pub fn stripping_settles<N: StripRule>(rule: &N)
     ensures { IsSettled (N.removed rule.now) }
 {
     let _ = rule;
+}
+
+/// What is tidied reads as what its sections become, with names in order where that is asked for.
+pub fn tidied_sections_read_back<N: StripRule>(rule: &N, sorts: bool)
+    ensures { ReadsAsTidied (N.removed rule.now) sorts }
+{
+    let _ = rule;
+    let _ = sorts;
 }
 
 /// Without names in order what is tidied is what is stripped.

@@ -14,7 +14,8 @@ mod stripping;
 pub use choice::Choice;
 pub use fault::StripFault;
 pub use laws::{
-    bytes_have_one_reading, kept_sections_read_back, stripping_settles, unsorted_is_stripped,
+    bytes_have_one_reading, kept_sections_read_back, stripping_settles, tidied_sections_read_back,
+    unsorted_is_stripped,
 };
 pub use names::are_names;
 pub use rule::{Nothing, StripRule};
