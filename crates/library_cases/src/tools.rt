@@ -8,7 +8,7 @@ use std::fmt::{Display, Write};
 use wasm_merge::{MergeFault, merge};
 use wasm_reach::{ModuleCalls, Pruned, ReachFault, call_graph, prune};
 use wasm_renumber::{OrderFault, RenumberFault, inverse, renumber};
-use wasm_strip::{Choice, strip};
+use wasm_strip::{Choice, Nothing, strip, tidy};
 
 /// The numbers of some words, without the word `KEY=NUMBER`, and that number.
 pub fn numbers_of(
@@ -205,12 +205,21 @@ fn stripped(alloc: Global, words: &str, bytes: &[u8]) -> Result<String, Stop> {
     }
 }
 
+/// A binary with its names in order.
+fn sorted(alloc: Global, bytes: &[u8]) -> Result<String, Stop> {
+    match tidy(alloc, &Nothing, true, bytes) {
+        Ok(out) => made(alloc, out.as_slice()),
+        Err(fault) => said(alloc, &fault),
+    }
+}
+
 /// What comes of a tool, where there is one of this name.
 pub fn answer(alloc: Global, case: &Case<'_>) -> Result<Option<String>, Stop> {
     let given = match case.call {
         "renumber" => renumbered(alloc, case.words, &case.bytes(alloc)?)?,
         "prune" => pruned(alloc, case.words, &case.bytes(alloc)?)?,
         "strip" => stripped(alloc, case.words, &case.bytes(alloc)?)?,
+        "sort" => sorted(alloc, &case.bytes(alloc)?)?,
         "calls" => graph(alloc, &case.bytes(alloc)?)?,
         "merge" => {
             let Some((first, second)) = case.input.split_once('+') else {

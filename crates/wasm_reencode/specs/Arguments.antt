@@ -76,6 +76,7 @@ pub record AsksBy (name : List ℕ) (found : Found) (a : Asked) : Type 0 where
   pub quiet : IsFlag found (codes "quiet") a.quiet
   pub force : IsFlag found (codes "force") a.force
   pub ignores_malformed : a.ignores_malformed ≡ is_word (argument found (codes "names")) (codes "ignore-malformed")
+  pub sorts_names : a.sorts_names ≡ is_word (argument found (codes "names")) (codes "sort")
   pub kept : option_map (λ name. name.now) a.kept ≡ first_value found (codes "kept")
 
 -- what is asked for by the command that the words name, and by its arguments

@@ -33,7 +33,7 @@ use std::io::{ErrorKind as IoKind, Write};
 use std::process::ExitCode;
 use std::{env, io};
 use wasm_leb::{List, NoMemory};
-use wasm_strip::{Choice, StripFault, without_malformed};
+use wasm_strip::{Choice, Nothing, StripFault, without_malformed};
 
 /// The most bytes that one read of bytes in memory gives.
 const PIECE: usize = 65_536;
@@ -174,8 +174,12 @@ fn made_of<F: Shelf, S: Source, K: Sink, D: Sink>(
     requires { S.can_read input.old }
 {
     let request = asked.request;
+    let sorts = asked.sorts_names;
     match removed {
-        Some(choice) => transform_stripped(alloc, request, &choice, shelf, input, out, err),
+        Some(choice) => transform_stripped(alloc, request, &choice, sorts, shelf, input, out, err),
+        None if sorts => transform_stripped(
+            alloc, request, &Nothing, sorts, shelf, input, out, err,
+        ),
         None => match transform(alloc, request, shelf, input, out, err) {
             Ok(lines) => Ok(lines),
             Err(status) => Err(Ended::Command(status)),

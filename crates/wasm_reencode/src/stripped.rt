@@ -1,10 +1,10 @@
-//! What a command makes, without custom sections.
+//! What a command makes, without custom sections and with names in order.
 ghost use Rattle.std.specs.Prelude.{◌≡◌, ◌≢◌, ◌≤◌, ◌++◌, ℕ, List, [], None, Some, codes, IfOk, IfErr, IsErrOf};
 ghost use Rattle.reencode_run.specs.Answer.{Ends, IsDecided, IsMaking, IsOfFile, Made, Says, lines_of, output_of, status_of, text_of};
 ghost use Rattle.reencode_run.specs.Outside.{Rose, TookFront, TookMore, WhereTold, followed};
 ghost use Rattle.reencode_run.specs.Requests.{job_of, name_told};
 ghost use Rattle.reencode_run.specs.Words.{files, functions};
-ghost use Rattle.wasm_strip.specs.Binaries.{IsStripped};
+ghost use Rattle.wasm_strip.specs.Tidied.{IsTidied};
 ghost use Rattle.reencode_run.specs.declared.answer.Answer.{Answer};
 ghost use Rattle.wasm_strip.specs.Faults.{HasNone, IsWhy};
 ghost use Rattle.wasm_reencode.specs.Stripped.{GaveSound, IfCommand, IfSink, IfStrip, status_in, unmade};
@@ -16,7 +16,7 @@ use reencode_run::transform::{Request, transform};
 use reencode_run::write::write_all;
 use std::alloc::Global;
 use wasm_leb::NoMemory;
-use wasm_strip::{StripFault, StripRule, strip, without_malformed};
+use wasm_strip::{StripFault, StripRule, tidy, without_malformed};
 
 /// A sink in memory. It fails where memory runs out.
 #[derive(Drop)]
@@ -83,11 +83,12 @@ pub fn read_sound<S: Source>(alloc: Global, input: &mut S, most: u32) -> Result<
 }
 
 /// Does what is asked for with the bytes of a source, and hands what it makes to a sink, without the custom sections that a rule
-/// removes. The lines about what was made come back, as by `transform`, which says on `err` why it makes nothing.
+/// removes, and where that is asked for with names in order. The lines about what was made come back, as by `transform`, which says on `err` why it makes nothing.
 pub fn transform_stripped<N: StripRule, F: Shelf, S: Source, K: Sink, D: Sink>(
     alloc: Global,
     request: Request<'_>,
     rule: &N,
+    sorts: bool,
     shelf: &mut F,
     input: &mut S,
     out: &mut K,
@@ -96,10 +97,11 @@ pub fn transform_stripped<N: StripRule, F: Shelf, S: Source, K: Sink, D: Sink>(
     // A source is read only where the command asks for it, and no further behind its end or a failure.
     requires { functions (job_of request).command ≡ None → S.can_read input.old }
 
-    // What is handed to the sink is what the command makes without those sections, and nothing else.
+    // What is handed to the sink is what the command makes without those sections, with its names in order where that is asked for, and
+    // nothing else.
     ensures written { IfOk result (λ lines. (made : Made (job_of request.entry) (F.texts shelf.old)
         (S.left input.old) (S.left input.new)) × (bytes : List ℕ)
-        × IsStripped (N.removed rule.now) (output_of made) bytes
+        × IsTidied (N.removed rule.now) sorts (output_of made) bytes
         × WhereTold (K.held out.new) (followed (K.held out.old) bytes)
         × (lines.items ≡ lines_of made)) }
 
@@ -133,7 +135,7 @@ pub fn transform_stripped<N: StripRule, F: Shelf, S: Source, K: Sink, D: Sink>(
     // Where the sink failed it took a front of what was to be handed over.
     ensures failed { IfSink result ((made : Made (job_of request.entry) (F.texts shelf.old)
         (S.left input.old) (S.left input.new)) × (bytes : List ℕ)
-        × IsStripped (N.removed rule.now) (output_of made) bytes
+        × IsTidied (N.removed rule.now) sorts (output_of made) bytes
         × TookFront (K.held out.old) (K.held out.new) bytes
         × Rose (K.faults out.old) (K.faults out.new)) }
 
@@ -167,7 +169,7 @@ pub fn transform_stripped<N: StripRule, F: Shelf, S: Source, K: Sink, D: Sink>(
         Ok(lines) => lines,
         Err(status) => return Err(unmade(status)),
     };
-    let bytes = match strip(alloc, rule, made.bytes.as_slice()) {
+    let bytes = match tidy(alloc, rule, sorts, made.bytes.as_slice()) {
         Ok(bytes) => bytes,
         Err(fault) => return Err(Ended::Strip(fault)),
     };

@@ -23,6 +23,8 @@ pub struct Asked<'a> {
     pub force: bool,
     /// Whether names that have no reading are left out of what is read.
     pub ignores_malformed: bool,
+    /// Whether the names of what is made are put in order.
+    pub sorts_names: bool,
     /// The name of the file that gets the line of the functions that are kept.
     pub kept: Option<&'a str>,
 }
@@ -40,7 +42,7 @@ pub struct Custom<'a> {
 const STALE: &[&str] = &["keep", "drop", "refuse"];
 
 /// What is done with names.
-const NAMES: &[&str] = &["keep", "drop", "ignore-malformed"];
+const NAMES: &[&str] = &["keep", "drop", "ignore-malformed", "sort"];
 
 /// A file that has to be named.
 fn needed<'a>(alloc: Global, id: &'a str, name: &'a str, help: &'a str) -> Arg<'a> {
@@ -432,6 +434,13 @@ fn ignores_malformed(matches: &ArgMatches<'_>) -> bool
     text(matches, "names") == "ignore-malformed"
 }
 
+/// Whether the names of what is made are put in order.
+fn sorts_names(matches: &ArgMatches<'_>) -> bool
+    ensures { result ≡ is_word (argument (found_of matches.now) (codes "names")) (codes "sort") }
+{
+    text(matches, "names") == "sort"
+}
+
 /// What the words ask for of a command of this name.
 fn asked_by<'a>(name: &str, matches: &ArgMatches<'a>) -> Option<Asked<'a>>
     ensures some { IfSome result (AsksBy name.now (found_of matches.now)) }
@@ -444,6 +453,7 @@ fn asked_by<'a>(name: &str, matches: &ArgMatches<'a>) -> Option<Asked<'a>>
         quiet: matches.get_flag("quiet"),
         force: matches.get_flag("force"),
         ignores_malformed: ignores_malformed(matches),
+        sorts_names: sorts_names(matches),
         kept: matches.get_str("kept"),
     })
 }

@@ -1,11 +1,14 @@
--- What stays of sections is no longer than they are.
+-- What sections become is no longer than they are.
 use Rattle.std.proofs.Common.{◌≡◌, ℕ, zero, suc, ◌+◌, ◌*◌, ◌/◌, ◌%◌, ◌<◌, ◌≤◌, List, [], ◌∷◌, ◌++◌, length, Bool, true, false, refl, sym, ap, ◌∙◌, arith, length-append, nat_lt, if◌then◌else◌, ltb-false}
 use Rattle.wasm_leb.specs.Leb.{IsLeb, IsUnsigned, leb, shortest}
 use Rattle.wasm_leb.specs.declared.fault.Kind.{Kind}
 use Rattle.wasm_shapes.specs.Spells.{Spells, Spelled}
 use Rattle.wasm_shapes.specs.Tree.{Tree}
 use Rattle.wasm_shapes.specs.Module.{frame, numbered_frame}
-use Rattle.wasm_strip.specs.Binaries.{IsSectionList, Leaves, Removed, SectionList, Stands, header_of, holder, sized, text_of}
+use Rattle.wasm_strip.specs.Binaries.{IsSectionList, IsStripped, Leaves, Removed, SectionList, Stands, header_of, holder, sized, text_of}
+use Rattle.wasm_strip.specs.Laws.{StripsUnsorted}
+use Rattle.wasm_strip.specs.Tidied.{IsTidied, Tidied}
+use Rattle.wasm_strip.proofs.SortedLengths.{names_length}
 
 -- the shortest spelling of a number is no longer than any spelling of it, or of a greater one
 leb_short : (most m n : ℕ) (x : List ℕ) → IsLeb 128 x n → m ≤ n → length (shortest most 128 m) ≤ length x
@@ -64,27 +67,61 @@ front_length {text = text} {rest = rest} s = ap length s.stands ∙ length-appen
 both_short : (x y a b : List ℕ) → length x ≤ length a → length y ≤ length b → length (x ++ y) ≤ length a + length b
 both_short x y a b h i = let e = length-append x y in omega (arith, e, h, i)
 
-pub kept_short : (removed : Removed) (depth : ℕ) (kind : Kind) {p q : SectionList} (x : List ℕ) → IsSectionList depth kind x p → Leaves removed kind p q → length (text_of q) ≤ length x
-kept_short removed depth kind x a Leaves.nothing = omega arith
-kept_short removed depth kind x a (Leaves.goes gone k) =
+pub tidied_short : (removed : Removed) (sorts : Bool) (depth : ℕ) (kind : Kind) {p q : SectionList} (x : List ℕ) → IsSectionList depth kind x p → Tidied removed sorts kind p q → length (text_of q) ≤ length x
+tidied_short removed sorts depth kind x a Tidied.nothing = omega arith
+tidied_short removed sorts depth kind x a (Tidied.goes gone k) =
     let e = front_length a.1 in
-    let others = kept_short removed depth kind a.0 a.2 k in
+    let others = tidied_short removed sorts depth kind a.0 a.2 k in
     omega (arith, e, others)
-kept_short removed depth kind x a (Leaves.stays {text = text} {left = q} stays k) =
+tidied_short removed sorts depth kind x a (Tidied.stays {text = text} {left = q} stays same k) =
     let e = front_length a.1 in
-    let both = both_short text (text_of q) text a.0 (omega arith) (kept_short removed depth kind a.0 a.2 k) in
+    let both = both_short text (text_of q) text a.0 (omega arith) (tidied_short removed sorts depth kind a.0 a.2 k) in
     omega (arith, e, both)
-kept_short removed depth kind x a (Leaves.unnamed {text = text} {left = q} k) =
+tidied_short removed sorts depth kind x a (Tidied.sorted {contents = contents} {text = text} {left = q} front new stays on names cut sorted k) =
+    let e = front_length a.1 in
+    let whole = ap length cut ∙ length-append front contents in
+    let parts = length-append front new in
+    let same = names_length sorted in
+    let both = both_short (front ++ new) (text_of q) text a.0 (omega (arith, whole, parts, same)) (tidied_short removed sorts depth kind a.0 a.2 k) in
+    omega (arith, e, both)
+tidied_short removed sorts depth kind x a (Tidied.unnamed {text = text} {left = q} k) =
     let e = front_length a.3 in
-    let both = both_short text (text_of q) text a.2 (omega arith) (kept_short removed depth kind a.2 a.5 k) in
+    let both = both_short text (text_of q) text a.2 (omega arith) (tidied_short removed sorts depth kind a.2 a.5 k) in
     omega (arith, e, both)
-kept_short removed depth kind x a (Leaves.around {inside = inside} {within = within} {left = q} j k) =
+tidied_short removed sorts depth kind x a (Tidied.around {inside = inside} {within = within} {left = q} j k) =
     let e = front_length a.5 in
-    let shorter = kept_short removed a.1 inside a.3 a.8 j in
+    let shorter = tidied_short removed sorts a.1 inside a.3 a.8 j in
     let bodies : length (header_of inside ++ text_of within) ≤ length (header_of inside ++ a.3) =
     let l = length-append (header_of inside) (text_of within) in
     let m = length-append (header_of inside) a.3 in
     omega (arith, l, m, shorter) in
     let first = sized_short (holder inside) (header_of inside ++ text_of within) a.5.spells bodies in
-    let both = both_short (sized (holder inside) (header_of inside ++ text_of within)) (text_of q) a.2 a.4 first (kept_short removed depth kind a.4 a.9 k) in
+    let both = both_short (sized (holder inside) (header_of inside ++ text_of within)) (text_of q) a.2 a.4 first (tidied_short removed sorts depth kind a.4 a.9 k) in
     omega (arith, e, both)
+
+-- ---- where names are not sorted
+
+pub leaves_tidied : {removed : Removed} {kind : Kind} {p q : SectionList} → Leaves removed kind p q → Tidied removed false kind p q
+leaves_tidied Leaves.nothing = Tidied.nothing
+leaves_tidied (Leaves.goes gone k) = Tidied.goes gone (leaves_tidied k)
+leaves_tidied (Leaves.stays stays k) = Tidied.stays stays (λ names. let never : false ≡ true = names.0 in cc) (leaves_tidied k)
+leaves_tidied (Leaves.unnamed k) = Tidied.unnamed (leaves_tidied k)
+leaves_tidied (Leaves.around j k) = Tidied.around (leaves_tidied j) (leaves_tidied k)
+
+unsorted : {removed : Removed} {sorts : Bool} {kind : Kind} {p q : SectionList} → sorts ≡ false → Tidied removed sorts kind p q → Leaves removed kind p q
+unsorted off Tidied.nothing = Leaves.nothing
+unsorted off (Tidied.goes gone k) = Leaves.goes gone (unsorted off k)
+unsorted off (Tidied.stays stays same k) = Leaves.stays stays (unsorted off k)
+unsorted off (Tidied.sorted front new stays on names cut sorted k) = absurd (let never : true ≡ false = sym on ∙ off in cc)
+unsorted off (Tidied.unnamed k) = Leaves.unnamed (unsorted off k)
+unsorted off (Tidied.around j k) = Leaves.around (unsorted off j) (unsorted off k)
+
+-- then what is tidied is stripped
+pub tidied_stripped : {removed : Removed} {bytes output : List ℕ} → IsTidied removed false bytes output → IsStripped removed bytes output
+tidied_stripped s = record { kind = s.kind; parts = s.parts; left = s.left; reads = s.reads; leaves = unsorted refl s.tidied; spelled = s.spelled }
+
+pub strips_unsorted : (removed : Removed) → StripsUnsorted removed
+strips_unsorted removed = record {
+  stripped = λ bytes output s. tidied_stripped s;
+  tidied = λ bytes output s. record { kind = s.kind; parts = s.parts; left = s.left; reads = s.reads; tidied = leaves_tidied s.leaves; spelled = s.spelled };
+}

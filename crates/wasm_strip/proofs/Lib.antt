@@ -4,4 +4,6 @@ pub mod Malformed
 pub mod NameRows
 pub mod OneSection
 pub mod Readings
+pub mod SortedLengths
+pub mod SortedRows
 pub mod Unread

@@ -1,14 +1,17 @@
 -- The laws of `specs/Laws.antt`.
-use Rattle.std.proofs.Common.{◌≡◌, ℕ, ◌<◌, ◌^◌, List, [], ◌∷◌, ◌++◌, length, Some, None, refl, sym, ap, ap₂, ◌∙◌, subst, arith, length-append}
-use Rattle.wasm_leb.specs.Leb.{leb}
+use Rattle.std.proofs.Common.{false, ◌≡◌, ◌+◌, Bool, append_assoc, ℕ, ◌<◌, ◌^◌, List, [], ◌∷◌, ◌++◌, length, Some, None, refl, sym, ap, ap₂, ◌∙◌, subst, arith, length-append}
+use Rattle.std.proofs.lemmas.List.{append_cancel_right}
+use Rattle.wasm_leb.specs.Leb.{IsUnsigned, leb}
 use Rattle.wasm_leb.proofs.Shortest.{leb_spells}
 use Rattle.wasm_leb.specs.declared.fault.Kind.{Kind}
-use Rattle.wasm_shapes.specs.Spells.{Is, Spells}
+use Rattle.wasm_shapes.specs.Spells.{Is, Spelled, Spells}
 use Rattle.wasm_shapes.specs.Tree.{Tree}
 use Rattle.wasm_shapes.specs.Module.{custom_frame, frame, numbered_frame}
 use Rattle.wasm_strip.specs.Binaries.{IsBinary, IsSectionList, IsStripped, Leaves, Removed, SectionList, Stands, deepest, header_of, held, holder, sized, text_of}
+use Rattle.wasm_strip.specs.Tidied.{IsTidied, Tidied}
 use Rattle.wasm_strip.specs.Laws as statements
-use Rattle.wasm_strip.proofs.Lengths.{is_sized, kept_short}
+use Rattle.wasm_strip.proofs.Lengths.{is_sized, leaves_tidied, tidied_short}
+use Rattle.wasm_strip.proofs.SortedLengths.{names_length}
 use Rattle.wasm_strip.proofs.OneSection.{holds}
 use Rattle.wasm_strip.proofs.Unread.{not_empty, one_header, same_front, same_number}
 
@@ -90,18 +93,44 @@ resized {body = body} {id = id} new p few = record {
 beside : {text : List ℕ} {t : Tree} (rest : List ℕ) → Spells frame text t → Stands (text ++ rest) text t rest
 beside rest p = record { spells = p; stands = refl }
 
-kept_are : (removed : Removed) (depth : ℕ) (kind : Kind) {p q : SectionList} (x : List ℕ) → IsSectionList depth kind x p → Leaves removed kind p q → IsSectionList depth kind (text_of q) q
-kept_are removed depth kind x a Leaves.nothing = refl
-kept_are removed depth kind x a (Leaves.goes gone k) = kept_are removed depth kind a.0 a.2 k
-kept_are removed depth kind x a (Leaves.stays {left = q} stays k) = (text_of q, beside (text_of q) a.1.spells, kept_are removed depth kind a.0 a.2 k)
-kept_are removed depth kind x a (Leaves.unnamed {left = q} k) = (a.0, a.1, text_of q, beside (text_of q) a.3.spells, a.4, kept_are removed depth kind a.2 a.5 k)
-kept_are removed depth kind x a (Leaves.around {inside = inside} {within = within} {left = q} j k) =
+-- a custom section with other contents, as long as these
+other_contents : {name text : List ℕ} (front contents new : List ℕ) → Spells frame text (custom_frame name contents) → text ≡ front ++ contents → length new ≡ length contents →
+    Spells frame (front ++ new) (custom_frame name new)
+other_contents {name = name} {text = text} front contents new p cut long = record {
+  shaped = Is.first (Is.seq Is.fixed (Is.sized (Is.seq Is.name Is.rest)));
+  spelled = go p.spelled;
+}
+  where
+    go : Spelled (custom_frame name contents) text → Spelled (custom_frame name new) (front ++ new)
+    go s =
+        let sized = s.4 in
+        let named = sized.4 in
+        let before = s.0 ++ (sized.0 ++ named.0) in
+        let whole : text ≡ before ++ contents =
+        s.2 ∙ ap (λ (z : List ℕ). s.0 ++ z) (sized.2 ∙ ap (λ (z : List ℕ). sized.0 ++ z) (named.2 ∙ ap (λ (z : List ℕ). named.0 ++ z) named.4) ∙ sym (append_assoc sized.0 named.0 contents))
+        ∙ sym (append_assoc s.0 (sized.0 ++ named.0) contents) in
+        let same : front ≡ before = append_cancel_right front before contents (sym cut ∙ whole) in
+        let is : front ++ new ≡ s.0 ++ (sized.0 ++ (named.0 ++ new)) =
+        ap (λ (z : List ℕ). z ++ new) same ∙ append_assoc s.0 (sized.0 ++ named.0) new ∙ ap (λ (z : List ℕ). s.0 ++ z) (append_assoc sized.0 named.0 new) in
+        let size : length sized.1 ≡ length (named.0 ++ new) =
+        ap length named.2 ∙ length-append named.0 named.1 ∙ ap (λ (n : ℕ). length named.0 + n) (ap length named.4 ∙ sym long) ∙ sym (length-append named.0 new) in
+        let U : ℕ → Type 0 = λ n. IsUnsigned 32 sized.0 n in
+        (s.0, sized.0 ++ (named.0 ++ new), is, s.3, (sized.0, named.0 ++ new, refl, subst U size sized.3, (named.0, new, refl, named.3, refl)))
+
+tidied_are : (removed : Removed) (sorts : Bool) (depth : ℕ) (kind : Kind) {p q : SectionList} (x : List ℕ) → IsSectionList depth kind x p → Tidied removed sorts kind p q → IsSectionList depth kind (text_of q) q
+tidied_are removed sorts depth kind x a Tidied.nothing = refl
+tidied_are removed sorts depth kind x a (Tidied.goes gone k) = tidied_are removed sorts depth kind a.0 a.2 k
+tidied_are removed sorts depth kind x a (Tidied.stays {left = q} stays same k) = (text_of q, beside (text_of q) a.1.spells, tidied_are removed sorts depth kind a.0 a.2 k)
+tidied_are removed sorts depth kind x a (Tidied.sorted {contents = contents} {left = q} front new stays on names cut sorted k) =
+    (text_of q, beside (text_of q) (other_contents front contents new a.1.spells cut (names_length sorted)), tidied_are removed sorts depth kind a.0 a.2 k)
+tidied_are removed sorts depth kind x a (Tidied.unnamed {left = q} k) = (a.0, a.1, text_of q, beside (text_of q) a.3.spells, a.4, tidied_are removed sorts depth kind a.2 a.5 k)
+tidied_are removed sorts depth kind x a (Tidied.around {inside = inside} {within = within} {left = q} j k) =
     let whole = header_of inside ++ text_of within in
     let few : length whole < 2 ^ 32 =
     let known = (is_sized a.5.spells).counted.fits in
     let l = length-append (header_of inside) (text_of within) in
     let m = length-append (header_of inside) a.3 in
-    let short = kept_short removed a.1 inside a.3 a.8 j in
+    let short = tidied_short removed sorts a.1 inside a.3 a.8 j in
     omega (arith, known, l, m, short) in
     let spelled = resized whole a.5.spells few in
     let S : ℕ → Type 0 = λ n. Spells frame (sized n whole) (numbered_frame a.0 whole) in
@@ -114,8 +143,8 @@ kept_are removed depth kind x a (Leaves.around {inside = inside} {within = withi
       beside (text_of q) (subst S same spelled),
       a.6,
       a.7,
-      kept_are removed a.1 inside a.3 a.8 j,
-      kept_are removed depth kind a.4 a.9 k,
+      tidied_are removed sorts a.1 inside a.3 a.8 j,
+      tidied_are removed sorts depth kind a.4 a.9 k,
     )
 
 -- the same sections of the same kind
@@ -124,8 +153,18 @@ moved_leaves {removed = removed} {k = k} {q = q} {r = r} e f l =
     let K : Kind → SectionList → Type 0 = λ z y. Leaves removed z y r in
     subst (K k) (sym f) (subst (λ (z : Kind). K z q) (sym e) l)
 
+tidied_reads : {removed : Removed} {sorts : Bool} {bytes output : List ℕ} (s : IsTidied removed sorts bytes output) → IsBinary deepest output s.kind s.left
+tidied_reads {removed = removed} {sorts = sorts} s = record { rest = text_of s.left; stands = s.spelled; are = tidied_are removed sorts deepest s.kind s.reads.rest s.reads.are s.tidied }
+
 left_reads : {removed : Removed} {bytes output : List ℕ} (s : IsStripped removed bytes output) → IsBinary deepest output s.kind s.left
-left_reads {removed = removed} s = record { rest = text_of s.left; stands = s.spelled; are = kept_are removed deepest s.kind s.reads.rest s.reads.are s.leaves }
+left_reads {removed = removed} s = record { rest = text_of s.left; stands = s.spelled; are = tidied_are removed false deepest s.kind s.reads.rest s.reads.are (leaves_tidied s.leaves) }
+
+pub reads_as_tidied : (removed : Removed) (sorts : Bool) → statements.ReadsAsTidied removed sorts
+reads_as_tidied removed sorts bytes output kind parts s b =
+    let one = one_reading bytes deepest deepest s.kind kind s.parts parts s.reads b in
+    let A : Kind → Type 0 = λ k. IsBinary deepest output k s.left in
+    let K : Kind → SectionList → Type 0 = λ k p. Tidied removed sorts k p s.left in
+    (s.left, subst (K kind) one.1 (subst (λ (k : Kind). K k s.parts) one.0 s.tidied), subst A one.0 (tidied_reads s))
 
 pub reads_as_kept : (removed : Removed) → statements.ReadsAsKept removed
 reads_as_kept removed bytes output kind parts s b =

@@ -1,5 +1,5 @@
 -- Where sections have a fault, the bytes are no sections.
-use Rattle.std.proofs.Common.{◌≡◌, ◌≢◌, ◌⊎◌, inl, inr, ℕ, suc, ◌≤◌, List, [], ◌∷◌, ◌++◌, length, Some, None, refl, sym, ap, ◌∙◌, subst, arith, append_assoc, length-append}
+use Rattle.std.proofs.Common.{Bool, ◌≡◌, ◌≢◌, ◌⊎◌, inl, inr, ℕ, suc, ◌≤◌, List, [], ◌∷◌, ◌++◌, length, Some, None, refl, sym, ap, ◌∙◌, subst, arith, append_assoc, length-append}
 use Rattle.std.proofs.lemmas.List.{append_cancel_left}
 use Rattle.wasm_leb.specs.declared.fault.Kind.{Kind}
 use Rattle.wasm_leb.specs.declared.fault.Kind.TheVariants as kind
@@ -10,9 +10,10 @@ use Rattle.wasm_shapes.proofs.Laws.{shapes_unique}
 use Rattle.wasm_shapes.proofs.Lists.{no_bytes}
 use Rattle.wasm_strip.specs.declared.fault.StripFault.{StripFault}
 use Rattle.wasm_strip.specs.declared.fault.StripFault.TheVariants as fault
-use Rattle.wasm_strip.specs.Binaries.{IsSectionList, IsBinary, IsStripped, SectionList, Stands, deepest, Removed, header_of, held, text_of}
+use Rattle.wasm_strip.specs.Binaries.{IsSectionList, IsBinary, SectionList, Stands, deepest, Removed, header_of, held, text_of}
+use Rattle.wasm_strip.specs.Tidied.{IsTidied}
 use Rattle.wasm_strip.specs.Faults.{Fails, FailsWhole, HasNone, IsWhy}
-use Rattle.wasm_strip.proofs.Lengths.{kept_short}
+use Rattle.wasm_strip.proofs.Lengths.{tidied_short}
 
 -- bytes begin with one section at most
 pub same_front : {bytes x y a b : List ℕ} {t u : Tree} → Stands bytes x t a → Stands bytes y u b → (t ≡ u) × (a ≡ b) × (x ≡ y)
@@ -145,10 +146,10 @@ none_where bytes (fault.Read at) w = λ depth kind parts. no_binary (fault.Read 
 none_where bytes (fault.TooDeep at) w = λ kind parts. no_binary (fault.TooDeep at) w deepest kind parts refl
 none_where bytes fault.NoMemory w = tt
 
--- what is stripped is no longer
-pub stripped_short : {removed : Removed} {bytes output : List ℕ} → IsStripped removed bytes output → length output ≤ length bytes
-stripped_short {removed = removed} s =
-    let short = kept_short removed deepest s.kind s.reads.rest s.reads.are s.leaves in
+-- what is left of a binary is no longer
+pub tidied_binary_short : {removed : Removed} {sorts : Bool} {bytes output : List ℕ} → IsTidied removed sorts bytes output → length output ≤ length bytes
+tidied_binary_short {removed = removed} {sorts = sorts} s =
+    let short = tidied_short removed sorts deepest s.kind s.reads.rest s.reads.are s.tidied in
     let l = ap length s.spelled ∙ length-append (header_of s.kind) (text_of s.left) in
     let m = ap length s.reads.stands ∙ length-append (header_of s.kind) s.reads.rest in
     omega (arith, short, l, m)

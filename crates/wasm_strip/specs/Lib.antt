@@ -3,6 +3,8 @@ pub mod Choices
 pub mod Faults
 pub mod Laws
 pub mod Readable
+pub mod Sorted
 pub mod Sound
 pub mod Steps
 pub mod Texts
+pub mod Tidied

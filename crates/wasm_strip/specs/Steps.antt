@@ -1,17 +1,18 @@
 -- What is added section by section.
-use Rattle.std.specs.Prelude.{◌≡◌, ℕ, List, ◌++◌}
+use Rattle.std.specs.Prelude.{◌≡◌, ℕ, List, ◌++◌, Bool}
 use Rattle.wasm_leb.specs.declared.fault.Kind.{Kind}
 use Rattle.wasm_strip.specs.declared.fault.StripFault.{StripFault}
 use Rattle.wasm_strip.specs.declared.fault.StripFault.TheVariants as fault
-use Rattle.wasm_strip.specs.Binaries.{IsSectionList, Leaves, Removed, SectionList, text_of}
+use Rattle.wasm_strip.specs.Binaries.{IsSectionList, Removed, SectionList, text_of}
+use Rattle.wasm_strip.specs.Tidied.{Tidied}
 use Rattle.wasm_strip.specs.Faults.{Fails}
 
--- the bytes are sections, and what stays of these is added
-pub record AddsKept (removed : Removed) (depth : ℕ) (kind : Kind) (bytes old new : List ℕ) : Type 0 where
+-- the bytes are sections, and what they become is added
+pub record AddsKept (removed : Removed) (sorts : Bool) (depth : ℕ) (kind : Kind) (bytes old new : List ℕ) : Type 0 where
   pub parts : SectionList
   pub left : SectionList
   pub are : IsSectionList depth kind bytes parts
-  pub leaves : Leaves removed kind parts left
+  pub tidied : Tidied removed sorts kind parts left
   pub added : new ≡ old ++ text_of left
 
 -- sections have this fault, or memory is wanting

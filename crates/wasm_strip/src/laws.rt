@@ -1,5 +1,5 @@
 //! The laws of what is stripped, as functions that do nothing: each one's contract is the law.
-ghost use Rattle.wasm_strip.specs.Laws.{HaveOneReading, IsSettled, ReadsAsKept};
+ghost use Rattle.wasm_strip.specs.Laws.{HaveOneReading, IsSettled, ReadsAsKept, ReadsAsTidied, StripsUnsorted};
 
 use crate::rule::StripRule;
 
@@ -19,6 +19,22 @@ pub fn kept_sections_read_back<N: StripRule>(rule: &N)
 #[tactic(auto, using(crate::proofs::Readings::settled))]
 pub fn stripping_settles<N: StripRule>(rule: &N)
     ensures { IsSettled (N.removed rule.now) }
+{
+    let _ = rule;
+}
+
+/// What is tidied reads as what its sections become, with names in order where that is asked for.
+pub fn tidied_sections_read_back<N: StripRule>(rule: &N, sorts: bool)
+    ensures { ReadsAsTidied (N.removed rule.now) sorts }
+{
+    let _ = rule;
+    let _ = sorts;
+}
+
+/// Without names in order what is tidied is what is stripped.
+#[tactic(auto, using(crate::proofs::Lengths::strips_unsorted))]
+pub fn unsorted_is_stripped<N: StripRule>(rule: &N)
+    ensures { StripsUnsorted (N.removed rule.now) }
 {
     let _ = rule;
 }

@@ -7,13 +7,17 @@ mod laws;
 mod names;
 mod rule;
 mod sections;
+mod sorting;
 mod sound;
 mod stripping;
 
 pub use choice::Choice;
 pub use fault::StripFault;
-pub use laws::{bytes_have_one_reading, kept_sections_read_back, stripping_settles};
+pub use laws::{
+    bytes_have_one_reading, kept_sections_read_back, stripping_settles, tidied_sections_read_back,
+    unsorted_is_stripped,
+};
 pub use names::are_names;
-pub use rule::StripRule;
+pub use rule::{Nothing, StripRule};
 pub use sound::without_malformed;
-pub use stripping::strip;
+pub use stripping::{strip, tidy};

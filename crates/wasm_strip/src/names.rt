@@ -7,8 +7,9 @@ ghost use Rattle.wasm_shapes.specs.Place.{Begins, BeginsNone};
 ghost use Rattle.wasm_shapes.specs.Tree.{Tree};
 ghost use Rattle.wasm_strip.specs.Choices.{AreNames};
 ghost use Rattle.wasm_strip.specs.Readable.{HasEntries, HasReading};
+ghost use Rattle.wasm_strip.specs.Tidied.{HasNames};
 
-use wasm_leb::front_byte;
+use wasm_leb::{Kind, front_byte};
 use wasm_read::{IndirectNameMap, Name, NameMap, Subsection, front_sized};
 
 /// Whether a map of names can be read to its end.
@@ -58,7 +59,7 @@ fn is_readable(names: Name<'_>) -> bool
 }
 
 /// The bytes behind the subsection at the front of some bytes, where it can be read.
-fn behind_subsection(bytes: &[u8]) -> Option<&[u8]>
+pub(crate) fn behind_subsection(bytes: &[u8]) -> Option<&[u8]>
     ensures some { IfSome result (λ rest. (t : Tree) × Begins name_subsection bytes.now t rest.now) }
     ensures none { IfNone result (BeginsNone name_subsection bytes.now) }
 {
@@ -71,6 +72,16 @@ fn behind_subsection(bytes: &[u8]) -> Option<&[u8]>
     match Name::of_body(id, body) {
         Some(names) => { if is_readable(names) { Some(rest) } else { None } }
         None => None,
+    }
+}
+
+/// Whether a section of this name is a name section of a core module whose contents have a reading.
+pub(crate) fn has_names(kind: Kind, name: &str, contents: &[u8]) -> bool
+    ensures { Decides result (HasNames kind name.now contents.now) }
+{
+    match kind {
+        Kind::Module => name == "name" && are_names(contents),
+        Kind::Component => false,
     }
 }
 

@@ -12,3 +12,15 @@ pub trait StripRule {
     fn removes(&self, kind: Kind, name: &str, contents: &[u8]) -> bool
         ensures { Decides result (removed self.now kind name.now contents.now) };
 }
+
+/// The rule by which nothing is removed.
+#[derive(Clone, Copy, Debug)]
+pub struct Nothing;
+
+impl StripRule for Nothing {
+    ghost removed = { λ _ _ _ _. ⊥ };
+
+    fn removes(&self, _kind: Kind, _name: &str, _contents: &[u8]) -> bool {
+        false
+    }
+}

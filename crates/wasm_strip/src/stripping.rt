@@ -2,6 +2,7 @@
 ghost use Rattle.std.specs.Prelude.{◌≡◌, ◌≤◌, ◌++◌, length, IfOk, IfErr};
 ghost use Rattle.wasm_strip.specs.Binaries.{IsStripped, header_of};
 ghost use Rattle.wasm_strip.specs.Faults.{HasNone, IsWhy};
+ghost use Rattle.wasm_strip.specs.Tidied.{IsTidied};
 
 use crate::fault::StripFault;
 use crate::rule::StripRule;
@@ -26,28 +27,46 @@ pub fn strip<N: StripRule>(alloc: Global, rule: &N, bytes: &[u8]) -> Result<Vec<
     ensures err { IfErr result (λ e. IsWhy bytes.now e) }
     ensures none { IfErr result (λ e. HasNone bytes.now e) }
 {
+    tidy(alloc, rule, false, bytes)
+}
+
+/// The same, and where that is asked for with names in order: in each `name` section of a core module whose contents have a reading,
+/// the subsections in the order of their ids, and in these the entries of maps in the order of their indices (WebAssembly Core
+/// Specification 3.0, section 7.4.1). Those of one index keep their order. A section without a reading stays as it is.
+pub fn tidy<N: StripRule>(
+    alloc: Global,
+    rule: &N,
+    sorts: bool,
+    bytes: &[u8],
+) -> Result<Vec<u8>, StripFault>
+    ensures ok { IfOk result (λ out. IsTidied (N.removed rule.now) sorts bytes.now out.items) }
+    ensures shorter { IfOk result (λ out. length out.items ≤ length bytes.now) }
+    ensures err { IfErr result (λ e. IsWhy bytes.now e) }
+    ensures none { IfErr result (λ e. HasNone bytes.now e) }
+{
     if let Some(rest) = behind_header(Kind::Module, bytes) {
-        return stripped(alloc, rule, Kind::Module, bytes, rest);
+        return tidied(alloc, rule, sorts, Kind::Module, bytes, rest);
     }
     match behind_header(Kind::Component, bytes) {
-        Some(rest) => stripped(alloc, rule, Kind::Component, bytes, rest),
+        Some(rest) => tidied(alloc, rule, sorts, Kind::Component, bytes, rest),
         None => Err(StripFault::Read { at: 0 }),
     }
 }
 
 /// The same of a binary of a kind, whose sections are these bytes.
-fn stripped<N: StripRule>(
+fn tidied<N: StripRule>(
     alloc: Global,
     rule: &N,
+    sorts: bool,
     kind: Kind,
     bytes: &[u8],
     rest: &[u8],
 ) -> Result<Vec<u8>, StripFault>
     requires { bytes.now ≡ header_of kind ++ rest.now }
-    ensures ok { IfOk result (λ out. IsStripped (N.removed rule.now) bytes.now out.items) }
+    ensures ok { IfOk result (λ out. IsTidied (N.removed rule.now) sorts bytes.now out.items) }
     ensures err { IfErr result (λ e. IsWhy bytes.now e) }
 {
     let mut out = begun(alloc, kind, bytes.len())?;
-    add_sections(alloc, rule, kind, rest, 8, DEEPEST, &mut out)?;
+    add_sections(alloc, rule, sorts, kind, rest, 8, DEEPEST, &mut out)?;
     Ok(out)
 }

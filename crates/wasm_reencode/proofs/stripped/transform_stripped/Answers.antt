@@ -2,7 +2,7 @@ use Rattle.std.proofs.Common.{◌≡◌, ◌≢◌, ◌⊎◌, inl, inr, refl, �
 use Rattle.reencode_run.specs.Answer.{IsDecided, output_of}
 use Rattle.reencode_run.specs.Outside.{Rose, TookFront, WhereTold, followed}
 use Rattle.reencode_run.specs.Requests.{job_of}
-use Rattle.wasm_strip.specs.Binaries.{IsStripped}
+use Rattle.wasm_strip.specs.Tidied.{IsTidied}
 use Rattle.wasm_strip.specs.Faults.{HasNone, IsWhy}
 use Rattle.wasm_reencode.proofs.StripDecides.{decided_by}
 use Rattle.wasm_reencode.proofs.StripEnds.{command_by, made_unwritten, other_sink, status_by, strip_by}
@@ -41,17 +41,17 @@ returns-in-Err-clause-decided g c =
 pub returns-in-Err-clause-unstripped : goal.returns-in-Err-clause-unstripped
 returns-in-Err-clause-unstripped g c = strip_by c.in-Err.status _ _ c.unmade.ensures (λ four. (made_unwritten (rw four at c.in-Err.ensures.ends.2), tt, tt))
 
-pub returns-in-Err-strip-clause-unstripped : goal.returns-in-Err-strip-clause-unstripped
-returns-in-Err-strip-clause-unstripped g c =
+pub returns-in-Err-tidy-clause-unstripped : goal.returns-in-Err-tidy-clause-unstripped
+returns-in-Err-tidy-clause-unstripped g c =
     let given = c.in-Ok.ensures.written in
     let whole : c.new.result.items ++ output_of given.0 ≡ c.transform.new.out.bytes.items = ap told given.1 in
     let made : c.as_slice.result.now ≡ output_of given.0 = c.as_slice.ensures.value ∙ sym whole ∙ ap (λ (z : List ℕ). z ++ output_of given.0) c.new.ensures.items in
-    let P : List ℕ → Type 0 = λ z. IsWhy z c.in-Err-strip.fault in
-    let Q : List ℕ → Type 0 = λ z. HasNone z c.in-Err-strip.fault in
-    (given.0, subst P made c.in-Err-strip.ensures.err, subst Q made c.in-Err-strip.ensures.none)
+    let P : List ℕ → Type 0 = λ z. IsWhy z c.in-Err-tidy.fault in
+    let Q : List ℕ → Type 0 = λ z. HasNone z c.in-Err-tidy.fault in
+    (given.0, subst P made c.in-Err-tidy.ensures.err, subst Q made c.in-Err-tidy.ensures.none)
 
-pub returns-in-Err-strip-clause-decided : goal.returns-in-Err-strip-clause-decided
-returns-in-Err-strip-clause-decided g c =
+pub returns-in-Err-tidy-clause-decided : goal.returns-in-Err-tidy-clause-decided
+returns-in-Err-tidy-clause-decided g c =
     decided_by _ _ _ _ 0 0 (λ n other e. e) (λ h. inl refl) (job_of c.args.request) (g.F.Shelf.texts c.args.shelf.now) (g.S.Source.left c.args.input.now) c.in-Ok.ensures.decided
 
 pub returns-in-Ok-write_all-clause-written : goal.returns-in-Ok-write_all-clause-written
@@ -59,9 +59,9 @@ returns-in-Ok-write_all-clause-written g c =
     let given = c.in-Ok.ensures.written in
     let whole : c.new.result.items ++ output_of given.0 ≡ c.transform.new.out.bytes.items = ap told given.1 in
     let made : c.as_slice.result.now ≡ output_of given.0 = c.as_slice.ensures.value ∙ sym whole ∙ ap (λ (z : List ℕ). z ++ output_of given.0) c.new.ensures.items in
-    let P : List ℕ → Type 0 = λ z. IsStripped (g.N.StripRule.removed c.args.rule.now) z c.in-Ok-strip.bytes.items in
+    let P : List ℕ → Type 0 = λ z. IsTidied (g.N.StripRule.removed c.args.rule.now) c.args.sorts z c.in-Ok-tidy.bytes.items in
     let Q : List ℕ → Type 0 = λ z. WhereTold (g.K.Sink.held c.write_all.new.out) (followed (g.K.Sink.held c.args.out.now) z) in
-    (given.0, c.in-Ok-strip.bytes.items, subst P made c.in-Ok-strip.ensures.ok, subst Q c.as_slice-2.ensures.value c.in-Ok-write_all.ensures.ok, given.2)
+    (given.0, c.in-Ok-tidy.bytes.items, subst P made c.in-Ok-tidy.ensures.ok, subst Q c.as_slice-2.ensures.value c.in-Ok-write_all.ensures.ok, given.2)
 
 pub returns-in-Ok-write_all-clause-decided : goal.returns-in-Ok-write_all-clause-decided
 returns-in-Ok-write_all-clause-decided g c =
@@ -72,9 +72,9 @@ returns-clause-failed g c =
     let given = c.in-Ok.ensures.written in
     let whole : c.new.result.items ++ output_of given.0 ≡ c.transform.new.out.bytes.items = ap told given.1 in
     let made : c.as_slice.result.now ≡ output_of given.0 = c.as_slice.ensures.value ∙ sym whole ∙ ap (λ (z : List ℕ). z ++ output_of given.0) c.new.ensures.items in
-    let P : List ℕ → Type 0 = λ z. IsStripped (g.N.StripRule.removed c.args.rule.now) z c.in-Ok-strip.bytes.items in
+    let P : List ℕ → Type 0 = λ z. IsTidied (g.N.StripRule.removed c.args.rule.now) c.args.sorts z c.in-Ok-tidy.bytes.items in
     let Q : List ℕ → Type 0 = λ z. TookFront (g.K.Sink.held c.args.out.now) (g.K.Sink.held c.write_all.new.out) z in
-    (given.0, c.in-Ok-strip.bytes.items, subst P made c.in-Ok-strip.ensures.ok, subst Q c.as_slice-2.ensures.value c.in-Err-write_all.ensures.front, c.in-Err-write_all.ensures.failed)
+    (given.0, c.in-Ok-tidy.bytes.items, subst P made c.in-Ok-tidy.ensures.ok, subst Q c.as_slice-2.ensures.value c.in-Err-write_all.ensures.front, c.in-Err-write_all.ensures.failed)
 
 pub returns-clause-decided : goal.returns-clause-decided
 returns-clause-decided g c =
