@@ -1,6 +1,6 @@
 //! What a command makes, without custom sections and with names in order.
 ghost use Rattle.std.specs.Prelude.{◌≡◌, ◌≢◌, ◌≤◌, ◌++◌, ℕ, List, [], None, Some, codes, IfOk, IfErr, IsErrOf};
-ghost use Rattle.reencode_run.specs.Answer.{Ends, IsDecided, IsMaking, IsOfFile, Made, Says, lines_of, output_of, status_of, text_of};
+ghost use Rattle.reencode_run.specs.Answer.{Ends, IsDecided, IsMaking, IsOfFile, Made, Says, lines_of, output_of, outside, status_of, text_of};
 ghost use Rattle.reencode_run.specs.Outside.{Rose, TookFront, TookMore, WhereTold, followed};
 ghost use Rattle.reencode_run.specs.Requests.{job_of, name_told};
 ghost use Rattle.reencode_run.specs.Words.{files, functions};
@@ -108,19 +108,9 @@ pub fn transform_stripped<N: StripRule, F: Shelf, S: Source, K: Sink, D: Sink>(
     // Where the command makes nothing it ends as its status says, which is none of the sink, and that is told of the file that it
     // comes of.
     ensures ends { IfCommand result (λ status. (answer : Answer) × (status ≡ status_of answer)
-        × Ends (job_of request.entry) (record {
-          texts = F.texts shelf.old;
-          shelf_faults_old = F.faults shelf.old;
-          shelf_faults_new = F.faults shelf.new;
-          left_old = S.left input.old;
-          left_new = S.left input.new;
-          read_faults_old = S.faults input.old;
-          read_faults_new = S.faults input.new;
-          held_old = K.held out.old;
-          held_new = K.held out.new;
-          write_faults_old = K.faults out.old;
-          write_faults_new = K.faults out.new;
-        }) (input.new ≡ input.old) status (text_of answer)
+        × Ends (job_of request.entry)
+        (outside F.Shelf S.Source K.Sink shelf.old shelf.new input.old input.new out.old out.new)
+        (input.new ≡ input.old) status (text_of answer)
         × IsOfFile (job_of request.entry).command (F.texts shelf.old) (F.faults shelf.old)
         (F.faults shelf.new) answer
         × Says (D.faults err.old) (D.faults err.new) (D.held err.old) (D.held err.new)
