@@ -12,7 +12,6 @@ ghost use Rattle.wasm_reach.specs.Notes.{calls, functions_of, roots, section_roo
 use crate::checks::decide;
 use crate::graph::ModuleCalls;
 use crate::notes::{note_bodies, note_custom, note_rows};
-use crate::noting::Noting;
 use call_graph::CallGraph;
 use module_spaces::measure;
 use std::alloc::Global;
@@ -24,7 +23,7 @@ use wasm_shapes::SectionId;
 #[derive(Drop)]
 struct Seen {
     /// By the sections of known kinds but that of code.
-    roots: Noting,
+    roots: Vec<u32>,
     /// By each body.
     calls: CallGraph,
 }
@@ -45,10 +44,9 @@ pub(crate) fn at_once(alloc: Global, bytes: &[u8]) -> Option<ModuleCalls>
         return None;
     };
     let Seen { roots, calls } = seen;
-    let Noting { functions } = roots;
     Some(ModuleCalls {
         imports: numbers.imports,
-        roots: functions,
+        roots: List::from_vec(roots),
         calls,
     })
 }
@@ -57,13 +55,11 @@ pub(crate) fn at_once(alloc: Global, bytes: &[u8]) -> Option<ModuleCalls>
 fn note_all(alloc: Global, bound: u32, bytes: &[u8]) -> Result<Seen, NoMemory>
     ensures read { OnOk result ((t : Tree) × CoreReading bytes.now t) }
     ensures below { OnOk result ((t : Tree) → CoreReading bytes.now t → All (λ i. i < bound) (functions_of t)) }
-    ensures roots { IfOk result (λ s. (t : Tree) → CoreReading bytes.now t → s.roots.functions ≡ roots t) }
+    ensures roots { IfOk result (λ s. (t : Tree) → CoreReading bytes.now t → s.roots.items ≡ roots t) }
     ensures calls { IfOk result (λ s. (t : Tree) → CoreReading bytes.now t → s.calls ≡ calls t) }
 {
     let mut seen = Seen {
-        roots: Noting {
-            functions: List::new(alloc),
-        },
+        roots: Vec::new(alloc),
         calls: CallGraph::new(alloc),
     };
     let Ok(mut payloads) = Payloads::new(bytes) else {
@@ -100,7 +96,7 @@ fn note_kind(
     ensures below { OnOk result ((t : Tree) → InFrame t (numbered_frame (number id) body.now)
         → All (λ i. i < bound) (functions_of t)) }
     ensures roots { OnOk result ((t : Tree) → InFrame t (numbered_frame (number id) body.now)
-        → seen.new.roots.functions ≡ seen.old.roots.functions ++ section_roots t) }
+        → seen.new.roots.items ≡ seen.old.roots.items ++ section_roots t) }
     ensures calls { OnOk result ((t : Tree) → InFrame t (numbered_frame (number id) body.now)
         → seen.new.calls ≡ seen.old.calls ++ map functions_of (rows_in kinds.Code t)) }
 {

@@ -8,7 +8,7 @@ returns-in-Code c =
     record {
       read = code_read c.args.body.now c.args.id c.in-Code.is c.note_bodies.result noted.read;
       below = code_below c.args.body.now c.args.id c.in-Code.is c.note_bodies.result c.args.bound noted.below;
-      roots = code_roots c.args.seen.now.roots.functions c.args.body.now c.args.id c.in-Code.is c.note_bodies.result;
+      roots = code_roots c.args.seen.now.roots.items c.args.body.now c.args.id c.in-Code.is c.note_bodies.result;
       calls = code_calls c.args.seen.now.calls c.note_bodies.new.calls c.args.body.now c.args.id c.in-Code.is c.note_bodies.result noted.calls;
     }
 
@@ -18,6 +18,6 @@ returns-in_default c =
     record {
       read = noted.read;
       below = on_ok (seen_below c.args.bound c.args.id c.args.body.now) c.note_rows.result noted.below;
-      roots = other_roots c.args.id c.in_default.not-Code c.args.body.now c.args.seen.now.roots.functions c.note_rows.new.asked.functions c.note_rows.result noted.noted;
+      roots = other_roots c.args.id c.in_default.not-Code c.args.body.now c.args.seen.now.roots.items c.note_rows.new.functions.items c.note_rows.result noted.noted;
       calls = other_calls c.args.id c.in_default.not-Code c.args.body.now c.args.seen.now.calls c.note_rows.result;
     }
