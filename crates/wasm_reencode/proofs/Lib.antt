@@ -8,3 +8,4 @@ pub mod StripEnds
 pub mod Told
 pub mod Trees
 pub mod Wrong
+mod VisitsTold

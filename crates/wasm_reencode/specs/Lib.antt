@@ -6,3 +6,4 @@ pub mod Sections
 pub mod Stale
 pub mod Stripped
 pub mod Trees
+pub mod Visits

@@ -8,6 +8,7 @@ mod listing;
 mod sections;
 mod stale;
 mod stripped;
+mod visits;
 mod words;
 
 use crate::explain::{add_json_place, add_place};
@@ -18,6 +19,7 @@ use crate::listing::{lines_of, tree_of};
 use crate::sections::{Section, sections_of};
 use crate::stale::{has_code_of, stale_of};
 use crate::stripped::{Ended, read_sound, transform_stripped};
+use crate::visits::told_visits;
 use crate::words::{Asked, Custom, asked_of, custom_of, most_of, program};
 use clap::ArgMatches;
 use clap::error::ErrorKind;
@@ -487,12 +489,10 @@ fn run_asked(rt: &HostRuntime, asked: &Asked<'_>, custom: &Custom<'_>) -> u8 {
     }
 }
 
-/// Says that no header of a binary stands in a file, and answers the status.
-fn headless(rt: &HostRuntime, quiet: bool, name: &str, bytes: &[u8]) -> u8 {
-    let answer = Answer::Reencoding(TaskFault {
-        fault: ReencodingFault::ParseError { at: 0 },
-        by: None,
-    });
+/// Says why nothing is told of some bytes, and answers the status.
+fn untold(rt: &HostRuntime, quiet: bool, name: &str, bytes: &[u8], fault: ReencodingFault) -> u8 {
+    let answer = Answer::Reencoding(TaskFault { fault, by: None });
+    let status = answer.status();
     if !quiet {
         let mut line = Vec::new(rt.alloc());
         let _ = say_of(
@@ -500,31 +500,41 @@ fn headless(rt: &HostRuntime, quiet: bool, name: &str, bytes: &[u8]) -> u8 {
             &answer,
             &mut StdSink::new(Held::new(&mut line)),
         );
-        let _ = add_place(&mut line, name, bytes);
+        if status == 5 || status == 7 {
+            let _ = add_place(&mut line, name, bytes);
+        }
         let _ = rt.stderr().write_all(line.as_slice());
     }
-    answer.status()
+    status
 }
 
-/// What is told of some sections.
-fn list_of(alloc: Global, json: bool, sections: &[Section<'_>]) -> Result<Vec<u8>, AllocError> {
-    if json {
-        tree_of(alloc, sections)
-    } else {
-        lines_of(alloc, sections)
+/// What is told of the sections of some bytes.
+fn told_sections(alloc: Global, json: bool, bytes: &[u8]) -> Result<Vec<u8>, ReencodingFault> {
+    let text = match sections_of(alloc, bytes) {
+        Ok(Some(all)) if json => tree_of(alloc, all.as_slice()),
+        Ok(Some(all)) => lines_of(alloc, all.as_slice()),
+        Ok(None) => return Err(ReencodingFault::ParseError { at: 0 }),
+        Err(e) => Err(e),
+    };
+    match text {
+        Ok(text) => Ok(text),
+        Err(_) => Err(ReencodingFault::NoMemory),
     }
 }
 
-/// Tells the sections of some bytes, and answers the status.
+/// Tells the sections of some bytes, or their visits, and answers the status.
 fn list_bytes(rt: &HostRuntime, matches: &ArgMatches<'_>, name: &str, bytes: &[u8]) -> u8 {
     let quiet = matches.get_flag("quiet");
-    match sections_of(rt.alloc(), bytes) {
-        Ok(Some(all)) => match list_of(rt.alloc(), matches.get_flag("json"), all.as_slice()) {
-            Ok(text) => print_lines(rt, quiet, text.as_slice()),
-            Err(_) => no_memory(rt),
-        },
-        Ok(None) => headless(rt, quiet, name, bytes),
-        Err(_) => no_memory(rt),
+    let json = matches.get_flag("json");
+    let told = if matches.get_flag("visits") {
+        told_visits(rt.alloc(), json, bytes)
+    } else {
+        told_sections(rt.alloc(), json, bytes)
+    };
+    match told {
+        Ok(text) => print_lines(rt, quiet, text.as_slice()),
+        Err(ReencodingFault::NoMemory) => no_memory(rt),
+        Err(fault) => untold(rt, quiet, name, bytes, fault),
     }
 }
 

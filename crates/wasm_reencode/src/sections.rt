@@ -38,7 +38,7 @@ pub struct Section<'a> {
 }
 
 /// What the section of an id is called in a core module.
-fn core_name(id: u8) -> &'static str
+pub fn core_name(id: u8) -> &'static str
     ensures { result.now ≡ kind_name Layer.Module id }
 {
     match id {

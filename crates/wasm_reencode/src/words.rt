@@ -251,7 +251,12 @@ fn list<'a>(alloc: Global) -> Result<Command<'a>, AllocError> {
         "list",
         "Tells the sections: number, id, kind, place, size, rows or name",
     )?
-    .arg(flag(alloc, "json", "Tell them as a JSON object"))
+    .arg(flag(alloc, "json", "Tell them as a JSON object"))?
+    .arg(flag(
+        alloc,
+        "visits",
+        "Tell in their place the indices of a core module: place of the row, section, space, index",
+    ))
 }
 
 /// The program.

@@ -1,0 +1,5 @@
+mod Runs
+mod RowsListed
+mod NamesListed
+mod ModulesListed
+mod Asked
