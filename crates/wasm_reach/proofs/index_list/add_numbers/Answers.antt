@@ -1,7 +1,7 @@
 use Rattle.std.proofs.Common.{sym}
 use Rattle.module_spaces.proofs.Editing.{length_zero}
 use Rattle.wasm_reach.proofs.Packing.{added_begins, added_done, added_more, below_done, fewer}
-use Rattle.wasm_reach.proofs.packed.add_numbers.Goals as goal
+use Rattle.wasm_reach.proofs.index_list.add_numbers.Goals as goal
 
 pub numbers-init : goal.numbers-init
 numbers-init c = added_begins c.args.bound c.args.bytes.now c.args.list.now.items

@@ -1,6 +1,6 @@
 use Rattle.std.proofs.Common.{length}
 use Rattle.wasm_reach.proofs.Packing.{AddedSoFar}
-use Rattle.wasm_reach.proofs.packed.add_numbers.Given as goal
+use Rattle.wasm_reach.proofs.index_list.add_numbers.Given as goal
 
 -- the numbers so far
 abbrev pub invariant-numbers : goal.invariant-numbers
