@@ -3,8 +3,8 @@ use Rattle.std.proofs.Common.{◌≡◌, ◌≢◌, ℕ, ◌<◌, List, [], ◌�
 use Rattle.std.specs.Bool.{Decides}
 use Rattle.wasm_shapes.specs.Tree.{Tree}
 use Rattle.wasm_shapes.specs.Shape.{Shape, closed}
-use Rattle.wasm_shapes.specs.Sound.{sound}
-use Rattle.wasm_shapes.specs.Spells.{Is, Spelled}
+use Rattle.wasm_shapes.specs.Sound.{nullable, sound}
+use Rattle.wasm_shapes.specs.Spells.{Is, Spelled, Spells}
 use Rattle.wasm_shapes.specs.Place.{Begins, BeginsNone}
 use Rattle.wasm_shapes.specs.Types.{rows_tree}
 use Rattle.wasm_shapes.specs.Module.{name_subsection, plain_naming}
@@ -18,7 +18,6 @@ use Rattle.wasm_read.specs.Subsections.{Content, ReadsContent, content_of, subse
 use Rattle.wasm_read.proofs.NameMaps.{entries_of, left_less, left_more, left_none, outers_of}
 use Rattle.wasm_read.proofs.Placed.{takes_bytes}
 use Rattle.wasm_read.proofs.Subsections.{begins_one, none_subsection, subsection_there}
-use Rattle.wasm_strip.specs.Choices.{AreNames}
 use Rattle.wasm_strip.specs.Readable.{HasEntries, HasReading}
 
 -- one holds where the other does
@@ -116,34 +115,39 @@ module _ {bytes rest body : List ℕ} {id : ℕ} (n : Name) (frame : Begins subs
 
 -- ---- subsections
 
-module _ {rest : List ℕ} where
-  first_of : rest ≢ [] → AreNames rest → (t : Tree) × (left : List ℕ) × Begins name_subsection rest t left × AreNames left
+-- the bytes are rows of a shape, one behind another
+abbrev pub AreRows : Shape → List ℕ → Type 0
+AreRows shape bytes = (t : Tree) × Spells (Shape.many shape) bytes t
+
+module _ (shape : Shape) {rest : List ℕ} where
+  first_of : rest ≢ [] → AreRows shape rest → (t : Tree) × (left : List ℕ) × Begins shape rest t left × AreRows shape left
   first_of some n = go n.0 n.1.shaped n.1.spelled
     where
-      go : (u : Tree) → Is (Shape.many name_subsection) u → Spelled u rest → (t : Tree) × (left : List ℕ) × Begins name_subsection rest t left × AreNames left
+      go : (u : Tree) → Is (Shape.many shape) u → Spelled u rest → (t : Tree) × (left : List ℕ) × Begins shape rest t left × AreRows shape left
       go u Is.nil s = absurd (some s)
       go u (Is.cons {t = t} {u = others} d d') s =
           (t, s.1, record { text = s.0; spells = record { shaped = d; spelled = s.3 }; reads = s.2 }, (others, record { shaped = d'; spelled = s.4 }))
 
-  pub subsection_read : {all left : List ℕ} {t : Tree} → rest ≢ [] → Same (AreNames all) (AreNames rest) → Begins name_subsection rest t left → Same (AreNames all) (AreNames left)
-  subsection_read {left = left} {t = t} some s b = record {
+  pub subsection_read : {all left : List ℕ} {t : Tree} → sound shape ≡ true → closed shape ≡ true → rest ≢ [] → Same (AreRows shape all) (AreRows shape rest) → Begins shape rest t left →
+      Same (AreRows shape all) (AreRows shape left)
+  subsection_read {left = left} {t = t} k h some s b = record {
     forth = λ n.
         let first = first_of some (s.forth n) in
-        subst AreNames (sym (begins_one refl refl b first.2).1) first.3;
+        subst (AreRows shape) (sym (begins_one k h b first.2).1) first.3;
     back = λ n.
         s.back (Tree.cons t n.0, record { shaped = Is.cons b.spells.shaped n.1.shaped; spelled = (b.text, left, b.reads, b.spells.spelled, n.1.spelled) });
   }
 
-  pub subsections_ended : {all : List ℕ} → Same (AreNames all) (AreNames rest) → rest ≡ [] → Decides true (AreNames all)
+  pub subsections_ended : {all : List ℕ} → Same (AreRows shape all) (AreRows shape rest) → rest ≡ [] → Decides true (AreRows shape all)
   subsections_ended s e = told_true s (Tree.nil, record { shaped = Is.nil; spelled = e })
 
-  pub subsection_missing : {all : List ℕ} → rest ≢ [] → Same (AreNames all) (AreNames rest) → BeginsNone name_subsection rest → Decides false (AreNames all)
+  pub subsection_missing : {all : List ℕ} → rest ≢ [] → Same (AreRows shape all) (AreRows shape rest) → BeginsNone shape rest → Decides false (AreRows shape all)
   subsection_missing some s none =
       told_false s (λ n. let first = first_of some n in let b = first.2 in none.none b.text first.1 first.0 b.spells b.reads)
 
-  pub subsection_shrinks : {left : List ℕ} {t : Tree} → Begins name_subsection rest t left → length left < length rest
-  subsection_shrinks {left = left} b =
+  pub subsection_shrinks : {left : List ℕ} {t : Tree} → nullable shape ≡ false → Begins shape rest t left → length left < length rest
+  subsection_shrinks {left = left} fills b =
       let long = ap length b.reads in
       let parts = length-append b.text left in
-      let some = takes_bytes b.text refl b.spells in
+      let some = takes_bytes b.text fills b.spells in
       omega (arith, long, parts, some)

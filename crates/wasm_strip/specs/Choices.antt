@@ -6,6 +6,7 @@ use Rattle.wasm_leb.specs.declared.fault.Kind.{Kind}
 use Rattle.wasm_leb.specs.declared.fault.Kind.TheVariants as kind
 use Rattle.wasm_shapes.specs.Tree.{Tree}
 use Rattle.wasm_shapes.specs.Spells.{Spells}
+use Rattle.wasm_shapes.specs.Component.{component_names, component_names_name}
 use Rattle.wasm_shapes.specs.Module.{names, names_name}
 
 -- the name begins with this text
@@ -48,9 +49,14 @@ removed_by names malformed debug stale all sections name =
 abbrev pub AreNames : List ℕ → Type 0
 AreNames contents = (t : Tree) × Spells names contents t
 
--- in a core module such a section is a name section, and its contents are none
+-- they are those of a section of a component's names
+abbrev pub AreComponentNames : List ℕ → Type 0
+AreComponentNames contents = (t : Tree) × Spells component_names contents t
+
+-- such a section holds the names of a core module, or of a component, and its contents are none
 abbrev pub IsMalformed : Kind → List ℕ → List ℕ → Type 0
-IsMalformed in_kind name contents = (in_kind ≡ kind.Module) × (name ≡ names_name) × ¬ AreNames contents
+IsMalformed kind.Module name contents = (name ≡ names_name) × ¬ AreNames contents
+IsMalformed kind.Component name contents = (name ≡ component_names_name) × ¬ AreComponentNames contents
 
 -- What is removed: by its name, or, where malformed names are chosen, as such.
 abbrev pub RemovedBy : Bool → Bool → Bool → Bool → Bool → List (Bor (List ℕ)) → Kind → List ℕ → List ℕ → Type 0

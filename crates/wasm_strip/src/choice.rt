@@ -3,6 +3,7 @@ ghost use Rattle.std.specs.Prelude.{◌≡◌};
 ghost use Rattle.std.specs.Bool.{Decides};
 ghost use Rattle.wasm_strip.specs.Choices.{IsMalformed, begins, is_debug, is_names, is_one_of, is_stale, stays_by_default};
 
+use crate::component_names::are_component_names;
 use crate::names::are_names;
 use crate::rule::StripRule;
 use wasm_leb::Kind;
@@ -12,7 +13,7 @@ use wasm_leb::Kind;
 pub struct Choice<'a> {
     /// The sections `name` and `component-name`.
     pub names: bool,
-    /// The sections `name` of core modules whose contents have no reading.
+    /// The sections `name` of core modules, and `component-name` of components, whose contents have no reading.
     pub malformed: bool,
     /// What a debugger reads: `.debug_*`, `sourceMappingURL`, `external_debug_info`.
     pub debug: bool,
@@ -65,13 +66,13 @@ impl<'a> Choice<'a> {
     }
 }
 
-/// Whether a section is a name section of a core module, and its contents have no reading.
+/// Whether a section holds the names of a core module, or of a component, and its contents have no reading.
 fn is_malformed(kind: Kind, name: &str, contents: &[u8]) -> bool
     ensures { Decides result (IsMalformed kind name.now contents.now) }
 {
     match kind {
         Kind::Module => name == "name" && !are_names(contents),
-        Kind::Component => false,
+        Kind::Component => name == "component-name" && !are_component_names(contents),
     }
 }
 

@@ -2,6 +2,7 @@
 #![tactic(auto)]
 
 mod choice;
+mod component_names;
 mod fault;
 mod laws;
 mod names;
@@ -12,6 +13,7 @@ mod sound;
 mod stripping;
 
 pub use choice::Choice;
+pub use component_names::are_component_names;
 pub use fault::StripFault;
 pub use laws::{
     bytes_have_one_reading, kept_sections_read_back, stripping_settles, tidied_sections_read_back,

@@ -13,7 +13,7 @@ use wasm_leb::{Kind, front_byte};
 use wasm_read::{IndirectNameMap, Name, NameMap, Subsection, front_sized};
 
 /// Whether a map of names can be read to its end.
-fn is_map(map: NameMap<'_>) -> bool
+pub(crate) fn is_map(map: NameMap<'_>) -> bool
     ensures { Decides result (HasEntries plain_naming map.entry) }
 {
     let mut rest = map;

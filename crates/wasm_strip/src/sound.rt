@@ -18,7 +18,8 @@ const MALFORMED: Choice<'static> = Choice {
     sections: &[],
 };
 
-/// The core module or component without the sections `name` of core modules whose contents have no reading. Bytes that are none by
+/// The core module or component without the sections `name` of core modules, and `component-name` of components, whose contents have
+/// no reading. Bytes that are none by
 /// their sections come back as they are.
 pub fn without_malformed(alloc: Global, bytes: Vec<u8>) -> Result<Vec<u8>, NoMemory>
     ensures { IfOk result (λ sound. IsSound bytes.items sound.items) }

@@ -1,4 +1,5 @@
-use Rattle.std.proofs.Common.{sym}
+use Rattle.std.proofs.Common.{refl, sym}
+use Rattle.wasm_shapes.specs.Module.{name_subsection}
 use Rattle.wasm_strip.proofs.NameRows.{same, subsection_missing, subsection_read, subsection_shrinks, subsections_ended}
 use Rattle.wasm_strip.proofs.OneSection.{none_left, some_left}
 use Rattle.wasm_strip.proofs.names.are_names.Goals as goal
@@ -7,13 +8,13 @@ pub subsections-init : goal.subsections-init
 subsections-init c = same
 
 pub subsections-smaller : goal.subsections-smaller
-subsections-smaller c = subsection_shrinks c.in-Some.ensures.some.1
+subsections-smaller c = subsection_shrinks name_subsection refl c.in-Some.ensures.some.1
 
 pub subsections-preserved : goal.subsections-preserved
-subsections-preserved c = subsection_read (some_left (sym c.subsections-test.ensures)) c.subsections.invariant c.in-Some.ensures.some.1
+subsections-preserved c = subsection_read name_subsection refl refl (some_left (sym c.subsections-test.ensures)) c.subsections.invariant c.in-Some.ensures.some.1
 
 pub returns-in-None : goal.returns-in-None
-returns-in-None c = subsection_missing (some_left (sym c.subsections-test.ensures)) c.subsections.invariant c.in-None.ensures.none
+returns-in-None c = subsection_missing name_subsection (some_left (sym c.subsections-test.ensures)) c.subsections.invariant c.in-None.ensures.none
 
 pub returns : goal.returns
-returns c = subsections_ended c.subsections.invariant (none_left (sym c.subsections-test.ensures))
+returns c = subsections_ended name_subsection c.subsections.invariant (none_left (sym c.subsections-test.ensures))
