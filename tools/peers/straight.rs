@@ -839,6 +839,8 @@ fn main() {
     if each {
         words.remove(0);
     }
+    let to_file = words.first().is_some_and(|word| word == "-o") && words.len() > 1;
+    let file = if to_file { words.drain(..2).nth(1) } else { None };
     let hexadecimal = words.first().is_some_and(|word| word == "-x");
     if hexadecimal {
         words.remove(0);
@@ -851,7 +853,7 @@ fn main() {
             Some(tables)
         }
         _ => {
-            eprintln!("usage: [-d] [-x] plain | rename FILE");
+            eprintln!("usage: [-d] [-o OUT] [-x] plain | rename FILE");
             exit(2)
         }
     };
@@ -880,6 +882,9 @@ fn main() {
             exit(5)
         }
     };
+    if let Some(file) = file {
+        exit(if std::fs::write(file, &made).is_ok() { 0 } else { 4 });
+    }
     let mut said = String::from("\nasked");
     for (space, count) in SPACES.iter().zip(counts.indices).filter(|(_, count)| *count > 0) {
         let _ = write!(said, " {space} {count}");
