@@ -23,9 +23,11 @@ use crate::visits::told_visits;
 use crate::words::{Asked, Custom, asked_of, custom_of, most_of, program};
 use clap::ArgMatches;
 use clap::error::ErrorKind;
-use reencode_run::answer::{Answer, ReencodingFault, TaskFault, WordsFault, WritingFault};
+use reencode_run::answer::{
+    Answer, FileFault, ReencodingFault, TaskFault, WordsFault, WritingFault,
+};
 use reencode_run::input::read_all;
-use reencode_run::outside::{Shelf, Sink, Source};
+use reencode_run::outside::{Shelf, ShelfFault, Sink, Source};
 use reencode_run::standard::{FileShelf, StdSink, StdSource};
 use reencode_run::sure_memory::{SureShelf, SureSource};
 use reencode_run::transform::{say_of, transform};
@@ -190,17 +192,22 @@ fn made_of<F: Shelf, S: Source, K: Sink, D: Sink>(
 }
 
 /// A shelf with the second module, without its malformed names, where one is asked for and can be read.
-fn second_sound<F: Shelf>(alloc: Global, asked: &Asked<'_>, shelf: &mut F) -> Option<SureShelf> {
+fn second_sound<F: Shelf>(
+    alloc: Global,
+    asked: &Asked<'_>,
+    shelf: &mut F,
+) -> Result<Option<SureShelf>, NoMemory> {
     let Command::Merge(name) = asked.request.command else {
-        return None;
+        return Ok(None);
     };
-    let second = shelf.fetch(alloc, name, asked.request.most).ok()?;
-    let second = without_malformed(alloc, second).ok()?;
+    let second = match shelf.fetch(alloc, name, asked.request.most) {
+        Ok(second) => without_malformed(alloc, second)?,
+        Err(ShelfFault::NoMemory) => return Err(NoMemory),
+        Err(_) => return Ok(None),
+    };
     let mut sound = SureShelf::new(alloc);
-    match sound.put(name, second.as_slice()) {
-        Ok(()) => Some(sound),
-        Err(_) => None,
-    }
+    sound.put(name, second.as_slice())?;
+    Ok(Some(sound))
 }
 
 /// The same as `made_of`, with the bytes of the binaries that are read without their malformed names. Where the second module
@@ -226,8 +233,14 @@ fn made_of_sound<F: Shelf, S: Source, K: Sink, D: Sink>(
     };
     let mut sound = SureSource::new(List::from_vec(bytes), PIECE);
     match second_sound(alloc, asked, shelf) {
-        Some(mut second) => made_of(alloc, asked, removed, &mut second, &mut sound, out, err),
-        None => made_of(alloc, asked, removed, shelf, &mut sound, out, err),
+        Ok(Some(mut second)) => made_of(alloc, asked, removed, &mut second, &mut sound, out, err),
+        Ok(None) => made_of(alloc, asked, removed, shelf, &mut sound, out, err),
+        Err(NoMemory) => {
+            let answer = Answer::File(FileFault::NoMemory, 0);
+            let name = binary_of(asked, b" by 2\n");
+            let _ = say_of(name.as_bytes(), &answer, err);
+            Err(Ended::Command(answer.status()))
+        }
     }
 }
 
