@@ -1,4 +1,5 @@
 //! Standard streams and files: where bytes come from, and where they go.
+use crate::outline::outline;
 use std::fs::{File, OpenOptions, Permissions};
 use std::io::{ErrorKind, IsTerminal, Read, Stdin, Stdout, Write};
 use std::os::unix::fs::PermissionsExt;
@@ -143,6 +144,12 @@ impl Staged {
         fs::read(rt, self.beside.as_str())
     }
 
+    /// What was written, in outline, with its code or without.
+    pub fn outline(&self, rt: &HostRuntime, with_code: bool) -> Option<Vec<u8>> {
+        let file = fs::open(rt, self.beside.as_str()).ok()?;
+        outline(rt.alloc(), &file, with_code)
+    }
+
     /// Gives the file its name, with all that was written.
     fn named(&self, rt: &HostRuntime) -> io::Result<()> {
         if let Some(mode) = self.mode {
@@ -281,6 +288,18 @@ pub fn looked_at(rt: &HostRuntime, name: &str) -> Option<Vec<u8>> {
         return None;
     }
     fs::read(rt, name).ok()
+}
+
+/// The same, but for a core module its outline with its code.
+pub fn code_looked_at(rt: &HostRuntime, name: &str) -> Option<Vec<u8>> {
+    if name == STANDARD {
+        return None;
+    }
+    let file = fs::open(rt, name).ok()?;
+    match outline(rt.alloc(), &file, true) {
+        Some(bytes) => Some(bytes),
+        None => looked_at(rt, name),
+    }
 }
 
 /// Writes a whole text to a place.

@@ -5,6 +5,7 @@ mod explain;
 mod files;
 mod json;
 mod listing;
+mod outline;
 mod sections;
 mod stale;
 mod stripped;
@@ -13,7 +14,8 @@ mod words;
 
 use crate::explain::{add_json_place, add_place};
 use crate::files::{
-    Held, Input, Output, Place, Staged, Target, fill, looked_at, place_of, write_whole,
+    Held, Input, Output, Place, Staged, Target, code_looked_at, fill, looked_at, place_of,
+    write_whole,
 };
 use crate::listing::{lines_of, tree_of};
 use crate::sections::{Section, sections_of};
@@ -309,7 +311,7 @@ fn is_moved(
     if matches!(asked.request.command, Command::Merge(_)) {
         return Ok(true);
     }
-    match looked_at(rt, asked.request.input) {
+    match code_looked_at(rt, asked.request.input) {
         Some(input) => Ok(!has_code_of(rt.alloc(), sections, input.as_slice())?),
         None => Ok(true),
     }
@@ -389,12 +391,30 @@ fn run_held(rt: &HostRuntime, asked: &Asked<'_>, custom: &Custom<'_>, place: Pla
     }
 }
 
-/// Looks at what was written to a file that has not its name yet, and answers the status.
+/// Whether it is sure that no section of a binary can go stale.
+fn stays_fresh(rt: &HostRuntime, bytes: &[u8]) -> bool {
+    match sections_of(rt.alloc(), bytes) {
+        Ok(Some(sections)) => matches!(stale_of(rt.alloc(), sections.as_slice()), Ok(None)),
+        _ => false,
+    }
+}
+
+/// Looks at what was written to a file that has not its name yet, and answers the status. All of it is read only where it is no core
+/// module.
 fn looked_over(rt: &HostRuntime, asked: &Asked<'_>, refuses: bool, staged: &Staged) -> u8 {
     if asked.quiet && !refuses {
         return 0;
     }
-    match staged.written(rt) {
+    if let Some(names) = staged.outline(rt, false) {
+        if stays_fresh(rt, names.as_slice()) {
+            return 0;
+        }
+    }
+    let written = match staged.outline(rt, true) {
+        Some(bytes) => Ok(bytes),
+        None => staged.written(rt),
+    };
+    match written {
         Ok(bytes) => tell_stale(rt, asked, refuses, bytes.as_slice()),
         Err(_) if refuses => unwritten(rt, asked.quiet, asked.request.output),
         Err(_) => 0,
